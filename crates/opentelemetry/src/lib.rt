@@ -1,0 +1,14 @@
+//! The values of the OpenTelemetry API that the trace pipeline stands on: what crosses the border of a process or
+//! of a library.
+#![tactic(auto)]
+
+pub mod common;
+pub mod context;
+pub mod time;
+pub mod trace;
+pub mod trace_context;
+
+pub use common::{Array, InstrumentationScope, InstrumentationScopeBuilder, Key, KeyValue, Value};
+pub use context::Context;
+pub use time::Moment;
+pub use trace_context::{SpanId, TraceFlags, TraceId};

@@ -1,0 +1,38 @@
+//! Something that happened within a span at a moment.
+
+use crate::{KeyValue, Moment};
+use std::alloc::AllocError;
+use std::marker::Model;
+
+/// A name, a moment, and attributes.
+#[derive(Debug, Drop)]
+pub struct Event {
+    pub name: String,
+    pub timestamp: Moment,
+    pub attributes: Vec<KeyValue>,
+    pub dropped_attributes_count: u32,
+}
+
+impl Model for Event {
+    ghost use Rattle.std.specs.Prelude.{string_bytes};
+    ghost use Rattle.opentelemetry.specs.Plain.{PlainEvent};
+
+    ghost Value = { PlainEvent };
+
+    ghost view = { λ a. record { name = string_bytes a.name; timestamp = a.timestamp.0; attributes = a.attributes.items; dropped_attributes_count = a.dropped_attributes_count } };
+}
+
+impl Clone for Event {
+    ghost use Rattle.std.specs.Prelude.{◌≡◌};
+
+    ghost is_clone = { λ event copy. copy ≡ event };
+
+    fn clone(&self) -> Result<Event, AllocError> {
+        Ok(Event {
+            name: self.name.clone()?,
+            timestamp: self.timestamp,
+            attributes: self.attributes.clone()?,
+            dropped_attributes_count: self.dropped_attributes_count,
+        })
+    }
+}

@@ -1,0 +1,93 @@
+//! The part of a span that travels: its ids, its flags and its trace state (W3C Trace Context, section 2).
+
+ghost use Rattle.std.specs.Prelude.{◌≡◌, [], false};
+
+use super::TraceState;
+use crate::{SpanId, TraceFlags, TraceId};
+use std::alloc::AllocError;
+use std::marker::Model;
+
+/// The identity of a span, and what travels with it to other processes.
+#[derive(Debug, Drop)]
+pub struct SpanContext {
+    trace_id: TraceId,
+    span_id: SpanId,
+    trace_flags: TraceFlags,
+    is_remote: bool,
+    trace_state: TraceState,
+}
+
+impl Model for SpanContext {
+    ghost use Rattle.opentelemetry.specs.Plain.{PlainSpanContext};
+
+    ghost Value = { PlainSpanContext };
+
+    ghost view = { λ a. record { trace_id = a.trace_id; span_id = a.span_id; trace_flags = a.trace_flags; is_remote = a.is_remote; trace_state = a.trace_state } };
+}
+
+impl SpanContext {
+    pub fn new(
+        trace_id: TraceId,
+        span_id: SpanId,
+        trace_flags: TraceFlags,
+        is_remote: bool,
+        trace_state: TraceState,
+    ) -> SpanContext
+        ensures { result ≡ record { trace_id = trace_id; span_id = span_id; trace_flags = trace_flags; is_remote = is_remote; trace_state = trace_state } }
+    {
+        SpanContext {
+            trace_id,
+            span_id,
+            trace_flags,
+            is_remote,
+            trace_state,
+        }
+    }
+
+    /// The context of no span: both ids are invalid.
+    pub fn empty_context() -> SpanContext
+        ensures { result ≡ record { trace_id = 0; span_id = 0; trace_flags = 0; is_remote = false; trace_state = [] } }
+    {
+        SpanContext {
+            trace_id: TraceId::INVALID,
+            span_id: SpanId::INVALID,
+            trace_flags: TraceFlags::default(),
+            is_remote: false,
+            trace_state: TraceState::new(),
+        }
+    }
+
+    pub fn trace_id(&self) -> TraceId
+        ensures { result ≡ self.now.trace_id }
+    {
+        self.trace_id
+    }
+
+    pub fn span_id(&self) -> SpanId
+        ensures { result ≡ self.now.span_id }
+    {
+        self.span_id
+    }
+
+    pub fn trace_flags(&self) -> TraceFlags
+        ensures { result ≡ self.now.trace_flags }
+    {
+        self.trace_flags
+    }
+}
+
+impl Clone for SpanContext {
+    ghost use Rattle.std.specs.Prelude.{◌≡◌};
+
+    ghost is_clone = { λ context copy. copy ≡ context };
+
+    fn clone(&self) -> Result<SpanContext, AllocError> {
+        Ok(SpanContext {
+            trace_id: self.trace_id,
+            span_id: self.span_id,
+            trace_flags: self.trace_flags,
+            is_remote: self.is_remote,
+            trace_state: self.trace_state.clone()?,
+        })
+    }
+}

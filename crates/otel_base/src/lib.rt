@@ -1,0 +1,5 @@
+//! What the SDK stands on: its errors, ids, samplers and limits.
+#![tactic(auto)]
+
+pub mod error;
+pub mod trace;
