@@ -3,6 +3,7 @@
 
 ghost use Rattle.std.specs.Prelude.{◌≡◌, ℕ, ◌^◌, ◌<◌};
 
+use std::fmt;
 use std::marker::Model;
 
 /// The id of a trace: 16 bytes, shared by all of its spans.
@@ -29,6 +30,19 @@ impl From<u128> for TraceId {
 
     fn from(number: u128) -> TraceId {
         TraceId(number)
+    }
+}
+
+impl fmt::Display for TraceId {
+    ghost use Rattle.std.specs.Prelude.{Some};
+    ghost use Rattle.opentelemetry.specs.Hex.{hex_text};
+
+    ghost output = { λ id. Some (hex_text 32 id) };
+
+    fn fmt<W: fmt::Write>(&self, f: &mut fmt::Formatter<W>) -> fmt::Result {
+        let high = (self.0 >> 64) as u64;
+        let low = (self.0 & 0xffff_ffff_ffff_ffff) as u64;
+        write!(f, "{high:016x}{low:016x}")
     }
 }
 
@@ -59,6 +73,18 @@ impl From<u64> for SpanId {
     }
 }
 
+impl fmt::Display for SpanId {
+    ghost use Rattle.std.specs.Prelude.{Some};
+    ghost use Rattle.opentelemetry.specs.Hex.{hex_text};
+
+    ghost output = { λ id. Some (hex_text 16 id) };
+
+    fn fmt<W: fmt::Write>(&self, f: &mut fmt::Formatter<W>) -> fmt::Result {
+        let number = self.0;
+        write!(f, "{number:016x}")
+    }
+}
+
 /// The flags of a span context: bit 0 says that the span is sampled.
 #[derive(Clone, Copy, Debug, PartialEq, Eq, Hash, Default)]
 pub struct TraceFlags(u8);
@@ -69,4 +95,16 @@ impl Model for TraceFlags {
     ghost view = { λ flags. flags.0 };
 
     ghost inverse = { λ n. record { 0 = n } };
+}
+
+impl fmt::Display for TraceFlags {
+    ghost use Rattle.std.specs.Prelude.{Some};
+    ghost use Rattle.opentelemetry.specs.Hex.{hex_text};
+
+    ghost output = { λ flags. Some (hex_text 2 flags) };
+
+    fn fmt<W: fmt::Write>(&self, f: &mut fmt::Formatter<W>) -> fmt::Result {
+        let number = self.0;
+        write!(f, "{number:02x}")
+    }
 }

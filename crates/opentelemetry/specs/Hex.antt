@@ -1,0 +1,11 @@
+-- Numbers as lower-case hexadecimal text, stated by division by sixteen.
+use Rattle.std.specs.Prelude.{ℕ, zero, suc, ◌+◌, ◌/◌, ◌%◌, List, [], ◌∷◌, ◌++◌, if◌then◌else◌, nat_lt}
+
+-- the lower-case digit of a number below sixteen
+abbrev pub hex_digit : ℕ → ℕ
+hex_digit d = if nat_lt d 10 then 48 + d else 87 + d
+
+-- the last so many hexadecimal digits of a number, the high one first
+unfoldable pub hex_text : ℕ → ℕ → List ℕ
+hex_text zero n = []
+hex_text (suc count) n = hex_text count (n / 16) ++ hex_digit (n % 16) ∷ []
