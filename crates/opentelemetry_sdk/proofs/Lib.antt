@@ -1,1 +1,5 @@
+pub mod Clauses
+pub mod EachLemmas
 pub mod SpanLaws
+pub mod Starting
+pub mod Following

@@ -53,8 +53,8 @@ edited-recording start edits (set_attribute attribute) =
     let limit : ℕ = start.limits.max_attributes_per_span in
     let grown : attributes_set edits ++ attribute ∷ [] ≡ attributes_set (edits ++ set_attribute attribute ∷ []) = sym (attributes_set-append edits (set_attribute attribute ∷ [])) in
     made_same start
-      (kept_with-kept limit (attributes_set edits) attribute ∙ ap (kept limit) grown)
-      (left_out_with-kept limit (attributes_set edits) attribute ∙ ap (left_out limit) grown)
+    (kept_with-kept limit (attributes_set edits) attribute ∙ ap (kept limit) grown)
+    (left_out_with-kept limit (attributes_set edits) attribute ∙ ap (left_out limit) grown)
 
 -- more edits of a span are those edits at the end of its history
 pub after-recording : (start : SpanStart) (edits more : List Edit) → after more (recording start edits) ≡ recording start (edits ++ more)
@@ -71,9 +71,9 @@ edited_again u v w (edits, h) (more, k) = (edits ++ more, k ∙ ap (after more) 
 
 -- a call that edits what a span recorded, or refuses and changes nothing
 pub edited_by_result : {T E : Type 0} (answer : Result T E) (edit : Edit) (context : PlainSpanContext) (limits : SpanLimits) (before now : Option PlainSpanData) (old : PlainSpan)
-  → record { span_context = context; limits = limits; recorded = before } ≡ old
-  → OnOk answer (now ≡ edited_if limits edit before) → OnErr answer (now ≡ before)
-  → IsEdited old (record { span_context = context; limits = limits; recorded = now })
+    → record { span_context = context; limits = limits; recorded = before } ≡ old
+    → OnOk answer (now ≡ edited_if limits edit before) → OnErr answer (now ≡ before)
+    → IsEdited old (record { span_context = context; limits = limits; recorded = now })
 edited_by_result (Ok _) edit context limits before now old e h k =
     (edit ∷ [], ap (λ (o : Option PlainSpanData). span_with context limits o) h ∙ ap (edited edit) e)
 edited_by_result (Err _) edit context limits before now old e h k = ([], ap (λ (o : Option PlainSpanData). span_with context limits o) k ∙ e)

@@ -27,8 +27,8 @@ HandsOver false before span answer after = after ≡ before
 -- an ended span was given to a processor
 abbrev pub TakesSpan : {T E : Type 0} → ProcessorTelling → PlainSpanData → Result T E → ProcessorTelling → Type 0
 TakesSpan before span answer after = Tells before.spans (span ∷ []) after.spans
-  × HandsOver (before.is_open && is_sampled span) before.batches span answer after.batches
-  × (after.is_open ≡ before.is_open)
+    × HandsOver (before.is_open && is_sampled span) before.batches span answer after.batches
+    × (after.is_open ≡ before.is_open)
 
 -- a processor was asked for something else: no span is told anew, and a telling may end
 abbrev pub TakesNothing : ProcessorTelling → ProcessorTelling → Type 0
@@ -57,10 +57,10 @@ one_each spans = map (λ span. span ∷ []) (filter is_sampled spans)
 -- sampled span that reached it; an exporter of a shut one was handed nothing
 abbrev pub Follows : ProcessorTelling → List Delivery → ProcessorTelling → Type 0
 Follows before deliveries after = Tells before.spans (spans_of deliveries) after.spans
-  × MatchBool before.is_open
-      ((handed : List PlainSpanData) × Reaches deliveries handed × Tells before.batches (one_each handed) after.batches)
-      (after.batches ≡ before.batches)
-  × (after.is_open ≡ before.is_open)
+    × MatchBool before.is_open
+    ((handed : List PlainSpanData) × Reaches deliveries handed × Tells before.batches (one_each handed) after.batches)
+    (after.batches ≡ before.batches)
+    × (after.is_open ≡ before.is_open)
 
 -- each processor was given the same deliveries
 abbrev pub EachFollows : {P : Type 0} → (P → ProcessorTelling) → List Delivery → List P → List P → Type 0

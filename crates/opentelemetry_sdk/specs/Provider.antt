@@ -1,13 +1,15 @@
 -- What contracts see of a provider, what a start makes, and what an end delivers.
-use Rattle.std.specs.Prelude.{◌≡◌, ℕ, Bool, true, false, List, [], ◌∷◌, ◌++◌, Option, Some, None, Result, MatchBool}
+use Rattle.std.specs.Prelude.{◌≡◌, ℕ, ◌↔◌, Bool, true, false, List, [], ◌∷◌, Option, Some, None, Result, IsOk, IfErr, MatchBool}
 use Rattle.opentelemetry.specs.Plain.{PlainSpanContext, PlainContext, PlainScope}
 use Rattle.opentelemetry.specs.declared.trace.span_kind.SpanKind.TheVariants.{Internal}
+use Rattle.otel_base.specs.declared.error.OTelSdkError.{OTelSdkError}
+use Rattle.otel_base.specs.declared.error.OTelSdkError.TheVariants as errors
 use Rattle.otel_base.specs.declared.trace.sampler.Sampler.{Sampler}
 use Rattle.otel_base.specs.declared.trace.span_limit.SpanLimits.{SpanLimits}
 use Rattle.otel_base.specs.Ids.{next_span_id, next_trace_id}
 use Rattle.otel_batch.specs.PlainSpanData.{PlainSpanData}
 use Rattle.opentelemetry_sdk.specs.SpanHistory.{PlainSpan, SpanStart, recording, not_recording, ended_at, IsEdited}
-use Rattle.opentelemetry_sdk.specs.ProcessorTelling.{ProcessorTelling, TakesSpan, Delivery}
+use Rattle.opentelemetry_sdk.specs.ProcessorTelling.{ProcessorTelling, TakesSpan, TakesNothing, Delivery}
 use Rattle.opentelemetry_sdk.specs.Each.{AskedAll, PassedThrough}
 
 -- a provider: its processors, what it hands to each start, and whether it is shut
@@ -42,7 +44,8 @@ root_start provider scope name now = record {
   name = name;
   start_time = now;
   instrumentation_scope = scope;
-  limits = provider.span_limits }
+  limits = provider.span_limits;
+}
 
 -- what a start makes: while the provider is open a recording span, which each processor may edit in its turn; else no
 -- span, and nothing is drawn
@@ -50,8 +53,8 @@ abbrev pub Starts : {P : Type 0} → (P → PlainSpan → PlainSpan → P → Ty
 Starts gives old scope name now span new = MatchBool old.is_shut
     ((span ≡ not_recording empty_context old.span_limits) × (new ≡ old))
     (IsEdited (recording (root_start old scope name now) []) span
-      × PassedThrough gives (recording (root_start old scope name now) []) old.processors new.processors span
-      × (new ≡ record old { processors = new.processors; id_generator = after_root old.id_generator }))
+    × PassedThrough gives (recording (root_start old scope name now) []) old.processors new.processors span
+    × (new ≡ record old { processors = new.processors; id_generator = after_root old.id_generator }))
 
 -- a processor that was given a span answers as its call can, and tells it
 abbrev pub TakesAndTells : {P T E : Type 0} → (P → ProcessorTelling) → (P → PlainSpanData → Result T E → P → Type 0) → PlainSpanData → P → Result T E → P → Type 0
@@ -72,3 +75,26 @@ abbrev pub deliveries : Bool → ℕ → Option PlainSpanData → ℕ → List D
 deliveries shut moment None n = []
 deliveries true moment (Some recorded) n = []
 deliveries false moment (Some recorded) n = record { span = ended_at moment recorded; refused = n } ∷ []
+
+-- the library of a name alone
+abbrev pub named : List ℕ → PlainScope
+named name = record { name = name; version = None; schema_url = None; attributes = [] }
+
+-- the context in which no span is active
+abbrev pub root_cx : PlainContext
+root_cx = record { span_context = None; telemetry_suppressed = false }
+
+-- a processor that was asked for something else answers as its call can, and is told no span
+abbrev pub GivesAndKeeps : {P R : Type 0} → (P → ProcessorTelling) → (P → R → P → Type 0) → P → R → P → Type 0
+GivesAndKeeps told gives p answer q = gives p answer q × TakesNothing (told p) (told q)
+
+-- a failure of the SDK that is not one of the named ones
+abbrev pub IsInternalFailure : OTelSdkError → Type 0
+IsInternalFailure (errors.InternalFailure _) = Unit {0}
+IsInternalFailure _ = ⊥
+
+-- what a first shutdown does: the provider is shut, each processor was asked, and the answer is Ok exactly where none failed
+abbrev pub ShutsDown : {P : Type 0} → (P → ProcessorTelling) → (P → Result (Unit {0}) OTelSdkError → P → Type 0) → ProviderState P → Result (Unit {0}) OTelSdkError → ProviderState P → Type 0
+ShutsDown told gives old answer new = ((failed : ℕ) × AskedAll (GivesAndKeeps told gives) old.processors new.processors failed × (IsOk answer ↔ (failed ≡ 0)))
+    × IfErr answer IsInternalFailure
+    × (new ≡ record old { processors = new.processors; is_shut = true })

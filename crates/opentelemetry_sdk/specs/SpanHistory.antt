@@ -40,7 +40,8 @@ data_of start edits moment = record {
   events = record { events = []; dropped_count = 0 };
   links = record { links = []; dropped_count = 0 };
   status = unset;
-  instrumentation_scope = start.instrumentation_scope }
+  instrumentation_scope = start.instrumentation_scope;
+}
 
 -- what contracts see of a span: who it is, its limits, and its data so far while it records
 pub record PlainSpan : Type 0 where
@@ -68,7 +69,8 @@ left_out_with limit xs n = if nat_lt (length xs) limit then n else min (n + 1) (
 abbrev pub edited_data : SpanLimits → Edit → PlainSpanData → PlainSpanData
 edited_data limits (set_attribute attribute) recorded = record recorded {
   attributes = kept_with limits.max_attributes_per_span recorded.attributes attribute;
-  dropped_attributes_count = left_out_with limits.max_attributes_per_span recorded.attributes recorded.dropped_attributes_count }
+  dropped_attributes_count = left_out_with limits.max_attributes_per_span recorded.attributes recorded.dropped_attributes_count;
+}
 
 -- nothing happens where nothing is recorded
 abbrev pub edited_if : SpanLimits → Edit → Option PlainSpanData → Option PlainSpanData

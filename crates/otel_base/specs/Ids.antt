@@ -3,11 +3,11 @@ use Rattle.std.specs.Prelude.{ℕ, ◌+◌, ◌*◌, ◌^◌, List}
 use Rattle.rand_xoshiro.specs.Xoshiro256.{plus_plus}
 
 -- a span id is the next word
-abbrev pub next_span_id : List ℕ → ℕ × List ℕ
+unfoldable pub next_span_id : List ℕ → ℕ × List ℕ
 next_span_id state = plus_plus state
 
 -- a trace id is the next two words, the first its low half
-abbrev pub next_trace_id : List ℕ → ℕ × List ℕ
+unfoldable pub next_trace_id : List ℕ → ℕ × List ℕ
 next_trace_id state =
     let low = plus_plus state in
     let high = plus_plus low.1 in

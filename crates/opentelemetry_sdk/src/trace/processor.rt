@@ -25,20 +25,24 @@ impl<S: SpanProcessor, C: SpanProcessor> SpanProcessor for ProcessorOf<S, C> {
     ghost told = { λ p. elim p [ kinds.Simple s ↦ S.told s | kinds.Custom c ↦ C.told c ] };
 
     ghost start_gives = { λ p s cx t q. elim p [
-        kinds.Simple a ↦ elim q [ kinds.Simple b ↦ S.start_gives a s cx t b | kinds.Custom _ ↦ ⊥ ]
-      | kinds.Custom c ↦ elim q [ kinds.Simple _ ↦ ⊥ | kinds.Custom d ↦ C.start_gives c s cx t d ] ] };
+      | kinds.Simple a ↦ elim q [ kinds.Simple b ↦ S.start_gives a s cx t b | kinds.Custom _ ↦ ⊥ ]
+      | kinds.Custom c ↦ elim q [ kinds.Simple _ ↦ ⊥ | kinds.Custom d ↦ C.start_gives c s cx t d ]
+    ] };
 
     ghost end_gives = { λ p span r q. elim p [
-        kinds.Simple a ↦ elim q [ kinds.Simple b ↦ S.end_gives a span r b | kinds.Custom _ ↦ ⊥ ]
-      | kinds.Custom c ↦ elim q [ kinds.Simple _ ↦ ⊥ | kinds.Custom d ↦ C.end_gives c span r d ] ] };
+      | kinds.Simple a ↦ elim q [ kinds.Simple b ↦ S.end_gives a span r b | kinds.Custom _ ↦ ⊥ ]
+      | kinds.Custom c ↦ elim q [ kinds.Simple _ ↦ ⊥ | kinds.Custom d ↦ C.end_gives c span r d ]
+    ] };
 
     ghost flush_gives = { λ p r q. elim p [
-        kinds.Simple a ↦ elim q [ kinds.Simple b ↦ S.flush_gives a r b | kinds.Custom _ ↦ ⊥ ]
-      | kinds.Custom c ↦ elim q [ kinds.Simple _ ↦ ⊥ | kinds.Custom d ↦ C.flush_gives c r d ] ] };
+      | kinds.Simple a ↦ elim q [ kinds.Simple b ↦ S.flush_gives a r b | kinds.Custom _ ↦ ⊥ ]
+      | kinds.Custom c ↦ elim q [ kinds.Simple _ ↦ ⊥ | kinds.Custom d ↦ C.flush_gives c r d ]
+    ] };
 
     ghost shutdown_gives = { λ p r q. elim p [
-        kinds.Simple a ↦ elim q [ kinds.Simple b ↦ S.shutdown_gives a r b | kinds.Custom _ ↦ ⊥ ]
-      | kinds.Custom c ↦ elim q [ kinds.Simple _ ↦ ⊥ | kinds.Custom d ↦ C.shutdown_gives c r d ] ] };
+      | kinds.Simple a ↦ elim q [ kinds.Simple b ↦ S.shutdown_gives a r b | kinds.Custom _ ↦ ⊥ ]
+      | kinds.Custom c ↦ elim q [ kinds.Simple _ ↦ ⊥ | kinds.Custom d ↦ C.shutdown_gives c r d ]
+    ] };
 
     fn on_start(&mut self, span: &mut Span, cx: &Context) {
         match self {

@@ -1,7 +1,7 @@
 //! The processor that exports each sampled span as soon as it ends, in a batch of its own (OpenTelemetry specification,
 //! "Simple processor").
 
-ghost use Rattle.std.specs.Prelude.{◌≡◌, ◌∷◌, [], false, IfOk, IsTrue, ◌↔◌, ◌%◌};
+ghost use Rattle.std.specs.Prelude.{◌≡◌, ◌∷◌, [], false, IfOk};
 
 use crate::trace::{Span, SpanProcessor};
 use opentelemetry::Context;
@@ -58,8 +58,8 @@ impl<E: SpanExporter> SpanProcessor for SimpleSpanProcessor<E> {
     // for the batch nothing is exported. Any other span leaves the exporter as it was.
     ghost end_gives = { λ p d r q. MatchBool (not p.is_shut && is_sampled d)
         (MatchResult r
-            (λ _. (answer : _) × E.export_gives p.exporter (d ∷ []) answer q.exporter × Tells (E.told p.exporter) ((d ∷ []) ∷ []) (E.told q.exporter) × (q ≡ record p { exporter = q.exporter }))
-            (λ _. q ≡ p))
+        (λ _. (answer : _) × E.export_gives p.exporter (d ∷ []) answer q.exporter × Tells (E.told p.exporter) ((d ∷ []) ∷ []) (E.told q.exporter) × (q ≡ record p { exporter = q.exporter }))
+        (λ _. q ≡ p))
         ((r ≡ Ok tt) × (q ≡ p)) };
 
     ghost flush_gives = { λ p r q. (r ≡ Ok tt) × (q ≡ p) };
@@ -69,7 +69,7 @@ impl<E: SpanExporter> SpanProcessor for SimpleSpanProcessor<E> {
     fn on_start(&mut self, _span: &mut Span, _cx: &Context) {}
 
     fn on_end(&mut self, span: SpanData) -> Result<(), AllocError> {
-        if self.is_shut || !is_sampled(&span.span_context) {
+        if self.is_shut || !span.span_context.trace_flags().is_sampled() {
             return Ok(());
         }
         let batch = batch_of(self.alloc, span)?;
@@ -94,11 +94,4 @@ fn batch_of(alloc: Global, span: SpanData) -> Result<Vec<SpanData>, AllocError>
     let mut batch = Vec::with_capacity(alloc, 1)?;
     batch.push(span)?;
     Ok(batch)
-}
-
-fn is_sampled(context: &opentelemetry::trace::SpanContext) -> bool
-    ensures { IsTrue result ↔ (context.now.trace_flags % 2 ≡ 1) }
-{
-    let _ = context;
-    true
 }

@@ -1,12 +1,14 @@
 //! A span: one operation within a trace. It records until its end; its end delivers what it recorded to the processors
 //! of its provider. A span must be spent, so that none is forgotten.
 
-ghost use Rattle.std.specs.Prelude.{◌≡◌, OnOk, OnErr, IsOk, IsNone, is_some, option_copied};
-ghost use Rattle.opentelemetry_sdk.specs.Provider.{empty_context};
+ghost use Rattle.std.specs.Prelude.{◌≡◌, ◌≤◌, length, OnOk, OnErr, IfOk, IsOk, IsNone, IsTrue, Some, is_some, option_copied};
+ghost use Rattle.opentelemetry_sdk.specs.ProcessorTelling.{EachFollows};
+ghost use Rattle.opentelemetry_sdk.specs.Provider.{DeliversIf, deliveries, empty_context};
 ghost use Rattle.opentelemetry_sdk.specs.SpanHistory as history;
 
-use opentelemetry::KeyValue;
+use crate::trace::{ProviderOf, SpanProcessor};
 use opentelemetry::trace::SpanContext;
+use opentelemetry::{KeyValue, Moment};
 use otel_base::trace::SpanLimits;
 use otel_batch::trace::SpanData;
 use std::alloc::AllocError;
@@ -29,7 +31,11 @@ impl Model for Span {
 
 impl Span {
     /// The span that records this data.
-    pub(crate) fn recording(span_context: SpanContext, recorded: SpanData, span_limits: SpanLimits) -> Span
+    pub(crate) fn recording(
+        span_context: SpanContext,
+        recorded: SpanData,
+        span_limits: SpanLimits,
+    ) -> Span
         ensures { result ≡ record { span_context = span_context; limits = span_limits; recorded = Some recorded } }
     {
         Span {
@@ -64,6 +70,13 @@ impl Span {
         self.data.is_some()
     }
 
+    /// Forgets what was recorded.
+    fn stop(&mut self)
+        ensures { self.new ≡ history.ended self.old }
+    {
+        self.data = None;
+    }
+
     /// Adds an attribute; over the limit it is only counted. Nothing happens where the span is not recording
     /// (OpenTelemetry specification, "Set Attributes").
     pub fn set_attribute(&mut self, attribute: KeyValue) -> Result<(), AllocError>
@@ -90,6 +103,39 @@ impl Span {
         self.data.take()
     }
 
+    /// Ends the span at this moment: each processor of the provider is given what the span recorded, in order, also
+    /// after one refused it. The answer is how many refused for want of memory. All copies are made before any processor
+    /// is given one, so that on an error span and processors are unchanged; the last processor gets the original, and
+    /// with one processor nothing is copied. A span that is not recording, or whose provider is shut, ends with 0.
+    pub fn end_with_timestamp<P: SpanProcessor>(
+        &mut self,
+        provider: &mut ProviderOf<P>,
+        timestamp: Moment,
+    ) -> Result<usize, AllocError>
+        ensures ok { IfOk result (λ refused. DeliversIf P.told P.end_gives provider.old.is_shut timestamp.0 self.old.recorded provider.old.processors provider.new.processors refused) }
+        ensures told { IfOk result (λ refused. EachFollows P.told (deliveries provider.old.is_shut timestamp.0 self.old.recorded refused) provider.old.processors provider.new.processors) }
+        ensures rest { provider.new ≡ record provider.old { processors = provider.new.processors } }
+        ensures ended { OnOk result (self.new ≡ history.ended self.old) }
+        ensures err { OnErr result ((self.new ≡ self.old) × (provider.new ≡ provider.old)) }
+        ensures not_recording { IsNone self.old.recorded → IsOk result }
+        ensures shut { IsTrue provider.old.is_shut → IsOk result }
+        ensures one { length provider.old.processors ≤ 1 → IsOk result }
+    {
+        let Some(recorded) = self.recorded() else {
+            return Ok(0);
+        };
+        if provider.is_shut() {
+            self.stop();
+            return Ok(0);
+        }
+        let copies = provider.copies_of(recorded, timestamp)?;
+        let Some(mut recorded) = self.take_recorded() else {
+            unreachable!();
+        };
+        recorded.end_time = timestamp;
+        Ok(provider.end_each(copies, recorded))
+    }
+
     /// Spends the span; nothing is delivered.
     pub fn abandon(self) {
         let Span {
@@ -100,7 +146,11 @@ impl Span {
     }
 }
 
-fn add_attribute(data: &mut Option<SpanData>, limits: SpanLimits, attribute: KeyValue) -> Result<(), AllocError>
+fn add_attribute(
+    data: &mut Option<SpanData>,
+    limits: SpanLimits,
+    attribute: KeyValue,
+) -> Result<(), AllocError>
     ensures ok { OnOk result (data.new ≡ history.edited_if limits (history.set_attribute attribute) data.old) }
     ensures err { OnErr result (data.new ≡ data.old) }
     ensures free { IsNone data.old → IsOk result }
@@ -111,7 +161,11 @@ fn add_attribute(data: &mut Option<SpanData>, limits: SpanLimits, attribute: Key
     }
 }
 
-fn push_attribute(recorded: &mut SpanData, limits: SpanLimits, attribute: KeyValue) -> Result<(), AllocError>
+fn push_attribute(
+    recorded: &mut SpanData,
+    limits: SpanLimits,
+    attribute: KeyValue,
+) -> Result<(), AllocError>
     ensures ok { OnOk result (recorded.new ≡ history.edited_data limits (history.set_attribute attribute) recorded.old) }
     ensures err { OnErr result (recorded.new ≡ recorded.old) }
 {

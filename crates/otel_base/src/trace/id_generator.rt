@@ -59,12 +59,14 @@ impl IdGenerator for RandomIdGenerator {
 
     ghost span_id_gives = { λ old id new. (id, new) ≡ next_span_id old };
 
+    #[tactic(auto, unfolding(crate::specs::Ids::next_trace_id))]
     fn new_trace_id(&mut self) -> TraceId {
         let low = self.words.next_word();
         let high = self.words.next_word();
         TraceId::from(u128::from(low) | (u128::from(high) << 64))
     }
 
+    #[tactic(auto, unfolding(crate::specs::Ids::next_span_id))]
     fn new_span_id(&mut self) -> SpanId {
         SpanId::from(self.words.next_word())
     }

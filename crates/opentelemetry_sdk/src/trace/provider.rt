@@ -1,0 +1,290 @@
+//! The provider: it holds the processors of the spans that are started under it, the sampler, the ids and the limits,
+//! and shuts the processors down (OpenTelemetry specification, "Tracer Provider"). It is handed in wherever a span
+//! starts or ends, and must be spent by `close`.
+
+ghost use Rattle.std.specs.Prelude.{◌≡◌, ℕ, ◌-◌, ◌≤◌, ◌↔◌, List, length, map, replicate, vec_len, false, true, Ok, IfErr, IfOk, IsOk, IsErrOf, string_bytes};
+ghost use Rattle.std.specs.Bool.{OnTrue, OnFalse};
+ghost use Rattle.otel_base.specs.Ids.{next_span_id, next_trace_id};
+ghost use Rattle.otel_batch.specs.PlainSpanData.{PlainSpanData};
+ghost use Rattle.opentelemetry_sdk.specs.Each.{AskedAll, PassedThrough};
+ghost use Rattle.opentelemetry_sdk.specs.ProcessorTelling.{EachFollows};
+ghost use Rattle.opentelemetry_sdk.specs.Provider.{TakesAndTells, GivesAndKeeps, IsInternalFailure, ShutsDown, named};
+ghost use Rattle.opentelemetry_sdk.specs.SpanHistory.{IsEdited, ended_at};
+
+use crate::trace::{Processor, SdkTracer, Span, SpanProcessor};
+use opentelemetry::{Context, InstrumentationScope, Moment, SpanId, TraceId};
+use otel_base::error::{OTelSdkError, OTelSdkResult};
+use otel_base::trace::{IdGenerator, RandomIdGenerator, Sampler, SpanLimits};
+use otel_batch::trace::SpanData;
+use std::alloc::{AllocError, Global};
+use std::marker::Model;
+use std::time::Duration;
+
+/// A provider over processors of any one kind.
+pub struct ProviderOf<P> {
+    processors: Vec<P>,
+    sampler: Sampler,
+    id_generator: RandomIdGenerator,
+    span_limits: SpanLimits,
+    is_shut: bool,
+}
+
+/// The provider of the SDK.
+pub type SdkTracerProvider = ProviderOf<Processor>;
+
+impl<P> Model for ProviderOf<P> {
+    ghost use Rattle.opentelemetry_sdk.specs.Provider.{ProviderState};
+
+    ghost Value = { ProviderState P };
+
+    ghost view = { λ a. record { processors = a.processors.items; sampler = a.sampler; id_generator = a.id_generator; span_limits = a.span_limits; is_shut = a.is_shut } };
+}
+
+impl<P> ProviderOf<P> {
+    /// An open provider of these parts; it calls no processor.
+    pub fn from_parts(
+        processors: Vec<P>,
+        sampler: Sampler,
+        id_generator: RandomIdGenerator,
+        span_limits: SpanLimits,
+    ) -> ProviderOf<P>
+        ensures { result ≡ record { processors = processors.items; sampler = sampler; id_generator = id_generator; span_limits = span_limits; is_shut = false } }
+    {
+        ProviderOf {
+            processors,
+            sampler,
+            id_generator,
+            span_limits,
+            is_shut: false,
+        }
+    }
+
+    /// The processors in the order in which they are asked.
+    pub fn processors(&self) -> &[P]
+        ensures { result.now ≡ self.now.processors }
+    {
+        &self.processors
+    }
+
+    /// A tracer for the library of this name. Its scope takes memory once, so that no start does.
+    pub fn tracer(&self, name: String) -> Result<SdkTracer, AllocError>
+        ensures { IfOk result (λ tracer. tracer ≡ named (string_bytes name)) }
+    {
+        let scope = InstrumentationScope::builder(self.allocator(), name).build()?;
+        Ok(self.tracer_with_scope(scope))
+    }
+
+    /// A tracer for this library.
+    pub fn tracer_with_scope(&self, scope: InstrumentationScope) -> SdkTracer
+        ensures { result ≡ scope }
+    {
+        SdkTracer::new(scope)
+    }
+
+    pub(crate) fn allocator(&self) -> Global {
+        *self.processors.allocator()
+    }
+
+    pub(crate) fn is_shut(&self) -> bool
+        ensures { result ≡ self.now.is_shut }
+    {
+        self.is_shut
+    }
+
+    pub(crate) fn sampler(&self) -> &Sampler
+        ensures { result.now ≡ self.now.sampler }
+    {
+        &self.sampler
+    }
+
+    pub(crate) fn span_limits(&self) -> SpanLimits
+        ensures { result ≡ self.now.span_limits }
+    {
+        self.span_limits
+    }
+
+    /// The ids of a new root span. The span id is drawn before the trace id.
+    pub(crate) fn root_ids(&mut self) -> (TraceId, SpanId)
+        ensures span_id { result.1 ≡ (next_span_id self.old.id_generator).0 }
+        ensures trace_id { result.0 ≡ (next_trace_id (next_span_id self.old.id_generator).1).0 }
+        ensures rest { self.new ≡ record self.old { id_generator = (next_trace_id (next_span_id self.old.id_generator).1).1 } }
+    {
+        let span_id = self.id_generator.new_span_id();
+        let trace_id = self.id_generator.new_trace_id();
+        (trace_id, span_id)
+    }
+
+    /// The copies of what an ending span recorded: one for each processor but the last, which gets the original.
+    pub(crate) fn copies_of(
+        &self,
+        recorded: &SpanData,
+        timestamp: Moment,
+    ) -> Result<Vec<SpanData>, AllocError>
+        ensures copies { IfOk result (λ copies. copies.items ≡ replicate (length self.now.processors - 1) (ended_at timestamp.0 recorded.now)) }
+        ensures one { length self.now.processors ≤ 1 → IsOk result }
+    {
+        copies_of(
+            self.allocator(),
+            recorded,
+            timestamp,
+            self.processors.len().saturating_sub(1),
+        )
+    }
+}
+
+impl<P: SpanProcessor> ProviderOf<P> {
+    /// A span has started: each processor is told in its turn.
+    pub(crate) fn start_each(&mut self, span: &mut Span, cx: &Context)
+        ensures edits { IsEdited span.old span.new }
+        ensures told { map P.told self.new.processors ≡ map P.told self.old.processors }
+        ensures gives { PassedThrough (λ p s t q. P.start_gives p s cx.now t q) span.old self.old.processors self.new.processors span.new }
+        ensures rest { self.new ≡ record self.old { processors = self.new.processors } }
+    {
+        start_each(&mut self.processors, span, cx);
+    }
+
+    /// A span has ended: each processor gets its copy, the last one the original. How many refused theirs.
+    pub(crate) fn end_each(&mut self, copies: Vec<SpanData>, original: SpanData) -> usize
+        requires { copies.items ≡ replicate (length self.old.processors - 1) original }
+        ensures asked { AskedAll (TakesAndTells P.told P.end_gives original) self.old.processors self.new.processors result }
+        ensures rest { self.new ≡ record self.old { processors = self.new.processors } }
+    {
+        end_each(&mut self.processors, copies, original)
+    }
+
+    /// Shuts every processor down in order, also after one failed. A second shutdown answers `AlreadyShutdown` and asks
+    /// none; failures of processors are an `InternalFailure` that counts them.
+    pub fn shutdown_with_timeout(&mut self, timeout: Duration) -> OTelSdkResult
+        ensures again { OnTrue self.old.is_shut (IsErrOf result OTelSdkError.AlreadyShutdown × (self.new ≡ self.old)) }
+        ensures first { OnFalse self.old.is_shut (ShutsDown P.told P.shutdown_gives self.old result self.new) }
+    {
+        if self.is_shut {
+            return Err(OTelSdkError::AlreadyShutdown);
+        }
+        self.is_shut = true;
+        let failed = shutdown_each(&mut self.processors, timeout);
+        shutdown_answer(self.allocator(), failed)
+    }
+
+    /// The same with 5 seconds.
+    pub fn shutdown(&mut self) -> OTelSdkResult
+        ensures again { OnTrue self.old.is_shut (IsErrOf result OTelSdkError.AlreadyShutdown × (self.new ≡ self.old)) }
+        ensures first { OnFalse self.old.is_shut (ShutsDown P.told P.shutdown_gives self.old result self.new) }
+    {
+        self.shutdown_with_timeout(Duration::from_secs(5))
+    }
+
+    /// Spends the provider. Where it is still open it is shut down, and the answer is that of the shutdown.
+    pub fn close(mut self) -> OTelSdkResult
+        ensures shut { OnTrue self.is_shut (result ≡ Ok tt) }
+        ensures open { OnFalse self.is_shut ((after : _) × ShutsDown P.told P.shutdown_gives self result after) }
+    {
+        if self.is_shut {
+            self.spend();
+            return Ok(());
+        }
+        let answer = self.shutdown();
+        self.spend();
+        answer
+    }
+
+    fn spend(self) {
+        let ProviderOf {
+            processors: _,
+            sampler: _,
+            id_generator: _,
+            span_limits: _,
+            is_shut: _,
+        } = self;
+    }
+}
+
+/// What a shutdown answers where so many processors failed. The reason stays empty where there is no memory for it.
+fn shutdown_answer(alloc: Global, failed: usize) -> OTelSdkResult
+    ensures ok { IsOk result ↔ (failed ≡ 0) }
+    ensures err { IfErr result IsInternalFailure }
+{
+    if failed == 0 {
+        return Ok(());
+    }
+    let reason = match format!(in alloc; "Shutdown errors: {failed}") {
+        Ok(reason) => reason,
+        Err(_) => String::new(alloc),
+    };
+    Err(OTelSdkError::InternalFailure(reason))
+}
+
+fn copies_of(
+    alloc: Global,
+    recorded: &SpanData,
+    timestamp: Moment,
+    count: usize,
+) -> Result<Vec<SpanData>, AllocError>
+    ensures copies { IfOk result (λ copies. copies.items ≡ replicate count (ended_at timestamp.0 recorded.now)) }
+    ensures none { count ≡ 0 → IsOk result }
+{
+    let mut copies = Vec::new(alloc);
+    for _i in 0..count {
+        let mut copy = recorded.clone()?;
+        copy.end_time = timestamp;
+        copies.push(copy)?;
+    }
+    Ok(copies)
+}
+
+fn start_each<P: SpanProcessor>(processors: &mut [P], span: &mut Span, cx: &Context)
+    ensures edits { IsEdited span.old span.new }
+    ensures told { map P.told processors.new ≡ map P.told processors.old }
+    ensures gives { PassedThrough (λ p s t q. P.start_gives p s cx.now t q) span.old processors.old processors.new span.new }
+{
+    for processor in processors.iter_mut() {
+        processor.on_start(span, cx);
+    }
+}
+
+fn end_each<P: SpanProcessor>(
+    processors: &mut [P],
+    copies: Vec<SpanData>,
+    original: SpanData,
+) -> usize
+    requires { copies.items ≡ replicate (length processors.old - 1) original }
+    ensures { AskedAll (TakesAndTells P.told P.end_gives original) processors.old processors.new result }
+{
+    let Some(last) = processors.len().checked_sub(1) else {
+        return 0;
+    };
+    let refused = end_copies(&mut processors[..last], copies);
+    match processors[last].on_end(original) {
+        Ok(()) => refused,
+        Err(_) => refused + 1,
+    }
+}
+
+/// Each of these processors gets a copy, also after one refused. How many refused.
+fn end_copies<P: SpanProcessor>(processors: &mut [P], mut copies: Vec<SpanData>) -> usize
+    requires { vec_len copies ≡ length processors.old }
+    ensures asked { (d : PlainSpanData) → copies.items ≡ replicate (length processors.old) d → AskedAll (TakesAndTells P.told P.end_gives d) processors.old processors.new result }
+    ensures few { result ≤ length processors.old }
+{
+    let mut refused = 0;
+    for processor in processors.iter_mut() {
+        let copy = copies.pop().unwrap();
+        if processor.on_end(copy).is_err() {
+            refused += 1;
+        }
+    }
+    refused
+}
+
+/// Each is shut down, also after one failed. How many failed.
+fn shutdown_each<P: SpanProcessor>(processors: &mut [P], timeout: Duration) -> usize
+    ensures { AskedAll (GivesAndKeeps P.told P.shutdown_gives) processors.old processors.new result }
+{
+    let mut failed = 0;
+    for processor in processors.iter_mut() {
+        if processor.shutdown_with_timeout(timeout).is_err() {
+            failed += 1;
+        }
+    }
+    failed
+}
