@@ -1,0 +1,7 @@
+//! The program `otel_trace`: commands come as lines of text, and each is answered in lines of text.
+#![tactic(auto)]
+
+pub mod command;
+pub mod lines;
+
+pub use command::Command;
