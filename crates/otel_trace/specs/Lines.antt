@@ -3,7 +3,8 @@
 use Rattle.std.specs.Prelude.{◌≡◌, ◌≢◌, ℕ, ◌+◌, ◌^◌, ◌<◌, List, [], ◌∷◌, ◌++◌, length, Option, Some, None, All, codes, IsUtf8}
 use Rattle.std.specs.Str.Lines.{lines}
 use Rattle.std.specs.Str.Parse.{IsNumeral, digits_value}
-use Rattle.otel_trace.specs.Commands.{PlainCommand, start, attr, end}
+use Rattle.otel_trace.specs.declared.command.Command.{Command}
+use Rattle.otel_trace.specs.Commands.{PlainCommand, start, attr, end, plain_command}
 
 -- a field is not empty and has no space in it
 abbrev pub IsField : List ℕ → Type 0
@@ -61,3 +62,13 @@ SpellUpTo all commands (Some n) = StopsAt all commands n
 -- what a text spells up to its first bad line, and which one that is, if there is one
 abbrev pub TextSpells : List ℕ → List PlainCommand → Option ℕ → Type 0
 TextSpells text commands bad_line = SpellUpTo (lines text) commands bad_line
+
+-- what is found in a line: a command as which it reads, and none only where it reads as none
+abbrev pub LineGives : List ℕ → Option Command → Type 0
+LineGives line None = (command : PlainCommand) → Reads line command → ⊥
+LineGives line (Some command) = Reads line (plain_command command)
+
+-- what is found behind a word: a command of that word whose fields stand there, and none only where there are no such fields
+abbrev pub FieldsGive : List ℕ → List ℕ → Option Command → Type 0
+FieldsGive word fields None = (command : PlainCommand) → word_of command ≡ word → AreFields fields command → ⊥
+FieldsGive word fields (Some command) = (word_of (plain_command command) ≡ word) × AreFields fields (plain_command command)

@@ -3,11 +3,121 @@
 ghost use Rattle.std.specs.Prelude.{◌≡◌, ◌≢◌, ℕ, ◌^◌, ◌<◌, List, [], ◌∷◌, ◌++◌, length, Option, None, Some, IfOk, MatchOption, All, codes, position, ◌==◌};
 ghost use Rattle.std.specs.Str.Lines.{lines as lines_of, strip_carriage_return};
 ghost use Rattle.otel_trace.specs.Commands.{PlainCommand, plain_command, plain_commands};
-ghost use Rattle.otel_trace.specs.Lines.{IsField, IsMoment};
+ghost use Rattle.otel_trace.specs.Lines.{IsField, IsMoment, LineGives, FieldsGive, TextSpells};
 
 use crate::command::Command;
 use opentelemetry::Moment;
 use std::alloc::{AllocError, Global};
+
+/// What a text spells up to its first bad line.
+#[derive(Debug, Drop)]
+pub struct Script {
+    /// The commands of the lines before the first bad one.
+    pub commands: Vec<Command>,
+    /// The number of the first bad line, from 1 and with empty lines counted; none where each line reads.
+    pub bad_line: Option<u64>,
+}
+
+/// Reads the lines of a text up to the first that is no command. Fails only where memory runs out.
+pub fn parse(alloc: Global, text: &[u8]) -> Result<Script, AllocError>
+    ensures { IfOk result (λ script.
+        TextSpells text.now (plain_commands script.commands.items) script.bad_line) }
+{
+    let mut commands = Vec::new(alloc);
+    let mut number: u64 = 0;
+    let mut rest = text;
+    while let Some((line, behind)) = first_line(rest) {
+        rest = behind;
+        number += 1;
+        if line.is_empty() {
+            continue;
+        }
+        match command_of(alloc, line)? {
+            Some(command) => commands.push(command)?,
+            None => {
+                return Ok(Script {
+                    commands,
+                    bad_line: Some(number),
+                });
+            }
+        }
+    }
+    Ok(Script {
+        commands,
+        bad_line: None,
+    })
+}
+
+/// The command as which a line reads.
+fn command_of(alloc: Global, line: &[u8]) -> Result<Option<Command>, AllocError>
+    ensures { IfOk result (LineGives line.now) }
+{
+    let Ok(text) = str::from_utf8(line) else {
+        return Ok(None);
+    };
+    let Some((word, fields)) = first_field(text) else {
+        return Ok(None);
+    };
+    match word {
+        "start" => start_of(alloc, fields),
+        "attr" => attr_of(alloc, fields),
+        "end" => end_of(alloc, fields),
+        _ => Ok(None),
+    }
+}
+
+/// The fields of `start SPAN NAME MOMENT`.
+fn start_of(alloc: Global, fields: &str) -> Result<Option<Command>, AllocError>
+    ensures { IfOk result (FieldsGive (codes "start") fields.now) }
+{
+    let Some((span, rest)) = first_field(fields) else {
+        return Ok(None);
+    };
+    let Some((name, digits)) = first_field(rest) else {
+        return Ok(None);
+    };
+    let Some(moment) = moment_of(digits) else {
+        return Ok(None);
+    };
+    Ok(Some(Command::Start {
+        span: String::from_str(alloc, span)?,
+        name: String::from_str(alloc, name)?,
+        moment,
+    }))
+}
+
+/// The fields of `attr SPAN KEY VALUE`. The value is the rest of the line and may be empty or have spaces in it.
+fn attr_of(alloc: Global, fields: &str) -> Result<Option<Command>, AllocError>
+    ensures { IfOk result (FieldsGive (codes "attr") fields.now) }
+{
+    let Some((span, rest)) = first_field(fields) else {
+        return Ok(None);
+    };
+    let Some((key, value)) = first_field(rest) else {
+        return Ok(None);
+    };
+    Ok(Some(Command::Attr {
+        span: String::from_str(alloc, span)?,
+        key: String::from_str(alloc, key)?,
+        value: String::from_str(alloc, value)?,
+    }))
+}
+
+/// The fields of `end SPAN MOMENT`.
+fn end_of(alloc: Global, fields: &str) -> Result<Option<Command>, AllocError>
+    ensures { IfOk result (FieldsGive (codes "end") fields.now) }
+{
+    let Some((span, digits)) = first_field(fields) else {
+        return Ok(None);
+    };
+    let Some(moment) = moment_of(digits) else {
+        return Ok(None);
+    };
+    Ok(Some(Command::End {
+        span: String::from_str(alloc, span)?,
+        moment,
+    }))
+}
 
 /// The first field of a text and what stands behind the space that ends it; none where no field ends in a space.
 fn first_field(text: &str) -> Option<(&str, &str)>
@@ -22,7 +132,7 @@ fn first_field(text: &str) -> Option<(&str, &str)>
     Some((field, rest))
 }
 
-/// The last field of a text that has no other; none where it is empty or has a space in it.
+/// The moment that digits write; none where it is out of range, or where anything but digits stands there.
 fn moment_of(digits: &str) -> Option<Moment>
     ensures { MatchOption result
         ((moment : ℕ) → IsMoment digits.now moment → ⊥)
