@@ -1,5 +1,5 @@
 -- A text has one first field, so what stands behind it is determined.
-use Rattle.std.proofs.Common.{◌≡◌, ◌≢◌, ℕ, ◌<◌, List, [], ◌∷◌, ◌++◌, length, All, codes, refl, sym, ◌∙◌, arith, rules}
+use Rattle.std.proofs.Common.{◌≡◌, ◌≢◌, ℕ, List, [], ◌∷◌, ◌++◌, All, codes, refl, sym, ◌∙◌, arith, rules}
 use Rattle.std.proofs.lemmas.List.Elements.{All-tail, All-from_recursion}
 use Rattle.otel_trace.specs.Commands.{PlainCommand, start, attr, end}
 use Rattle.otel_trace.specs.Lines.{IsField, IsMoment, word_of, AreFields, Reads}
@@ -25,15 +25,13 @@ same_rest text field rest other more f g e d = (same_field text field rest other
 
 -- no attribute stands behind a first field that no field follows
 pub no_attr : (fields span rest : List ℕ) → IsField span → fields ≡ span ++ 32 ∷ rest → ((field more : List ℕ) → IsField field → rest ≡ field ++ 32 ∷ more → ⊥) → (command : PlainCommand) → word_of command ≡ codes "attr" → AreFields fields command → ⊥
-no_attr fields span rest is e none (start s n m) w f = cc
 no_attr fields span rest is e none (attr s k v) w f = none k v f.1 (same_rest fields span rest s (k ++ 32 ∷ v) is f.0 e f.2)
-no_attr fields span rest is e none (end s m) w f = cc
+no_attr fields span rest is e none _ w f = cc
 
 -- no start stands behind a first field that no field follows
 pub no_start : (fields span rest : List ℕ) → IsField span → fields ≡ span ++ 32 ∷ rest → ((field more : List ℕ) → IsField field → rest ≡ field ++ 32 ∷ more → ⊥) → (command : PlainCommand) → word_of command ≡ codes "start" → AreFields fields command → ⊥
 no_start fields span rest is e none (start s n m) w f = none n f.2.0 f.1 (same_rest fields span rest s (n ++ 32 ∷ f.2.0) is f.0 e f.2.2)
-no_start fields span rest is e none (attr s k v) w f = cc
-no_start fields span rest is e none (end s m) w f = cc
+no_start fields span rest is e none _ w f = cc
 
 -- no start stands behind two fields that no moment follows
 pub no_start_moment : (fields span rest name digits : List ℕ) → IsField span → fields ≡ span ++ 32 ∷ rest → IsField name → rest ≡ name ++ 32 ∷ digits → ((moment : ℕ) → IsMoment digits moment → ⊥) → (command : PlainCommand) → word_of command ≡ codes "start" → AreFields fields command → ⊥
@@ -41,16 +39,14 @@ no_start_moment fields span rest name digits is e is_name d none (start s n m) w
     let behind : rest ≡ n ++ 32 ∷ f.2.0 = same_rest fields span rest s (n ++ 32 ∷ f.2.0) is f.0 e f.2.2 in
     let same : digits ≡ f.2.0 = same_rest rest name digits n f.2.0 is_name f.1 d behind in
     none m (rw same f.2.1)
-no_start_moment fields span rest name digits is e is_name d none (attr s k v) w f = cc
-no_start_moment fields span rest name digits is e is_name d none (end s m) w f = cc
+no_start_moment fields span rest name digits is e is_name d none _ w f = cc
 
 -- no end stands behind a field that no moment follows
 pub no_end_moment : (fields span digits : List ℕ) → IsField span → fields ≡ span ++ 32 ∷ digits → ((moment : ℕ) → IsMoment digits moment → ⊥) → (command : PlainCommand) → word_of command ≡ codes "end" → AreFields fields command → ⊥
-no_end_moment fields span digits is e none (start s n m) w f = cc
-no_end_moment fields span digits is e none (attr s k v) w f = cc
 no_end_moment fields span digits is e none (end s m) w f =
     let same : digits ≡ f.1.0 = same_rest fields span digits s f.1.0 is f.0 e f.1.2 in
     none m (rw same f.1.1)
+no_end_moment fields span digits is e none _ w f = cc
 
 -- the words of commands are fields
 pub word_is_field : (command : PlainCommand) → IsField (word_of command)

@@ -5,3 +5,4 @@ pub mod command;
 pub mod lines;
 
 pub use command::Command;
+pub use lines::{Script, parse};

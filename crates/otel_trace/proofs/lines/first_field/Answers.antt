@@ -1,5 +1,5 @@
 -- The first space ends the first field, if that has bytes.
-use Rattle.std.proofs.Common.{◌≡◌, ◌≢◌, lit<, arith, rules}
+use Rattle.std.proofs.Common.{◌≢◌, lit<, rules}
 use Rattle.std.proofs.lemmas.Str.Pattern.{split_parts}
 use Rattle.std.proofs.lemmas.List.Elements.{All-from_get_or}
 use Rattle.otel_trace.proofs.Cuts.{no_field, no_empty_field}

@@ -1,5 +1,5 @@
 -- The first line ends at the first line feed, and is the whole text where there is none.
-use Rattle.std.proofs.Common.{◌≡◌, ◌+◌, ◌-◌, ◌<◌, length, take, drop, arith, sym, rules, length-drop}
+use Rattle.std.proofs.Common.{◌+◌, ◌<◌, length, arith, sym, rules, length-drop}
 use Rattle.std.proofs.lemmas.List.{take_rest}
 use Rattle.otel_trace.proofs.Cuts.{lines_none, lines_first}
 use Rattle.otel_trace.proofs.lines.first_line.Goals as goal
