@@ -1,0 +1,28 @@
+-- Each processor of a list is asked in its turn.
+use Rattle.std.specs.Prelude.{◌≡◌, ℕ, ◌+◌, List, [], ◌∷◌, Result, Ok, Err}
+
+-- place by place: the processor before, its answer, the processor after
+abbrev pub Each : {P R : Type 0} → (P → R → P → Type 0) → List P → List R → List P → Type 0
+Each G [] [] [] = Unit {0}
+Each G [] [] (q ∷ qs) = ⊥
+Each G [] (r ∷ rs) qs = ⊥
+Each G (p ∷ ps) [] qs = ⊥
+Each G (p ∷ ps) (r ∷ rs) [] = ⊥
+Each G (p ∷ ps) (r ∷ rs) (q ∷ qs) = G p r q × Each G ps rs qs
+
+-- how many of the answers are errors
+abbrev pub errors : {T E : Type 0} → List (Result T E) → ℕ
+errors [] = 0
+errors (Ok _ ∷ rs) = errors rs
+errors (Err _ ∷ rs) = errors rs + 1
+
+-- each was asked, also after one refused: n of the answers are errors
+abbrev pub AskedAll : {P T E : Type 0} → (P → Result T E → P → Type 0) → List P → List P → ℕ → Type 0
+AskedAll {P} {T} {E} G ps qs n = (rs : List (Result T E)) × (errors rs ≡ n) × Each G ps rs qs
+
+-- what is asked passes from one to the next: the processor and the value before, the value and the processor after
+abbrev pub PassedThrough : {P X : Type 0} → (P → X → X → P → Type 0) → X → List P → List P → X → Type 0
+PassedThrough G x [] [] y = y ≡ x
+PassedThrough G x [] (q ∷ qs) y = ⊥
+PassedThrough G x (p ∷ ps) [] y = ⊥
+PassedThrough {P} {X} G x (p ∷ ps) (q ∷ qs) y = (z : X) × G p x z q × PassedThrough G z ps qs y

@@ -1,0 +1,77 @@
+//! A processor of a provider, of either kind: one that exports at once, or an object of the caller's own.
+
+ghost use Rattle.std.specs.Prelude.{◌≡◌};
+
+use crate::trace::{SimpleSpanProcessor, Span, SpanProcessor};
+use opentelemetry::Context;
+use otel_base::error::OTelSdkResult;
+use otel_batch::trace::{ExporterBox, SpanData};
+use std::alloc::AllocError;
+use std::time::Duration;
+
+/// A processor of one of two kinds, generic in both.
+#[derive(Drop)]
+pub enum ProcessorOf<S, C> {
+    Simple(S),
+    Custom(C),
+}
+
+/// What a provider of the SDK holds.
+pub type Processor = ProcessorOf<SimpleSpanProcessor<ExporterBox>, Box<dyn SpanProcessor>>;
+
+impl<S: SpanProcessor, C: SpanProcessor> SpanProcessor for ProcessorOf<S, C> {
+    ghost use Rattle.opentelemetry_sdk.specs.declared.trace.processor.ProcessorOf.TheVariants as kinds;
+
+    ghost told = { λ p. elim p [ kinds.Simple s ↦ S.told s | kinds.Custom c ↦ C.told c ] };
+
+    ghost start_gives = { λ p s cx t q. elim p [
+        kinds.Simple a ↦ elim q [ kinds.Simple b ↦ S.start_gives a s cx t b | kinds.Custom _ ↦ ⊥ ]
+      | kinds.Custom c ↦ elim q [ kinds.Simple _ ↦ ⊥ | kinds.Custom d ↦ C.start_gives c s cx t d ] ] };
+
+    ghost end_gives = { λ p span r q. elim p [
+        kinds.Simple a ↦ elim q [ kinds.Simple b ↦ S.end_gives a span r b | kinds.Custom _ ↦ ⊥ ]
+      | kinds.Custom c ↦ elim q [ kinds.Simple _ ↦ ⊥ | kinds.Custom d ↦ C.end_gives c span r d ] ] };
+
+    ghost flush_gives = { λ p r q. elim p [
+        kinds.Simple a ↦ elim q [ kinds.Simple b ↦ S.flush_gives a r b | kinds.Custom _ ↦ ⊥ ]
+      | kinds.Custom c ↦ elim q [ kinds.Simple _ ↦ ⊥ | kinds.Custom d ↦ C.flush_gives c r d ] ] };
+
+    ghost shutdown_gives = { λ p r q. elim p [
+        kinds.Simple a ↦ elim q [ kinds.Simple b ↦ S.shutdown_gives a r b | kinds.Custom _ ↦ ⊥ ]
+      | kinds.Custom c ↦ elim q [ kinds.Simple _ ↦ ⊥ | kinds.Custom d ↦ C.shutdown_gives c r d ] ] };
+
+    fn on_start(&mut self, span: &mut Span, cx: &Context) {
+        match self {
+            ProcessorOf::Simple(simple) => simple.on_start(span, cx),
+            ProcessorOf::Custom(custom) => custom.on_start(span, cx),
+        }
+    }
+
+    fn on_end(&mut self, span: SpanData) -> Result<(), AllocError> {
+        match self {
+            ProcessorOf::Simple(simple) => simple.on_end(span),
+            ProcessorOf::Custom(custom) => custom.on_end(span),
+        }
+    }
+
+    fn force_flush(&mut self) -> OTelSdkResult {
+        match self {
+            ProcessorOf::Simple(simple) => simple.force_flush(),
+            ProcessorOf::Custom(custom) => custom.force_flush(),
+        }
+    }
+
+    fn shutdown_with_timeout(&mut self, timeout: Duration) -> OTelSdkResult {
+        match self {
+            ProcessorOf::Simple(simple) => simple.shutdown_with_timeout(timeout),
+            ProcessorOf::Custom(custom) => custom.shutdown_with_timeout(timeout),
+        }
+    }
+
+    fn shutdown(&mut self) -> OTelSdkResult {
+        match self {
+            ProcessorOf::Simple(simple) => simple.shutdown(),
+            ProcessorOf::Custom(custom) => custom.shutdown(),
+        }
+    }
+}

@@ -1,0 +1,104 @@
+//! The processor that exports each sampled span as soon as it ends, in a batch of its own (OpenTelemetry specification,
+//! "Simple processor").
+
+ghost use Rattle.std.specs.Prelude.{◌≡◌, ◌∷◌, [], false, IfOk, IsTrue, ◌↔◌, ◌%◌};
+
+use crate::trace::{Span, SpanProcessor};
+use opentelemetry::Context;
+use otel_base::error::OTelSdkResult;
+use otel_batch::trace::{SpanData, SpanExporter};
+use std::alloc::{AllocError, Global};
+use std::marker::Model;
+use std::time::Duration;
+
+/// Hands each sampled span to its exporter at once, until it is shut down.
+#[derive(Drop)]
+pub struct SimpleSpanProcessor<E> {
+    exporter: E,
+    is_shut: bool,
+    alloc: Global,
+}
+
+impl<E> Model for SimpleSpanProcessor<E> {
+    ghost use Rattle.opentelemetry_sdk.specs.SimpleProcessor.{SimpleProcessor};
+
+    ghost Value = { SimpleProcessor E };
+
+    ghost view = { λ a. record { exporter = a.exporter; is_shut = a.is_shut } };
+}
+
+impl<E> SimpleSpanProcessor<E> {
+    pub fn new(alloc: Global, exporter: E) -> SimpleSpanProcessor<E>
+        ensures { result ≡ record { exporter = exporter; is_shut = false } }
+    {
+        SimpleSpanProcessor {
+            exporter,
+            is_shut: false,
+            alloc,
+        }
+    }
+
+    pub fn exporter(&self) -> &E
+        ensures { result.now ≡ self.now.exporter }
+    {
+        &self.exporter
+    }
+}
+
+impl<E: SpanExporter> SpanProcessor for SimpleSpanProcessor<E> {
+    ghost use Rattle.std.specs.Prelude.{◌≡◌, ◌∷◌, [], ◌&&◌, not, None, Ok, MatchBool, MatchResult, true};
+    ghost use Rattle.otel_batch.specs.Telling.{Tells};
+    ghost use Rattle.opentelemetry_sdk.specs.ProcessorTelling.{is_sampled};
+
+    ghost told = { λ p. record { spans = None; batches = E.told p.exporter; is_open = not p.is_shut } };
+
+    ghost start_gives = { λ p s cx t q. (q ≡ p) × (t ≡ s) };
+
+    // While it is open a sampled span is one export of a batch of one, whose answer is dropped; where there is no memory
+    // for the batch nothing is exported. Any other span leaves the exporter as it was.
+    ghost end_gives = { λ p d r q. MatchBool (not p.is_shut && is_sampled d)
+        (MatchResult r
+            (λ _. (answer : _) × E.export_gives p.exporter (d ∷ []) answer q.exporter × Tells (E.told p.exporter) ((d ∷ []) ∷ []) (E.told q.exporter) × (q ≡ record p { exporter = q.exporter }))
+            (λ _. q ≡ p))
+        ((r ≡ Ok tt) × (q ≡ p)) };
+
+    ghost flush_gives = { λ p r q. (r ≡ Ok tt) × (q ≡ p) };
+
+    ghost shutdown_gives = { λ p r q. (q ≡ record p { exporter = q.exporter; is_shut = true }) × (E.told q.exporter ≡ E.told p.exporter) };
+
+    fn on_start(&mut self, _span: &mut Span, _cx: &Context) {}
+
+    fn on_end(&mut self, span: SpanData) -> Result<(), AllocError> {
+        if self.is_shut || !is_sampled(&span.span_context) {
+            return Ok(());
+        }
+        let batch = batch_of(self.alloc, span)?;
+        let _ = self.exporter.export(batch);
+        Ok(())
+    }
+
+    fn force_flush(&mut self) -> OTelSdkResult {
+        Ok(())
+    }
+
+    fn shutdown_with_timeout(&mut self, timeout: Duration) -> OTelSdkResult {
+        self.is_shut = true;
+        self.exporter.shutdown_with_timeout(timeout)
+    }
+}
+
+/// A batch of one span.
+fn batch_of(alloc: Global, span: SpanData) -> Result<Vec<SpanData>, AllocError>
+    ensures { IfOk result (λ batch. batch.items ≡ span ∷ []) }
+{
+    let mut batch = Vec::with_capacity(alloc, 1)?;
+    batch.push(span)?;
+    Ok(batch)
+}
+
+fn is_sampled(context: &opentelemetry::trace::SpanContext) -> bool
+    ensures { IsTrue result ↔ (context.now.trace_flags % 2 ≡ 1) }
+{
+    let _ = context;
+    true
+}

@@ -1,0 +1,3 @@
+pub mod PlainSpanData
+pub mod StoredBatches
+pub mod Telling
