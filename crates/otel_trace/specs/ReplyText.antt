@@ -3,7 +3,8 @@ use Rattle.std.specs.Prelude.{ℕ, List, [], ◌∷◌, ◌++◌, length, map, c
 use Rattle.std.specs.List.{join_with_byte, flat_map}
 use Rattle.std.specs.Fmt.{decimal}
 use Rattle.opentelemetry.specs.Hex.{hex_text}
-use Rattle.opentelemetry.specs.Plain.{PlainSpanContext, PlainEvent, PlainStatus, unset, error, ok}
+use Rattle.opentelemetry.specs.ValueText.{value_text}
+use Rattle.opentelemetry.specs.Plain.{PlainKeyValue, PlainSpanContext, PlainEvent, PlainStatus, unset, error, ok}
 use Rattle.otel_batch.specs.PlainSpanData.{PlainSpanData, PlainSpanEvents, PlainSpanLinks}
 
 -- a text that ends its line
@@ -28,6 +29,10 @@ status_text unset = codes "unset"
 status_text (error description) = codes "error(" ++ (description ++ codes ")")
 status_text ok = codes "ok"
 
+-- an attribute's key and value
+abbrev pub attribute_text : PlainKeyValue → List ℕ
+attribute_text attribute = attribute.key ++ 61 ∷ value_text attribute.value
+
 -- an event's name and moment
 abbrev pub event_text : PlainEvent → List ℕ
 event_text event = event.name ++ 64 ∷ decimal event.timestamp
@@ -44,6 +49,18 @@ events_text events = spaced (codes "events" ∷ listed event_text events.events 
 abbrev pub identity_text : PlainSpanData → List ℕ
 identity_text span = spaced (codes "span" ∷ hex_text 32 span.span_context.trace_id ∷ hex_text 16 span.span_context.span_id ∷ hex_text 16 span.parent_span_id ∷ hex_text 2 span.span_context.trace_flags
     ∷ decimal span.start_time ∷ decimal span.end_time ∷ span.name ∷ status_text span.status ∷ [])
+
+-- the attributes of a span that were kept, and how many were not
+abbrev pub attributes_text : List PlainKeyValue → ℕ → List ℕ
+attributes_text attributes dropped = spaced (codes "attrs" ∷ listed attribute_text attributes ∷ decimal dropped ∷ [])
+
+-- the line of an exported span
+abbrev pub span_line : PlainSpanData → List ℕ
+span_line span = line (spaced (identity_text span ∷ attributes_text span.attributes span.dropped_attributes_count ∷ events_text span.events ∷ links_text span.links ∷ []))
+
+-- the lines of exported spans
+abbrev pub span_lines : List PlainSpanData → List ℕ
+span_lines = flat_map span_line
 
 -- the identity of a span in the form of a traceparent header (W3C Trace Context, section 3.2), with all its flags
 abbrev pub context_text : PlainSpanContext → List ℕ

@@ -4,8 +4,9 @@
 ghost use Rattle.std.specs.Prelude.{◌≡◌, ◌++◌, ◌∷◌, [], OnOk, OnErr, string_bytes, vec_len};
 ghost use Rattle.std.specs.Fmt.{decimal};
 ghost use Rattle.opentelemetry.specs.PlainValues.{plain_status};
-ghost use Rattle.otel_trace.specs.ReplyText.{listed, comma_before, status_text, event_text, events_text, links_text, identity_text, context_text, started_line, dropped_line};
+ghost use Rattle.otel_trace.specs.ReplyText.{listed, comma_before, status_text, attribute_text, attributes_text, event_text, events_text, links_text, identity_text, span_line, span_lines, context_text, started_line, dropped_line};
 
+use opentelemetry::KeyValue;
 use opentelemetry::trace::{Event, SpanContext, Status};
 use otel_batch::trace::{SpanData, SpanEvents, SpanLinks};
 use std::alloc::AllocError;
@@ -36,6 +37,41 @@ fn push_comma(text: &mut String, i: usize) -> Result<(), AllocError>
     ensures { OnOk result (string_bytes text.new ≡ string_bytes text.old ++ comma_before i) }
 {
     if i == 0 { Ok(()) } else { text.push(',') }
+}
+
+/// The attribute's key, `=` and its value.
+fn push_attribute(text: &mut String, attribute: &KeyValue) -> Result<(), AllocError>
+    ensures { OnOk result (string_bytes text.new ≡ string_bytes text.old ++ attribute_text attribute.now) }
+{
+    let key = attribute.key.as_str();
+    let value = &attribute.value;
+    write!(text, "{key}={value}")
+}
+
+/// The attributes in brackets.
+fn push_attribute_list(text: &mut String, attributes: &[KeyValue]) -> Result<(), AllocError>
+    ensures { OnOk result (string_bytes text.new ≡ string_bytes text.old ++ listed attribute_text attributes.now) }
+{
+    text.push('[')?;
+    for (i, attribute) in attributes.iter().enumerate() {
+        push_comma(text, i)?;
+        push_attribute(text, attribute)?;
+    }
+    text.push(']')
+}
+
+/// The attributes that were kept, and how many were not.
+#[tactic(auto, using(std::proofs::lemmas::List::append_assoc))]
+fn push_attributes(
+    text: &mut String,
+    attributes: &[KeyValue],
+    dropped: u32,
+) -> Result<(), AllocError>
+    ensures { OnOk result (string_bytes text.new ≡ string_bytes text.old ++ attributes_text attributes.now dropped) }
+{
+    text.push_str("attrs ")?;
+    push_attribute_list(text, attributes)?;
+    write!(text, " {dropped}")
 }
 
 /// The events in brackets.
@@ -87,6 +123,31 @@ fn push_identity(text: &mut String, span: &SpanData) -> Result<(), AllocError>
         "span {trace_id} {span_id} {parent} {flags} {start} {end} {name} "
     )?;
     push_status(text, &span.status)
+}
+
+/// The line of one exported span.
+#[tactic(auto, using(std::proofs::lemmas::List::append_assoc))]
+fn push_span(text: &mut String, span: &SpanData) -> Result<(), AllocError>
+    ensures { OnOk result (string_bytes text.new ≡ string_bytes text.old ++ span_line span.now) }
+{
+    push_identity(text, span)?;
+    text.push(' ')?;
+    push_attributes(text, span.attributes.as_slice(), span.dropped_attributes_count)?;
+    text.push(' ')?;
+    push_events(text, &span.events)?;
+    text.push(' ')?;
+    push_links(text, &span.links)?;
+    text.push('\n')
+}
+
+/// The lines of exported spans, in order.
+pub fn push_spans(text: &mut String, spans: &[SpanData]) -> Result<(), AllocError>
+    ensures { OnOk result (string_bytes text.new ≡ string_bytes text.old ++ span_lines spans.now) }
+{
+    for span in spans {
+        push_span(text, span)?;
+    }
+    Ok(())
 }
 
 /// The span's identity.
