@@ -1,3 +1,4 @@
 pub mod Hex
 pub mod Plain
 pub mod PlainValues
+pub mod Same

@@ -26,3 +26,37 @@ impl Clone for Status {
         }
     }
 }
+
+impl PartialEq for Status {
+    ghost use Rattle.std.specs.Prelude.{◌≡◌, ◌↔◌, IsTrue};
+    ghost use Rattle.std.specs.Ordering.{on};
+    ghost use Rattle.std.proofs.lemmas.Cmp.{on_equiv};
+    ghost use Rattle.std.specs.Cmp.{partial_equiv_from_equiv};
+    ghost use Rattle.opentelemetry.specs.PlainValues.{plain_status};
+    ghost use Rattle.opentelemetry.specs.Same.{same_status, same_status_decides, equivalence_from_decides};
+
+    ghost eq = { on plain_status same_status };
+
+    ghost laws = { partial_equiv_from_equiv (on_equiv plain_status (equivalence_from_decides same_status same_status_decides)) };
+
+    fn eq(&self, other: &Status) -> bool
+        ensures value { result ≡ same_status (plain_status self.now) (plain_status other.now) }
+        ensures same { IsTrue result ↔ (plain_status self.now ≡ plain_status other.now) }
+    {
+        match (self, other) {
+            (Status::Unset, Status::Unset) => true,
+            (Status::Error { description: this }, Status::Error { description: that }) => this
+                == that,
+            (Status::Ok, Status::Ok) => true,
+            _ => false,
+        }
+    }
+}
+
+impl Eq for Status {
+    ghost use Rattle.std.proofs.lemmas.Cmp.{on_equiv};
+    ghost use Rattle.opentelemetry.specs.PlainValues.{plain_status};
+    ghost use Rattle.opentelemetry.specs.Same.{same_status, same_status_decides, equivalence_from_decides};
+
+    ghost laws = { on_equiv plain_status (equivalence_from_decides same_status same_status_decides) };
+}
