@@ -3,3 +3,4 @@ pub mod Order
 pub mod Plain
 pub mod PlainValues
 pub mod Same
+pub mod ValueText

@@ -4,6 +4,8 @@
 ghost use Rattle.std.specs.Prelude.{◌≡◌, ◌↔◌, None, [], string_bytes, IfOk, IsTrue};
 ghost use Rattle.opentelemetry.specs.PlainValues.{plain_value};
 
+mod display;
+
 use std::alloc::{AllocError, Global};
 use std::cmp::Ordering;
 use std::hash::{Hash, Hasher};
