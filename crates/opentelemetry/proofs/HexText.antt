@@ -1,12 +1,12 @@
 -- That std's formatter writes a number's hexadecimal text.
-use Rattle.std.proofs.Common.{◌≡◌, ℕ, zero, suc, ◌+◌, ◌-◌, ◌*◌, ◌/◌, ◌%◌, ◌^◌, ◌<◌, ◌≤◌, ◌⊎◌, List, [], ◌∷◌, ◌++◌, length, replicate, Some, false, cond, refl, sym, ap, ◌∙◌, arith, ⊎_elim, subst, append_assoc, append-nil, length-append, inl, inr}
+use Rattle.std.proofs.Common.{◌≡◌, ℕ, zero, suc, ◌+◌, ◌-◌, ◌*◌, ◌/◌, ◌%◌, ◌^◌, ◌<◌, ◌≤◌, List, [], ◌∷◌, ◌++◌, length, replicate, Some, false, cond, refl, sym, ap, ◌∙◌, arith, ⊎_elim, subst, append_assoc, append-nil, length-append}
 use Rattle.std.proofs.lemmas.List.{replicate-append-replicate}
 use Rattle.std.proofs.lemmas.Bool.{cases_lt}
 use Rattle.std.proofs.lemmas.Nat.{and_mask}
 use Rattle.std.specs.Prelude.{bit_and}
 use borrow.Author.Tests.{ne_eqb, eq-eqb}
 use Rattle.std.proofs.Math.Nat.{pow-suc, mul_assoc}
-use Rattle.std.specs.Fmt.{digits, digits_onto, digit_glyph, char_count, padded_integral, format_spec, digits_output, styled_digits_output, shown_prefix, radix_prefix}
+use Rattle.std.specs.Fmt.{digits, digits_onto, char_count, padded_integral, format_spec, digits_output, styled_digits_output, shown_prefix, radix_prefix}
 use Rattle.std.specs.Option.{option_map}
 use Rattle.opentelemetry.specs.Hex.{hex_text, hex_digit}
 

@@ -1,3 +1,4 @@
 pub mod Clones
 pub mod HexRead
 pub mod HexText
+pub mod Joins

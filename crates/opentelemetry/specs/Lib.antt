@@ -1,3 +1,6 @@
 pub mod Hex
+pub mod Order
 pub mod Plain
 pub mod PlainValues
+pub mod Same
+pub mod ValueText

@@ -1,8 +1,8 @@
-use Rattle.std.proofs.Common.{arith, refl, List, length, take, get_or, ℕ, ◌≡◌, ◌+◌, ◌*◌, ◌<◌, ◌∙◌, sym, ap, ◌++◌, ◌∷◌, [], subst}
+use Rattle.std.proofs.Common.{arith, refl, List, length, get_or, ℕ, ◌<◌, ◌∙◌, sym, ap, ◌++◌, ◌∷◌, []}
 use Rattle.std.proofs.lemmas.List.{take_more}
 use Rattle.std.proofs.lemmas.List.Elements.{All-nil, All-more}
-use Rattle.opentelemetry.specs.Hex.{hex_text, hex_digit, IsHexDigit}
-use Rattle.opentelemetry.proofs.HexRead.{hex_room, hex_fits_more, hex_text_push, digit_IsHexDigit}
+use Rattle.opentelemetry.specs.Hex.{hex_text, IsHexDigit}
+use Rattle.opentelemetry.proofs.HexRead.{hex_room, hex_fits_more, hex_text_push}
 use Rattle.opentelemetry.proofs.trace_context.number_from_hex.Goals as goal
 
 pub loop-digit-init : goal.loop-digit-init

@@ -1,6 +1,6 @@
-use Rattle.std.proofs.Common.{ℕ, List, Some, ◌++◌, ◌/◌, ◌-◌, ◌^◌, ◌<◌, ◌≤◌, ◌∙◌, ◌≡◌, subst, ap, arith}
+use Rattle.std.proofs.Common.{ℕ, Some, ◌/◌, ◌-◌, ◌^◌, ◌<◌, ◌∙◌, ◌≡◌, subst, ap, arith}
 use Rattle.std.proofs.lemmas.Nat.{and_le_r}
-use Rattle.std.specs.Prelude.{bit_and, Option}
+use Rattle.std.specs.Prelude.{bit_and}
 use Rattle.std.specs.Fmt.{DisplaysOnOk, option_append, styled_digits_output}
 use Rattle.opentelemetry.specs.Hex.{hex_text}
 use Rattle.opentelemetry.proofs.HexText.{shown_hex, hex_sixteen, hex_text-wide}

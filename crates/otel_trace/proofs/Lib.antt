@@ -1,0 +1,5 @@
+pub mod Cuts
+pub mod Fields
+pub mod Listed
+pub mod OneReading
+pub mod Spelled

@@ -1,0 +1,23 @@
+-- Commands as contracts see them: numbers, and texts as their bytes.
+use Rattle.std.specs.Prelude.{ℕ, List, map, string_bytes}
+use Rattle.otel_trace.specs.declared.command.Command.{Command}
+use Rattle.otel_trace.specs.declared.command.Command.TheVariants as commands
+
+-- a command without where its texts lie
+pub data PlainCommand : Type 0 where
+  -- the span's text, the span's name, the moment at which it starts
+  start : List ℕ → List ℕ → ℕ → PlainCommand
+  -- the span's text, the key, the value
+  attr : List ℕ → List ℕ → List ℕ → PlainCommand
+  -- the span's text, the moment at which it ends
+  end : List ℕ → ℕ → PlainCommand
+
+-- what a command asks for
+abbrev pub plain_command : Command → PlainCommand
+plain_command (commands.Start span name moment) = start (string_bytes span) (string_bytes name) moment.0
+plain_command (commands.Attr span key value) = attr (string_bytes span) (string_bytes key) (string_bytes value)
+plain_command (commands.End span moment) = end (string_bytes span) moment.0
+
+-- what commands ask for, in order
+abbrev pub plain_commands : List Command → List PlainCommand
+plain_commands = map plain_command
