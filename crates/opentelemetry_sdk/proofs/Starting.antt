@@ -1,13 +1,12 @@
 -- What a start at an open provider makes.
 use Rattle.std.proofs.Common.{◌≡◌, ℕ, Bool, false, List, [], Some, MatchBool, sym, subst, ap, ◌∙◌}
 use Rattle.opentelemetry.specs.Plain.{PlainScope, PlainSpanContext}
-use Rattle.opentelemetry.specs.declared.trace.span_kind.SpanKind.TheVariants.{Internal}
 use Rattle.otel_base.specs.Ids.{next_span_id, next_trace_id}
 use Rattle.otel_base.specs.declared.trace.span_limit.SpanLimits.{SpanLimits}
 use Rattle.otel_batch.specs.PlainSpanData.{PlainSpanData}
 use Rattle.opentelemetry_sdk.specs.Each.{PassedThrough}
-use Rattle.opentelemetry_sdk.specs.Provider.{ProviderState, Starts, root_context, root_start, after_root, empty_context}
-use Rattle.opentelemetry_sdk.specs.SpanHistory.{PlainSpan, SpanStart, IsEdited, data_of, recording, not_recording}
+use Rattle.opentelemetry_sdk.specs.Provider.{ProviderState, Starts, root_context, root_span, root_start, after_root, empty_context}
+use Rattle.opentelemetry_sdk.specs.SpanHistory.{PlainSpan, IsEdited, data_of, recording, not_recording}
 
 -- from the span as it was begun and the provider behind the draws
 pub starts_open : {P : Type 0} (gives : P → PlainSpan → PlainSpan → P → Type 0) (old drawn new : ProviderState P) (scope : PlainScope) (name : List ℕ) (now : ℕ) (begun span : PlainSpan)
@@ -23,19 +22,6 @@ starts_open {P} gives old drawn new scope name now begun span h e d edits passed
     subst (λ (b : Bool). MatchBool b ((span ≡ not_recording empty_context old.span_limits) × (new ≡ old)) (B (recording (root_start old scope name now) []))) (sym h)
     (subst B e (edits, moved.0, moved.1))
 
--- a root start by its parts
-abbrev start_of : PlainSpanContext → List ℕ → ℕ → PlainScope → SpanLimits → SpanStart
-start_of context name now scope limits = record {
-  span_context = context;
-  parent_span_id = 0;
-  parent_span_is_remote = false;
-  span_kind = Internal;
-  name = name;
-  start_time = now;
-  instrumentation_scope = scope;
-  limits = limits;
-}
-
 -- a recording span by its parts
 abbrev span_with : PlainSpanContext → SpanLimits → PlainSpanData → PlainSpan
 span_with context limits recorded = record { span_context = context; limits = limits; recorded = Some recorded }
@@ -46,7 +32,7 @@ pub begun_is : {P : Type 0} (old : ProviderState P) (name : List ℕ) (now trace
     → context ≡ record { trace_id = trace_id; span_id = span_id; trace_flags = trace_flags; is_remote = false; trace_state = [] }
     → own ≡ record { trace_id = trace_id; span_id = span_id; trace_flags = trace_flags; is_remote = false; trace_state = [] }
     → own_scope ≡ scope → limits ≡ old.span_limits
-    → ((l : SpanLimits) → recorded ≡ data_of (start_of context name now own_scope l) [] now)
+    → ((l : SpanLimits) → recorded ≡ data_of (root_span context own_scope name now l) [] now)
     → begun ≡ record { span_context = own; limits = limits; recorded = Some recorded }
     → begun ≡ recording (root_start old scope name now) []
 begun_is old name now trace_id span_id trace_flags context own scope own_scope limits recorded begun t s f c o w l d b =
@@ -54,7 +40,7 @@ begun_is old name now trace_id span_id trace_flags context own scope own_scope l
     let own_is : own ≡ root_context old.id_generator = o ∙ ids in
     let context_is : context ≡ root_context old.id_generator = c ∙ ids in
     let data_is : recorded ≡ data_of (root_start old scope name now) [] now =
-    d old.span_limits ∙ ap (λ (x : PlainSpanContext). data_of (start_of x name now own_scope old.span_limits) [] now) context_is
-    ∙ ap (λ (x : PlainScope). data_of (start_of (root_context old.id_generator) name now x old.span_limits) [] now) w in
+    d old.span_limits ∙ ap (λ (x : PlainSpanContext). data_of (root_span x own_scope name now old.span_limits) [] now) context_is
+    ∙ ap (λ (x : PlainScope). data_of (root_span (root_context old.id_generator) x name now old.span_limits) [] now) w in
     b ∙ ap (λ (x : PlainSpanContext). span_with x limits recorded) own_is ∙ ap (λ (x : SpanLimits). span_with (root_context old.id_generator) x recorded) l
     ∙ ap (λ (x : PlainSpanData). span_with (root_context old.id_generator) old.span_limits x) data_is

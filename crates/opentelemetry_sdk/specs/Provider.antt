@@ -34,18 +34,22 @@ root_context generator =
 abbrev pub after_root : List ℕ → List ℕ
 after_root generator = (next_trace_id (next_span_id generator).1).1
 
--- a root span with nothing but a name and a moment
-abbrev pub root_start : {P : Type 0} → ProviderState P → PlainScope → List ℕ → ℕ → SpanStart
-root_start provider scope name now = record {
-  span_context = root_context provider.id_generator;
+-- the start of a root span with nothing but a name and a moment
+abbrev pub root_span : PlainSpanContext → PlainScope → List ℕ → ℕ → SpanLimits → SpanStart
+root_span context scope name now limits = record {
+  span_context = context;
   parent_span_id = 0;
   parent_span_is_remote = false;
   span_kind = Internal;
   name = name;
   start_time = now;
   instrumentation_scope = scope;
-  limits = provider.span_limits;
+  limits = limits;
 }
+
+-- the same at a provider, which draws the ids
+abbrev pub root_start : {P : Type 0} → ProviderState P → PlainScope → List ℕ → ℕ → SpanStart
+root_start provider scope name now = root_span (root_context provider.id_generator) scope name now provider.span_limits
 
 -- what a start makes: while the provider is open a recording span, which each processor may edit in its turn; else no
 -- span, and nothing is drawn

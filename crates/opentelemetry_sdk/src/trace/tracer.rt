@@ -2,7 +2,7 @@
 
 ghost use Rattle.std.specs.Prelude.{◌≡◌, [], map, IfOk, OnErr, false, string_bytes};
 ghost use Rattle.opentelemetry_sdk.specs.Each.{PassedThrough};
-ghost use Rattle.opentelemetry_sdk.specs.Provider.{Starts, root_cx};
+ghost use Rattle.opentelemetry_sdk.specs.Provider.{Starts, root_cx, root_span};
 ghost use Rattle.opentelemetry_sdk.specs.SpanHistory.{IsEdited, data_of};
 
 use crate::trace::{ProviderOf, Span, SpanProcessor};
@@ -105,16 +105,7 @@ fn root_data(
     name: String,
     now: Moment,
 ) -> SpanData
-    ensures { (limits : SpanLimits) → result ≡ data_of (record {
-      span_context = span_context;
-      parent_span_id = 0;
-      parent_span_is_remote = false;
-      span_kind = SpanKind.Internal;
-      name = string_bytes name;
-      start_time = now.0;
-      instrumentation_scope = scope;
-      limits = limits;
-    }) [] now.0 }
+    ensures { (limits : SpanLimits) → result ≡ data_of (root_span span_context scope (string_bytes name) now.0 limits) [] now.0 }
 {
     SpanData {
         span_context,
