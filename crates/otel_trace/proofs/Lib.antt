@@ -1,3 +1,6 @@
+pub mod RunLemmas
+pub mod StepLemmas
+pub mod NamedLemmas
 pub mod Cuts
 pub mod Fields
 pub mod Listed

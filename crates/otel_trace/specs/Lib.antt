@@ -1,3 +1,6 @@
 pub mod Commands
 pub mod Lines
+pub mod OpenSpans
+pub mod PlainReply
 pub mod ReplyText
+pub mod SessionDelivery

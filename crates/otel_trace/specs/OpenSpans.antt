@@ -1,5 +1,5 @@
 -- The spans of a session by name, and what the commands do to the span of a name.
-use Rattle.std.specs.Prelude.{◌≡◌, ℕ, Bool, List, [], ◌∷◌, Option, Some, None, is_some, map, string_bytes, String, if◌then◌else◌}
+use Rattle.std.specs.Prelude.{◌≡◌, ℕ, Bool, true, false, List, [], ◌∷◌, Option, Some, None, is_some, map, string_bytes, String, if◌then◌else◌}
 use Rattle.std.specs.Ordering.{nat_cmp}
 use Rattle.std.specs.Cmp.Lexicographic.{slice_cmp}
 use Rattle.std.specs.BTreeMap.{is_at}
@@ -7,6 +7,8 @@ use Rattle.opentelemetry.specs.Plain.{PlainScope}
 use Rattle.opentelemetry_sdk.specs.SpanHistory.{PlainSpan, Edit, edited, ended}
 use Rattle.opentelemetry_sdk.specs.ProcessorTelling.{ProcessorTelling, EachFollows}
 use Rattle.opentelemetry_sdk.specs.Provider.{ProviderState, Starts, deliveries}
+use Rattle.otel_trace.specs.declared.reply.Answer.{Answer}
+use Rattle.otel_trace.specs.declared.reply.Answer.TheVariants as answers
 use Rattle.otel_trace.specs.declared.reply.SpanIdentity.{SpanIdentity}
 use Rattle.otel_batch.specs.PlainSpanData.{PlainSpanData}
 
@@ -60,3 +62,21 @@ abbrev pub EndsNamed : {P : Type 0} → (P → ProcessorTelling) → NamedSpans 
 EndsNamed told old name p moment None answer new q = (answer ≡ None) × SameSpans old new × (q ≡ p)
 EndsNamed told old name p moment (Some span) answer new q = (n : ℕ) × (answer ≡ Some (refusals span.recorded n)) × PutsSpan old name (ended span) new
   × EachFollows told (deliveries p.is_shut moment span.recorded n) p.processors q.processors × (q ≡ record p { processors = q.processors })
+
+-- the answer to an attribute
+abbrev pub attr_answer : Option Bool → Answer
+attr_answer None = answers.NoSuchSpan
+attr_answer (Some true) = answers.Ok
+attr_answer (Some false) = answers.Ignored
+
+-- the answer to an end
+abbrev pub end_answer : Option (Option ℕ) → Answer
+end_answer None = answers.NoSuchSpan
+end_answer (Some None) = answers.Ignored
+end_answer (Some (Some refused)) = answers.Ended refused
+
+-- the answer to a start
+abbrev pub start_answer : Option (SpanIdentity × Bool) → Answer
+start_answer None = answers.SpanExists
+start_answer (Some (identity, true)) = answers.Started identity
+start_answer (Some (identity, false)) = answers.Dropped identity

@@ -1,7 +1,8 @@
 -- What the commands of a session demand of its exporters. It speaks of each span as its history, a start and the edits
 -- since, and of what an end delivers as the data of that history: whole lists, each cut once. No history is stored.
-use Rattle.std.specs.Prelude.{◌≡◌, ℕ, Bool, true, false, List, [], ◌∷◌, ◌++◌, Option, Some, None, map, if◌then◌else◌, ◌⊎◌}
-use Rattle.std.specs.Option.{option_map}
+use Rattle.std.specs.Prelude.{◌≡◌, ℕ, Bool, true, false, List, [], ◌∷◌, ◌++◌, Option, Some, None, map, drop, slice_get, if◌then◌else◌, ◌⊎◌}
+use Rattle.std.specs.List.{flat_map}
+use Rattle.std.specs.Option.{option_map, option_map_or}
 use Rattle.opentelemetry.specs.Plain.{PlainSpanContext, PlainScope, text}
 use Rattle.otel_base.specs.declared.trace.span_limit.SpanLimits.{SpanLimits}
 use Rattle.otel_batch.specs.PlainSpanData.{PlainSpanData}
@@ -9,7 +10,7 @@ use Rattle.opentelemetry_sdk.specs.SpanHistory.{SpanHistory, begun, over, SpanSt
 use Rattle.opentelemetry_sdk.specs.ProcessorTelling.{ProcessorTelling, Delivery, EachFollows}
 use Rattle.opentelemetry_sdk.specs.Provider.{ProviderState, empty_context, root_span}
 use Rattle.otel_trace.specs.Commands.{PlainCommand, start, attr, end, plain_commands}
-use Rattle.otel_trace.specs.OpenSpans.{NamedSpans, named, is_name}
+use Rattle.otel_trace.specs.OpenSpans.{NamedSpans, SameSpans, named, is_name}
 use Rattle.otel_trace.specs.PlainReply.{PlainReply}
 use Rattle.otel_trace.specs.declared.command.Command.{Command}
 use Rattle.otel_trace.specs.declared.reply.Answer.{Answer}
@@ -29,7 +30,7 @@ abbrev pub Give : Histories → NamedSpans → Type 0
 Give histories spans = (q : List ℕ) → named spans q ≡ option_map span_of (histories q)
 
 -- what a session's commands depend on and leave alone: whether its provider is shut, the limits, and the library's scope
-pub record SessionGround : Type 0 where
+pub record SessionFrame : Type 0 where
   pub is_shut : Bool
   pub limits : SpanLimits
   pub scope : PlainScope
@@ -47,13 +48,101 @@ abbrev pub end_delivers : Bool → PlainSpanData → ℕ → List Delivery
 end_delivers true span refused = []
 end_delivers false span refused = record { span = span; refused = refused } ∷ []
 
-module _ (ground : SessionGround) (old : Histories) where
-  -- a start: a span of its own under a new name, which the processors may edit at once; at a shut provider it is dropped
-  abbrev pub StartFound : List ℕ → List ℕ → ℕ → Option SpanHistory → Answer → List Delivery → Histories → Type 0
-  StartFound span name moment (Some _) answer ds new = (answer ≡ answers.SpanExists) × (ds ≡ []) × (new ≡ old)
-  StartFound span name moment None answer ds new = (ds ≡ []) × StartsAt ground.is_shut span name moment answer new
+-- what a start makes of a new name: a span of its own, which the processors may edit at once; at a shut provider nobody
+abbrev pub NewSpan : SessionFrame → Bool → Histories → List ℕ → List ℕ → ℕ → Answer → Histories → Type 0
+NewSpan frame true old span name moment answer new = (answer ≡ answers.Dropped nobody) × (new ≡ with_history old span (over empty_context frame.limits))
+NewSpan frame false old span name moment answer new = (identity : SpanIdentity) × (edits : List Edit) × (identity.trace_flags ≡ 1) × (answer ≡ answers.Started identity)
+  × (new ≡ with_history old span (begun (root_span (root_context_of identity) frame.scope name moment frame.limits) edits))
 
-  abbrev pub StartsAt : Bool → List ℕ → List ℕ → ℕ → Answer → Histories → Type 0
-  StartsAt true span name moment answer new = (answer ≡ answers.Dropped nobody) × (new ≡ with_history old span (over empty_context ground.limits))
-  StartsAt false span name moment answer new = (identity : SpanIdentity) × (edits : List Edit) × (identity.trace_flags ≡ 1) × (answer ≡ answers.Started identity)
-    × (new ≡ with_history old span (begun (root_span (root_context_of identity) ground.scope name moment ground.limits) edits))
+-- a start: a name is taken once
+abbrev pub StartFound : SessionFrame → Histories → List ℕ → List ℕ → ℕ → Option SpanHistory → Answer → List Delivery → Histories → Type 0
+StartFound frame old span name moment (Some _) answer ds new = (answer ≡ answers.SpanExists) × (ds ≡ []) × (new ≡ old)
+StartFound frame old span name moment None answer ds new = NewSpan frame frame.is_shut old span name moment answer new × (ds ≡ [])
+
+-- an attribute: one more edit of a history that is not over
+abbrev pub AttrFound : Histories → List ℕ → List ℕ → List ℕ → Option SpanHistory → Answer → List Delivery → Histories → Type 0
+AttrFound old span key value None answer ds new = (answer ≡ answers.NoSuchSpan) × (ds ≡ []) × (new ≡ old)
+AttrFound old span key value (Some (over context limits)) answer ds new = (answer ≡ answers.Ignored) × (ds ≡ []) × (new ≡ old)
+AttrFound old span key value (Some (begun from edits)) answer ds new = (answer ≡ answers.Ok) × (ds ≡ [])
+  × (new ≡ with_history old span (begun from (edits ++ set_attribute (record { key = key; value = text value }) ∷ [])))
+
+-- an end: the history is over, and its data is delivered, unless the provider is shut
+abbrev pub EndFound : SessionFrame → Histories → List ℕ → ℕ → Option SpanHistory → Answer → List Delivery → Histories → Type 0
+EndFound frame old span moment None answer ds new = (answer ≡ answers.NoSuchSpan) × (ds ≡ []) × (new ≡ old)
+EndFound frame old span moment (Some (over context limits)) answer ds new = (answer ≡ answers.Ignored) × (ds ≡ []) × (new ≡ old)
+EndFound frame old span moment (Some (begun from edits)) answer ds new = (refused : ℕ) × (answer ≡ answers.Ended refused)
+  × (ds ≡ end_delivers frame.is_shut (data_of from edits moment) refused) × (new ≡ with_history old span (over from.span_context from.limits))
+
+-- what one command demands: its answer, what is delivered, and the histories behind it
+abbrev pub Demands : SessionFrame → Histories → PlainCommand → Answer → List Delivery → Histories → Type 0
+Demands frame old (start span name moment) answer ds new = StartFound frame old span name moment (old span) answer ds new
+Demands frame old (attr span key value) answer ds new = AttrFound old span key value (old span) answer ds new
+Demands frame old (end span moment) answer ds new = EndFound frame old span moment (old span) answer ds new
+
+-- what commands demand one after another: the deliveries join
+abbrev pub DemandAll : SessionFrame → Histories → List PlainCommand → List Answer → List Delivery → Histories → Type 0
+DemandAll frame old [] [] ds new = (ds ≡ []) × (new ≡ old)
+DemandAll frame old [] (answer ∷ answers) ds new = ⊥
+DemandAll frame old (command ∷ commands) [] ds new = ⊥
+DemandAll frame old (command ∷ commands) (answer ∷ answers) ds new = (middle : Histories) × (first : List Delivery) × (rest : List Delivery)
+  × Demands frame old command answer first middle × DemandAll frame middle commands answers rest new × (ds ≡ first ++ rest)
+
+-- a session: its provider, the library's scope, its spans, and how many batches its replies have shown
+pub record SessionState (P : Type 0) : Type 0 where
+  pub provider : ProviderState P
+  pub scope : PlainScope
+  pub spans : NamedSpans
+  pub shown : ℕ
+
+-- what the commands of a session depend on
+abbrev pub frame_with : {P : Type 0} → ProviderState P → PlainScope → SessionFrame
+frame_with provider scope = record { is_shut = provider.is_shut; limits = provider.span_limits; scope = scope }
+
+abbrev pub frame_of : {P : Type 0} → SessionState P → SessionFrame
+frame_of session = frame_with session.provider session.scope
+
+-- the answers of replies
+abbrev pub answers_of : List PlainReply → List Answer
+answers_of replies = map (λ reply. reply.answer) replies
+
+-- one command was carried out: its answer, the spans and the tellings of the processors are what it demands of the
+-- histories that the spans had
+abbrev pub Steps : {P : Type 0} → (P → ProcessorTelling) → PlainScope → ProviderState P → NamedSpans → PlainCommand → Answer → ProviderState P → NamedSpans → Type 0
+Steps {P} told scope p old command answer q new = (frame_with q scope ≡ frame_with p scope)
+  × ((histories : Histories) → Give histories old → (ds : List Delivery) × (after : Histories)
+    × Demands (frame_with p scope) histories command answer ds after × Give after new
+    × EachFollows told ds p.processors q.processors)
+
+-- nothing was carried out: each name has the span that it had, and each processor tells what it told
+abbrev pub Rests : {P : Type 0} → (P → ProcessorTelling) → PlainScope → ProviderState P → NamedSpans → ProviderState P → NamedSpans → Type 0
+Rests {P} told scope p old q new = (frame_with q scope ≡ frame_with p scope) × SameSpans old new
+  × (map told q.processors ≡ map told p.processors)
+
+-- the batches that the first processor keeps
+abbrev pub first_kept : {P : Type 0} → (P → List (List PlainSpanData)) → SessionState P → List (List PlainSpanData)
+first_kept kept session = option_map_or kept (slice_get session.provider.processors 0) []
+
+-- the spans of those that no reply has shown
+abbrev pub unshown : {P : Type 0} → (P → List (List PlainSpanData)) → SessionState P → List PlainSpanData
+unshown kept session = flat_map (λ batch. batch) (drop session.shown (first_kept kept session))
+
+-- commands were carried out: the replies' answers, the spans and the tellings of the processors are what they demand of
+-- the histories that the spans had, and the same deliveries reach each processor
+abbrev pub CarriesOut : {P : Type 0} → (P → ProcessorTelling) → SessionState P → List Command → List PlainReply → SessionState P → Type 0
+CarriesOut {P} told old commands replies new = (frame_of new ≡ frame_of old)
+  × ((histories : Histories) → Give histories old.spans → (ds : List Delivery) × (after : Histories)
+    × DemandAll (frame_of old) histories (plain_commands commands) (answers_of replies) ds after × Give after new.spans
+    × EachFollows told ds old.provider.processors new.provider.processors)
+
+-- the replies of all commands, or of all but the last
+abbrev pub AllOrButLast : List PlainReply → List PlainReply → Type 0
+AllOrButLast replies appended = (appended ≡ replies) ⊎ ((last : PlainReply) × (replies ≡ appended ++ last ∷ []))
+
+-- all commands were carried out, each with its reply
+abbrev pub RunsAll : {P : Type 0} → (P → ProcessorTelling) → SessionState P → List Command → List PlainReply → List PlainReply → SessionState P → Type 0
+RunsAll told old commands before now new = (replies : List PlainReply) × (now ≡ before ++ replies) × CarriesOut told old commands replies new
+
+-- a beginning of the commands was carried out, the last one perhaps without its reply
+abbrev pub RunsBeginning : {P : Type 0} → (P → ProcessorTelling) → SessionState P → List Command → List PlainReply → List PlainReply → SessionState P → Type 0
+RunsBeginning told old commands before now new = (done : List Command) × (left : List Command) × (replies : List PlainReply) × (appended : List PlainReply)
+  × (commands ≡ done ++ left) × (now ≡ before ++ appended) × AllOrButLast replies appended × CarriesOut told old done replies new

@@ -147,15 +147,15 @@ impl Span {
 }
 
 fn add_attribute(
-    data: &mut Option<SpanData>,
+    recorded: &mut Option<SpanData>,
     limits: SpanLimits,
     attribute: KeyValue,
 ) -> Result<(), AllocError>
-    ensures ok { OnOk result (data.new ≡ history.edited_if limits (history.set_attribute attribute) data.old) }
-    ensures err { OnErr result (data.new ≡ data.old) }
-    ensures free { IsNone data.old → IsOk result }
+    ensures ok { OnOk result (recorded.new ≡ history.edited_if limits (history.set_attribute attribute) recorded.old) }
+    ensures err { OnErr result (recorded.new ≡ recorded.old) }
+    ensures free { IsNone recorded.old → IsOk result }
 {
-    match data {
+    match recorded {
         Some(recorded) => push_attribute(recorded, limits, attribute),
         None => Ok(()),
     }

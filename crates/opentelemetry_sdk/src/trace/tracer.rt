@@ -45,6 +45,7 @@ impl SdkTracer {
     ) -> Result<Span, AllocError>
         ensures ok { IfOk result (λ span. Starts (λ p s t q. P.start_gives p s root_cx t q) provider.old self.now (string_bytes name) now.0 span provider.new) }
         ensures told { map P.told provider.new.processors ≡ map P.told provider.old.processors }
+        ensures rest { provider.new ≡ record provider.old { processors = provider.new.processors; id_generator = provider.new.id_generator } }
         ensures err { OnErr result (provider.new ≡ provider.old) }
     {
         let span_limits = provider.span_limits();

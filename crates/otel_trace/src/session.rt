@@ -1,0 +1,170 @@
+//! A session: commands against one provider, each with a reply. What its commands deliver to the exporters is stated by
+//! the histories of its spans, apart from the code that fills them.
+
+ghost use Rattle.std.specs.Prelude.{◌≡◌, ℕ, Bool, [], Option, length, map, IfErr, IfOk, OnOk, OnErr, codes, string_bytes};
+ghost use Rattle.opentelemetry.specs.Plain.{text};
+ghost use Rattle.opentelemetry_sdk.specs.Provider.{named as scope_named};
+ghost use Rattle.opentelemetry_sdk.specs.Provider.{root_cx};
+ghost use Rattle.opentelemetry_sdk.specs.SpanHistory as edits;
+ghost use Rattle.otel_trace.specs.Commands.{plain_command};
+ghost use Rattle.otel_trace.specs.OpenSpans.{EditsNamed, EndsNamed, SameSpans, StartsNamed, attr_answer, end_answer, named, start_answer};
+ghost use Rattle.otel_trace.specs.declared.reply.SpanIdentity.{SpanIdentity};
+ghost use Rattle.otel_trace.specs.SessionDelivery.{Rests, RunsAll, RunsBeginning, Steps, first_kept, unshown};
+
+use crate::command::Command;
+use crate::exported::{KeepsBatches, copies_since};
+use crate::open_spans::OpenSpans;
+use crate::reply::{Answer, Reply};
+use opentelemetry::{Key, KeyValue, Moment, Value};
+use opentelemetry_sdk::trace::{ProviderOf, SdkTracer, SpanProcessor};
+use otel_batch::trace::SpanData;
+use std::alloc::{AllocError, Global};
+use std::collections::VecDeque;
+use std::marker::Model;
+
+/// The name of the library whose spans a session makes.
+const SCOPE_NAME: &str = "otel_trace";
+
+/// Commands against one provider. It must be spent by `close`.
+pub struct Session<P> {
+    provider: ProviderOf<P>,
+    tracer: SdkTracer,
+    spans: OpenSpans,
+    shown: usize,
+    alloc: Global,
+}
+
+impl<P> Model for Session<P> {
+    ghost use Rattle.otel_trace.specs.SessionDelivery.{SessionState};
+
+    ghost Value = { SessionState P };
+
+    ghost view = { λ a. record { provider = a.provider; scope = a.tracer; spans = a.spans; shown = a.shown } };
+}
+
+impl<P> Session<P> {
+    /// A session with no spans. Where there is no memory for its scope, the provider comes back.
+    pub fn new(alloc: Global, provider: ProviderOf<P>) -> Result<Session<P>, (ProviderOf<P>, AllocError)>
+        ensures ok { IfOk result (λ session. session ≡ record { provider = provider; scope = scope_named (codes "otel_trace"); spans = []; shown = 0 }) }
+        ensures err { IfErr result (λ e. e.0 ≡ provider) }
+    {
+        match tracer_of(alloc, &provider) {
+            Ok(tracer) => Ok(Session {
+                provider,
+                tracer,
+                spans: OpenSpans::new(alloc),
+                shown: 0,
+                alloc,
+            }),
+            Err(error) => Err((provider, error)),
+        }
+    }
+}
+
+fn tracer_of<P>(alloc: Global, provider: &ProviderOf<P>) -> Result<SdkTracer, AllocError>
+    ensures { IfOk result (λ tracer. tracer ≡ scope_named (codes "otel_trace")) }
+{
+    provider.tracer(String::from_str(alloc, SCOPE_NAME)?)
+}
+
+impl<P: SpanProcessor + KeepsBatches> Session<P> {
+    /// Carries commands out in order and appends a reply for each. Where memory runs out, a beginning of the commands was
+    /// carried out, each with its reply, except that the last one may be without.
+    pub fn run(&mut self, commands: Vec<Command>, replies: &mut Vec<Reply>) -> Result<(), AllocError>
+        ensures ok { OnOk result (RunsAll P.told self.old commands.items replies.old.items replies.new.items self.new) }
+        ensures err { OnErr result (RunsBeginning P.told self.old commands.items replies.old.items replies.new.items self.new) }
+    {
+        let mut queue = VecDeque::from_vec(commands);
+        while let Some(command) = queue.pop_front() {
+            let answer = self.answer(command)?;
+            let exported = self.exported()?;
+            replies.push(Reply { exported, answer })?;
+        }
+        Ok(())
+    }
+
+    /// Carries one command out.
+    fn answer(&mut self, command: Command) -> Result<Answer, AllocError>
+        ensures ok { IfOk result (λ answer. Steps P.told self.old.scope self.old.provider self.old.spans (plain_command command) answer self.new.provider self.new.spans) }
+        ensures err { OnErr result (Rests P.told self.old.scope self.old.provider self.old.spans self.new.provider self.new.spans) }
+        ensures rest { self.new ≡ record self.old { provider = self.new.provider; spans = self.new.spans } }
+    {
+        carry_out(&self.tracer, &mut self.provider, &mut self.spans, command)
+    }
+
+    /// Copies of the spans that the first processor exported into memory and no reply has shown.
+    fn exported(&mut self) -> Result<Vec<SpanData>, AllocError>
+        ensures ok { IfOk result (λ spans. spans.items ≡ unshown P.kept self.old) }
+        ensures shown { OnOk result (self.new ≡ record self.old { shown = length (first_kept P.kept self.old) }) }
+        ensures err { OnErr result (self.new ≡ self.old) }
+    {
+        let batches = kept_by_first(self.provider.processors());
+        let spans = copies_since(self.alloc, batches, self.shown)?;
+        self.shown = batches.len();
+        Ok(spans)
+    }
+}
+
+/// The batches that the first of these processors keeps.
+fn kept_by_first<P: KeepsBatches>(processors: &[P]) -> &[Vec<SpanData>]
+    ensures { map (λ batch. batch.items) result.now ≡ option_map_or P.kept [] (slice_get processors.now 0) }
+{
+    match processors.first() {
+        Some(first) => first.batches(),
+        None => &[],
+    }
+}
+
+/// Carries one command out.
+fn carry_out<P: SpanProcessor>(tracer: &SdkTracer, provider: &mut ProviderOf<P>, spans: &mut OpenSpans, command: Command) -> Result<Answer, AllocError>
+    ensures ok { IfOk result (λ answer. Steps P.told tracer.now provider.old spans.old (plain_command command) answer provider.new spans.new) }
+    ensures err { OnErr result (Rests P.told tracer.now provider.old spans.old provider.new spans.new) }
+{
+    match command {
+        Command::Start { span, name, moment } => start_span(tracer, provider, spans, span, name, moment),
+        Command::Attr { span, key, value } => set_attribute(spans, span, text_attribute(key, value)),
+        Command::End { span, moment } => end_span(provider, spans, span, moment),
+    }
+}
+
+fn start_span<P: SpanProcessor>(tracer: &SdkTracer, provider: &mut ProviderOf<P>, spans: &mut OpenSpans, span: String, name: String, moment: Moment) -> Result<Answer, AllocError>
+    ensures ok { IfOk result (λ answer. (given : Option (SpanIdentity × Bool)) × (answer ≡ start_answer given) × StartsNamed (λ p s t q. P.start_gives p s root_cx t q) spans.old (string_bytes span) provider.old tracer.now (string_bytes name) moment.0 (named spans.old (string_bytes span)) given spans.new provider.new) }
+    ensures told { map P.told provider.new.processors ≡ map P.told provider.old.processors }
+    ensures rest { provider.new ≡ record provider.old { processors = provider.new.processors; id_generator = provider.new.id_generator } }
+    ensures err { OnErr result (SameSpans spans.old spans.new) }
+{
+    match spans.start(span, tracer, provider, name, moment)? {
+        None => Ok(Answer::SpanExists),
+        Some((identity, true)) => Ok(Answer::Started(identity)),
+        Some((identity, false)) => Ok(Answer::Dropped(identity)),
+    }
+}
+
+fn set_attribute(spans: &mut OpenSpans, span: String, attribute: KeyValue) -> Result<Answer, AllocError>
+    ensures ok { IfOk result (λ answer. (given : Option Bool) × (answer ≡ attr_answer given) × EditsNamed spans.old (string_bytes span) (edits.set_attribute attribute) (named spans.old (string_bytes span)) given spans.new) }
+    ensures err { OnErr result (SameSpans spans.old spans.new) }
+{
+    match spans.set_attribute(span.as_str(), attribute)? {
+        None => Ok(Answer::NoSuchSpan),
+        Some(true) => Ok(Answer::Ok),
+        Some(false) => Ok(Answer::Ignored),
+    }
+}
+
+fn end_span<P: SpanProcessor>(provider: &mut ProviderOf<P>, spans: &mut OpenSpans, span: String, moment: Moment) -> Result<Answer, AllocError>
+    ensures ok { IfOk result (λ answer. (given : Option (Option ℕ)) × (answer ≡ end_answer given) × EndsNamed P.told spans.old (string_bytes span) provider.old moment.0 (named spans.old (string_bytes span)) given spans.new provider.new) }
+    ensures err { OnErr result (SameSpans spans.old spans.new × (provider.new ≡ provider.old)) }
+{
+    match spans.end(span.as_str(), provider, moment)? {
+        None => Ok(Answer::NoSuchSpan),
+        Some(None) => Ok(Answer::Ignored),
+        Some(Some(refused)) => Ok(Answer::Ended(refused)),
+    }
+}
+
+/// The attribute whose value is a text.
+fn text_attribute(key: String, value: String) -> KeyValue
+    ensures { result ≡ record { key = string_bytes key; value = text (string_bytes value) } }
+{
+    KeyValue::new(Key::new(key), Value::String(value))
+}
