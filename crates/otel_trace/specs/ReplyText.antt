@@ -51,12 +51,12 @@ identity_text span = spaced (codes "span" ∷ hex_text 32 span.span_context.trac
     ∷ decimal span.start_time ∷ decimal span.end_time ∷ span.name ∷ status_text span.status ∷ [])
 
 -- the attributes of a span that were kept, and how many were not
-abbrev pub attributes_text : List PlainKeyValue → ℕ → List ℕ
-attributes_text attributes dropped = spaced (codes "attrs" ∷ listed attribute_text attributes ∷ decimal dropped ∷ [])
+abbrev pub attributes_text : PlainSpanData → List ℕ
+attributes_text span = spaced (codes "attrs" ∷ listed attribute_text span.attributes ∷ decimal span.dropped_attributes_count ∷ [])
 
 -- the line of an exported span
 abbrev pub span_line : PlainSpanData → List ℕ
-span_line span = line (spaced (identity_text span ∷ attributes_text span.attributes span.dropped_attributes_count ∷ events_text span.events ∷ links_text span.links ∷ []))
+span_line span = line (spaced (identity_text span ∷ attributes_text span ∷ events_text span.events ∷ links_text span.links ∷ []))
 
 -- the lines of exported spans
 abbrev pub span_lines : List PlainSpanData → List ℕ

@@ -4,7 +4,7 @@
 ghost use Rattle.std.specs.Prelude.{◌≡◌, ◌++◌, ◌∷◌, [], OnOk, OnErr, string_bytes, vec_len};
 ghost use Rattle.std.specs.Fmt.{decimal};
 ghost use Rattle.opentelemetry.specs.PlainValues.{plain_status};
-ghost use Rattle.otel_trace.specs.ReplyText.{listed, comma_before, status_text, attribute_text, attributes_text, event_text, events_text, links_text, identity_text, span_line, span_lines, context_text, started_line, dropped_line};
+ghost use Rattle.otel_trace.specs.ReplyText.{listed, spaced, comma_before, status_text, attribute_text, attributes_text, event_text, events_text, links_text, identity_text, span_line, span_lines, context_text, started_line, dropped_line};
 
 use opentelemetry::KeyValue;
 use opentelemetry::trace::{Event, SpanContext, Status};
@@ -62,15 +62,12 @@ fn push_attribute_list(text: &mut String, attributes: &[KeyValue]) -> Result<(),
 
 /// The attributes that were kept, and how many were not.
 #[tactic(auto, using(std::proofs::lemmas::List::append_assoc))]
-fn push_attributes(
-    text: &mut String,
-    attributes: &[KeyValue],
-    dropped: u32,
-) -> Result<(), AllocError>
-    ensures { OnOk result (string_bytes text.new ≡ string_bytes text.old ++ attributes_text attributes.now dropped) }
+fn push_attributes(text: &mut String, span: &SpanData) -> Result<(), AllocError>
+    ensures { OnOk result (string_bytes text.new ≡ string_bytes text.old ++ attributes_text span.now) }
 {
+    let dropped = span.dropped_attributes_count;
     text.push_str("attrs ")?;
-    push_attribute_list(text, attributes)?;
+    push_attribute_list(text, span.attributes.as_slice())?;
     write!(text, " {dropped}")
 }
 
@@ -106,6 +103,16 @@ fn push_links(text: &mut String, links: &SpanLinks) -> Result<(), AllocError>
     write!(text, "links {kept} {dropped}")
 }
 
+/// The events and links of a span.
+#[tactic(auto, using(std::proofs::lemmas::List::append_assoc))]
+fn push_events_and_links(text: &mut String, span: &SpanData) -> Result<(), AllocError>
+    ensures { OnOk result (string_bytes text.new ≡ string_bytes text.old ++ spaced (events_text span.now.events ∷ links_text span.now.links ∷ [])) }
+{
+    push_events(text, &span.events)?;
+    text.push_str(" ")?;
+    push_links(text, &span.links)
+}
+
 /// Which span it is, what it is called, when it ran and how it went.
 #[tactic(auto, using(std::proofs::lemmas::List::append_assoc))]
 fn push_identity(text: &mut String, span: &SpanData) -> Result<(), AllocError>
@@ -131,13 +138,11 @@ fn push_span(text: &mut String, span: &SpanData) -> Result<(), AllocError>
     ensures { OnOk result (string_bytes text.new ≡ string_bytes text.old ++ span_line span.now) }
 {
     push_identity(text, span)?;
-    text.push(' ')?;
-    push_attributes(text, span.attributes.as_slice(), span.dropped_attributes_count)?;
-    text.push(' ')?;
-    push_events(text, &span.events)?;
-    text.push(' ')?;
-    push_links(text, &span.links)?;
-    text.push('\n')
+    text.push_str(" ")?;
+    push_attributes(text, span)?;
+    text.push_str(" ")?;
+    push_events_and_links(text, span)?;
+    text.push_str("\n")
 }
 
 /// The lines of exported spans, in order.
