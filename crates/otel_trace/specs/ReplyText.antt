@@ -72,3 +72,23 @@ started_line context = line (codes "started " ++ context_text context)
 
 abbrev pub dropped_line : PlainSpanContext → List ℕ
 dropped_line context = line (codes "dropped " ++ context_text context)
+
+-- what answers an edit of a recording span, and a call that went well
+abbrev pub ok_line : List ℕ
+ok_line = line (codes "ok")
+
+-- what answers an edit or an end of a span that does not record
+abbrev pub ignored_line : List ℕ
+ignored_line = line (codes "ignored")
+
+-- what answers a text that names no span
+abbrev pub no_such_span_line : List ℕ
+no_such_span_line = line (codes "no such span")
+
+-- what answers a start under a text that names a span already
+abbrev pub span_exists_line : List ℕ
+span_exists_line = line (codes "span exists")
+
+-- what answers an end of a recording span
+abbrev pub ended_line : List ℕ
+ended_line = line (codes "ended")

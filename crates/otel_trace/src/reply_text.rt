@@ -109,7 +109,7 @@ fn push_events_and_links(text: &mut String, span: &SpanData) -> Result<(), Alloc
     ensures { OnOk result (string_bytes text.new ≡ string_bytes text.old ++ spaced (events_text span.now.events ∷ links_text span.now.links ∷ [])) }
 {
     push_events(text, &span.events)?;
-    text.push_str(" ")?;
+    text.push(' ')?;
     push_links(text, &span.links)
 }
 
@@ -138,11 +138,11 @@ fn push_span(text: &mut String, span: &SpanData) -> Result<(), AllocError>
     ensures { OnOk result (string_bytes text.new ≡ string_bytes text.old ++ span_line span.now) }
 {
     push_identity(text, span)?;
-    text.push_str(" ")?;
+    text.push(' ')?;
     push_attributes(text, span)?;
-    text.push_str(" ")?;
+    text.push(' ')?;
     push_events_and_links(text, span)?;
-    text.push_str("\n")
+    text.push('\n')
 }
 
 /// The lines of exported spans, in order.
@@ -191,4 +191,96 @@ pub fn write_text(out: &mut Vec<u8>, text: &str) -> Result<(), AllocError>
     ensures err { OnErr result (out.new.items ≡ out.old.items) }
 {
     out.extend_from_slice(text.as_bytes())
+}
+
+#[cfg(test)]
+mod tests {
+    use super::*;
+    use opentelemetry::trace::{SpanKind, TraceState};
+    use opentelemetry::{InstrumentationScope, Key, Moment, SpanId, TraceFlags, TraceId, Value};
+    use std::alloc::Global;
+    use std::test::Fail;
+
+    fn context(flags: u8) -> SpanContext {
+        SpanContext::new(
+            TraceId::from(0x5c0fdf91ec9a7bfc61da6f3dc380d507),
+            SpanId::from(0x02eebf8c3bbe5e1a),
+            TraceFlags::new(flags),
+            false,
+            TraceState::new(),
+        )
+    }
+
+    fn event(alloc: Global, name: &str, moment: u64) -> Result<Event, AllocError> {
+        Ok(Event {
+            name: String::from_str(alloc, name)?,
+            timestamp: Moment(moment),
+            attributes: Vec::new(alloc),
+            dropped_attributes_count: 0,
+        })
+    }
+
+    fn attribute(alloc: Global, key: &str, value: Value) -> Result<KeyValue, AllocError> {
+        Ok(KeyValue::new(Key::new(String::from_str(alloc, key)?), value))
+    }
+
+    fn span(alloc: Global, name: &str, status: Status) -> Result<SpanData, AllocError> {
+        Ok(SpanData {
+            span_context: context(1),
+            parent_span_id: SpanId::from(0x53175d61490b23df),
+            parent_span_is_remote: false,
+            span_kind: SpanKind::Internal,
+            name: String::from_str(alloc, name)?,
+            start_time: Moment(1100),
+            end_time: Moment(1300),
+            attributes: Vec::new(alloc),
+            dropped_attributes_count: 0,
+            events: SpanEvents::new(alloc),
+            links: SpanLinks::new(alloc),
+            status,
+            instrumentation_scope: InstrumentationScope::builder(
+                alloc,
+                String::new(alloc),
+            ).build()?,
+        })
+    }
+
+    #[test]
+    fn spans_are_lines(rt: HostRuntime) -> Result<(), Fail> {
+        let alloc = rt.alloc();
+        let description = String::from_str(alloc, "b")?;
+        let mut failed = span(alloc, "db", Status::Error { description })?;
+        failed.events.events.push(event(alloc, "row", 1200)?)?;
+        let mut root = span(alloc, "GET", Status::Ok)?;
+        root.parent_span_id = SpanId::INVALID;
+        root.attributes
+            .push(attribute(alloc, "n", Value::I64(-1))?)?;
+        let method = Value::String(String::from_str(alloc, "GET")?);
+        root.attributes
+            .push(attribute(alloc, "http.method", method)?)?;
+        root.dropped_attributes_count = 2;
+        root.events.events.push(event(alloc, "a", 1)?)?;
+        root.events.events.push(event(alloc, "b", 2)?)?;
+        root.events.dropped_count = 3;
+        root.links.dropped_count = 4;
+        let mut text = String::new(alloc);
+        push_spans(&mut text, &[failed, root])?;
+        let lines =
+            "span 5c0fdf91ec9a7bfc61da6f3dc380d507 02eebf8c3bbe5e1a 53175d61490b23df 01 1100 1300 db error(b) attrs [] 0 events [row@1200] 0 links 0 0\nspan 5c0fdf91ec9a7bfc61da6f3dc380d507 02eebf8c3bbe5e1a 0000000000000000 01 1100 1300 GET ok attrs [n=-1,http.method=GET] 2 events [a@1,b@2] 3 links 0 4\n";
+        assert_eq!(rt; text.as_str(), lines);
+        Ok(())
+    }
+
+    #[test]
+    fn starts_are_lines(rt: HostRuntime) -> Result<(), Fail> {
+        let mut text = String::new(rt.alloc());
+        push_started(&mut text, &context(1))?;
+        push_dropped(&mut text, &SpanContext::empty_context())?;
+        let mut out = Vec::new(rt.alloc());
+        write_text(&mut out, text.as_str())?;
+        let lines =
+            b"started 00-5c0fdf91ec9a7bfc61da6f3dc380d507-02eebf8c3bbe5e1a-01\ndropped 00-00000000000000000000000000000000-0000000000000000-00\n";
+        assert_eq!(rt; out.as_slice(), lines.as_slice());
+        Ok(())
+    }
 }
