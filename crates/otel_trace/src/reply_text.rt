@@ -224,20 +224,63 @@ mod tests {
         Ok(KeyValue::new(Key::new(String::from_str(alloc, key)?), value))
     }
 
-    fn span(alloc: Global, name: &str, status: Status) -> Result<SpanData, AllocError> {
+    // `GET`, without a parent, with two attributes and events and others that were left out.
+    fn root(alloc: Global) -> Result<SpanData, AllocError> {
+        let method = Value::String(String::from_str(alloc, "GET")?);
+        let mut attributes = Vec::new(alloc);
+        attributes.push(attribute(alloc, "n", Value::I64(-1))?)?;
+        attributes.push(attribute(alloc, "http.method", method)?)?;
+        let mut events = Vec::new(alloc);
+        events.push(event(alloc, "a", 1)?)?;
+        events.push(event(alloc, "b", 2)?)?;
+        Ok(SpanData {
+            span_context: context(1),
+            parent_span_id: SpanId::INVALID,
+            parent_span_is_remote: false,
+            span_kind: SpanKind::Internal,
+            name: String::from_str(alloc, "GET")?,
+            start_time: Moment(1000),
+            end_time: Moment(2000),
+            attributes,
+            dropped_attributes_count: 2,
+            events: SpanEvents {
+                events,
+                dropped_count: 3,
+            },
+            links: SpanLinks {
+                links: Vec::new(alloc),
+                dropped_count: 4,
+            },
+            status: Status::Ok,
+            instrumentation_scope: InstrumentationScope::builder(
+                alloc,
+                String::new(alloc),
+            ).build()?,
+        })
+    }
+
+    // `db`, which failed, with one event.
+    fn failed(alloc: Global) -> Result<SpanData, AllocError> {
+        let mut events = Vec::new(alloc);
+        events.push(event(alloc, "row", 1200)?)?;
         Ok(SpanData {
             span_context: context(1),
             parent_span_id: SpanId::from(0x53175d61490b23df),
             parent_span_is_remote: false,
             span_kind: SpanKind::Internal,
-            name: String::from_str(alloc, name)?,
+            name: String::from_str(alloc, "db")?,
             start_time: Moment(1100),
             end_time: Moment(1300),
             attributes: Vec::new(alloc),
             dropped_attributes_count: 0,
-            events: SpanEvents::new(alloc),
+            events: SpanEvents {
+                events,
+                dropped_count: 0,
+            },
             links: SpanLinks::new(alloc),
-            status,
+            status: Status::Error {
+                description: String::from_str(alloc, "b")?,
+            },
             instrumentation_scope: InstrumentationScope::builder(
                 alloc,
                 String::new(alloc),
@@ -247,26 +290,10 @@ mod tests {
 
     #[test]
     fn spans_are_lines(rt: HostRuntime) -> Result<(), Fail> {
-        let alloc = rt.alloc();
-        let description = String::from_str(alloc, "b")?;
-        let mut failed = span(alloc, "db", Status::Error { description })?;
-        failed.events.events.push(event(alloc, "row", 1200)?)?;
-        let mut root = span(alloc, "GET", Status::Ok)?;
-        root.parent_span_id = SpanId::INVALID;
-        root.attributes
-            .push(attribute(alloc, "n", Value::I64(-1))?)?;
-        let method = Value::String(String::from_str(alloc, "GET")?);
-        root.attributes
-            .push(attribute(alloc, "http.method", method)?)?;
-        root.dropped_attributes_count = 2;
-        root.events.events.push(event(alloc, "a", 1)?)?;
-        root.events.events.push(event(alloc, "b", 2)?)?;
-        root.events.dropped_count = 3;
-        root.links.dropped_count = 4;
-        let mut text = String::new(alloc);
-        push_spans(&mut text, &[failed, root])?;
+        let mut text = String::new(rt.alloc());
+        push_spans(&mut text, &[failed(rt.alloc())?, root(rt.alloc())?])?;
         let lines =
-            "span 5c0fdf91ec9a7bfc61da6f3dc380d507 02eebf8c3bbe5e1a 53175d61490b23df 01 1100 1300 db error(b) attrs [] 0 events [row@1200] 0 links 0 0\nspan 5c0fdf91ec9a7bfc61da6f3dc380d507 02eebf8c3bbe5e1a 0000000000000000 01 1100 1300 GET ok attrs [n=-1,http.method=GET] 2 events [a@1,b@2] 3 links 0 4\n";
+            "span 5c0fdf91ec9a7bfc61da6f3dc380d507 02eebf8c3bbe5e1a 53175d61490b23df 01 1100 1300 db error(b) attrs [] 0 events [row@1200] 0 links 0 0\nspan 5c0fdf91ec9a7bfc61da6f3dc380d507 02eebf8c3bbe5e1a 0000000000000000 01 1000 2000 GET ok attrs [n=-1,http.method=GET] 2 events [a@1,b@2] 3 links 0 4\n";
         assert_eq!(rt; text.as_str(), lines);
         Ok(())
     }
