@@ -1,5 +1,5 @@
-//! The texts of replies, each put behind what a `String` has already. A refusal for memory may leave a beginning of
-//! the text there.
+//! The texts of replies. Each reply's text is put together in a `String` of its own, which a refusal for memory leaves
+//! unfinished, and is then written whole by `write_text` or not at all.
 
 ghost use Rattle.std.specs.Prelude.{◌≡◌, ◌++◌, ◌∷◌, [], OnOk, OnErr, string_bytes, vec_len};
 ghost use Rattle.std.specs.Fmt.{decimal};
