@@ -4,7 +4,7 @@ use Rattle.std.specs.List.{join_with_byte, flat_map}
 use Rattle.std.specs.Fmt.{decimal}
 use Rattle.opentelemetry.specs.Hex.{hex_text}
 use Rattle.opentelemetry.specs.ValueText.{value_text}
-use Rattle.opentelemetry.specs.Plain.{PlainKeyValue, PlainSpanContext, PlainEvent, PlainStatus, unset, error, ok}
+use Rattle.opentelemetry.specs.Plain.{PlainKeyValue, PlainEvent, PlainStatus, unset, error, ok}
 use Rattle.otel_batch.specs.PlainSpanData.{PlainSpanData, PlainSpanEvents, PlainSpanLinks}
 
 -- a text that ends its line
@@ -62,16 +62,17 @@ span_line span = line (spaced (identity_text span ∷ attributes_text span ∷ e
 abbrev pub span_lines : List PlainSpanData → List ℕ
 span_lines = flat_map span_line
 
--- the identity of a span in the form of a traceparent header (W3C Trace Context, section 3.2), with all its flags
-abbrev pub context_text : PlainSpanContext → List ℕ
-context_text context = codes "00-" ++ (hex_text 32 context.trace_id ++ 45 ∷ (hex_text 16 context.span_id ++ 45 ∷ hex_text 2 context.trace_flags))
+-- who a span is, in the form of a traceparent header (W3C Trace Context, section 3.2), with all its flags
+abbrev pub context_text : ℕ → ℕ → ℕ → List ℕ
+context_text trace_id span_id trace_flags = codes "00-" ++ (hex_text 32 trace_id ++ 45 ∷ (hex_text 16 span_id ++ 45 ∷ hex_text 2 trace_flags))
 
--- what answers a start, where the new span records and where it does not
-abbrev pub started_line : PlainSpanContext → List ℕ
-started_line context = line (codes "started " ++ context_text context)
+-- what answers a start whose span records
+abbrev pub started_line : ℕ → ℕ → ℕ → List ℕ
+started_line trace_id span_id trace_flags = line (codes "started " ++ context_text trace_id span_id trace_flags)
 
-abbrev pub dropped_line : PlainSpanContext → List ℕ
-dropped_line context = line (codes "dropped " ++ context_text context)
+-- what answers a start whose span does not record
+abbrev pub dropped_line : ℕ → ℕ → ℕ → List ℕ
+dropped_line trace_id span_id trace_flags = line (codes "dropped " ++ context_text trace_id span_id trace_flags)
 
 -- what answers an edit of a recording span, and a call that went well
 abbrev pub ok_line : List ℕ

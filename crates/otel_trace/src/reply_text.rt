@@ -6,8 +6,8 @@ ghost use Rattle.std.specs.Fmt.{decimal};
 ghost use Rattle.opentelemetry.specs.PlainValues.{plain_status};
 ghost use Rattle.otel_trace.specs.ReplyText.{listed, spaced, comma_before, status_text, attribute_text, attributes_text, event_text, events_text, links_text, identity_text, span_line, span_lines, context_text, started_line, dropped_line};
 
-use opentelemetry::KeyValue;
-use opentelemetry::trace::{Event, SpanContext, Status};
+use opentelemetry::trace::{Event, Status};
+use opentelemetry::{KeyValue, SpanId, TraceFlags, TraceId};
 use otel_batch::trace::{SpanData, SpanEvents, SpanLinks};
 use std::alloc::AllocError;
 use std::fmt::Write;
@@ -155,33 +155,45 @@ pub fn push_spans(text: &mut String, spans: &[SpanData]) -> Result<(), AllocErro
     Ok(())
 }
 
-/// The span's identity.
-fn push_context(text: &mut String, context: &SpanContext) -> Result<(), AllocError>
-    ensures { OnOk result (string_bytes text.new ≡ string_bytes text.old ++ context_text context.now) }
+/// Who a span is.
+fn push_context(
+    text: &mut String,
+    trace_id: TraceId,
+    span_id: SpanId,
+    trace_flags: TraceFlags,
+) -> Result<(), AllocError>
+    ensures { OnOk result (string_bytes text.new ≡ string_bytes text.old ++ context_text trace_id span_id trace_flags) }
 {
-    let trace_id = context.trace_id();
-    let span_id = context.span_id();
-    let flags = context.trace_flags();
-    write!(text, "00-{trace_id}-{span_id}-{flags}")
+    write!(text, "00-{trace_id}-{span_id}-{trace_flags}")
 }
 
-/// `started` and the span's identity.
+/// `started` and who the new span is.
 #[tactic(auto, using(std::proofs::lemmas::List::append_assoc))]
-pub fn push_started(text: &mut String, context: &SpanContext) -> Result<(), AllocError>
-    ensures { OnOk result (string_bytes text.new ≡ string_bytes text.old ++ started_line context.now) }
+pub fn push_started(
+    text: &mut String,
+    trace_id: TraceId,
+    span_id: SpanId,
+    trace_flags: TraceFlags,
+) -> Result<(), AllocError>
+    ensures { OnOk result (string_bytes text.new ≡ string_bytes text.old ++ started_line trace_id span_id trace_flags) }
 {
     text.push_str("started ")?;
-    push_context(text, context)?;
+    push_context(text, trace_id, span_id, trace_flags)?;
     text.push('\n')
 }
 
-/// `dropped` and the span's identity.
+/// `dropped` and who the new span is.
 #[tactic(auto, using(std::proofs::lemmas::List::append_assoc))]
-pub fn push_dropped(text: &mut String, context: &SpanContext) -> Result<(), AllocError>
-    ensures { OnOk result (string_bytes text.new ≡ string_bytes text.old ++ dropped_line context.now) }
+pub fn push_dropped(
+    text: &mut String,
+    trace_id: TraceId,
+    span_id: SpanId,
+    trace_flags: TraceFlags,
+) -> Result<(), AllocError>
+    ensures { OnOk result (string_bytes text.new ≡ string_bytes text.old ++ dropped_line trace_id span_id trace_flags) }
 {
     text.push_str("dropped ")?;
-    push_context(text, context)?;
+    push_context(text, trace_id, span_id, trace_flags)?;
     text.push('\n')
 }
 
@@ -196,16 +208,20 @@ pub fn write_text(out: &mut Vec<u8>, text: &str) -> Result<(), AllocError>
 #[cfg(test)]
 mod tests {
     use super::*;
-    use opentelemetry::trace::{SpanKind, TraceState};
-    use opentelemetry::{InstrumentationScope, Key, Moment, SpanId, TraceFlags, TraceId, Value};
+    use opentelemetry::trace::{SpanContext, SpanKind, TraceState};
+    use opentelemetry::{InstrumentationScope, Key, Moment, Value};
     use std::alloc::Global;
     use std::test::Fail;
 
-    fn context(flags: u8) -> SpanContext {
+    const TRACE: u128 = 0x5c0fdf91ec9a7bfc61da6f3dc380d507;
+
+    const SPAN: u64 = 0x02eebf8c3bbe5e1a;
+
+    fn context() -> SpanContext {
         SpanContext::new(
-            TraceId::from(0x5c0fdf91ec9a7bfc61da6f3dc380d507),
-            SpanId::from(0x02eebf8c3bbe5e1a),
-            TraceFlags::new(flags),
+            TraceId::from(TRACE),
+            SpanId::from(SPAN),
+            TraceFlags::new(1),
             false,
             TraceState::new(),
         )
@@ -234,7 +250,7 @@ mod tests {
         events.push(event(alloc, "a", 1)?)?;
         events.push(event(alloc, "b", 2)?)?;
         Ok(SpanData {
-            span_context: context(1),
+            span_context: context(),
             parent_span_id: SpanId::INVALID,
             parent_span_is_remote: false,
             span_kind: SpanKind::Internal,
@@ -264,7 +280,7 @@ mod tests {
         let mut events = Vec::new(alloc);
         events.push(event(alloc, "row", 1200)?)?;
         Ok(SpanData {
-            span_context: context(1),
+            span_context: context(),
             parent_span_id: SpanId::from(0x53175d61490b23df),
             parent_span_is_remote: false,
             span_kind: SpanKind::Internal,
@@ -301,8 +317,18 @@ mod tests {
     #[test]
     fn starts_are_lines(rt: HostRuntime) -> Result<(), Fail> {
         let mut text = String::new(rt.alloc());
-        push_started(&mut text, &context(1))?;
-        push_dropped(&mut text, &SpanContext::empty_context())?;
+        push_started(
+            &mut text,
+            TraceId::from(TRACE),
+            SpanId::from(SPAN),
+            TraceFlags::new(1),
+        )?;
+        push_dropped(
+            &mut text,
+            TraceId::INVALID,
+            SpanId::INVALID,
+            TraceFlags::new(0),
+        )?;
         let mut out = Vec::new(rt.alloc());
         write_text(&mut out, text.as_str())?;
         let lines =
