@@ -1,3 +1,5 @@
+pub mod AnswerText
 pub mod Commands
 pub mod Lines
+pub mod PlainReply
 pub mod ReplyText

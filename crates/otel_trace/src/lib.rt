@@ -3,6 +3,7 @@
 
 pub mod command;
 pub mod lines;
+pub mod reply;
 pub mod reply_text;
 
 pub use command::Command;

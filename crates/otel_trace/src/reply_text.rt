@@ -1,15 +1,17 @@
 //! The texts of replies. Each reply's text is put together in a `String` of its own, which a refusal for memory leaves
 //! unfinished, and is then written whole by `write_text` or not at all.
 
-ghost use Rattle.std.specs.Prelude.{◌≡◌, ◌++◌, ◌∷◌, [], OnOk, OnErr, string_bytes, vec_len};
+ghost use Rattle.std.specs.Prelude.{◌≡◌, ◌++◌, ◌∷◌, [], ℕ, ◌<◌, length, take, IfOk, OnOk, OnErr, string_bytes, vec_len};
 ghost use Rattle.std.specs.Fmt.{decimal};
 ghost use Rattle.opentelemetry.specs.PlainValues.{plain_status};
+ghost use Rattle.otel_trace.specs.AnswerText.{answer_line, reply_text, replies_text};
 ghost use Rattle.otel_trace.specs.ReplyText.{listed, spaced, comma_before, status_text, attribute_text, attributes_text, event_text, events_text, links_text, identity_text, span_line, span_lines, context_text, started_line, dropped_line};
 
+use crate::reply::{Answer, Reply};
 use opentelemetry::trace::{Event, Status};
 use opentelemetry::{KeyValue, SpanId, TraceFlags, TraceId};
 use otel_batch::trace::{SpanData, SpanEvents, SpanLinks};
-use std::alloc::AllocError;
+use std::alloc::{AllocError, Global};
 use std::fmt::Write;
 
 /// `unset`, `ok`, or `error` and the description in parentheses.
@@ -146,7 +148,7 @@ fn push_span(text: &mut String, span: &SpanData) -> Result<(), AllocError>
 }
 
 /// The lines of exported spans, in order.
-pub fn push_spans(text: &mut String, spans: &[SpanData]) -> Result<(), AllocError>
+fn push_spans(text: &mut String, spans: &[SpanData]) -> Result<(), AllocError>
     ensures { OnOk result (string_bytes text.new ≡ string_bytes text.old ++ span_lines spans.now) }
 {
     for span in spans {
@@ -169,7 +171,7 @@ fn push_context(
 
 /// `started` and who the new span is.
 #[tactic(auto, using(std::proofs::lemmas::List::append_assoc))]
-pub fn push_started(
+fn push_started(
     text: &mut String,
     trace_id: TraceId,
     span_id: SpanId,
@@ -184,7 +186,7 @@ pub fn push_started(
 
 /// `dropped` and who the new span is.
 #[tactic(auto, using(std::proofs::lemmas::List::append_assoc))]
-pub fn push_dropped(
+fn push_dropped(
     text: &mut String,
     trace_id: TraceId,
     span_id: SpanId,
@@ -197,8 +199,53 @@ pub fn push_dropped(
     text.push('\n')
 }
 
+/// The line of an answer.
+fn push_answer(text: &mut String, answer: Answer) -> Result<(), AllocError>
+    ensures { OnOk result (string_bytes text.new ≡ string_bytes text.old ++ answer_line answer) }
+{
+    match answer {
+        Answer::Started(span) => push_started(text, span.trace_id, span.span_id, span.trace_flags),
+        Answer::Dropped(span) => push_dropped(text, span.trace_id, span.span_id, span.trace_flags),
+        Answer::Ok => text.push_str("ok\n"),
+        Answer::Ignored => text.push_str("ignored\n"),
+        Answer::NoSuchSpan => text.push_str("no such span\n"),
+        Answer::SpanExists => text.push_str("span exists\n"),
+        Answer::Ended(_) => text.push_str("ended\n"),
+    }
+}
+
+/// The lines of a reply.
+fn text_of(alloc: Global, reply: &Reply) -> Result<String, AllocError>
+    ensures { IfOk result (λ text. string_bytes text ≡ reply_text reply.now) }
+{
+    let mut text = String::new(alloc);
+    push_spans(&mut text, reply.exported.as_slice())?;
+    push_answer(&mut text, reply.answer)?;
+    Ok(text)
+}
+
+/// Writes a whole reply, or nothing where memory runs out.
+pub fn write_reply(alloc: Global, out: &mut Vec<u8>, reply: &Reply) -> Result<(), AllocError>
+    ensures ok { OnOk result (out.new.items ≡ out.old.items ++ reply_text reply.now) }
+    ensures err { OnErr result (out.new.items ≡ out.old.items) }
+{
+    let text = text_of(alloc, reply)?;
+    write_text(out, text.as_str())
+}
+
+/// Writes replies in order; where memory runs out, the whole replies before the one that was refused.
+pub fn write_replies(alloc: Global, out: &mut Vec<u8>, replies: &[Reply]) -> Result<(), AllocError>
+    ensures ok { OnOk result (out.new.items ≡ out.old.items ++ replies_text replies.now) }
+    ensures err { OnErr result ((n : ℕ) × (n < length replies.now) × (out.new.items ≡ out.old.items ++ replies_text (take n replies.now))) }
+{
+    for reply in replies {
+        write_reply(alloc, out, reply)?;
+    }
+    Ok(())
+}
+
 /// Puts a whole text behind what was written, or nothing where memory runs out.
-pub fn write_text(out: &mut Vec<u8>, text: &str) -> Result<(), AllocError>
+fn write_text(out: &mut Vec<u8>, text: &str) -> Result<(), AllocError>
     ensures ok { OnOk result (out.new.items ≡ out.old.items ++ text.now) }
     ensures err { OnErr result (out.new.items ≡ out.old.items) }
 {
@@ -208,9 +255,9 @@ pub fn write_text(out: &mut Vec<u8>, text: &str) -> Result<(), AllocError>
 #[cfg(test)]
 mod tests {
     use super::*;
+    use crate::reply::SpanIdentity;
     use opentelemetry::trace::{SpanContext, SpanKind, TraceState};
     use opentelemetry::{InstrumentationScope, Key, Moment, Value};
-    use std::alloc::Global;
     use std::test::Fail;
 
     const TRACE: u128 = 0x5c0fdf91ec9a7bfc61da6f3dc380d507;
@@ -304,36 +351,61 @@ mod tests {
         })
     }
 
-    #[test]
-    fn spans_are_lines(rt: HostRuntime) -> Result<(), Fail> {
-        let mut text = String::new(rt.alloc());
-        push_spans(&mut text, &[failed(rt.alloc())?, root(rt.alloc())?])?;
-        let lines =
-            "span 5c0fdf91ec9a7bfc61da6f3dc380d507 02eebf8c3bbe5e1a 53175d61490b23df 01 1100 1300 db error(b) attrs [] 0 events [row@1200] 0 links 0 0\nspan 5c0fdf91ec9a7bfc61da6f3dc380d507 02eebf8c3bbe5e1a 0000000000000000 01 1000 2000 GET ok attrs [n=-1,http.method=GET] 2 events [a@1,b@2] 3 links 0 4\n";
-        assert_eq!(rt; text.as_str(), lines);
-        Ok(())
+    const LINES: &str = "started 00-5c0fdf91ec9a7bfc61da6f3dc380d507-02eebf8c3bbe5e1a-01
+dropped 00-00000000000000000000000000000000-0000000000000000-00
+ok
+ignored
+no such span
+span exists
+span 5c0fdf91ec9a7bfc61da6f3dc380d507 02eebf8c3bbe5e1a 53175d61490b23df 01 1100 1300 db error(b) attrs [] 0 events [row@1200] 0 links 0 0
+span 5c0fdf91ec9a7bfc61da6f3dc380d507 02eebf8c3bbe5e1a 0000000000000000 01 1000 2000 GET ok attrs [n=-1,http.method=GET] 2 events [a@1,b@2] 3 links 0 4
+ended
+";
+
+    fn answers(alloc: Global, answers: &[Answer]) -> Result<Vec<Reply>, AllocError> {
+        let mut replies = Vec::new(alloc);
+        for answer in answers {
+            replies.push(Reply {
+                exported: Vec::new(alloc),
+                answer: *answer,
+            })?;
+        }
+        Ok(replies)
     }
 
     #[test]
-    fn starts_are_lines(rt: HostRuntime) -> Result<(), Fail> {
-        let mut text = String::new(rt.alloc());
-        push_started(
-            &mut text,
-            TraceId::from(TRACE),
-            SpanId::from(SPAN),
-            TraceFlags::new(1),
+    fn replies_are_lines(rt: HostRuntime) -> Result<(), Fail> {
+        let span = SpanIdentity {
+            trace_id: TraceId::from(TRACE),
+            span_id: SpanId::from(SPAN),
+            trace_flags: TraceFlags::new(1),
+        };
+        let nobody = SpanIdentity {
+            trace_id: TraceId::INVALID,
+            span_id: SpanId::INVALID,
+            trace_flags: TraceFlags::new(0),
+        };
+        let mut exported = Vec::new(rt.alloc());
+        exported.push(failed(rt.alloc())?)?;
+        exported.push(root(rt.alloc())?)?;
+        let mut replies = answers(
+            rt.alloc(),
+            &[
+                Answer::Started(span),
+                Answer::Dropped(nobody),
+                Answer::Ok,
+                Answer::Ignored,
+                Answer::NoSuchSpan,
+                Answer::SpanExists,
+            ],
         )?;
-        push_dropped(
-            &mut text,
-            TraceId::INVALID,
-            SpanId::INVALID,
-            TraceFlags::new(0),
-        )?;
+        replies.push(Reply {
+            exported,
+            answer: Answer::Ended(0),
+        })?;
         let mut out = Vec::new(rt.alloc());
-        write_text(&mut out, text.as_str())?;
-        let lines =
-            b"started 00-5c0fdf91ec9a7bfc61da6f3dc380d507-02eebf8c3bbe5e1a-01\ndropped 00-00000000000000000000000000000000-0000000000000000-00\n";
-        assert_eq!(rt; out.as_slice(), lines.as_slice());
+        write_replies(rt.alloc(), &mut out, replies.as_slice())?;
+        assert_eq!(rt; out.as_slice(), LINES.as_bytes());
         Ok(())
     }
 }

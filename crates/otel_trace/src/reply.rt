@@ -1,0 +1,47 @@
+//! What a session replies to a command.
+
+use opentelemetry::{SpanId, TraceFlags, TraceId};
+use otel_batch::trace::SpanData;
+use std::marker::Model;
+
+/// Who a span is: what its reply shows of its context.
+#[derive(Clone, Copy, Debug, PartialEq, Eq)]
+pub struct SpanIdentity {
+    pub trace_id: TraceId,
+    pub span_id: SpanId,
+    pub trace_flags: TraceFlags,
+}
+
+/// The answer to a command.
+#[derive(Clone, Copy, Debug, PartialEq, Eq)]
+pub enum Answer {
+    /// The new span is recording.
+    Started(SpanIdentity),
+    /// The new span is not recording.
+    Dropped(SpanIdentity),
+    /// It was done.
+    Ok,
+    /// The span is not recording, so nothing was done.
+    Ignored,
+    /// No start made the name.
+    NoSuchSpan,
+    /// The name is taken.
+    SpanExists,
+    /// The span has ended, and so many processors refused it for want of memory.
+    Ended(usize),
+}
+
+/// An answer, and the spans that the provider's first processor exported into memory since the reply before it.
+#[derive(Debug, Drop)]
+pub struct Reply {
+    pub exported: Vec<SpanData>,
+    pub answer: Answer,
+}
+
+impl Model for Reply {
+    ghost use Rattle.otel_trace.specs.PlainReply.{PlainReply};
+
+    ghost Value = { PlainReply };
+
+    ghost view = { λ reply. record { exported = reply.exported.items; answer = reply.answer } };
+}
