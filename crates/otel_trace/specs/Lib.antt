@@ -1,3 +1,4 @@
+pub mod AnswerText
 pub mod Commands
 pub mod Lines
 pub mod OpenSpans

@@ -4,7 +4,7 @@ use Rattle.std.specs.List.{join_with_byte, flat_map}
 use Rattle.std.specs.Fmt.{decimal}
 use Rattle.opentelemetry.specs.Hex.{hex_text}
 use Rattle.opentelemetry.specs.ValueText.{value_text}
-use Rattle.opentelemetry.specs.Plain.{PlainKeyValue, PlainSpanContext, PlainEvent, PlainStatus, unset, error, ok}
+use Rattle.opentelemetry.specs.Plain.{PlainKeyValue, PlainEvent, PlainStatus, unset, error, ok}
 use Rattle.otel_batch.specs.PlainSpanData.{PlainSpanData, PlainSpanEvents, PlainSpanLinks}
 
 -- a text that ends its line
@@ -51,24 +51,45 @@ identity_text span = spaced (codes "span" ∷ hex_text 32 span.span_context.trac
     ∷ decimal span.start_time ∷ decimal span.end_time ∷ span.name ∷ status_text span.status ∷ [])
 
 -- the attributes of a span that were kept, and how many were not
-abbrev pub attributes_text : List PlainKeyValue → ℕ → List ℕ
-attributes_text attributes dropped = spaced (codes "attrs" ∷ listed attribute_text attributes ∷ decimal dropped ∷ [])
+abbrev pub attributes_text : PlainSpanData → List ℕ
+attributes_text span = spaced (codes "attrs" ∷ listed attribute_text span.attributes ∷ decimal span.dropped_attributes_count ∷ [])
 
 -- the line of an exported span
 abbrev pub span_line : PlainSpanData → List ℕ
-span_line span = line (spaced (identity_text span ∷ attributes_text span.attributes span.dropped_attributes_count ∷ events_text span.events ∷ links_text span.links ∷ []))
+span_line span = line (spaced (identity_text span ∷ attributes_text span ∷ events_text span.events ∷ links_text span.links ∷ []))
 
 -- the lines of exported spans
 abbrev pub span_lines : List PlainSpanData → List ℕ
 span_lines = flat_map span_line
 
--- the identity of a span in the form of a traceparent header (W3C Trace Context, section 3.2), with all its flags
-abbrev pub context_text : PlainSpanContext → List ℕ
-context_text context = codes "00-" ++ (hex_text 32 context.trace_id ++ 45 ∷ (hex_text 16 context.span_id ++ 45 ∷ hex_text 2 context.trace_flags))
+-- who a span is, in the form of a traceparent header (W3C Trace Context, section 3.2), with all its flags
+abbrev pub context_text : ℕ → ℕ → ℕ → List ℕ
+context_text trace_id span_id trace_flags = codes "00-" ++ (hex_text 32 trace_id ++ 45 ∷ (hex_text 16 span_id ++ 45 ∷ hex_text 2 trace_flags))
 
--- what answers a start, where the new span records and where it does not
-abbrev pub started_line : PlainSpanContext → List ℕ
-started_line context = line (codes "started " ++ context_text context)
+-- what answers a start whose span records
+abbrev pub started_line : ℕ → ℕ → ℕ → List ℕ
+started_line trace_id span_id trace_flags = line (codes "started " ++ context_text trace_id span_id trace_flags)
 
-abbrev pub dropped_line : PlainSpanContext → List ℕ
-dropped_line context = line (codes "dropped " ++ context_text context)
+-- what answers a start whose span does not record
+abbrev pub dropped_line : ℕ → ℕ → ℕ → List ℕ
+dropped_line trace_id span_id trace_flags = line (codes "dropped " ++ context_text trace_id span_id trace_flags)
+
+-- what answers an edit of a recording span, and a call that went well
+abbrev pub ok_line : List ℕ
+ok_line = line (codes "ok")
+
+-- what answers an edit or an end of a span that does not record
+abbrev pub ignored_line : List ℕ
+ignored_line = line (codes "ignored")
+
+-- what answers a text that names no span
+abbrev pub no_such_span_line : List ℕ
+no_such_span_line = line (codes "no such span")
+
+-- what answers a start under a text that names a span already
+abbrev pub span_exists_line : List ℕ
+span_exists_line = line (codes "span exists")
+
+-- what answers an end of a recording span
+abbrev pub ended_line : List ℕ
+ended_line = line (codes "ended")

@@ -1,15 +1,17 @@
-//! The texts of replies, each put behind what a `String` has already. A refusal for memory may leave a beginning of
-//! the text there.
+//! The texts of replies. Each reply's text is put together in a `String` of its own, which a refusal for memory leaves
+//! unfinished, and is then written whole by `write_text` or not at all.
 
-ghost use Rattle.std.specs.Prelude.{◌≡◌, ◌++◌, ◌∷◌, [], OnOk, OnErr, string_bytes, vec_len};
+ghost use Rattle.std.specs.Prelude.{◌≡◌, ◌++◌, ◌∷◌, [], ℕ, ◌<◌, length, take, IfOk, OnOk, OnErr, string_bytes, vec_len};
 ghost use Rattle.std.specs.Fmt.{decimal};
 ghost use Rattle.opentelemetry.specs.PlainValues.{plain_status};
-ghost use Rattle.otel_trace.specs.ReplyText.{listed, comma_before, status_text, attribute_text, attributes_text, event_text, events_text, links_text, identity_text, span_line, span_lines, context_text, started_line, dropped_line};
+ghost use Rattle.otel_trace.specs.AnswerText.{answer_line, reply_text, replies_text};
+ghost use Rattle.otel_trace.specs.ReplyText.{listed, spaced, comma_before, status_text, attribute_text, attributes_text, event_text, events_text, links_text, identity_text, span_line, span_lines, context_text, started_line, dropped_line};
 
-use opentelemetry::KeyValue;
-use opentelemetry::trace::{Event, SpanContext, Status};
+use crate::reply::{Answer, Reply};
+use opentelemetry::trace::{Event, Status};
+use opentelemetry::{KeyValue, SpanId, TraceFlags, TraceId};
 use otel_batch::trace::{SpanData, SpanEvents, SpanLinks};
-use std::alloc::AllocError;
+use std::alloc::{AllocError, Global};
 use std::fmt::Write;
 
 /// `unset`, `ok`, or `error` and the description in parentheses.
@@ -62,15 +64,12 @@ fn push_attribute_list(text: &mut String, attributes: &[KeyValue]) -> Result<(),
 
 /// The attributes that were kept, and how many were not.
 #[tactic(auto, using(std::proofs::lemmas::List::append_assoc))]
-fn push_attributes(
-    text: &mut String,
-    attributes: &[KeyValue],
-    dropped: u32,
-) -> Result<(), AllocError>
-    ensures { OnOk result (string_bytes text.new ≡ string_bytes text.old ++ attributes_text attributes.now dropped) }
+fn push_attributes(text: &mut String, span: &SpanData) -> Result<(), AllocError>
+    ensures { OnOk result (string_bytes text.new ≡ string_bytes text.old ++ attributes_text span.now) }
 {
+    let dropped = span.dropped_attributes_count;
     text.push_str("attrs ")?;
-    push_attribute_list(text, attributes)?;
+    push_attribute_list(text, span.attributes.as_slice())?;
     write!(text, " {dropped}")
 }
 
@@ -106,6 +105,16 @@ fn push_links(text: &mut String, links: &SpanLinks) -> Result<(), AllocError>
     write!(text, "links {kept} {dropped}")
 }
 
+/// The events and links of a span.
+#[tactic(auto, using(std::proofs::lemmas::List::append_assoc))]
+fn push_events_and_links(text: &mut String, span: &SpanData) -> Result<(), AllocError>
+    ensures { OnOk result (string_bytes text.new ≡ string_bytes text.old ++ spaced (events_text span.now.events ∷ links_text span.now.links ∷ [])) }
+{
+    push_events(text, &span.events)?;
+    text.push(' ')?;
+    push_links(text, &span.links)
+}
+
 /// Which span it is, what it is called, when it ran and how it went.
 #[tactic(auto, using(std::proofs::lemmas::List::append_assoc))]
 fn push_identity(text: &mut String, span: &SpanData) -> Result<(), AllocError>
@@ -132,16 +141,14 @@ fn push_span(text: &mut String, span: &SpanData) -> Result<(), AllocError>
 {
     push_identity(text, span)?;
     text.push(' ')?;
-    push_attributes(text, span.attributes.as_slice(), span.dropped_attributes_count)?;
+    push_attributes(text, span)?;
     text.push(' ')?;
-    push_events(text, &span.events)?;
-    text.push(' ')?;
-    push_links(text, &span.links)?;
+    push_events_and_links(text, span)?;
     text.push('\n')
 }
 
 /// The lines of exported spans, in order.
-pub fn push_spans(text: &mut String, spans: &[SpanData]) -> Result<(), AllocError>
+fn push_spans(text: &mut String, spans: &[SpanData]) -> Result<(), AllocError>
     ensures { OnOk result (string_bytes text.new ≡ string_bytes text.old ++ span_lines spans.now) }
 {
     for span in spans {
@@ -150,40 +157,255 @@ pub fn push_spans(text: &mut String, spans: &[SpanData]) -> Result<(), AllocErro
     Ok(())
 }
 
-/// The span's identity.
-fn push_context(text: &mut String, context: &SpanContext) -> Result<(), AllocError>
-    ensures { OnOk result (string_bytes text.new ≡ string_bytes text.old ++ context_text context.now) }
+/// Who a span is.
+fn push_context(
+    text: &mut String,
+    trace_id: TraceId,
+    span_id: SpanId,
+    trace_flags: TraceFlags,
+) -> Result<(), AllocError>
+    ensures { OnOk result (string_bytes text.new ≡ string_bytes text.old ++ context_text trace_id span_id trace_flags) }
 {
-    let trace_id = context.trace_id();
-    let span_id = context.span_id();
-    let flags = context.trace_flags();
-    write!(text, "00-{trace_id}-{span_id}-{flags}")
+    write!(text, "00-{trace_id}-{span_id}-{trace_flags}")
 }
 
-/// `started` and the span's identity.
+/// `started` and who the new span is.
 #[tactic(auto, using(std::proofs::lemmas::List::append_assoc))]
-pub fn push_started(text: &mut String, context: &SpanContext) -> Result<(), AllocError>
-    ensures { OnOk result (string_bytes text.new ≡ string_bytes text.old ++ started_line context.now) }
+fn push_started(
+    text: &mut String,
+    trace_id: TraceId,
+    span_id: SpanId,
+    trace_flags: TraceFlags,
+) -> Result<(), AllocError>
+    ensures { OnOk result (string_bytes text.new ≡ string_bytes text.old ++ started_line trace_id span_id trace_flags) }
 {
     text.push_str("started ")?;
-    push_context(text, context)?;
+    push_context(text, trace_id, span_id, trace_flags)?;
     text.push('\n')
 }
 
-/// `dropped` and the span's identity.
+/// `dropped` and who the new span is.
 #[tactic(auto, using(std::proofs::lemmas::List::append_assoc))]
-pub fn push_dropped(text: &mut String, context: &SpanContext) -> Result<(), AllocError>
-    ensures { OnOk result (string_bytes text.new ≡ string_bytes text.old ++ dropped_line context.now) }
+fn push_dropped(
+    text: &mut String,
+    trace_id: TraceId,
+    span_id: SpanId,
+    trace_flags: TraceFlags,
+) -> Result<(), AllocError>
+    ensures { OnOk result (string_bytes text.new ≡ string_bytes text.old ++ dropped_line trace_id span_id trace_flags) }
 {
     text.push_str("dropped ")?;
-    push_context(text, context)?;
+    push_context(text, trace_id, span_id, trace_flags)?;
     text.push('\n')
+}
+
+/// The line of an answer.
+fn push_answer(text: &mut String, answer: Answer) -> Result<(), AllocError>
+    ensures { OnOk result (string_bytes text.new ≡ string_bytes text.old ++ answer_line answer) }
+{
+    match answer {
+        Answer::Started(span) => push_started(text, span.trace_id, span.span_id, span.trace_flags),
+        Answer::Dropped(span) => push_dropped(text, span.trace_id, span.span_id, span.trace_flags),
+        Answer::Ok => text.push_str("ok\n"),
+        Answer::Ignored => text.push_str("ignored\n"),
+        Answer::NoSuchSpan => text.push_str("no such span\n"),
+        Answer::SpanExists => text.push_str("span exists\n"),
+        Answer::Ended(_) => text.push_str("ended\n"),
+    }
+}
+
+/// The lines of a reply.
+fn text_of(alloc: Global, reply: &Reply) -> Result<String, AllocError>
+    ensures { IfOk result (λ text. string_bytes text ≡ reply_text reply.now) }
+{
+    let mut text = String::new(alloc);
+    push_spans(&mut text, reply.exported.as_slice())?;
+    push_answer(&mut text, reply.answer)?;
+    Ok(text)
+}
+
+/// Writes a whole reply, or nothing where memory runs out.
+pub fn write_reply(alloc: Global, out: &mut Vec<u8>, reply: &Reply) -> Result<(), AllocError>
+    ensures ok { OnOk result (out.new.items ≡ out.old.items ++ reply_text reply.now) }
+    ensures err { OnErr result (out.new.items ≡ out.old.items) }
+{
+    let text = text_of(alloc, reply)?;
+    write_text(out, text.as_str())
+}
+
+/// Writes replies in order; where memory runs out, the whole replies before the one that was refused.
+pub fn write_replies(alloc: Global, out: &mut Vec<u8>, replies: &[Reply]) -> Result<(), AllocError>
+    ensures ok { OnOk result (out.new.items ≡ out.old.items ++ replies_text replies.now) }
+    ensures err { OnErr result ((n : ℕ) × (n < length replies.now) × (out.new.items ≡ out.old.items ++ replies_text (take n replies.now))) }
+{
+    for reply in replies {
+        write_reply(alloc, out, reply)?;
+    }
+    Ok(())
 }
 
 /// Puts a whole text behind what was written, or nothing where memory runs out.
-pub fn write_text(out: &mut Vec<u8>, text: &str) -> Result<(), AllocError>
+fn write_text(out: &mut Vec<u8>, text: &str) -> Result<(), AllocError>
     ensures ok { OnOk result (out.new.items ≡ out.old.items ++ text.now) }
     ensures err { OnErr result (out.new.items ≡ out.old.items) }
 {
     out.extend_from_slice(text.as_bytes())
+}
+
+#[cfg(test)]
+mod tests {
+    use super::*;
+    use crate::reply::SpanIdentity;
+    use opentelemetry::trace::{SpanContext, SpanKind, TraceState};
+    use opentelemetry::{InstrumentationScope, Key, Moment, Value};
+    use std::test::Fail;
+
+    const TRACE: u128 = 0x5c0fdf91ec9a7bfc61da6f3dc380d507;
+
+    const SPAN: u64 = 0x02eebf8c3bbe5e1a;
+
+    fn context() -> SpanContext {
+        SpanContext::new(
+            TraceId::from(TRACE),
+            SpanId::from(SPAN),
+            TraceFlags::new(1),
+            false,
+            TraceState::new(),
+        )
+    }
+
+    fn event(alloc: Global, name: &str, moment: u64) -> Result<Event, AllocError> {
+        Ok(Event {
+            name: String::from_str(alloc, name)?,
+            timestamp: Moment(moment),
+            attributes: Vec::new(alloc),
+            dropped_attributes_count: 0,
+        })
+    }
+
+    fn attribute(alloc: Global, key: &str, value: Value) -> Result<KeyValue, AllocError> {
+        Ok(KeyValue::new(Key::new(String::from_str(alloc, key)?), value))
+    }
+
+    // `GET`, without a parent, with two attributes and events and others that were left out.
+    fn root(alloc: Global) -> Result<SpanData, AllocError> {
+        let method = Value::String(String::from_str(alloc, "GET")?);
+        let mut attributes = Vec::new(alloc);
+        attributes.push(attribute(alloc, "n", Value::I64(-1))?)?;
+        attributes.push(attribute(alloc, "http.method", method)?)?;
+        let mut events = Vec::new(alloc);
+        events.push(event(alloc, "a", 1)?)?;
+        events.push(event(alloc, "b", 2)?)?;
+        Ok(SpanData {
+            span_context: context(),
+            parent_span_id: SpanId::INVALID,
+            parent_span_is_remote: false,
+            span_kind: SpanKind::Internal,
+            name: String::from_str(alloc, "GET")?,
+            start_time: Moment(1000),
+            end_time: Moment(2000),
+            attributes,
+            dropped_attributes_count: 2,
+            events: SpanEvents {
+                events,
+                dropped_count: 3,
+            },
+            links: SpanLinks {
+                links: Vec::new(alloc),
+                dropped_count: 4,
+            },
+            status: Status::Ok,
+            instrumentation_scope: InstrumentationScope::builder(
+                alloc,
+                String::new(alloc),
+            ).build()?,
+        })
+    }
+
+    // `db`, which failed, with one event.
+    fn failed(alloc: Global) -> Result<SpanData, AllocError> {
+        let mut events = Vec::new(alloc);
+        events.push(event(alloc, "row", 1200)?)?;
+        Ok(SpanData {
+            span_context: context(),
+            parent_span_id: SpanId::from(0x53175d61490b23df),
+            parent_span_is_remote: false,
+            span_kind: SpanKind::Internal,
+            name: String::from_str(alloc, "db")?,
+            start_time: Moment(1100),
+            end_time: Moment(1300),
+            attributes: Vec::new(alloc),
+            dropped_attributes_count: 0,
+            events: SpanEvents {
+                events,
+                dropped_count: 0,
+            },
+            links: SpanLinks::new(alloc),
+            status: Status::Error {
+                description: String::from_str(alloc, "b")?,
+            },
+            instrumentation_scope: InstrumentationScope::builder(
+                alloc,
+                String::new(alloc),
+            ).build()?,
+        })
+    }
+
+    const LINES: &str = "started 00-5c0fdf91ec9a7bfc61da6f3dc380d507-02eebf8c3bbe5e1a-01
+dropped 00-00000000000000000000000000000000-0000000000000000-00
+ok
+ignored
+no such span
+span exists
+span 5c0fdf91ec9a7bfc61da6f3dc380d507 02eebf8c3bbe5e1a 53175d61490b23df 01 1100 1300 db error(b) attrs [] 0 events [row@1200] 0 links 0 0
+span 5c0fdf91ec9a7bfc61da6f3dc380d507 02eebf8c3bbe5e1a 0000000000000000 01 1000 2000 GET ok attrs [n=-1,http.method=GET] 2 events [a@1,b@2] 3 links 0 4
+ended
+";
+
+    fn answers(alloc: Global, answers: &[Answer]) -> Result<Vec<Reply>, AllocError> {
+        let mut replies = Vec::new(alloc);
+        for answer in answers {
+            replies.push(Reply {
+                exported: Vec::new(alloc),
+                answer: *answer,
+            })?;
+        }
+        Ok(replies)
+    }
+
+    #[test]
+    fn replies_are_lines(rt: HostRuntime) -> Result<(), Fail> {
+        let span = SpanIdentity {
+            trace_id: TraceId::from(TRACE),
+            span_id: SpanId::from(SPAN),
+            trace_flags: TraceFlags::new(1),
+        };
+        let nobody = SpanIdentity {
+            trace_id: TraceId::INVALID,
+            span_id: SpanId::INVALID,
+            trace_flags: TraceFlags::new(0),
+        };
+        let mut exported = Vec::new(rt.alloc());
+        exported.push(failed(rt.alloc())?)?;
+        exported.push(root(rt.alloc())?)?;
+        let mut replies = answers(
+            rt.alloc(),
+            &[
+                Answer::Started(span),
+                Answer::Dropped(nobody),
+                Answer::Ok,
+                Answer::Ignored,
+                Answer::NoSuchSpan,
+                Answer::SpanExists,
+            ],
+        )?;
+        replies.push(Reply {
+            exported,
+            answer: Answer::Ended(0),
+        })?;
+        let mut out = Vec::new(rt.alloc());
+        write_replies(rt.alloc(), &mut out, replies.as_slice())?;
+        assert_eq!(rt; out.as_slice(), LINES.as_bytes());
+        Ok(())
+    }
 }
