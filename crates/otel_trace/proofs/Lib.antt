@@ -1,3 +1,4 @@
+pub mod FeedLemmas
 pub mod RunLemmas
 pub mod StepLemmas
 pub mod NamedLemmas

@@ -25,7 +25,7 @@ named-get m q = named-lookup m.entries q
 
 -- one name was given a span
 pub puts_span : {Y : Type 0} (m n : BTreeMap (String Y) PlainSpan) (s : List ℕ) (span : PlainSpan) → UpdatesBy string_cmp (λ k. slice_cmp nat_cmp s (string_bytes k)) m n (Some span)
-  → PutsSpan (by_name m.entries) s span (by_name n.entries)
+    → PutsSpan (by_name m.entries) s span (by_name n.entries)
 puts_span m n s span h = λ q.
     named-get n q ∙ btree_map_updates_text s m n (Some span) h q
     ∙ ap (λ (b : Bool). cond b (Some span) (get_by_text m q)) (sym (is_eq-slice_cmp s q) ∙ (eq_by_cmp_equiv nat_list_cmp_total).symm s q)
@@ -60,7 +60,7 @@ always_on_err (Err _) p = p
 
 -- a name that is taken
 pub starts_taken : {P : Type 0} (gives : P → PlainSpan → PlainSpan → P → Type 0) (old : NamedSpans) (name : List ℕ) (p : ProviderState P) (scope : PlainScope) (called : List ℕ) (now : ℕ) (found : Option PlainSpan)
-  → is_some found ≡ true → StartsNamed gives old name p scope called now found None old p
+    → is_some found ≡ true → StartsNamed gives old name p scope called now found None old p
 starts_taken gives old name p scope called now None h = cc
 starts_taken gives old name p scope called now (Some span) h = (refl, λ q. refl, refl)
 

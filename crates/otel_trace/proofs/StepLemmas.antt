@@ -30,16 +30,18 @@ give_same : (histories : Histories) (old new : NamedSpans) → Give histories ol
 give_same histories old new give same = λ q. same q ∙ give q
 
 attr_found : (histories : Histories) (old new : NamedSpans) (name key value : List ℕ) (found : Option SpanHistory) (answer : Option Bool) → histories name ≡ found → Give histories old
-  → EditsNamed old name (set_attribute (record { key = key; value = text value })) (option_map span_of found) answer new
-  → (now : Histories) × AttrFound histories name key value found (attr_answer answer) [] now × Give now new
+    → EditsNamed old name (set_attribute (record { key = key; value = text value })) (option_map span_of found) answer new
+    → (now : Histories) × AttrFound histories name key value found (attr_answer answer) [] now × Give now new
 attr_found histories old new name key value None answer e give h = (histories, (ap attr_answer h.0, refl, refl), give_same histories old new give h.1)
 attr_found histories old new name key value (Some (over context limits)) answer e give h =
     let there : named old name ≡ Some (not_recording context limits) = give name ∙ ap (option_map span_of) e in
     (histories, (ap attr_answer h.0, refl, refl), give_same histories old new give (put_same old new name (not_recording context limits) there h.1))
 attr_found histories old new name key value (Some (begun from edits)) answer e give h =
-    let edit : Edit = set_attribute (record { key = key; value = text value }) in
-    (with_history histories name (begun from (edits ++ edit ∷ [])), (ap attr_answer h.0, refl, refl),
-      give_put histories old new name (begun from (edits ++ edit ∷ [])) give (subst (λ (span : PlainSpan). PutsSpan old name span new) (edited-recording from edits edit) h.1))
+    let edit : Edit = set_attribute (record { key = key; value = text value }) in (
+      with_history histories name (begun from (edits ++ edit ∷ [])),
+      (ap attr_answer h.0, refl, refl),
+      give_put histories old new name (begun from (edits ++ edit ∷ [])) give (subst (λ (span : PlainSpan). PutsSpan old name span new) (edited-recording from edits edit) h.1),
+    )
 
 deliveries_are : (shut : Bool) (from : SpanStart) (edits : List Edit) (moment n : ℕ) → deliveries shut moment (Some (data_of from edits from.start_time)) n ≡ end_delivers shut (data_of from edits moment) n
 deliveries_are true from edits moment n = refl
@@ -49,47 +51,60 @@ no_deliveries : (shut : Bool) (moment n : ℕ) → deliveries shut moment None n
 no_deliveries shut moment n = refl
 
 end_found : {P : Type 0} (told : P → ProcessorTelling) (frame : SessionFrame) (histories : Histories) (old new : NamedSpans) (name : List ℕ) (moment : ℕ) (p q : ProviderState P) (found : Option SpanHistory) (answer : Option (Option ℕ))
-  → frame.is_shut ≡ p.is_shut → histories name ≡ found → Give histories old
-  → EndsNamed told old name p moment (option_map span_of found) answer new q
-  → (ds : List Delivery) × (now : Histories) × EndFound frame histories name moment found (end_answer answer) ds now × Give now new × EachFollows told ds p.processors q.processors
-end_found {P} told frame histories old new name moment p q None answer s e give h =
-    ([], histories, (ap end_answer h.0, refl, refl), give_same histories old new give h.1,
-      EachFollows-same told p.processors q.processors (ap (λ (r : ProviderState P). map told r.processors) h.2))
+    → frame.is_shut ≡ p.is_shut → histories name ≡ found → Give histories old
+    → EndsNamed told old name p moment (option_map span_of found) answer new q
+    → (ds : List Delivery) × (now : Histories) × EndFound frame histories name moment found (end_answer answer) ds now × Give now new × EachFollows told ds p.processors q.processors
+end_found {P} told frame histories old new name moment p q None answer s e give h = (
+  [],
+  histories,
+  (ap end_answer h.0, refl, refl),
+  give_same histories old new give h.1,
+  EachFollows-same told p.processors q.processors (ap (λ (r : ProviderState P). map told r.processors) h.2),
+)
 end_found told frame histories old new name moment p q (Some (over context limits)) answer s e give h =
-    let there : named old name ≡ Some (not_recording context limits) = give name ∙ ap (option_map span_of) e in
-    ([], histories, (ap end_answer h.1, refl, refl), give_same histories old new give (put_same old new name (not_recording context limits) there h.2),
-      subst (λ (ds : List Delivery). EachFollows told ds p.processors q.processors) (no_deliveries p.is_shut moment h.0) h.3)
-end_found told frame histories old new name moment p q (Some (begun from edits)) answer s e give h =
-    (end_delivers frame.is_shut (data_of from edits moment) h.0, with_history histories name (over from.span_context from.limits), (h.0, ap end_answer h.1, refl, refl),
-      give_put histories old new name (over from.span_context from.limits) give h.2,
-      subst (λ (ds : List Delivery). EachFollows told ds p.processors q.processors) (deliveries_are p.is_shut from edits moment h.0 ∙ ap (λ (b : Bool). end_delivers b (data_of from edits moment) h.0) (sym s)) h.3)
+    let there : named old name ≡ Some (not_recording context limits) = give name ∙ ap (option_map span_of) e in (
+      [],
+      histories,
+      (ap end_answer h.1, refl, refl),
+      give_same histories old new give (put_same old new name (not_recording context limits) there h.2),
+      subst (λ (ds : List Delivery). EachFollows told ds p.processors q.processors) (no_deliveries p.is_shut moment h.0) h.3,
+    )
+end_found told frame histories old new name moment p q (Some (begun from edits)) answer s e give h = (
+  end_delivers frame.is_shut (data_of from edits moment) h.0,
+  with_history histories name (over from.span_context from.limits),
+  (h.0, ap end_answer h.1, refl, refl),
+  give_put histories old new name (over from.span_context from.limits) give h.2,
+  subst (λ (ds : List Delivery). EachFollows told ds p.processors q.processors) (deliveries_are p.is_shut from edits moment h.0 ∙ ap (λ (b : Bool). end_delivers b (data_of from edits moment) h.0) (sym s)) h.3,
+)
 
 new_span : {P : Type 0} (gives : P → PlainSpan → PlainSpan → P → Type 0) (frame : SessionFrame) (histories : Histories) (old new : NamedSpans) (name : List ℕ) (p q : ProviderState P) (called : List ℕ) (moment : ℕ) (answer : Option (SpanIdentity × Bool)) (span : PlainSpan) (shut : Bool)
-  → frame.limits ≡ p.span_limits → Give histories old
-  → MatchBool shut ((span ≡ not_recording empty_context p.span_limits) × (q ≡ p))
-      (IsEdited (recording (root_start p frame.scope called moment) []) span × PassedThrough gives (recording (root_start p frame.scope called moment) []) p.processors q.processors span
-        × (q ≡ record p { processors = q.processors; id_generator = after_root p.id_generator }))
-  → answer ≡ Some (identity_of span, is_some span.recorded) → PutsSpan old name span new
-  → (now : Histories) × NewSpan frame shut histories name called moment (start_answer answer) now × Give now new
-new_span gives frame histories old new name p q called moment answer span true l give h a put =
-    (with_history histories name (over empty_context frame.limits),
-      (ap start_answer (a ∙ ap (λ (s : PlainSpan). Some (identity_of s, is_some s.recorded)) h.0), refl),
-      give_put histories old new name (over empty_context frame.limits) give
-        (subst (λ (s : PlainSpan). PutsSpan old name s new) (h.0 ∙ ap (λ (limits : SpanLimits). not_recording empty_context limits) (sym l)) put))
+    → frame.limits ≡ p.span_limits → Give histories old
+    → MatchBool shut ((span ≡ not_recording empty_context p.span_limits) × (q ≡ p))
+    (IsEdited (recording (root_start p frame.scope called moment) []) span × PassedThrough gives (recording (root_start p frame.scope called moment) []) p.processors q.processors span
+    × (q ≡ record p { processors = q.processors; id_generator = after_root p.id_generator }))
+    → answer ≡ Some (identity_of span, is_some span.recorded) → PutsSpan old name span new
+    → (now : Histories) × NewSpan frame shut histories name called moment (start_answer answer) now × Give now new
+new_span gives frame histories old new name p q called moment answer span true l give h a put = (
+  with_history histories name (over empty_context frame.limits),
+  (ap start_answer (a ∙ ap (λ (s : PlainSpan). Some (identity_of s, is_some s.recorded)) h.0), refl),
+  give_put histories old new name (over empty_context frame.limits) give
+      (subst (λ (s : PlainSpan). PutsSpan old name s new) (h.0 ∙ ap (λ (limits : SpanLimits). not_recording empty_context limits) (sym l)) put),
+)
 new_span gives frame histories old new name p q called moment answer span false l give h a put =
     let span_is : span ≡ recording (root_start p frame.scope called moment) h.0.0 = h.0.1 ∙ after-recording (root_start p frame.scope called moment) [] h.0.0 in
     let with_limits : recording (root_start p frame.scope called moment) h.0.0 ≡ recording (root_span (root_context p.id_generator) frame.scope called moment frame.limits) h.0.0 =
-      ap (λ (limits : SpanLimits). recording (root_span (root_context p.id_generator) frame.scope called moment limits) h.0.0) (sym l) in
-    let identity : SpanIdentity = record { trace_id = (root_context p.id_generator).trace_id; span_id = (root_context p.id_generator).span_id; trace_flags = 1 } in
-    (with_history histories name (begun (root_span (root_context_of identity) frame.scope called moment frame.limits) h.0.0),
+    ap (λ (limits : SpanLimits). recording (root_span (root_context p.id_generator) frame.scope called moment limits) h.0.0) (sym l) in
+    let identity : SpanIdentity = record { trace_id = (root_context p.id_generator).trace_id; span_id = (root_context p.id_generator).span_id; trace_flags = 1 } in (
+      with_history histories name (begun (root_span (root_context_of identity) frame.scope called moment frame.limits) h.0.0),
       (identity, h.0.0, refl, ap start_answer (a ∙ ap (λ (s : PlainSpan). Some (identity_of s, is_some s.recorded)) span_is), refl),
       give_put histories old new name (begun (root_span (root_context_of identity) frame.scope called moment frame.limits) h.0.0) give
-        (subst (λ (s : PlainSpan). PutsSpan old name s new) (span_is ∙ with_limits) put))
+          (subst (λ (s : PlainSpan). PutsSpan old name s new) (span_is ∙ with_limits) put),
+    )
 
 start_found : {P : Type 0} (gives : P → PlainSpan → PlainSpan → P → Type 0) (frame : SessionFrame) (histories : Histories) (old new : NamedSpans) (name : List ℕ) (p q : ProviderState P) (called : List ℕ) (moment : ℕ) (found : Option SpanHistory) (answer : Option (SpanIdentity × Bool))
-  → frame.is_shut ≡ p.is_shut → frame.limits ≡ p.span_limits → Give histories old
-  → StartsNamed gives old name p frame.scope called moment (option_map span_of found) answer new q
-  → (now : Histories) × StartFound frame histories name called moment found (start_answer answer) [] now × Give now new
+    → frame.is_shut ≡ p.is_shut → frame.limits ≡ p.span_limits → Give histories old
+    → StartsNamed gives old name p frame.scope called moment (option_map span_of found) answer new q
+    → (now : Histories) × StartFound frame histories name called moment found (start_answer answer) [] now × Give now new
 start_found gives frame histories old new name p q called moment (Some history) answer s l give h = (histories, (ap start_answer h.0, refl, refl), give_same histories old new give h.1)
 start_found gives frame histories old new name p q called moment None answer s l give h =
     let made = new_span gives frame histories old new name p q called moment answer h.0 p.is_shut l give h.1 h.2 h.3 in
@@ -100,43 +115,47 @@ frame_rest {P} p q scope e = ap (λ (r : ProviderState P). frame_with r scope) e
 
 -- an attribute, by the spans
 pub steps_attr : {P : Type 0} (told : P → ProcessorTelling) (scope : PlainScope) (p : ProviderState P) (old new : NamedSpans) (span key value : List ℕ) (given : Option Bool)
-  → EditsNamed old span (set_attribute (record { key = key; value = text value })) (named old span) given new
-  → Steps told scope p old (attr span key value) (attr_answer given) p new
-steps_attr told scope p old new span key value given h =
-    (refl, λ histories give.
+    → EditsNamed old span (set_attribute (record { key = key; value = text value })) (named old span) given new
+    → Steps told scope p old (attr span key value) (attr_answer given) p new
+steps_attr told scope p old new span key value given h = (
+  refl,
+  λ histories give.
       let found = attr_found histories old new span key value (histories span) given refl give
-        (subst (λ (o : Option PlainSpan). EditsNamed old span (set_attribute (record { key = key; value = text value })) o given new) (give span) h) in
-      ([], found.0, found.1, found.2, EachFollows-same told p.processors p.processors refl))
+      (subst (λ (o : Option PlainSpan). EditsNamed old span (set_attribute (record { key = key; value = text value })) o given new) (give span) h) in
+      ([], found.0, found.1, found.2, EachFollows-same told p.processors p.processors refl),
+)
 
 ends_frame : {P : Type 0} (told : P → ProcessorTelling) (scope : PlainScope) (p q : ProviderState P) (old new : NamedSpans) (span : List ℕ) (moment : ℕ) (found : Option PlainSpan) (given : Option (Option ℕ))
-  → EndsNamed told old span p moment found given new q → frame_with q scope ≡ frame_with p scope
+    → EndsNamed told old span p moment found given new q → frame_with q scope ≡ frame_with p scope
 ends_frame {P} told scope p q old new span moment None given h = ap (λ (r : ProviderState P). frame_with r scope) h.2
 ends_frame {P} told scope p q old new span moment (Some s) given h = ap (λ (r : ProviderState P). frame_with r scope) h.4
 
 -- an end, by the spans
 pub steps_end : {P : Type 0} (told : P → ProcessorTelling) (scope : PlainScope) (p q : ProviderState P) (old new : NamedSpans) (span : List ℕ) (moment : ℕ) (given : Option (Option ℕ))
-  → EndsNamed told old span p moment (named old span) given new q
-  → Steps told scope p old (end span moment) (end_answer given) q new
-steps_end told scope p q old new span moment given h =
-    (ends_frame told scope p q old new span moment (named old span) given h,
-      λ histories give. end_found told (frame_with p scope) histories old new span moment p q (histories span) given refl refl give
-        (subst (λ (o : Option PlainSpan). EndsNamed told old span p moment o given new q) (give span) h))
+    → EndsNamed told old span p moment (named old span) given new q
+    → Steps told scope p old (end span moment) (end_answer given) q new
+steps_end told scope p q old new span moment given h = (
+  ends_frame told scope p q old new span moment (named old span) given h,
+  λ histories give. end_found told (frame_with p scope) histories old new span moment p q (histories span) given refl refl give
+      (subst (λ (o : Option PlainSpan). EndsNamed told old span p moment o given new q) (give span) h),
+)
 
 -- a start, by the spans
 pub steps_start : {P : Type 0} (told : P → ProcessorTelling) (gives : P → PlainSpan → PlainSpan → P → Type 0) (scope : PlainScope) (p q : ProviderState P) (old new : NamedSpans) (span name : List ℕ) (moment : ℕ) (given : Option (SpanIdentity × Bool))
-  → q ≡ record p { processors = q.processors; id_generator = q.id_generator } → map told q.processors ≡ map told p.processors
-  → StartsNamed gives old span p scope name moment (named old span) given new q
-  → Steps told scope p old (start span name moment) (start_answer given) q new
-steps_start told gives scope p q old new span name moment given r t h =
-    (frame_rest p q scope r,
-      λ histories give.
+    → q ≡ record p { processors = q.processors; id_generator = q.id_generator } → map told q.processors ≡ map told p.processors
+    → StartsNamed gives old span p scope name moment (named old span) given new q
+    → Steps told scope p old (start span name moment) (start_answer given) q new
+steps_start told gives scope p q old new span name moment given r t h = (
+  frame_rest p q scope r,
+  λ histories give.
       let found = start_found gives (frame_with p scope) histories old new span p q name moment (histories span) given refl refl give
-        (subst (λ (o : Option PlainSpan). StartsNamed gives old span p scope name moment o given new q) (give span) h) in
-      ([], found.0, found.1, found.2, EachFollows-same told p.processors q.processors t))
+      (subst (λ (o : Option PlainSpan). StartsNamed gives old span p scope name moment o given new q) (give span) h) in
+      ([], found.0, found.1, found.2, EachFollows-same told p.processors q.processors t),
+)
 
 -- a refused start
 pub rests_start : {P : Type 0} (told : P → ProcessorTelling) (scope : PlainScope) (p q : ProviderState P) (old new : NamedSpans)
-  → q ≡ record p { processors = q.processors; id_generator = q.id_generator } → map told q.processors ≡ map told p.processors → SameSpans old new → Rests told scope p old q new
+    → q ≡ record p { processors = q.processors; id_generator = q.id_generator } → map told q.processors ≡ map told p.processors → SameSpans old new → Rests told scope p old q new
 rests_start told scope p q old new r t same = (frame_rest p q scope r, same, t)
 
 -- a refusal that leaves the provider

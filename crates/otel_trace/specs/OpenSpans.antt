@@ -45,7 +45,7 @@ identity_of span = record { trace_id = span.span_context.trace_id; span_id = spa
 abbrev pub StartsNamed : {P : Type 0} → (P → PlainSpan → PlainSpan → P → Type 0) → NamedSpans → List ℕ → ProviderState P → PlainScope → List ℕ → ℕ → Option PlainSpan → Option (SpanIdentity × Bool) → NamedSpans → ProviderState P → Type 0
 StartsNamed gives old name p scope called now (Some _) answer new q = (answer ≡ None) × SameSpans old new × (q ≡ p)
 StartsNamed gives old name p scope called now None answer new q = (span : PlainSpan) × Starts gives p scope called now span q
-  × (answer ≡ Some (identity_of span, is_some span.recorded)) × PutsSpan old name span new
+    × (answer ≡ Some (identity_of span, is_some span.recorded)) × PutsSpan old name span new
 
 -- an edit of the span of a name: none where there is no such span; else whether it is recording, and the edit
 abbrev pub EditsNamed : NamedSpans → List ℕ → Edit → Option PlainSpan → Option Bool → NamedSpans → Type 0
@@ -61,7 +61,7 @@ refusals (Some _) n = Some n
 abbrev pub EndsNamed : {P : Type 0} → (P → ProcessorTelling) → NamedSpans → List ℕ → ProviderState P → ℕ → Option PlainSpan → Option (Option ℕ) → NamedSpans → ProviderState P → Type 0
 EndsNamed told old name p moment None answer new q = (answer ≡ None) × SameSpans old new × (q ≡ p)
 EndsNamed told old name p moment (Some span) answer new q = (n : ℕ) × (answer ≡ Some (refusals span.recorded n)) × PutsSpan old name (ended span) new
-  × EachFollows told (deliveries p.is_shut moment span.recorded n) p.processors q.processors × (q ≡ record p { processors = q.processors })
+    × EachFollows told (deliveries p.is_shut moment span.recorded n) p.processors q.processors × (q ≡ record p { processors = q.processors })
 
 -- the answer to an attribute
 abbrev pub attr_answer : Option Bool → Answer

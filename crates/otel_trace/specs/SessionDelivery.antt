@@ -1,6 +1,6 @@
 -- What the commands of a session demand of its exporters. It speaks of each span as its history, a start and the edits
 -- since, and of what an end delivers as the data of that history: whole lists, each cut once. No history is stored.
-use Rattle.std.specs.Prelude.{◌≡◌, ℕ, Bool, true, false, List, [], ◌∷◌, ◌++◌, Option, Some, None, map, drop, slice_get, if◌then◌else◌, ◌⊎◌}
+use Rattle.std.specs.Prelude.{◌≡◌, ℕ, Bool, true, false, List, [], ◌∷◌, ◌++◌, Option, Some, None, map, take, drop, slice_get, Result, Ok, Err, if◌then◌else◌, ◌⊎◌}
 use Rattle.std.specs.List.{flat_map}
 use Rattle.std.specs.Option.{option_map, option_map_or}
 use Rattle.opentelemetry.specs.Plain.{PlainSpanContext, PlainScope, text}
@@ -11,7 +11,11 @@ use Rattle.opentelemetry_sdk.specs.ProcessorTelling.{ProcessorTelling, Delivery,
 use Rattle.opentelemetry_sdk.specs.Provider.{ProviderState, empty_context, root_span}
 use Rattle.otel_trace.specs.Commands.{PlainCommand, start, attr, end, plain_commands}
 use Rattle.otel_trace.specs.OpenSpans.{NamedSpans, SameSpans, named, is_name}
+use Rattle.otel_trace.specs.AnswerText.{replies_text}
+use Rattle.otel_trace.specs.Lines.{TextSpells}
 use Rattle.otel_trace.specs.PlainReply.{PlainReply}
+use Rattle.otel_trace.specs.declared.session.FeedError.{FeedError}
+use Rattle.otel_trace.specs.declared.session.FeedError.TheVariants as feeds
 use Rattle.otel_trace.specs.declared.command.Command.{Command}
 use Rattle.otel_trace.specs.declared.reply.Answer.{Answer}
 use Rattle.otel_trace.specs.declared.reply.Answer.TheVariants as answers
@@ -52,7 +56,7 @@ end_delivers false span refused = record { span = span; refused = refused } ∷ 
 abbrev pub NewSpan : SessionFrame → Bool → Histories → List ℕ → List ℕ → ℕ → Answer → Histories → Type 0
 NewSpan frame true old span name moment answer new = (answer ≡ answers.Dropped nobody) × (new ≡ with_history old span (over empty_context frame.limits))
 NewSpan frame false old span name moment answer new = (identity : SpanIdentity) × (edits : List Edit) × (identity.trace_flags ≡ 1) × (answer ≡ answers.Started identity)
-  × (new ≡ with_history old span (begun (root_span (root_context_of identity) frame.scope name moment frame.limits) edits))
+    × (new ≡ with_history old span (begun (root_span (root_context_of identity) frame.scope name moment frame.limits) edits))
 
 -- a start: a name is taken once
 abbrev pub StartFound : SessionFrame → Histories → List ℕ → List ℕ → ℕ → Option SpanHistory → Answer → List Delivery → Histories → Type 0
@@ -64,14 +68,14 @@ abbrev pub AttrFound : Histories → List ℕ → List ℕ → List ℕ → Opti
 AttrFound old span key value None answer ds new = (answer ≡ answers.NoSuchSpan) × (ds ≡ []) × (new ≡ old)
 AttrFound old span key value (Some (over context limits)) answer ds new = (answer ≡ answers.Ignored) × (ds ≡ []) × (new ≡ old)
 AttrFound old span key value (Some (begun from edits)) answer ds new = (answer ≡ answers.Ok) × (ds ≡ [])
-  × (new ≡ with_history old span (begun from (edits ++ set_attribute (record { key = key; value = text value }) ∷ [])))
+    × (new ≡ with_history old span (begun from (edits ++ set_attribute (record { key = key; value = text value }) ∷ [])))
 
 -- an end: the history is over, and its data is delivered, unless the provider is shut
 abbrev pub EndFound : SessionFrame → Histories → List ℕ → ℕ → Option SpanHistory → Answer → List Delivery → Histories → Type 0
 EndFound frame old span moment None answer ds new = (answer ≡ answers.NoSuchSpan) × (ds ≡ []) × (new ≡ old)
 EndFound frame old span moment (Some (over context limits)) answer ds new = (answer ≡ answers.Ignored) × (ds ≡ []) × (new ≡ old)
 EndFound frame old span moment (Some (begun from edits)) answer ds new = (refused : ℕ) × (answer ≡ answers.Ended refused)
-  × (ds ≡ end_delivers frame.is_shut (data_of from edits moment) refused) × (new ≡ with_history old span (over from.span_context from.limits))
+    × (ds ≡ end_delivers frame.is_shut (data_of from edits moment) refused) × (new ≡ with_history old span (over from.span_context from.limits))
 
 -- what one command demands: its answer, what is delivered, and the histories behind it
 abbrev pub Demands : SessionFrame → Histories → PlainCommand → Answer → List Delivery → Histories → Type 0
@@ -85,7 +89,7 @@ DemandAll frame old [] [] ds new = (ds ≡ []) × (new ≡ old)
 DemandAll frame old [] (answer ∷ answers) ds new = ⊥
 DemandAll frame old (command ∷ commands) [] ds new = ⊥
 DemandAll frame old (command ∷ commands) (answer ∷ answers) ds new = (middle : Histories) × (first : List Delivery) × (rest : List Delivery)
-  × Demands frame old command answer first middle × DemandAll frame middle commands answers rest new × (ds ≡ first ++ rest)
+    × Demands frame old command answer first middle × DemandAll frame middle commands answers rest new × (ds ≡ first ++ rest)
 
 -- a session: its provider, the library's scope, its spans, and how many batches its replies have shown
 pub record SessionState (P : Type 0) : Type 0 where
@@ -109,14 +113,14 @@ answers_of replies = map (λ reply. reply.answer) replies
 -- histories that the spans had
 abbrev pub Steps : {P : Type 0} → (P → ProcessorTelling) → PlainScope → ProviderState P → NamedSpans → PlainCommand → Answer → ProviderState P → NamedSpans → Type 0
 Steps {P} told scope p old command answer q new = (frame_with q scope ≡ frame_with p scope)
-  × ((histories : Histories) → Give histories old → (ds : List Delivery) × (after : Histories)
+    × ((histories : Histories) → Give histories old → (ds : List Delivery) × (after : Histories)
     × Demands (frame_with p scope) histories command answer ds after × Give after new
     × EachFollows told ds p.processors q.processors)
 
 -- nothing was carried out: each name has the span that it had, and each processor tells what it told
 abbrev pub Rests : {P : Type 0} → (P → ProcessorTelling) → PlainScope → ProviderState P → NamedSpans → ProviderState P → NamedSpans → Type 0
 Rests {P} told scope p old q new = (frame_with q scope ≡ frame_with p scope) × SameSpans old new
-  × (map told q.processors ≡ map told p.processors)
+    × (map told q.processors ≡ map told p.processors)
 
 -- the batches that the first processor keeps
 abbrev pub first_kept : {P : Type 0} → (P → List (List PlainSpanData)) → SessionState P → List (List PlainSpanData)
@@ -130,7 +134,7 @@ unshown kept session = flat_map (λ batch. batch) (drop session.shown (first_kep
 -- the histories that the spans had, and the same deliveries reach each processor
 abbrev pub CarriesOut : {P : Type 0} → (P → ProcessorTelling) → SessionState P → List Command → List PlainReply → SessionState P → Type 0
 CarriesOut {P} told old commands replies new = (frame_of new ≡ frame_of old)
-  × ((histories : Histories) → Give histories old.spans → (ds : List Delivery) × (after : Histories)
+    × ((histories : Histories) → Give histories old.spans → (ds : List Delivery) × (after : Histories)
     × DemandAll (frame_of old) histories (plain_commands commands) (answers_of replies) ds after × Give after new.spans
     × EachFollows told ds old.provider.processors new.provider.processors)
 
@@ -145,4 +149,25 @@ RunsAll told old commands before now new = (replies : List PlainReply) × (now �
 -- a beginning of the commands was carried out, the last one perhaps without its reply
 abbrev pub RunsBeginning : {P : Type 0} → (P → ProcessorTelling) → SessionState P → List Command → List PlainReply → List PlainReply → SessionState P → Type 0
 RunsBeginning told old commands before now new = (done : List Command) × (left : List Command) × (replies : List PlainReply) × (appended : List PlainReply)
-  × (commands ≡ done ++ left) × (now ≡ before ++ appended) × AllOrButLast replies appended × CarriesOut told old done replies new
+    × (commands ≡ done ++ left) × (now ≡ before ++ appended) × AllOrButLast replies appended × CarriesOut told old done replies new
+
+-- a text was fed whole: its lines up to the first bad one spell the commands that were carried out, and the texts of their
+-- replies were appended
+abbrev pub FedUpTo : {P : Type 0} → (P → ProcessorTelling) → SessionState P → List ℕ → Option ℕ → List ℕ → List ℕ → SessionState P → Type 0
+FedUpTo told old bytes bad_line before now new = (commands : List Command) × (replies : List PlainReply)
+    × TextSpells bytes (plain_commands commands) bad_line × (now ≡ before ++ replies_text replies) × CarriesOut told old commands replies new
+
+-- these commands are a beginning of those that a text spells, or none
+abbrev pub IsBeginning : List ℕ → List Command → Type 0
+IsBeginning bytes done = (done ≡ []) ⊎ ((left : List Command) × (bad_line : Option ℕ) × TextSpells bytes (plain_commands (done ++ left)) bad_line)
+
+-- memory ran out: a beginning of the commands was carried out, and the output has the replies of a beginning of them
+abbrev pub FedBeginning : {P : Type 0} → (P → ProcessorTelling) → SessionState P → List ℕ → List ℕ → List ℕ → SessionState P → Type 0
+FedBeginning told old bytes before now new = (done : List Command) × (replies : List PlainReply) × (n : ℕ)
+    × IsBeginning bytes done × (now ≡ before ++ replies_text (take n replies)) × CarriesOut told old done replies new
+
+-- what feeding a text does, by its answer
+abbrev pub Fed : {P T : Type 0} → (P → ProcessorTelling) → SessionState P → List ℕ → List ℕ → Result T FeedError → List ℕ → SessionState P → Type 0
+Fed told old bytes before (Ok _) now new = FedUpTo told old bytes None before now new
+Fed told old bytes before (Err (feeds.Line n)) now new = FedUpTo told old bytes (Some n) before now new
+Fed told old bytes before (Err feeds.Memory) now new = FedBeginning told old bytes before now new

@@ -17,14 +17,16 @@ pub trait KeepsBatches {
         ensures { map (λ batch. batch.items) result.now ≡ kept self.now };
 }
 
-impl<C, D> KeepsBatches for ProcessorOf<SimpleSpanProcessor<ExporterOf<InMemorySpanExporter, C>>, D> {
+impl<C, D> KeepsBatches
+    for ProcessorOf<SimpleSpanProcessor<ExporterOf<InMemorySpanExporter, C>>, D> {
     ghost use Rattle.std.specs.Prelude.{[]};
     ghost use Rattle.opentelemetry_sdk.specs.declared.trace.processor.ProcessorOf.TheVariants as kinds;
     ghost use Rattle.otel_batch.specs.declared.trace.exporter_box.ExporterOf.TheVariants as exporters;
 
     ghost kept = { λ p. elim p [
-        kinds.Simple s ↦ elim s.exporter [ exporters.Memory m ↦ m.batches | exporters.Custom _ ↦ [] ]
-      | kinds.Custom _ ↦ [] ] };
+      | kinds.Simple s ↦ elim s.exporter [ exporters.Memory m ↦ m.batches | exporters.Custom _ ↦ [] ]
+      | kinds.Custom _ ↦ []
+    ] };
 
     fn batches(&self) -> &[Vec<SpanData>] {
         match self {
@@ -38,7 +40,11 @@ impl<C, D> KeepsBatches for ProcessorOf<SimpleSpanProcessor<ExporterOf<InMemoryS
 }
 
 /// Copies of the spans of the batches behind those that were shown.
-pub(crate) fn copies_since(alloc: Global, batches: &[Vec<SpanData>], shown: usize) -> Result<Vec<SpanData>, AllocError>
+pub(crate) fn copies_since(
+    alloc: Global,
+    batches: &[Vec<SpanData>],
+    shown: usize,
+) -> Result<Vec<SpanData>, AllocError>
     ensures { IfOk result (λ spans. spans.items ≡ flat_map (λ batch. batch.items) (drop shown batches.now)) }
 {
     let mut spans = Vec::new(alloc);

@@ -142,11 +142,20 @@ fn moment_of(digits: &str) -> Option<Moment>
         ((moment : ℕ) → IsMoment digits.now moment → ⊥)
         (λ moment. IsMoment digits.now moment.0) }
 {
+    let nanoseconds = number_of(digits)?;
+    Some(Moment(nanoseconds))
+}
+
+/// The number of 64 bits that digits write; none where it is out of range, or where anything but digits stands there.
+pub(crate) fn number_of(digits: &str) -> Option<u64>
+    ensures { MatchOption result
+        ((number : ℕ) → IsMoment digits.now number → ⊥)
+        (λ number. IsMoment digits.now number) }
+{
     if digits.starts_with('+') {
         return None;
     }
-    let nanoseconds = digits.parse::<u64>().ok()?;
-    Some(Moment(nanoseconds))
+    digits.parse::<u64>().ok()
 }
 
 /// The first line of a text, without what ends it, and the text behind it; none where the text is empty.

@@ -36,7 +36,14 @@ impl OpenSpans {
 
     /// Starts a span under a name; none where the name is taken. Where there is no memory for the name, the span that was
     /// started is abandoned: ids were drawn, and no processor was given a span.
-    pub(crate) fn start<P: SpanProcessor>(&mut self, name: String, tracer: &SdkTracer, provider: &mut ProviderOf<P>, called: String, now: Moment) -> Result<Option<(SpanIdentity, bool)>, AllocError>
+    pub(crate) fn start<P: SpanProcessor>(
+        &mut self,
+        name: String,
+        tracer: &SdkTracer,
+        provider: &mut ProviderOf<P>,
+        called: String,
+        now: Moment,
+    ) -> Result<Option<(SpanIdentity, bool)>, AllocError>
         ensures ok { IfOk result (λ answer. StartsNamed (λ p s t q. P.start_gives p s root_cx t q) self.old (string_bytes name) provider.old tracer.now (string_bytes called) now.0 (named self.old (string_bytes name)) answer self.new provider.new) }
         ensures told { map P.told provider.new.processors ≡ map P.told provider.old.processors }
         ensures rest { provider.new ≡ record provider.old { processors = provider.new.processors; id_generator = provider.new.id_generator } }
@@ -68,7 +75,11 @@ impl OpenSpans {
 
     /// Sets an attribute of the span of a name. The answer is whether the span is recording; none where there is no such
     /// span.
-    pub(crate) fn set_attribute(&mut self, name: &str, attribute: KeyValue) -> Result<Option<bool>, AllocError>
+    pub(crate) fn set_attribute(
+        &mut self,
+        name: &str,
+        attribute: KeyValue,
+    ) -> Result<Option<bool>, AllocError>
         ensures ok { IfOk result (λ answer. EditsNamed self.old name.now (set_attribute attribute) (named self.old name.now) answer self.new) }
         ensures err { OnErr result (SameSpans self.old self.new) }
     {
@@ -77,7 +88,12 @@ impl OpenSpans {
 
     /// Ends the span of a name. The answer is how many processors refused it; none where it was not recording, and none
     /// at all where there is no such span.
-    pub(crate) fn end<P: SpanProcessor>(&mut self, name: &str, provider: &mut ProviderOf<P>, moment: Moment) -> Result<Option<Option<usize>>, AllocError>
+    pub(crate) fn end<P: SpanProcessor>(
+        &mut self,
+        name: &str,
+        provider: &mut ProviderOf<P>,
+        moment: Moment,
+    ) -> Result<Option<Option<usize>>, AllocError>
         ensures ok { IfOk result (λ answer. EndsNamed P.told self.old name.now provider.old moment.0 (named self.old name.now) answer self.new provider.new) }
         ensures err { OnErr result (SameSpans self.old self.new × (provider.new ≡ provider.old)) }
     {
@@ -118,7 +134,11 @@ fn identity(span: &Span) -> SpanIdentity
     }
 }
 
-fn set_attribute_in(spans: &mut BTreeMap<String, Span>, name: &str, attribute: KeyValue) -> Result<Option<bool>, AllocError>
+fn set_attribute_in(
+    spans: &mut BTreeMap<String, Span>,
+    name: &str,
+    attribute: KeyValue,
+) -> Result<Option<bool>, AllocError>
     ensures ok { IfOk result (λ answer. EditsNamed (by_name spans.old.entries) name.now (set_attribute attribute) (named (by_name spans.old.entries) name.now) answer (by_name spans.new.entries)) }
     ensures err { OnErr result (SameSpans (by_name spans.old.entries) (by_name spans.new.entries)) }
 {
@@ -130,7 +150,12 @@ fn set_attribute_in(spans: &mut BTreeMap<String, Span>, name: &str, attribute: K
     Ok(Some(is_recording))
 }
 
-fn end_in<P: SpanProcessor>(spans: &mut BTreeMap<String, Span>, name: &str, provider: &mut ProviderOf<P>, moment: Moment) -> Result<Option<Option<usize>>, AllocError>
+fn end_in<P: SpanProcessor>(
+    spans: &mut BTreeMap<String, Span>,
+    name: &str,
+    provider: &mut ProviderOf<P>,
+    moment: Moment,
+) -> Result<Option<Option<usize>>, AllocError>
     ensures ok { IfOk result (λ answer. EndsNamed P.told (by_name spans.old.entries) name.now provider.old moment.0 (named (by_name spans.old.entries) name.now) answer (by_name spans.new.entries) provider.new) }
     ensures err { OnErr result (SameSpans (by_name spans.old.entries) (by_name spans.new.entries) × (provider.new ≡ provider.old)) }
 {

@@ -224,6 +224,16 @@ fn text_of(alloc: Global, reply: &Reply) -> Result<String, AllocError>
     Ok(text)
 }
 
+/// Writes the lines of exported spans, or nothing where memory runs out.
+pub fn write_spans(alloc: Global, out: &mut Vec<u8>, spans: &[SpanData]) -> Result<(), AllocError>
+    ensures ok { OnOk result (out.new.items ≡ out.old.items ++ span_lines spans.now) }
+    ensures err { OnErr result (out.new.items ≡ out.old.items) }
+{
+    let mut text = String::new(alloc);
+    push_spans(&mut text, spans)?;
+    write_text(out, text.as_str())
+}
+
 /// Writes a whole reply, or nothing where memory runs out.
 pub fn write_reply(alloc: Global, out: &mut Vec<u8>, reply: &Reply) -> Result<(), AllocError>
     ensures ok { OnOk result (out.new.items ≡ out.old.items ++ reply_text reply.now) }

@@ -1,26 +1,44 @@
 //! A session: commands against one provider, each with a reply. What its commands deliver to the exporters is stated by
 //! the histories of its spans, apart from the code that fills them.
 
-ghost use Rattle.std.specs.Prelude.{◌≡◌, ℕ, Bool, [], Option, length, map, IfErr, IfOk, OnOk, OnErr, codes, string_bytes};
+ghost use Rattle.std.specs.Prelude.{◌≡◌, ◌++◌, ℕ, Bool, List, [], Option, length, map, slice_get, IfErr, IfOk, OnOk, OnErr, codes, string_bytes};
+ghost use Rattle.std.specs.Option.{option_map_or};
 ghost use Rattle.opentelemetry.specs.Plain.{text};
 ghost use Rattle.opentelemetry_sdk.specs.Provider.{named as scope_named};
 ghost use Rattle.opentelemetry_sdk.specs.Provider.{root_cx};
 ghost use Rattle.opentelemetry_sdk.specs.SpanHistory as edits;
+ghost use Rattle.otel_batch.specs.PlainSpanData.{PlainSpanData};
 ghost use Rattle.otel_trace.specs.Commands.{plain_command};
+ghost use Rattle.otel_trace.specs.ReplyText.{span_lines};
 ghost use Rattle.otel_trace.specs.OpenSpans.{EditsNamed, EndsNamed, SameSpans, StartsNamed, attr_answer, end_answer, named, start_answer};
 ghost use Rattle.otel_trace.specs.declared.reply.SpanIdentity.{SpanIdentity};
-ghost use Rattle.otel_trace.specs.SessionDelivery.{Rests, RunsAll, RunsBeginning, Steps, first_kept, unshown};
+ghost use Rattle.otel_trace.specs.SessionDelivery.{Fed, Rests, RunsAll, RunsBeginning, Steps, first_kept, unshown};
 
 use crate::command::Command;
 use crate::exported::{KeepsBatches, copies_since};
+use crate::lines::parse;
 use crate::open_spans::OpenSpans;
 use crate::reply::{Answer, Reply};
+use crate::reply_text::{write_replies, write_spans};
 use opentelemetry::{Key, KeyValue, Moment, Value};
 use opentelemetry_sdk::trace::{ProviderOf, SdkTracer, SpanProcessor};
+use otel_base::error::{OTelSdkError, OTelSdkResult};
 use otel_batch::trace::SpanData;
 use std::alloc::{AllocError, Global};
 use std::collections::VecDeque;
 use std::marker::Model;
+use thiserror::Error;
+
+/// Why a text was not carried out to its end.
+#[derive(Clone, Copy, Debug, PartialEq, Eq, Error)]
+pub enum FeedError {
+    /// The line of this number, from 1, is no command.
+    #[error("line {0}: cannot read")]
+    Line(u64),
+    /// There was no memory.
+    #[error("no memory")]
+    Memory,
+}
 
 /// The name of the library whose spans a session makes.
 const SCOPE_NAME: &str = "otel_trace";
@@ -44,7 +62,10 @@ impl<P> Model for Session<P> {
 
 impl<P> Session<P> {
     /// A session with no spans. Where there is no memory for its scope, the provider comes back.
-    pub fn new(alloc: Global, provider: ProviderOf<P>) -> Result<Session<P>, (ProviderOf<P>, AllocError)>
+    pub fn new(
+        alloc: Global,
+        provider: ProviderOf<P>,
+    ) -> Result<Session<P>, (ProviderOf<P>, AllocError)>
         ensures ok { IfOk result (λ session. session ≡ record { provider = provider; scope = scope_named (codes "otel_trace"); spans = []; shown = 0 }) }
         ensures err { IfErr result (λ e. e.0 ≡ provider) }
     {
@@ -70,7 +91,11 @@ fn tracer_of<P>(alloc: Global, provider: &ProviderOf<P>) -> Result<SdkTracer, Al
 impl<P: SpanProcessor + KeepsBatches> Session<P> {
     /// Carries commands out in order and appends a reply for each. Where memory runs out, a beginning of the commands was
     /// carried out, each with its reply, except that the last one may be without.
-    pub fn run(&mut self, commands: Vec<Command>, replies: &mut Vec<Reply>) -> Result<(), AllocError>
+    pub fn run(
+        &mut self,
+        commands: Vec<Command>,
+        replies: &mut Vec<Reply>,
+    ) -> Result<(), AllocError>
         ensures ok { OnOk result (RunsAll P.told self.old commands.items replies.old.items replies.new.items self.new) }
         ensures err { OnErr result (RunsBeginning P.told self.old commands.items replies.old.items replies.new.items self.new) }
     {
@@ -81,6 +106,55 @@ impl<P: SpanProcessor + KeepsBatches> Session<P> {
             replies.push(Reply { exported, answer })?;
         }
         Ok(())
+    }
+
+    /// Carries out the commands that the lines of a text spell, up to the first line that is none, and appends the texts
+    /// of their replies. `Line` names the first bad line, from 1 and with empty lines counted. After `Memory` the output
+    /// has the whole replies of a beginning of the commands.
+    pub fn feed(&mut self, text: &[u8], output: &mut Vec<u8>) -> Result<(), FeedError>
+        ensures { Fed P.told self.old text.now output.old.items result output.new.items self.new }
+    {
+        let Ok(script) = parse(self.alloc, text) else {
+            return Err(FeedError::Memory);
+        };
+        let mut replies = Vec::new(self.alloc);
+        let Ok(()) = self.run(script.commands, &mut replies) else {
+            let _ = write_replies(self.alloc, output, &replies);
+            return Err(FeedError::Memory);
+        };
+        let Ok(()) = write_replies(self.alloc, output, &replies) else {
+            return Err(FeedError::Memory);
+        };
+        match script.bad_line {
+            None => Ok(()),
+            Some(line) => Err(FeedError::Line(line)),
+        }
+    }
+
+    /// Spends the session: its spans are abandoned, the provider is shut down where it is open, and the lines of the spans
+    /// that no reply has shown are appended. The answer is that of the shutdown, and `OutOfMemory` where the lines found
+    /// no memory.
+    pub fn close(self, output: &mut Vec<u8>) -> OTelSdkResult
+        ensures output { (spans : List PlainSpanData) × (output.new.items ≡ output.old.items ++ span_lines spans) }
+    {
+        let Session {
+            mut provider,
+            tracer: _,
+            spans,
+            shown,
+            alloc,
+        } = self;
+        spans.abandon();
+        let answer = match provider.shutdown() {
+            Err(OTelSdkError::AlreadyShutdown) => Ok(()),
+            answer => answer,
+        };
+        let written = write_unshown(alloc, provider.processors(), shown, output);
+        let _ = provider.close();
+        match answer {
+            Ok(()) => written.map_err(|_| OTelSdkError::OutOfMemory),
+            Err(error) => Err(error),
+        }
     }
 
     /// Carries one command out.
@@ -107,7 +181,7 @@ impl<P: SpanProcessor + KeepsBatches> Session<P> {
 
 /// The batches that the first of these processors keeps.
 fn kept_by_first<P: KeepsBatches>(processors: &[P]) -> &[Vec<SpanData>]
-    ensures { map (λ batch. batch.items) result.now ≡ option_map_or P.kept [] (slice_get processors.now 0) }
+    ensures { map (λ batch. batch.items) result.now ≡ option_map_or P.kept (slice_get processors.now 0) [] }
 {
     match processors.first() {
         Some(first) => first.batches(),
@@ -115,19 +189,50 @@ fn kept_by_first<P: KeepsBatches>(processors: &[P]) -> &[Vec<SpanData>]
     }
 }
 
+/// Writes the lines of the spans that no reply has shown.
+fn write_unshown<P: KeepsBatches>(
+    alloc: Global,
+    processors: &[P],
+    shown: usize,
+    output: &mut Vec<u8>,
+) -> Result<(), AllocError>
+    ensures { (spans : List PlainSpanData) × (output.new.items ≡ output.old.items ++ span_lines spans) }
+{
+    let spans = copies_since(alloc, kept_by_first(processors), shown)?;
+    write_spans(alloc, output, &spans)
+}
+
 /// Carries one command out.
-fn carry_out<P: SpanProcessor>(tracer: &SdkTracer, provider: &mut ProviderOf<P>, spans: &mut OpenSpans, command: Command) -> Result<Answer, AllocError>
+fn carry_out<P: SpanProcessor>(
+    tracer: &SdkTracer,
+    provider: &mut ProviderOf<P>,
+    spans: &mut OpenSpans,
+    command: Command,
+) -> Result<Answer, AllocError>
     ensures ok { IfOk result (λ answer. Steps P.told tracer.now provider.old spans.old (plain_command command) answer provider.new spans.new) }
     ensures err { OnErr result (Rests P.told tracer.now provider.old spans.old provider.new spans.new) }
 {
     match command {
-        Command::Start { span, name, moment } => start_span(tracer, provider, spans, span, name, moment),
-        Command::Attr { span, key, value } => set_attribute(spans, span, text_attribute(key, value)),
+        Command::Start { span, name, moment } => start_span(
+            tracer, provider, spans, span, name, moment,
+        ),
+        Command::Attr { span, key, value } => set_attribute(
+            spans,
+            span,
+            text_attribute(key, value),
+        ),
         Command::End { span, moment } => end_span(provider, spans, span, moment),
     }
 }
 
-fn start_span<P: SpanProcessor>(tracer: &SdkTracer, provider: &mut ProviderOf<P>, spans: &mut OpenSpans, span: String, name: String, moment: Moment) -> Result<Answer, AllocError>
+fn start_span<P: SpanProcessor>(
+    tracer: &SdkTracer,
+    provider: &mut ProviderOf<P>,
+    spans: &mut OpenSpans,
+    span: String,
+    name: String,
+    moment: Moment,
+) -> Result<Answer, AllocError>
     ensures ok { IfOk result (λ answer. (given : Option (SpanIdentity × Bool)) × (answer ≡ start_answer given) × StartsNamed (λ p s t q. P.start_gives p s root_cx t q) spans.old (string_bytes span) provider.old tracer.now (string_bytes name) moment.0 (named spans.old (string_bytes span)) given spans.new provider.new) }
     ensures told { map P.told provider.new.processors ≡ map P.told provider.old.processors }
     ensures rest { provider.new ≡ record provider.old { processors = provider.new.processors; id_generator = provider.new.id_generator } }
@@ -140,7 +245,11 @@ fn start_span<P: SpanProcessor>(tracer: &SdkTracer, provider: &mut ProviderOf<P>
     }
 }
 
-fn set_attribute(spans: &mut OpenSpans, span: String, attribute: KeyValue) -> Result<Answer, AllocError>
+fn set_attribute(
+    spans: &mut OpenSpans,
+    span: String,
+    attribute: KeyValue,
+) -> Result<Answer, AllocError>
     ensures ok { IfOk result (λ answer. (given : Option Bool) × (answer ≡ attr_answer given) × EditsNamed spans.old (string_bytes span) (edits.set_attribute attribute) (named spans.old (string_bytes span)) given spans.new) }
     ensures err { OnErr result (SameSpans spans.old spans.new) }
 {
@@ -151,7 +260,12 @@ fn set_attribute(spans: &mut OpenSpans, span: String, attribute: KeyValue) -> Re
     }
 }
 
-fn end_span<P: SpanProcessor>(provider: &mut ProviderOf<P>, spans: &mut OpenSpans, span: String, moment: Moment) -> Result<Answer, AllocError>
+fn end_span<P: SpanProcessor>(
+    provider: &mut ProviderOf<P>,
+    spans: &mut OpenSpans,
+    span: String,
+    moment: Moment,
+) -> Result<Answer, AllocError>
     ensures ok { IfOk result (λ answer. (given : Option (Option ℕ)) × (answer ≡ end_answer given) × EndsNamed P.told spans.old (string_bytes span) provider.old moment.0 (named spans.old (string_bytes span)) given spans.new provider.new) }
     ensures err { OnErr result (SameSpans spans.old spans.new × (provider.new ≡ provider.old)) }
 {

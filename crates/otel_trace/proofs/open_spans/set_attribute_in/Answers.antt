@@ -10,13 +10,13 @@ returns-clause-ok c =
     let put = puts_span c.args.spans.now (c.get_mut.follows.lender c.set_attribute.new.self) c.args.name.now c.set_attribute.new.self ((c.get_mut.follows.holds c.set_attribute.new.self).3 (search rules)) in
     let P : PlainSpan → Type 0 = λ v. PutsSpan (by_name c.args.spans.now.entries) c.args.name.now v (by_name (c.get_mut.follows.lender c.set_attribute.new.self).entries) in
     subst (λ (o : Option PlainSpan). EditsNamed (by_name c.args.spans.now.entries) c.args.name.now (set_attribute c.args.attribute) o (Some c.is_recording-is_recording.result) (by_name (c.get_mut.follows.lender c.set_attribute.new.self).entries)) (sym there)
-      (ap (λ (b : Bool). Some b) c.is_recording-is_recording.ensures, subst P c.in_ok-set_attribute.ensures.ok put)
+    (ap (λ (b : Bool). Some b) c.is_recording-is_recording.ensures, subst P c.in_ok-set_attribute.ensures.ok put)
 
 pub returns-in_default-clause-ok : goal.returns-in_default-clause-ok
 returns-in_default-clause-ok c =
     let absent : named (by_name c.args.spans.now.entries) c.args.name.now ≡ None = named-get c.args.spans.now c.args.name.now ∙ sym c.in_default.ensures.value in
     subst (λ (o : Option PlainSpan). EditsNamed (by_name c.args.spans.now.entries) c.args.name.now (set_attribute c.args.attribute) o None (by_name c.get_mut.follows.lender-at-none.entries)) (sym absent)
-      (refl, same_entries c.args.spans.now.entries c.get_mut.follows.lender-at-none.entries (ap (λ m. m.entries) c.get_mut.follows.holds-at-none))
+    (refl, same_entries c.args.spans.now.entries c.get_mut.follows.lender-at-none.entries (ap (λ m. m.entries) c.get_mut.follows.holds-at-none))
 
 pub returns-in_err-set_attribute-clause-err : goal.returns-in_err-set_attribute-clause-err
 returns-in_err-set_attribute-clause-err c =

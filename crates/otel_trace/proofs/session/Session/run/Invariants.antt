@@ -7,7 +7,7 @@ use Rattle.otel_trace.proofs.session.Session.run.Given as goal
 
 abbrev pub invariant-loop-command : goal.invariant-loop-command
 invariant-loop-command g l = (done : List Command) × (replies : List PlainReply) × (l.fn.commands.items ≡ done ++ l.queue.items) × (l.replies.items ≡ l.fn.replies.items ++ replies)
-  × CarriesOut g.P.SpanProcessor.told l.fn.self done replies l.self
+    × CarriesOut g.P.SpanProcessor.told l.fn.self done replies l.self
 
 abbrev pub decreases-loop-command : goal.decreases-loop-command
 decreases-loop-command g l = deque_len l.queue
