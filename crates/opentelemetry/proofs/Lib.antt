@@ -1,4 +1,6 @@
+pub mod Blanks
 pub mod Clones
 pub mod HexRead
 pub mod HexText
 pub mod Joins
+pub mod Pieces

@@ -3,9 +3,26 @@
 
 ghost use Rattle.std.specs.Prelude.{◌≡◌, [], map, string_bytes};
 
-use std::alloc::AllocError;
+mod grammar;
+
+use std::alloc::{AllocError, Global};
 use std::marker::Model;
 use std::sync::Arc;
+use thiserror::Error;
+
+/// Why a trace state was not made. A bad form is named before want of memory; of several bad members the first is
+/// named, and of a bad pair the key.
+#[derive(Clone, Copy, Debug, PartialEq, Eq, Error)]
+pub enum TraceStateError {
+    #[error("a key of a trace state has 1 to 256 bytes of a-z, 0-9, `_`, `-`, `*`, `/` and `@`, first a letter or a digit")]
+    Key,
+    #[error("a value of a trace state has at most 256 printable bytes without comma and equals sign, the last no space")]
+    Value,
+    #[error("a member of a trace state is a key, an equals sign and a value")]
+    List,
+    #[error("no memory for a trace state")]
+    Memory,
+}
 
 /// A list of pairs, the newest first.
 #[derive(Debug, Drop)]
