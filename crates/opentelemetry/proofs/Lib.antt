@@ -4,3 +4,5 @@ pub mod HexRead
 pub mod HexText
 pub mod Joins
 pub mod Pieces
+pub mod PairLists
+pub mod Tracestates

@@ -1,10 +1,12 @@
 -- Walking over the pieces of a text between commas.
-use Rattle.std.proofs.Common.{◌≡◌, ℕ, ◌+◌, ◌<◌, eqb, List, [], ◌∷◌, ◌++◌, length, map, Option, Some, None, refl, sym, ap, ◌∙◌, arith}
+use Rattle.std.proofs.Common.{◌≡◌, ℕ, ◌+◌, eqb, List, [], ◌∷◌, ◌++◌, length, map, Option, Some, None, refl, ap, ◌∙◌}
 use Rattle.std.specs.Option.{MatchOption}
 use Rattle.std.specs.Str.{IsUtf8}
 use Rattle.std.specs.List.{filter, slice_split}
+use Rattle.std.proofs.lemmas.List.Elements.{filter-append}
+use Rattle.opentelemetry.specs.declared.trace.trace_state.TraceStateError.{TraceStateError}
 use denote.Ref.{Bor}
-use Rattle.opentelemetry.specs.Tracestate.{trimmed, is_some_text, pieces_left, members_left, first_fault, first_of_two, piece_fault, member_fault}
+use Rattle.opentelemetry.specs.Tracestate.{trimmed, is_some_text, pieces_left, members_left, first_fault, first_of_two, piece_fault}
 
 -- how much of a text is left
 abbrev pub rest_len : Option (Bor (List ℕ)) → ℕ
@@ -27,3 +29,13 @@ fault_of_pieces piece others = by (trimmed piece)
 pub fault_of_cut : (text piece : List ℕ) (behind : Option (Bor (List ℕ))) → slice_split (λ b. eqb b 44) text ≡ piece ∷ pieces_left behind
     → first_fault (filter is_some_text (map trimmed (slice_split (λ b. eqb b 44) text))) ≡ first_of_two (piece_fault (trimmed piece)) (first_fault (members_left behind))
 fault_of_cut text piece behind cut = ap (λ l. first_fault (filter is_some_text (map trimmed l))) cut ∙ fault_of_pieces piece (map trimmed (pieces_left behind))
+
+-- the members of a text that was cut at its first comma
+pub cut_members : (text piece : List ℕ) (behind : Option (Bor (List ℕ))) → slice_split (λ b. eqb b 44) text ≡ piece ∷ pieces_left behind
+    → filter is_some_text (map trimmed (slice_split (λ b. eqb b 44) text)) ≡ filter is_some_text (trimmed piece ∷ []) ++ members_left behind
+cut_members text piece behind cut = ap (λ l. filter is_some_text (map trimmed l)) cut ∙ filter-append is_some_text (trimmed piece ∷ []) (map trimmed (pieces_left behind))
+
+-- where neither has a fault, both have none
+pub none_of_two : (a b : Option TraceStateError) → first_of_two a b ≡ None → (a ≡ None) × (b ≡ None)
+none_of_two None b h = (refl, h)
+none_of_two (Some fault) b h = absurd cc

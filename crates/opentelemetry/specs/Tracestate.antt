@@ -1,6 +1,6 @@
 -- The text form of a trace state (W3C Trace Context, section 3.3): members `key=value` between commas. This reading is
 -- lenient: keys of every vendor form are one form, any number of members is taken, and a key may stand twice.
-use Rattle.std.specs.Prelude.{◌≡◌, ℕ, ◌-◌, ◌≤◌, Bool, true, false, not, ◌&&◌, ◌||◌, List, [], ◌∷◌, ◌++◌, Option, Some, None, map, length, reverse, slice_index, nat_le, ◌==◌, IsTrue, if◌then◌else◌}
+use Rattle.std.specs.Prelude.{◌≡◌, ℕ, ◌-◌, Bool, true, false, not, ◌&&◌, ◌||◌, List, [], ◌∷◌, ◌++◌, Option, Some, None, map, length, reverse, slice_index, nat_le, ◌==◌, IsTrue, if◌then◌else◌}
 use Rattle.std.specs.List.{AllZip, before_first, after_first, position_or_len, filter, join_with_byte, list_all, slice_split}
 use Rattle.opentelemetry.specs.declared.trace.trace_state.TraceStateError.{TraceStateError}
 use Rattle.opentelemetry.specs.declared.trace.trace_state.TraceStateError.TheVariants as faults
