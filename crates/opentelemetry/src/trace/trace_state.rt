@@ -198,3 +198,93 @@ impl Eq for TraceState {
 
     ghost laws = { equivalence_from_decides same_pairs same_pairs_decides };
 }
+
+#[cfg(test)]
+mod tests {
+    use super::{TraceState, TraceStateError};
+    use std::alloc::Global;
+    use std::test::Fail;
+
+    fn text(alloc: Global, text: &str) -> Result<String, Fail> {
+        Ok(String::from_str(alloc, text)?)
+    }
+
+    #[test]
+    fn reads_texts(rt: HostRuntime) -> Result<(), Fail> {
+        let cases = [
+            (
+                "empty members are left out",
+                "foo=bar,, a=b ",
+                "foo=bar,a=b",
+            ),
+            ("tabs around members", "\ta=1\t,\t b=2", "a=1,b=2"),
+            ("the empty text", "", ""),
+            ("an empty value", "a=", "a="),
+            ("every kind of a key's byte", "0a_-*/@=~ !", "0a_-*/@=~ !"),
+            ("a key twice", "a=1,b=2,a=3", "a=1,b=2,a=3"),
+        ];
+        for (case, given, header) in cases {
+            let state = TraceState::from_str(rt.alloc(), given)?;
+            assert_eq!(rt; state.header(rt.alloc())?.as_str(), header, "{case}");
+            assert!(rt; state.clone()? == state, "{case}");
+        }
+        Ok(())
+    }
+
+    #[test]
+    fn names_the_first_bad_member(rt: HostRuntime) -> Result<(), Fail> {
+        let cases = [
+            ("no equals sign", "foo", TraceStateError::List),
+            ("an upper-case key", "A=b", TraceStateError::Key),
+            ("an empty key", "=b", TraceStateError::Key),
+            (
+                "an equals sign in the value",
+                "foo=a=b",
+                TraceStateError::Value,
+            ),
+            (
+                "a bad key before a missing equals sign",
+                "a=b,C=d,foo",
+                TraceStateError::Key,
+            ),
+            ("a bad key and a bad value", "A=a=b", TraceStateError::Key),
+        ];
+        for (case, given, fault) in cases {
+            assert_eq!(rt;
+                TraceState::from_str(rt.alloc(), given).err(),
+                Some(fault),
+                "{case}"
+            );
+        }
+        Ok(())
+    }
+
+    #[test]
+    fn takes_pairs(rt: HostRuntime) -> Result<(), Fail> {
+        let good = vec![in rt.alloc(); (text(rt.alloc(), "a")?, text(rt.alloc(), "b c")?)]?;
+        let state = TraceState::from_key_value(rt.alloc(), good)?;
+        assert_eq!(rt; state.header(rt.alloc())?.as_str(), "a=b c");
+        let bad = vec![in rt.alloc(); (text(rt.alloc(), "a")?, text(rt.alloc(), "b ")?)]?;
+        assert_eq!(rt;
+            TraceState::from_key_value(rt.alloc(), bad).err(),
+            Some(TraceStateError::Value)
+        );
+        Ok(())
+    }
+
+    #[test]
+    fn finds_inserts_and_deletes(rt: HostRuntime) -> Result<(), Fail> {
+        let state = TraceState::from_str(rt.alloc(), "a=1,b=2,a=3")?;
+        assert_eq!(rt; state.get("a"), Some("1"));
+        assert_eq!(rt; state.get("c"), None);
+        let inserted = state.insert(rt.alloc(), text(rt.alloc(), "a")?, text(rt.alloc(), "4")?)?;
+        assert_eq!(rt; inserted.header(rt.alloc())?.as_str(), "a=4,b=2");
+        let deleted = state.delete(rt.alloc(), "b")?;
+        assert_eq!(rt; deleted.header(rt.alloc())?.as_str(), "a=1,a=3");
+        assert_eq!(rt;
+            state.delete(rt.alloc(), "B").err(),
+            Some(TraceStateError::Key)
+        );
+        Ok(())
+    }
+}
