@@ -6,3 +6,4 @@ pub mod Joins
 pub mod Pieces
 pub mod PairLists
 pub mod Tracestates
+pub mod StatusLaws
