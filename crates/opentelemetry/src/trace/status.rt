@@ -139,6 +139,7 @@ mod tests {
             Status::Ok,
         ];
         for (i, lower) in rising.iter().enumerate() {
+            assert!(rt; lower.clone()? == *lower);
             for (j, upper) in rising.iter().enumerate() {
                 assert_eq!(rt; lower < upper, i < j);
                 assert_eq!(rt; lower == upper, i == j);
