@@ -1,4 +1,9 @@
+pub mod Blanks
 pub mod Clones
 pub mod HexRead
 pub mod HexText
 pub mod Joins
+pub mod Pieces
+pub mod PairLists
+pub mod Tracestates
+pub mod StatusLaws

@@ -4,3 +4,4 @@ pub mod Plain
 pub mod PlainValues
 pub mod Same
 pub mod ValueText
+pub mod Tracestate

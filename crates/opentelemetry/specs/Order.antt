@@ -1,7 +1,7 @@
 -- The orders of the values, which agree with their equality.
-use Rattle.std.specs.Prelude.{◌≡◌, ℕ, List, [], refl}
+use Rattle.std.specs.Prelude.{◌≡◌, ℕ, List, [], ◌∷◌, refl, if◌then◌else◌}
 use Rattle.std.specs.declared.cmp.Ordering.{Ordering}
-use Rattle.std.specs.Ordering.{nat_cmp, on, then_cmp, is_eq}
+use Rattle.std.specs.Ordering.{nat_cmp, on, then_cmp, is_eq, is_lt}
 use Rattle.std.specs.Cmp.{IsTotalOrder}
 use Rattle.std.specs.Cmp.Lexicographic.{slice_cmp, texts_ties}
 use Rattle.std.proofs.lemmas.Cmp.{then_total, on_total, nat_cmp_total, nat_list_cmp_total}
@@ -38,3 +38,12 @@ status_ties (error a) ok = refl
 status_ties ok unset = refl
 status_ties ok (error b) = refl
 status_ties ok ok = refl
+
+-- the greater of two statuses
+abbrev pub greater_status : PlainStatus → PlainStatus → PlainStatus
+greater_status a b = if is_lt (status_cmp a b) then b else a
+
+-- the greatest of a first status and others
+abbrev pub greatest_status : PlainStatus → List PlainStatus → PlainStatus
+greatest_status first [] = first
+greatest_status first (status ∷ more) = greatest_status (greater_status first status) more

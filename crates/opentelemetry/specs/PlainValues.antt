@@ -29,6 +29,10 @@ plain_status statuses.Unset = unset
 plain_status (statuses.Error description) = error (string_bytes description)
 plain_status statuses.Ok = ok
 
+-- a pair of texts without where they lie
+abbrev pub plain_pair : {A B : Type 0} → String A × String B → List ℕ × List ℕ
+plain_pair pair = (string_bytes pair.0, string_bytes pair.1)
+
 -- the pairs that are shared; none where nothing is
 abbrev pub shared_pairs : {A B C D : Type 0} → Option (Arc (Vec (String A × String B) C) D) → List (List ℕ × List ℕ)
 shared_pairs None = []

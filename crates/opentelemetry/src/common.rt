@@ -4,6 +4,8 @@
 ghost use Rattle.std.specs.Prelude.{◌≡◌, ◌↔◌, None, [], string_bytes, IfOk, IsTrue};
 ghost use Rattle.opentelemetry.specs.PlainValues.{plain_value};
 
+#[cfg(test)]
+mod attribute_tests;
 mod display;
 
 use std::alloc::{AllocError, Global};

@@ -4,6 +4,7 @@
 
 pub mod common;
 pub mod context;
+pub mod laws;
 pub mod time;
 pub mod trace;
 pub mod trace_context;
@@ -11,4 +12,4 @@ pub mod trace_context;
 pub use common::{Array, InstrumentationScope, InstrumentationScopeBuilder, Key, KeyValue, Value};
 pub use context::Context;
 pub use time::Moment;
-pub use trace_context::{SpanId, TraceFlags, TraceId};
+pub use trace_context::{ParseIdError, SpanId, TraceFlags, TraceId};

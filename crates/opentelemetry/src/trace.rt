@@ -12,4 +12,4 @@ pub use link::Link;
 pub use span_context::SpanContext;
 pub use span_kind::SpanKind;
 pub use status::Status;
-pub use trace_state::TraceState;
+pub use trace_state::{TraceState, TraceStateError};

@@ -1,11 +1,44 @@
 //! The vendor data that travels with a span context (W3C Trace Context, section 3.3): pairs of a key and a value, in
 //! order. Clones share one copy.
 
-ghost use Rattle.std.specs.Prelude.{◌≡◌, [], map, string_bytes};
+ghost use Rattle.std.specs.Prelude.{◌≡◌, ℕ, List, [], ◌∷◌, map, string_bytes, option_map, MatchOption, MatchResult, IfOk, IfErr, IsOk, IsTrue, Err, if◌then◌else◌};
+ghost use Rattle.opentelemetry.specs.PlainValues.{plain_pair};
+ghost use Rattle.opentelemetry.specs.Tracestate.{IsTracestate, first_fault, first_pair_fault, is_key, members, pair_fault, tracestate_text, value_of_key, without_key};
 
-use std::alloc::AllocError;
+mod grammar;
+mod pairs;
+
+use grammar::{is_key, pair_fault, text_fault};
+use pairs::{first_pair_fault, header, read_members, value_of_key, without_key};
+use std::alloc::{AllocError, Global};
 use std::marker::Model;
 use std::sync::Arc;
+use thiserror::Error;
+
+/// Why a trace state was not made. A bad form is named before want of memory; of several bad members the first is
+/// named, and of a bad pair the key.
+#[derive(Clone, Copy, Debug, PartialEq, Eq, Error)]
+pub enum TraceStateError {
+    #[error("a key of a trace state has 1 to 256 bytes of a-z, 0-9, `_`, `-`, `*`, `/` and `@`, first a letter or a digit")]
+    Key,
+    #[error("a value of a trace state has at most 256 printable bytes without comma and equals sign, the last no space")]
+    Value,
+    #[error("a member of a trace state is a key, an equals sign and a value")]
+    List,
+    #[error("no memory for a trace state")]
+    Memory,
+}
+
+impl From<AllocError> for TraceStateError {
+    ghost use Rattle.std.specs.Prelude.{◌≡◌};
+    ghost use Rattle.opentelemetry.specs.declared.trace.trace_state.TraceStateError.TheVariants as faults;
+
+    ghost from_gives = { λ _ error. error ≡ faults.Memory };
+
+    fn from(_error: AllocError) -> TraceStateError {
+        TraceStateError::Memory
+    }
+}
 
 /// A list of pairs, the newest first.
 #[derive(Debug, Drop)]
@@ -30,6 +63,85 @@ impl TraceState {
         TraceState { pairs: None }
     }
 
+    /// Reads the text of a header. Spaces and tabs around a member are left out, and so are empty members; a key may
+    /// stand twice. A text with a bad member is refused for the first one, whether memory is there or not.
+    pub fn from_str(alloc: Global, text: &str) -> Result<TraceState, TraceStateError>
+        ensures value { IfOk result (λ state. IsTracestate text.now state) }
+        ensures only { (pairs : List (List ℕ × List ℕ)) → IsTracestate text.now pairs → MatchResult result (λ state. state ≡ pairs) (λ fault. fault ≡ TraceStateError.Memory) }
+        ensures fault { MatchOption (first_fault (members text.now)) (IfErr result (λ fault. fault ≡ TraceStateError.Memory)) (λ fault. result ≡ Err fault) }
+    {
+        if let Some(fault) = text_fault(text) {
+            return Err(fault);
+        }
+        let pairs = read_members(alloc, text)?;
+        Ok(shared(alloc, pairs)?)
+    }
+
+    /// Takes pairs as they come; a key may stand twice. The first bad pair is named, its key before its value.
+    pub fn from_key_value(
+        alloc: Global,
+        pairs: Vec<(String, String)>,
+    ) -> Result<TraceState, TraceStateError>
+        ensures value { IfOk result (λ state. state ≡ map plain_pair pairs.items) }
+        ensures fault { MatchOption (first_pair_fault (map plain_pair pairs.items)) (IfErr result (λ fault. fault ≡ TraceStateError.Memory)) (λ fault. result ≡ Err fault) }
+    {
+        if let Some(fault) = first_pair_fault(pairs.as_slice()) {
+            return Err(fault);
+        }
+        Ok(shared(alloc, pairs)?)
+    }
+
+    /// The first value of a key.
+    pub fn get(&self, key: &str) -> Option<&str>
+        ensures { option_map (λ value. value.now) result ≡ value_of_key key.now self.now }
+    {
+        value_of_key(self.entries(), key)
+    }
+
+    /// A copy without the pairs of the key, and with the new pair in front.
+    pub fn insert(
+        &self,
+        alloc: Global,
+        key: String,
+        value: String,
+    ) -> Result<TraceState, TraceStateError>
+        ensures value { IfOk result (λ state. state ≡ (string_bytes key, string_bytes value) ∷ without_key (string_bytes key) self.now) }
+        ensures fault { MatchOption (pair_fault (string_bytes key, string_bytes value)) (IfErr result (λ fault. fault ≡ TraceStateError.Memory)) (λ fault. result ≡ Err fault) }
+    {
+        if let Some(fault) = pair_fault(key.as_str(), value.as_str()) {
+            return Err(fault);
+        }
+        Ok(self.with_pair(alloc, key, value)?)
+    }
+
+    /// A copy without the pairs of the key, which has to be a key.
+    pub fn delete(&self, alloc: Global, key: &str) -> Result<TraceState, TraceStateError>
+        ensures value { IfOk result (λ state. state ≡ without_key key.now self.now) }
+        ensures fault { IfErr result (λ fault. fault ≡ (if is_key key.now then TraceStateError.Memory else TraceStateError.Key)) }
+        ensures key { IsOk result → IsTrue (is_key key.now) }
+    {
+        if !is_key(key) {
+            return Err(TraceStateError::Key);
+        }
+        let pairs = without_key(alloc, self.entries(), key)?;
+        Ok(shared(alloc, pairs)?)
+    }
+
+    /// The text of the header: the members `key=value`, joined by commas.
+    pub fn header(&self, alloc: Global) -> Result<String, AllocError>
+        ensures { IfOk result (λ text. string_bytes text ≡ tracestate_text self.now) }
+    {
+        header(alloc, self.entries())
+    }
+
+    fn with_pair(&self, alloc: Global, key: String, value: String) -> Result<TraceState, AllocError>
+        ensures { IfOk result (λ state. state ≡ (string_bytes key, string_bytes value) ∷ without_key (string_bytes key) self.now) }
+    {
+        let mut pairs = without_key(alloc, self.entries(), key.as_str())?;
+        pairs.insert(0, (key, value))?;
+        shared(alloc, pairs)
+    }
+
     // The pairs, where they lie.
     fn entries(&self) -> &[(String, String)]
         ensures { map (λ p. (string_bytes p.0, string_bytes p.1)) result.now ≡ self.now }
@@ -39,6 +151,18 @@ impl TraceState {
             None => &[],
         }
     }
+}
+
+// A trace state whose clones will share these pairs.
+fn shared(alloc: Global, pairs: Vec<(String, String)>) -> Result<TraceState, AllocError>
+    ensures { IfOk result (λ state. state ≡ map plain_pair pairs.items) }
+{
+    if pairs.is_empty() {
+        return Ok(TraceState::new());
+    }
+    Ok(TraceState {
+        pairs: Some(Arc::new(alloc, pairs)?),
+    })
 }
 
 impl Clone for TraceState {
@@ -73,4 +197,94 @@ impl Eq for TraceState {
     ghost use Rattle.opentelemetry.specs.Same.{same_pairs, same_pairs_decides, equivalence_from_decides};
 
     ghost laws = { equivalence_from_decides same_pairs same_pairs_decides };
+}
+
+#[cfg(test)]
+mod tests {
+    use super::{TraceState, TraceStateError};
+    use std::alloc::Global;
+    use std::test::Fail;
+
+    fn text(alloc: Global, text: &str) -> Result<String, Fail> {
+        Ok(String::from_str(alloc, text)?)
+    }
+
+    #[test]
+    fn reads_texts(rt: HostRuntime) -> Result<(), Fail> {
+        let cases = [
+            (
+                "empty members are left out",
+                "foo=bar,, a=b ",
+                "foo=bar,a=b",
+            ),
+            ("tabs around members", "\ta=1\t,\t b=2", "a=1,b=2"),
+            ("the empty text", "", ""),
+            ("an empty value", "a=", "a="),
+            ("every kind of a key's byte", "0a_-*/@=~ !", "0a_-*/@=~ !"),
+            ("a key twice", "a=1,b=2,a=3", "a=1,b=2,a=3"),
+        ];
+        for (case, given, header) in cases {
+            let state = TraceState::from_str(rt.alloc(), given)?;
+            assert_eq!(rt; state.header(rt.alloc())?.as_str(), header, "{case}");
+            assert!(rt; state.clone()? == state, "{case}");
+        }
+        Ok(())
+    }
+
+    #[test]
+    fn names_the_first_bad_member(rt: HostRuntime) -> Result<(), Fail> {
+        let cases = [
+            ("no equals sign", "foo", TraceStateError::List),
+            ("an upper-case key", "A=b", TraceStateError::Key),
+            ("an empty key", "=b", TraceStateError::Key),
+            (
+                "an equals sign in the value",
+                "foo=a=b",
+                TraceStateError::Value,
+            ),
+            (
+                "a bad key before a missing equals sign",
+                "a=b,C=d,foo",
+                TraceStateError::Key,
+            ),
+            ("a bad key and a bad value", "A=a=b", TraceStateError::Key),
+        ];
+        for (case, given, fault) in cases {
+            assert_eq!(rt;
+                TraceState::from_str(rt.alloc(), given).err(),
+                Some(fault),
+                "{case}"
+            );
+        }
+        Ok(())
+    }
+
+    #[test]
+    fn takes_pairs(rt: HostRuntime) -> Result<(), Fail> {
+        let good = vec![in rt.alloc(); (text(rt.alloc(), "a")?, text(rt.alloc(), "b c")?)]?;
+        let state = TraceState::from_key_value(rt.alloc(), good)?;
+        assert_eq!(rt; state.header(rt.alloc())?.as_str(), "a=b c");
+        let bad = vec![in rt.alloc(); (text(rt.alloc(), "a")?, text(rt.alloc(), "b ")?)]?;
+        assert_eq!(rt;
+            TraceState::from_key_value(rt.alloc(), bad).err(),
+            Some(TraceStateError::Value)
+        );
+        Ok(())
+    }
+
+    #[test]
+    fn finds_inserts_and_deletes(rt: HostRuntime) -> Result<(), Fail> {
+        let state = TraceState::from_str(rt.alloc(), "a=1,b=2,a=3")?;
+        assert_eq!(rt; state.get("a"), Some("1"));
+        assert_eq!(rt; state.get("c"), None);
+        let inserted = state.insert(rt.alloc(), text(rt.alloc(), "a")?, text(rt.alloc(), "4")?)?;
+        assert_eq!(rt; inserted.header(rt.alloc())?.as_str(), "a=4,b=2");
+        let deleted = state.delete(rt.alloc(), "b")?;
+        assert_eq!(rt; deleted.header(rt.alloc())?.as_str(), "a=1,a=3");
+        assert_eq!(rt;
+            state.delete(rt.alloc(), "B").err(),
+            Some(TraceStateError::Key)
+        );
+        Ok(())
+    }
 }

@@ -1,4 +1,4 @@
-use Rattle.std.proofs.Common.{ap, sym, ◌∙◌, map, string_bytes, rules, List, ℕ, ◌≡◌}
+use Rattle.std.proofs.Common.{ap, sym, ◌∙◌, map, string_bytes}
 use Rattle.std.proofs.Output.{has_written_of_eq}
 use Rattle.std.proofs.lemmas.Simd.{map-map}
 use Rattle.opentelemetry.specs.PlainValues.{plain_array}

@@ -1,9 +1,8 @@
-use Rattle.std.proofs.Common.{rules, ◌∷◌, ◌++◌, [], List, ℕ, map, take, length, ◌≤◌, ap, ◌∙◌, arith}
+use Rattle.std.proofs.Common.{rules, ◌∷◌, ◌++◌, [], map, ap}
 use Rattle.std.proofs.Output.{has_written_append, has_written_of_eq}
 use Rattle.std.proofs.lemmas.List.{take_all}
-use Rattle.std.specs.Fmt.{HasWritten}
 use Rattle.std.specs.List.{join_with_byte}
-use Rattle.opentelemetry.proofs.Joins.{join_more, joined_text}
+use Rattle.opentelemetry.proofs.Joins.{join_more}
 use Rattle.opentelemetry.proofs.common.display.write_list.Goals as goal
 
 pub returns : goal.returns

@@ -1,4 +1,4 @@
-use Rattle.std.proofs.Common.{ℕ, ◌∷◌, map, take, List}
+use Rattle.std.proofs.Common.{◌∷◌, map, take}
 use Rattle.std.specs.Fmt.{HasWritten, IsPlainFormatter}
 use Rattle.std.specs.List.{join_with_byte}
 use Rattle.opentelemetry.proofs.common.display.write_list.Given as goal

@@ -1,0 +1,24 @@
+-- Walking over a list of pairs.
+use Rattle.std.proofs.Common.{◌≡◌, ℕ, ◌+◌, ◌<◌, cond, List, [], ◌∷◌, ◌++◌, length, take, drop, get_or, map, Some, sym, ap, ◌∙◌}
+use Rattle.std.proofs.lemmas.List.{take_more, drop_more, map-append}
+use Rattle.std.proofs.lemmas.List.Elements.{filter-append}
+use Rattle.opentelemetry.specs.Same.{same_text}
+use Rattle.opentelemetry.specs.Tracestate.{first_of_two, first_pair_fault, pair_fault, value_of_key, without_key}
+
+module _ {X : Type 0} (t : X → List ℕ × List ℕ) (xs : List X) (i : ℕ) (x : X) (inside : i < length xs) (is : x ≡ get_or xs i x) where
+  next_is : drop i xs ≡ x ∷ drop (i + 1) xs
+  next_is = drop_more xs i x inside ∙ ap (λ y. y ∷ drop (i + 1) xs) (sym is)
+
+  -- the fault of what is left is that of the next pair, or else of the others
+  pub fault_step : first_pair_fault (map t (drop i xs)) ≡ first_of_two (pair_fault (t x)) (first_pair_fault (map t (drop (i + 1) xs)))
+  fault_step = ap (λ l. first_pair_fault (map t l)) next_is
+
+  -- the value in what is left is that of the next pair, or else of the others
+  pub value_step : (key : List ℕ) → value_of_key key (map t (drop i xs)) ≡ cond (same_text (t x).0 key) (Some (t x).1) (value_of_key key (map t (drop (i + 1) xs)))
+  value_step key = ap (λ l. value_of_key key (map t l)) next_is
+
+  -- the next pair comes behind those that stayed, unless it has the key
+  pub without_step : (key : List ℕ) → without_key key (map t (take i xs)) ++ without_key key (t x ∷ []) ≡ without_key key (map t (take (i + 1) xs))
+  without_step key =
+      sym (ap (λ l. without_key key (map t l)) (take_more xs i x inside ∙ ap (λ y. take i xs ++ y ∷ []) (sym is))
+      ∙ ap (λ l. without_key key l) (map-append t (take i xs) (x ∷ [])) ∙ filter-append _ (map t (take i xs)) (t x ∷ []))
