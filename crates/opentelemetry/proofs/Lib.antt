@@ -1,1 +1,3 @@
 pub mod Clones
+pub mod HexRead
+pub mod HexText

@@ -1,7 +1,7 @@
 //! The vendor data that travels with a span context (W3C Trace Context, section 3.3): pairs of a key and a value, in
 //! order. Clones share one copy.
 
-ghost use Rattle.std.specs.Prelude.{◌≡◌, []};
+ghost use Rattle.std.specs.Prelude.{◌≡◌, [], map, string_bytes};
 
 use std::alloc::AllocError;
 use std::marker::Model;
@@ -29,6 +29,16 @@ impl TraceState {
     {
         TraceState { pairs: None }
     }
+
+    // The pairs, where they lie.
+    fn entries(&self) -> &[(String, String)]
+        ensures { map (λ p. (string_bytes p.0, string_bytes p.1)) result.now ≡ self.now }
+    {
+        match &self.pairs {
+            Some(pairs) => pairs.as_slice(),
+            None => &[],
+        }
+    }
 }
 
 impl Clone for TraceState {
@@ -41,4 +51,26 @@ impl Clone for TraceState {
             pairs: self.pairs.clone()?,
         })
     }
+}
+
+impl PartialEq for TraceState {
+    ghost use Rattle.std.specs.Prelude.{◌≡◌, ◌↔◌, IsTrue};
+    ghost use Rattle.opentelemetry.specs.Same.{same_pairs, same_pairs_decides, partial_equivalence_from_decides};
+
+    ghost eq = { same_pairs };
+
+    ghost laws = { partial_equivalence_from_decides same_pairs same_pairs_decides };
+
+    fn eq(&self, other: &TraceState) -> bool
+        ensures value { result ≡ same_pairs self.now other.now }
+        ensures same { IsTrue result ↔ (self.now ≡ other.now) }
+    {
+        self.entries() == other.entries()
+    }
+}
+
+impl Eq for TraceState {
+    ghost use Rattle.opentelemetry.specs.Same.{same_pairs, same_pairs_decides, equivalence_from_decides};
+
+    ghost laws = { equivalence_from_decides same_pairs same_pairs_decides };
 }
