@@ -1,2 +1,3 @@
 pub mod ErrorText
 pub mod Ids
+pub mod Resource
