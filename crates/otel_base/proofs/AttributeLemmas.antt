@@ -8,7 +8,7 @@ use Rattle.std.specs.Borrow.{Bor}
 use Rattle.std.specs.Option.{option_map, option_or, option_copied}
 use Rattle.std.specs.Cmp.{IsTotalOrder, eq_by_cmp_equiv}
 use Rattle.std.specs.Cmp.Lexicographic.{slice_cmp, nat_list_cmp_total}
-use Rattle.std.specs.List.{AllByRecursion}
+use Rattle.std.specs.List.{AllByRecursion, AllZip}
 use Rattle.std.specs.List.Sorted.{IsStrictlySortedBy}
 use Rattle.std.specs.Map.{lookup, keys_of}
 use Rattle.std.specs.FinMap as fin
@@ -19,7 +19,7 @@ use Rattle.std.specs.BTreeMap.{BTreeMap, is_at}
 use Rattle.opentelemetry.specs.Plain.{PlainValue, PlainKeyValue}
 use Rattle.opentelemetry.specs.PlainValues.{plain_value}
 use Rattle.opentelemetry.specs.declared.common.Value.{Value}
-use Rattle.otel_base.specs.Resource.{Attributes, PlainResource, union, attributes_of, all_attributes, by_key}
+use Rattle.otel_base.specs.Resource.{Attributes, PlainResource, union, merged_schema, merge, attributes_of, of_attributes, all_attributes, by_key}
 
 both_true : (a b : Bool) → T a → T b → T (a && b)
 both_true true b p q = q
@@ -199,3 +199,41 @@ nothing_in (x ∷ xs) h = absurd (omega arith)
 
 pub entries-empty : fin.entries (fin.empty {X = PlainValue} {R = key_cmp}) ≡ []
 entries-empty = nothing_in _ (sym (len-entries _) ∙ fin.len-empty key_cmp PlainValue)
+
+-- a loop that puts one pair after another into a map
+pub put_pair : (base m n : Attributes) (pairs : List PlainKeyValue) (a : PlainKeyValue) → n ≡ fin.insert m a.key a.value → m ≡ union base (attributes_of pairs)
+    → n ≡ union base (attributes_of (pairs ++ a ∷ []))
+put_pair base m n pairs a put so_far =
+    put ∙ ap (λ o. fin.insert o a.key a.value) so_far ∙ sym (union-insert base (attributes_of pairs) a.key a.value)
+    ∙ ap (union base) (sym (attributes_of-push pairs a))
+
+-- the same for the pairs of another map
+pub put_entry : (base m n : Attributes) (es : List (List ℕ × PlainValue)) (e : List ℕ × PlainValue) → n ≡ fin.insert m e.0 e.1 → m ≡ union base (last_wins es)
+    → n ≡ union base (last_wins (es ++ e ∷ []))
+put_entry base m n es e put so_far =
+    put ∙ ap (λ o. fin.insert o e.0 e.1) so_far ∙ sym (union-insert base (last_wins es) e.0 e.1) ∙ ap (union base) (sym (last_wins-push es e))
+
+plain_entries-clone : (es fs : List (List ℕ × Value)) → AllZip (λ p q. (q.0 ≡ p.0) × (plain_value q.1 ≡ plain_value p.1)) es fs → plain_entries fs ≡ plain_entries es
+unfolding plain_entries
+plain_entries-clone [] [] h = refl
+plain_entries-clone [] (f ∷ fs) h = absurd h
+plain_entries-clone (e ∷ es) [] h = absurd h
+plain_entries-clone (e ∷ es) (f ∷ fs) h = λ i. (h.0.0 i, h.0.1 i) ∷ plain_entries-clone es fs h.1 i
+
+-- copies of the keys and values make the same map
+pub by_key-clone : (m n : BTreeMap (List ℕ) Value) → AllZip (λ p q. (q.0 ≡ p.0) × (plain_value q.1 ≡ plain_value p.1)) m.entries n.entries → by_key n ≡ by_key m
+unfolding plain_entries
+by_key-clone m n h = ap (λ (es : List (List ℕ × PlainValue)). from_entries {R = key_cmp} es) (plain_entries-clone m.entries n.entries h)
+
+-- two resources with equal parts
+pub same_resource : (a b : Attributes) (s t : Option (List ℕ)) → a ≡ b → s ≡ t
+    → ◌≡◌ {A = PlainResource} (record { attributes = a; schema_url = s }) (record { attributes = b; schema_url = t })
+same_resource a b s t e f = λ i. record { attributes = e i; schema_url = f i }
+
+pub merged_schema-none : (s : Option (List ℕ)) → merged_schema s None ≡ s
+merged_schema-none None = refl
+merged_schema-none (Some t) = refl
+
+-- attributes merged over a schema alone
+pub under_schema : (a : Attributes) (s : Option (List ℕ)) → merge (record { attributes = fin.empty; schema_url = s }) (of_attributes a) ≡ record { attributes = a; schema_url = s }
+under_schema a s = same_resource _ _ _ _ (union-empty_left a) (merged_schema-none s)

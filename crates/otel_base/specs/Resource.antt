@@ -1,6 +1,6 @@
 -- Who produces telemetry, and how two descriptions become one (OpenTelemetry specification, "Resource SDK", "Merge").
 use Rattle.std.proofs.Common.{inl, inr, refl}
-use Rattle.std.specs.Prelude.{◌≡◌, ◌≢◌, ℕ, ℤ, Bool, ◌⊎◌, List, [], ◌∷◌, ◌++◌, map, reverse, Option, Some, None, if◌then◌else◌}
+use Rattle.std.specs.Prelude.{◌≡◌, ◌≢◌, ℕ, ℤ, Bool, ◌⊎◌, List, [], ◌∷◌, ◌++◌, map, reverse, Option, Some, None, if◌then◌else◌, codes}
 use Rattle.std.specs.Coded.{Coded, code_by, coded_ℕ, coded_ℤ, coded_bool, coded_list, coded_option, coded×, coded⊎}
 use Rattle.std.specs.Borrow.{Bor}
 use Rattle.std.specs.Ordering.{nat_cmp}
@@ -60,6 +60,10 @@ attributes_of pairs = from_entries (reverse (map (λ a. (a.key, a.value)) pairs)
 -- attributes that follow no known schema
 abbrev pub of_attributes : Attributes → PlainResource
 of_attributes given = record { attributes = given; schema_url = None }
+
+-- the key of the name of a service (OpenTelemetry semantic conventions, "Service")
+abbrev pub service_name_key : List ℕ
+service_name_key = codes "service.name"
 
 -- the attributes of several resources, of which a later one wins
 abbrev pub all_attributes : List PlainResource → Attributes

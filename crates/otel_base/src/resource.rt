@@ -2,7 +2,7 @@
 //! (OpenTelemetry specification, "Resource SDK"). A resource never changes; a builder merges descriptions into one.
 //! Where two of them have a key, the one merged last has the word.
 
-ghost use Rattle.std.specs.Prelude.{◌≡◌, ◌≢◌, ◌↔◌, ℕ, [], map, IfOk, IfSome, OnOk, OnErr, IsTrue, string_bytes};
+ghost use Rattle.std.specs.Prelude.{◌≡◌, ◌≢◌, ◌↔◌, ℕ, [], ◌∷◌, map, IfOk, IfSome, OnOk, OnErr, IsTrue, string_bytes};
 ghost use Rattle.std.specs.Option.{option_map};
 ghost use Rattle.std.specs.FinMap as fin;
 ghost use Rattle.otel_base.specs.Resource as meaning;
@@ -14,6 +14,8 @@ use std::alloc::{AllocError, Global};
 use std::collections::{BTreeMap, btree_map};
 use std::marker::Model;
 use std::sync::Arc;
+
+const SERVICE_NAME: &str = "service.name";
 
 /// What a resource says, which its clones share.
 #[derive(Debug, Drop)]
@@ -59,6 +61,16 @@ impl Resource {
         ensures { result ≡ meaning.empty_resource }
     {
         Resource { parts: None }
+    }
+
+    /// Begins with a resource that says nothing.
+    pub fn builder_empty(alloc: Global) -> ResourceBuilder
+        ensures { result ≡ meaning.empty_resource }
+    {
+        ResourceBuilder {
+            resource: Resource::empty(),
+            alloc,
+        }
     }
 
     /// The schema that the attributes follow, if one is known.
@@ -208,6 +220,224 @@ impl<'a> IntoIterator for &'a Resource {
     fn into_iter(self) -> Iter<'a> {
         self.iter()
     }
+}
+
+/// A resource in the making: descriptions are merged into it, one after another.
+#[derive(Debug, Drop)]
+pub struct ResourceBuilder {
+    resource: Resource,
+    alloc: Global,
+}
+
+impl Model for ResourceBuilder {
+    ghost use Rattle.otel_base.specs.Resource.{PlainResource, resource_code};
+
+    ghost Value = { PlainResource };
+
+    ghost coded = { resource_code };
+
+    ghost view = { λ builder. builder.resource };
+}
+
+impl ResourceBuilder {
+    /// Merges attributes over the builder's. Of a key that stands twice among them the last value counts.
+    pub fn with_attributes(self, attributes: Vec<KeyValue>) -> Result<ResourceBuilder, AllocError>
+        ensures { IfOk result (λ built. built ≡ meaning.merge self (meaning.of_attributes (meaning.attributes_of attributes.items))) }
+    {
+        let ResourceBuilder { resource, alloc } = self;
+        let parts = resource.into_parts(alloc)?.with_pairs(attributes)?;
+        ResourceBuilder::of_parts(alloc, parts)
+    }
+
+    /// Merges one attribute over the builder's.
+    pub fn with_attribute(self, attribute: KeyValue) -> Result<ResourceBuilder, AllocError>
+        ensures { IfOk result (λ built. built ≡ meaning.merge self (meaning.of_attributes (meaning.attributes_of (attribute ∷ [])))) }
+    {
+        let mut attributes = Vec::new(self.alloc);
+        attributes.push(attribute)?;
+        self.with_attributes(attributes)
+    }
+
+    /// Merges the attribute `service.name` over the builder's.
+    pub fn with_service_name(self, name: Value) -> Result<ResourceBuilder, AllocError>
+        ensures { IfOk result (λ built. built ≡ meaning.merge self (meaning.of_attributes (meaning.attributes_of (record { key = meaning.service_name_key; value = plain_value name } ∷ [])))) }
+    {
+        let key = Key::new(String::from_str(self.alloc, SERVICE_NAME)?);
+        self.with_attribute(KeyValue::new(key, name))
+    }
+
+    /// Merges the builder over these attributes and this schema. An empty schema text is none.
+    pub fn with_schema_url(
+        self,
+        attributes: Vec<KeyValue>,
+        schema_url: String,
+    ) -> Result<ResourceBuilder, AllocError>
+        ensures { IfOk result (λ built. built ≡ meaning.merge (record { attributes = meaning.attributes_of attributes.items; schema_url = meaning.schema_of (string_bytes schema_url) }) self) }
+    {
+        let ResourceBuilder { resource, alloc } = self;
+        let given = ResourceParts::of_schema(alloc, schema_url).with_pairs(attributes)?;
+        let parts = given.merge(alloc, &resource)?;
+        ResourceBuilder::of_parts(alloc, parts)
+    }
+
+    /// The resource.
+    pub fn build(self) -> Resource
+        ensures { result ≡ self }
+    {
+        self.resource
+    }
+
+    fn of_parts(alloc: Global, parts: ResourceParts) -> Result<ResourceBuilder, AllocError>
+        ensures { IfOk result (λ built. built ≡ parts) }
+    {
+        let resource = Resource {
+            parts: Some(Arc::new(alloc, parts)?),
+        };
+        Ok(ResourceBuilder { resource, alloc })
+    }
+}
+
+impl Resource {
+    // What it says, as a value of its own.
+    fn into_parts(self, alloc: Global) -> Result<ResourceParts, AllocError>
+        ensures { IfOk result (λ parts. parts ≡ self) }
+    {
+        match self.parts {
+            Some(shared) => Arc::unwrap_or_clone(shared),
+            None => Ok(ResourceParts {
+                attributes: BTreeMap::new(alloc),
+                schema_url: None,
+            }),
+        }
+    }
+}
+
+impl Clone for ResourceParts {
+    ghost use Rattle.std.specs.Prelude.{◌≡◌};
+
+    ghost is_clone = { λ parts copy. copy ≡ parts };
+
+    fn clone(&self) -> Result<ResourceParts, AllocError> {
+        Ok(ResourceParts {
+            attributes: self.attributes.clone()?,
+            schema_url: copy_of(&self.schema_url)?,
+        })
+    }
+}
+
+impl ResourceParts {
+    fn of_schema(alloc: Global, schema_url: String) -> ResourceParts
+        ensures { result ≡ record { attributes = fin.empty; schema_url = meaning.schema_of (string_bytes schema_url) } }
+    {
+        ResourceParts {
+            attributes: BTreeMap::new(alloc),
+            schema_url: known_schema(schema_url),
+        }
+    }
+
+    // Merges the pairs over these.
+    fn with_pairs(self, pairs: Vec<KeyValue>) -> Result<ResourceParts, AllocError>
+        ensures { IfOk result (λ parts. parts ≡ meaning.merge self (meaning.of_attributes (meaning.attributes_of pairs.items))) }
+    {
+        let ResourceParts {
+            attributes,
+            schema_url,
+        } = self;
+        let attributes = put_all(attributes, pairs)?;
+        Ok(ResourceParts {
+            attributes,
+            schema_url,
+        })
+    }
+
+    // Merges the attributes of a resource over these; its schema is lost.
+    fn with_attributes_of(self, resource: &Resource) -> Result<ResourceParts, AllocError>
+        ensures { IfOk result (λ parts. parts ≡ meaning.merge self (meaning.of_attributes resource.now.attributes)) }
+    {
+        let ResourceParts {
+            attributes,
+            schema_url,
+        } = self;
+        let attributes = put_copies(attributes, resource)?;
+        Ok(ResourceParts {
+            attributes,
+            schema_url,
+        })
+    }
+
+    // Merges the resource over these.
+    fn merge(self, alloc: Global, right: &Resource) -> Result<ResourceParts, AllocError>
+        ensures { IfOk result (λ parts. parts ≡ meaning.merge self right.now) }
+    {
+        let ResourceParts {
+            attributes,
+            schema_url,
+        } = self;
+        let attributes = put_copies(attributes, right)?;
+        let schema_url = merged_schema(alloc, schema_url, right.schema_url())?;
+        Ok(ResourceParts {
+            attributes,
+            schema_url,
+        })
+    }
+}
+
+fn copy_of(text: &Option<String>) -> Result<Option<String>, AllocError>
+    ensures { IfOk result (λ copy. option_map string_bytes copy ≡ option_map string_bytes text.now) }
+{
+    match text {
+        Some(text) => Ok(Some(text.clone()?)),
+        None => Ok(None),
+    }
+}
+
+fn known_schema(text: String) -> Option<String>
+    ensures { option_map string_bytes result ≡ meaning.schema_of (string_bytes text) }
+{
+    if text.is_empty() { None } else { Some(text) }
+}
+
+// One absent schema gives the other, equal ones stay, and different ones give none.
+fn merged_schema(
+    alloc: Global,
+    left: Option<String>,
+    right: Option<&str>,
+) -> Result<Option<String>, AllocError>
+    ensures { IfOk result (λ merged. option_map string_bytes merged ≡ meaning.merged_schema (option_map string_bytes left) (option_map (λ s. s.now) right.entry)) }
+{
+    let Some(right) = right else {
+        return Ok(left);
+    };
+    match left {
+        None => Ok(Some(String::from_str(alloc, right)?)),
+        Some(left) if left.as_str() == right => Ok(Some(left)),
+        Some(_) => Ok(None),
+    }
+}
+
+fn put_all(
+    mut attributes: BTreeMap<Key, Value>,
+    pairs: Vec<KeyValue>,
+) -> Result<BTreeMap<Key, Value>, AllocError>
+    ensures { IfOk result (λ all. by_key all ≡ union (by_key attributes) (meaning.attributes_of pairs.items)) }
+{
+    for pair in pairs {
+        let KeyValue { key, value } = pair;
+        put(&mut attributes, key, value)?;
+    }
+    Ok(attributes)
+}
+
+fn put_copies(
+    mut attributes: BTreeMap<Key, Value>,
+    resource: &Resource,
+) -> Result<BTreeMap<Key, Value>, AllocError>
+    ensures { IfOk result (λ all. by_key all ≡ union (by_key attributes) resource.now.attributes) }
+{
+    for (key, value) in resource {
+        put(&mut attributes, key.clone()?, value.clone()?)?;
+    }
+    Ok(attributes)
 }
 
 // One attribute more, or another value for its key.
