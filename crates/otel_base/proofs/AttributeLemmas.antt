@@ -1,5 +1,5 @@
 -- Finite maps of attributes, by what they answer at a key.
-use Rattle.std.proofs.Common.{◌≡◌, ℕ, Bool, true, false, cond, T, ◌&&◌, List, [], ◌∷◌, ◌++◌, map, reverse, length, Option, Some, None, refl, sym, ap, subst, ◌∙◌, arith}
+use Rattle.std.proofs.Common.{◌≡◌, ℕ, Bool, true, false, cond, T, ◌&&◌, List, [], ◌∷◌, ◌++◌, map, reverse, length, Option, Some, None, Result, Ok, Err, IfOk, refl, sym, ap, subst, ◌∙◌, arith}
 use Rattle.std.proofs.lemmas.List.{map-append, length-map, reverse-append}
 use Rattle.std.specs.Ordering.{nat_cmp, is_eq, is_lt, eq_by_cmp}
 use Rattle.std.specs.declared.cmp.Ordering.{Ordering}
@@ -237,3 +237,25 @@ merged_schema-none (Some t) = refl
 -- attributes merged over a schema alone
 pub under_schema : (a : Attributes) (s : Option (List ℕ)) → merge (record { attributes = fin.empty; schema_url = s }) (of_attributes a) ≡ record { attributes = a; schema_url = s }
 under_schema a s = same_resource _ _ _ _ (union-empty_left a) (merged_schema-none s)
+
+-- attributes over attributes are merged at once
+pub merge_attributes-merge : (r : PlainResource) (a b : Attributes) → merge (merge r (of_attributes a)) (of_attributes b) ≡ merge r (of_attributes (union a b))
+merge_attributes-merge r a b =
+    same_resource _ _ _ _ (union_assoc r.attributes a b) (merged_schema-none (merged_schema r.schema_url None))
+
+-- nothing merged over a resource
+pub merge-nothing : (r : PlainResource) → merge r (of_attributes fin.empty) ≡ r
+merge-nothing r = same_resource _ _ _ _ (union-empty r.attributes) (merged_schema-none r.schema_url)
+
+pub all_zip_push : {A B : Type 0} (R : A → B → Type 0) (xs : List A) (ys : List B) (x : A) (y : B) → AllZip R xs ys → R x y → AllZip R (xs ++ x ∷ []) (ys ++ y ∷ [])
+all_zip_push R [] [] x y h r = (r, tt)
+all_zip_push R [] (b ∷ ys) x y h r = absurd h
+all_zip_push R (a ∷ xs) [] x y h r = absurd h
+all_zip_push R (a ∷ xs) (b ∷ ys) x y h r = (h.0, all_zip_push R xs ys x y h.1 r)
+
+-- what was built holds what the detector saw
+pub built_as_seen : {E : Type 0} (detects : PlainResource → Type 0) (self parts : PlainResource) (r : Result PlainResource E) (seen : PlainResource)
+    → detects seen → parts ≡ merge self (of_attributes seen.attributes) → IfOk r (λ built. built ≡ parts)
+    → IfOk r (λ built. (s : PlainResource) × detects s × (built ≡ merge self (of_attributes s.attributes)))
+built_as_seen detects self parts (Ok built) seen saw e h = (seen, saw, h ∙ e)
+built_as_seen detects self parts (Err x) seen saw e h = tt

@@ -2,11 +2,12 @@
 //! (OpenTelemetry specification, "Resource SDK"). A resource never changes; a builder merges descriptions into one.
 //! Where two of them have a key, the one merged last has the word.
 
-ghost use Rattle.std.specs.Prelude.{◌≡◌, ◌≢◌, ◌↔◌, ℕ, [], ◌∷◌, map, IfOk, IfSome, OnOk, OnErr, IsTrue, string_bytes};
+ghost use Rattle.std.specs.Prelude.{◌≡◌, ◌≢◌, ◌↔◌, ℕ, List, [], ◌∷◌, map, IfOk, IfSome, OnOk, OnErr, IsTrue, string_bytes};
 ghost use Rattle.std.specs.Option.{option_map};
 ghost use Rattle.std.specs.FinMap as fin;
 ghost use Rattle.otel_base.specs.Resource as meaning;
-ghost use Rattle.otel_base.specs.Resource.{by_key, union};
+ghost use Rattle.otel_base.specs.Resource.{PlainResource, by_key, union};
+ghost use Rattle.std.specs.List.{AllZip};
 ghost use Rattle.opentelemetry.specs.PlainValues.{plain_value};
 
 use opentelemetry::{Key, KeyValue, Value};
@@ -14,6 +15,10 @@ use std::alloc::{AllocError, Global};
 use std::collections::{BTreeMap, btree_map};
 use std::marker::Model;
 use std::sync::Arc;
+
+mod detector;
+
+pub use detector::ResourceDetector;
 
 const SERVICE_NAME: &str = "service.name";
 
@@ -280,6 +285,32 @@ impl ResourceBuilder {
         ResourceBuilder::of_parts(alloc, parts)
     }
 
+    /// Merges the attributes of the detected resource over the builder's. Its schema is lost.
+    pub fn with_detector(
+        self,
+        detector: Box<dyn ResourceDetector>,
+    ) -> Result<ResourceBuilder, AllocError>
+        ensures { IfOk result (λ built. (seen : PlainResource) × ⟦<Box<dyn ResourceDetector> as ResourceDetector>⟧.detects detector seen × (built ≡ meaning.merge self (meaning.of_attributes seen.attributes))) }
+    {
+        let ResourceBuilder { resource, alloc } = self;
+        let seen = detector.detect()?;
+        let parts = resource.into_parts(alloc)?.with_attributes_of(&seen)?;
+        ResourceBuilder::of_parts(alloc, parts)
+    }
+
+    /// Merges the attributes of the detected resources over the builder's, later ones winning. Their schemas are
+    /// lost.
+    pub fn with_detectors(
+        self,
+        detectors: &[Box<dyn ResourceDetector>],
+    ) -> Result<ResourceBuilder, AllocError>
+        ensures { IfOk result (λ built. (seen : List PlainResource) × AllZip ⟦<Box<dyn ResourceDetector> as ResourceDetector>⟧.detects detectors.now seen × (built ≡ meaning.merge self (meaning.of_attributes (meaning.all_attributes seen)))) }
+    {
+        let ResourceBuilder { resource, alloc } = self;
+        let parts = with_detected(resource.into_parts(alloc)?, detectors)?;
+        ResourceBuilder::of_parts(alloc, parts)
+    }
+
     /// The resource.
     pub fn build(self) -> Resource
         ensures { result ≡ self }
@@ -380,6 +411,19 @@ impl ResourceParts {
             schema_url,
         })
     }
+}
+
+fn with_detected<D: ResourceDetector>(
+    mut parts: ResourceParts,
+    detectors: &[D],
+) -> Result<ResourceParts, AllocError>
+    ensures { IfOk result (λ all. (seen : List PlainResource) × AllZip D.detects detectors.now seen × (all ≡ meaning.merge parts (meaning.of_attributes (meaning.all_attributes seen)))) }
+{
+    for detector in detectors {
+        let seen = detector.detect()?;
+        parts = parts.with_attributes_of(&seen)?;
+    }
+    Ok(parts)
 }
 
 fn copy_of(text: &Option<String>) -> Result<Option<String>, AllocError>
