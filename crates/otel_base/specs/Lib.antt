@@ -1,3 +1,4 @@
 pub mod ErrorText
 pub mod Ids
 pub mod Resource
+pub mod SameResource

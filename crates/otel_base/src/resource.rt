@@ -151,7 +151,48 @@ impl Clone for Resource {
     }
 }
 
+impl PartialEq for Resource {
+    ghost use Rattle.std.specs.Prelude.{◌≡◌, ◌↔◌, IsTrue};
+    ghost use Rattle.otel_base.specs.SameResource.{same_description, same_description_decides};
+    ghost use Rattle.opentelemetry.specs.Same.{partial_equivalence_from_decides};
+
+    ghost eq = { same_description };
+
+    ghost laws = { partial_equivalence_from_decides same_description same_description_decides };
+
+    fn eq(&self, other: &Resource) -> bool
+        ensures value { result ≡ same_description self.now other.now }
+        ensures same { IsTrue result ↔ (self.now ≡ other.now) }
+    {
+        match (&self.parts, &other.parts) {
+            (Some(shared), Some(other)) => shared.says_same(other),
+            (Some(shared), None) => shared.says_nothing(),
+            (None, Some(other)) => other.says_nothing(),
+            (None, None) => true,
+        }
+    }
+}
+
+impl Eq for Resource {
+    ghost use Rattle.otel_base.specs.SameResource.{same_description, same_description_decides};
+    ghost use Rattle.opentelemetry.specs.Same.{equivalence_from_decides};
+
+    ghost laws = { equivalence_from_decides same_description same_description_decides };
+}
+
 impl ResourceParts {
+    fn says_same(&self, other: &ResourceParts) -> bool
+        ensures { IsTrue result ↔ (self.now ≡ other.now) }
+    {
+        same_attributes(&self.attributes, &other.attributes) && self.schema_url == other.schema_url
+    }
+
+    fn says_nothing(&self) -> bool
+        ensures { IsTrue result ↔ (self.now ≡ meaning.empty_resource) }
+    {
+        self.schema_url.is_none() && self.len() == 0
+    }
+
     fn len(&self) -> usize
         ensures { result ≡ fin.len self.now.attributes }
     {
@@ -424,6 +465,12 @@ fn with_detected<D: ResourceDetector>(
         parts = parts.with_attributes_of(&seen)?;
     }
     Ok(parts)
+}
+
+fn same_attributes(these: &BTreeMap<Key, Value>, those: &BTreeMap<Key, Value>) -> bool
+    ensures { IsTrue result ↔ (by_key these.now ≡ by_key those.now) }
+{
+    these.len() == those.len() && these == those
 }
 
 fn copy_of(text: &Option<String>) -> Result<Option<String>, AllocError>
