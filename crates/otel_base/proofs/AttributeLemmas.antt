@@ -19,7 +19,7 @@ use Rattle.std.specs.BTreeMap.{BTreeMap, is_at}
 use Rattle.opentelemetry.specs.Plain.{PlainValue, PlainKeyValue}
 use Rattle.opentelemetry.specs.PlainValues.{plain_value}
 use Rattle.opentelemetry.specs.declared.common.Value.{Value}
-use Rattle.otel_base.specs.Resource.{Attributes, PlainResource, union, merged_schema, merge, attributes_of, of_attributes, all_attributes, by_key}
+use Rattle.otel_base.specs.Resource.{Attributes, PlainResource, empty_resource, union, merged_schema, merge, attributes_of, of_attributes, all_attributes, by_key}
 
 both_true : (a b : Bool) → T a → T b → T (a && b)
 both_true true b p q = q
@@ -259,3 +259,7 @@ pub built_as_seen : {E : Type 0} (detects : PlainResource → Type 0) (self part
     → IfOk r (λ built. (s : PlainResource) × detects s × (built ≡ merge self (of_attributes s.attributes)))
 built_as_seen detects self parts (Ok built) seen saw e h = (seen, saw, h ∙ e)
 built_as_seen detects self parts (Err x) seen saw e h = tt
+
+-- attributes merged over nothing
+pub merge_nothing-attributes : (a : Attributes) → merge empty_resource (of_attributes a) ≡ of_attributes a
+merge_nothing-attributes a = same_resource _ _ _ _ (union-empty_left a) refl

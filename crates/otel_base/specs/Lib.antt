@@ -1,3 +1,5 @@
+pub mod AttributesString
+pub mod DetectedResource
 pub mod ErrorText
 pub mod Ids
 pub mod Resource

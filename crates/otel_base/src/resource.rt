@@ -7,6 +7,7 @@ ghost use Rattle.std.specs.Option.{option_map};
 ghost use Rattle.std.specs.FinMap as fin;
 ghost use Rattle.otel_base.specs.Resource as meaning;
 ghost use Rattle.otel_base.specs.Resource.{PlainResource, by_key, union};
+ghost use Rattle.otel_base.specs.DetectedResource.{IsDetected};
 ghost use Rattle.std.specs.List.{AllZip};
 ghost use Rattle.opentelemetry.specs.PlainValues.{plain_value};
 
@@ -17,8 +18,12 @@ use std::marker::Model;
 use std::sync::Arc;
 
 mod detector;
+mod env;
+mod telemetry;
 
 pub use detector::ResourceDetector;
+pub use env::{EnvResourceDetector, ResourceStrings, SdkProvidedResourceDetector};
+pub use telemetry::TelemetryResourceDetector;
 
 const SERVICE_NAME: &str = "service.name";
 
@@ -66,6 +71,23 @@ impl Resource {
         ensures { result ≡ meaning.empty_resource }
     {
         Resource { parts: None }
+    }
+
+    /// Begins with what the SDK's own detectors find in the strings: the name of the service, this SDK, and the
+    /// attributes of the attributes string, later ones winning.
+    pub fn builder(alloc: Global, strings: &ResourceStrings) -> Result<ResourceBuilder, AllocError>
+        ensures { IfOk result (λ built. IsDetected strings.now built) }
+    {
+        let sdk = SdkProvidedResourceDetector::new(alloc, strings)?.detect()?;
+        let telemetry = TelemetryResourceDetector::new(alloc).detect()?;
+        let env = EnvResourceDetector::new(strings)?.detect()?;
+        let parts = Resource::empty()
+            .into_parts(alloc)?
+            .with_attributes_of(&sdk)?;
+        let parts = parts
+            .with_attributes_of(&telemetry)?
+            .with_attributes_of(&env)?;
+        ResourceBuilder::of_parts(alloc, parts)
     }
 
     /// Begins with a resource that says nothing.
