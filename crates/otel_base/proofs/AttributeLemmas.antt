@@ -18,6 +18,7 @@ use Rattle.std.specs.BTreeMap as tree
 use Rattle.std.specs.BTreeMap.{BTreeMap, is_at}
 use Rattle.opentelemetry.specs.Plain.{PlainValue, PlainKeyValue}
 use Rattle.opentelemetry.specs.PlainValues.{plain_value}
+use Rattle.opentelemetry.specs.Same.{same_text_decides}
 use Rattle.opentelemetry.specs.declared.common.Value.{Value}
 use Rattle.otel_base.specs.Resource.{Attributes, PlainResource, empty_resource, union, merged_schema, merge, attributes_of, of_attributes, all_attributes, by_key}
 
@@ -263,3 +264,7 @@ built_as_seen detects self parts (Err x) seen saw e h = tt
 -- attributes merged over nothing
 pub merge_nothing-attributes : (a : Attributes) → merge empty_resource (of_attributes a) ≡ of_attributes a
 merge_nothing-attributes a = same_resource _ _ _ _ (union-empty_left a) refl
+
+pub merged_schema-same : (s : Option (List ℕ)) → merged_schema s s ≡ s
+merged_schema-same None = refl
+merged_schema-same (Some t) = rw ((same_text_decides t t).1 refl) refl
