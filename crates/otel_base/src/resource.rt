@@ -20,6 +20,8 @@ use std::sync::Arc;
 mod detector;
 mod env;
 mod telemetry;
+#[cfg(test)]
+mod tests;
 
 pub use detector::ResourceDetector;
 pub use env::{EnvResourceDetector, ResourceStrings, SdkProvidedResourceDetector};

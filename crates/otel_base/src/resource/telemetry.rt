@@ -43,7 +43,7 @@ fn sdk_pairs(alloc: Global) -> Result<Vec<KeyValue>, AllocError>
     Ok(pairs)
 }
 
-fn text_pair(alloc: Global, key: &str, value: &str) -> Result<KeyValue, AllocError>
+pub(super) fn text_pair(alloc: Global, key: &str, value: &str) -> Result<KeyValue, AllocError>
     ensures { IfOk result (λ pair. pair ≡ pair_of key.now (text value.now)) }
 {
     let key = Key::new(String::from_str(alloc, key)?);
