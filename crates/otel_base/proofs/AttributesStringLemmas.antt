@@ -1,7 +1,7 @@
 -- The attributes string, a member at a time; and that each text reads one way only.
-use Rattle.std.proofs.Common.{◌≡◌, ◌≢◌, ◌⊎◌, inl, inr, ℕ, zero, suc, ◌+◌, ◌<◌, List, [], ◌∷◌, ◌++◌, length, get_or, Option, Some, None, Bool, cond, eqb, eq-eqb, ne_eqb, refl, sym, ap, subst, ◌∙◌, arith, append-nil, append_assoc, length-append}
+use Rattle.std.proofs.Common.{◌≡◌, ◌≢◌, inl, inr, ℕ, suc, ◌+◌, ◌<◌, List, [], ◌∷◌, ◌++◌, length, get_or, Option, Some, None, cond, eqb, eq-eqb, ne_eqb, refl, sym, ap, subst, ◌∙◌, arith, append-nil, length-append}
 use Rattle.std.specs.List.{slice_split, onto_first}
-use Rattle.opentelemetry.specs.Plain.{PlainKeyValue, text}
+use Rattle.opentelemetry.specs.Plain.{PlainKeyValue}
 use Rattle.otel_base.specs.AttributesString.{HasNo, IsMember, IsCut, AreRead, IsAttributesString, comma, equals_sign, trimmed_pair}
 
 -- no place holds the byte

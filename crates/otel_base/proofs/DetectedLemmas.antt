@@ -1,6 +1,5 @@
 -- What the detectors of the SDK find together.
-use Rattle.std.proofs.Common.{◌≡◌, List, [], ◌∷◌, Result, Ok, Err, IfOk, sym, ap, ◌∙◌}
-use Rattle.std.specs.FinMap as fin
+use Rattle.std.proofs.Common.{◌≡◌, [], ◌∷◌, Result, Ok, Err, IfOk, sym, ap, ◌∙◌}
 use Rattle.otel_base.specs.Resource.{Attributes, PlainResource, empty_resource, union, merge, of_attributes, all_attributes}
 use Rattle.otel_base.specs.DetectedResource.{PlainResourceStrings, IsEnvResource, IsSdkResource, IsDetected, telemetry_resource}
 use Rattle.otel_base.proofs.AttributeLemmas.{union-empty, union_assoc, merge_attributes-merge, merge_nothing-attributes}

@@ -1,5 +1,5 @@
 -- The digits of a fraction, one at a time, without the zeros at their end.
-use Rattle.std.proofs.Common.{◌≡◌, ℕ, zero, suc, ◌+◌, ◌*◌, ◌/◌, ◌%◌, ◌^◌, ◌<◌, ◌≤◌, ◌⊎◌, inl, inr, List, [], ◌∷◌, ◌++◌, refl, sym, ap, subst, ◌∙◌, arith, ne_eqb, append_assoc}
+use Rattle.std.proofs.Common.{◌≡◌, ℕ, zero, suc, ◌+◌, ◌*◌, ◌/◌, ◌%◌, ◌^◌, ◌<◌, ◌⊎◌, inl, inr, List, [], ◌∷◌, ◌++◌, refl, sym, ap, subst, ◌∙◌, arith, ne_eqb, append_assoc}
 use Rattle.std.proofs.Math.Nat.{pow-suc, zero-div, zero-mod, div-add-mod, mul-zero, div-lt_iff_lt-mul}
 use Rattle.otel_base.specs.ErrorText.{padded_digits, without_trailing_zeros, in_front}
 

@@ -1,5 +1,5 @@
 -- Resources that say the same.
-use Rattle.std.proofs.Common.{◌≡◌, ℕ, Bool, true, false, ◌&&◌, List, map, Option, Some, None, refl, sym, ap, subst, ◌∙◌, eqb}
+use Rattle.std.proofs.Common.{◌≡◌, ℕ, Bool, ◌&&◌, List, None, sym, ap, ◌∙◌, eqb}
 use Rattle.std.proofs.lemmas.Bool.{eq-eqb, eqb-true}
 use Rattle.std.proofs.lemmas.Bool.Decides.{same_from_decides, Decides-at}
 use Rattle.std.specs.Bool.{Decides}
@@ -11,7 +11,7 @@ use Rattle.opentelemetry.specs.Plain.{PlainValue}
 use Rattle.opentelemetry.specs.PlainValues.{plain_value}
 use Rattle.opentelemetry.specs.Same.{same_text, same_value, pointwise_map}
 use Rattle.opentelemetry.specs.declared.common.Value.{Value}
-use Rattle.otel_base.specs.Resource.{Attributes, PlainResource, empty_resource, by_key}
+use Rattle.otel_base.specs.Resource.{PlainResource, empty_resource, by_key}
 use Rattle.otel_base.specs.SameResource.{same_entry, same_description, same_attributes_decides, same_description_decides}
 use Rattle.otel_base.proofs.AttributeLemmas.{key_cmp, entries-by_key}
 

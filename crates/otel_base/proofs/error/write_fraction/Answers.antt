@@ -1,10 +1,10 @@
 use Rattle.std.proofs.Math.Nat.{mod-lt}
-use Rattle.std.proofs.Common.{◌≡◌, ℕ, ◌+◌, ◌/◌, ◌%◌, ◌<◌, List, [], ◌∷◌, ◌++◌, refl, sym, ap, subst, ◌∙◌, append-nil, append_assoc, rules, arith, eq-eqb, ne_eqb}
+use Rattle.std.proofs.Common.{◌≡◌, ◌+◌, ◌/◌, [], ◌∷◌, ◌++◌, refl, sym, ap, ◌∙◌, append-nil, rules, arith, ne_eqb}
 use Rattle.std.proofs.Output.{has_written_append, has_written_of_eq}
 use Rattle.std.proofs.lemmas.Grind.{common_steps}
 use Rattle.otel_base.specs.ErrorText as text
 use Rattle.otel_base.specs.ErrorText.{fraction_text}
-use Rattle.otel_base.proofs.FractionLemmas.{NextPlace, next_place, digit_written, significant, significant-zero}
+use Rattle.otel_base.proofs.FractionLemmas.{next_place, digit_written, significant, significant-zero}
 use Rattle.otel_base.proofs.error.write_fraction.Goals as goal
 
 pub returns-then-remainder-eq0 : goal.returns-then-remainder-eq0

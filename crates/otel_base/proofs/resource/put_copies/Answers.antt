@@ -1,9 +1,9 @@
-use Rattle.std.proofs.Common.{◌≡◌, ◌++◌, ◌∷◌, [], map, sym, ap, ◌∙◌}
+use Rattle.std.proofs.Common.{◌≡◌, ◌∷◌, [], map, sym, ap, ◌∙◌}
 use Rattle.std.proofs.lemmas.List.{map-append}
 use Rattle.std.proofs.lemmas.Map.Iter.{iter_end}
 use Rattle.std.specs.FinMap as fin
 use Rattle.opentelemetry.specs.PlainValues.{plain_value}
-use Rattle.otel_base.specs.Resource.{by_key, union, shown_pair, attributes_of}
+use Rattle.otel_base.specs.Resource.{by_key, union, shown_pair}
 use Rattle.otel_base.proofs.AttributeLemmas.{union-empty, put_entry, last_wins, last_wins-entries}
 use Rattle.otel_base.proofs.resource.put_copies.Goals as goal
 

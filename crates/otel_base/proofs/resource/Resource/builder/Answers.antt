@@ -1,4 +1,4 @@
-use Rattle.std.proofs.Common.{◌≡◌, sym, ap, subst, ◌∙◌}
+use Rattle.std.proofs.Common.{ap, subst, ◌∙◌}
 use Rattle.otel_base.specs.Resource.{PlainResource, merge, of_attributes}
 use Rattle.otel_base.specs.DetectedResource.{IsEnvResource, IsSdkResource}
 use Rattle.otel_base.proofs.DetectedLemmas.{built_as_detected, three_merged}

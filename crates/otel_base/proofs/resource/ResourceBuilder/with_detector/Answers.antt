@@ -1,4 +1,4 @@
-use Rattle.std.proofs.Common.{◌≡◌, IfOk, Result, Ok, Err, ap, ◌∙◌}
+use Rattle.std.proofs.Common.{ap, ◌∙◌}
 use Rattle.otel_base.specs.Resource.{PlainResource, merge, of_attributes}
 use Rattle.otel_base.proofs.AttributeLemmas.{built_as_seen}
 use Rattle.otel_base.proofs.resource.ResourceBuilder.with_detector.Goals as goal

@@ -1,6 +1,5 @@
 use Rattle.std.proofs.Common.{◌≡◌, ◌++◌, ◌∷◌, [], inl, inr, Some, None, refl, sym, ap, ◌∙◌, append-nil, lit<}
 use Rattle.std.proofs.lemmas.Str.Pattern.{split_parts}
-use Rattle.std.specs.Str.{trim}
 use Rattle.opentelemetry.specs.Plain.{PlainKeyValue, text}
 use Rattle.otel_base.specs.AttributesString.{trimmed_pair}
 use Rattle.otel_base.proofs.AttributesStringLemmas.{has_no_from_places}

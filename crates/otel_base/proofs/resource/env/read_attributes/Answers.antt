@@ -1,8 +1,8 @@
-use Rattle.std.proofs.Common.{◌≡◌, ◌++◌, ◌∷◌, [], List, Some, None, refl, sym, ap, subst, ◌∙◌, append-nil, append_assoc, lit<, rules}
+use Rattle.std.proofs.Common.{◌≡◌, ◌++◌, List, Some, None, sym, ap, subst, ◌∙◌, append_assoc, lit<, rules}
 use Rattle.std.proofs.lemmas.Str.Pattern.{split_parts}
 use Rattle.opentelemetry.specs.Plain.{PlainKeyValue}
 use Rattle.otel_base.specs.AttributesString.{IsAttributesString}
-use Rattle.otel_base.proofs.AttributesStringLemmas.{has_no_from_places, string_more, string_last, shorter_rest}
+use Rattle.otel_base.proofs.AttributesStringLemmas.{has_no_from_places, string_more, string_last}
 use Rattle.otel_base.proofs.resource.env.read_attributes.Goals as goal
 
 pub members-preserved : goal.members-preserved

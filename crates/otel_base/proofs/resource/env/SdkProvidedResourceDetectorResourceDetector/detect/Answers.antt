@@ -1,4 +1,4 @@
-use Rattle.std.proofs.Common.{◌≡◌, List, [], ◌∷◌, ℕ, sym, ap, subst, ◌∙◌}
+use Rattle.std.proofs.Common.{◌≡◌, List, [], ◌∷◌, ℕ, ap, subst, ◌∙◌}
 use Rattle.std.specs.FinMap as fin
 use Rattle.opentelemetry.specs.Plain.{PlainValue}
 use Rattle.opentelemetry.specs.PlainValues.{plain_value}
