@@ -1,0 +1,5 @@
+pub mod AttributeLemmas
+pub mod AttributesStringLemmas
+pub mod DetectedLemmas
+pub mod FractionLemmas
+pub mod SameLemmas

@@ -1,15 +1,22 @@
-//! How the calls of the SDK fail.
+//! How the calls of the SDK fail: one error for exporters, processors and providers. A caller that handles it tells
+//! a second shutdown, a time-out, a refusal for memory and everything else apart.
 
+ghost use Rattle.std.specs.Prelude.{◌≡◌, ◌+◌, ◌<◌, ◌^◌, [], ◌∷◌, ◌++◌};
+ghost use Rattle.std.specs.Fmt.{WritesOnOk, decimal};
+ghost use Rattle.otel_base.specs.ErrorText as text;
+
+use std::error::Error;
+use std::fmt;
 use std::time::Duration;
 
 /// Why a call of an exporter, a processor or a provider failed.
-#[derive(Debug, Drop)]
+#[derive(Debug, Drop, PartialEq, Eq)]
 pub enum OTelSdkError {
     /// Shutdown was asked for before.
     AlreadyShutdown,
     /// The call took longer than this.
     Timeout(Duration),
-    /// Anything else, with its reason.
+    /// Anything else, with its reason, which is for logs alone.
     InternalFailure(String),
     /// There was no memory.
     OutOfMemory,
@@ -17,3 +24,184 @@ pub enum OTelSdkError {
 
 /// What such a call answers.
 pub type OTelSdkResult = Result<(), OTelSdkError>;
+
+/// The error of an exporter, which names the exporter that failed.
+pub trait ExportError: Error {
+    /// The exporter's name.
+    fn exporter_name(&self) -> &'static str;
+}
+
+impl Error for OTelSdkError {}
+
+impl fmt::Display for OTelSdkError {
+    ghost use Rattle.std.specs.Prelude.{Some};
+    ghost use Rattle.otel_base.specs.ErrorText.{error_text};
+
+    ghost output = { λ e. Some (error_text e) };
+
+    fn fmt<W: fmt::Write>(&self, f: &mut fmt::Formatter<W>) -> fmt::Result {
+        match self {
+            OTelSdkError::AlreadyShutdown => f.write_str("Shutdown already invoked"),
+            OTelSdkError::Timeout(duration) => {
+                f.write_str("Operation timed out after ")?;
+                write_duration(f, *duration)
+            }
+            OTelSdkError::InternalFailure(reason) => {
+                f.write_str("Operation failed: ")?;
+                f.write_str(reason.as_str())
+            }
+            OTelSdkError::OutOfMemory => f.write_str("Operation found no memory"),
+        }
+    }
+}
+
+/// What a duration is counted in when it is printed.
+#[derive(Clone, Copy)]
+enum Unit {
+    Seconds,
+    Milliseconds,
+    Microseconds,
+    Nanoseconds,
+}
+
+impl Unit {
+    fn symbol(self) -> &'static str
+        ensures { result.now ≡ text.symbol self }
+    {
+        match self {
+            Unit::Seconds => "s",
+            Unit::Milliseconds => "ms",
+            Unit::Microseconds => "µs",
+            Unit::Nanoseconds => "ns",
+        }
+    }
+
+    fn nanos(self) -> u32
+        ensures { result ≡ 10 ^ text.places self }
+    {
+        match self {
+            Unit::Seconds => 1_000_000_000,
+            Unit::Milliseconds => 1_000_000,
+            Unit::Microseconds => 1_000,
+            Unit::Nanoseconds => 1,
+        }
+    }
+}
+
+// Writes the duration in the largest unit of which it holds a whole one, as `Debug` of `Duration` does.
+fn write_duration<W: fmt::Write>(f: &mut fmt::Formatter<W>, duration: Duration) -> fmt::Result
+    ensures { WritesOnOk W.write_str_gives f.old result (text.duration_text duration) f.new }
+{
+    let seconds = duration.as_secs();
+    let nanos = duration.subsec_nanos();
+    if seconds > 0 {
+        write_in_unit(f, seconds, nanos, Unit::Seconds)
+    } else if nanos >= 1_000_000 {
+        let whole = u64::from(nanos / 1_000_000);
+        write_in_unit(f, whole, nanos % 1_000_000, Unit::Milliseconds)
+    } else if nanos >= 1_000 {
+        let whole = u64::from(nanos / 1_000);
+        write_in_unit(f, whole, nanos % 1_000, Unit::Microseconds)
+    } else {
+        write_in_unit(f, u64::from(nanos), 0, Unit::Nanoseconds)
+    }
+}
+
+fn write_in_unit<W: fmt::Write>(
+    f: &mut fmt::Formatter<W>,
+    whole: u64,
+    remainder: u32,
+    unit: Unit,
+) -> fmt::Result
+    requires { remainder < 10 ^ text.places unit }
+    ensures { WritesOnOk W.write_str_gives f.old result (decimal whole ++ (text.fraction_text (text.places unit) remainder ++ text.symbol unit)) f.new }
+{
+    write!(f, "{whole}")?;
+    write_fraction(f, remainder, unit)?;
+    f.write_str(unit.symbol())
+}
+
+// Writes digit after digit until nothing remains, so that no zero stands at the end.
+fn write_fraction<W: fmt::Write>(
+    f: &mut fmt::Formatter<W>,
+    remainder: u32,
+    unit: Unit,
+) -> fmt::Result
+    requires { remainder < 10 ^ text.places unit }
+    ensures { WritesOnOk W.write_str_gives f.old result (text.fraction_text (text.places unit) remainder) f.new }
+{
+    if remainder == 0 {
+        return Ok(());
+    }
+    f.write_str(".")?;
+    let mut left = remainder;
+    let mut place = unit.nanos();
+    'digits: while left > 0 {
+        place /= 10;
+        write_digit(f, left / place)?;
+        left %= place;
+    }
+    Ok(())
+}
+
+fn write_digit<W: fmt::Write>(f: &mut fmt::Formatter<W>, digit: u32) -> fmt::Result
+    requires { digit < 10 }
+    ensures { WritesOnOk W.write_str_gives f.old result ((48 + digit) ∷ []) f.new }
+{
+    f.write_char(char::from(b'0' + digit as u8))
+}
+
+#[cfg(test)]
+mod tests {
+    use super::*;
+    use std::test::Fail;
+
+    #[test]
+    fn errors_print_their_texts(rt: HostRuntime) -> Result<(), Fail> {
+        let alloc = rt.alloc();
+        let reason = String::from_str(alloc, "db unreachable")?;
+        let table = [
+            (OTelSdkError::AlreadyShutdown, "Shutdown already invoked"),
+            (
+                OTelSdkError::InternalFailure(reason),
+                "Operation failed: db unreachable",
+            ),
+            (OTelSdkError::OutOfMemory, "Operation found no memory"),
+        ];
+        for row in &table {
+            let error = &row.0;
+            assert_eq!(rt; format!(in alloc; "{error}")?.as_str(), row.1);
+        }
+        Ok(())
+    }
+
+    #[test]
+    fn durations_print_in_their_largest_unit(rt: HostRuntime) -> Result<(), Fail> {
+        let alloc = rt.alloc();
+        let table = [
+            (Duration::from_secs(5), "Operation timed out after 5s"),
+            (
+                Duration::from_micros(1500),
+                "Operation timed out after 1.5ms",
+            ),
+            (
+                Duration::from_nanos(1500),
+                "Operation timed out after 1.5µs",
+            ),
+            (Duration::from_nanos(0), "Operation timed out after 0ns"),
+            (
+                Duration::from_nanos(2_000_000_001),
+                "Operation timed out after 2.000000001s",
+            ),
+            (
+                Duration::from_nanos(100_020),
+                "Operation timed out after 100.02µs",
+            ),
+        ];
+        for row in &table {
+            let error = OTelSdkError::Timeout(row.0);
+            assert_eq!(rt; format!(in alloc; "{error}")?.as_str(), row.1);
+        }
+        Ok(())
+    }
+}

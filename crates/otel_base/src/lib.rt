@@ -2,4 +2,6 @@
 #![tactic(auto)]
 
 pub mod error;
+pub mod laws;
+pub mod resource;
 pub mod trace;

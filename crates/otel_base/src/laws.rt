@@ -1,0 +1,35 @@
+//! The laws of merging resources and of reading attributes strings, over the definitions alone. Each function does
+//! nothing; its contract is the law, for all values.
+
+ghost use Rattle.std.specs.Prelude.{◌≡◌, ℕ, List};
+ghost use Rattle.std.specs.Option.{option_or};
+ghost use Rattle.std.specs.FinMap.{get};
+ghost use Rattle.opentelemetry.specs.Plain.{PlainKeyValue};
+ghost use Rattle.otel_base.specs.AttributesString.{IsAttributesString};
+ghost use Rattle.otel_base.specs.Resource.{PlainResource, empty_resource, merge};
+
+/// The empty resource without schema, merged with a resource on either side, gives that resource.
+pub fn merge_has_an_identity()
+    ensures left { (r : PlainResource) → merge empty_resource r ≡ r }
+    ensures right { (r : PlainResource) → merge r empty_resource ≡ r }
+{}
+
+/// A resource merged with itself is itself.
+pub fn merge_is_idempotent()
+    ensures { (r : PlainResource) → merge r r ≡ r }
+{}
+
+/// The attributes of three resources do not depend on which two are merged first. Their schemas may.
+pub fn merged_attributes_are_associative()
+    ensures { (a b c : PlainResource) → (merge (merge a b) c).attributes ≡ (merge a (merge b c)).attributes }
+{}
+
+/// A merged resource has at each key what the right one has there, and where that has nothing, what the left one has.
+pub fn the_right_one_wins()
+    ensures { (left right : PlainResource) (key : List ℕ) → get (merge left right).attributes key ≡ option_or (get right.attributes key) (get left.attributes key) }
+{}
+
+/// An attributes string reads in one way only.
+pub fn attributes_strings_read_once()
+    ensures { (given : List ℕ) (pairs others : List PlainKeyValue) → IsAttributesString given pairs → IsAttributesString given others → pairs ≡ others }
+{}
