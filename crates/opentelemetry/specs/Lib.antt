@@ -1,2 +1,3 @@
 pub mod Plain
+pub mod PlainSpanBuilder
 pub mod PlainValues

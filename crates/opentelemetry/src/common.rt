@@ -1,7 +1,8 @@
 //! Attributes and the scope of a library: what every span, event, link and resource carries. Texts are handed in as
 //! `String`s and stay where they are.
 
-ghost use Rattle.std.specs.Prelude.{◌≡◌, None, [], string_bytes, IfOk};
+ghost use Rattle.std.specs.Prelude.{◌≡◌, None, Some, [], string_bytes, IfOk};
+ghost use Rattle.std.specs.Option.{option_copied};
 ghost use Rattle.opentelemetry.specs.PlainValues.{plain_value};
 
 use std::alloc::{AllocError, Global};
@@ -200,6 +201,24 @@ impl InstrumentationScope {
     {
         self.parts.name.as_str()
     }
+
+    pub fn version(&self) -> Option<&str>
+        ensures { option_copied result ≡ self.now.version }
+    {
+        self.parts.version.as_deref()
+    }
+
+    pub fn schema_url(&self) -> Option<&str>
+        ensures { option_copied result ≡ self.now.schema_url }
+    {
+        self.parts.schema_url.as_deref()
+    }
+
+    pub fn attributes(&self) -> &[KeyValue]
+        ensures { result.now ≡ self.now.attributes }
+    {
+        self.parts.attributes.as_slice()
+    }
 }
 
 impl Clone for InstrumentationScope {
@@ -215,6 +234,27 @@ impl Clone for InstrumentationScope {
 }
 
 impl InstrumentationScopeBuilder {
+    pub fn with_version(mut self, version: String) -> InstrumentationScopeBuilder
+        ensures { result ≡ record self { version = Some (string_bytes version) } }
+    {
+        self.parts.version = Some(version);
+        self
+    }
+
+    pub fn with_schema_url(mut self, schema_url: String) -> InstrumentationScopeBuilder
+        ensures { result ≡ record self { schema_url = Some (string_bytes schema_url) } }
+    {
+        self.parts.schema_url = Some(schema_url);
+        self
+    }
+
+    pub fn with_attributes(mut self, attributes: Vec<KeyValue>) -> InstrumentationScopeBuilder
+        ensures { result ≡ record self { attributes = attributes.items } }
+    {
+        self.parts.attributes = attributes;
+        self
+    }
+
     /// The scope, whose clones will share these parts.
     pub fn build(self) -> Result<InstrumentationScope, AllocError>
         ensures { IfOk result (λ scope. scope ≡ self) }

@@ -1,5 +1,7 @@
 //! Something that happened within a span at a moment.
 
+ghost use Rattle.std.specs.Prelude.{◌≡◌, string_bytes};
+
 use crate::{KeyValue, Moment};
 use std::alloc::AllocError;
 use std::marker::Model;
@@ -20,6 +22,20 @@ impl Model for Event {
     ghost Value = { PlainEvent };
 
     ghost view = { λ a. record { name = string_bytes a.name; timestamp = a.timestamp.0; attributes = a.attributes.items; dropped_attributes_count = a.dropped_attributes_count } };
+}
+
+impl Event {
+    /// `dropped` says how many attributes the caller left out already.
+    pub fn new(name: String, timestamp: Moment, attributes: Vec<KeyValue>, dropped: u32) -> Event
+        ensures { result ≡ record { name = string_bytes name; timestamp = timestamp.0; attributes = attributes.items; dropped_attributes_count = dropped } }
+    {
+        Event {
+            name,
+            timestamp,
+            attributes,
+            dropped_attributes_count: dropped,
+        }
+    }
 }
 
 impl Clone for Event {

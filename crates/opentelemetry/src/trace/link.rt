@@ -1,5 +1,7 @@
 //! Another span that a span points to.
 
+ghost use Rattle.std.specs.Prelude.{◌≡◌};
+
 use crate::KeyValue;
 use crate::trace::SpanContext;
 use std::alloc::AllocError;
@@ -19,6 +21,19 @@ impl Model for Link {
     ghost Value = { PlainLink };
 
     ghost view = { λ a. record { span_context = a.span_context; attributes = a.attributes.items; dropped_attributes_count = a.dropped_attributes_count } };
+}
+
+impl Link {
+    /// `dropped` says how many attributes the caller left out already.
+    pub fn new(span_context: SpanContext, attributes: Vec<KeyValue>, dropped: u32) -> Link
+        ensures { result ≡ record { span_context = span_context; attributes = attributes.items; dropped_attributes_count = dropped } }
+    {
+        Link {
+            span_context,
+            attributes,
+            dropped_attributes_count: dropped,
+        }
+    }
 }
 
 impl Clone for Link {
