@@ -1,3 +1,5 @@
+pub mod Carrier
 pub mod Plain
 pub mod PlainSpanBuilder
 pub mod PlainValues
+pub mod TextMap

@@ -4,6 +4,7 @@
 
 pub mod common;
 pub mod context;
+pub mod propagation;
 pub mod time;
 pub mod trace;
 pub mod trace_context;
