@@ -10,6 +10,8 @@ ghost use Rattle.opentelemetry.specs.Carrier.{Texts, SetsText, SameTexts};
 ghost use Rattle.opentelemetry.specs.Plain.{PlainContext};
 
 pub mod map_carrier;
+#[cfg(test)]
+mod tests;
 
 use crate::Context;
 pub use map_carrier::MapCarrier;
