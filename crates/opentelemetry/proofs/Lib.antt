@@ -1,2 +1,3 @@
+pub mod BaggageLemmas
 pub mod Clones
 pub mod TextMapLemmas

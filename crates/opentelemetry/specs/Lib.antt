@@ -1,3 +1,4 @@
+pub mod Baggage
 pub mod Carrier
 pub mod Plain
 pub mod PlainSpanBuilder

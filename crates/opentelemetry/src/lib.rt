@@ -2,6 +2,7 @@
 //! of a library.
 #![tactic(auto)]
 
+pub mod baggage;
 pub mod common;
 pub mod context;
 pub mod propagation;

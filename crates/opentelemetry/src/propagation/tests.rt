@@ -19,12 +19,20 @@ impl TextMapPropagator for Greeting {
 
     ghost field_names = { λ _. codes "Greeting" ∷ [] };
 
-    fn inject_context<I: Injector>(&self, _cx: &Context, injector: &mut I) -> Result<(), AllocError> {
+    fn inject_context<I: Injector>(
+        &self,
+        _cx: &Context,
+        injector: &mut I,
+    ) -> Result<(), AllocError> {
         let hello = String::from_str(self.alloc, "hello")?;
         injector.set("Greeting", hello)
     }
 
-    fn extract_with_context<X: Extractor>(&self, cx: &Context, extractor: &X) -> Result<Context, AllocError> {
+    fn extract_with_context<X: Extractor>(
+        &self,
+        cx: &Context,
+        extractor: &X,
+    ) -> Result<Context, AllocError> {
         let _found = extractor.get("Greeting");
         let _cx = cx;
         Ok(Context::new())
