@@ -4,7 +4,7 @@ use Rattle.std.specs.Option.{option_map, option_map_or}
 use Rattle.std.specs.Str.{bytes_eq}
 use Rattle.std.specs.String.{string_eq}
 use Rattle.std.specs.Map.{lookup, remove_entry, keys_of}
-use Rattle.std.specs.List.{AllByRecursion, IsDistinct}
+use Rattle.std.specs.List.{AllByRecursion, IsDistinct, AllZip}
 use Rattle.std.proofs.lemmas.Map.Keys.{IsDistinct-head, IsDistinct-tail}
 use Rattle.std.proofs.lemmas.List.Sums.{sum_by-cons}
 use Rattle.std.proofs.lemmas.Slice.Eq.{bytes_eq-Decides}
@@ -154,3 +154,13 @@ free_name k (e ∷ es) h = (λ same. true≢false (sym ((bytes_eq-Decides (strin
 pub HasDistinctNames-plain_entries : {Y Z : Type 0} (es : List (String Y × (String Z × List ℕ))) → IsDistinct string_eq (keys_of es) → HasDistinctNames (plain_entries es)
 HasDistinctNames-plain_entries [] h = tt
 HasDistinctNames-plain_entries (e ∷ es) h = (free_name e.0 es (IsDistinct-head string_eq e.0 (keys_of es) h), HasDistinctNames-plain_entries es (IsDistinct-tail string_eq e.0 (keys_of es) h))
+
+copy_plain : {Y Z : Type 0} (p q : String Y × (String Z × List ℕ)) → (string_bytes q.0 ≡ string_bytes p.0) × ((string_bytes q.1.0 ≡ string_bytes p.1.0) × (q.1.1 ≡ p.1.1)) → plain_entry q ≡ plain_entry p
+copy_plain p q h = let key = h.0 in let value = h.1.0 in let metadata = h.1.1 in cc
+
+-- entries that are clones of each other are the same without where they lie
+pub copies_plain : {Y Z : Type 0} (es fs : List (String Y × (String Z × List ℕ))) → AllZip (λ p q. (string_bytes q.0 ≡ string_bytes p.0) × ((string_bytes q.1.0 ≡ string_bytes p.1.0) × (q.1.1 ≡ p.1.1))) es fs → plain_entries fs ≡ plain_entries es
+copies_plain [] [] h = refl
+copies_plain [] (f ∷ fs) h = absurd h
+copies_plain (e ∷ es) [] h = absurd h
+copies_plain (e ∷ es) (f ∷ fs) h = let first = copy_plain e f h.0 in let others = copies_plain es fs h.1 in cc

@@ -1,6 +1,7 @@
 -- A baggage: names with values and metadata, in order of insertion (W3C Baggage, section 3.3.1).
-use Rattle.std.specs.Prelude.{◌≡◌, ◌≢◌, ℕ, ◌+◌, ◌<◌, ◌≤◌, ◌⊎◌, Bool, List, [], ◌∷◌, Option, map, length, find, sum_by, if◌then◌else◌, string_bytes, String}
+use Rattle.std.specs.Prelude.{◌≡◌, ◌≢◌, ℕ, ◌+◌, ◌<◌, ◌≤◌, ◌⊎◌, Bool, List, [], ◌∷◌, Option, None, Some, map, length, find, sum_by, if◌then◌else◌, string_bytes, String}
 use Rattle.std.specs.Str.{bytes_eq}
+use denote.Ref.{Bor}
 
 -- a name with its value and metadata
 pub record PlainBaggageEntry : Type 0 where
@@ -70,3 +71,12 @@ plain_entry e = record { key = string_bytes e.0; value = string_bytes e.1.0; met
 -- the entries of a map, without where they lie
 abbrev pub plain_entries : {Y Z : Type 0} → List (String Y × (String Z × List ℕ)) → PlainBaggage
 plain_entries es = map (λ e. plain_entry e) es
+
+-- the entries that are kept; none where nothing is
+abbrev pub kept_entries : Option PlainBaggage → PlainBaggage
+kept_entries None = []
+kept_entries (Some entries) = entries
+
+-- what an iterator over a baggage gives, without where it lies
+abbrev pub plain_item : Bor (List ℕ) × (Bor (List ℕ) × Bor (List ℕ)) → PlainBaggageEntry
+plain_item item = record { key = item.0.now; value = item.1.0.now; metadata = item.1.1.now }

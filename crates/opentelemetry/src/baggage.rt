@@ -1,11 +1,14 @@
 //! Names with values that an application hands on from process to process (W3C Baggage). A baggage keeps its entries
 //! in order of insertion, at most 64 of them and at most 8192 bytes of names, values and metadata together.
 
-ghost use Rattle.std.specs.Prelude.{◌≡◌, string_bytes};
+ghost use Rattle.std.specs.Prelude.{◌≡◌, [], ◌↔◌, length, IsTrue, OnOk, OnErr, IfOk, IsErrOf, string_bytes};
+ghost use Rattle.std.specs.Option.{option_map, option_copied};
+ghost use Rattle.opentelemetry.specs.Baggage.{value_and_metadata, entry_at, with_entry, without_entry, BreaksLimit, IsWithinLimits, HasDistinctNames, kept_entries};
 
 pub(crate) mod entries;
 
-use std::alloc::AllocError;
+use entries::Entries;
+use std::alloc::{AllocError, Global};
 use std::marker::Model;
 use thiserror::Error;
 
@@ -17,6 +20,17 @@ pub enum BaggageError {
     Limit,
     #[error("no memory for a baggage entry")]
     Memory,
+}
+
+impl From<AllocError> for BaggageError {
+    ghost use Rattle.std.specs.Prelude.{◌≡◌};
+    ghost use Rattle.opentelemetry.specs.declared.baggage.BaggageError.TheVariants.{Memory};
+
+    ghost from_gives = { λ _ error. error ≡ Memory };
+
+    fn from(_error: AllocError) -> BaggageError {
+        BaggageError::Memory
+    }
 }
 
 /// What is said of an entry besides its value: properties between semicolons.
@@ -95,5 +109,175 @@ impl Clone for KeyValueMetadata {
             value: self.value.clone()?,
             metadata: self.metadata.clone()?,
         })
+    }
+}
+
+/// Entries in order of insertion, within the limits.
+#[derive(Debug, Drop)]
+pub struct Baggage {
+    entries: Option<Entries>,
+}
+
+impl Model for Baggage {
+    ghost use Rattle.opentelemetry.specs.Baggage.{PlainBaggage, kept_entries};
+
+    ghost Value = { PlainBaggage };
+
+    ghost view = { λ baggage. kept_entries baggage.entries };
+}
+
+impl Baggage {
+    /// The empty baggage.
+    pub fn new(alloc: Global) -> Baggage
+        ensures { result ≡ [] }
+    {
+        Baggage {
+            entries: Some(Entries::new(alloc)),
+        }
+    }
+
+    /// The empty baggage, which takes an allocator from the first name that is put in.
+    pub(crate) fn empty() -> Baggage
+        ensures { result ≡ [] }
+    {
+        Baggage { entries: None }
+    }
+
+    /// Puts a name with its value and no metadata, and gives back what it replaced.
+    pub fn insert(
+        &mut self,
+        name: String,
+        value: String,
+    ) -> Result<Option<(String, BaggageMetadata)>, BaggageError>
+        ensures ok { OnOk result (self.new ≡ with_entry self.old (record { key = string_bytes name; value = string_bytes value; metadata = [] })) }
+        ensures replaced { IfOk result (λ old. option_map (λ pair. (string_bytes pair.0, pair.1)) old ≡ option_map value_and_metadata (entry_at self.old (string_bytes name))) }
+        ensures limit { IsErrOf result BaggageError.Limit ↔ BreaksLimit self.old (record { key = string_bytes name; value = string_bytes value; metadata = [] }) }
+        ensures err { OnErr result (self.new ≡ self.old) }
+    {
+        let none = String::new(*name.allocator());
+        insert_in(&mut self.entries, name, value, BaggageMetadata(none))
+    }
+
+    /// Puts a name with its value and metadata: in the place of the entry of that name, else last. Gives back what it
+    /// replaced. `Limit` where a limit does not allow the entry, and only else `Memory`.
+    pub fn insert_with_metadata(
+        &mut self,
+        name: String,
+        value: String,
+        metadata: BaggageMetadata,
+    ) -> Result<Option<(String, BaggageMetadata)>, BaggageError>
+        ensures ok { OnOk result (self.new ≡ with_entry self.old (record { key = string_bytes name; value = string_bytes value; metadata = metadata })) }
+        ensures replaced { IfOk result (λ old. option_map (λ pair. (string_bytes pair.0, pair.1)) old ≡ option_map value_and_metadata (entry_at self.old (string_bytes name))) }
+        ensures limit { IsErrOf result BaggageError.Limit ↔ BreaksLimit self.old (record { key = string_bytes name; value = string_bytes value; metadata = metadata }) }
+        ensures err { OnErr result (self.new ≡ self.old) }
+    {
+        insert_in(&mut self.entries, name, value, metadata)
+    }
+
+    pub fn get(&self, name: &str) -> Option<&str>
+        ensures { option_copied result ≡ option_map (λ entry. entry.value) (entry_at self.now name.now) }
+    {
+        match self.get_with_metadata(name) {
+            Some((value, _)) => Some(value),
+            None => None,
+        }
+    }
+
+    pub fn get_with_metadata(&self, name: &str) -> Option<(&str, &BaggageMetadata)>
+        ensures { option_map (λ pair. (pair.0.now, pair.1.now)) result ≡ option_map value_and_metadata (entry_at self.now name.now) }
+    {
+        match &self.entries {
+            Some(entries) => entries.get(name),
+            None => None,
+        }
+    }
+
+    /// Takes out the entry of a name. The others keep their order.
+    pub fn remove(&mut self, name: &str) -> Option<(String, BaggageMetadata)>
+        ensures left { self.new ≡ without_entry self.old name.now }
+        ensures removed { option_map (λ pair. (string_bytes pair.0, pair.1)) result ≡ option_map value_and_metadata (entry_at self.old name.now) }
+    {
+        remove_in(&mut self.entries, name)
+    }
+
+    pub fn len(&self) -> usize
+        ensures len { result ≡ length self.now }
+        ensures within { IsWithinLimits self.now }
+        ensures distinct { HasDistinctNames self.now }
+    {
+        match &self.entries {
+            Some(entries) => entries.len(),
+            None => 0,
+        }
+    }
+
+    pub fn is_empty(&self) -> bool
+        ensures { IsTrue result ↔ (self.now ≡ []) }
+    {
+        self.len() == 0
+    }
+}
+
+impl Clone for Baggage {
+    ghost use Rattle.std.specs.Prelude.{◌≡◌};
+
+    ghost is_clone = { λ baggage copy. copy ≡ baggage };
+
+    fn clone(&self) -> Result<Baggage, AllocError> {
+        Ok(Baggage {
+            entries: self.entries.clone()?,
+        })
+    }
+}
+
+/// As `Baggage::insert_with_metadata`.
+fn insert_in(
+    entries: &mut Option<Entries>,
+    name: String,
+    value: String,
+    metadata: BaggageMetadata,
+) -> Result<Option<(String, BaggageMetadata)>, BaggageError>
+    ensures ok { OnOk result (kept_entries entries.new ≡ with_entry (kept_entries entries.old) (record { key = string_bytes name; value = string_bytes value; metadata = metadata })) }
+    ensures replaced { IfOk result (λ old. option_map (λ pair. (string_bytes pair.0, pair.1)) old ≡ option_map value_and_metadata (entry_at (kept_entries entries.old) (string_bytes name))) }
+    ensures limit { IsErrOf result BaggageError.Limit ↔ BreaksLimit (kept_entries entries.old) (record { key = string_bytes name; value = string_bytes value; metadata = metadata }) }
+    ensures err { OnErr result (kept_entries entries.new ≡ kept_entries entries.old) }
+{
+    match entries {
+        Some(kept) => insert_into(kept, name, value, metadata),
+        None => {
+            let mut kept = Entries::new(*name.allocator());
+            let replaced = insert_into(&mut kept, name, value, metadata)?;
+            *entries = Some(kept);
+            Ok(replaced)
+        }
+    }
+}
+
+fn insert_into(
+    entries: &mut Entries,
+    name: String,
+    value: String,
+    metadata: BaggageMetadata,
+) -> Result<Option<(String, BaggageMetadata)>, BaggageError>
+    ensures ok { OnOk result (entries.new ≡ with_entry entries.old (record { key = string_bytes name; value = string_bytes value; metadata = metadata })) }
+    ensures replaced { IfOk result (λ old. option_map (λ pair. (string_bytes pair.0, pair.1)) old ≡ option_map value_and_metadata (entry_at entries.old (string_bytes name))) }
+    ensures limit { IsErrOf result BaggageError.Limit ↔ BreaksLimit entries.old (record { key = string_bytes name; value = string_bytes value; metadata = metadata }) }
+    ensures err { OnErr result (entries.new ≡ entries.old) }
+{
+    let Some(after) = entries.bytes_after(&name, &value, &metadata) else {
+        return Err(BaggageError::Limit);
+    };
+    let replaced = entries.put(after, name, value, metadata)?;
+    Ok(replaced)
+}
+
+/// As `Baggage::remove`.
+fn remove_in(entries: &mut Option<Entries>, name: &str) -> Option<(String, BaggageMetadata)>
+    ensures left { kept_entries entries.new ≡ without_entry (kept_entries entries.old) name.now }
+    ensures removed { option_map (λ pair. (string_bytes pair.0, pair.1)) result ≡ option_map value_and_metadata (entry_at (kept_entries entries.old) name.now) }
+{
+    match entries {
+        Some(kept) => kept.remove(name),
+        None => None,
     }
 }

@@ -15,7 +15,7 @@ const MAX_ENTRIES: usize = 64;
 const MAX_BYTES: usize = 8192;
 
 /// Entries within the limits, by name.
-#[derive(Drop)]
+#[derive(Debug, Drop)]
 pub(crate) struct Entries {
     map: IndexMap<String, (String, BaggageMetadata)>,
     bytes: usize,
@@ -99,6 +99,28 @@ impl Entries {
     {
         self.map.len()
     }
+}
+
+impl Clone for Entries {
+    ghost use Rattle.std.specs.Prelude.{◌≡◌};
+
+    ghost is_clone = { λ entries copy. copy ≡ entries };
+
+    fn clone(&self) -> Result<Entries, AllocError> {
+        Ok(Entries {
+            map: copy_of(&self.map)?,
+            bytes: self.bytes,
+        })
+    }
+}
+
+fn copy_of(
+    map: &IndexMap<String, (String, BaggageMetadata)>,
+) -> Result<IndexMap<String, (String, BaggageMetadata)>, AllocError>
+    ensures { IfOk result (λ copy. plain_entries copy.entries ≡ plain_entries map.now.entries) }
+{
+    let copy = map.clone()?;
+    Ok(copy)
 }
 
 fn get_in<'a>(
