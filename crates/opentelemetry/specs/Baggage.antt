@@ -80,3 +80,8 @@ kept_entries (Some entries) = entries
 -- what an iterator over a baggage gives, without where it lies
 abbrev pub plain_item : Bor (List ℕ) × (Bor (List ℕ) × Bor (List ℕ)) → PlainBaggageEntry
 plain_item item = record { key = item.0.now; value = item.1.0.now; metadata = item.1.1.now }
+
+-- the entries that an iterator has left; none where it goes over nothing
+abbrev pub left_entries : {Y Z : Type 0} → Option (List (String Y × (String Z × List ℕ))) → PlainBaggage
+left_entries None = []
+left_entries (Some es) = plain_entries es

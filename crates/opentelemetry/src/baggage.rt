@@ -1,13 +1,15 @@
 //! Names with values that an application hands on from process to process (W3C Baggage). A baggage keeps its entries
 //! in order of insertion, at most 64 of them and at most 8192 bytes of names, values and metadata together.
 
-ghost use Rattle.std.specs.Prelude.{◌≡◌, [], ◌↔◌, length, IsTrue, OnOk, OnErr, IfOk, IsErrOf, string_bytes};
+ghost use Rattle.std.specs.Prelude.{◌≡◌, [], ◌↔◌, length, IsTrue, IfNone, OnOk, OnErr, IfOk, IsErrOf, string_bytes};
 ghost use Rattle.std.specs.Option.{option_map, option_copied};
 ghost use Rattle.opentelemetry.specs.Baggage.{value_and_metadata, entry_at, with_entry, without_entry, BreaksLimit, IsWithinLimits, HasDistinctNames, kept_entries};
 
 pub(crate) mod entries;
+pub mod iter;
 
 use entries::Entries;
+pub use iter::Iter;
 use std::alloc::{AllocError, Global};
 use std::marker::Model;
 use thiserror::Error;
@@ -143,6 +145,16 @@ impl Baggage {
         Baggage { entries: None }
     }
 
+    /// Where the entries lie; `None` where there are none yet.
+    pub(crate) fn allocator(&self) -> Option<Global>
+        ensures { IfNone result (self.now ≡ []) }
+    {
+        match &self.entries {
+            Some(entries) => Some(entries.allocator()),
+            None => None,
+        }
+    }
+
     /// Puts a name with its value and no metadata, and gives back what it replaced.
     pub fn insert(
         &mut self,
@@ -208,6 +220,16 @@ impl Baggage {
         match &self.entries {
             Some(entries) => entries.len(),
             None => 0,
+        }
+    }
+
+    /// The entries in their order.
+    pub fn iter(&self) -> Iter<'_>
+        ensures { result ≡ self.now }
+    {
+        match &self.entries {
+            Some(entries) => Iter::new(Some(entries.iter())),
+            None => Iter::new(None),
         }
     }
 

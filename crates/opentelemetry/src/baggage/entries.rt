@@ -6,7 +6,7 @@ ghost use Rattle.indexmap.specs.IndexMap.{index_map_len};
 ghost use Rattle.opentelemetry.specs.Baggage.{value_and_metadata, entry_bytes, baggage_bytes, entry_at, with_entry, without_entry, plain_entries, BreaksLimit, IsWithinLimits, HasDistinctNames};
 
 use super::BaggageMetadata;
-use indexmap::IndexMap;
+use indexmap::{IndexMap, map};
 use std::alloc::{AllocError, Global};
 use std::marker::Model;
 
@@ -19,6 +19,7 @@ const MAX_BYTES: usize = 8192;
 pub(crate) struct Entries {
     map: IndexMap<String, (String, BaggageMetadata)>,
     bytes: usize,
+    alloc: Global,
 }
 
 impl Model for Entries {
@@ -39,7 +40,12 @@ impl Entries {
         Entries {
             map: IndexMap::new(alloc),
             bytes: 0,
+            alloc,
         }
+    }
+
+    pub(crate) fn allocator(&self) -> Global {
+        self.alloc
     }
 
     /// The bytes that stand after this entry was put, or `None` where a limit does not allow it.
@@ -92,6 +98,12 @@ impl Entries {
         get_in(&self.map, name)
     }
 
+    pub(crate) fn iter(&self) -> map::Iter<'_, String, (String, BaggageMetadata)>
+        ensures { plain_entries result ≡ self.now }
+    {
+        self.map.iter()
+    }
+
     pub(crate) fn len(&self) -> usize
         ensures len { result ≡ length self.now }
         ensures within { IsWithinLimits self.now }
@@ -110,6 +122,7 @@ impl Clone for Entries {
         Ok(Entries {
             map: copy_of(&self.map)?,
             bytes: self.bytes,
+            alloc: self.alloc,
         })
     }
 }
