@@ -1,11 +1,15 @@
 //! Attributes and the scope of a library: what every span, event, link and resource carries. Texts are handed in as
 //! `String`s and stay where they are.
 
-ghost use Rattle.std.specs.Prelude.{◌≡◌, None, Some, [], string_bytes, IfOk};
+ghost use Rattle.std.specs.Prelude.{◌≡◌, ◌↔◌, None, Some, [], string_bytes, IfOk, IsTrue};
 ghost use Rattle.std.specs.Option.{option_copied};
 ghost use Rattle.opentelemetry.specs.PlainValues.{plain_value};
 
+mod display;
+
 use std::alloc::{AllocError, Global};
+use std::cmp::Ordering;
+use std::hash::{Hash, Hasher};
 use std::marker::Model;
 use std::sync::Arc;
 
@@ -45,6 +49,75 @@ impl Clone for Key {
     }
 }
 
+impl PartialEq for Key {
+    ghost use Rattle.std.specs.Prelude.{◌≡◌, ◌↔◌, IsTrue};
+    ghost use Rattle.opentelemetry.specs.Same.{same_text, same_text_decides, partial_equivalence_from_decides};
+
+    ghost eq = { same_text };
+
+    ghost laws = { partial_equivalence_from_decides same_text same_text_decides };
+
+    fn eq(&self, other: &Key) -> bool
+        ensures value { result ≡ same_text self.now other.now }
+        ensures same { IsTrue result ↔ (self.now ≡ other.now) }
+    {
+        self.0 == other.0
+    }
+}
+
+impl Eq for Key {
+    ghost use Rattle.opentelemetry.specs.Same.{same_text, same_text_decides, equivalence_from_decides};
+
+    ghost laws = { equivalence_from_decides same_text same_text_decides };
+}
+
+impl Ord for Key {
+    ghost use Rattle.std.specs.Prelude.{refl};
+    ghost use Rattle.std.specs.Ordering.{nat_cmp};
+    ghost use Rattle.std.specs.Cmp.Lexicographic.{slice_cmp, texts_ties};
+    ghost use Rattle.std.proofs.lemmas.Cmp.{nat_list_cmp_total};
+
+    ghost cmp = { slice_cmp nat_cmp };
+
+    ghost total = { nat_list_cmp_total };
+
+    ghost matches_partial_cmp = { λ x y. refl };
+
+    ghost matches_eq = { texts_ties };
+
+    fn cmp(&self, other: &Key) -> Ordering {
+        self.0.cmp(&other.0)
+    }
+}
+
+impl PartialOrd for Key {
+    ghost use Rattle.std.specs.Prelude.{Some};
+    ghost use Rattle.std.specs.Ordering.{nat_cmp};
+    ghost use Rattle.std.specs.Cmp.Lexicographic.{slice_cmp, texts_po};
+
+    ghost partial_cmp = { λ x y. Some (slice_cmp nat_cmp x y) };
+
+    ghost laws = { texts_po };
+
+    fn partial_cmp(&self, other: &Key) -> Option<Ordering> {
+        Some(self.cmp(other))
+    }
+}
+
+impl Hash for Key {
+    ghost use Rattle.std.proofs.Common.{ap};
+    ghost use Rattle.std.specs.Hash as fed;
+    ghost use Rattle.opentelemetry.specs.Same.{same_text_decides};
+
+    ghost hash_input = { fed.str };
+
+    ghost respects_eq = { λ x y same. ap fed.str ((same_text_decides x y).0 same) };
+
+    fn hash<H: Hasher>(&self, state: &mut H) {
+        self.0.hash(state);
+    }
+}
+
 /// A list of values of one kind.
 #[derive(Debug, Drop)]
 pub enum Array {
@@ -66,6 +139,39 @@ impl Clone for Array {
             Array::String(items) => Ok(Array::String(items.clone()?)),
         }
     }
+}
+
+impl PartialEq for Array {
+    ghost use Rattle.std.specs.Prelude.{◌≡◌, ◌↔◌, IsTrue};
+    ghost use Rattle.std.specs.Ordering.{on};
+    ghost use Rattle.std.proofs.lemmas.Cmp.{on_equiv};
+    ghost use Rattle.std.specs.Cmp.{partial_equiv_from_equiv};
+    ghost use Rattle.opentelemetry.specs.PlainValues.{plain_array};
+    ghost use Rattle.opentelemetry.specs.Same.{same_value, same_value_decides, equivalence_from_decides};
+
+    ghost eq = { on plain_array same_value };
+
+    ghost laws = { partial_equiv_from_equiv (on_equiv plain_array (equivalence_from_decides same_value same_value_decides)) };
+
+    fn eq(&self, other: &Array) -> bool
+        ensures value { result ≡ same_value (plain_array self.now) (plain_array other.now) }
+        ensures same { IsTrue result ↔ (plain_array self.now ≡ plain_array other.now) }
+    {
+        match (self, other) {
+            (Array::Bool(these), Array::Bool(those)) => these == those,
+            (Array::I64(these), Array::I64(those)) => these == those,
+            (Array::String(these), Array::String(those)) => these == those,
+            _ => false,
+        }
+    }
+}
+
+impl Eq for Array {
+    ghost use Rattle.std.proofs.lemmas.Cmp.{on_equiv};
+    ghost use Rattle.opentelemetry.specs.PlainValues.{plain_array};
+    ghost use Rattle.opentelemetry.specs.Same.{same_value, same_value_decides, equivalence_from_decides};
+
+    ghost laws = { on_equiv plain_array (equivalence_from_decides same_value same_value_decides) };
 }
 
 /// The value of an attribute.
@@ -91,6 +197,40 @@ impl Clone for Value {
             Value::Array(array) => Ok(Value::Array(array.clone()?)),
         }
     }
+}
+
+impl PartialEq for Value {
+    ghost use Rattle.std.specs.Prelude.{◌≡◌, ◌↔◌, IsTrue};
+    ghost use Rattle.std.specs.Ordering.{on};
+    ghost use Rattle.std.proofs.lemmas.Cmp.{on_equiv};
+    ghost use Rattle.std.specs.Cmp.{partial_equiv_from_equiv};
+    ghost use Rattle.opentelemetry.specs.PlainValues.{plain_value};
+    ghost use Rattle.opentelemetry.specs.Same.{same_value, same_value_decides, equivalence_from_decides};
+
+    ghost eq = { on plain_value same_value };
+
+    ghost laws = { partial_equiv_from_equiv (on_equiv plain_value (equivalence_from_decides same_value same_value_decides)) };
+
+    fn eq(&self, other: &Value) -> bool
+        ensures value { result ≡ same_value (plain_value self.now) (plain_value other.now) }
+        ensures same { IsTrue result ↔ (plain_value self.now ≡ plain_value other.now) }
+    {
+        match (self, other) {
+            (Value::Bool(this), Value::Bool(that)) => this == that,
+            (Value::I64(this), Value::I64(that)) => this == that,
+            (Value::String(this), Value::String(that)) => this == that,
+            (Value::Array(this), Value::Array(that)) => this == that,
+            _ => false,
+        }
+    }
+}
+
+impl Eq for Value {
+    ghost use Rattle.std.proofs.lemmas.Cmp.{on_equiv};
+    ghost use Rattle.opentelemetry.specs.PlainValues.{plain_value};
+    ghost use Rattle.opentelemetry.specs.Same.{same_value, same_value_decides, equivalence_from_decides};
+
+    ghost laws = { on_equiv plain_value (equivalence_from_decides same_value same_value_decides) };
 }
 
 /// An attribute.
@@ -128,6 +268,28 @@ impl Clone for KeyValue {
             value: self.value.clone()?,
         })
     }
+}
+
+impl PartialEq for KeyValue {
+    ghost use Rattle.std.specs.Prelude.{◌≡◌, ◌↔◌, IsTrue};
+    ghost use Rattle.opentelemetry.specs.Same.{same_attribute, same_attribute_decides, partial_equivalence_from_decides};
+
+    ghost eq = { same_attribute };
+
+    ghost laws = { partial_equivalence_from_decides same_attribute same_attribute_decides };
+
+    fn eq(&self, other: &KeyValue) -> bool
+        ensures value { result ≡ same_attribute self.now other.now }
+        ensures same { IsTrue result ↔ (self.now ≡ other.now) }
+    {
+        self.key == other.key && self.value == other.value
+    }
+}
+
+impl Eq for KeyValue {
+    ghost use Rattle.opentelemetry.specs.Same.{same_attribute, same_attribute_decides, equivalence_from_decides};
+
+    ghost laws = { equivalence_from_decides same_attribute same_attribute_decides };
 }
 
 /// The parts of a scope, which its clones share.

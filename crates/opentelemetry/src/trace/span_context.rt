@@ -1,6 +1,6 @@
 //! The part of a span that travels: its ids, its flags and its trace state (W3C Trace Context, section 2).
 
-ghost use Rattle.std.specs.Prelude.{◌≡◌, [], false};
+ghost use Rattle.std.specs.Prelude.{◌≡◌, ◌<◌, ◌%◌, ◌↔◌, [], false, IsTrue};
 
 use super::TraceState;
 use crate::{SpanId, TraceFlags, TraceId};
@@ -74,6 +74,33 @@ impl SpanContext {
     {
         self.trace_flags
     }
+
+    pub fn trace_state(&self) -> &TraceState
+        ensures { result.now ≡ self.now.trace_state }
+    {
+        &self.trace_state
+    }
+
+    /// Whether the context came from another process.
+    pub fn is_remote(&self) -> bool
+        ensures { result ≡ self.now.is_remote }
+    {
+        self.is_remote
+    }
+
+    /// Whether the flags say that the span is sampled.
+    pub fn is_sampled(&self) -> bool
+        ensures { IsTrue result ↔ (self.now.trace_flags % 2 ≡ 1) }
+    {
+        self.trace_flags.is_sampled()
+    }
+
+    /// Whether neither id is zero.
+    pub fn is_valid(&self) -> bool
+        ensures { IsTrue result ↔ ((0 < self.now.trace_id) × (0 < self.now.span_id)) }
+    {
+        self.trace_id != TraceId::INVALID && self.span_id != SpanId::INVALID
+    }
 }
 
 impl Clone for SpanContext {
@@ -90,4 +117,30 @@ impl Clone for SpanContext {
             trace_state: self.trace_state.clone()?,
         })
     }
+}
+
+impl PartialEq for SpanContext {
+    ghost use Rattle.std.specs.Prelude.{◌≡◌, ◌↔◌, IsTrue};
+    ghost use Rattle.opentelemetry.specs.Same.{same_span_context, same_span_context_decides, partial_equivalence_from_decides};
+
+    ghost eq = { same_span_context };
+
+    ghost laws = { partial_equivalence_from_decides same_span_context same_span_context_decides };
+
+    fn eq(&self, other: &SpanContext) -> bool
+        ensures value { result ≡ same_span_context self.now other.now }
+        ensures same { IsTrue result ↔ (self.now ≡ other.now) }
+    {
+        self.trace_id == other.trace_id
+            && self.span_id == other.span_id
+            && self.trace_flags == other.trace_flags
+            && self.is_remote == other.is_remote
+            && self.trace_state == other.trace_state
+    }
+}
+
+impl Eq for SpanContext {
+    ghost use Rattle.opentelemetry.specs.Same.{same_span_context, same_span_context_decides, equivalence_from_decides};
+
+    ghost laws = { equivalence_from_decides same_span_context same_span_context_decides };
 }

@@ -1,4 +1,4 @@
-use Rattle.std.proofs.Common.{string_bytes, ap, sym, ◌∙◌, map}
+use Rattle.std.proofs.Common.{string_bytes, ap, sym, ◌∙◌}
 use Rattle.opentelemetry.specs.Plain.{texts}
 use Rattle.opentelemetry.specs.PlainValues.{plain_array}
 use Rattle.opentelemetry.proofs.Clones.{map_all_zip}
