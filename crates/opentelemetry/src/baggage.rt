@@ -71,6 +71,28 @@ impl Clone for BaggageMetadata {
     }
 }
 
+impl PartialEq for BaggageMetadata {
+    ghost use Rattle.std.specs.Prelude.{◌≡◌, ◌↔◌, IsTrue};
+    ghost use Rattle.opentelemetry.specs.Same.{same_text, same_text_decides, partial_equivalence_from_decides};
+
+    ghost eq = { same_text };
+
+    ghost laws = { partial_equivalence_from_decides same_text same_text_decides };
+
+    fn eq(&self, other: &BaggageMetadata) -> bool
+        ensures value { result ≡ same_text self.now other.now }
+        ensures same { IsTrue result ↔ (self.now ≡ other.now) }
+    {
+        self.0 == other.0
+    }
+}
+
+impl Eq for BaggageMetadata {
+    ghost use Rattle.opentelemetry.specs.Same.{same_text, same_text_decides, equivalence_from_decides};
+
+    ghost laws = { equivalence_from_decides same_text same_text_decides };
+}
+
 /// One entry of a baggage.
 #[derive(Debug, Drop)]
 pub struct KeyValueMetadata {
@@ -112,6 +134,30 @@ impl Clone for KeyValueMetadata {
             metadata: self.metadata.clone()?,
         })
     }
+}
+
+impl PartialEq for KeyValueMetadata {
+    ghost use Rattle.std.specs.Prelude.{◌≡◌, ◌↔◌, IsTrue};
+    ghost use Rattle.opentelemetry.specs.Same.{partial_equivalence_from_decides};
+    ghost use Rattle.opentelemetry.specs.SameParts.{same_entry, same_entry_decides};
+
+    ghost eq = { same_entry };
+
+    ghost laws = { partial_equivalence_from_decides same_entry same_entry_decides };
+
+    fn eq(&self, other: &KeyValueMetadata) -> bool
+        ensures value { result ≡ same_entry self.now other.now }
+        ensures same { IsTrue result ↔ (self.now ≡ other.now) }
+    {
+        self.key == other.key && self.value == other.value && self.metadata == other.metadata
+    }
+}
+
+impl Eq for KeyValueMetadata {
+    ghost use Rattle.opentelemetry.specs.Same.{equivalence_from_decides};
+    ghost use Rattle.opentelemetry.specs.SameParts.{same_entry, same_entry_decides};
+
+    ghost laws = { equivalence_from_decides same_entry same_entry_decides };
 }
 
 /// Entries in order of insertion, within the limits.
@@ -250,6 +296,35 @@ impl Clone for Baggage {
             entries: self.entries.clone()?,
         })
     }
+}
+
+impl PartialEq for Baggage {
+    ghost use Rattle.std.specs.Prelude.{◌≡◌, ◌↔◌, IsTrue};
+    ghost use Rattle.opentelemetry.specs.Same.{partial_equivalence_from_decides};
+    ghost use Rattle.opentelemetry.specs.SameParts.{same_baggage, same_baggage_decides};
+
+    ghost eq = { same_baggage };
+
+    ghost laws = { partial_equivalence_from_decides same_baggage same_baggage_decides };
+
+    fn eq(&self, other: &Baggage) -> bool
+        ensures value { result ≡ same_baggage self.now other.now }
+        ensures same { IsTrue result ↔ (self.now ≡ other.now) }
+    {
+        match (&self.entries, &other.entries) {
+            (Some(these), Some(those)) => these == those,
+            (Some(these), None) => these.len() == 0,
+            (None, Some(those)) => those.len() == 0,
+            (None, None) => true,
+        }
+    }
+}
+
+impl Eq for Baggage {
+    ghost use Rattle.opentelemetry.specs.Same.{equivalence_from_decides};
+    ghost use Rattle.opentelemetry.specs.SameParts.{same_baggage, same_baggage_decides};
+
+    ghost laws = { equivalence_from_decides same_baggage same_baggage_decides };
 }
 
 /// As `Baggage::insert_with_metadata`.

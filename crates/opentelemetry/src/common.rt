@@ -311,6 +311,33 @@ impl Model for ScopeParts {
     ghost view = { λ a. record { name = string_bytes a.name; version = option_map string_bytes a.version; schema_url = option_map string_bytes a.schema_url; attributes = a.attributes.items } };
 }
 
+impl PartialEq for ScopeParts {
+    ghost use Rattle.std.specs.Prelude.{◌≡◌, ◌↔◌, IsTrue};
+    ghost use Rattle.opentelemetry.specs.Same.{partial_equivalence_from_decides};
+    ghost use Rattle.opentelemetry.specs.SameParts.{same_scope, same_scope_decides};
+
+    ghost eq = { same_scope };
+
+    ghost laws = { partial_equivalence_from_decides same_scope same_scope_decides };
+
+    fn eq(&self, other: &ScopeParts) -> bool
+        ensures value { result ≡ same_scope self.now other.now }
+        ensures same { IsTrue result ↔ (self.now ≡ other.now) }
+    {
+        self.name == other.name
+            && self.version == other.version
+            && self.schema_url == other.schema_url
+            && self.attributes == other.attributes
+    }
+}
+
+impl Eq for ScopeParts {
+    ghost use Rattle.opentelemetry.specs.Same.{equivalence_from_decides};
+    ghost use Rattle.opentelemetry.specs.SameParts.{same_scope, same_scope_decides};
+
+    ghost laws = { equivalence_from_decides same_scope same_scope_decides };
+}
+
 /// The library that makes spans: its name, version, schema and attributes (OpenTelemetry specification,
 /// "Instrumentation Scope"). Clones share one copy, so that a clone is a count.
 #[derive(Debug, Drop)]
@@ -393,6 +420,30 @@ impl Clone for InstrumentationScope {
             parts: self.parts.clone()?,
         })
     }
+}
+
+impl PartialEq for InstrumentationScope {
+    ghost use Rattle.std.specs.Prelude.{◌≡◌, ◌↔◌, IsTrue};
+    ghost use Rattle.opentelemetry.specs.Same.{partial_equivalence_from_decides};
+    ghost use Rattle.opentelemetry.specs.SameParts.{same_scope, same_scope_decides};
+
+    ghost eq = { same_scope };
+
+    ghost laws = { partial_equivalence_from_decides same_scope same_scope_decides };
+
+    fn eq(&self, other: &InstrumentationScope) -> bool
+        ensures value { result ≡ same_scope self.now other.now }
+        ensures same { IsTrue result ↔ (self.now ≡ other.now) }
+    {
+        *self.parts == *other.parts
+    }
+}
+
+impl Eq for InstrumentationScope {
+    ghost use Rattle.opentelemetry.specs.Same.{equivalence_from_decides};
+    ghost use Rattle.opentelemetry.specs.SameParts.{same_scope, same_scope_decides};
+
+    ghost laws = { equivalence_from_decides same_scope same_scope_decides };
 }
 
 impl InstrumentationScopeBuilder {

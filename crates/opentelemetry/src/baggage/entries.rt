@@ -4,6 +4,7 @@ ghost use Rattle.std.specs.Prelude.{◌≡◌, [], ℕ, List, ◌+◌, ◌-◌, 
 ghost use Rattle.std.specs.Option.{option_map, option_copied, option_map_or};
 ghost use Rattle.indexmap.specs.IndexMap.{index_map_len};
 ghost use Rattle.opentelemetry.specs.Baggage.{value_and_metadata, entry_bytes, baggage_bytes, entry_at, with_entry, without_entry, plain_entries, BreaksLimit, IsWithinLimits, HasDistinctNames};
+ghost use Rattle.opentelemetry.specs.SameParts.{same_baggage};
 
 use super::BaggageMetadata;
 use indexmap::{IndexMap, map};
@@ -125,6 +126,40 @@ impl Clone for Entries {
             alloc: self.alloc,
         })
     }
+}
+
+impl PartialEq for Entries {
+    ghost use Rattle.std.specs.Prelude.{◌≡◌, ◌↔◌, IsTrue};
+    ghost use Rattle.opentelemetry.specs.Same.{partial_equivalence_from_decides};
+    ghost use Rattle.opentelemetry.specs.SameParts.{same_baggage, same_baggage_decides};
+
+    ghost eq = { same_baggage };
+
+    ghost laws = { partial_equivalence_from_decides same_baggage same_baggage_decides };
+
+    fn eq(&self, other: &Entries) -> bool
+        ensures value { result ≡ same_baggage self.now other.now }
+        ensures same { IsTrue result ↔ (self.now ≡ other.now) }
+    {
+        same_maps(&self.map, &other.map)
+    }
+}
+
+impl Eq for Entries {
+    ghost use Rattle.opentelemetry.specs.Same.{equivalence_from_decides};
+    ghost use Rattle.opentelemetry.specs.SameParts.{same_baggage, same_baggage_decides};
+
+    ghost laws = { equivalence_from_decides same_baggage same_baggage_decides };
+}
+
+/// Whether two maps have the same entries in the same order.
+fn same_maps(
+    these: &IndexMap<String, (String, BaggageMetadata)>,
+    those: &IndexMap<String, (String, BaggageMetadata)>,
+) -> bool
+    ensures { result ≡ same_baggage (plain_entries these.now.entries) (plain_entries those.now.entries) }
+{
+    these.as_slice() == those.as_slice()
 }
 
 fn copy_of(

@@ -52,3 +52,30 @@ impl Clone for Event {
         })
     }
 }
+
+impl PartialEq for Event {
+    ghost use Rattle.std.specs.Prelude.{◌≡◌, ◌↔◌, IsTrue};
+    ghost use Rattle.opentelemetry.specs.Same.{partial_equivalence_from_decides};
+    ghost use Rattle.opentelemetry.specs.SameParts.{same_event, same_event_decides};
+
+    ghost eq = { same_event };
+
+    ghost laws = { partial_equivalence_from_decides same_event same_event_decides };
+
+    fn eq(&self, other: &Event) -> bool
+        ensures value { result ≡ same_event self.now other.now }
+        ensures same { IsTrue result ↔ (self.now ≡ other.now) }
+    {
+        self.name == other.name
+            && self.timestamp == other.timestamp
+            && self.attributes == other.attributes
+            && self.dropped_attributes_count == other.dropped_attributes_count
+    }
+}
+
+impl Eq for Event {
+    ghost use Rattle.opentelemetry.specs.Same.{equivalence_from_decides};
+    ghost use Rattle.opentelemetry.specs.SameParts.{same_event, same_event_decides};
+
+    ghost laws = { equivalence_from_decides same_event same_event_decides };
+}

@@ -49,3 +49,29 @@ impl Clone for Link {
         })
     }
 }
+
+impl PartialEq for Link {
+    ghost use Rattle.std.specs.Prelude.{◌≡◌, ◌↔◌, IsTrue};
+    ghost use Rattle.opentelemetry.specs.Same.{partial_equivalence_from_decides};
+    ghost use Rattle.opentelemetry.specs.SameParts.{same_link, same_link_decides};
+
+    ghost eq = { same_link };
+
+    ghost laws = { partial_equivalence_from_decides same_link same_link_decides };
+
+    fn eq(&self, other: &Link) -> bool
+        ensures value { result ≡ same_link self.now other.now }
+        ensures same { IsTrue result ↔ (self.now ≡ other.now) }
+    {
+        self.span_context == other.span_context
+            && self.attributes == other.attributes
+            && self.dropped_attributes_count == other.dropped_attributes_count
+    }
+}
+
+impl Eq for Link {
+    ghost use Rattle.opentelemetry.specs.Same.{equivalence_from_decides};
+    ghost use Rattle.opentelemetry.specs.SameParts.{same_link, same_link_decides};
+
+    ghost laws = { equivalence_from_decides same_link same_link_decides };
+}
