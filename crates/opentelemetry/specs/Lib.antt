@@ -7,6 +7,7 @@ pub mod PlainContexts
 pub mod PlainSpanBuilder
 pub mod PlainValues
 pub mod Same
+pub mod SameBuilder
 pub mod SameParts
 pub mod TextMap
 pub mod Tracestate

@@ -7,6 +7,8 @@ ghost use Rattle.opentelemetry.specs.Baggage.{value_and_metadata, entry_at, with
 
 pub(crate) mod entries;
 pub mod iter;
+#[cfg(test)]
+mod tests;
 
 use entries::Entries;
 pub use iter::Iter;

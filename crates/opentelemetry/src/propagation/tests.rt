@@ -71,3 +71,18 @@ fn a_carrier_gives_back_what_was_set(rt: HostRuntime) -> Result<(), Fail> {
     assert_eq!(rt; carrier.get("a"), Some("x"));
     Ok(())
 }
+
+#[test]
+fn names_that_differ_in_case_alone_are_one(rt: HostRuntime) -> Result<(), Fail> {
+    let alloc = rt.alloc();
+    let mut carrier = MapCarrier::new(alloc);
+    carrier.set("TraceParent", String::from_str(alloc, "x")?)?;
+    carrier.set("traceparent", String::from_str(alloc, "y")?)?;
+    carrier.set("Baggage", String::from_str(alloc, "z")?)?;
+    assert_eq!(rt; carrier.get("TRACEPARENT"), Some("y"));
+    assert_eq!(rt; carrier.get("baggage"), Some("z"));
+    assert_eq!(rt; carrier.get("tracestate"), None);
+    let names = carrier.keys(alloc)?;
+    assert_eq!(rt; names.as_slice(), ["baggage", "traceparent"].as_slice());
+    Ok(())
+}

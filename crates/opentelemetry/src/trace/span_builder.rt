@@ -1,6 +1,11 @@
 //! What a span is to start with: handed to a tracer, which asks its sampler and starts the span.
 
 ghost use Rattle.std.specs.Prelude.{◌≡◌, None, Some, string_bytes};
+ghost use Rattle.std.specs.Option.{option_eq};
+ghost use Rattle.opentelemetry.specs.SameBuilder.{same_kind, kind_place};
+
+#[cfg(test)]
+mod tests;
 
 use crate::trace::{Event, Link, SpanKind};
 use crate::{KeyValue, Moment};
@@ -94,5 +99,57 @@ impl Clone for SpanBuilder {
             events: self.events.clone()?,
             links: self.links.clone()?,
         })
+    }
+}
+
+impl PartialEq for SpanBuilder {
+    ghost use Rattle.std.specs.Prelude.{◌≡◌, ◌↔◌, IsTrue};
+    ghost use Rattle.opentelemetry.specs.Same.{partial_equivalence_from_decides};
+    ghost use Rattle.opentelemetry.specs.SameBuilder.{same_builder, same_builder_decides};
+
+    ghost eq = { same_builder };
+
+    ghost laws = { partial_equivalence_from_decides same_builder same_builder_decides };
+
+    fn eq(&self, other: &SpanBuilder) -> bool
+        ensures value { result ≡ same_builder self.now other.now }
+        ensures same { IsTrue result ↔ (self.now ≡ other.now) }
+    {
+        self.name == other.name
+            && same_kinds(self.span_kind, other.span_kind)
+            && self.start_time == other.start_time
+            && self.attributes == other.attributes
+            && self.events == other.events
+            && self.links == other.links
+    }
+}
+
+impl Eq for SpanBuilder {
+    ghost use Rattle.opentelemetry.specs.Same.{equivalence_from_decides};
+    ghost use Rattle.opentelemetry.specs.SameBuilder.{same_builder, same_builder_decides};
+
+    ghost laws = { equivalence_from_decides same_builder same_builder_decides };
+}
+
+fn same_kinds(this: Option<SpanKind>, that: Option<SpanKind>) -> bool
+    ensures { result ≡ option_eq same_kind this that }
+{
+    match (this, that) {
+        (Some(this), Some(that)) => place_of(this) == place_of(that),
+        (None, None) => true,
+        _ => false,
+    }
+}
+
+/// Where a kind stands among the kinds.
+fn place_of(kind: SpanKind) -> u8
+    ensures { result ≡ kind_place kind }
+{
+    match kind {
+        SpanKind::Client => 0,
+        SpanKind::Server => 1,
+        SpanKind::Producer => 2,
+        SpanKind::Consumer => 3,
+        SpanKind::Internal => 4,
     }
 }
