@@ -1,3 +1,4 @@
+pub mod BaggageLemmas
 pub mod Blanks
 pub mod Clones
 pub mod HexRead
@@ -7,3 +8,4 @@ pub mod Pieces
 pub mod PairLists
 pub mod Tracestates
 pub mod StatusLaws
+pub mod TextMapLemmas

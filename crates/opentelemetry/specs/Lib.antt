@@ -1,7 +1,14 @@
+pub mod Baggage
+pub mod Carrier
 pub mod Hex
 pub mod Order
 pub mod Plain
+pub mod PlainContexts
+pub mod PlainSpanBuilder
 pub mod PlainValues
 pub mod Same
-pub mod ValueText
+pub mod SameBuilder
+pub mod SameParts
+pub mod TextMap
 pub mod Tracestate
+pub mod ValueText

@@ -1,5 +1,6 @@
 -- What contracts see of the values: numbers, lists, and texts as their bytes. A plain value lies nowhere in memory.
 use Rattle.std.specs.Prelude.{ℕ, ℤ, Bool, List, Option}
+use Rattle.opentelemetry.specs.Baggage.{PlainBaggage}
 
 -- a value of an attribute: a truth value, an integer, a text, or a list of one of these
 pub data PlainValue : Type 0 where
@@ -49,7 +50,8 @@ pub record PlainLink : Type 0 where
   pub attributes : List PlainKeyValue
   pub dropped_attributes_count : ℕ
 
--- what a span starts in: the active span's context, and whether telemetry is suppressed
+-- what a span starts in: the active span's context, what is handed on, and whether telemetry is suppressed
 pub record PlainContext : Type 0 where
   pub span_context : Option PlainSpanContext
+  pub baggage : PlainBaggage
   pub telemetry_suppressed : Bool

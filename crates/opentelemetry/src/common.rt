@@ -1,7 +1,8 @@
 //! Attributes and the scope of a library: what every span, event, link and resource carries. Texts are handed in as
 //! `String`s and stay where they are.
 
-ghost use Rattle.std.specs.Prelude.{◌≡◌, ◌↔◌, None, [], string_bytes, IfOk, IsTrue};
+ghost use Rattle.std.specs.Prelude.{◌≡◌, ◌↔◌, None, Some, [], string_bytes, IfOk, IsTrue};
+ghost use Rattle.std.specs.Option.{option_copied};
 ghost use Rattle.opentelemetry.specs.PlainValues.{plain_value};
 
 #[cfg(test)]
@@ -312,6 +313,33 @@ impl Model for ScopeParts {
     ghost view = { λ a. record { name = string_bytes a.name; version = option_map string_bytes a.version; schema_url = option_map string_bytes a.schema_url; attributes = a.attributes.items } };
 }
 
+impl PartialEq for ScopeParts {
+    ghost use Rattle.std.specs.Prelude.{◌≡◌, ◌↔◌, IsTrue};
+    ghost use Rattle.opentelemetry.specs.Same.{partial_equivalence_from_decides};
+    ghost use Rattle.opentelemetry.specs.SameParts.{same_scope, same_scope_decides};
+
+    ghost eq = { same_scope };
+
+    ghost laws = { partial_equivalence_from_decides same_scope same_scope_decides };
+
+    fn eq(&self, other: &ScopeParts) -> bool
+        ensures value { result ≡ same_scope self.now other.now }
+        ensures same { IsTrue result ↔ (self.now ≡ other.now) }
+    {
+        self.name == other.name
+            && self.version == other.version
+            && self.schema_url == other.schema_url
+            && self.attributes == other.attributes
+    }
+}
+
+impl Eq for ScopeParts {
+    ghost use Rattle.opentelemetry.specs.Same.{equivalence_from_decides};
+    ghost use Rattle.opentelemetry.specs.SameParts.{same_scope, same_scope_decides};
+
+    ghost laws = { equivalence_from_decides same_scope same_scope_decides };
+}
+
 /// The library that makes spans: its name, version, schema and attributes (OpenTelemetry specification,
 /// "Instrumentation Scope"). Clones share one copy, so that a clone is a count.
 #[derive(Debug, Drop)]
@@ -364,6 +392,24 @@ impl InstrumentationScope {
     {
         self.parts.name.as_str()
     }
+
+    pub fn version(&self) -> Option<&str>
+        ensures { option_copied result ≡ self.now.version }
+    {
+        self.parts.version.as_deref()
+    }
+
+    pub fn schema_url(&self) -> Option<&str>
+        ensures { option_copied result ≡ self.now.schema_url }
+    {
+        self.parts.schema_url.as_deref()
+    }
+
+    pub fn attributes(&self) -> &[KeyValue]
+        ensures { result.now ≡ self.now.attributes }
+    {
+        self.parts.attributes.as_slice()
+    }
 }
 
 impl Clone for InstrumentationScope {
@@ -378,7 +424,52 @@ impl Clone for InstrumentationScope {
     }
 }
 
+impl PartialEq for InstrumentationScope {
+    ghost use Rattle.std.specs.Prelude.{◌≡◌, ◌↔◌, IsTrue};
+    ghost use Rattle.opentelemetry.specs.Same.{partial_equivalence_from_decides};
+    ghost use Rattle.opentelemetry.specs.SameParts.{same_scope, same_scope_decides};
+
+    ghost eq = { same_scope };
+
+    ghost laws = { partial_equivalence_from_decides same_scope same_scope_decides };
+
+    fn eq(&self, other: &InstrumentationScope) -> bool
+        ensures value { result ≡ same_scope self.now other.now }
+        ensures same { IsTrue result ↔ (self.now ≡ other.now) }
+    {
+        *self.parts == *other.parts
+    }
+}
+
+impl Eq for InstrumentationScope {
+    ghost use Rattle.opentelemetry.specs.Same.{equivalence_from_decides};
+    ghost use Rattle.opentelemetry.specs.SameParts.{same_scope, same_scope_decides};
+
+    ghost laws = { equivalence_from_decides same_scope same_scope_decides };
+}
+
 impl InstrumentationScopeBuilder {
+    pub fn with_version(mut self, version: String) -> InstrumentationScopeBuilder
+        ensures { result ≡ record self { version = Some (string_bytes version) } }
+    {
+        self.parts.version = Some(version);
+        self
+    }
+
+    pub fn with_schema_url(mut self, schema_url: String) -> InstrumentationScopeBuilder
+        ensures { result ≡ record self { schema_url = Some (string_bytes schema_url) } }
+    {
+        self.parts.schema_url = Some(schema_url);
+        self
+    }
+
+    pub fn with_attributes(mut self, attributes: Vec<KeyValue>) -> InstrumentationScopeBuilder
+        ensures { result ≡ record self { attributes = attributes.items } }
+    {
+        self.parts.attributes = attributes;
+        self
+    }
+
     /// The scope, whose clones will share these parts.
     pub fn build(self) -> Result<InstrumentationScope, AllocError>
         ensures { IfOk result (λ scope. scope ≡ self) }

@@ -1,33 +1,140 @@
-//! What a new span starts in: the span that is active there, and whether telemetry is suppressed.
+//! What a new span starts in: the span that is active there, what an application hands on, and whether telemetry is
+//! suppressed. A context does not change: each `with_` makes another one. Contexts share what they have in common.
 
-ghost use Rattle.std.specs.Prelude.{◌≡◌, None, false};
+ghost use Rattle.std.specs.Prelude.{◌≡◌, ◌↔◌, [], None, Some, true, false, IsTrue, IsSome, IfOk, unwrap_or};
+ghost use Rattle.opentelemetry.specs.PlainContexts.{active_span_context, empty_span_context};
 
+#[cfg(test)]
+mod tests;
+
+use crate::baggage::Baggage;
 use crate::trace::SpanContext;
+use std::alloc::AllocError;
 use std::marker::Model;
+use std::sync::Arc;
 
 /// An execution context, handed in wherever a span starts.
 #[derive(Debug, Drop)]
 pub struct Context {
-    span_context: Option<SpanContext>,
+    span_context: SpanContext,
+    has_active_span: bool,
+    baggage: Option<Arc<Baggage>>,
+    no_baggage: Baggage,
     telemetry_suppressed: bool,
 }
 
 impl Model for Context {
+    ghost use Rattle.std.specs.Prelude.{◌≡◌, [], false};
     ghost use Rattle.opentelemetry.specs.Plain.{PlainContext};
+    ghost use Rattle.opentelemetry.specs.PlainContexts.{active_span_context, empty_span_context, shared_baggage};
 
     ghost Value = { PlainContext };
 
-    ghost view = { λ cx. record { span_context = cx.span_context; telemetry_suppressed = cx.telemetry_suppressed } };
+    ghost view = { λ cx. record { span_context = active_span_context cx.has_active_span cx.span_context; baggage = shared_baggage cx.baggage; telemetry_suppressed = cx.telemetry_suppressed } };
+
+    ghost invariant = { λ cx. (cx.no_baggage ≡ []) × (cx.has_active_span ≡ false → cx.span_context ≡ empty_span_context) };
 }
 
 impl Context {
-    /// The context in which no span is active and nothing is suppressed.
+    /// The context in which no span is active, nothing is handed on and nothing is suppressed.
     pub fn new() -> Context
-        ensures { result ≡ record { span_context = None; telemetry_suppressed = false } }
+        ensures { result ≡ record { span_context = None; baggage = []; telemetry_suppressed = false } }
     {
         Context {
-            span_context: None,
+            span_context: SpanContext::empty_context(),
+            has_active_span: false,
+            baggage: None,
+            no_baggage: Baggage::empty(),
             telemetry_suppressed: false,
         }
+    }
+
+    /// The context with the span of this span context active, even where that is the empty one.
+    pub fn with_span_context(&self, span_context: SpanContext) -> Result<Context, AllocError>
+        ensures { IfOk result (λ cx. cx ≡ record self.now { span_context = Some span_context }) }
+    {
+        Ok(Context {
+            span_context,
+            has_active_span: true,
+            baggage: self.baggage.clone()?,
+            no_baggage: Baggage::empty(),
+            telemetry_suppressed: self.telemetry_suppressed,
+        })
+    }
+
+    /// As `with_span_context`: whether the span is remote stands in the span context.
+    pub fn with_remote_span_context(&self, span_context: SpanContext) -> Result<Context, AllocError>
+        ensures { IfOk result (λ cx. cx ≡ record self.now { span_context = Some span_context }) }
+    {
+        self.with_span_context(span_context)
+    }
+
+    /// The active span's context, the empty one where no span is active.
+    pub fn span_context(&self) -> &SpanContext
+        ensures { result.now ≡ unwrap_or self.now.span_context empty_span_context }
+    {
+        &self.span_context
+    }
+
+    pub fn has_active_span(&self) -> bool
+        ensures { IsTrue result ↔ IsSome self.now.span_context }
+    {
+        self.has_active_span
+    }
+
+    pub fn with_baggage(&self, baggage: Baggage) -> Result<Context, AllocError>
+        ensures { IfOk result (λ cx. cx ≡ record self.now { baggage = baggage }) }
+    {
+        let shared = match baggage.allocator() {
+            Some(alloc) => Some(Arc::new(alloc, baggage)?),
+            None => None,
+        };
+        Ok(Context {
+            span_context: self.span_context.clone()?,
+            has_active_span: self.has_active_span,
+            baggage: shared,
+            no_baggage: Baggage::empty(),
+            telemetry_suppressed: self.telemetry_suppressed,
+        })
+    }
+
+    pub fn baggage(&self) -> &Baggage
+        ensures { result.now ≡ self.now.baggage }
+    {
+        match &self.baggage {
+            Some(baggage) => baggage,
+            None => &self.no_baggage,
+        }
+    }
+
+    /// The context in which no telemetry is recorded.
+    pub fn with_telemetry_suppressed(&self) -> Result<Context, AllocError>
+        ensures { IfOk result (λ cx. cx ≡ record self.now { telemetry_suppressed = true }) }
+    {
+        let mut cx = self.clone()?;
+        cx.telemetry_suppressed = true;
+        Ok(cx)
+    }
+
+    pub fn is_telemetry_suppressed(&self) -> bool
+        ensures { result ≡ self.now.telemetry_suppressed }
+    {
+        self.telemetry_suppressed
+    }
+}
+
+impl Clone for Context {
+    ghost use Rattle.std.specs.Prelude.{◌≡◌};
+
+    ghost is_clone = { λ cx copy. copy ≡ cx };
+
+    fn clone(&self) -> Result<Context, AllocError> {
+        Ok(Context {
+            span_context: self.span_context.clone()?,
+            has_active_span: self.has_active_span,
+            baggage: self.baggage.clone()?,
+            no_baggage: Baggage::empty(),
+            telemetry_suppressed: self.telemetry_suppressed,
+        })
     }
 }

@@ -2,9 +2,11 @@
 //! of a library.
 #![tactic(auto)]
 
+pub mod baggage;
 pub mod common;
 pub mod context;
 pub mod laws;
+pub mod propagation;
 pub mod time;
 pub mod trace;
 pub mod trace_context;

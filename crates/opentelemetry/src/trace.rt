@@ -2,6 +2,7 @@
 
 pub mod event;
 pub mod link;
+pub mod span_builder;
 pub mod span_context;
 pub mod span_kind;
 pub mod status;
@@ -9,6 +10,7 @@ pub mod trace_state;
 
 pub use event::Event;
 pub use link::Link;
+pub use span_builder::SpanBuilder;
 pub use span_context::SpanContext;
 pub use span_kind::SpanKind;
 pub use status::Status;

@@ -5,7 +5,8 @@ use Rattle.otel_base.specs.Ids.{next_span_id, next_trace_id}
 use Rattle.otel_base.specs.declared.trace.span_limit.SpanLimits.{SpanLimits}
 use Rattle.otel_batch.specs.PlainSpanData.{PlainSpanData}
 use Rattle.opentelemetry_sdk.specs.Each.{PassedThrough}
-use Rattle.opentelemetry_sdk.specs.Provider.{ProviderState, Starts, root_context, root_span, root_start, after_root, empty_context}
+use Rattle.opentelemetry.specs.PlainContexts.{empty_span_context}
+use Rattle.opentelemetry_sdk.specs.Provider.{ProviderState, Starts, root_context, root_span, root_start, after_root}
 use Rattle.opentelemetry_sdk.specs.SpanHistory.{PlainSpan, IsEdited, data_of, recording, not_recording}
 
 -- from the span as it was begun and the provider behind the draws
@@ -19,7 +20,7 @@ starts_open {P} gives old drawn new scope name now begun span h e d edits passed
     let B : PlainSpan → Type 0 = λ b. IsEdited b span × PassedThrough gives b old.processors new.processors span × (new ≡ record old { processors = new.processors; id_generator = after_root old.id_generator }) in
     let D : ProviderState P → Type 0 = λ m. PassedThrough gives begun m.processors new.processors span × (new ≡ record m { processors = new.processors }) in
     let moved = subst D d (passed, rest) in
-    subst (λ (b : Bool). MatchBool b ((span ≡ not_recording empty_context old.span_limits) × (new ≡ old)) (B (recording (root_start old scope name now) []))) (sym h)
+    subst (λ (b : Bool). MatchBool b ((span ≡ not_recording empty_span_context old.span_limits) × (new ≡ old)) (B (recording (root_start old scope name now) []))) (sym h)
     (subst B e (edits, moved.0, moved.1))
 
 -- a recording span by its parts

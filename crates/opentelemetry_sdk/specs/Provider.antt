@@ -1,6 +1,7 @@
 -- What contracts see of a provider, what a start makes, and what an end delivers.
 use Rattle.std.specs.Prelude.{◌≡◌, ℕ, ◌↔◌, Bool, true, false, List, [], ◌∷◌, Option, Some, None, Result, IsOk, IfErr, MatchBool}
 use Rattle.opentelemetry.specs.Plain.{PlainSpanContext, PlainContext, PlainScope}
+use Rattle.opentelemetry.specs.PlainContexts.{empty_span_context}
 use Rattle.opentelemetry.specs.declared.trace.span_kind.SpanKind.TheVariants.{Internal}
 use Rattle.otel_base.specs.declared.error.OTelSdkError.{OTelSdkError}
 use Rattle.otel_base.specs.declared.error.OTelSdkError.TheVariants as errors
@@ -19,10 +20,6 @@ pub record ProviderState (P : Type 0) : Type 0 where
   pub id_generator : List ℕ
   pub span_limits : SpanLimits
   pub is_shut : Bool
-
--- the span context of no span
-abbrev pub empty_context : PlainSpanContext
-empty_context = record { trace_id = 0; span_id = 0; trace_flags = 0; is_remote = false; trace_state = [] }
 
 -- the context of a new root span: a span id is drawn, and then a trace id; the span is sampled
 abbrev pub root_context : List ℕ → PlainSpanContext
@@ -55,7 +52,7 @@ root_start provider scope name now = root_span (root_context provider.id_generat
 -- span, and nothing is drawn
 abbrev pub Starts : {P : Type 0} → (P → PlainSpan → PlainSpan → P → Type 0) → ProviderState P → PlainScope → List ℕ → ℕ → PlainSpan → ProviderState P → Type 0
 Starts gives old scope name now span new = MatchBool old.is_shut
-    ((span ≡ not_recording empty_context old.span_limits) × (new ≡ old))
+    ((span ≡ not_recording empty_span_context old.span_limits) × (new ≡ old))
     (IsEdited (recording (root_start old scope name now) []) span
     × PassedThrough gives (recording (root_start old scope name now) []) old.processors new.processors span
     × (new ≡ record old { processors = new.processors; id_generator = after_root old.id_generator }))
@@ -86,7 +83,7 @@ named name = record { name = name; version = None; schema_url = None; attributes
 
 -- the context in which no span is active
 abbrev pub root_cx : PlainContext
-root_cx = record { span_context = None; telemetry_suppressed = false }
+root_cx = record { span_context = None; baggage = []; telemetry_suppressed = false }
 
 -- a processor that was asked for something else answers as its call can, and is told no span
 abbrev pub GivesAndKeeps : {P R : Type 0} → (P → ProcessorTelling) → (P → R → P → Type 0) → P → R → P → Type 0

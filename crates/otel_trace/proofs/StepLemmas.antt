@@ -7,7 +7,8 @@ use Rattle.otel_batch.specs.PlainSpanData.{PlainSpanData}
 use Rattle.opentelemetry_sdk.specs.SpanHistory.{PlainSpan, SpanStart, SpanHistory, begun, over, Edit, set_attribute, edited, ended, recording, not_recording, data_of, span_of, after, IsEdited}
 use Rattle.opentelemetry_sdk.specs.ProcessorTelling.{ProcessorTelling, Delivery, EachFollows}
 use Rattle.opentelemetry_sdk.specs.Each.{PassedThrough}
-use Rattle.opentelemetry_sdk.specs.Provider.{ProviderState, Starts, deliveries, empty_context, root_context, root_start, root_span, after_root}
+use Rattle.opentelemetry.specs.PlainContexts.{empty_span_context}
+use Rattle.opentelemetry_sdk.specs.Provider.{ProviderState, Starts, deliveries, root_context, root_start, root_span, after_root}
 use Rattle.opentelemetry_sdk.proofs.Following.{EachFollows-same}
 use Rattle.opentelemetry_sdk.proofs.SpanLaws.{edited-recording, after-recording}
 use Rattle.otel_trace.specs.Commands.{PlainCommand, start, attr, end}
@@ -79,16 +80,16 @@ end_found told frame histories old new name moment p q (Some (begun from edits))
 
 new_span : {P : Type 0} (gives : P → PlainSpan → PlainSpan → P → Type 0) (frame : SessionFrame) (histories : Histories) (old new : NamedSpans) (name : List ℕ) (p q : ProviderState P) (called : List ℕ) (moment : ℕ) (answer : Option (SpanIdentity × Bool)) (span : PlainSpan) (shut : Bool)
     → frame.limits ≡ p.span_limits → Give histories old
-    → MatchBool shut ((span ≡ not_recording empty_context p.span_limits) × (q ≡ p))
+    → MatchBool shut ((span ≡ not_recording empty_span_context p.span_limits) × (q ≡ p))
     (IsEdited (recording (root_start p frame.scope called moment) []) span × PassedThrough gives (recording (root_start p frame.scope called moment) []) p.processors q.processors span
     × (q ≡ record p { processors = q.processors; id_generator = after_root p.id_generator }))
     → answer ≡ Some (identity_of span, is_some span.recorded) → PutsSpan old name span new
     → (now : Histories) × NewSpan frame shut histories name called moment (start_answer answer) now × Give now new
 new_span gives frame histories old new name p q called moment answer span true l give h a put = (
-  with_history histories name (over empty_context frame.limits),
+  with_history histories name (over empty_span_context frame.limits),
   (ap start_answer (a ∙ ap (λ (s : PlainSpan). Some (identity_of s, is_some s.recorded)) h.0), refl),
-  give_put histories old new name (over empty_context frame.limits) give
-      (subst (λ (s : PlainSpan). PutsSpan old name s new) (h.0 ∙ ap (λ (limits : SpanLimits). not_recording empty_context limits) (sym l)) put),
+  give_put histories old new name (over empty_span_context frame.limits) give
+      (subst (λ (s : PlainSpan). PutsSpan old name s new) (h.0 ∙ ap (λ (limits : SpanLimits). not_recording empty_span_context limits) (sym l)) put),
 )
 new_span gives frame histories old new name p q called moment answer span false l give h a put =
     let span_is : span ≡ recording (root_start p frame.scope called moment) h.0.0 = h.0.1 ∙ after-recording (root_start p frame.scope called moment) [] h.0.0 in

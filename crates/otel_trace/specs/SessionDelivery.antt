@@ -8,7 +8,8 @@ use Rattle.otel_base.specs.declared.trace.span_limit.SpanLimits.{SpanLimits}
 use Rattle.otel_batch.specs.PlainSpanData.{PlainSpanData}
 use Rattle.opentelemetry_sdk.specs.SpanHistory.{SpanHistory, begun, over, SpanStart, Edit, set_attribute, data_of, span_of}
 use Rattle.opentelemetry_sdk.specs.ProcessorTelling.{ProcessorTelling, Delivery, EachFollows}
-use Rattle.opentelemetry_sdk.specs.Provider.{ProviderState, empty_context, root_span}
+use Rattle.opentelemetry.specs.PlainContexts.{empty_span_context}
+use Rattle.opentelemetry_sdk.specs.Provider.{ProviderState, root_span}
 use Rattle.otel_trace.specs.Commands.{PlainCommand, start, attr, end, plain_commands}
 use Rattle.otel_trace.specs.OpenSpans.{NamedSpans, SameSpans, named, is_name}
 use Rattle.otel_trace.specs.AnswerText.{replies_text}
@@ -54,7 +55,7 @@ end_delivers false span refused = record { span = span; refused = refused } ∷ 
 
 -- what a start makes of a new name: a span of its own, which the processors may edit at once; at a shut provider nobody
 abbrev pub NewSpan : SessionFrame → Bool → Histories → List ℕ → List ℕ → ℕ → Answer → Histories → Type 0
-NewSpan frame true old span name moment answer new = (answer ≡ answers.Dropped nobody) × (new ≡ with_history old span (over empty_context frame.limits))
+NewSpan frame true old span name moment answer new = (answer ≡ answers.Dropped nobody) × (new ≡ with_history old span (over empty_span_context frame.limits))
 NewSpan frame false old span name moment answer new = (identity : SpanIdentity) × (edits : List Edit) × (identity.trace_flags ≡ 1) × (answer ≡ answers.Started identity)
     × (new ≡ with_history old span (begun (root_span (root_context_of identity) frame.scope name moment frame.limits) edits))
 

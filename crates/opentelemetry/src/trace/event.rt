@@ -1,5 +1,7 @@
 //! Something that happened within a span at a moment.
 
+ghost use Rattle.std.specs.Prelude.{◌≡◌, string_bytes};
+
 use crate::{KeyValue, Moment};
 use std::alloc::AllocError;
 use std::marker::Model;
@@ -22,6 +24,20 @@ impl Model for Event {
     ghost view = { λ a. record { name = string_bytes a.name; timestamp = a.timestamp.0; attributes = a.attributes.items; dropped_attributes_count = a.dropped_attributes_count } };
 }
 
+impl Event {
+    /// `dropped` says how many attributes the caller left out already.
+    pub fn new(name: String, timestamp: Moment, attributes: Vec<KeyValue>, dropped: u32) -> Event
+        ensures { result ≡ record { name = string_bytes name; timestamp = timestamp.0; attributes = attributes.items; dropped_attributes_count = dropped } }
+    {
+        Event {
+            name,
+            timestamp,
+            attributes,
+            dropped_attributes_count: dropped,
+        }
+    }
+}
+
 impl Clone for Event {
     ghost use Rattle.std.specs.Prelude.{◌≡◌};
 
@@ -35,4 +51,31 @@ impl Clone for Event {
             dropped_attributes_count: self.dropped_attributes_count,
         })
     }
+}
+
+impl PartialEq for Event {
+    ghost use Rattle.std.specs.Prelude.{◌≡◌, ◌↔◌, IsTrue};
+    ghost use Rattle.opentelemetry.specs.Same.{partial_equivalence_from_decides};
+    ghost use Rattle.opentelemetry.specs.SameParts.{same_event, same_event_decides};
+
+    ghost eq = { same_event };
+
+    ghost laws = { partial_equivalence_from_decides same_event same_event_decides };
+
+    fn eq(&self, other: &Event) -> bool
+        ensures value { result ≡ same_event self.now other.now }
+        ensures same { IsTrue result ↔ (self.now ≡ other.now) }
+    {
+        self.name == other.name
+            && self.timestamp == other.timestamp
+            && self.attributes == other.attributes
+            && self.dropped_attributes_count == other.dropped_attributes_count
+    }
+}
+
+impl Eq for Event {
+    ghost use Rattle.opentelemetry.specs.Same.{equivalence_from_decides};
+    ghost use Rattle.opentelemetry.specs.SameParts.{same_event, same_event_decides};
+
+    ghost laws = { equivalence_from_decides same_event same_event_decides };
 }

@@ -1,5 +1,7 @@
 //! Another span that a span points to.
 
+ghost use Rattle.std.specs.Prelude.{◌≡◌};
+
 use crate::KeyValue;
 use crate::trace::SpanContext;
 use std::alloc::AllocError;
@@ -21,6 +23,19 @@ impl Model for Link {
     ghost view = { λ a. record { span_context = a.span_context; attributes = a.attributes.items; dropped_attributes_count = a.dropped_attributes_count } };
 }
 
+impl Link {
+    /// `dropped` says how many attributes the caller left out already.
+    pub fn new(span_context: SpanContext, attributes: Vec<KeyValue>, dropped: u32) -> Link
+        ensures { result ≡ record { span_context = span_context; attributes = attributes.items; dropped_attributes_count = dropped } }
+    {
+        Link {
+            span_context,
+            attributes,
+            dropped_attributes_count: dropped,
+        }
+    }
+}
+
 impl Clone for Link {
     ghost use Rattle.std.specs.Prelude.{◌≡◌};
 
@@ -33,4 +48,30 @@ impl Clone for Link {
             dropped_attributes_count: self.dropped_attributes_count,
         })
     }
+}
+
+impl PartialEq for Link {
+    ghost use Rattle.std.specs.Prelude.{◌≡◌, ◌↔◌, IsTrue};
+    ghost use Rattle.opentelemetry.specs.Same.{partial_equivalence_from_decides};
+    ghost use Rattle.opentelemetry.specs.SameParts.{same_link, same_link_decides};
+
+    ghost eq = { same_link };
+
+    ghost laws = { partial_equivalence_from_decides same_link same_link_decides };
+
+    fn eq(&self, other: &Link) -> bool
+        ensures value { result ≡ same_link self.now other.now }
+        ensures same { IsTrue result ↔ (self.now ≡ other.now) }
+    {
+        self.span_context == other.span_context
+            && self.attributes == other.attributes
+            && self.dropped_attributes_count == other.dropped_attributes_count
+    }
+}
+
+impl Eq for Link {
+    ghost use Rattle.opentelemetry.specs.Same.{equivalence_from_decides};
+    ghost use Rattle.opentelemetry.specs.SameParts.{same_link, same_link_decides};
+
+    ghost laws = { equivalence_from_decides same_link same_link_decides };
 }

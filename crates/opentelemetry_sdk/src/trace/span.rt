@@ -3,7 +3,8 @@
 
 ghost use Rattle.std.specs.Prelude.{◌≡◌, ◌≤◌, length, OnOk, OnErr, IfOk, IsOk, IsNone, IsTrue, Some, is_some, option_copied};
 ghost use Rattle.opentelemetry_sdk.specs.ProcessorTelling.{EachFollows};
-ghost use Rattle.opentelemetry_sdk.specs.Provider.{DeliversIf, deliveries, empty_context};
+ghost use Rattle.opentelemetry.specs.PlainContexts.{empty_span_context};
+ghost use Rattle.opentelemetry_sdk.specs.Provider.{DeliversIf, deliveries};
 ghost use Rattle.opentelemetry_sdk.specs.SpanHistory as history;
 
 use crate::trace::{ProviderOf, SpanProcessor};
@@ -47,7 +48,7 @@ impl Span {
 
     /// A span that is none.
     pub(crate) fn not_recording(span_limits: SpanLimits) -> Span
-        ensures { result ≡ history.not_recording empty_context span_limits }
+        ensures { result ≡ history.not_recording empty_span_context span_limits }
     {
         Span {
             span_context: SpanContext::empty_context(),

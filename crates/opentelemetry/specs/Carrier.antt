@@ -1,0 +1,20 @@
+-- What carries headers: a finite map from names to texts.
+use Rattle.std.specs.Prelude.{◌≡◌, ◌≢◌, ℕ, List, Option, Some}
+use Rattle.std.specs.Str.{str_to_ascii_lowercase}
+
+-- the texts that a carrier has, by name
+abbrev pub Texts : Type 0
+Texts = List ℕ → Option (List ℕ)
+
+-- the names differ in more than ASCII case
+abbrev pub IsOtherName : List ℕ → List ℕ → Type 0
+IsOtherName a b = str_to_ascii_lowercase a ≢ str_to_ascii_lowercase b
+
+-- a name was given a text, and the names that differ from it in more than ASCII case are as before
+pub record SetsText (old new : Texts) (name text : List ℕ) : Type 0 where
+  pub set : new name ≡ Some text
+  pub others : (other : List ℕ) → IsOtherName other name → new other ≡ old other
+
+-- every name has the text that it had
+abbrev pub SameTexts : Texts → Texts → Type 0
+SameTexts old new = (name : List ℕ) → new name ≡ old name

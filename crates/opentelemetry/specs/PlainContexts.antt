@@ -1,0 +1,20 @@
+-- What contracts see of a context's parts.
+use Rattle.std.specs.Prelude.{ℕ, Bool, true, false, List, [], Option, Some, None}
+use Rattle.std.specs.Arc.{arc_value}
+use Rattle.std.specs.declared.sync.Arc.{Arc}
+use Rattle.opentelemetry.specs.Baggage.{PlainBaggage}
+use Rattle.opentelemetry.specs.Plain.{PlainSpanContext}
+
+-- the context of no span
+abbrev pub empty_span_context : PlainSpanContext
+empty_span_context = record { trace_id = 0; span_id = 0; trace_flags = 0; is_remote = false; trace_state = [] }
+
+-- the span context where a span is active
+abbrev pub active_span_context : Bool → PlainSpanContext → Option PlainSpanContext
+active_span_context true span_context = Some span_context
+active_span_context false span_context = None
+
+-- the baggage that is shared; the empty one where nothing is
+abbrev pub shared_baggage : {D : Type 0} → Option (Arc PlainBaggage D) → PlainBaggage
+shared_baggage None = []
+shared_baggage (Some shared) = arc_value shared

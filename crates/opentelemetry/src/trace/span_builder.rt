@@ -1,0 +1,155 @@
+//! What a span is to start with: handed to a tracer, which asks its sampler and starts the span.
+
+ghost use Rattle.std.specs.Prelude.{◌≡◌, None, Some, string_bytes};
+ghost use Rattle.std.specs.Option.{option_eq};
+ghost use Rattle.opentelemetry.specs.SameBuilder.{same_kind, kind_place};
+
+#[cfg(test)]
+mod tests;
+
+use crate::trace::{Event, Link, SpanKind};
+use crate::{KeyValue, Moment};
+use std::alloc::AllocError;
+use std::marker::Model;
+
+/// A span's name, and what else the caller knows of it before it starts. What is `None` is left to the tracer.
+#[derive(Debug, Drop)]
+pub struct SpanBuilder {
+    pub name: String,
+    pub span_kind: Option<SpanKind>,
+    pub start_time: Option<Moment>,
+    pub attributes: Option<Vec<KeyValue>>,
+    pub events: Option<Vec<Event>>,
+    pub links: Option<Vec<Link>>,
+}
+
+impl Model for SpanBuilder {
+    ghost use Rattle.opentelemetry.specs.PlainSpanBuilder.{PlainSpanBuilder};
+
+    ghost Value = { PlainSpanBuilder };
+
+    ghost use Rattle.std.specs.Prelude.{string_bytes};
+    ghost use Rattle.std.specs.Option.{option_map};
+
+    ghost view = { λ a. record { name = string_bytes a.name; span_kind = a.span_kind; start_time = option_map (λ m. m.0) a.start_time; attributes = option_map (λ v. v.items) a.attributes; events = option_map (λ v. v.items) a.events; links = option_map (λ v. v.items) a.links } };
+}
+
+impl SpanBuilder {
+    /// A builder with a name and nothing else.
+    pub fn from_name(name: String) -> SpanBuilder
+        ensures { result ≡ record { name = string_bytes name; span_kind = None; start_time = None; attributes = None; events = None; links = None } }
+    {
+        SpanBuilder {
+            name,
+            span_kind: None,
+            start_time: None,
+            attributes: None,
+            events: None,
+            links: None,
+        }
+    }
+
+    pub fn with_kind(mut self, span_kind: SpanKind) -> SpanBuilder
+        ensures { result ≡ record self { span_kind = Some span_kind } }
+    {
+        self.span_kind = Some(span_kind);
+        self
+    }
+
+    pub fn with_start_time(mut self, start_time: Moment) -> SpanBuilder
+        ensures { result ≡ record self { start_time = Some start_time.0 } }
+    {
+        self.start_time = Some(start_time);
+        self
+    }
+
+    pub fn with_attributes(mut self, attributes: Vec<KeyValue>) -> SpanBuilder
+        ensures { result ≡ record self { attributes = Some attributes.items } }
+    {
+        self.attributes = Some(attributes);
+        self
+    }
+
+    pub fn with_events(mut self, events: Vec<Event>) -> SpanBuilder
+        ensures { result ≡ record self { events = Some events.items } }
+    {
+        self.events = Some(events);
+        self
+    }
+
+    pub fn with_links(mut self, links: Vec<Link>) -> SpanBuilder
+        ensures { result ≡ record self { links = Some links.items } }
+    {
+        self.links = Some(links);
+        self
+    }
+}
+
+impl Clone for SpanBuilder {
+    ghost use Rattle.std.specs.Prelude.{◌≡◌};
+
+    ghost is_clone = { λ builder copy. copy ≡ builder };
+
+    fn clone(&self) -> Result<SpanBuilder, AllocError> {
+        Ok(SpanBuilder {
+            name: self.name.clone()?,
+            span_kind: self.span_kind,
+            start_time: self.start_time,
+            attributes: self.attributes.clone()?,
+            events: self.events.clone()?,
+            links: self.links.clone()?,
+        })
+    }
+}
+
+impl PartialEq for SpanBuilder {
+    ghost use Rattle.std.specs.Prelude.{◌≡◌, ◌↔◌, IsTrue};
+    ghost use Rattle.opentelemetry.specs.Same.{partial_equivalence_from_decides};
+    ghost use Rattle.opentelemetry.specs.SameBuilder.{same_builder, same_builder_decides};
+
+    ghost eq = { same_builder };
+
+    ghost laws = { partial_equivalence_from_decides same_builder same_builder_decides };
+
+    fn eq(&self, other: &SpanBuilder) -> bool
+        ensures value { result ≡ same_builder self.now other.now }
+        ensures same { IsTrue result ↔ (self.now ≡ other.now) }
+    {
+        self.name == other.name
+            && same_kinds(self.span_kind, other.span_kind)
+            && self.start_time == other.start_time
+            && self.attributes == other.attributes
+            && self.events == other.events
+            && self.links == other.links
+    }
+}
+
+impl Eq for SpanBuilder {
+    ghost use Rattle.opentelemetry.specs.Same.{equivalence_from_decides};
+    ghost use Rattle.opentelemetry.specs.SameBuilder.{same_builder, same_builder_decides};
+
+    ghost laws = { equivalence_from_decides same_builder same_builder_decides };
+}
+
+fn same_kinds(this: Option<SpanKind>, that: Option<SpanKind>) -> bool
+    ensures { result ≡ option_eq same_kind this that }
+{
+    match (this, that) {
+        (Some(this), Some(that)) => place_of(this) == place_of(that),
+        (None, None) => true,
+        _ => false,
+    }
+}
+
+/// Where a kind stands among the kinds.
+fn place_of(kind: SpanKind) -> u8
+    ensures { result ≡ kind_place kind }
+{
+    match kind {
+        SpanKind::Client => 0,
+        SpanKind::Server => 1,
+        SpanKind::Producer => 2,
+        SpanKind::Consumer => 3,
+        SpanKind::Internal => 4,
+    }
+}
