@@ -141,3 +141,6 @@ fn provider_of(alloc: Global, seed: u64) -> Result<SdkTracerProvider, AllocError
         SpanLimits::default(),
     ))
 }
+
+#[cfg(test)]
+mod tests;

@@ -55,3 +55,6 @@ impl<M: SpanExporter, C: SpanExporter> SpanExporter for ExporterOf<M, C> {
         }
     }
 }
+
+#[cfg(test)]
+mod tests;

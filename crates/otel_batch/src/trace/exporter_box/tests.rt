@@ -1,0 +1,88 @@
+ghost use Rattle.std.specs.Prelude.{None};
+
+use super::*;
+use crate::trace::{SpanEvents, SpanLinks};
+use opentelemetry::trace::{SpanContext, SpanKind, Status, TraceState};
+use opentelemetry::{InstrumentationScope, Moment, SpanId, TraceFlags, TraceId};
+use otel_base::error::OTelSdkError;
+use std::alloc::{AllocError, Global};
+use std::test::Fail;
+
+/// An exporter of a caller's own: each answer says, as a time that ran out, what it was handed.
+#[derive(Drop)]
+struct Echo;
+
+impl SpanExporter for Echo {
+    ghost told = { λ _. None };
+
+    fn export(&mut self, batch: Vec<SpanData>) -> OTelSdkResult {
+        let seconds = batch.first().map_or(0, |span| span.start_time.0);
+        Err(OTelSdkError::Timeout(Duration::from_secs(seconds)))
+    }
+
+    fn shutdown_with_timeout(&mut self, timeout: Duration) -> OTelSdkResult {
+        Err(OTelSdkError::Timeout(timeout))
+    }
+}
+
+/// The seconds that ran out.
+fn seconds_of(answer: OTelSdkResult) -> Option<u64> {
+    match answer {
+        Err(OTelSdkError::Timeout(timeout)) => Some(timeout.as_secs()),
+        _ => None,
+    }
+}
+
+/// One span that started at this moment.
+fn batch_from(alloc: Global, moment: u64) -> Result<Vec<SpanData>, AllocError> {
+    let mut batch = Vec::new(alloc);
+    batch.push(SpanData {
+        span_context: SpanContext::new(
+            TraceId::from(1),
+            SpanId::from(2),
+            TraceFlags::new(1),
+            false,
+            TraceState::new(),
+        ),
+        parent_span_id: SpanId::INVALID,
+        parent_span_is_remote: false,
+        span_kind: SpanKind::Internal,
+        name: String::new(alloc),
+        start_time: Moment(moment),
+        end_time: Moment(moment),
+        attributes: Vec::new(alloc),
+        dropped_attributes_count: 0,
+        events: SpanEvents::new(alloc),
+        links: SpanLinks::new(alloc),
+        status: Status::Unset,
+        instrumentation_scope: InstrumentationScope::builder(alloc, String::new(alloc)).build()?,
+    })?;
+    Ok(batch)
+}
+
+#[test]
+fn batches_are_kept_in_order(rt: HostRuntime) -> Result<(), Fail> {
+    let mut exporter = ExporterBox::Memory(InMemorySpanExporter::new(rt.alloc()));
+    exporter.export(batch_from(rt.alloc(), 7)?)?;
+    exporter.export(batch_from(rt.alloc(), 8)?)?;
+    let ExporterOf::Memory(memory) = &exporter else {
+        return Err(Fail::new("another exporter"));
+    };
+    let batches = memory.batches();
+    assert_eq!(rt; batches.len(), 2);
+    for (batch, moment) in batches.iter().zip([7, 8]) {
+        assert_eq!(rt; batch.len(), 1);
+        assert_eq!(rt; batch[0].start_time.0, moment);
+    }
+    Ok(())
+}
+
+#[test]
+fn an_exporter_of_the_callers_is_reached(rt: HostRuntime) -> Result<(), Fail> {
+    let mut exporter = ExporterBox::Custom(Box::new(rt.alloc(), Echo)?);
+    let exported = exporter.export(batch_from(rt.alloc(), 7)?);
+    assert_eq!(rt; seconds_of(exported), Some(7));
+    assert!(rt; exporter.force_flush().is_ok());
+    assert_eq!(rt; seconds_of(exporter.shutdown()), Some(5));
+    Ok(())
+}

@@ -1,0 +1,275 @@
+use super::*;
+use std::fmt::Write as _;
+use std::io;
+use std::process::Abort;
+use std::test::Fail;
+
+const SIMPLE: &[&str] = &["trace", "0", "simple"];
+
+const STARTED: &str = "started 00-5c0fdf91ec9a7bfc61da6f3dc380d507-53175d61490b23df-01\n";
+
+const ENDED: &str = "started 00-5c0fdf91ec9a7bfc61da6f3dc380d507-53175d61490b23df-01
+span 5c0fdf91ec9a7bfc61da6f3dc380d507 53175d61490b23df 0000000000000000 01 1000 2000 GET unset attrs [] 0 events [] 0 links 0 0
+ended
+";
+
+const ENDED_TWICE: &str = "started 00-5c0fdf91ec9a7bfc61da6f3dc380d507-53175d61490b23df-01
+ok
+span 5c0fdf91ec9a7bfc61da6f3dc380d507 53175d61490b23df 0000000000000000 01 1000 2000 GET unset attrs [http.method=GET] 0 events [] 0 links 0 0
+ended
+ignored
+";
+
+const UNKNOWN: &str = "no such span\n";
+
+/// Gives its bytes one a call, and fails behind them.
+#[derive(Drop)]
+struct BrokenReader {
+    bytes: &'static [u8],
+}
+
+impl Read for BrokenReader {
+    fn read(&mut self, buf: &mut [u8]) -> io::Result<usize> {
+        if buf.is_empty() {
+            return Ok(0);
+        }
+        let [first, rest @ ..] = self.bytes else {
+            return Err(io::ErrorKind::Other.into());
+        };
+        buf[0] = *first;
+        self.bytes = rest;
+        Ok(1)
+    }
+}
+
+/// Takes no byte.
+#[derive(Drop)]
+struct FullWriter;
+
+impl Write for FullWriter {
+    fn write(&mut self, _buf: &[u8]) -> io::Result<usize> {
+        Err(io::ErrorKind::StorageFull.into())
+    }
+
+    fn flush(&mut self) -> io::Result<()> {
+        Ok(())
+    }
+}
+
+/// Takes each byte and loses all of them.
+#[derive(Drop)]
+struct LosingWriter;
+
+impl Write for LosingWriter {
+    fn write(&mut self, buf: &[u8]) -> io::Result<usize> {
+        Ok(buf.len())
+    }
+
+    fn flush(&mut self) -> io::Result<()> {
+        Err(io::ErrorKind::Other.into())
+    }
+}
+
+fn words_of(alloc: Global, words: &[&str]) -> Result<Vec<String>, AllocError> {
+    let mut owned = Vec::new(alloc);
+    for word in words {
+        owned.push(String::from_str(alloc, word)?)?;
+    }
+    Ok(owned)
+}
+
+/// Asserts what the program makes of an input, and that it left so many bytes of it.
+fn assert_runs(
+    rt: &impl Abort,
+    alloc: Global,
+    name: &str,
+    words: &[&str],
+    mut input: &[u8],
+    want: (u8, &str, &str, usize),
+) -> Result<(), AllocError> {
+    let words = words_of(alloc, words)?;
+    let mut output = Vec::new(alloc);
+    let mut faults = Vec::new(alloc);
+    let status = run_program(alloc, &words, &mut input, &mut output, &mut faults);
+    assert_eq!(rt; output.as_slice(), want.1.as_bytes(), "{name}");
+    assert_eq!(rt; faults.as_slice(), want.2.as_bytes(), "{name}");
+    assert_eq!(rt; status, want.0, "{name}");
+    assert_eq!(rt; input.len(), want.3, "{name}");
+    Ok(())
+}
+
+#[test]
+fn each_line_is_answered(rt: HostRuntime) -> Result<(), Fail> {
+    let cases: [(&str, &[u8], &str); 7] = [
+        ("an empty input", b"", ""),
+        (
+            "an end after the end",
+            b"start s GET 1000\nattr s http.method GET\nend s 2000\nend s 3000\n",
+            ENDED_TWICE,
+        ),
+        ("an unknown span", b"end x 5\n", UNKNOWN),
+        ("a span that stays open", b"start s a 1\n", STARTED),
+        ("a last line without its end", b"end x 5", UNKNOWN),
+        ("empty lines", b"\n\r\n\nend x 5\n\n", UNKNOWN),
+        (
+            "carriage returns",
+            b"start s GET 1000\r\nend s 2000\r\n",
+            ENDED,
+        ),
+    ];
+    for (name, input, output) in cases {
+        assert_runs(&rt, rt.alloc(), name, SIMPLE, input, (0, output, "", 0))?;
+    }
+    Ok(())
+}
+
+#[test]
+fn the_first_bad_line_is_named(rt: HostRuntime) -> Result<(), Fail> {
+    let cases: [(&str, &[u8], &str, &str); 4] = [
+        (
+            "a bad line in the middle",
+            b"end x 5\nstop\nstart s a 1\n",
+            UNKNOWN,
+            "line 2: cannot read\n",
+        ),
+        (
+            "empty lines are counted",
+            b"\nend x 5\n\r\n\nstop\n",
+            UNKNOWN,
+            "line 5: cannot read\n",
+        ),
+        (
+            "a carriage return at the end of the input stays",
+            b"end x 5\nend x 5\r",
+            UNKNOWN,
+            "line 2: cannot read\n",
+        ),
+        (
+            "one of two carriage returns stays",
+            b"end x 5\r\r\n",
+            "",
+            "line 1: cannot read\n",
+        ),
+    ];
+    for (name, input, output, faults) in cases {
+        assert_runs(&rt, rt.alloc(), name, SIMPLE, input, (2, output, faults, 0))?;
+    }
+    Ok(())
+}
+
+#[test]
+fn wrong_arguments_are_refused_before_the_input(rt: HostRuntime) -> Result<(), Fail> {
+    let usage = "usage: otel_trace trace SEED simple | trace SEED batch Q B | steps Q B P\n";
+    let cases: [(&str, &[&str]); 6] = [
+        ("no argument", &[]),
+        ("a mode alone", &["trace"]),
+        ("a seed that is no number", &["trace", "x", "simple"]),
+        ("an unknown processor", &["trace", "0", "other"]),
+        ("an unknown mode", &["other", "0", "simple"]),
+        ("an argument too many", &["trace", "0", "simple", "1"]),
+    ];
+    for (name, words) in cases {
+        assert_runs(
+            &rt,
+            rt.alloc(),
+            name,
+            words,
+            b"end x 5\n",
+            (2, "", usage, 8),
+        )?;
+    }
+    Ok(())
+}
+
+/// What starts a span, sets so many attributes and ends it.
+fn many_attributes(alloc: Global, count: u64) -> Result<String, AllocError> {
+    let mut text = String::from_str(alloc, "start s GET 1000\n")?;
+    for i in 0..count {
+        write!(text, "attr s k{i} v\n")?;
+    }
+    text.push_str("end s 2000\n")?;
+    Ok(text)
+}
+
+/// The answers where 128 attributes are kept and one is not.
+fn all_but_one_kept(alloc: Global) -> Result<String, AllocError> {
+    let mut text = String::from_str(alloc, STARTED)?;
+    for _ in 0..129 {
+        text.push_str("ok\n")?;
+    }
+    text.push_str("span 5c0fdf91ec9a7bfc61da6f3dc380d507 53175d61490b23df 0000000000000000 01 ")?;
+    text.push_str("1000 2000 GET unset attrs [k0=v")?;
+    for i in 1..128 {
+        write!(text, ",k{i}=v")?;
+    }
+    text.push_str("] 1 events [] 0 links 0 0\nended\n")?;
+    Ok(text)
+}
+
+#[test]
+fn attributes_past_the_limit_are_counted(rt: HostRuntime) -> Result<(), Fail> {
+    let input = many_attributes(rt.alloc(), 129)?;
+    let output = all_but_one_kept(rt.alloc())?;
+    let want = (0, output.as_str(), "", 0);
+    assert_runs(
+        &rt,
+        rt.alloc(),
+        "129 attributes",
+        SIMPLE,
+        input.as_bytes(),
+        want,
+    )?;
+    Ok(())
+}
+
+#[test]
+fn a_failed_read_answers_nothing(rt: HostRuntime) -> Result<(), Fail> {
+    let words = words_of(rt.alloc(), SIMPLE)?;
+    let inputs: [&'static [u8]; 2] = [b"", b"start s a 1\nstop\n"];
+    for bytes in inputs {
+        let mut output = Vec::new(rt.alloc());
+        let mut faults = Vec::new(rt.alloc());
+        let mut input = BrokenReader { bytes };
+        let status = run_program(rt.alloc(), &words, &mut input, &mut output, &mut faults);
+        assert_eq!(rt; status, 1);
+        assert!(rt; output.is_empty());
+        assert!(rt; faults.is_empty());
+    }
+    Ok(())
+}
+
+/// The status where the output and the faults go to these writers.
+fn status_over<W: Write, F: Write>(
+    alloc: Global,
+    words: &[&str],
+    mut input: &[u8],
+    output: &mut W,
+    faults: &mut F,
+) -> Result<u8, AllocError> {
+    let words = words_of(alloc, words)?;
+    Ok(run_program(alloc, &words, &mut input, output, faults))
+}
+
+#[test]
+fn a_failed_output_outranks_a_bad_line(rt: HostRuntime) -> Result<(), Fail> {
+    let mut faults = Vec::new(rt.alloc());
+    let input = b"end x 5\nstop\n";
+    let full = status_over(rt.alloc(), SIMPLE, input, &mut FullWriter, &mut faults)?;
+    assert_eq!(rt; full, 1);
+    let lost = status_over(rt.alloc(), SIMPLE, input, &mut LosingWriter, &mut faults)?;
+    assert_eq!(rt; lost, 1);
+    assert!(rt; faults.is_empty());
+    Ok(())
+}
+
+#[test]
+fn a_fault_that_cannot_be_written_fails(rt: HostRuntime) -> Result<(), Fail> {
+    let mut output = Vec::new(rt.alloc());
+    for words in [SIMPLE, &["trace"]] {
+        let full = status_over(rt.alloc(), words, b"stop\n", &mut output, &mut FullWriter)?;
+        assert_eq!(rt; full, 1);
+        let lost = status_over(rt.alloc(), words, b"stop\n", &mut output, &mut LosingWriter)?;
+        assert_eq!(rt; lost, 1);
+    }
+    Ok(())
+}
