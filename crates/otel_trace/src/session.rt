@@ -282,3 +282,6 @@ fn text_attribute(key: String, value: String) -> KeyValue
 {
     KeyValue::new(Key::new(key), Value::String(value))
 }
+
+#[cfg(test)]
+mod tests;
