@@ -131,6 +131,12 @@ impl<P: SpanProcessor + KeepsBatches> Session<P> {
         }
     }
 
+    /// Whether the first processor keeps a batch for each span that has ended. Where it exports each span at once, memory
+    /// was missing if not.
+    pub(crate) fn keeps_each_ended(&self) -> bool {
+        self.spans.ended() <= kept_by_first(self.provider.processors()).len()
+    }
+
     /// Spends the session: its spans are abandoned, the provider is shut down where it is open, and the lines of the spans
     /// that no reply has shown are appended. The answer is that of the shutdown, and `OutOfMemory` where the lines found
     /// no memory.
