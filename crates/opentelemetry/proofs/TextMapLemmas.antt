@@ -11,7 +11,7 @@ use Rattle.std.specs.FinMap.{FinMap, find, put, from_entries, same_map, get-from
 use Rattle.std.specs.BTreeMap.{BTreeMap, is_at, get_by_text, UpdatesBy, insert_entry, get}
 use Rattle.std.specs.Map.{lookup, keys_of}
 use Rattle.std.specs.List.Sorted.{IsStrictlySortedBy}
-use Rattle.std.specs.List.{AllByRecursion}
+use Rattle.std.specs.List.{AllByRecursion, AllZip}
 use Rattle.std.specs.String.{string_cmp}
 use Rattle.std.specs.Char.{to_ascii_lowercase}
 use Rattle.std.specs.Str.{bytes_eq, str_to_ascii_lowercase, str_eq_ignore_ascii_case}
@@ -148,3 +148,20 @@ first_text-texts_of m name low = first_text-find name m.entries low ∙ sym (get
 -- nothing is left
 pub all_gathered : {A X : Type 0} (f : A → X) (xs ys : List X) (left : List A) → left ≡ [] → xs ++ map f left ≡ ys → xs ≡ ys
 all_gathered f xs ys left none same = sym (append-nil xs) ∙ ap (λ rest. xs ++ map f rest) (sym none) ∙ same
+
+copied_texts : {Y Z : Type 0} (es fs : List (String Y × String Z)) → AllZip (λ p q. (string_bytes q.0 ≡ string_bytes p.0) × (string_bytes q.1 ≡ string_bytes p.1)) es fs → text_entries fs ≡ text_entries es
+copied_texts [] [] h = refl
+copied_texts [] (f ∷ fs) h = absurd h
+copied_texts (e ∷ es) [] h = absurd h
+copied_texts (e ∷ es) (f ∷ fs) h = let name = h.0.0 in let text = h.0.1 in let others = copied_texts es fs h.1 in cc
+
+-- maps whose entries are clones of each other have the same bytes
+pub copied_text_map : {Y Z : Type 0} (m n : BTreeMap (String Y) (String Z)) → AllZip (λ p q. (string_bytes q.0 ≡ string_bytes p.0) × (string_bytes q.1 ≡ string_bytes p.1)) m.entries n.entries → text_map n ≡ text_map m
+copied_text_map m n h = ap (λ (es : List (List ℕ × List ℕ)). from_entries {R = slice_cmp nat_cmp} es) (copied_texts m.entries n.entries h)
+
+-- clones of names in lower case are in lower case
+pub AllLowerNames-copied : {Y Z : Type 0} (es fs : List (String Y × String Z)) → AllZip (λ p q. (string_bytes q.0 ≡ string_bytes p.0) × (string_bytes q.1 ≡ string_bytes p.1)) es fs → AllLowerNames es → AllLowerNames fs
+AllLowerNames-copied [] [] h low = tt
+AllLowerNames-copied [] (f ∷ fs) h low = absurd h
+AllLowerNames-copied (e ∷ es) [] h low = absurd h
+AllLowerNames-copied (e ∷ es) (f ∷ fs) h low = (subst IsLowerName (sym h.0.0) low.0, AllLowerNames-copied es fs h.1 low.1)

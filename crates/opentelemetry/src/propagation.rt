@@ -96,6 +96,19 @@ impl FieldIter {
     }
 }
 
+impl Clone for FieldIter {
+    ghost use Rattle.std.specs.Prelude.{◌≡◌};
+
+    ghost is_clone = { λ fields copy. copy ≡ fields };
+
+    fn clone(&self) -> Result<FieldIter, AllocError> {
+        Ok(FieldIter {
+            names: self.names,
+            given: self.given,
+        })
+    }
+}
+
 impl Iterator for FieldIter {
     type Item = &'static str;
 

@@ -84,6 +84,27 @@ impl Extractor for MapCarrier {
     }
 }
 
+impl Clone for MapCarrier {
+    ghost use Rattle.std.specs.Prelude.{◌≡◌};
+
+    ghost is_clone = { λ carrier copy. copy ≡ carrier };
+
+    fn clone(&self) -> Result<MapCarrier, AllocError> {
+        Ok(MapCarrier {
+            texts: copy_of(&self.texts)?,
+            alloc: self.alloc,
+        })
+    }
+}
+
+fn copy_of(texts: &BTreeMap<String, String>) -> Result<BTreeMap<String, String>, AllocError>
+    ensures same { IfOk result (λ copy. text_map copy ≡ text_map texts.now) }
+    ensures lower { AllLowerNames texts.now.entries → IfOk result (λ copy. AllLowerNames copy.entries) }
+{
+    let copy = texts.clone()?;
+    Ok(copy)
+}
+
 /// The names, in the order of their bytes.
 fn names_of(alloc: Global, texts: &BTreeMap<String, String>) -> Result<Vec<&str>, AllocError>
     ensures named { IfOk result (λ names. map (λ name. name.now) names.items ≡ fin.keys (text_map texts.now)) }

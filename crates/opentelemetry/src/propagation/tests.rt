@@ -51,8 +51,10 @@ fn a_propagator_of_ones_own_writes_into_a_map(rt: HostRuntime) -> Result<(), Fai
     assert_eq!(rt; carrier.get("GREETING"), Some("hello"));
     let _cx = greeting.extract_with_context(&Context::new(), &carrier)?;
     let mut fields = greeting.fields();
+    let mut copy = fields.clone()?;
     assert_eq!(rt; fields.next(), Some("Greeting"));
     assert_eq!(rt; fields.next(), None);
+    assert_eq!(rt; copy.next(), Some("Greeting"));
     Ok(())
 }
 
@@ -82,6 +84,7 @@ fn names_that_differ_in_case_alone_are_one(rt: HostRuntime) -> Result<(), Fail> 
     assert_eq!(rt; carrier.get("TRACEPARENT"), Some("y"));
     assert_eq!(rt; carrier.get("baggage"), Some("z"));
     assert_eq!(rt; carrier.get("tracestate"), None);
+    assert_eq!(rt; carrier.clone()?.get("Traceparent"), Some("y"));
     let names = carrier.keys(alloc)?;
     assert_eq!(rt; names.as_slice(), ["baggage", "traceparent"].as_slice());
     Ok(())
