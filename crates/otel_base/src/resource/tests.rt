@@ -282,6 +282,7 @@ fn merged_schemas_depend_on_which_two_are_first(rt: HostRuntime) -> Result<(), F
 fn the_first_source_with_a_name_names_the_service(rt: HostRuntime) -> Result<(), Fail> {
     let alloc = rt.alloc();
     let one = Some("service.name=test service1");
+    let three = Some("service.name=test service3");
     let table = [
         (
             Some("test service"),
@@ -292,7 +293,7 @@ fn the_first_source_with_a_name_names_the_service(rt: HostRuntime) -> Result<(),
         (None, one, None, "service.name=test service1;"),
         (
             Some("test service"),
-            one,
+            three,
             Some("p"),
             "service.name=test service;",
         ),
