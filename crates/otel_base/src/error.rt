@@ -9,6 +9,9 @@ use std::error::Error;
 use std::fmt;
 use std::time::Duration;
 
+#[cfg(test)]
+mod tests;
+
 /// Why a call of an exporter, a processor or a provider failed.
 #[derive(Debug, Drop, PartialEq, Eq)]
 pub enum OTelSdkError {
@@ -27,8 +30,14 @@ pub type OTelSdkResult = Result<(), OTelSdkError>;
 
 /// The error of an exporter, which names the exporter that failed.
 pub trait ExportError: Error {
+    ghost use Rattle.std.specs.Prelude.{ℕ, List};
+
+    // The names that it may give. One that promises nothing may leave this out.
+    ghost names: { Self → List ℕ → Type 0 } = { λ _ _. Unit {0} };
+
     /// The exporter's name.
-    fn exporter_name(&self) -> &'static str;
+    fn exporter_name(&self) -> &'static str
+        ensures { names self.now result.now };
 }
 
 impl Error for OTelSdkError {}
@@ -149,59 +158,4 @@ fn write_digit<W: fmt::Write>(f: &mut fmt::Formatter<W>, digit: u32) -> fmt::Res
     ensures { WritesOnOk W.write_str_gives f.old result ((48 + digit) ∷ []) f.new }
 {
     f.write_char(char::from(b'0' + digit as u8))
-}
-
-#[cfg(test)]
-mod tests {
-    use super::*;
-    use std::test::Fail;
-
-    #[test]
-    fn errors_print_their_texts(rt: HostRuntime) -> Result<(), Fail> {
-        let alloc = rt.alloc();
-        let reason = String::from_str(alloc, "db unreachable")?;
-        let table = [
-            (OTelSdkError::AlreadyShutdown, "Shutdown already invoked"),
-            (
-                OTelSdkError::InternalFailure(reason),
-                "Operation failed: db unreachable",
-            ),
-            (OTelSdkError::OutOfMemory, "Operation found no memory"),
-        ];
-        for row in &table {
-            let error = &row.0;
-            assert_eq!(rt; format!(in alloc; "{error}")?.as_str(), row.1);
-        }
-        Ok(())
-    }
-
-    #[test]
-    fn durations_print_in_their_largest_unit(rt: HostRuntime) -> Result<(), Fail> {
-        let alloc = rt.alloc();
-        let table = [
-            (Duration::from_secs(5), "Operation timed out after 5s"),
-            (
-                Duration::from_micros(1500),
-                "Operation timed out after 1.5ms",
-            ),
-            (
-                Duration::from_nanos(1500),
-                "Operation timed out after 1.5µs",
-            ),
-            (Duration::from_nanos(0), "Operation timed out after 0ns"),
-            (
-                Duration::from_nanos(2_000_000_001),
-                "Operation timed out after 2.000000001s",
-            ),
-            (
-                Duration::from_nanos(100_020),
-                "Operation timed out after 100.02µs",
-            ),
-        ];
-        for row in &table {
-            let error = OTelSdkError::Timeout(row.0);
-            assert_eq!(rt; format!(in alloc; "{error}")?.as_str(), row.1);
-        }
-        Ok(())
-    }
 }
