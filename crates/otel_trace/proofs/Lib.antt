@@ -1,5 +1,7 @@
+pub mod CloseLemmas
 pub mod FeedLemmas
 pub mod RunLemmas
+pub mod ShownLemmas
 pub mod StepLemmas
 pub mod NamedLemmas
 pub mod Cuts

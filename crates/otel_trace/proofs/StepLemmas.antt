@@ -3,19 +3,16 @@ use Rattle.std.proofs.Common.{◌≡◌, ℕ, Bool, true, false, if◌then◌els
 use Rattle.std.specs.Option.{option_map}
 use Rattle.opentelemetry.specs.Plain.{PlainScope, text}
 use Rattle.otel_base.specs.declared.trace.span_limit.SpanLimits.{SpanLimits}
-use Rattle.otel_batch.specs.PlainSpanData.{PlainSpanData}
-use Rattle.opentelemetry_sdk.specs.SpanHistory.{PlainSpan, SpanStart, SpanHistory, begun, over, Edit, set_attribute, edited, ended, recording, not_recording, data_of, span_of, after, IsEdited}
+use Rattle.opentelemetry_sdk.specs.SpanHistory.{PlainSpan, SpanStart, SpanHistory, begun, over, Edit, set_attribute, recording, not_recording, data_of, span_of, IsEdited}
 use Rattle.opentelemetry_sdk.specs.ProcessorTelling.{ProcessorTelling, Delivery, EachFollows}
 use Rattle.opentelemetry_sdk.specs.Each.{PassedThrough}
 use Rattle.opentelemetry.specs.PlainContexts.{empty_span_context}
-use Rattle.opentelemetry_sdk.specs.Provider.{ProviderState, Starts, deliveries, root_context, root_start, root_span, after_root}
+use Rattle.opentelemetry_sdk.specs.Provider.{ProviderState, deliveries, root_context, root_start, root_span, after_root}
 use Rattle.opentelemetry_sdk.proofs.Following.{EachFollows-same}
 use Rattle.opentelemetry_sdk.proofs.SpanLaws.{edited-recording, after-recording}
-use Rattle.otel_trace.specs.Commands.{PlainCommand, start, attr, end}
-use Rattle.otel_trace.specs.OpenSpans.{NamedSpans, named, is_name, PutsSpan, SameSpans, StartsNamed, EditsNamed, EndsNamed, identity_of, refusals, attr_answer, end_answer, start_answer}
-use Rattle.otel_trace.specs.SessionDelivery.{Histories, with_history, Give, SessionFrame, StartFound, NewSpan, AttrFound, EndFound, Demands, frame_with, Steps, Rests, end_delivers, nobody, root_context_of}
-use Rattle.otel_trace.specs.declared.reply.Answer.{Answer}
-use Rattle.otel_trace.specs.declared.reply.Answer.TheVariants as answers
+use Rattle.otel_trace.specs.Commands.{start, attr, end}
+use Rattle.otel_trace.specs.OpenSpans.{NamedSpans, named, is_name, PutsSpan, SameSpans, StartsNamed, EditsNamed, EndsNamed, identity_of, attr_answer, end_answer, start_answer}
+use Rattle.otel_trace.specs.SessionDelivery.{Histories, with_history, Give, SessionFrame, StartFound, NewSpan, AttrFound, EndFound, frame_with, Steps, Rests, end_delivers, root_context_of}
 use Rattle.otel_trace.specs.declared.reply.SpanIdentity.{SpanIdentity}
 use Rattle.otel_trace.proofs.NamedLemmas.{put_same}
 

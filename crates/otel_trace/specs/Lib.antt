@@ -1,5 +1,6 @@
 pub mod AnswerText
 pub mod Commands
+pub mod KeptBatches
 pub mod Lines
 pub mod OpenSpans
 pub mod PlainReply

@@ -1,12 +1,14 @@
 -- The spans of a session by name, and what the commands do to the span of a name.
-use Rattle.std.specs.Prelude.{◌≡◌, ℕ, Bool, true, false, List, [], ◌∷◌, Option, Some, None, is_some, map, string_bytes, String, if◌then◌else◌}
+use Rattle.std.specs.Prelude.{◌≡◌, ℕ, Bool, true, false, List, [], ◌∷◌, Option, Some, None, is_some, map, string_bytes, String, if◌then◌else◌, Result, ◌⊎◌}
+use Rattle.std.specs.declared.alloc.AllocError.{AllocError}
 use Rattle.std.specs.Ordering.{nat_cmp}
 use Rattle.std.specs.Cmp.Lexicographic.{slice_cmp}
 use Rattle.std.specs.BTreeMap.{is_at}
 use Rattle.opentelemetry.specs.Plain.{PlainScope}
 use Rattle.opentelemetry_sdk.specs.SpanHistory.{PlainSpan, Edit, edited, ended}
 use Rattle.opentelemetry_sdk.specs.ProcessorTelling.{ProcessorTelling, EachFollows}
-use Rattle.opentelemetry_sdk.specs.Provider.{ProviderState, Starts, deliveries}
+use Rattle.opentelemetry_sdk.specs.Each.{AskedAll}
+use Rattle.opentelemetry_sdk.specs.Provider.{ProviderState, Starts, TakesAndTells, deliveries}
 use Rattle.otel_trace.specs.declared.reply.Answer.{Answer}
 use Rattle.otel_trace.specs.declared.reply.Answer.TheVariants as answers
 use Rattle.otel_trace.specs.declared.reply.SpanIdentity.{SpanIdentity}
@@ -47,6 +49,10 @@ StartsNamed gives old name p scope called now (Some _) answer new q = (answer �
 StartsNamed gives old name p scope called now None answer new q = (span : PlainSpan) × Starts gives p scope called now span q
     × (answer ≡ Some (identity_of span, is_some span.recorded)) × PutsSpan old name span new
 
+-- what a start may do to a provider, also where its span found no memory: nothing, or what the start of a span does
+abbrev pub MayStart : {P : Type 0} → (P → PlainSpan → PlainSpan → P → Type 0) → ProviderState P → PlainScope → List ℕ → ℕ → ProviderState P → Type 0
+MayStart gives old scope called now new = (new ≡ old) ⊎ ((span : PlainSpan) × Starts gives old scope called now span new)
+
 -- an edit of the span of a name: none where there is no such span; else whether it is recording, and the edit
 abbrev pub EditsNamed : NamedSpans → List ℕ → Edit → Option PlainSpan → Option Bool → NamedSpans → Type 0
 EditsNamed old name edit None answer new = (answer ≡ None) × SameSpans old new
@@ -62,6 +68,10 @@ abbrev pub EndsNamed : {P : Type 0} → (P → ProcessorTelling) → NamedSpans 
 EndsNamed told old name p moment None answer new q = (answer ≡ None) × SameSpans old new × (q ≡ p)
 EndsNamed told old name p moment (Some span) answer new q = (n : ℕ) × (answer ≡ Some (refusals span.recorded n)) × PutsSpan old name (ended span) new
     × EachFollows told (deliveries p.is_shut moment span.recorded n) p.processors q.processors × (q ≡ record p { processors = q.processors })
+
+-- what an end may do to processors: nothing, or each is given one span
+abbrev pub MayDeliver : {P : Type 0} → (P → ProcessorTelling) → (P → PlainSpanData → Result (Unit {0}) AllocError → P → Type 0) → List P → List P → Type 0
+MayDeliver told gives ps qs = (qs ≡ ps) ⊎ ((span : PlainSpanData) × (n : ℕ) × AskedAll (TakesAndTells told gives span) ps qs n)
 
 -- the answer to an attribute
 abbrev pub attr_answer : Option Bool → Answer

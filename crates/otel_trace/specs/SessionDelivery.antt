@@ -1,20 +1,24 @@
 -- What the commands of a session demand of its exporters. It speaks of each span as its history, a start and the edits
 -- since, and of what an end delivers as the data of that history: whole lists, each cut once. No history is stored.
-use Rattle.std.specs.Prelude.{◌≡◌, ℕ, Bool, true, false, List, [], ◌∷◌, ◌++◌, Option, Some, None, map, take, drop, slice_get, Result, Ok, Err, if◌then◌else◌, ◌⊎◌}
+use Rattle.std.specs.Prelude.{◌≡◌, ℕ, Bool, true, false, List, [], ◌∷◌, ◌++◌, Option, Some, None, map, take, drop, slice_get, Result, Ok, Err, MatchBool, if◌then◌else◌, ◌⊎◌, ◌≤◌, length}
 use Rattle.std.specs.List.{flat_map}
 use Rattle.std.specs.Option.{option_map, option_map_or}
 use Rattle.opentelemetry.specs.Plain.{PlainSpanContext, PlainScope, text}
+use Rattle.otel_base.specs.declared.error.OTelSdkError.{OTelSdkError}
+use Rattle.otel_base.specs.declared.error.OTelSdkError.TheVariants as errors
 use Rattle.otel_base.specs.declared.trace.span_limit.SpanLimits.{SpanLimits}
 use Rattle.otel_batch.specs.PlainSpanData.{PlainSpanData}
-use Rattle.opentelemetry_sdk.specs.SpanHistory.{SpanHistory, begun, over, SpanStart, Edit, set_attribute, data_of, span_of}
+use Rattle.opentelemetry_sdk.specs.SpanHistory.{SpanHistory, begun, over, Edit, set_attribute, data_of, span_of}
 use Rattle.opentelemetry_sdk.specs.ProcessorTelling.{ProcessorTelling, Delivery, EachFollows}
 use Rattle.opentelemetry.specs.PlainContexts.{empty_span_context}
-use Rattle.opentelemetry_sdk.specs.Provider.{ProviderState, root_span}
+use Rattle.opentelemetry_sdk.specs.Provider.{ProviderState, ShutsDown, root_span}
 use Rattle.otel_trace.specs.Commands.{PlainCommand, start, attr, end, plain_commands}
+use Rattle.otel_trace.specs.KeptBatches.{Appends}
 use Rattle.otel_trace.specs.OpenSpans.{NamedSpans, SameSpans, named, is_name}
 use Rattle.otel_trace.specs.AnswerText.{replies_text}
 use Rattle.otel_trace.specs.Lines.{TextSpells}
 use Rattle.otel_trace.specs.PlainReply.{PlainReply}
+use Rattle.otel_trace.specs.ReplyText.{span_lines}
 use Rattle.otel_trace.specs.declared.session.FeedError.{FeedError}
 use Rattle.otel_trace.specs.declared.session.FeedError.TheVariants as feeds
 use Rattle.otel_trace.specs.declared.command.Command.{Command}
@@ -123,13 +127,35 @@ abbrev pub Rests : {P : Type 0} → (P → ProcessorTelling) → PlainScope → 
 Rests {P} told scope p old q new = (frame_with q scope ≡ frame_with p scope) × SameSpans old new
     × (map told q.processors ≡ map told p.processors)
 
--- the batches that the first processor keeps
+-- the batches that the first of these processors keeps
+abbrev pub first_keeps : {P : Type 0} → (P → List (List PlainSpanData)) → List P → List (List PlainSpanData)
+first_keeps kept processors = option_map_or kept (slice_get processors 0) []
+
 abbrev pub first_kept : {P : Type 0} → (P → List (List PlainSpanData)) → SessionState P → List (List PlainSpanData)
-first_kept kept session = option_map_or kept (slice_get session.provider.processors 0) []
+first_kept kept session = first_keeps kept session.provider.processors
+
+-- the spans of batches
+abbrev pub spans_in : List (List PlainSpanData) → List PlainSpanData
+spans_in batches = flat_map (λ batch. batch) batches
 
 -- the spans of those that no reply has shown
 abbrev pub unshown : {P : Type 0} → (P → List (List PlainSpanData)) → SessionState P → List PlainSpanData
-unshown kept session = flat_map (λ batch. batch) (drop session.shown (first_kept kept session))
+unshown kept session = spans_in (drop session.shown (first_kept kept session))
+
+-- the spans that replies show
+abbrev pub exported_in : List PlainReply → List PlainSpanData
+exported_in replies = flat_map (λ reply. reply.exported) replies
+
+-- batches are kept behind those that were kept, and the replies show them in order and each once: the spans of the batches
+-- behind those that were shown before, up to those that are shown now
+abbrev pub Shows : {P : Type 0} → (P → List (List PlainSpanData)) → SessionState P → List PlainReply → SessionState P → Type 0
+Shows kept old replies new = Appends (first_kept kept old) (first_kept kept new)
+    × (old.shown ≤ length (first_kept kept old) → (old.shown ≤ new.shown) × (new.shown ≤ length (first_kept kept new))
+    × (exported_in replies ≡ spans_in (drop old.shown (take new.shown (first_kept kept new)))))
+
+-- behind a reply nothing is left to show
+abbrev pub NoneLeft : {P : Type 0} → (P → List (List PlainSpanData)) → List PlainReply → SessionState P → Type 0
+NoneLeft kept replies new = (replies ≡ []) ⊎ (new.shown ≡ length (first_kept kept new))
 
 -- commands were carried out: the replies' answers, the spans and the tellings of the processors are what they demand of
 -- the histories that the spans had, and the same deliveries reach each processor
@@ -143,32 +169,53 @@ CarriesOut {P} told old commands replies new = (frame_of new ≡ frame_of old)
 abbrev pub AllOrButLast : List PlainReply → List PlainReply → Type 0
 AllOrButLast replies appended = (appended ≡ replies) ⊎ ((last : PlainReply) × (replies ≡ appended ++ last ∷ []))
 
--- all commands were carried out, each with its reply
-abbrev pub RunsAll : {P : Type 0} → (P → ProcessorTelling) → SessionState P → List Command → List PlainReply → List PlainReply → SessionState P → Type 0
-RunsAll told old commands before now new = (replies : List PlainReply) × (now ≡ before ++ replies) × CarriesOut told old commands replies new
+-- all commands were carried out, each with its reply, and the replies show all spans that were exported meanwhile
+abbrev pub RunsAll : {P : Type 0} → (P → ProcessorTelling) → (P → List (List PlainSpanData)) → SessionState P → List Command → List PlainReply → List PlainReply → SessionState P → Type 0
+RunsAll told kept old commands before now new = (replies : List PlainReply) × (now ≡ before ++ replies)
+    × CarriesOut told old commands replies new × Shows kept old replies new × NoneLeft kept replies new
 
--- a beginning of the commands was carried out, the last one perhaps without its reply
-abbrev pub RunsBeginning : {P : Type 0} → (P → ProcessorTelling) → SessionState P → List Command → List PlainReply → List PlainReply → SessionState P → Type 0
-RunsBeginning told old commands before now new = (done : List Command) × (left : List Command) × (replies : List PlainReply) × (appended : List PlainReply)
-    × (commands ≡ done ++ left) × (now ≡ before ++ appended) × AllOrButLast replies appended × CarriesOut told old done replies new
+-- a beginning of the commands was carried out, the last one perhaps without its reply; what the replies do not show is left
+-- to show
+abbrev pub RunsBeginning : {P : Type 0} → (P → ProcessorTelling) → (P → List (List PlainSpanData)) → SessionState P → List Command → List PlainReply → List PlainReply → SessionState P → Type 0
+RunsBeginning told kept old commands before now new = (done : List Command) × (left : List Command) × (replies : List PlainReply) × (appended : List PlainReply)
+    × (commands ≡ done ++ left) × (now ≡ before ++ appended) × AllOrButLast replies appended
+    × CarriesOut told old done replies new × Shows kept old appended new
 
 -- a text was fed whole: its lines up to the first bad one spell the commands that were carried out, and the texts of their
 -- replies were appended
-abbrev pub FedUpTo : {P : Type 0} → (P → ProcessorTelling) → SessionState P → List ℕ → Option ℕ → List ℕ → List ℕ → SessionState P → Type 0
-FedUpTo told old bytes bad_line before now new = (commands : List Command) × (replies : List PlainReply)
-    × TextSpells bytes (plain_commands commands) bad_line × (now ≡ before ++ replies_text replies) × CarriesOut told old commands replies new
+abbrev pub FedUpTo : {P : Type 0} → (P → ProcessorTelling) → (P → List (List PlainSpanData)) → SessionState P → List ℕ → Option ℕ → List ℕ → List ℕ → SessionState P → Type 0
+FedUpTo told kept old bytes bad_line before now new = (commands : List Command) × (replies : List PlainReply)
+    × TextSpells bytes (plain_commands commands) bad_line × (now ≡ before ++ replies_text replies)
+    × CarriesOut told old commands replies new × Shows kept old replies new × NoneLeft kept replies new
 
 -- these commands are a beginning of those that a text spells, or none
 abbrev pub IsBeginning : List ℕ → List Command → Type 0
 IsBeginning bytes done = (done ≡ []) ⊎ ((left : List Command) × (bad_line : Option ℕ) × TextSpells bytes (plain_commands (done ++ left)) bad_line)
 
 -- memory ran out: a beginning of the commands was carried out, and the output has the replies of a beginning of them
-abbrev pub FedBeginning : {P : Type 0} → (P → ProcessorTelling) → SessionState P → List ℕ → List ℕ → List ℕ → SessionState P → Type 0
-FedBeginning told old bytes before now new = (done : List Command) × (replies : List PlainReply) × (n : ℕ)
-    × IsBeginning bytes done × (now ≡ before ++ replies_text (take n replies)) × CarriesOut told old done replies new
+abbrev pub FedBeginning : {P : Type 0} → (P → ProcessorTelling) → (P → List (List PlainSpanData)) → SessionState P → List ℕ → List ℕ → List ℕ → SessionState P → Type 0
+FedBeginning told kept old bytes before now new = (done : List Command) × (replies : List PlainReply) × (appended : List PlainReply) × (n : ℕ)
+    × IsBeginning bytes done × AllOrButLast replies appended × (now ≡ before ++ replies_text (take n appended))
+    × CarriesOut told old done replies new × Shows kept old appended new
 
 -- what feeding a text does, by its answer
-abbrev pub Fed : {P T : Type 0} → (P → ProcessorTelling) → SessionState P → List ℕ → List ℕ → Result T FeedError → List ℕ → SessionState P → Type 0
-Fed told old bytes before (Ok _) now new = FedUpTo told old bytes None before now new
-Fed told old bytes before (Err (feeds.Line n)) now new = FedUpTo told old bytes (Some n) before now new
-Fed told old bytes before (Err feeds.Memory) now new = FedBeginning told old bytes before now new
+abbrev pub Fed : {P T : Type 0} → (P → ProcessorTelling) → (P → List (List PlainSpanData)) → SessionState P → List ℕ → List ℕ → Result T FeedError → List ℕ → SessionState P → Type 0
+Fed told kept old bytes before (Ok _) now new = FedUpTo told kept old bytes None before now new
+Fed told kept old bytes before (Err (feeds.Line n)) now new = FedUpTo told kept old bytes (Some n) before now new
+Fed told kept old bytes before (Err feeds.Memory) now new = FedBeginning told kept old bytes before now new
+
+-- the shutdown of a session's provider: where it was shut nothing happens
+abbrev pub ShutsIfOpen : {P : Type 0} → (P → ProcessorTelling) → (P → Result (Unit {0}) OTelSdkError → P → Type 0) → ProviderState P → Result (Unit {0}) OTelSdkError → ProviderState P → Type 0
+ShutsIfOpen told gives old answer new = MatchBool old.is_shut ((answer ≡ Ok tt) × (new ≡ old)) (ShutsDown told gives old answer new)
+
+-- want of memory, unless there is an error already
+abbrev pub or_no_memory : Result (Unit {0}) OTelSdkError → Result (Unit {0}) OTelSdkError
+or_no_memory (Ok _) = Err errors.OutOfMemory
+or_no_memory (Err error) = Err error
+
+-- closing: the provider is shut down, and the lines of the spans that no reply has shown are appended, those exported by the
+-- shutdown among them; where there is no memory for them, none is
+abbrev pub Closes : {P : Type 0} → (P → ProcessorTelling) → (P → Result (Unit {0}) OTelSdkError → P → Type 0) → (P → List (List PlainSpanData)) → SessionState P → List ℕ → Result (Unit {0}) OTelSdkError → List ℕ → Type 0
+Closes {P} told gives kept session before answer now = (provider : ProviderState P) × (shutdown : Result (Unit {0}) OTelSdkError)
+    × ShutsIfOpen told gives session.provider shutdown provider
+    × (((answer ≡ shutdown) × (now ≡ before ++ span_lines (unshown kept (record session { provider = provider })))) ⊎ ((answer ≡ or_no_memory shutdown) × (now ≡ before)))

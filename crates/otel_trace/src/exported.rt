@@ -1,32 +1,39 @@
 //! The batches that the in-memory exporter of a processor keeps, which the replies of a session show.
 
-ghost use Rattle.std.specs.Prelude.{◌≡◌, ◌++◌, List, map, IfOk, OnOk, drop};
+ghost use Rattle.std.specs.Prelude.{◌≡◌, ◌++◌, List, map, IfOk, OnOk, Result, drop};
 ghost use Rattle.std.specs.List.{flat_map};
+ghost use Rattle.std.specs.declared.alloc.AllocError.{AllocError};
+ghost use Rattle.opentelemetry.specs.Plain.{PlainContext};
+ghost use Rattle.opentelemetry_sdk.specs.SpanHistory.{PlainSpan};
 ghost use Rattle.otel_batch.specs.PlainSpanData.{PlainSpanData};
+ghost use Rattle.otel_trace.specs.KeptBatches.{Appends};
 
-use opentelemetry_sdk::trace::{ProcessorOf, SimpleSpanProcessor};
-use otel_batch::trace::{ExporterOf, InMemorySpanExporter, SpanData};
+use opentelemetry_sdk::trace::{ProcessorOf, SimpleSpanProcessor, SpanProcessor};
+use otel_batch::trace::{ExporterOf, InMemorySpanExporter, SpanData, SpanExporter};
 use std::alloc::{AllocError, Global};
 
-/// A processor whose exporter may keep its batches.
-pub trait KeepsBatches {
+/// A processor whose exporter may keep its batches. Where a span starts or ends, batches come behind those that are kept.
+pub trait KeepsBatches: SpanProcessor {
     /// The batches that are kept; none where the exporter keeps none.
     ghost kept: { Self → List (List PlainSpanData) };
 
     fn batches(&self) -> &[Vec<SpanData>]
         ensures { map (λ batch. batch.items) result.now ≡ kept self.now };
+
+    ghost start_appends: { (p : Self) (span : PlainSpan) (cx : PlainContext) (edited : PlainSpan) (q : Self) → Self.start_gives p span cx edited q → Appends (kept p) (kept q) };
+
+    ghost end_appends: { (p : Self) (span : PlainSpanData) (answer : Result (Unit {0}) AllocError) (q : Self) → Self.end_gives p span answer q → Appends (kept p) (kept q) };
 }
 
-impl<C, D> KeepsBatches
+impl<C: SpanExporter, D: SpanProcessor> KeepsBatches
     for ProcessorOf<SimpleSpanProcessor<ExporterOf<InMemorySpanExporter, C>>, D> {
-    ghost use Rattle.std.specs.Prelude.{[]};
-    ghost use Rattle.opentelemetry_sdk.specs.declared.trace.processor.ProcessorOf.TheVariants as kinds;
-    ghost use Rattle.otel_batch.specs.declared.trace.exporter_box.ExporterOf.TheVariants as exporters;
+    ghost use Rattle.otel_trace.specs.KeptBatches.{exporter_keeps, exporter_appends, processor_keeps, processor_appends, simple_appends, simple_stays};
 
-    ghost kept = { λ p. elim p [
-      | kinds.Simple s ↦ elim s.exporter [ exporters.Memory m ↦ m.batches | exporters.Custom _ ↦ [] ]
-      | kinds.Custom _ ↦ []
-    ] };
+    ghost kept = { processor_keeps (λ simple. exporter_keeps simple.exporter) };
+
+    ghost start_appends = { λ p span cx edited q given. processor_appends (λ simple. exporter_keeps simple.exporter) _ _ (λ a b h. simple_stays exporter_keeps a b h) p q given };
+
+    ghost end_appends = { λ p span answer q given. processor_appends (λ simple. exporter_keeps simple.exporter) _ _ (λ a b h. simple_appends exporter_keeps (⟦<ExporterOf<InMemorySpanExporter, C> as SpanExporter>⟧.told) (⟦<ExporterOf<InMemorySpanExporter, C> as SpanExporter>⟧.export_gives) (exporter_appends C.export_gives) _ a span answer b h) p q given };
 
     fn batches(&self) -> &[Vec<SpanData>] {
         match self {

@@ -3,7 +3,7 @@
 ghost use Rattle.std.specs.Prelude.{◌≡◌, [], None, IfOk, OnOk, OnErr, is_some, string_bytes, map};
 ghost use Rattle.opentelemetry_sdk.specs.Provider.{root_cx};
 ghost use Rattle.opentelemetry_sdk.specs.SpanHistory.{set_attribute};
-ghost use Rattle.otel_trace.specs.OpenSpans.{EditsNamed, EndsNamed, PutsSpan, SameSpans, StartsNamed, by_name, identity_of, named};
+ghost use Rattle.otel_trace.specs.OpenSpans.{EditsNamed, EndsNamed, MayDeliver, MayStart, PutsSpan, SameSpans, StartsNamed, by_name, identity_of, named};
 
 use crate::reply::SpanIdentity;
 use opentelemetry::{KeyValue, Moment};
@@ -47,6 +47,7 @@ impl OpenSpans {
         ensures ok { IfOk result (λ answer. StartsNamed (λ p s t q. P.start_gives p s root_cx t q) self.old (string_bytes name) provider.old tracer.now (string_bytes called) now.0 (named self.old (string_bytes name)) answer self.new provider.new) }
         ensures told { map P.told provider.new.processors ≡ map P.told provider.old.processors }
         ensures rest { provider.new ≡ record provider.old { processors = provider.new.processors; id_generator = provider.new.id_generator } }
+        ensures asks { MayStart (λ p s t q. P.start_gives p s root_cx t q) provider.old tracer.now (string_bytes called) now.0 provider.new }
         ensures err { OnErr result (SameSpans self.old self.new) }
     {
         if self.contains(name.as_str()) {
@@ -95,6 +96,7 @@ impl OpenSpans {
         moment: Moment,
     ) -> Result<Option<Option<usize>>, AllocError>
         ensures ok { IfOk result (λ answer. EndsNamed P.told self.old name.now provider.old moment.0 (named self.old name.now) answer self.new provider.new) }
+        ensures asks { MayDeliver P.told P.end_gives provider.old.processors provider.new.processors }
         ensures err { OnErr result (SameSpans self.old self.new × (provider.new ≡ provider.old)) }
     {
         end_in(&mut self.spans, name, provider, moment)
@@ -162,6 +164,7 @@ fn end_in<P: SpanProcessor>(
     moment: Moment,
 ) -> Result<Option<Option<usize>>, AllocError>
     ensures ok { IfOk result (λ answer. EndsNamed P.told (by_name spans.old.entries) name.now provider.old moment.0 (named (by_name spans.old.entries) name.now) answer (by_name spans.new.entries) provider.new) }
+    ensures asks { MayDeliver P.told P.end_gives provider.old.processors provider.new.processors }
     ensures err { OnErr result (SameSpans (by_name spans.old.entries) (by_name spans.new.entries) × (provider.new ≡ provider.old)) }
 {
     let Some(span) = spans.get_mut(name) else {

@@ -1,18 +1,17 @@
 //! A session: commands against one provider, each with a reply. What its commands deliver to the exporters is stated by
 //! the histories of its spans, apart from the code that fills them.
 
-ghost use Rattle.std.specs.Prelude.{◌≡◌, ◌++◌, ℕ, Bool, List, [], Option, length, map, slice_get, IfErr, IfOk, OnOk, OnErr, codes, string_bytes};
-ghost use Rattle.std.specs.Option.{option_map_or};
+ghost use Rattle.std.specs.Prelude.{◌≡◌, ◌++◌, ℕ, Bool, List, [], Option, drop, length, map, IfErr, IfOk, MatchResult, OnOk, OnErr, codes, string_bytes};
 ghost use Rattle.opentelemetry.specs.Plain.{text};
 ghost use Rattle.opentelemetry_sdk.specs.Provider.{named as scope_named};
 ghost use Rattle.opentelemetry_sdk.specs.Provider.{root_cx};
 ghost use Rattle.opentelemetry_sdk.specs.SpanHistory as edits;
-ghost use Rattle.otel_batch.specs.PlainSpanData.{PlainSpanData};
 ghost use Rattle.otel_trace.specs.Commands.{plain_command};
 ghost use Rattle.otel_trace.specs.ReplyText.{span_lines};
-ghost use Rattle.otel_trace.specs.OpenSpans.{EditsNamed, EndsNamed, SameSpans, StartsNamed, attr_answer, end_answer, named, start_answer};
+ghost use Rattle.otel_trace.specs.OpenSpans.{EditsNamed, EndsNamed, MayDeliver, MayStart, SameSpans, StartsNamed, attr_answer, end_answer, named, start_answer};
 ghost use Rattle.otel_trace.specs.declared.reply.SpanIdentity.{SpanIdentity};
-ghost use Rattle.otel_trace.specs.SessionDelivery.{Fed, Rests, RunsAll, RunsBeginning, Steps, first_kept, unshown};
+ghost use Rattle.otel_trace.specs.SessionDelivery.{Closes, Fed, Rests, RunsAll, RunsBeginning, Steps, first_keeps, first_kept, ShutsIfOpen, or_no_memory, spans_in, unshown};
+ghost use Rattle.otel_trace.specs.KeptBatches.{Appends};
 
 use crate::command::Command;
 use crate::exported::{KeepsBatches, copies_since};
@@ -88,7 +87,7 @@ fn tracer_of<P>(alloc: Global, provider: &ProviderOf<P>) -> Result<SdkTracer, Al
     provider.tracer(String::from_str(alloc, SCOPE_NAME)?)
 }
 
-impl<P: SpanProcessor + KeepsBatches> Session<P> {
+impl<P: KeepsBatches> Session<P> {
     /// Carries commands out in order and appends a reply for each. Where memory runs out, a beginning of the commands was
     /// carried out, each with its reply, except that the last one may be without.
     pub fn run(
@@ -96,14 +95,15 @@ impl<P: SpanProcessor + KeepsBatches> Session<P> {
         commands: Vec<Command>,
         replies: &mut Vec<Reply>,
     ) -> Result<(), AllocError>
-        ensures ok { OnOk result (RunsAll P.told self.old commands.items replies.old.items replies.new.items self.new) }
-        ensures err { OnErr result (RunsBeginning P.told self.old commands.items replies.old.items replies.new.items self.new) }
+        ensures ok { OnOk result (RunsAll P.told P.kept self.old commands.items replies.old.items replies.new.items self.new) }
+        ensures err { OnErr result (RunsBeginning P.told P.kept self.old commands.items replies.old.items replies.new.items self.new) }
     {
         let mut queue = VecDeque::from_vec(commands);
         while let Some(command) = queue.pop_front() {
             let answer = self.answer(command)?;
-            let exported = self.exported()?;
+            let exported = self.unshown()?;
             replies.push(Reply { exported, answer })?;
+            self.mark_shown();
         }
         Ok(())
     }
@@ -112,7 +112,7 @@ impl<P: SpanProcessor + KeepsBatches> Session<P> {
     /// of their replies. `Line` names the first bad line, from 1 and with empty lines counted. After `Memory` the output
     /// has the whole replies of a beginning of the commands.
     pub fn feed(&mut self, text: &[u8], output: &mut Vec<u8>) -> Result<(), FeedError>
-        ensures { Fed P.told self.old text.now output.old.items result output.new.items self.new }
+        ensures { Fed P.told P.kept self.old text.now output.old.items result output.new.items self.new }
     {
         let Ok(script) = parse(self.alloc, text) else {
             return Err(FeedError::Memory);
@@ -141,7 +141,7 @@ impl<P: SpanProcessor + KeepsBatches> Session<P> {
     /// that no reply has shown are appended. The answer is that of the shutdown, and `OutOfMemory` where the lines found
     /// no memory.
     pub fn close(self, output: &mut Vec<u8>) -> OTelSdkResult
-        ensures output { (spans : List PlainSpanData) × (output.new.items ≡ output.old.items ++ span_lines spans) }
+        ensures { Closes P.told P.shutdown_gives P.kept self output.old.items result output.new.items }
     {
         let Session {
             mut provider,
@@ -151,16 +151,10 @@ impl<P: SpanProcessor + KeepsBatches> Session<P> {
             alloc,
         } = self;
         spans.abandon();
-        let answer = match provider.shutdown() {
-            Err(OTelSdkError::AlreadyShutdown) => Ok(()),
-            answer => answer,
-        };
+        let shutdown = shut_down(&mut provider);
         let written = write_unshown(alloc, provider.processors(), shown, output);
         let _ = provider.close();
-        match answer {
-            Ok(()) => written.map_err(|_| OTelSdkError::OutOfMemory),
-            Err(error) => Err(error),
-        }
+        close_answer(shutdown, written)
     }
 
     /// Carries one command out.
@@ -168,31 +162,65 @@ impl<P: SpanProcessor + KeepsBatches> Session<P> {
         ensures ok { IfOk result (λ answer. Steps P.told self.old.scope self.old.provider self.old.spans (plain_command command) answer self.new.provider self.new.spans) }
         ensures err { OnErr result (Rests P.told self.old.scope self.old.provider self.old.spans self.new.provider self.new.spans) }
         ensures rest { self.new ≡ record self.old { provider = self.new.provider; spans = self.new.spans } }
+        ensures keeps { Appends (first_kept P.kept self.old) (first_kept P.kept self.new) }
     {
         carry_out(&self.tracer, &mut self.provider, &mut self.spans, command)
     }
 
     /// Copies of the spans that the first processor exported into memory and no reply has shown.
-    fn exported(&mut self) -> Result<Vec<SpanData>, AllocError>
-        ensures ok { IfOk result (λ spans. spans.items ≡ unshown P.kept self.old) }
-        ensures shown { OnOk result (self.new ≡ record self.old { shown = length (first_kept P.kept self.old) }) }
-        ensures err { OnErr result (self.new ≡ self.old) }
+    fn unshown(&self) -> Result<Vec<SpanData>, AllocError>
+        ensures { IfOk result (λ spans. spans.items ≡ unshown P.kept self.now) }
     {
-        let batches = kept_by_first(self.provider.processors());
-        let spans = copies_since(self.alloc, batches, self.shown)?;
-        self.shown = batches.len();
-        Ok(spans)
+        copies_of_unshown(self.alloc, self.provider.processors(), self.shown)
+    }
+
+    /// A reply has shown what the first processor exported so far.
+    fn mark_shown(&mut self)
+        ensures { self.new ≡ record self.old { shown = length (first_kept P.kept self.old) } }
+    {
+        self.shown = kept_by_first(self.provider.processors()).len();
+    }
+}
+
+/// Shuts the provider down where it is open.
+fn shut_down<P: SpanProcessor>(provider: &mut ProviderOf<P>) -> OTelSdkResult
+    ensures { ShutsIfOpen P.told P.shutdown_gives provider.old result provider.new }
+{
+    match provider.shutdown() {
+        Err(OTelSdkError::AlreadyShutdown) => Ok(()),
+        answer => answer,
+    }
+}
+
+/// What closing answers: what the shutdown did, and where that is Ok, whether the lines found memory.
+fn close_answer(shutdown: OTelSdkResult, written: Result<(), AllocError>) -> OTelSdkResult
+    ensures { MatchResult written (λ _. result ≡ shutdown) (λ _. result ≡ or_no_memory shutdown) }
+{
+    match (written, shutdown) {
+        (Err(_), Ok(())) => Err(OTelSdkError::OutOfMemory),
+        (_, shutdown) => shutdown,
     }
 }
 
 /// The batches that the first of these processors keeps.
 fn kept_by_first<P: KeepsBatches>(processors: &[P]) -> &[Vec<SpanData>]
-    ensures { map (λ batch. batch.items) result.now ≡ option_map_or P.kept (slice_get processors.now 0) [] }
+    ensures { map (λ batch. batch.items) result.now ≡ first_keeps P.kept processors.now }
 {
     match processors.first() {
         Some(first) => first.batches(),
         None => &[],
     }
+}
+
+/// Copies of the spans of the batches that the first of these processors keeps behind those that were shown.
+fn copies_of_unshown<P: KeepsBatches>(
+    alloc: Global,
+    processors: &[P],
+    shown: usize,
+) -> Result<Vec<SpanData>, AllocError>
+    ensures { IfOk result (λ spans. spans.items ≡ spans_in (drop shown (first_keeps P.kept processors.now))) }
+{
+    copies_since(alloc, kept_by_first(processors), shown)
 }
 
 /// Writes the lines of the spans that no reply has shown.
@@ -202,14 +230,15 @@ fn write_unshown<P: KeepsBatches>(
     shown: usize,
     output: &mut Vec<u8>,
 ) -> Result<(), AllocError>
-    ensures { (spans : List PlainSpanData) × (output.new.items ≡ output.old.items ++ span_lines spans) }
+    ensures ok { OnOk result (output.new.items ≡ output.old.items ++ span_lines (spans_in (drop shown (first_keeps P.kept processors.now)))) }
+    ensures err { OnErr result (output.new.items ≡ output.old.items) }
 {
-    let spans = copies_since(alloc, kept_by_first(processors), shown)?;
+    let spans = copies_of_unshown(alloc, processors, shown)?;
     write_spans(alloc, output, &spans)
 }
 
 /// Carries one command out.
-fn carry_out<P: SpanProcessor>(
+fn carry_out<P: KeepsBatches>(
     tracer: &SdkTracer,
     provider: &mut ProviderOf<P>,
     spans: &mut OpenSpans,
@@ -217,6 +246,7 @@ fn carry_out<P: SpanProcessor>(
 ) -> Result<Answer, AllocError>
     ensures ok { IfOk result (λ answer. Steps P.told tracer.now provider.old spans.old (plain_command command) answer provider.new spans.new) }
     ensures err { OnErr result (Rests P.told tracer.now provider.old spans.old provider.new spans.new) }
+    ensures keeps { Appends (first_keeps P.kept provider.old.processors) (first_keeps P.kept provider.new.processors) }
 {
     match command {
         Command::Start { span, name, moment } => start_span(
@@ -242,6 +272,7 @@ fn start_span<P: SpanProcessor>(
     ensures ok { IfOk result (λ answer. (given : Option (SpanIdentity × Bool)) × (answer ≡ start_answer given) × StartsNamed (λ p s t q. P.start_gives p s root_cx t q) spans.old (string_bytes span) provider.old tracer.now (string_bytes name) moment.0 (named spans.old (string_bytes span)) given spans.new provider.new) }
     ensures told { map P.told provider.new.processors ≡ map P.told provider.old.processors }
     ensures rest { provider.new ≡ record provider.old { processors = provider.new.processors; id_generator = provider.new.id_generator } }
+    ensures asks { MayStart (λ p s t q. P.start_gives p s root_cx t q) provider.old tracer.now (string_bytes name) moment.0 provider.new }
     ensures err { OnErr result (SameSpans spans.old spans.new) }
 {
     match spans.start(span, tracer, provider, name, moment)? {
@@ -273,6 +304,7 @@ fn end_span<P: SpanProcessor>(
     moment: Moment,
 ) -> Result<Answer, AllocError>
     ensures ok { IfOk result (λ answer. (given : Option (Option ℕ)) × (answer ≡ end_answer given) × EndsNamed P.told spans.old (string_bytes span) provider.old moment.0 (named spans.old (string_bytes span)) given spans.new provider.new) }
+    ensures asks { MayDeliver P.told P.end_gives provider.old.processors provider.new.processors }
     ensures err { OnErr result (SameSpans spans.old spans.new × (provider.new ≡ provider.old)) }
 {
     match spans.end(span.as_str(), provider, moment)? {

@@ -1,13 +1,14 @@
-use Rattle.std.proofs.Common.{◌≡◌, subst, sym, ap, string_bytes}
-use Rattle.opentelemetry.specs.Plain.{PlainKeyValue, text}
+use Rattle.std.proofs.Common.{refl, subst, sym, string_bytes}
+use Rattle.opentelemetry.specs.Plain.{PlainKeyValue}
 use Rattle.opentelemetry_sdk.specs.Provider.{root_cx}
 use Rattle.opentelemetry_sdk.specs.SpanHistory.{set_attribute}
 use Rattle.otel_trace.specs.Commands.{plain_command, start, attr, end}
 use Rattle.otel_trace.specs.OpenSpans.{EditsNamed, named}
-use Rattle.otel_trace.specs.SessionDelivery.{Steps}
+use Rattle.otel_trace.specs.SessionDelivery.{Steps, first_keeps}
 use Rattle.otel_trace.specs.declared.command.Command.{Command}
 use Rattle.otel_trace.specs.declared.reply.Answer.{Answer}
 use Rattle.otel_trace.proofs.StepLemmas.{if_ok_map, steps_start, steps_attr, steps_end}
+use Rattle.otel_trace.proofs.ShownLemmas.{appends_none, may_start_keeps, may_deliver_keeps}
 use Rattle.otel_trace.proofs.session.carry_out.Goals as goal
 
 pub returns-in-Start-clause-ok : goal.returns-in-Start-clause-ok
@@ -29,3 +30,12 @@ returns-in-End-clause-ok g c = if_ok_map c.end_span.result (λ answer h.
     subst (λ (command : Command). Steps g.P.SpanProcessor.told c.args.tracer.now c.args.provider.now c.args.spans.now (plain_command command) answer c.end_span.new.provider c.end_span.new.spans) (sym c.in-End.is)
     (subst (λ (a : Answer). Steps g.P.SpanProcessor.told c.args.tracer.now c.args.provider.now c.args.spans.now (end (string_bytes c.in-End.span) c.in-End.moment.0) a c.end_span.new.provider c.end_span.new.spans) (sym h.1)
     (steps_end g.P.SpanProcessor.told c.args.tracer.now c.args.provider.now c.end_span.new.provider c.args.spans.now c.end_span.new.spans (string_bytes c.in-End.span) c.in-End.moment.0 h.0 h.2))) c.end_span.ensures.ok
+
+pub returns-in-Start-clause-keeps : goal.returns-in-Start-clause-keeps
+returns-in-Start-clause-keeps g c = may_start_keeps g.P.KeepsBatches.kept (λ p s t q. g.P.SpanProcessor.start_gives p s root_cx t q) (λ p s t q h. g.met.P.KeepsBatches.start_appends p s root_cx t q h) c.args.provider.now c.start_span.new.provider c.args.tracer.now (string_bytes c.in-Start.name) c.in-Start.moment.0 c.start_span.ensures.asks
+
+pub returns-in-Attr-clause-keeps : goal.returns-in-Attr-clause-keeps
+returns-in-Attr-clause-keeps g c = appends_none (first_keeps g.P.KeepsBatches.kept c.args.provider.now.processors) _ refl
+
+pub returns-in-End-clause-keeps : goal.returns-in-End-clause-keeps
+returns-in-End-clause-keeps g c = may_deliver_keeps g.P.SpanProcessor.told g.P.KeepsBatches.kept g.P.SpanProcessor.end_gives g.met.P.KeepsBatches.end_appends c.args.provider.now.processors c.end_span.new.provider.processors c.end_span.ensures.asks

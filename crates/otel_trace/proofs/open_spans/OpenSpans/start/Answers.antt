@@ -1,4 +1,4 @@
-use Rattle.std.proofs.Common.{◌≡◌, ◌∙◌, sym, ap, subst, List, ℕ, Bool, Option, None, Some, is_some, string_bytes}
+use Rattle.std.proofs.Common.{◌≡◌, ◌∙◌, sym, ap, subst, refl, inl, inr, List, ℕ, Bool, Option, Some, is_some, string_bytes}
 use Rattle.opentelemetry_sdk.specs.Provider.{root_cx}
 use Rattle.opentelemetry_sdk.specs.SpanHistory.{PlainSpan}
 use Rattle.otel_trace.specs.OpenSpans.{StartsNamed, named, identity_of}
@@ -22,3 +22,15 @@ returns-clause-ok g c =
     ap (λ (i : SpanIdentity). Some (i, c.is_recording.result)) c.identity.ensures ∙ ap (λ (b : Bool). Some (identity_of c.in_ok-span.span, b)) c.is_recording.ensures in
     subst (λ (o : Option PlainSpan). StartsNamed (λ p s t q. g.P.SpanProcessor.start_gives p s root_cx t q) c.args.self.now (string_bytes c.args.name) c.args.provider.now c.args.tracer.now (string_bytes c.args.called) c.args.now.0 o (Some (c.identity.result, c.is_recording.result)) c.put.new.self c.start.new.provider) (sym absent)
     (c.in_ok-span.span, c.in_ok-span.ensures.ok, answer, c.in_ok-put.ensures.ok)
+
+pub returns-then-contains-clause-asks : goal.returns-then-contains-clause-asks
+returns-then-contains-clause-asks g c = inl refl
+
+pub returns-in_err-span-clause-asks : goal.returns-in_err-span-clause-asks
+returns-in_err-span-clause-asks g c = inl c.in_err-span.ensures.err
+
+pub returns-in_err-put-clause-asks : goal.returns-in_err-put-clause-asks
+returns-in_err-put-clause-asks g c = inr (c.in_ok-span.span, c.in_ok-span.ensures.ok)
+
+pub returns-clause-asks : goal.returns-clause-asks
+returns-clause-asks g c = inr (c.in_ok-span.span, c.in_ok-span.ensures.ok)
