@@ -94,8 +94,9 @@ abbrev pub IsInternalFailure : OTelSdkError → Type 0
 IsInternalFailure (errors.InternalFailure _) = Unit {0}
 IsInternalFailure _ = ⊥
 
--- what a first shutdown does: the provider is shut, each processor was asked, and the answer is Ok exactly where none failed
-abbrev pub ShutsDown : {P : Type 0} → (P → ProcessorTelling) → (P → Result (Unit {0}) OTelSdkError → P → Type 0) → ProviderState P → Result (Unit {0}) OTelSdkError → ProviderState P → Type 0
-ShutsDown told gives old answer new = ((failed : ℕ) × AskedAll (GivesAndKeeps told gives) old.processors new.processors failed × (IsOk answer ↔ (failed ≡ 0)))
+-- what a first shutdown does: the provider is shut, each processor was asked with this timeout, and the answer is Ok exactly
+-- where none failed
+abbrev pub ShutsDown : {P : Type 0} → (P → ProcessorTelling) → (P → ℕ → Result (Unit {0}) OTelSdkError → P → Type 0) → ProviderState P → ℕ → Result (Unit {0}) OTelSdkError → ProviderState P → Type 0
+ShutsDown told gives old timeout answer new = ((failed : ℕ) × AskedAll (GivesAndKeeps told (λ p. gives p timeout)) old.processors new.processors failed × (IsOk answer ↔ (failed ≡ 0)))
     × IfErr answer IsInternalFailure
     × (new ≡ record old { processors = new.processors; is_shut = true })

@@ -1,3 +1,4 @@
 pub mod PlainSpanData
 pub mod StoredBatches
+pub mod ExporterKinds
 pub mod Telling

@@ -8,9 +8,9 @@ use Rattle.opentelemetry_sdk.specs.Provider.{ProviderState}
 use Rattle.otel_trace.specs.ReplyText.{span_lines}
 use Rattle.otel_trace.specs.SessionDelivery.{SessionState, Closes, ShutsIfOpen, first_keeps, or_no_memory, spans_in}
 
-pub closes : {P : Type 0} (told : P → ProcessorTelling) (gives : P → Result (Unit {0}) OTelSdkError → P → Type 0) (kept : P → List (List PlainSpanData)) (session : SessionState P) (provider : ProviderState P)
+pub closes : {P : Type 0} (told : P → ProcessorTelling) (gives : P → ℕ → Result (Unit {0}) OTelSdkError → P → Type 0) (kept : P → List (List PlainSpanData)) (session : SessionState P) (provider : ProviderState P)
     (shutdown : Result (Unit {0}) OTelSdkError) (written : Result (Unit {0}) AllocError) (answer : Result (Unit {0}) OTelSdkError) (before now : List ℕ)
-    → ShutsIfOpen told gives session.provider shutdown provider
+    → ShutsIfOpen told gives session.provider 5_000_000_000 shutdown provider
     → OnOk written (now ≡ before ++ span_lines (spans_in (drop session.shown (first_keeps kept provider.processors)))) → OnErr written (now ≡ before)
     → MatchResult written (λ _. answer ≡ shutdown) (λ _. answer ≡ or_no_memory shutdown)
     → Closes told gives kept session before answer now

@@ -1,13 +1,16 @@
 -- What commands one after another demand.
-use Rattle.std.proofs.Common.{◌≡◌, List, [], ◌∷◌, ◌++◌, refl, sym, ◌∙◌, ap, subst, append_assoc, append-nil}
+use Rattle.std.proofs.Common.{◌≡◌, List, [], ◌∷◌, ◌++◌, refl, sym, ◌∙◌, ap, subst, append_assoc, append-nil, inr}
 use Rattle.std.proofs.lemmas.List.{map-append}
 use Rattle.opentelemetry_sdk.specs.ProcessorTelling.{ProcessorTelling, Delivery, EachFollows}
 use Rattle.opentelemetry_sdk.proofs.Following.{EachFollows-same, EachFollows-append}
+use Rattle.otel_batch.specs.PlainSpanData.{PlainSpanData}
+use Rattle.otel_trace.specs.KeptBatches.{Appends}
 use Rattle.otel_trace.specs.Commands.{PlainCommand, plain_command, plain_commands}
 use Rattle.otel_trace.specs.PlainReply.{PlainReply}
-use Rattle.otel_trace.specs.SessionDelivery.{Histories, SessionFrame, Demands, DemandAll, SessionState, frame_of, frame_with, Steps, Rests, answers_of, CarriesOut}
+use Rattle.otel_trace.specs.SessionDelivery.{Histories, SessionFrame, Demands, DemandAll, SessionState, frame_of, frame_with, Steps, Rests, answers_of, first_kept, CarriesOut, Shows, RunsBeginning}
 use Rattle.otel_trace.specs.declared.command.Command.{Command}
 use Rattle.otel_trace.specs.declared.reply.Answer.{Answer}
+use Rattle.otel_trace.proofs.ShownLemmas.{shows_no_more}
 
 -- one more command
 DemandAll-push : (frame : SessionFrame) (old middle new : Histories) (commands : List PlainCommand) (answers : List Answer) (ds d : List Delivery) (command : PlainCommand) (answer : Answer)
@@ -70,3 +73,23 @@ carries_rest {P} told old middle new done replies h k s = (
             (EachFollows-append told first.0 [] old.provider.processors middle.provider.processors new.provider.processors first.4 (EachFollows-same told middle.provider.processors new.provider.processors k.2)),
       ),
 )
+
+-- a command that was carried out and has no reply
+pub runs_unanswered : {P : Type 0} (told : P → ProcessorTelling) (kept : P → List (List PlainSpanData)) (old middle new : SessionState P) (commands done left : List Command) (replies before now : List PlainReply) (command : Command) (answer : Answer)
+    → commands ≡ done ++ command ∷ left → now ≡ before ++ replies
+    → CarriesOut told old done replies middle → Shows kept old replies middle
+    → Steps told middle.scope middle.provider middle.spans (plain_command command) answer new.provider new.spans
+    → new ≡ record middle { provider = new.provider; spans = new.spans } → Appends (first_kept kept middle) (first_kept kept new)
+    → RunsBeginning told kept old commands before now new
+runs_unanswered {P} told kept old middle new commands done left replies before now command answer split appended carried shown step rest keeps =
+    let last : PlainReply = record { exported = []; answer = answer } in (
+      done ++ command ∷ [],
+      left,
+      replies ++ last ∷ [],
+      replies,
+      split ∙ sym (append_assoc done (command ∷ []) left),
+      appended,
+      inr (last, refl),
+      carries_more told old middle new done replies command last carried step (ap (λ (s : SessionState P). s.scope) rest),
+      shows_no_more kept old middle new replies shown keeps (ap (λ (s : SessionState P). s.shown) rest),
+    )

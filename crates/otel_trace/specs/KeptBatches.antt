@@ -1,16 +1,17 @@
--- The batches that the in-memory exporter of a processor keeps. A call of a processor that starts or ends a span only adds
--- batches behind them.
-use Rattle.std.specs.Prelude.{◌≡◌, ◌++◌, List, [], ◌∷◌, Option, Bool, true, false, Result, Ok, Err, MatchBool, MatchResult, refl}
+-- The batches that the in-memory exporter of a processor keeps, and how many it lost. A call of a processor that starts or
+-- ends a span only adds batches behind those that are kept.
+use Rattle.std.specs.Prelude.{◌≡◌, ◌++◌, ◌&&◌, not, ℕ, List, [], ◌∷◌, Option, Bool, true, false, Result, Ok, Err, refl}
 use Rattle.std.specs.declared.alloc.AllocError.{AllocError}
 use Rattle.std.proofs.Common.{ap, sym, ◌∙◌, append-nil}
 use Rattle.otel_base.specs.declared.error.OTelSdkError.{OTelSdkError}
-use Rattle.otel_base.specs.declared.error.OTelSdkError.TheVariants as errors
+use Rattle.otel_batch.specs.ExporterKinds.{ExporterGives}
 use Rattle.otel_batch.specs.PlainSpanData.{PlainSpanData}
-use Rattle.otel_batch.specs.StoredBatches.{StoredBatches}
-use Rattle.otel_batch.specs.Telling.{Tells}
+use Rattle.otel_batch.specs.StoredBatches.{StoredBatches, StoresBatch}
 use Rattle.otel_batch.specs.declared.trace.exporter_box.ExporterOf.{ExporterOf}
 use Rattle.otel_batch.specs.declared.trace.exporter_box.ExporterOf.TheVariants as exporters
-use Rattle.opentelemetry_sdk.specs.SimpleProcessor.{SimpleProcessor}
+use Rattle.opentelemetry_sdk.specs.ProcessorKinds.{ProcessorGives}
+use Rattle.opentelemetry_sdk.specs.ProcessorTelling.{is_sampled}
+use Rattle.opentelemetry_sdk.specs.SimpleProcessor.{SimpleProcessor, SimpleEnds, ExportsIf}
 use Rattle.opentelemetry_sdk.specs.declared.trace.processor.ProcessorOf.{ProcessorOf}
 use Rattle.opentelemetry_sdk.specs.declared.trace.processor.ProcessorOf.TheVariants as kinds
 
@@ -18,68 +19,60 @@ use Rattle.opentelemetry_sdk.specs.declared.trace.processor.ProcessorOf.TheVaria
 abbrev pub Appends : {X : Type 0} → List X → List X → Type 0
 Appends {X} old new = (more : List X) × (new ≡ old ++ more)
 
--- the batches that an exporter keeps; none where it is not the one in memory
+-- the batches that an exporter keeps, and how many it lost; none where it is not the one in memory
 abbrev pub exporter_keeps : {C : Type 0} → ExporterOf StoredBatches C → List (List PlainSpanData)
 exporter_keeps (exporters.Memory memory) = memory.batches
 exporter_keeps (exporters.Custom _) = []
 
--- the batches that the exporter of a processor keeps; none where it is of the caller's own
+abbrev pub exporter_loses : {C : Type 0} → ExporterOf StoredBatches C → ℕ
+exporter_loses (exporters.Memory memory) = memory.lost
+exporter_loses (exporters.Custom _) = 0
+
+-- the same of the exporter of a processor; none where the processor is of the caller's own
 abbrev pub processor_keeps : {S D : Type 0} → (S → List (List PlainSpanData)) → ProcessorOf S D → List (List PlainSpanData)
 processor_keeps keeps (kinds.Simple simple) = keeps simple
 processor_keeps keeps (kinds.Custom _) = []
+
+abbrev pub processor_loses : {S D : Type 0} → (S → ℕ) → ProcessorOf S D → ℕ
+processor_loses loses (kinds.Simple simple) = loses simple
+processor_loses loses (kinds.Custom _) = 0
 
 nothing_more : {X Y : Type 0} (f : X → List Y) (x y : X) → y ≡ x → Appends (f x) (f y)
 nothing_more f x y e = ([], ap f e ∙ sym (append-nil (f x)))
 
 -- an export into memory
-abbrev pub MemoryExports : StoredBatches → List PlainSpanData → Result (Unit {0}) OTelSdkError → StoredBatches → Type 0
-MemoryExports old batch answer new = MatchResult answer
-    (λ _. new ≡ record old { batches = old.batches ++ batch ∷ [] })
-    (λ e. (e ≡ errors.OutOfMemory) × (new ≡ record old { is_complete = false }))
-
-memory_appends : (old : StoredBatches) (batch : List PlainSpanData) (answer : Result (Unit {0}) OTelSdkError) (new : StoredBatches) → MemoryExports old batch answer new → Appends old.batches new.batches
+memory_appends : (old : StoredBatches) (batch : List PlainSpanData) (answer : Result (Unit {0}) OTelSdkError) (new : StoredBatches) → StoresBatch old batch answer new → Appends old.batches new.batches
 memory_appends old batch (Ok _) new h = (batch ∷ [], ap (λ (s : StoredBatches). s.batches) h)
 memory_appends old batch (Err _) new h = ([], ap (λ (s : StoredBatches). s.batches) h.1 ∙ sym (append-nil old.batches))
 
 -- an export of an exporter of either kind
-abbrev pub ExporterExports : {C : Type 0} → (C → List PlainSpanData → Result (Unit {0}) OTelSdkError → C → Type 0) → ExporterOf StoredBatches C → List PlainSpanData → Result (Unit {0}) OTelSdkError → ExporterOf StoredBatches C → Type 0
-ExporterExports exports old batch answer new = elim old [
-  | exporters.Memory m ↦ elim new [ exporters.Memory n ↦ MemoryExports m batch answer n | exporters.Custom _ ↦ ⊥ ]
-  | exporters.Custom c ↦ elim new [ exporters.Memory _ ↦ ⊥ | exporters.Custom d ↦ exports c batch answer d ]
-]
-
 pub exporter_appends : {C : Type 0} (exports : C → List PlainSpanData → Result (Unit {0}) OTelSdkError → C → Type 0) (old : ExporterOf StoredBatches C) (batch : List PlainSpanData) (answer : Result (Unit {0}) OTelSdkError) (new : ExporterOf StoredBatches C)
-    → ExporterExports exports old batch answer new → Appends (exporter_keeps old) (exporter_keeps new)
+    → ExporterGives (λ m n. StoresBatch m batch answer n) (λ c d. exports c batch answer d) old new → Appends (exporter_keeps old) (exporter_keeps new)
 exporter_appends exports (exporters.Memory m) batch answer (exporters.Memory n) h = memory_appends m batch answer n h
 exporter_appends exports (exporters.Memory m) batch answer (exporters.Custom d) h = absurd h
 exporter_appends exports (exporters.Custom c) batch answer (exporters.Memory n) h = absurd h
 exporter_appends exports (exporters.Custom c) batch answer (exporters.Custom d) h = ([], refl)
 
 -- an end at a simple processor
-pub simple_appends : {E : Type 0} (keeps : E → List (List PlainSpanData)) (told : E → Option (List (List PlainSpanData))) (exports : E → List PlainSpanData → Result (Unit {0}) OTelSdkError → E → Type 0)
+appends_if : {E : Type 0} (keeps : E → List (List PlainSpanData)) (told : E → Option (List (List PlainSpanData))) (exports : E → List PlainSpanData → Result (Unit {0}) OTelSdkError → E → Type 0)
     → ((old : E) (batch : List PlainSpanData) (answer : Result (Unit {0}) OTelSdkError) (new : E) → exports old batch answer new → Appends (keeps old) (keeps new))
     → (is_due : Bool) (old : SimpleProcessor E) (span : PlainSpanData) (taken : Result (Unit {0}) AllocError) (new : SimpleProcessor E)
-    → MatchBool is_due
-    (MatchResult taken
-    (λ _. (answer : Result (Unit {0}) OTelSdkError) × exports old.exporter (span ∷ []) answer new.exporter × Tells (told old.exporter) ((span ∷ []) ∷ []) (told new.exporter) × (new ≡ record old { exporter = new.exporter }))
-    (λ _. new ≡ old))
-    ((taken ≡ Ok tt) × (new ≡ old))
-    → Appends (keeps old.exporter) (keeps new.exporter)
-simple_appends keeps told exports appends true old span (Ok _) new h = appends old.exporter (span ∷ []) h.0 new.exporter h.1
-simple_appends {E} keeps told exports appends true old span (Err _) new h = nothing_more (λ (p : SimpleProcessor E). keeps p.exporter) old new h
-simple_appends {E} keeps told exports appends false old span taken new h = nothing_more (λ (p : SimpleProcessor E). keeps p.exporter) old new h.1
+    → ExportsIf is_due told exports old span taken new → Appends (keeps old.exporter) (keeps new.exporter)
+appends_if keeps told exports appends true old span (Ok _) new h = appends old.exporter (span ∷ []) h.0 new.exporter h.1
+appends_if {E} keeps told exports appends true old span (Err _) new h = nothing_more (λ (p : SimpleProcessor E). keeps p.exporter) old new h
+appends_if {E} keeps told exports appends false old span taken new h = nothing_more (λ (p : SimpleProcessor E). keeps p.exporter) old new h.1
+
+pub simple_appends : {E : Type 0} (keeps : E → List (List PlainSpanData)) (told : E → Option (List (List PlainSpanData))) (exports : E → List PlainSpanData → Result (Unit {0}) OTelSdkError → E → Type 0)
+    → ((old : E) (batch : List PlainSpanData) (answer : Result (Unit {0}) OTelSdkError) (new : E) → exports old batch answer new → Appends (keeps old) (keeps new))
+    → (old : SimpleProcessor E) (span : PlainSpanData) (taken : Result (Unit {0}) AllocError) (new : SimpleProcessor E)
+    → SimpleEnds told exports old span taken new → Appends (keeps old.exporter) (keeps new.exporter)
+simple_appends keeps told exports appends old span taken new h = appends_if keeps told exports appends (not old.is_shut && is_sampled span) old span taken new h
 
 -- a call that leaves a simple processor as it was
 pub simple_stays : {E : Type 0} {B : Type 0} (keeps : E → List (List PlainSpanData)) (old new : SimpleProcessor E) → (new ≡ old) × B → Appends (keeps old.exporter) (keeps new.exporter)
 simple_stays {E} keeps old new h = nothing_more (λ (p : SimpleProcessor E). keeps p.exporter) old new h.0
 
 -- a call of a processor of either kind
-abbrev pub ProcessorGives : {S D : Type 0} → (S → S → Type 0) → (D → D → Type 0) → ProcessorOf S D → ProcessorOf S D → Type 0
-ProcessorGives simple custom old new = elim old [
-  | kinds.Simple a ↦ elim new [ kinds.Simple b ↦ simple a b | kinds.Custom _ ↦ ⊥ ]
-  | kinds.Custom c ↦ elim new [ kinds.Simple _ ↦ ⊥ | kinds.Custom d ↦ custom c d ]
-]
-
 pub processor_appends : {S D : Type 0} (keeps : S → List (List PlainSpanData)) (simple : S → S → Type 0) (custom : D → D → Type 0)
     → ((a b : S) → simple a b → Appends (keeps a) (keeps b)) → (old new : ProcessorOf S D)
     → ProcessorGives simple custom old new → Appends (processor_keeps keeps old) (processor_keeps keeps new)

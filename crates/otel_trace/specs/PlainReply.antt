@@ -1,8 +1,19 @@
-use Rattle.std.specs.Prelude.{List}
+use Rattle.std.specs.Prelude.{Bool, false, List, nat_lt}
+use Rattle.std.specs.List.{before_first}
 use Rattle.otel_batch.specs.PlainSpanData.{PlainSpanData}
 use Rattle.otel_trace.specs.declared.reply.Answer.{Answer}
+use Rattle.otel_trace.specs.declared.reply.Answer.TheVariants as answers
 
 -- a reply: the spans that were exported since the one before it, and the answer to its command
 pub record PlainReply : Type 0 where
   pub exported : List PlainSpanData
   pub answer : Answer
+
+-- whether an answer says that a processor refused a span
+abbrev pub counts_refusals : Answer → Bool
+counts_refusals (answers.Ended refused) = nat_lt 0 refused
+counts_refusals _ = false
+
+-- the replies before the first whose answer says so
+abbrev pub before_refusal : List PlainReply → List PlainReply
+before_refusal = before_first (λ reply. counts_refusals reply.answer)

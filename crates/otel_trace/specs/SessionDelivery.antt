@@ -17,7 +17,7 @@ use Rattle.otel_trace.specs.KeptBatches.{Appends}
 use Rattle.otel_trace.specs.OpenSpans.{NamedSpans, SameSpans, named, is_name}
 use Rattle.otel_trace.specs.AnswerText.{replies_text}
 use Rattle.otel_trace.specs.Lines.{TextSpells}
-use Rattle.otel_trace.specs.PlainReply.{PlainReply}
+use Rattle.otel_trace.specs.PlainReply.{PlainReply, before_refusal}
 use Rattle.otel_trace.specs.ReplyText.{span_lines}
 use Rattle.otel_trace.specs.declared.session.FeedError.{FeedError}
 use Rattle.otel_trace.specs.declared.session.FeedError.TheVariants as feeds
@@ -134,6 +134,13 @@ first_keeps kept processors = option_map_or kept (slice_get processors 0) []
 abbrev pub first_kept : {P : Type 0} → (P → List (List PlainSpanData)) → SessionState P → List (List PlainSpanData)
 first_kept kept session = first_keeps kept session.provider.processors
 
+-- how many batches the first of these processors lost for want of memory
+abbrev pub first_loses : {P : Type 0} → (P → ℕ) → List P → ℕ
+first_loses lost processors = option_map_or lost (slice_get processors 0) 0
+
+abbrev pub first_lost : {P : Type 0} → (P → ℕ) → SessionState P → ℕ
+first_lost lost session = first_loses lost session.provider.processors
+
 -- the spans of batches
 abbrev pub spans_in : List (List PlainSpanData) → List PlainSpanData
 spans_in batches = flat_map (λ batch. batch) batches
@@ -169,10 +176,14 @@ CarriesOut {P} told old commands replies new = (frame_of new ≡ frame_of old)
 abbrev pub AllOrButLast : List PlainReply → List PlainReply → Type 0
 AllOrButLast replies appended = (appended ≡ replies) ⊎ ((last : PlainReply) × (replies ≡ appended ++ last ∷ []))
 
+-- no batch was lost meanwhile
+abbrev pub LosesNone : {P : Type 0} → (P → ℕ) → SessionState P → SessionState P → Type 0
+LosesNone lost old new = first_lost lost new ≡ first_lost lost old
+
 -- all commands were carried out, each with its reply, and the replies show all spans that were exported meanwhile
-abbrev pub RunsAll : {P : Type 0} → (P → ProcessorTelling) → (P → List (List PlainSpanData)) → SessionState P → List Command → List PlainReply → List PlainReply → SessionState P → Type 0
-RunsAll told kept old commands before now new = (replies : List PlainReply) × (now ≡ before ++ replies)
-    × CarriesOut told old commands replies new × Shows kept old replies new × NoneLeft kept replies new
+abbrev pub RunsAll : {P : Type 0} → (P → ProcessorTelling) → (P → List (List PlainSpanData)) → (P → ℕ) → SessionState P → List Command → List PlainReply → List PlainReply → SessionState P → Type 0
+RunsAll told kept lost old commands before now new = (replies : List PlainReply) × (now ≡ before ++ replies)
+    × CarriesOut told old commands replies new × Shows kept old replies new × NoneLeft kept replies new × LosesNone lost old new
 
 -- a beginning of the commands was carried out, the last one perhaps without its reply; what the replies do not show is left
 -- to show
@@ -182,40 +193,41 @@ RunsBeginning told kept old commands before now new = (done : List Command) × (
     × CarriesOut told old done replies new × Shows kept old appended new
 
 -- a text was fed whole: its lines up to the first bad one spell the commands that were carried out, and the texts of their
--- replies were appended
-abbrev pub FedUpTo : {P : Type 0} → (P → ProcessorTelling) → (P → List (List PlainSpanData)) → SessionState P → List ℕ → Option ℕ → List ℕ → List ℕ → SessionState P → Type 0
-FedUpTo told kept old bytes bad_line before now new = (commands : List Command) × (replies : List PlainReply)
-    × TextSpells bytes (plain_commands commands) bad_line × (now ≡ before ++ replies_text replies)
-    × CarriesOut told old commands replies new × Shows kept old replies new × NoneLeft kept replies new
+-- replies, none of which counts a refusal, were appended
+abbrev pub FedUpTo : {P : Type 0} → (P → ProcessorTelling) → (P → List (List PlainSpanData)) → (P → ℕ) → SessionState P → List ℕ → Option ℕ → List ℕ → List ℕ → SessionState P → Type 0
+FedUpTo told kept lost old bytes bad_line before now new = (commands : List Command) × (replies : List PlainReply)
+    × TextSpells bytes (plain_commands commands) bad_line × (now ≡ before ++ replies_text replies) × (before_refusal replies ≡ replies)
+    × CarriesOut told old commands replies new × Shows kept old replies new × NoneLeft kept replies new × LosesNone lost old new
 
 -- these commands are a beginning of those that a text spells, or none
 abbrev pub IsBeginning : List ℕ → List Command → Type 0
 IsBeginning bytes done = (done ≡ []) ⊎ ((left : List Command) × (bad_line : Option ℕ) × TextSpells bytes (plain_commands (done ++ left)) bad_line)
 
--- memory ran out: a beginning of the commands was carried out, and the output has the replies of a beginning of them
+-- memory ran out: a beginning of the commands was carried out, and the output has the replies of a beginning of them, up to
+-- the first that counts a refusal
 abbrev pub FedBeginning : {P : Type 0} → (P → ProcessorTelling) → (P → List (List PlainSpanData)) → SessionState P → List ℕ → List ℕ → List ℕ → SessionState P → Type 0
 FedBeginning told kept old bytes before now new = (done : List Command) × (replies : List PlainReply) × (appended : List PlainReply) × (n : ℕ)
-    × IsBeginning bytes done × AllOrButLast replies appended × (now ≡ before ++ replies_text (take n appended))
+    × IsBeginning bytes done × AllOrButLast replies appended × (now ≡ before ++ replies_text (take n (before_refusal appended)))
     × CarriesOut told old done replies new × Shows kept old appended new
 
 -- what feeding a text does, by its answer
-abbrev pub Fed : {P T : Type 0} → (P → ProcessorTelling) → (P → List (List PlainSpanData)) → SessionState P → List ℕ → List ℕ → Result T FeedError → List ℕ → SessionState P → Type 0
-Fed told kept old bytes before (Ok _) now new = FedUpTo told kept old bytes None before now new
-Fed told kept old bytes before (Err (feeds.Line n)) now new = FedUpTo told kept old bytes (Some n) before now new
-Fed told kept old bytes before (Err feeds.Memory) now new = FedBeginning told kept old bytes before now new
+abbrev pub Fed : {P T : Type 0} → (P → ProcessorTelling) → (P → List (List PlainSpanData)) → (P → ℕ) → SessionState P → List ℕ → List ℕ → Result T FeedError → List ℕ → SessionState P → Type 0
+Fed told kept lost old bytes before (Ok _) now new = FedUpTo told kept lost old bytes None before now new
+Fed told kept lost old bytes before (Err (feeds.Line n)) now new = FedUpTo told kept lost old bytes (Some n) before now new
+Fed told kept lost old bytes before (Err feeds.Memory) now new = FedBeginning told kept old bytes before now new
 
--- the shutdown of a session's provider: where it was shut nothing happens
-abbrev pub ShutsIfOpen : {P : Type 0} → (P → ProcessorTelling) → (P → Result (Unit {0}) OTelSdkError → P → Type 0) → ProviderState P → Result (Unit {0}) OTelSdkError → ProviderState P → Type 0
-ShutsIfOpen told gives old answer new = MatchBool old.is_shut ((answer ≡ Ok tt) × (new ≡ old)) (ShutsDown told gives old answer new)
+-- the shutdown of a session's provider with a timeout: where it was shut nothing happens
+abbrev pub ShutsIfOpen : {P : Type 0} → (P → ProcessorTelling) → (P → ℕ → Result (Unit {0}) OTelSdkError → P → Type 0) → ProviderState P → ℕ → Result (Unit {0}) OTelSdkError → ProviderState P → Type 0
+ShutsIfOpen told gives old timeout answer new = MatchBool old.is_shut ((answer ≡ Ok tt) × (new ≡ old)) (ShutsDown told gives old timeout answer new)
 
 -- want of memory, unless there is an error already
 abbrev pub or_no_memory : Result (Unit {0}) OTelSdkError → Result (Unit {0}) OTelSdkError
 or_no_memory (Ok _) = Err errors.OutOfMemory
 or_no_memory (Err error) = Err error
 
--- closing: the provider is shut down, and the lines of the spans that no reply has shown are appended, those exported by the
--- shutdown among them; where there is no memory for them, none is
-abbrev pub Closes : {P : Type 0} → (P → ProcessorTelling) → (P → Result (Unit {0}) OTelSdkError → P → Type 0) → (P → List (List PlainSpanData)) → SessionState P → List ℕ → Result (Unit {0}) OTelSdkError → List ℕ → Type 0
+-- closing: the provider is shut down with 5 seconds, and the lines of the spans that no reply has shown are appended, those
+-- exported by the shutdown among them; where there is no memory for them, none is
+abbrev pub Closes : {P : Type 0} → (P → ProcessorTelling) → (P → ℕ → Result (Unit {0}) OTelSdkError → P → Type 0) → (P → List (List PlainSpanData)) → SessionState P → List ℕ → Result (Unit {0}) OTelSdkError → List ℕ → Type 0
 Closes {P} told gives kept session before answer now = (provider : ProviderState P) × (shutdown : Result (Unit {0}) OTelSdkError)
-    × ShutsIfOpen told gives session.provider shutdown provider
+    × ShutsIfOpen told gives session.provider 5_000_000_000 shutdown provider
     × (((answer ≡ shutdown) × (now ≡ before ++ span_lines (unshown kept (record session { provider = provider })))) ⊎ ((answer ≡ or_no_memory shutdown) × (now ≡ before)))

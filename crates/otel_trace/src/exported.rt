@@ -1,6 +1,6 @@
 //! The batches that the in-memory exporter of a processor keeps, which the replies of a session show.
 
-ghost use Rattle.std.specs.Prelude.{◌≡◌, ◌++◌, List, map, IfOk, OnOk, Result, drop};
+ghost use Rattle.std.specs.Prelude.{◌≡◌, ◌++◌, ℕ, List, map, IfOk, OnOk, Result, drop};
 ghost use Rattle.std.specs.List.{flat_map};
 ghost use Rattle.std.specs.declared.alloc.AllocError.{AllocError};
 ghost use Rattle.opentelemetry.specs.Plain.{PlainContext};
@@ -20,6 +20,12 @@ pub trait KeepsBatches: SpanProcessor {
     fn batches(&self) -> &[Vec<SpanData>]
         ensures { map (λ batch. batch.items) result.now ≡ kept self.now };
 
+    /// How many batches were handed to such an exporter and found no memory.
+    ghost lost: { Self → ℕ };
+
+    fn lost_batches(&self) -> u64
+        ensures { result ≡ lost self.now };
+
     ghost start_appends: { (p : Self) (span : PlainSpan) (cx : PlainContext) (edited : PlainSpan) (q : Self) → Self.start_gives p span cx edited q → Appends (kept p) (kept q) };
 
     ghost end_appends: { (p : Self) (span : PlainSpanData) (answer : Result (Unit {0}) AllocError) (q : Self) → Self.end_gives p span answer q → Appends (kept p) (kept q) };
@@ -27,13 +33,15 @@ pub trait KeepsBatches: SpanProcessor {
 
 impl<C: SpanExporter, D: SpanProcessor> KeepsBatches
     for ProcessorOf<SimpleSpanProcessor<ExporterOf<InMemorySpanExporter, C>>, D> {
-    ghost use Rattle.otel_trace.specs.KeptBatches.{exporter_keeps, exporter_appends, processor_keeps, processor_appends, simple_appends, simple_stays};
+    ghost use Rattle.otel_trace.specs.KeptBatches.{exporter_keeps, exporter_loses, exporter_appends, processor_keeps, processor_loses, processor_appends, simple_appends, simple_stays};
 
     ghost kept = { processor_keeps (λ simple. exporter_keeps simple.exporter) };
 
+    ghost lost = { processor_loses (λ simple. exporter_loses simple.exporter) };
+
     ghost start_appends = { λ p span cx edited q given. processor_appends (λ simple. exporter_keeps simple.exporter) _ _ (λ a b h. simple_stays exporter_keeps a b h) p q given };
 
-    ghost end_appends = { λ p span answer q given. processor_appends (λ simple. exporter_keeps simple.exporter) _ _ (λ a b h. simple_appends exporter_keeps (⟦<ExporterOf<InMemorySpanExporter, C> as SpanExporter>⟧.told) (⟦<ExporterOf<InMemorySpanExporter, C> as SpanExporter>⟧.export_gives) (exporter_appends C.export_gives) _ a span answer b h) p q given };
+    ghost end_appends = { λ p span answer q given. processor_appends (λ simple. exporter_keeps simple.exporter) _ _ (λ a b h. simple_appends exporter_keeps (⟦<ExporterOf<InMemorySpanExporter, C> as SpanExporter>⟧.told) (⟦<ExporterOf<InMemorySpanExporter, C> as SpanExporter>⟧.export_gives) (exporter_appends C.export_gives) a span answer b h) p q given };
 
     fn batches(&self) -> &[Vec<SpanData>] {
         match self {
@@ -42,6 +50,16 @@ impl<C: SpanExporter, D: SpanProcessor> KeepsBatches
                 ExporterOf::Custom(_) => &[],
             },
             ProcessorOf::Custom(_) => &[],
+        }
+    }
+
+    fn lost_batches(&self) -> u64 {
+        match self {
+            ProcessorOf::Simple(simple) => match simple.exporter() {
+                ExporterOf::Memory(memory) => memory.lost_batches(),
+                ExporterOf::Custom(_) => 0,
+            },
+            ProcessorOf::Custom(_) => 0,
         }
     }
 }

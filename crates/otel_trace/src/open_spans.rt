@@ -102,11 +102,6 @@ impl OpenSpans {
         end_in(&mut self.spans, name, provider, moment)
     }
 
-    /// How many of them are not recording, or no longer.
-    pub(crate) fn ended(&self) -> usize {
-        ended_among(&self.spans)
-    }
-
     /// Spends them: each span is abandoned.
     pub(crate) fn abandon(self) {
         let OpenSpans { spans } = self;
@@ -177,16 +172,6 @@ fn end_in<P: SpanProcessor>(
     } else {
         Ok(Some(None))
     }
-}
-
-fn ended_among(spans: &BTreeMap<String, Span>) -> usize {
-    let mut ended: usize = 0;
-    for span in spans.values() {
-        if !span.is_recording() {
-            ended = ended.saturating_add(1);
-        }
-    }
-    ended
 }
 
 fn abandon_all(mut spans: BTreeMap<String, Span>) {

@@ -1,5 +1,8 @@
 //! What a session replies to a command.
 
+ghost use Rattle.std.specs.Prelude.{◌≡◌};
+ghost use Rattle.otel_trace.specs.PlainReply.{counts_refusals};
+
 use opentelemetry::{SpanId, TraceFlags, TraceId};
 use otel_batch::trace::SpanData;
 use std::marker::Model;
@@ -29,6 +32,18 @@ pub enum Answer {
     SpanExists,
     /// The span has ended, and so many processors refused it for want of memory.
     Ended(usize),
+}
+
+impl Answer {
+    /// Whether it says that a processor refused a span. Its text does not show that.
+    pub fn counts_refusals(&self) -> bool
+        ensures { result ≡ counts_refusals self.now }
+    {
+        match self {
+            Answer::Ended(refused) => *refused > 0,
+            _ => false,
+        }
+    }
 }
 
 /// An answer, and the spans that the provider's first processor exported into memory since the reply before it.

@@ -1,16 +1,18 @@
 //! A session: commands against one provider, each with a reply. What its commands deliver to the exporters is stated by
 //! the histories of its spans, apart from the code that fills them.
 
-ghost use Rattle.std.specs.Prelude.{◌≡◌, ◌++◌, ℕ, Bool, List, [], Option, drop, length, map, IfErr, IfOk, MatchResult, OnOk, OnErr, codes, string_bytes};
+ghost use Rattle.std.specs.Prelude.{◌≡◌, ◌++◌, ℕ, Bool, List, [], Option, drop, length, map, position, take, IfErr, IfOk, MatchResult, OnOk, OnErr, codes, string_bytes};
 ghost use Rattle.opentelemetry.specs.Plain.{text};
 ghost use Rattle.opentelemetry_sdk.specs.Provider.{named as scope_named};
 ghost use Rattle.opentelemetry_sdk.specs.Provider.{root_cx};
 ghost use Rattle.opentelemetry_sdk.specs.SpanHistory as edits;
 ghost use Rattle.otel_trace.specs.Commands.{plain_command};
+ghost use Rattle.otel_trace.specs.AnswerText.{replies_text};
+ghost use Rattle.otel_trace.specs.PlainReply.{before_refusal, counts_refusals};
 ghost use Rattle.otel_trace.specs.ReplyText.{span_lines};
 ghost use Rattle.otel_trace.specs.OpenSpans.{EditsNamed, EndsNamed, MayDeliver, MayStart, SameSpans, StartsNamed, attr_answer, end_answer, named, start_answer};
 ghost use Rattle.otel_trace.specs.declared.reply.SpanIdentity.{SpanIdentity};
-ghost use Rattle.otel_trace.specs.SessionDelivery.{Closes, Fed, Rests, RunsAll, RunsBeginning, Steps, first_keeps, first_kept, ShutsIfOpen, or_no_memory, spans_in, unshown};
+ghost use Rattle.otel_trace.specs.SessionDelivery.{Closes, Fed, Rests, RunsAll, RunsBeginning, Steps, first_keeps, first_kept, first_loses, first_lost, ShutsIfOpen, or_no_memory, spans_in, unshown};
 ghost use Rattle.otel_trace.specs.KeptBatches.{Appends};
 
 use crate::command::Command;
@@ -88,19 +90,24 @@ fn tracer_of<P>(alloc: Global, provider: &ProviderOf<P>) -> Result<SdkTracer, Al
 }
 
 impl<P: KeepsBatches> Session<P> {
-    /// Carries commands out in order and appends a reply for each. Where memory runs out, a beginning of the commands was
-    /// carried out, each with its reply, except that the last one may be without.
+    /// Carries commands out in order and appends a reply for each. Where memory runs out, also for the batch of a span that
+    /// the first processor exported, a beginning of the commands was carried out, each with its reply, except that the
+    /// last one may be without. A processor that refused a span is counted in the reply.
     pub fn run(
         &mut self,
         commands: Vec<Command>,
         replies: &mut Vec<Reply>,
     ) -> Result<(), AllocError>
-        ensures ok { OnOk result (RunsAll P.told P.kept self.old commands.items replies.old.items replies.new.items self.new) }
+        ensures ok { OnOk result (RunsAll P.told P.kept P.lost self.old commands.items replies.old.items replies.new.items self.new) }
         ensures err { OnErr result (RunsBeginning P.told P.kept self.old commands.items replies.old.items replies.new.items self.new) }
     {
+        let lost = self.lost_batches();
         let mut queue = VecDeque::from_vec(commands);
         while let Some(command) = queue.pop_front() {
             let answer = self.answer(command)?;
+            if self.lost_batches() != lost {
+                return Err(AllocError);
+            }
             let exported = self.unshown()?;
             replies.push(Reply { exported, answer })?;
             self.mark_shown();
@@ -110,31 +117,26 @@ impl<P: KeepsBatches> Session<P> {
 
     /// Carries out the commands that the lines of a text spell, up to the first line that is none, and appends the texts
     /// of their replies. `Line` names the first bad line, from 1 and with empty lines counted. After `Memory` the output
-    /// has the whole replies of a beginning of the commands.
+    /// has the whole replies of a beginning of the commands; it has no reply to an end that a processor refused for want
+    /// of memory, and none behind it.
     pub fn feed(&mut self, text: &[u8], output: &mut Vec<u8>) -> Result<(), FeedError>
-        ensures { Fed P.told P.kept self.old text.now output.old.items result output.new.items self.new }
+        ensures { Fed P.told P.kept P.lost self.old text.now output.old.items result output.new.items self.new }
     {
         let Ok(script) = parse(self.alloc, text) else {
             return Err(FeedError::Memory);
         };
         let mut replies = Vec::new(self.alloc);
         let Ok(()) = self.run(script.commands, &mut replies) else {
-            let _ = write_replies(self.alloc, output, &replies);
+            let _ = write_before_refusal(self.alloc, output, &replies);
             return Err(FeedError::Memory);
         };
-        let Ok(()) = write_replies(self.alloc, output, &replies) else {
+        let Ok(()) = write_before_refusal(self.alloc, output, &replies) else {
             return Err(FeedError::Memory);
         };
         match script.bad_line {
             None => Ok(()),
             Some(line) => Err(FeedError::Line(line)),
         }
-    }
-
-    /// Whether the first processor keeps a batch for each span that has ended. Where it exports each span at once, memory
-    /// was missing if not.
-    pub(crate) fn keeps_each_ended(&self) -> bool {
-        self.spans.ended() <= kept_by_first(self.provider.processors()).len()
     }
 
     /// Spends the session: its spans are abandoned, the provider is shut down where it is open, and the lines of the spans
@@ -174,6 +176,13 @@ impl<P: KeepsBatches> Session<P> {
         copies_of_unshown(self.alloc, self.provider.processors(), self.shown)
     }
 
+    /// How many batches of the first processor found no memory.
+    fn lost_batches(&self) -> u64
+        ensures { result ≡ first_lost P.lost self.now }
+    {
+        lost_by_first(self.provider.processors())
+    }
+
     /// A reply has shown what the first processor exported so far.
     fn mark_shown(&mut self)
         ensures { self.new ≡ record self.old { shown = length (first_kept P.kept self.old) } }
@@ -184,7 +193,7 @@ impl<P: KeepsBatches> Session<P> {
 
 /// Shuts the provider down where it is open.
 fn shut_down<P: SpanProcessor>(provider: &mut ProviderOf<P>) -> OTelSdkResult
-    ensures { ShutsIfOpen P.told P.shutdown_gives provider.old result provider.new }
+    ensures { ShutsIfOpen P.told P.shutdown_gives provider.old 5_000_000_000 result provider.new }
 {
     match provider.shutdown() {
         Err(OTelSdkError::AlreadyShutdown) => Ok(()),
@@ -212,6 +221,16 @@ fn kept_by_first<P: KeepsBatches>(processors: &[P]) -> &[Vec<SpanData>]
     }
 }
 
+/// How many batches of the first of these processors found no memory.
+fn lost_by_first<P: KeepsBatches>(processors: &[P]) -> u64
+    ensures { result ≡ first_loses P.lost processors.now }
+{
+    match processors.first() {
+        Some(first) => first.lost_batches(),
+        None => 0,
+    }
+}
+
 /// Copies of the spans of the batches that the first of these processors keeps behind those that were shown.
 fn copies_of_unshown<P: KeepsBatches>(
     alloc: Global,
@@ -235,6 +254,40 @@ fn write_unshown<P: KeepsBatches>(
 {
     let spans = copies_of_unshown(alloc, processors, shown)?;
     write_spans(alloc, output, &spans)
+}
+
+/// Writes the replies before the first whose answer counts a refusal. Where there is such a one, or no memory, it is an
+/// error.
+fn write_before_refusal(
+    alloc: Global,
+    output: &mut Vec<u8>,
+    replies: &[Reply],
+) -> Result<(), AllocError>
+    ensures ok { OnOk result ((before_refusal replies.now ≡ replies.now) × (output.new.items ≡ output.old.items ++ replies_text replies.now)) }
+    ensures err { OnErr result ((n : ℕ) × (output.new.items ≡ output.old.items ++ replies_text (take n (before_refusal replies.now)))) }
+{
+    let whole = before_refusal(replies);
+    write_replies(alloc, output, whole)?;
+    if whole.len() < replies.len() {
+        return Err(AllocError);
+    }
+    Ok(())
+}
+
+/// The replies before the first whose answer counts a refusal.
+fn before_refusal(replies: &[Reply]) -> &[Reply]
+    ensures { result.now ≡ before_refusal replies.now }
+{
+    match first_refused(replies) {
+        Some(place) => &replies[..place],
+        None => replies,
+    }
+}
+
+fn first_refused(replies: &[Reply]) -> Option<usize>
+    ensures { result ≡ position (λ reply. counts_refusals reply.answer) replies.now }
+{
+    replies.iter().position(|reply| reply.answer.counts_refusals())
 }
 
 /// Carries one command out.

@@ -20,29 +20,18 @@ pub enum ProcessorOf<S, C> {
 pub type Processor = ProcessorOf<SimpleSpanProcessor<ExporterBox>, Box<dyn SpanProcessor>>;
 
 impl<S: SpanProcessor, C: SpanProcessor> SpanProcessor for ProcessorOf<S, C> {
+    ghost use Rattle.opentelemetry_sdk.specs.ProcessorKinds.{ProcessorGives};
     ghost use Rattle.opentelemetry_sdk.specs.declared.trace.processor.ProcessorOf.TheVariants as kinds;
 
     ghost told = { λ p. elim p [ kinds.Simple s ↦ S.told s | kinds.Custom c ↦ C.told c ] };
 
-    ghost start_gives = { λ p s cx t q. elim p [
-      | kinds.Simple a ↦ elim q [ kinds.Simple b ↦ S.start_gives a s cx t b | kinds.Custom _ ↦ ⊥ ]
-      | kinds.Custom c ↦ elim q [ kinds.Simple _ ↦ ⊥ | kinds.Custom d ↦ C.start_gives c s cx t d ]
-    ] };
+    ghost start_gives = { λ p s cx t q. ProcessorGives (λ a b. S.start_gives a s cx t b) (λ c d. C.start_gives c s cx t d) p q };
 
-    ghost end_gives = { λ p span r q. elim p [
-      | kinds.Simple a ↦ elim q [ kinds.Simple b ↦ S.end_gives a span r b | kinds.Custom _ ↦ ⊥ ]
-      | kinds.Custom c ↦ elim q [ kinds.Simple _ ↦ ⊥ | kinds.Custom d ↦ C.end_gives c span r d ]
-    ] };
+    ghost end_gives = { λ p span r q. ProcessorGives (λ a b. S.end_gives a span r b) (λ c d. C.end_gives c span r d) p q };
 
-    ghost flush_gives = { λ p r q. elim p [
-      | kinds.Simple a ↦ elim q [ kinds.Simple b ↦ S.flush_gives a r b | kinds.Custom _ ↦ ⊥ ]
-      | kinds.Custom c ↦ elim q [ kinds.Simple _ ↦ ⊥ | kinds.Custom d ↦ C.flush_gives c r d ]
-    ] };
+    ghost flush_gives = { λ p r q. ProcessorGives (λ a b. S.flush_gives a r b) (λ c d. C.flush_gives c r d) p q };
 
-    ghost shutdown_gives = { λ p r q. elim p [
-      | kinds.Simple a ↦ elim q [ kinds.Simple b ↦ S.shutdown_gives a r b | kinds.Custom _ ↦ ⊥ ]
-      | kinds.Custom c ↦ elim q [ kinds.Simple _ ↦ ⊥ | kinds.Custom d ↦ C.shutdown_gives c r d ]
-    ] };
+    ghost shutdown_gives = { λ p timeout r q. ProcessorGives (λ a b. S.shutdown_gives a timeout r b) (λ c d. C.shutdown_gives c timeout r d) p q };
 
     fn on_start(&mut self, span: &mut Span, cx: &Context) {
         match self {

@@ -4,6 +4,7 @@
 
 ghost use Rattle.std.specs.Prelude.{◌≡◌, ℕ, ◌-◌, ◌≤◌, ◌↔◌, List, length, map, replicate, vec_len, false, true, Ok, IfErr, IfOk, IsOk, IsErrOf, string_bytes};
 ghost use Rattle.std.specs.Bool.{OnTrue, OnFalse};
+ghost use Rattle.std.specs.Duration.{as_nanos};
 ghost use Rattle.otel_base.specs.Ids.{next_span_id, next_trace_id};
 ghost use Rattle.otel_batch.specs.PlainSpanData.{PlainSpanData};
 ghost use Rattle.opentelemetry_sdk.specs.Each.{AskedAll, PassedThrough};
@@ -156,7 +157,7 @@ impl<P: SpanProcessor> ProviderOf<P> {
     /// none; failures of processors are an `InternalFailure` that counts them.
     pub fn shutdown_with_timeout(&mut self, timeout: Duration) -> OTelSdkResult
         ensures again { OnTrue self.old.is_shut (IsErrOf result OTelSdkError.AlreadyShutdown × (self.new ≡ self.old)) }
-        ensures first { OnFalse self.old.is_shut (ShutsDown P.told P.shutdown_gives self.old result self.new) }
+        ensures first { OnFalse self.old.is_shut (ShutsDown P.told P.shutdown_gives self.old (as_nanos timeout) result self.new) }
     {
         if self.is_shut {
             return Err(OTelSdkError::AlreadyShutdown);
@@ -169,7 +170,7 @@ impl<P: SpanProcessor> ProviderOf<P> {
     /// The same with 5 seconds.
     pub fn shutdown(&mut self) -> OTelSdkResult
         ensures again { OnTrue self.old.is_shut (IsErrOf result OTelSdkError.AlreadyShutdown × (self.new ≡ self.old)) }
-        ensures first { OnFalse self.old.is_shut (ShutsDown P.told P.shutdown_gives self.old result self.new) }
+        ensures first { OnFalse self.old.is_shut (ShutsDown P.told P.shutdown_gives self.old 5_000_000_000 result self.new) }
     {
         self.shutdown_with_timeout(Duration::from_secs(5))
     }
@@ -177,7 +178,7 @@ impl<P: SpanProcessor> ProviderOf<P> {
     /// Spends the provider. Where it is still open it is shut down, and the answer is that of the shutdown.
     pub fn close(mut self) -> OTelSdkResult
         ensures shut { OnTrue self.is_shut (result ≡ Ok tt) }
-        ensures open { OnFalse self.is_shut ((after : _) × ShutsDown P.told P.shutdown_gives self result after) }
+        ensures open { OnFalse self.is_shut ((after : _) × ShutsDown P.told P.shutdown_gives self 5_000_000_000 result after) }
     {
         if self.is_shut {
             self.spend();
@@ -278,7 +279,7 @@ fn end_copies<P: SpanProcessor>(processors: &mut [P], mut copies: Vec<SpanData>)
 
 /// Each is shut down, also after one failed. How many failed.
 fn shutdown_each<P: SpanProcessor>(processors: &mut [P], timeout: Duration) -> usize
-    ensures { AskedAll (GivesAndKeeps P.told P.shutdown_gives) processors.old processors.new result }
+    ensures { AskedAll (GivesAndKeeps P.told (λ p. P.shutdown_gives p (as_nanos timeout))) processors.old processors.new result }
 {
     let mut failed = 0;
     for processor in processors.iter_mut() {

@@ -46,25 +46,18 @@ impl<E> SimpleSpanProcessor<E> {
 }
 
 impl<E: SpanExporter> SpanProcessor for SimpleSpanProcessor<E> {
-    ghost use Rattle.std.specs.Prelude.{◌≡◌, ◌∷◌, [], ◌&&◌, not, None, Ok, MatchBool, MatchResult, true};
-    ghost use Rattle.otel_batch.specs.Telling.{Tells};
-    ghost use Rattle.opentelemetry_sdk.specs.ProcessorTelling.{is_sampled};
+    ghost use Rattle.std.specs.Prelude.{◌≡◌, not, None, Ok, true};
+    ghost use Rattle.opentelemetry_sdk.specs.SimpleProcessor.{SimpleEnds};
 
     ghost told = { λ p. record { spans = None; batches = E.told p.exporter; is_open = not p.is_shut } };
 
     ghost start_gives = { λ p s cx t q. (q ≡ p) × (t ≡ s) };
 
-    // While it is open a sampled span is one export of a batch of one, whose answer is dropped; where there is no memory
-    // for the batch nothing is exported. Any other span leaves the exporter as it was.
-    ghost end_gives = { λ p d r q. MatchBool (not p.is_shut && is_sampled d)
-        (MatchResult r
-        (λ _. (answer : _) × E.export_gives p.exporter (d ∷ []) answer q.exporter × Tells (E.told p.exporter) ((d ∷ []) ∷ []) (E.told q.exporter) × (q ≡ record p { exporter = q.exporter }))
-        (λ _. q ≡ p))
-        ((r ≡ Ok tt) × (q ≡ p)) };
+    ghost end_gives = { SimpleEnds E.told E.export_gives };
 
     ghost flush_gives = { λ p r q. (r ≡ Ok tt) × (q ≡ p) };
 
-    ghost shutdown_gives = { λ p r q. (q ≡ record p { exporter = q.exporter; is_shut = true }) × (E.told q.exporter ≡ E.told p.exporter) };
+    ghost shutdown_gives = { λ p timeout r q. (q ≡ record p { exporter = q.exporter; is_shut = true }) × (E.told q.exporter ≡ E.told p.exporter) };
 
     fn on_start(&mut self, _span: &mut Span, _cx: &Context) {}
 
@@ -95,3 +88,6 @@ fn batch_of(alloc: Global, span: SpanData) -> Result<Vec<SpanData>, AllocError>
     batch.push(span)?;
     Ok(batch)
 }
+
+#[cfg(test)]
+mod tests;

@@ -14,7 +14,8 @@
 //! telling, and a relation for each call between the processor before it, what it is given and answers, and the
 //! processor after it.
 
-ghost use Rattle.std.specs.Prelude.{Result};
+ghost use Rattle.std.specs.Prelude.{ℕ, Result};
+ghost use Rattle.std.specs.Duration.{as_nanos};
 ghost use Rattle.std.specs.declared.alloc.AllocError.{AllocError};
 ghost use Rattle.opentelemetry.specs.Plain.{PlainContext};
 ghost use Rattle.otel_base.specs.declared.error.OTelSdkError.{OTelSdkError};
@@ -44,8 +45,8 @@ pub trait SpanProcessor: Drop {
     /// What a flush does.
     ghost flush_gives: { Self → Result (Unit {0}) OTelSdkError → Self → Type 0 } = { λ _ _ _. Unit {0} };
 
-    /// What a shutdown does.
-    ghost shutdown_gives: { Self → Result (Unit {0}) OTelSdkError → Self → Type 0 } = { λ _ _ _. Unit {0} };
+    /// What a shutdown does: the processor before it, the timeout in nanoseconds, the answer, and the processor after it.
+    ghost shutdown_gives: { Self → ℕ → Result (Unit {0}) OTelSdkError → Self → Type 0 } = { λ _ _ _ _. Unit {0} };
 
     /// A span starts. The processor may edit it and cannot replace it.
     fn on_start(&mut self, span: &mut Span, cx: &Context)
@@ -66,12 +67,12 @@ pub trait SpanProcessor: Drop {
     /// Exports what waits, and nothing afterwards.
     fn shutdown_with_timeout(&mut self, timeout: Duration) -> OTelSdkResult
         ensures told { TakesNothing (told self.old) (told self.new) }
-        ensures gives { shutdown_gives self.old result self.new };
+        ensures gives { shutdown_gives self.old (as_nanos timeout) result self.new };
 
     /// The same with 5 seconds.
     fn shutdown(&mut self) -> OTelSdkResult
         ensures told { TakesNothing (told self.old) (told self.new) }
-        ensures gives { shutdown_gives self.old result self.new }
+        ensures gives { shutdown_gives self.old 5_000_000_000 result self.new }
     {
         self.shutdown_with_timeout(Duration::from_secs(5))
     }
@@ -88,7 +89,7 @@ impl SpanProcessor for Box<dyn SpanProcessor> {
 
     ghost flush_gives = { λ b r c. (v : _) × (c ≡ record b { value = v }) × (SpanProcessor-box b).flush_gives b.value r v };
 
-    ghost shutdown_gives = { λ b r c. (v : _) × (c ≡ record b { value = v }) × (SpanProcessor-box b).shutdown_gives b.value r v };
+    ghost shutdown_gives = { λ b t r c. (v : _) × (c ≡ record b { value = v }) × (SpanProcessor-box b).shutdown_gives b.value t r v };
 
     fn on_start(&mut self, span: &mut Span, cx: &Context) {
         let inner = &mut **self;

@@ -18,14 +18,12 @@ pub enum ExporterOf<M, C> {
 pub type ExporterBox = ExporterOf<InMemorySpanExporter, Box<dyn SpanExporter>>;
 
 impl<M: SpanExporter, C: SpanExporter> SpanExporter for ExporterOf<M, C> {
+    ghost use Rattle.otel_batch.specs.ExporterKinds.{ExporterGives};
     ghost use Rattle.otel_batch.specs.declared.trace.exporter_box.ExporterOf.TheVariants as kinds;
 
     ghost told = { λ e. elim e [ kinds.Memory m ↦ M.told m | kinds.Custom c ↦ C.told c ] };
 
-    ghost export_gives = { λ e batch r f. elim e [
-      | kinds.Memory m ↦ elim f [ kinds.Memory n ↦ M.export_gives m batch r n | kinds.Custom _ ↦ ⊥ ]
-      | kinds.Custom c ↦ elim f [ kinds.Memory _ ↦ ⊥ | kinds.Custom d ↦ C.export_gives c batch r d ]
-    ] };
+    ghost export_gives = { λ e batch r f. ExporterGives (λ m n. M.export_gives m batch r n) (λ c d. C.export_gives c batch r d) e f };
 
     fn export(&mut self, batch: Vec<SpanData>) -> OTelSdkResult {
         match self {

@@ -1,6 +1,6 @@
 //! The exporter that keeps its batches: for tests, for examples, and for the program that prints what was exported.
 
-ghost use Rattle.std.specs.Prelude.{◌≡◌, [], Some, map, true};
+ghost use Rattle.std.specs.Prelude.{◌≡◌, [], Some, map};
 
 use crate::trace::{SpanData, SpanExporter};
 use otel_base::error::{OTelSdkError, OTelSdkResult};
@@ -11,7 +11,7 @@ use std::marker::Model;
 #[derive(Debug, Drop)]
 pub struct InMemorySpanExporter {
     batches: Vec<Vec<SpanData>>,
-    is_complete: bool,
+    lost_batches: u64,
 }
 
 impl Model for InMemorySpanExporter {
@@ -20,17 +20,17 @@ impl Model for InMemorySpanExporter {
 
     ghost Value = { StoredBatches };
 
-    ghost view = { λ a. record { batches = map (λ batch. batch.items) a.batches.items; is_complete = a.is_complete } };
+    ghost view = { λ a. record { batches = map (λ batch. batch.items) a.batches.items; lost = a.lost_batches } };
 }
 
 impl InMemorySpanExporter {
     pub fn new(alloc: Global) -> InMemorySpanExporter
-        ensures kept { result ≡ record { batches = []; is_complete = true } }
+        ensures kept { result ≡ record { batches = []; lost = 0 } }
         ensures told { ⟦<InMemorySpanExporter as SpanExporter>⟧.told result ≡ Some [] }
     {
         InMemorySpanExporter {
             batches: Vec::new(alloc),
-            is_complete: true,
+            lost_batches: 0,
         }
     }
 
@@ -40,24 +40,28 @@ impl InMemorySpanExporter {
     {
         &self.batches
     }
+
+    /// How many batches were handed over and are not kept, since there was no memory for them. It stops at the greatest
+    /// `u64`.
+    pub fn lost_batches(&self) -> u64
+        ensures { result ≡ self.now.lost }
+    {
+        self.lost_batches
+    }
 }
 
 impl SpanExporter for InMemorySpanExporter {
-    ghost use Rattle.std.specs.Prelude.{◌≡◌, ◌∷◌, [], ◌++◌, if◌then◌else◌, Some, None, MatchResult, false};
-    ghost use Rattle.otel_base.specs.declared.error.OTelSdkError.TheVariants as errors;
+    ghost use Rattle.otel_batch.specs.StoredBatches.{StoresBatch, told_unless_lost};
 
-    ghost told = { λ m. if m.is_complete then Some m.batches else None };
+    ghost told = { λ m. told_unless_lost m.lost m.batches };
 
-    // Ok appends the batch and keeps a telling; for want of memory the batches stay and the telling ends.
-    ghost export_gives = { λ m batch r n. MatchResult r
-        (λ _. n ≡ record m { batches = m.batches ++ batch ∷ [] })
-        (λ e. (e ≡ errors.OutOfMemory) × (n ≡ record m { is_complete = false })) };
+    ghost export_gives = { StoresBatch };
 
     fn export(&mut self, batch: Vec<SpanData>) -> OTelSdkResult {
         match self.batches.push(batch) {
             Ok(()) => Ok(()),
             Err(_) => {
-                self.is_complete = false;
+                self.lost_batches = self.lost_batches.saturating_add(1);
                 Err(OTelSdkError::OutOfMemory)
             }
         }
