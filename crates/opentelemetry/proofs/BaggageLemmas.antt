@@ -1,5 +1,5 @@
 -- The entries of a baggage, and the map that keeps them.
-use Rattle.std.proofs.Common.{◌≡◌, ◌≢◌, ℕ, ◌+◌, ◌<◌, ◌≤◌, inl, inr, Bool, true, false, cond, List, [], ◌∷◌, map, length, string_bytes, String, Option, Some, None, is_some, unwrap_or, refl, sym, ◌∙◌, ap, subst, arith, find, sum_by, true≢false}
+use Rattle.std.proofs.Common.{◌≡◌, ◌≢◌, ℕ, ◌+◌, ◌<◌, ◌≤◌, inl, inr, Bool, true, false, cond, List, [], ◌∷◌, length, string_bytes, String, Option, Some, None, is_some, unwrap_or, refl, sym, ◌∙◌, ap, arith, true≢false}
 use Rattle.std.specs.Option.{option_map, option_map_or}
 use Rattle.std.specs.Str.{bytes_eq}
 use Rattle.std.specs.String.{string_eq}
@@ -8,7 +8,7 @@ use Rattle.std.specs.List.{AllByRecursion, IsDistinct, AllZip}
 use Rattle.std.proofs.lemmas.Map.Keys.{IsDistinct-head, IsDistinct-tail}
 use Rattle.std.proofs.lemmas.List.Sums.{sum_by-cons}
 use Rattle.std.proofs.lemmas.Slice.Eq.{bytes_eq-Decides}
-use Rattle.indexmap.specs.IndexMap.{insert_entry, shift_remove_entry}
+use Rattle.indexmap.specs.IndexMap.{insert_entry}
 use Rattle.opentelemetry.specs.Baggage.{PlainBaggageEntry, PlainBaggage, value_and_metadata, entry_bytes, baggage_bytes, entry_at, with_entry, without_entry, plain_entry, plain_entries, HasNames, IsFreeName, HasDistinctNames, BreaksLimit, IsWithinLimits}
 
 same_name : (a b : List ℕ) → bytes_eq a b ≡ true → b ≡ a

@@ -1,5 +1,5 @@
 -- What contracts see of a context's parts.
-use Rattle.std.specs.Prelude.{ℕ, Bool, true, false, List, [], Option, Some, None}
+use Rattle.std.specs.Prelude.{Bool, true, false, [], Option, Some, None}
 use Rattle.std.specs.Arc.{arc_value}
 use Rattle.std.specs.declared.sync.Arc.{Arc}
 use Rattle.opentelemetry.specs.Baggage.{PlainBaggage}

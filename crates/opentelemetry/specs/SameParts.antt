@@ -1,5 +1,5 @@
 -- Whether two events, links, scopes or baggages are the same, part by part. Each test is true exactly at equal values.
-use Rattle.std.specs.Prelude.{◌≡◌, ℕ, Bool, true, false, ◌&&◌, List, Option, None, Some, refl, ◌==◌}
+use Rattle.std.specs.Prelude.{◌≡◌, Bool, ◌&&◌, List, Option, None, Some, refl, ◌==◌}
 use Rattle.std.specs.Bool.{Decides}
 use Rattle.std.specs.Option.{option_eq}
 use Rattle.std.specs.Cmp.Lexicographic.{pointwise, pointwise_decides}

@@ -1,12 +1,11 @@
 -- What each processor of a list was told, after one end and after many.
-use Rattle.std.proofs.Common.{◌≡◌, ℕ, ◌+◌, ◌<◌, ◌≤◌, Bool, true, false, ◌&&◌, List, [], ◌∷◌, ◌++◌, map, filter, Option, Some, None, Result, Ok, Err, MatchBool, if◌then◌else◌, refl, sym, ◌∙◌, ap, subst, append_assoc, append-nil, arith, inl, inr}
-use Rattle.std.specs.List.{AllZip}
+use Rattle.std.proofs.Common.{◌≡◌, ℕ, ◌<◌, ◌≤◌, Bool, true, false, ◌&&◌, List, [], ◌∷◌, ◌++◌, map, filter, Option, Some, None, Result, Ok, Err, MatchBool, if◌then◌else◌, refl, sym, ◌∙◌, ap, subst, append_assoc, append-nil, arith, inl, inr}
 use Rattle.std.proofs.lemmas.List.{map-append}
 use Rattle.std.proofs.lemmas.List.Elements.{filter-append}
 use Rattle.otel_batch.specs.PlainSpanData.{PlainSpanData}
-use Rattle.otel_batch.specs.Telling.{Tells, and_then_told}
+use Rattle.otel_batch.specs.Telling.{Tells}
 use Rattle.opentelemetry_sdk.specs.ProcessorTelling.{ProcessorTelling, Delivery, TakesSpan, HandsOver, Follows, EachFollows, Reaches, one_each, spans_of, is_sampled}
-use Rattle.opentelemetry_sdk.specs.Each.{Each, AskedAll, errors}
+use Rattle.opentelemetry_sdk.specs.Each.{Each, errors}
 use Rattle.opentelemetry_sdk.specs.Provider.{TakesAndTells, DeliversIf, deliveries}
 use Rattle.opentelemetry_sdk.specs.SpanHistory.{ended_at}
 

@@ -1,7 +1,8 @@
 ghost use Rattle.std.specs.Prelude.{None};
 
 use super::*;
-use opentelemetry_sdk::trace::{Processor, SdkTracerProvider, SimpleSpanProcessor};
+use opentelemetry::Context;
+use opentelemetry_sdk::trace::{Processor, SdkTracerProvider, SimpleSpanProcessor, Span};
 use otel_base::trace::{RandomIdGenerator, Sampler, SpanLimits};
 use otel_batch::trace::{ExporterBox, InMemorySpanExporter, SpanExporter};
 use std::test::Fail;
@@ -23,9 +24,36 @@ impl SpanExporter for Stuck {
     }
 }
 
+/// A processor that refuses each span.
+#[derive(Drop)]
+struct Refusing;
+
+impl SpanProcessor for Refusing {
+    fn on_start(&mut self, _span: &mut Span, _cx: &Context) {}
+
+    fn on_end(&mut self, _span: SpanData) -> Result<(), AllocError> {
+        Err(AllocError)
+    }
+
+    fn force_flush(&mut self) -> OTelSdkResult {
+        Ok(())
+    }
+
+    fn shutdown_with_timeout(&mut self, _timeout: Duration) -> OTelSdkResult {
+        Ok(())
+    }
+}
+
 fn provider_over(alloc: Global, exporter: ExporterBox) -> Result<SdkTracerProvider, AllocError> {
+    provider_of(
+        alloc,
+        Processor::Simple(SimpleSpanProcessor::new(alloc, exporter)),
+    )
+}
+
+fn provider_of(alloc: Global, processor: Processor) -> Result<SdkTracerProvider, AllocError> {
     let mut processors = Vec::new(alloc);
-    processors.push(Processor::Simple(SimpleSpanProcessor::new(alloc, exporter)))?;
+    processors.push(processor)?;
     Ok(SdkTracerProvider::from_parts(
         processors,
         Sampler::AlwaysOn,
@@ -71,5 +99,61 @@ fn a_session_over_a_shut_provider_closes(rt: HostRuntime) -> Result<(), Fail> {
     let second = closed(rt.alloc(), provider, &mut output)?;
     assert!(rt; first.is_err());
     assert!(rt; second.is_ok());
+    Ok(())
+}
+
+/// What is answered where these commands are run, and then two texts are fed, and each span is refused.
+fn refused(
+    alloc: Global,
+    commands: Vec<Command>,
+    texts: [&[u8]; 2],
+    replies: &mut Vec<Reply>,
+    output: &mut Vec<u8>,
+) -> Result<(Result<(), AllocError>, [Result<(), FeedError>; 2]), AllocError> {
+    let refusing = Processor::Custom(Box::new(alloc, Refusing)?);
+    match Session::new(alloc, provider_of(alloc, refusing)?) {
+        Ok(mut session) => {
+            let run = session.run(commands, replies);
+            let [first, second] = texts;
+            let fed = [session.feed(first, output), session.feed(second, output)];
+            let _ = session.close(output);
+            Ok((run, fed))
+        }
+        Err((provider, error)) => {
+            let _ = provider.close();
+            Err(error)
+        }
+    }
+}
+
+/// Two spans are started, and the second is ended.
+fn two_started_and_one_ended(alloc: Global) -> Result<Vec<Command>, AllocError> {
+    let mut commands = Vec::new(alloc);
+    for span in ["s", "t"] {
+        commands.push(Command::Start {
+            span: String::from_str(alloc, span)?,
+            name: String::from_str(alloc, "a")?,
+            moment: Moment(1),
+        })?;
+    }
+    commands.push(Command::End {
+        span: String::from_str(alloc, "t")?,
+        moment: Moment(2),
+    })?;
+    Ok(commands)
+}
+
+#[test]
+fn a_refused_span_is_counted_in_a_reply_and_stops_a_text(rt: HostRuntime) -> Result<(), Fail> {
+    let commands = two_started_and_one_ended(rt.alloc())?;
+    let texts: [&[u8]; 2] = [b"end x 5\nend s 3\nend x 5\n", b"end s 6\n"];
+    let mut replies = Vec::new(rt.alloc());
+    let mut output = Vec::new(rt.alloc());
+    let (run, fed) = refused(rt.alloc(), commands, texts, &mut replies, &mut output)?;
+    assert!(rt; run.is_ok());
+    assert_eq!(rt; replies.len(), 3);
+    assert_eq!(rt; replies[2].answer, Answer::Ended(1));
+    assert_eq!(rt; fed, [Err(FeedError::Memory), Ok(())]);
+    assert_eq!(rt; output.as_slice(), "no such span\nignored\n".as_bytes());
     Ok(())
 }

@@ -1,6 +1,6 @@
-use Rattle.std.proofs.Common.{◌≡◌, string_bytes, sym, ap, ◌∙◌}
+use Rattle.std.proofs.Common.{sym, ap, ◌∙◌}
 use Rattle.std.specs.FinMap as fin
-use Rattle.opentelemetry.specs.TextMap.{TextMap, text_map, texts_of, AllLowerNames, IsLowerName}
+use Rattle.opentelemetry.specs.TextMap.{TextMap, text_map, texts_of, IsLowerName}
 use Rattle.opentelemetry.proofs.TextMapLemmas.{get-text_map, first_text-texts_of}
 use Rattle.opentelemetry.proofs.propagation.map_carrier.MapCarrierExtractor.get.Goals as goal
 

@@ -1,8 +1,8 @@
-use Rattle.std.proofs.Common.{◌≡◌, string_bytes, OnErr, sym, ap, ◌∙◌, subst}
+use Rattle.std.proofs.Common.{◌≡◌, string_bytes, sym, ap, ◌∙◌, subst}
 use Rattle.std.specs.FinMap as fin
 use Rattle.std.specs.Str.{str_to_ascii_lowercase}
 use Rattle.opentelemetry.specs.Carrier.{SameTexts}
-use Rattle.opentelemetry.specs.TextMap.{TextMap, text_map, texts_of, AllLowerNames, IsLowerName}
+use Rattle.opentelemetry.specs.TextMap.{TextMap, text_map, texts_of, IsLowerName}
 use Rattle.opentelemetry.proofs.Clones.{always_on_err}
 use Rattle.opentelemetry.proofs.TextMapLemmas.{text_map-insert, same_text_map, texts_of-insert, AllLowerNames-insert_entry, IsLowerName-lowercase}
 use Rattle.opentelemetry.proofs.propagation.map_carrier.MapCarrierInjector.set.Goals as goal

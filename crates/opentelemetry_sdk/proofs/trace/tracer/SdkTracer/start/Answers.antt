@@ -1,4 +1,4 @@
-use Rattle.std.proofs.Common.{rules, string_bytes, ◌≡◌}
+use Rattle.std.proofs.Common.{rules, string_bytes}
 use Rattle.opentelemetry_sdk.specs.Provider.{root_cx}
 use Rattle.opentelemetry_sdk.proofs.Starting.{starts_open, begun_is}
 use Rattle.opentelemetry_sdk.proofs.trace.tracer.SdkTracer.start.Goals as goal
