@@ -1,5 +1,5 @@
 -- What commands one after another demand.
-use Rattle.std.proofs.Common.{◌≡◌, List, [], ◌∷◌, ◌++◌, refl, sym, ◌∙◌, ap, subst, append_assoc, append-nil, inr}
+use Rattle.std.proofs.Common.{◌≡◌, List, [], ◌∷◌, ◌++◌, refl, sym, ◌∙◌, ap, subst, append_assoc, append-nil, length, ℕ, inl, inr}
 use Rattle.std.proofs.lemmas.List.{map-append}
 use Rattle.opentelemetry_sdk.specs.ProcessorTelling.{ProcessorTelling, Delivery, EachFollows}
 use Rattle.opentelemetry_sdk.proofs.Following.{EachFollows-same, EachFollows-append}
@@ -7,10 +7,10 @@ use Rattle.otel_batch.specs.PlainSpanData.{PlainSpanData}
 use Rattle.otel_trace.specs.KeptBatches.{Appends}
 use Rattle.otel_trace.specs.Commands.{PlainCommand, plain_command, plain_commands}
 use Rattle.otel_trace.specs.PlainReply.{PlainReply}
-use Rattle.otel_trace.specs.SessionDelivery.{Histories, SessionFrame, Demands, DemandAll, SessionState, frame_of, frame_with, Steps, Rests, answers_of, first_kept, CarriesOut, Shows, RunsBeginning}
+use Rattle.otel_trace.specs.SessionDelivery.{Histories, SessionFrame, Demands, DemandAll, SessionState, frame_of, frame_with, Steps, Rests, MayStep, answers_of, first_kept, first_lost, unshown, CarriesOut, Shows, NoneLeft, LosesNone, RunsAll, RunsBeginning}
 use Rattle.otel_trace.specs.declared.command.Command.{Command}
 use Rattle.otel_trace.specs.declared.reply.Answer.{Answer}
-use Rattle.otel_trace.proofs.ShownLemmas.{shows_no_more}
+use Rattle.otel_trace.proofs.ShownLemmas.{shows_nothing, shows_no_more, shows_reply, none_left}
 
 -- one more command
 DemandAll-push : (frame : SessionFrame) (old middle new : Histories) (commands : List PlainCommand) (answers : List Answer) (ds d : List Delivery) (command : PlainCommand) (answer : Answer)
@@ -30,11 +30,11 @@ DemandAll-push frame old middle new (c ∷ commands) (a ∷ answers) ds d comman
 )
 
 -- no command
-pub carries_nothing : {P : Type 0} (told : P → ProcessorTelling) (session : SessionState P) → CarriesOut told session [] [] session
+carries_nothing : {P : Type 0} (told : P → ProcessorTelling) (session : SessionState P) → CarriesOut told session [] [] session
 carries_nothing told session = (refl, λ histories give. ([], histories, (refl, refl), give, EachFollows-same told session.provider.processors session.provider.processors refl))
 
 -- one more command, with its reply
-pub carries_more : {P : Type 0} (told : P → ProcessorTelling) (old middle new : SessionState P) (done : List Command) (replies : List PlainReply) (command : Command) (reply : PlainReply)
+carries_more : {P : Type 0} (told : P → ProcessorTelling) (old middle new : SessionState P) (done : List Command) (replies : List PlainReply) (command : Command) (reply : PlainReply)
     → CarriesOut told old done replies middle
     → Steps told middle.scope middle.provider middle.spans (plain_command command) reply.answer new.provider new.spans
     → new.scope ≡ middle.scope
@@ -56,7 +56,7 @@ carries_more {P} told old middle new done replies command reply h k s = (
 )
 
 -- a command that was refused
-pub carries_rest : {P : Type 0} (told : P → ProcessorTelling) (old middle new : SessionState P) (done : List Command) (replies : List PlainReply)
+carries_rest : {P : Type 0} (told : P → ProcessorTelling) (old middle new : SessionState P) (done : List Command) (replies : List PlainReply)
     → CarriesOut told old done replies middle
     → Rests told middle.scope middle.provider middle.spans new.provider new.spans
     → new.scope ≡ middle.scope
@@ -74,22 +74,79 @@ carries_rest {P} told old middle new done replies h k s = (
       ),
 )
 
--- a command that was carried out and has no reply
-pub runs_unanswered : {P : Type 0} (told : P → ProcessorTelling) (kept : P → List (List PlainSpanData)) (old middle new : SessionState P) (commands done left : List Command) (replies before now : List PlainReply) (command : Command) (answer : Answer)
-    → commands ≡ done ++ command ∷ left → now ≡ before ++ replies
-    → CarriesOut told old done replies middle → Shows kept old replies middle
+-- the commands before those that are left were carried out, each with its reply
+abbrev pub Ran : {P : Type 0} → (P → ProcessorTelling) → (P → List (List PlainSpanData)) → (P → ℕ) → SessionState P → List Command → List Command → List PlainReply → SessionState P → Type 0
+Ran told kept lost old commands left replies new = (done : List Command) × (commands ≡ done ++ left)
+    × CarriesOut told old done replies new × Shows kept old replies new × NoneLeft kept replies new × LosesNone lost old new
+
+-- none of them
+pub ran_nothing : {P : Type 0} (told : P → ProcessorTelling) (kept : P → List (List PlainSpanData)) (lost : P → ℕ) (session : SessionState P) (commands left : List Command)
+    → left ≡ commands → Ran told kept lost session commands left [] session
+ran_nothing told kept lost session commands left e = ([], sym e, carries_nothing told session, shows_nothing kept session, inl refl, refl)
+
+pub runs_nothing : {P : Type 0} (told : P → ProcessorTelling) (kept : P → List (List PlainSpanData)) (session : SessionState P) → RunsBeginning told kept session [] [] [] session
+runs_nothing told kept session = ([], [], [], [], refl, refl, inl refl, carries_nothing told session, shows_nothing kept session)
+
+-- all of them
+pub ran_all : {P : Type 0} (told : P → ProcessorTelling) (kept : P → List (List PlainSpanData)) (lost : P → ℕ) (old new : SessionState P) (commands left : List Command) (replies before now : List PlainReply)
+    → left ≡ [] → Ran told kept lost old commands left replies new → now ≡ before ++ replies → RunsAll told kept lost old commands before now new
+ran_all told kept lost old new commands left replies before now none ran appended =
+    let whole = ran.1 ∙ ap (λ (l : List Command). ran.0 ++ l) none ∙ append-nil ran.0 in
+    (replies, appended, subst (λ (l : List Command). CarriesOut told old l replies new) (sym whole) ran.2, ran.3, ran.4, ran.5)
+
+-- one more, with its reply, which marks what it shows
+pub ran_more : {P : Type 0} (told : P → ProcessorTelling) (kept : P → List (List PlainSpanData)) (lost : P → ℕ) (old middle asked new : SessionState P) (commands queue left : List Command) (replies : List PlainReply) (command : Command) (reply : PlainReply)
+    → queue ≡ command ∷ left → Ran told kept lost old commands queue replies middle
+    → Steps told middle.scope middle.provider middle.spans (plain_command command) reply.answer asked.provider asked.spans × (reply.exported ≡ unshown kept asked) × LosesNone lost middle asked
+    → asked ≡ record middle { provider = asked.provider; spans = asked.spans } → Appends (first_kept kept middle) (first_kept kept asked)
+    → new ≡ record asked { shown = length (first_kept kept asked) }
+    → Ran told kept lost old commands left (replies ++ reply ∷ []) new
+ran_more {P} told kept lost old middle asked new commands queue left replies command reply popped ran answered rest keeps marked =
+    let carried = carries_more told old middle asked ran.0 replies command reply ran.2 answered.0 (ap (λ (s : SessionState P). s.scope) rest) in
+    let shown = shows_no_more kept old middle asked replies ran.3 keeps (ap (λ (s : SessionState P). s.shown) rest) in (
+      ran.0 ++ command ∷ [],
+      ran.1 ∙ ap (λ (l : List Command). ran.0 ++ l) popped ∙ sym (append_assoc ran.0 (command ∷ []) left),
+      subst (λ (s : SessionState P). CarriesOut told old (ran.0 ++ command ∷ []) (replies ++ reply ∷ []) s) (sym marked) carried,
+      shows_reply kept old asked new replies reply shown answered.1 marked,
+      none_left kept asked new (replies ++ reply ∷ []) marked,
+      ap (first_lost lost) marked ∙ answered.2 ∙ ran.5,
+    )
+
+-- one more, without its reply
+pub ran_unanswered : {P : Type 0} (told : P → ProcessorTelling) (kept : P → List (List PlainSpanData)) (lost : P → ℕ) (old middle new : SessionState P) (commands queue left : List Command) (replies before now : List PlainReply) (command : Command) (answer : Answer)
+    → queue ≡ command ∷ left → Ran told kept lost old commands queue replies middle → now ≡ before ++ replies
     → Steps told middle.scope middle.provider middle.spans (plain_command command) answer new.provider new.spans
     → new ≡ record middle { provider = new.provider; spans = new.spans } → Appends (first_kept kept middle) (first_kept kept new)
     → RunsBeginning told kept old commands before now new
-runs_unanswered {P} told kept old middle new commands done left replies before now command answer split appended carried shown step rest keeps =
+ran_unanswered {P} told kept lost old middle new commands queue left replies before now command answer popped ran appended step rest keeps =
     let last : PlainReply = record { exported = []; answer = answer } in (
-      done ++ command ∷ [],
+      ran.0 ++ command ∷ [],
       left,
       replies ++ last ∷ [],
       replies,
-      split ∙ sym (append_assoc done (command ∷ []) left),
+      ran.1 ∙ ap (λ (l : List Command). ran.0 ++ l) popped ∙ sym (append_assoc ran.0 (command ∷ []) left),
       appended,
       inr (last, refl),
-      carries_more told old middle new done replies command last carried step (ap (λ (s : SessionState P). s.scope) rest),
-      shows_no_more kept old middle new replies shown keeps (ap (λ (s : SessionState P). s.shown) rest),
+      carries_more told old middle new ran.0 replies command last ran.2 step (ap (λ (s : SessionState P). s.scope) rest),
+      shows_no_more kept old middle new replies ran.3 keeps (ap (λ (s : SessionState P). s.shown) rest),
     )
+
+-- one that was refused, carried out or not
+pub ran_refused : {P : Type 0} (told : P → ProcessorTelling) (kept : P → List (List PlainSpanData)) (lost : P → ℕ) (old middle new : SessionState P) (commands queue left : List Command) (replies before now : List PlainReply) (command : Command)
+    → queue ≡ command ∷ left → Ran told kept lost old commands queue replies middle → now ≡ before ++ replies
+    → MayStep told middle.scope middle.provider middle.spans (plain_command command) new.provider new.spans
+    → new ≡ record middle { provider = new.provider; spans = new.spans } → Appends (first_kept kept middle) (first_kept kept new)
+    → RunsBeginning told kept old commands before now new
+ran_refused {P} told kept lost old middle new commands queue left replies before now command popped ran appended (inl rests) rest keeps = (
+  ran.0,
+  queue,
+  replies,
+  replies,
+  ran.1,
+  appended,
+  inl refl,
+  carries_rest told old middle new ran.0 replies ran.2 rests (ap (λ (s : SessionState P). s.scope) rest),
+  shows_no_more kept old middle new replies ran.3 keeps (ap (λ (s : SessionState P). s.shown) rest),
+)
+ran_refused told kept lost old middle new commands queue left replies before now command popped ran appended (inr step) rest keeps =
+    ran_unanswered told kept lost old middle new commands queue left replies before now command step.0 popped ran appended step.1 rest keeps

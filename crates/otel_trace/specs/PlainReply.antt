@@ -1,5 +1,4 @@
-use Rattle.std.specs.Prelude.{Bool, false, List, nat_lt}
-use Rattle.std.specs.List.{before_first}
+use Rattle.std.specs.Prelude.{◌≡◌, Bool, false, List, [], ◌∷◌, nat_lt}
 use Rattle.otel_batch.specs.PlainSpanData.{PlainSpanData}
 use Rattle.otel_trace.specs.declared.reply.Answer.{Answer}
 use Rattle.otel_trace.specs.declared.reply.Answer.TheVariants as answers
@@ -14,6 +13,7 @@ abbrev pub counts_refusals : Answer → Bool
 counts_refusals (answers.Ended refused) = nat_lt 0 refused
 counts_refusals _ = false
 
--- the replies before the first whose answer says so
-abbrev pub before_refusal : List PlainReply → List PlainReply
-before_refusal = before_first (λ reply. counts_refusals reply.answer)
+-- no answer says so
+abbrev pub NoneRefused : List PlainReply → Type 0
+NoneRefused [] = Unit {0}
+NoneRefused (reply ∷ replies) = (counts_refusals reply.answer ≡ false) × NoneRefused replies

@@ -17,7 +17,7 @@ use Rattle.otel_trace.specs.KeptBatches.{Appends}
 use Rattle.otel_trace.specs.OpenSpans.{NamedSpans, SameSpans, named, is_name}
 use Rattle.otel_trace.specs.AnswerText.{replies_text}
 use Rattle.otel_trace.specs.Lines.{TextSpells}
-use Rattle.otel_trace.specs.PlainReply.{PlainReply, before_refusal}
+use Rattle.otel_trace.specs.PlainReply.{PlainReply, NoneRefused}
 use Rattle.otel_trace.specs.ReplyText.{span_lines}
 use Rattle.otel_trace.specs.declared.session.FeedError.{FeedError}
 use Rattle.otel_trace.specs.declared.session.FeedError.TheVariants as feeds
@@ -127,6 +127,10 @@ abbrev pub Rests : {P : Type 0} → (P → ProcessorTelling) → PlainScope → 
 Rests {P} told scope p old q new = (frame_with q scope ≡ frame_with p scope) × SameSpans old new
     × (map told q.processors ≡ map told p.processors)
 
+-- a command was carried out or not, and has no reply
+abbrev pub MayStep : {P : Type 0} → (P → ProcessorTelling) → PlainScope → ProviderState P → NamedSpans → PlainCommand → ProviderState P → NamedSpans → Type 0
+MayStep told scope p old command q new = Rests told scope p old q new ⊎ ((answer : Answer) × Steps told scope p old command answer q new)
+
 -- the batches that the first of these processors keeps
 abbrev pub first_keeps : {P : Type 0} → (P → List (List PlainSpanData)) → List P → List (List PlainSpanData)
 first_keeps kept processors = option_map_or kept (slice_get processors 0) []
@@ -192,23 +196,24 @@ RunsBeginning told kept old commands before now new = (done : List Command) × (
     × (commands ≡ done ++ left) × (now ≡ before ++ appended) × AllOrButLast replies appended
     × CarriesOut told old done replies new × Shows kept old appended new
 
--- a text was fed whole: its lines up to the first bad one spell the commands that were carried out, and the texts of their
--- replies, none of which counts a refusal, were appended
+-- the same where the replies were written: none counts a refusal
+abbrev pub WritesAll : {P : Type 0} → (P → ProcessorTelling) → (P → List (List PlainSpanData)) → (P → ℕ) → SessionState P → List Command → List ℕ → List ℕ → SessionState P → Type 0
+WritesAll told kept lost old commands before now new = (replies : List PlainReply) × (now ≡ before ++ replies_text replies) × NoneRefused replies
+    × RunsAll told kept lost old commands [] replies new
+
+abbrev pub WritesBeginning : {P : Type 0} → (P → ProcessorTelling) → (P → List (List PlainSpanData)) → SessionState P → List Command → List ℕ → List ℕ → SessionState P → Type 0
+WritesBeginning told kept old commands before now new = (replies : List PlainReply) × (now ≡ before ++ replies_text replies) × NoneRefused replies
+    × RunsBeginning told kept old commands [] replies new
+
+-- a text was fed whole: its lines up to the first bad one spell the commands that were carried out
 abbrev pub FedUpTo : {P : Type 0} → (P → ProcessorTelling) → (P → List (List PlainSpanData)) → (P → ℕ) → SessionState P → List ℕ → Option ℕ → List ℕ → List ℕ → SessionState P → Type 0
-FedUpTo told kept lost old bytes bad_line before now new = (commands : List Command) × (replies : List PlainReply)
-    × TextSpells bytes (plain_commands commands) bad_line × (now ≡ before ++ replies_text replies) × (before_refusal replies ≡ replies)
-    × CarriesOut told old commands replies new × Shows kept old replies new × NoneLeft kept replies new × LosesNone lost old new
+FedUpTo told kept lost old bytes bad_line before now new = (commands : List Command) × TextSpells bytes (plain_commands commands) bad_line
+    × WritesAll told kept lost old commands before now new
 
--- these commands are a beginning of those that a text spells, or none
-abbrev pub IsBeginning : List ℕ → List Command → Type 0
-IsBeginning bytes done = (done ≡ []) ⊎ ((left : List Command) × (bad_line : Option ℕ) × TextSpells bytes (plain_commands (done ++ left)) bad_line)
-
--- memory ran out: a beginning of the commands was carried out, and the output has the replies of a beginning of them, up to
--- the first that counts a refusal
+-- memory ran out: a beginning of the commands that the text spells was carried out, or nothing
 abbrev pub FedBeginning : {P : Type 0} → (P → ProcessorTelling) → (P → List (List PlainSpanData)) → SessionState P → List ℕ → List ℕ → List ℕ → SessionState P → Type 0
-FedBeginning told kept old bytes before now new = (done : List Command) × (replies : List PlainReply) × (appended : List PlainReply) × (n : ℕ)
-    × IsBeginning bytes done × AllOrButLast replies appended × (now ≡ before ++ replies_text (take n (before_refusal appended)))
-    × CarriesOut told old done replies new × Shows kept old appended new
+FedBeginning told kept old bytes before now new = (commands : List Command) × ((commands ≡ []) ⊎ ((bad_line : Option ℕ) × TextSpells bytes (plain_commands commands) bad_line))
+    × WritesBeginning told kept old commands before now new
 
 -- what feeding a text does, by its answer
 abbrev pub Fed : {P T : Type 0} → (P → ProcessorTelling) → (P → List (List PlainSpanData)) → (P → ℕ) → SessionState P → List ℕ → List ℕ → Result T FeedError → List ℕ → SessionState P → Type 0

@@ -4,7 +4,7 @@
 ghost use Rattle.std.specs.Prelude.{◌≡◌, ◌++◌, ◌∷◌, [], ℕ, ◌<◌, length, take, IfOk, OnOk, OnErr, string_bytes, vec_len};
 ghost use Rattle.std.specs.Fmt.{decimal};
 ghost use Rattle.opentelemetry.specs.PlainValues.{plain_status};
-ghost use Rattle.otel_trace.specs.AnswerText.{answer_line, reply_text, replies_text};
+ghost use Rattle.otel_trace.specs.AnswerText.{answer_line, reply_text};
 ghost use Rattle.otel_trace.specs.ReplyText.{listed, spaced, comma_before, status_text, attribute_text, attributes_text, event_text, events_text, links_text, identity_text, span_line, span_lines, context_text, started_line, dropped_line};
 
 use crate::reply::{Answer, Reply};
@@ -243,17 +243,6 @@ pub fn write_reply(alloc: Global, out: &mut Vec<u8>, reply: &Reply) -> Result<()
     write_text(out, text.as_str())
 }
 
-/// Writes replies in order; where memory runs out, the whole replies before the one that was refused.
-pub fn write_replies(alloc: Global, out: &mut Vec<u8>, replies: &[Reply]) -> Result<(), AllocError>
-    ensures ok { OnOk result (out.new.items ≡ out.old.items ++ replies_text replies.now) }
-    ensures err { OnErr result ((n : ℕ) × (n < length replies.now) × (out.new.items ≡ out.old.items ++ replies_text (take n replies.now))) }
-{
-    for reply in replies {
-        write_reply(alloc, out, reply)?;
-    }
-    Ok(())
-}
-
 /// Puts a whole text behind what was written, or nothing where memory runs out.
 fn write_text(out: &mut Vec<u8>, text: &str) -> Result<(), AllocError>
     ensures ok { OnOk result (out.new.items ≡ out.old.items ++ text.now) }
@@ -414,7 +403,9 @@ ended
             answer: Answer::Ended(0),
         })?;
         let mut out = Vec::new(rt.alloc());
-        write_replies(rt.alloc(), &mut out, replies.as_slice())?;
+        for reply in &replies {
+            write_reply(rt.alloc(), &mut out, reply)?;
+        }
         assert_eq!(rt; out.as_slice(), LINES.as_bytes());
         Ok(())
     }

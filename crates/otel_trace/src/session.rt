@@ -1,18 +1,18 @@
 //! A session: commands against one provider, each with a reply. What its commands deliver to the exporters is stated by
 //! the histories of its spans, apart from the code that fills them.
 
-ghost use Rattle.std.specs.Prelude.{◌≡◌, ◌++◌, ℕ, Bool, List, [], Option, drop, length, map, position, take, IfErr, IfOk, MatchResult, OnOk, OnErr, codes, string_bytes};
+ghost use Rattle.std.specs.Prelude.{◌≡◌, ◌++◌, ℕ, Bool, List, [], Option, drop, false, length, map, IfErr, IfOk, MatchResult, OnOk, OnErr, codes, string_bytes};
 ghost use Rattle.opentelemetry.specs.Plain.{text};
 ghost use Rattle.opentelemetry_sdk.specs.Provider.{named as scope_named};
 ghost use Rattle.opentelemetry_sdk.specs.Provider.{root_cx};
 ghost use Rattle.opentelemetry_sdk.specs.SpanHistory as edits;
 ghost use Rattle.otel_trace.specs.Commands.{plain_command};
-ghost use Rattle.otel_trace.specs.AnswerText.{replies_text};
-ghost use Rattle.otel_trace.specs.PlainReply.{before_refusal, counts_refusals};
+ghost use Rattle.otel_trace.specs.AnswerText.{reply_text};
+ghost use Rattle.otel_trace.specs.PlainReply.{counts_refusals};
 ghost use Rattle.otel_trace.specs.ReplyText.{span_lines};
 ghost use Rattle.otel_trace.specs.OpenSpans.{EditsNamed, EndsNamed, MayDeliver, MayStart, SameSpans, StartsNamed, attr_answer, end_answer, named, start_answer};
 ghost use Rattle.otel_trace.specs.declared.reply.SpanIdentity.{SpanIdentity};
-ghost use Rattle.otel_trace.specs.SessionDelivery.{Closes, Fed, Rests, RunsAll, RunsBeginning, Steps, first_keeps, first_kept, first_loses, first_lost, ShutsIfOpen, or_no_memory, spans_in, unshown};
+ghost use Rattle.otel_trace.specs.SessionDelivery.{Closes, Fed, LosesNone, MayStep, Rests, RunsAll, RunsBeginning, Steps, WritesAll, WritesBeginning, first_keeps, first_kept, first_loses, first_lost, ShutsIfOpen, or_no_memory, spans_in, unshown};
 ghost use Rattle.otel_trace.specs.KeptBatches.{Appends};
 
 use crate::command::Command;
@@ -20,7 +20,7 @@ use crate::exported::{KeepsBatches, copies_since};
 use crate::lines::parse;
 use crate::open_spans::OpenSpans;
 use crate::reply::{Answer, Reply};
-use crate::reply_text::{write_replies, write_spans};
+use crate::reply_text::{write_reply, write_spans};
 use opentelemetry::{Key, KeyValue, Moment, Value};
 use opentelemetry_sdk::trace::{ProviderOf, SdkTracer, SpanProcessor};
 use otel_base::error::{OTelSdkError, OTelSdkResult};
@@ -61,28 +61,6 @@ impl<P> Model for Session<P> {
     ghost view = { λ a. record { provider = a.provider; scope = a.tracer; spans = a.spans; shown = a.shown } };
 }
 
-impl<P> Session<P> {
-    /// A session with no spans. Where there is no memory for its scope, the provider comes back.
-    pub fn new(
-        alloc: Global,
-        provider: ProviderOf<P>,
-    ) -> Result<Session<P>, (ProviderOf<P>, AllocError)>
-        ensures ok { IfOk result (λ session. session ≡ record { provider = provider; scope = scope_named (codes "otel_trace"); spans = []; shown = 0 }) }
-        ensures err { IfErr result (λ e. e.0 ≡ provider) }
-    {
-        match tracer_of(alloc, &provider) {
-            Ok(tracer) => Ok(Session {
-                provider,
-                tracer,
-                spans: OpenSpans::new(alloc),
-                shown: 0,
-                alloc,
-            }),
-            Err(error) => Err((provider, error)),
-        }
-    }
-}
-
 fn tracer_of<P>(alloc: Global, provider: &ProviderOf<P>) -> Result<SdkTracer, AllocError>
     ensures { IfOk result (λ tracer. tracer ≡ scope_named (codes "otel_trace")) }
 {
@@ -90,6 +68,29 @@ fn tracer_of<P>(alloc: Global, provider: &ProviderOf<P>) -> Result<SdkTracer, Al
 }
 
 impl<P: KeepsBatches> Session<P> {
+    /// A session with no spans. It shows no batch that is kept already. Where there is no memory for its scope, the
+    /// provider comes back.
+    pub fn new(
+        alloc: Global,
+        provider: ProviderOf<P>,
+    ) -> Result<Session<P>, (ProviderOf<P>, AllocError)>
+        ensures ok { IfOk result (λ session. session ≡ record { provider = provider; scope = scope_named (codes "otel_trace"); spans = []; shown = length (first_keeps P.kept provider.processors) }) }
+        ensures err { IfErr result (λ e. e.0 ≡ provider) }
+    {
+        let tracer = match tracer_of(alloc, &provider) {
+            Ok(tracer) => tracer,
+            Err(error) => return Err((provider, error)),
+        };
+        let shown = kept_by_first(provider.processors()).len();
+        Ok(Session {
+            provider,
+            tracer,
+            spans: OpenSpans::new(alloc),
+            shown,
+            alloc,
+        })
+    }
+
     /// Carries commands out in order and appends a reply for each. Where memory runs out, also for the batch of a span that
     /// the first processor exported, a beginning of the commands was carried out, each with its reply, except that the
     /// last one may be without. A processor that refused a span is counted in the reply.
@@ -101,36 +102,27 @@ impl<P: KeepsBatches> Session<P> {
         ensures ok { OnOk result (RunsAll P.told P.kept P.lost self.old commands.items replies.old.items replies.new.items self.new) }
         ensures err { OnErr result (RunsBeginning P.told P.kept self.old commands.items replies.old.items replies.new.items self.new) }
     {
-        let lost = self.lost_batches();
         let mut queue = VecDeque::from_vec(commands);
         while let Some(command) = queue.pop_front() {
-            let answer = self.answer(command)?;
-            if self.lost_batches() != lost {
-                return Err(AllocError);
-            }
-            let exported = self.unshown()?;
-            replies.push(Reply { exported, answer })?;
+            let reply = self.reply_to(command)?;
+            replies.push(reply)?;
             self.mark_shown();
         }
         Ok(())
     }
 
-    /// Carries out the commands that the lines of a text spell, up to the first line that is none, and appends the texts
-    /// of their replies. `Line` names the first bad line, from 1 and with empty lines counted. After `Memory` the output
-    /// has the whole replies of a beginning of the commands; it has no reply to an end that a processor refused for want
-    /// of memory, and none behind it.
+    /// Carries out the commands that the lines of a text spell, up to the first line that is none, and appends the text of
+    /// each reply. `Line` names the first bad line, from 1 and with empty lines counted. `Memory` comes where memory runs
+    /// out, also where a processor refused a span for want of it, which no text tells: the output then has the replies of
+    /// a beginning of the commands, and at most one more command was carried out. What that one exported is left for the
+    /// next reply.
     pub fn feed(&mut self, text: &[u8], output: &mut Vec<u8>) -> Result<(), FeedError>
         ensures { Fed P.told P.kept P.lost self.old text.now output.old.items result output.new.items self.new }
     {
         let Ok(script) = parse(self.alloc, text) else {
             return Err(FeedError::Memory);
         };
-        let mut replies = Vec::new(self.alloc);
-        let Ok(()) = self.run(script.commands, &mut replies) else {
-            let _ = write_before_refusal(self.alloc, output, &replies);
-            return Err(FeedError::Memory);
-        };
-        let Ok(()) = write_before_refusal(self.alloc, output, &replies) else {
+        let Ok(()) = self.run_and_write(script.commands, output) else {
             return Err(FeedError::Memory);
         };
         match script.bad_line {
@@ -140,8 +132,8 @@ impl<P: KeepsBatches> Session<P> {
     }
 
     /// Spends the session: its spans are abandoned, the provider is shut down where it is open, and the lines of the spans
-    /// that no reply has shown are appended. The answer is that of the shutdown, and `OutOfMemory` where the lines found
-    /// no memory.
+    /// that no reply has shown are appended. The answer is that of the shutdown, or `OutOfMemory` where that is Ok and the
+    /// lines found no memory.
     pub fn close(self, output: &mut Vec<u8>) -> OTelSdkResult
         ensures { Closes P.told P.shutdown_gives P.kept self output.old.items result output.new.items }
     {
@@ -157,6 +149,42 @@ impl<P: KeepsBatches> Session<P> {
         let written = write_unshown(alloc, provider.processors(), shown, output);
         let _ = provider.close();
         close_answer(shutdown, written)
+    }
+
+    /// Carries commands out in order, and appends the text of each reply before the next command. It stops behind a
+    /// command whose reply counts a refusal, or finds no memory.
+    fn run_and_write(
+        &mut self,
+        commands: Vec<Command>,
+        output: &mut Vec<u8>,
+    ) -> Result<(), AllocError>
+        ensures ok { OnOk result (WritesAll P.told P.kept P.lost self.old commands.items output.old.items output.new.items self.new) }
+        ensures err { OnErr result (WritesBeginning P.told P.kept self.old commands.items output.old.items output.new.items self.new) }
+    {
+        let mut queue = VecDeque::from_vec(commands);
+        while let Some(command) = queue.pop_front() {
+            let reply = self.reply_to(command)?;
+            write_unrefused(self.alloc, output, &reply)?;
+            self.mark_shown();
+        }
+        Ok(())
+    }
+
+    /// Carries one command out. The reply has copies of the spans that were exported since the last one. On an error the
+    /// command was carried out or not, and what it exported is left for the next reply.
+    fn reply_to(&mut self, command: Command) -> Result<Reply, AllocError>
+        ensures ok { IfOk result (λ reply. Steps P.told self.old.scope self.old.provider self.old.spans (plain_command command) reply.answer self.new.provider self.new.spans × (reply.exported ≡ unshown P.kept self.new) × LosesNone P.lost self.old self.new) }
+        ensures err { OnErr result (MayStep P.told self.old.scope self.old.provider self.old.spans (plain_command command) self.new.provider self.new.spans) }
+        ensures rest { self.new ≡ record self.old { provider = self.new.provider; spans = self.new.spans } }
+        ensures keeps { Appends (first_kept P.kept self.old) (first_kept P.kept self.new) }
+    {
+        let lost = self.lost_batches();
+        let answer = self.answer(command)?;
+        if self.lost_batches() != lost {
+            return Err(AllocError);
+        }
+        let exported = self.unshown()?;
+        Ok(Reply { exported, answer })
     }
 
     /// Carries one command out.
@@ -256,38 +284,15 @@ fn write_unshown<P: KeepsBatches>(
     write_spans(alloc, output, &spans)
 }
 
-/// Writes the replies before the first whose answer counts a refusal. Where there is such a one, or no memory, it is an
-/// error.
-fn write_before_refusal(
-    alloc: Global,
-    output: &mut Vec<u8>,
-    replies: &[Reply],
-) -> Result<(), AllocError>
-    ensures ok { OnOk result ((before_refusal replies.now ≡ replies.now) × (output.new.items ≡ output.old.items ++ replies_text replies.now)) }
-    ensures err { OnErr result ((n : ℕ) × (output.new.items ≡ output.old.items ++ replies_text (take n (before_refusal replies.now)))) }
+/// Writes a reply whose answer counts no refusal, or nothing.
+fn write_unrefused(alloc: Global, output: &mut Vec<u8>, reply: &Reply) -> Result<(), AllocError>
+    ensures ok { OnOk result ((counts_refusals reply.now.answer ≡ false) × (output.new.items ≡ output.old.items ++ reply_text reply.now)) }
+    ensures err { OnErr result (output.new.items ≡ output.old.items) }
 {
-    let whole = before_refusal(replies);
-    write_replies(alloc, output, whole)?;
-    if whole.len() < replies.len() {
+    if reply.answer.counts_refusals() {
         return Err(AllocError);
     }
-    Ok(())
-}
-
-/// The replies before the first whose answer counts a refusal.
-fn before_refusal(replies: &[Reply]) -> &[Reply]
-    ensures { result.now ≡ before_refusal replies.now }
-{
-    match first_refused(replies) {
-        Some(place) => &replies[..place],
-        None => replies,
-    }
-}
-
-fn first_refused(replies: &[Reply]) -> Option<usize>
-    ensures { result ≡ position (λ reply. counts_refusals reply.answer) replies.now }
-{
-    replies.iter().position(|reply| reply.answer.counts_refusals())
+    write_reply(alloc, output, reply)
 }
 
 /// Carries one command out.
