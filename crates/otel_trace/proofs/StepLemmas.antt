@@ -3,16 +3,17 @@ use Rattle.std.proofs.Common.{◌≡◌, ℕ, Bool, true, false, if◌then◌els
 use Rattle.std.specs.Option.{option_map}
 use Rattle.opentelemetry.specs.Plain.{PlainScope, text}
 use Rattle.otel_base.specs.declared.trace.span_limit.SpanLimits.{SpanLimits}
+use Rattle.otel_batch.specs.PlainSpanData.{PlainSpanData}
 use Rattle.opentelemetry_sdk.specs.SpanHistory.{PlainSpan, SpanStart, SpanHistory, begun, over, Edit, set_attribute, recording, not_recording, data_of, span_of, IsEdited}
 use Rattle.opentelemetry_sdk.specs.ProcessorTelling.{ProcessorTelling, Delivery, EachFollows}
 use Rattle.opentelemetry_sdk.specs.Each.{PassedThrough}
 use Rattle.opentelemetry.specs.PlainContexts.{empty_span_context}
-use Rattle.opentelemetry_sdk.specs.Provider.{ProviderState, deliveries, root_context, root_start, root_span, after_root}
+use Rattle.opentelemetry_sdk.specs.Provider.{ProviderState, Delivers, deliveries, root_context, root_start, root_span, after_root}
 use Rattle.opentelemetry_sdk.proofs.Following.{EachFollows-same}
 use Rattle.opentelemetry_sdk.proofs.SpanLaws.{edited-recording, after-recording}
 use Rattle.otel_trace.specs.Commands.{start, attr, end}
-use Rattle.otel_trace.specs.OpenSpans.{NamedSpans, named, is_name, PutsSpan, SameSpans, StartsNamed, EditsNamed, EndsNamed, identity_of, attr_answer, end_answer, start_answer}
-use Rattle.otel_trace.specs.SessionDelivery.{Histories, with_history, Give, SessionFrame, StartFound, NewSpan, AttrFound, EndFound, frame_with, Steps, Rests, end_delivers, root_context_of}
+use Rattle.otel_trace.specs.OpenSpans.{NamedSpans, EndGives, named, is_name, PutsSpan, SameSpans, StartsNamed, EditsNamed, EndsNamed, identity_of, attr_answer, end_answer, start_answer}
+use Rattle.otel_trace.specs.SessionDelivery.{Histories, with_history, Give, SessionFrame, StartFound, NewSpan, AttrFound, EndFound, frame_with, Asked, Steps, Rests, end_delivers, root_context_of}
 use Rattle.otel_trace.specs.declared.reply.SpanIdentity.{SpanIdentity}
 use Rattle.otel_trace.proofs.NamedLemmas.{put_same}
 
@@ -48,31 +49,43 @@ deliveries_are false from edits moment n = refl
 no_deliveries : (shut : Bool) (moment n : ℕ) → deliveries shut moment None n ≡ []
 no_deliveries shut moment n = refl
 
-end_found : {P : Type 0} (told : P → ProcessorTelling) (frame : SessionFrame) (histories : Histories) (old new : NamedSpans) (name : List ℕ) (moment : ℕ) (p q : ProviderState P) (found : Option SpanHistory) (answer : Option (Option ℕ))
+-- who was given the span of an end
+asked_one : {P : Type 0} (told : P → ProcessorTelling) (gives : EndGives P) (shut : Bool) (span : PlainSpanData) (ps qs : List P) (n : ℕ) → Delivers told gives shut span ps qs n → Asked told gives (end_delivers shut span n) ps qs
+asked_one told gives true span ps qs n h = ap (map told) h.0
+asked_one told gives false span ps qs n h = (ps, qs, refl, h, refl)
+
+shut_refuses_none : {P : Type 0} (told : P → ProcessorTelling) (gives : EndGives P) (shut : Bool) (span : PlainSpanData) (ps qs : List P) (n : ℕ) → Delivers told gives shut span ps qs n → shut ≡ true → n ≡ 0
+shut_refuses_none told gives true span ps qs n h e = h.1
+shut_refuses_none told gives false span ps qs n h e = cc
+
+end_found : {P : Type 0} (told : P → ProcessorTelling) (gives : EndGives P) (frame : SessionFrame) (histories : Histories) (old new : NamedSpans) (name : List ℕ) (moment : ℕ) (p q : ProviderState P) (found : Option SpanHistory) (answer : Option (Option ℕ))
     → frame.is_shut ≡ p.is_shut → histories name ≡ found → Give histories old
-    → EndsNamed told old name p moment (option_map span_of found) answer new q
-    → (ds : List Delivery) × (now : Histories) × EndFound frame histories name moment found (end_answer answer) ds now × Give now new × EachFollows told ds p.processors q.processors
-end_found {P} told frame histories old new name moment p q None answer s e give h = (
+    → EndsNamed told gives old name p moment (option_map span_of found) answer new q
+    → (ds : List Delivery) × (now : Histories) × EndFound frame histories name moment found (end_answer answer) ds now × Give now new × EachFollows told ds p.processors q.processors × Asked told gives ds p.processors q.processors
+end_found {P} told gives frame histories old new name moment p q None answer s e give h = (
   [],
   histories,
   (ap end_answer h.0, refl, refl),
   give_same histories old new give h.1,
   EachFollows-same told p.processors q.processors (ap (λ (r : ProviderState P). map told r.processors) h.2),
+  ap (λ (r : ProviderState P). map told r.processors) h.2,
 )
-end_found told frame histories old new name moment p q (Some (over context limits)) answer s e give h =
+end_found told gives frame histories old new name moment p q (Some (over context limits)) answer s e give h =
     let there : named old name ≡ Some (not_recording context limits) = give name ∙ ap (option_map span_of) e in (
       [],
       histories,
       (ap end_answer h.1, refl, refl),
       give_same histories old new give (put_same old new name (not_recording context limits) there h.2),
       subst (λ (ds : List Delivery). EachFollows told ds p.processors q.processors) (no_deliveries p.is_shut moment h.0) h.3,
+      ap (map told) h.5.0,
     )
-end_found told frame histories old new name moment p q (Some (begun from edits)) answer s e give h = (
+end_found told gives frame histories old new name moment p q (Some (begun from edits)) answer s e give h = (
   end_delivers frame.is_shut (data_of from edits moment) h.0,
   with_history histories name (over from.span_context from.limits),
-  (h.0, ap end_answer h.1, refl, refl),
+  (h.0, ap end_answer h.1, refl, refl, λ shut. shut_refuses_none told gives p.is_shut (data_of from edits moment) p.processors q.processors h.0 h.5 (sym s ∙ shut)),
   give_put histories old new name (over from.span_context from.limits) give h.2,
   subst (λ (ds : List Delivery). EachFollows told ds p.processors q.processors) (deliveries_are p.is_shut from edits moment h.0 ∙ ap (λ (b : Bool). end_delivers b (data_of from edits moment) h.0) (sym s)) h.3,
+  subst (λ (b : Bool). Asked told gives (end_delivers b (data_of from edits moment) h.0) p.processors q.processors) (sym s) (asked_one told gives p.is_shut (data_of from edits moment) p.processors q.processors h.0 h.5),
 )
 
 new_span : {P : Type 0} (gives : P → PlainSpan → PlainSpan → P → Type 0) (frame : SessionFrame) (histories : Histories) (old new : NamedSpans) (name : List ℕ) (p q : ProviderState P) (called : List ℕ) (moment : ℕ) (answer : Option (SpanIdentity × Bool)) (span : PlainSpan) (shut : Bool)
@@ -112,43 +125,43 @@ frame_rest : {P : Type 0} (p q : ProviderState P) (scope : PlainScope) → q ≡
 frame_rest {P} p q scope e = ap (λ (r : ProviderState P). frame_with r scope) e
 
 -- an attribute, by the spans
-pub steps_attr : {P : Type 0} (told : P → ProcessorTelling) (scope : PlainScope) (p : ProviderState P) (old new : NamedSpans) (span key value : List ℕ) (given : Option Bool)
+pub steps_attr : {P : Type 0} (told : P → ProcessorTelling) (gives : EndGives P) (scope : PlainScope) (p : ProviderState P) (old new : NamedSpans) (span key value : List ℕ) (given : Option Bool)
     → EditsNamed old span (set_attribute (record { key = key; value = text value })) (named old span) given new
-    → Steps told scope p old (attr span key value) (attr_answer given) p new
-steps_attr told scope p old new span key value given h = (
+    → Steps told gives scope p old (attr span key value) (attr_answer given) p new
+steps_attr told gives scope p old new span key value given h = (
   refl,
   λ histories give.
       let found = attr_found histories old new span key value (histories span) given refl give
       (subst (λ (o : Option PlainSpan). EditsNamed old span (set_attribute (record { key = key; value = text value })) o given new) (give span) h) in
-      ([], found.0, found.1, found.2, EachFollows-same told p.processors p.processors refl),
+      ([], found.0, found.1, found.2, EachFollows-same told p.processors p.processors refl, refl),
 )
 
-ends_frame : {P : Type 0} (told : P → ProcessorTelling) (scope : PlainScope) (p q : ProviderState P) (old new : NamedSpans) (span : List ℕ) (moment : ℕ) (found : Option PlainSpan) (given : Option (Option ℕ))
-    → EndsNamed told old span p moment found given new q → frame_with q scope ≡ frame_with p scope
-ends_frame {P} told scope p q old new span moment None given h = ap (λ (r : ProviderState P). frame_with r scope) h.2
-ends_frame {P} told scope p q old new span moment (Some s) given h = ap (λ (r : ProviderState P). frame_with r scope) h.4
+ends_frame : {P : Type 0} (told : P → ProcessorTelling) (gives : EndGives P) (scope : PlainScope) (p q : ProviderState P) (old new : NamedSpans) (span : List ℕ) (moment : ℕ) (found : Option PlainSpan) (given : Option (Option ℕ))
+    → EndsNamed told gives old span p moment found given new q → frame_with q scope ≡ frame_with p scope
+ends_frame {P} told gives scope p q old new span moment None given h = ap (λ (r : ProviderState P). frame_with r scope) h.2
+ends_frame {P} told gives scope p q old new span moment (Some s) given h = ap (λ (r : ProviderState P). frame_with r scope) h.4
 
 -- an end, by the spans
-pub steps_end : {P : Type 0} (told : P → ProcessorTelling) (scope : PlainScope) (p q : ProviderState P) (old new : NamedSpans) (span : List ℕ) (moment : ℕ) (given : Option (Option ℕ))
-    → EndsNamed told old span p moment (named old span) given new q
-    → Steps told scope p old (end span moment) (end_answer given) q new
-steps_end told scope p q old new span moment given h = (
-  ends_frame told scope p q old new span moment (named old span) given h,
-  λ histories give. end_found told (frame_with p scope) histories old new span moment p q (histories span) given refl refl give
-      (subst (λ (o : Option PlainSpan). EndsNamed told old span p moment o given new q) (give span) h),
+pub steps_end : {P : Type 0} (told : P → ProcessorTelling) (gives : EndGives P) (scope : PlainScope) (p q : ProviderState P) (old new : NamedSpans) (span : List ℕ) (moment : ℕ) (given : Option (Option ℕ))
+    → EndsNamed told gives old span p moment (named old span) given new q
+    → Steps told gives scope p old (end span moment) (end_answer given) q new
+steps_end told gives scope p q old new span moment given h = (
+  ends_frame told gives scope p q old new span moment (named old span) given h,
+  λ histories give. end_found told gives (frame_with p scope) histories old new span moment p q (histories span) given refl refl give
+      (subst (λ (o : Option PlainSpan). EndsNamed told gives old span p moment o given new q) (give span) h),
 )
 
 -- a start, by the spans
-pub steps_start : {P : Type 0} (told : P → ProcessorTelling) (gives : P → PlainSpan → PlainSpan → P → Type 0) (scope : PlainScope) (p q : ProviderState P) (old new : NamedSpans) (span name : List ℕ) (moment : ℕ) (given : Option (SpanIdentity × Bool))
+pub steps_start : {P : Type 0} (told : P → ProcessorTelling) (ends : EndGives P) (gives : P → PlainSpan → PlainSpan → P → Type 0) (scope : PlainScope) (p q : ProviderState P) (old new : NamedSpans) (span name : List ℕ) (moment : ℕ) (given : Option (SpanIdentity × Bool))
     → q ≡ record p { processors = q.processors; id_generator = q.id_generator } → map told q.processors ≡ map told p.processors
     → StartsNamed gives old span p scope name moment (named old span) given new q
-    → Steps told scope p old (start span name moment) (start_answer given) q new
-steps_start told gives scope p q old new span name moment given r t h = (
+    → Steps told ends scope p old (start span name moment) (start_answer given) q new
+steps_start told ends gives scope p q old new span name moment given r t h = (
   frame_rest p q scope r,
   λ histories give.
       let found = start_found gives (frame_with p scope) histories old new span p q name moment (histories span) given refl refl give
       (subst (λ (o : Option PlainSpan). StartsNamed gives old span p scope name moment o given new q) (give span) h) in
-      ([], found.0, found.1, found.2, EachFollows-same told p.processors q.processors t),
+      ([], found.0, found.1, found.2, EachFollows-same told p.processors q.processors t, t),
 )
 
 -- a refused start

@@ -8,7 +8,7 @@ use Rattle.opentelemetry.specs.Plain.{PlainScope}
 use Rattle.opentelemetry_sdk.specs.SpanHistory.{PlainSpan, Edit, edited, ended}
 use Rattle.opentelemetry_sdk.specs.ProcessorTelling.{ProcessorTelling, EachFollows}
 use Rattle.opentelemetry_sdk.specs.Each.{AskedAll}
-use Rattle.opentelemetry_sdk.specs.Provider.{ProviderState, Starts, TakesAndTells, deliveries}
+use Rattle.opentelemetry_sdk.specs.Provider.{ProviderState, Starts, TakesAndTells, DeliversIf, deliveries}
 use Rattle.otel_trace.specs.declared.reply.Answer.{Answer}
 use Rattle.otel_trace.specs.declared.reply.Answer.TheVariants as answers
 use Rattle.otel_trace.specs.declared.reply.SpanIdentity.{SpanIdentity}
@@ -63,14 +63,19 @@ abbrev pub refusals : Option PlainSpanData → ℕ → Option ℕ
 refusals None n = None
 refusals (Some _) n = Some n
 
--- the end of the span of a name: none where there is no such span; else what its end delivers
-abbrev pub EndsNamed : {P : Type 0} → (P → ProcessorTelling) → NamedSpans → List ℕ → ProviderState P → ℕ → Option PlainSpan → Option (Option ℕ) → NamedSpans → ProviderState P → Type 0
-EndsNamed told old name p moment None answer new q = (answer ≡ None) × SameSpans old new × (q ≡ p)
-EndsNamed told old name p moment (Some span) answer new q = (n : ℕ) × (answer ≡ Some (refusals span.recorded n)) × PutsSpan old name (ended span) new
+-- what an end of a span does to a processor, by its answer
+abbrev pub EndGives : Type 0 → Type 1
+EndGives P = P → PlainSpanData → Result (Unit {0}) AllocError → P → Type 0
+
+-- the end of the span of a name: none where there is no such span; else what its end delivers, and to whom
+abbrev pub EndsNamed : {P : Type 0} → (P → ProcessorTelling) → EndGives P → NamedSpans → List ℕ → ProviderState P → ℕ → Option PlainSpan → Option (Option ℕ) → NamedSpans → ProviderState P → Type 0
+EndsNamed told gives old name p moment None answer new q = (answer ≡ None) × SameSpans old new × (q ≡ p)
+EndsNamed told gives old name p moment (Some span) answer new q = (n : ℕ) × (answer ≡ Some (refusals span.recorded n)) × PutsSpan old name (ended span) new
     × EachFollows told (deliveries p.is_shut moment span.recorded n) p.processors q.processors × (q ≡ record p { processors = q.processors })
+    × DeliversIf told gives p.is_shut moment span.recorded p.processors q.processors n
 
 -- what an end may do to processors: nothing, or each is given one span
-abbrev pub MayDeliver : {P : Type 0} → (P → ProcessorTelling) → (P → PlainSpanData → Result (Unit {0}) AllocError → P → Type 0) → List P → List P → Type 0
+abbrev pub MayDeliver : {P : Type 0} → (P → ProcessorTelling) → EndGives P → List P → List P → Type 0
 MayDeliver told gives ps qs = (qs ≡ ps) ⊎ ((span : PlainSpanData) × (n : ℕ) × AskedAll (TakesAndTells told gives span) ps qs n)
 
 -- the answer to an attribute

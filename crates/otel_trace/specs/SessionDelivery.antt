@@ -10,11 +10,12 @@ use Rattle.otel_base.specs.declared.trace.span_limit.SpanLimits.{SpanLimits}
 use Rattle.otel_batch.specs.PlainSpanData.{PlainSpanData}
 use Rattle.opentelemetry_sdk.specs.SpanHistory.{SpanHistory, begun, over, Edit, set_attribute, data_of, span_of}
 use Rattle.opentelemetry_sdk.specs.ProcessorTelling.{ProcessorTelling, Delivery, EachFollows}
+use Rattle.opentelemetry_sdk.specs.Each.{AskedAll}
 use Rattle.opentelemetry.specs.PlainContexts.{empty_span_context}
-use Rattle.opentelemetry_sdk.specs.Provider.{ProviderState, ShutsDown, root_span}
+use Rattle.opentelemetry_sdk.specs.Provider.{ProviderState, ShutsDown, TakesAndTells, root_span}
 use Rattle.otel_trace.specs.Commands.{PlainCommand, start, attr, end, plain_commands}
 use Rattle.otel_trace.specs.KeptBatches.{Appends}
-use Rattle.otel_trace.specs.OpenSpans.{NamedSpans, SameSpans, named, is_name}
+use Rattle.otel_trace.specs.OpenSpans.{NamedSpans, EndGives, SameSpans, named, is_name}
 use Rattle.otel_trace.specs.AnswerText.{replies_text}
 use Rattle.otel_trace.specs.Lines.{TextSpells}
 use Rattle.otel_trace.specs.PlainReply.{PlainReply, NoneRefused}
@@ -81,6 +82,7 @@ EndFound frame old span moment None answer ds new = (answer ≡ answers.NoSuchSp
 EndFound frame old span moment (Some (over context limits)) answer ds new = (answer ≡ answers.Ignored) × (ds ≡ []) × (new ≡ old)
 EndFound frame old span moment (Some (begun from edits)) answer ds new = (refused : ℕ) × (answer ≡ answers.Ended refused)
     × (ds ≡ end_delivers frame.is_shut (data_of from edits moment) refused) × (new ≡ with_history old span (over from.span_context from.limits))
+    × (frame.is_shut ≡ true → refused ≡ 0)
 
 -- what one command demands: its answer, what is delivered, and the histories behind it
 abbrev pub Demands : SessionFrame → Histories → PlainCommand → Answer → List Delivery → Histories → Type 0
@@ -114,13 +116,20 @@ frame_of session = frame_with session.provider session.scope
 abbrev pub answers_of : List PlainReply → List Answer
 answers_of replies = map (λ reply. reply.answer) replies
 
--- one command was carried out: its answer, the spans and the tellings of the processors are what it demands of the
+-- each delivery was given to each processor in its turn, as many of which refused it as it counts; whatever else they were
+-- asked, no telling changed
+abbrev pub Asked : {P : Type 0} → (P → ProcessorTelling) → EndGives P → List Delivery → List P → List P → Type 0
+Asked told gives [] ps qs = map told qs ≡ map told ps
+Asked {P} told gives (delivery ∷ ds) ps qs = (before : List P) × (after : List P) × (map told before ≡ map told ps)
+    × AskedAll (TakesAndTells told gives delivery.span) before after delivery.refused × Asked told gives ds after qs
+
+-- one command was carried out: its answer, the spans and what the processors were given are what it demands of the
 -- histories that the spans had
-abbrev pub Steps : {P : Type 0} → (P → ProcessorTelling) → PlainScope → ProviderState P → NamedSpans → PlainCommand → Answer → ProviderState P → NamedSpans → Type 0
-Steps {P} told scope p old command answer q new = (frame_with q scope ≡ frame_with p scope)
+abbrev pub Steps : {P : Type 0} → (P → ProcessorTelling) → EndGives P → PlainScope → ProviderState P → NamedSpans → PlainCommand → Answer → ProviderState P → NamedSpans → Type 0
+Steps {P} told gives scope p old command answer q new = (frame_with q scope ≡ frame_with p scope)
     × ((histories : Histories) → Give histories old → (ds : List Delivery) × (after : Histories)
     × Demands (frame_with p scope) histories command answer ds after × Give after new
-    × EachFollows told ds p.processors q.processors)
+    × EachFollows told ds p.processors q.processors × Asked told gives ds p.processors q.processors)
 
 -- nothing was carried out: each name has the span that it had, and each processor tells what it told
 abbrev pub Rests : {P : Type 0} → (P → ProcessorTelling) → PlainScope → ProviderState P → NamedSpans → ProviderState P → NamedSpans → Type 0
@@ -128,8 +137,8 @@ Rests {P} told scope p old q new = (frame_with q scope ≡ frame_with p scope) �
     × (map told q.processors ≡ map told p.processors)
 
 -- a command was carried out or not, and has no reply
-abbrev pub MayStep : {P : Type 0} → (P → ProcessorTelling) → PlainScope → ProviderState P → NamedSpans → PlainCommand → ProviderState P → NamedSpans → Type 0
-MayStep told scope p old command q new = Rests told scope p old q new ⊎ ((answer : Answer) × Steps told scope p old command answer q new)
+abbrev pub MayStep : {P : Type 0} → (P → ProcessorTelling) → EndGives P → PlainScope → ProviderState P → NamedSpans → PlainCommand → ProviderState P → NamedSpans → Type 0
+MayStep told gives scope p old command q new = Rests told scope p old q new ⊎ ((answer : Answer) × Steps told gives scope p old command answer q new)
 
 -- the batches that the first of these processors keeps
 abbrev pub first_keeps : {P : Type 0} → (P → List (List PlainSpanData)) → List P → List (List PlainSpanData)
@@ -170,11 +179,11 @@ NoneLeft kept replies new = (replies ≡ []) ⊎ (new.shown ≡ length (first_ke
 
 -- commands were carried out: the replies' answers, the spans and the tellings of the processors are what they demand of
 -- the histories that the spans had, and the same deliveries reach each processor
-abbrev pub CarriesOut : {P : Type 0} → (P → ProcessorTelling) → SessionState P → List Command → List PlainReply → SessionState P → Type 0
-CarriesOut {P} told old commands replies new = (frame_of new ≡ frame_of old)
+abbrev pub CarriesOut : {P : Type 0} → (P → ProcessorTelling) → EndGives P → SessionState P → List Command → List PlainReply → SessionState P → Type 0
+CarriesOut {P} told gives old commands replies new = (frame_of new ≡ frame_of old)
     × ((histories : Histories) → Give histories old.spans → (ds : List Delivery) × (after : Histories)
     × DemandAll (frame_of old) histories (plain_commands commands) (answers_of replies) ds after × Give after new.spans
-    × EachFollows told ds old.provider.processors new.provider.processors)
+    × EachFollows told ds old.provider.processors new.provider.processors × Asked told gives ds old.provider.processors new.provider.processors)
 
 -- the replies of all commands, or of all but the last
 abbrev pub AllOrButLast : List PlainReply → List PlainReply → Type 0
@@ -185,41 +194,41 @@ abbrev pub LosesNone : {P : Type 0} → (P → ℕ) → SessionState P → Sessi
 LosesNone lost old new = first_lost lost new ≡ first_lost lost old
 
 -- all commands were carried out, each with its reply, and the replies show all spans that were exported meanwhile
-abbrev pub RunsAll : {P : Type 0} → (P → ProcessorTelling) → (P → List (List PlainSpanData)) → (P → ℕ) → SessionState P → List Command → List PlainReply → List PlainReply → SessionState P → Type 0
-RunsAll told kept lost old commands before now new = (replies : List PlainReply) × (now ≡ before ++ replies)
-    × CarriesOut told old commands replies new × Shows kept old replies new × NoneLeft kept replies new × LosesNone lost old new
+abbrev pub RunsAll : {P : Type 0} → (P → ProcessorTelling) → EndGives P → (P → List (List PlainSpanData)) → (P → ℕ) → SessionState P → List Command → List PlainReply → List PlainReply → SessionState P → Type 0
+RunsAll told gives kept lost old commands before now new = (replies : List PlainReply) × (now ≡ before ++ replies)
+    × CarriesOut told gives old commands replies new × Shows kept old replies new × NoneLeft kept replies new × LosesNone lost old new
 
 -- a beginning of the commands was carried out, the last one perhaps without its reply; what the replies do not show is left
 -- to show
-abbrev pub RunsBeginning : {P : Type 0} → (P → ProcessorTelling) → (P → List (List PlainSpanData)) → SessionState P → List Command → List PlainReply → List PlainReply → SessionState P → Type 0
-RunsBeginning told kept old commands before now new = (done : List Command) × (left : List Command) × (replies : List PlainReply) × (appended : List PlainReply)
+abbrev pub RunsBeginning : {P : Type 0} → (P → ProcessorTelling) → EndGives P → (P → List (List PlainSpanData)) → SessionState P → List Command → List PlainReply → List PlainReply → SessionState P → Type 0
+RunsBeginning told gives kept old commands before now new = (done : List Command) × (left : List Command) × (replies : List PlainReply) × (appended : List PlainReply)
     × (commands ≡ done ++ left) × (now ≡ before ++ appended) × AllOrButLast replies appended
-    × CarriesOut told old done replies new × Shows kept old appended new
+    × CarriesOut told gives old done replies new × Shows kept old appended new
 
 -- the same where the replies were written: none counts a refusal
-abbrev pub WritesAll : {P : Type 0} → (P → ProcessorTelling) → (P → List (List PlainSpanData)) → (P → ℕ) → SessionState P → List Command → List ℕ → List ℕ → SessionState P → Type 0
-WritesAll told kept lost old commands before now new = (replies : List PlainReply) × (now ≡ before ++ replies_text replies) × NoneRefused replies
-    × RunsAll told kept lost old commands [] replies new
+abbrev pub WritesAll : {P : Type 0} → (P → ProcessorTelling) → EndGives P → (P → List (List PlainSpanData)) → (P → ℕ) → SessionState P → List Command → List ℕ → List ℕ → SessionState P → Type 0
+WritesAll told gives kept lost old commands before now new = (replies : List PlainReply) × (now ≡ before ++ replies_text replies) × NoneRefused replies
+    × RunsAll told gives kept lost old commands [] replies new
 
-abbrev pub WritesBeginning : {P : Type 0} → (P → ProcessorTelling) → (P → List (List PlainSpanData)) → SessionState P → List Command → List ℕ → List ℕ → SessionState P → Type 0
-WritesBeginning told kept old commands before now new = (replies : List PlainReply) × (now ≡ before ++ replies_text replies) × NoneRefused replies
-    × RunsBeginning told kept old commands [] replies new
+abbrev pub WritesBeginning : {P : Type 0} → (P → ProcessorTelling) → EndGives P → (P → List (List PlainSpanData)) → SessionState P → List Command → List ℕ → List ℕ → SessionState P → Type 0
+WritesBeginning told gives kept old commands before now new = (replies : List PlainReply) × (now ≡ before ++ replies_text replies) × NoneRefused replies
+    × RunsBeginning told gives kept old commands [] replies new
 
 -- a text was fed whole: its lines up to the first bad one spell the commands that were carried out
-abbrev pub FedUpTo : {P : Type 0} → (P → ProcessorTelling) → (P → List (List PlainSpanData)) → (P → ℕ) → SessionState P → List ℕ → Option ℕ → List ℕ → List ℕ → SessionState P → Type 0
-FedUpTo told kept lost old bytes bad_line before now new = (commands : List Command) × TextSpells bytes (plain_commands commands) bad_line
-    × WritesAll told kept lost old commands before now new
+abbrev pub FedUpTo : {P : Type 0} → (P → ProcessorTelling) → EndGives P → (P → List (List PlainSpanData)) → (P → ℕ) → SessionState P → List ℕ → Option ℕ → List ℕ → List ℕ → SessionState P → Type 0
+FedUpTo told gives kept lost old bytes bad_line before now new = (commands : List Command) × TextSpells bytes (plain_commands commands) bad_line
+    × WritesAll told gives kept lost old commands before now new
 
 -- memory ran out: a beginning of the commands that the text spells was carried out, or nothing
-abbrev pub FedBeginning : {P : Type 0} → (P → ProcessorTelling) → (P → List (List PlainSpanData)) → SessionState P → List ℕ → List ℕ → List ℕ → SessionState P → Type 0
-FedBeginning told kept old bytes before now new = (commands : List Command) × ((commands ≡ []) ⊎ ((bad_line : Option ℕ) × TextSpells bytes (plain_commands commands) bad_line))
-    × WritesBeginning told kept old commands before now new
+abbrev pub FedBeginning : {P : Type 0} → (P → ProcessorTelling) → EndGives P → (P → List (List PlainSpanData)) → SessionState P → List ℕ → List ℕ → List ℕ → SessionState P → Type 0
+FedBeginning told gives kept old bytes before now new = (commands : List Command) × ((commands ≡ []) ⊎ ((bad_line : Option ℕ) × TextSpells bytes (plain_commands commands) bad_line))
+    × WritesBeginning told gives kept old commands before now new
 
 -- what feeding a text does, by its answer
-abbrev pub Fed : {P T : Type 0} → (P → ProcessorTelling) → (P → List (List PlainSpanData)) → (P → ℕ) → SessionState P → List ℕ → List ℕ → Result T FeedError → List ℕ → SessionState P → Type 0
-Fed told kept lost old bytes before (Ok _) now new = FedUpTo told kept lost old bytes None before now new
-Fed told kept lost old bytes before (Err (feeds.Line n)) now new = FedUpTo told kept lost old bytes (Some n) before now new
-Fed told kept lost old bytes before (Err feeds.Memory) now new = FedBeginning told kept old bytes before now new
+abbrev pub Fed : {P T : Type 0} → (P → ProcessorTelling) → EndGives P → (P → List (List PlainSpanData)) → (P → ℕ) → SessionState P → List ℕ → List ℕ → Result T FeedError → List ℕ → SessionState P → Type 0
+Fed told gives kept lost old bytes before (Ok _) now new = FedUpTo told gives kept lost old bytes None before now new
+Fed told gives kept lost old bytes before (Err (feeds.Line n)) now new = FedUpTo told gives kept lost old bytes (Some n) before now new
+Fed told gives kept lost old bytes before (Err feeds.Memory) now new = FedBeginning told gives kept old bytes before now new
 
 -- the shutdown of a session's provider with a timeout: where it was shut nothing happens
 abbrev pub ShutsIfOpen : {P : Type 0} → (P → ProcessorTelling) → (P → ℕ → Result (Unit {0}) OTelSdkError → P → Type 0) → ProviderState P → ℕ → Result (Unit {0}) OTelSdkError → ProviderState P → Type 0

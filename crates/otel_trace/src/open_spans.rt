@@ -95,7 +95,7 @@ impl OpenSpans {
         provider: &mut ProviderOf<P>,
         moment: Moment,
     ) -> Result<Option<Option<usize>>, AllocError>
-        ensures ok { IfOk result (λ answer. EndsNamed P.told self.old name.now provider.old moment.0 (named self.old name.now) answer self.new provider.new) }
+        ensures ok { IfOk result (λ answer. EndsNamed P.told P.end_gives self.old name.now provider.old moment.0 (named self.old name.now) answer self.new provider.new) }
         ensures asks { MayDeliver P.told P.end_gives provider.old.processors provider.new.processors }
         ensures err { OnErr result (SameSpans self.old self.new × (provider.new ≡ provider.old)) }
     {
@@ -158,7 +158,7 @@ fn end_in<P: SpanProcessor>(
     provider: &mut ProviderOf<P>,
     moment: Moment,
 ) -> Result<Option<Option<usize>>, AllocError>
-    ensures ok { IfOk result (λ answer. EndsNamed P.told (by_name spans.old.entries) name.now provider.old moment.0 (named (by_name spans.old.entries) name.now) answer (by_name spans.new.entries) provider.new) }
+    ensures ok { IfOk result (λ answer. EndsNamed P.told P.end_gives (by_name spans.old.entries) name.now provider.old moment.0 (named (by_name spans.old.entries) name.now) answer (by_name spans.new.entries) provider.new) }
     ensures asks { MayDeliver P.told P.end_gives provider.old.processors provider.new.processors }
     ensures err { OnErr result (SameSpans (by_name spans.old.entries) (by_name spans.new.entries) × (provider.new ≡ provider.old)) }
 {

@@ -99,8 +99,8 @@ impl<P: KeepsBatches> Session<P> {
         commands: Vec<Command>,
         replies: &mut Vec<Reply>,
     ) -> Result<(), AllocError>
-        ensures ok { OnOk result (RunsAll P.told P.kept P.lost self.old commands.items replies.old.items replies.new.items self.new) }
-        ensures err { OnErr result (RunsBeginning P.told P.kept self.old commands.items replies.old.items replies.new.items self.new) }
+        ensures ok { OnOk result (RunsAll P.told P.end_gives P.kept P.lost self.old commands.items replies.old.items replies.new.items self.new) }
+        ensures err { OnErr result (RunsBeginning P.told P.end_gives P.kept self.old commands.items replies.old.items replies.new.items self.new) }
     {
         let mut queue = VecDeque::from_vec(commands);
         while let Some(command) = queue.pop_front() {
@@ -117,7 +117,7 @@ impl<P: KeepsBatches> Session<P> {
     /// a beginning of the commands, and at most one more command was carried out. What that one exported is left for the
     /// next reply.
     pub fn feed(&mut self, text: &[u8], output: &mut Vec<u8>) -> Result<(), FeedError>
-        ensures { Fed P.told P.kept P.lost self.old text.now output.old.items result output.new.items self.new }
+        ensures { Fed P.told P.end_gives P.kept P.lost self.old text.now output.old.items result output.new.items self.new }
     {
         let Ok(script) = parse(self.alloc, text) else {
             return Err(FeedError::Memory);
@@ -158,8 +158,8 @@ impl<P: KeepsBatches> Session<P> {
         commands: Vec<Command>,
         output: &mut Vec<u8>,
     ) -> Result<(), AllocError>
-        ensures ok { OnOk result (WritesAll P.told P.kept P.lost self.old commands.items output.old.items output.new.items self.new) }
-        ensures err { OnErr result (WritesBeginning P.told P.kept self.old commands.items output.old.items output.new.items self.new) }
+        ensures ok { OnOk result (WritesAll P.told P.end_gives P.kept P.lost self.old commands.items output.old.items output.new.items self.new) }
+        ensures err { OnErr result (WritesBeginning P.told P.end_gives P.kept self.old commands.items output.old.items output.new.items self.new) }
     {
         let mut queue = VecDeque::from_vec(commands);
         while let Some(command) = queue.pop_front() {
@@ -173,8 +173,8 @@ impl<P: KeepsBatches> Session<P> {
     /// Carries one command out. The reply has copies of the spans that were exported since the last one. On an error the
     /// command was carried out or not, and what it exported is left for the next reply.
     fn reply_to(&mut self, command: Command) -> Result<Reply, AllocError>
-        ensures ok { IfOk result (λ reply. Steps P.told self.old.scope self.old.provider self.old.spans (plain_command command) reply.answer self.new.provider self.new.spans × (reply.exported ≡ unshown P.kept self.new) × LosesNone P.lost self.old self.new) }
-        ensures err { OnErr result (MayStep P.told self.old.scope self.old.provider self.old.spans (plain_command command) self.new.provider self.new.spans) }
+        ensures ok { IfOk result (λ reply. Steps P.told P.end_gives self.old.scope self.old.provider self.old.spans (plain_command command) reply.answer self.new.provider self.new.spans × (reply.exported ≡ unshown P.kept self.new) × LosesNone P.lost self.old self.new) }
+        ensures err { OnErr result (MayStep P.told P.end_gives self.old.scope self.old.provider self.old.spans (plain_command command) self.new.provider self.new.spans) }
         ensures rest { self.new ≡ record self.old { provider = self.new.provider; spans = self.new.spans } }
         ensures keeps { Appends (first_kept P.kept self.old) (first_kept P.kept self.new) }
     {
@@ -189,7 +189,7 @@ impl<P: KeepsBatches> Session<P> {
 
     /// Carries one command out.
     fn answer(&mut self, command: Command) -> Result<Answer, AllocError>
-        ensures ok { IfOk result (λ answer. Steps P.told self.old.scope self.old.provider self.old.spans (plain_command command) answer self.new.provider self.new.spans) }
+        ensures ok { IfOk result (λ answer. Steps P.told P.end_gives self.old.scope self.old.provider self.old.spans (plain_command command) answer self.new.provider self.new.spans) }
         ensures err { OnErr result (Rests P.told self.old.scope self.old.provider self.old.spans self.new.provider self.new.spans) }
         ensures rest { self.new ≡ record self.old { provider = self.new.provider; spans = self.new.spans } }
         ensures keeps { Appends (first_kept P.kept self.old) (first_kept P.kept self.new) }
@@ -302,7 +302,7 @@ fn carry_out<P: KeepsBatches>(
     spans: &mut OpenSpans,
     command: Command,
 ) -> Result<Answer, AllocError>
-    ensures ok { IfOk result (λ answer. Steps P.told tracer.now provider.old spans.old (plain_command command) answer provider.new spans.new) }
+    ensures ok { IfOk result (λ answer. Steps P.told P.end_gives tracer.now provider.old spans.old (plain_command command) answer provider.new spans.new) }
     ensures err { OnErr result (Rests P.told tracer.now provider.old spans.old provider.new spans.new) }
     ensures keeps { Appends (first_keeps P.kept provider.old.processors) (first_keeps P.kept provider.new.processors) }
 {
@@ -361,7 +361,7 @@ fn end_span<P: SpanProcessor>(
     span: String,
     moment: Moment,
 ) -> Result<Answer, AllocError>
-    ensures ok { IfOk result (λ answer. (given : Option (Option ℕ)) × (answer ≡ end_answer given) × EndsNamed P.told spans.old (string_bytes span) provider.old moment.0 (named spans.old (string_bytes span)) given spans.new provider.new) }
+    ensures ok { IfOk result (λ answer. (given : Option (Option ℕ)) × (answer ≡ end_answer given) × EndsNamed P.told P.end_gives spans.old (string_bytes span) provider.old moment.0 (named spans.old (string_bytes span)) given spans.new provider.new) }
     ensures asks { MayDeliver P.told P.end_gives provider.old.processors provider.new.processors }
     ensures err { OnErr result (SameSpans spans.old spans.new × (provider.new ≡ provider.old)) }
 {
