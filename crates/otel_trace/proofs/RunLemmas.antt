@@ -1,14 +1,14 @@
 -- What commands one after another demand.
-use Rattle.std.proofs.Common.{◌≡◌, map, List, [], ◌∷◌, ◌++◌, refl, sym, ◌∙◌, ap, subst, append_assoc, append-nil, length, ℕ, inl, inr}
+use Rattle.std.proofs.Common.{◌≡◌, List, [], ◌∷◌, ◌++◌, refl, sym, ◌∙◌, ap, subst, append_assoc, append-nil, length, ℕ, inl}
 use Rattle.std.proofs.lemmas.List.{map-append}
-use Rattle.opentelemetry_sdk.specs.ProcessorTelling.{ProcessorTelling, Delivery, EachFollows}
+use Rattle.opentelemetry_sdk.specs.ProcessorTelling.{ProcessorTelling, Delivery}
 use Rattle.opentelemetry_sdk.proofs.Following.{EachFollows-same, EachFollows-append}
 use Rattle.otel_batch.specs.PlainSpanData.{PlainSpanData}
 use Rattle.otel_trace.specs.KeptBatches.{Appends}
 use Rattle.otel_trace.specs.OpenSpans.{EndGives}
 use Rattle.otel_trace.specs.Commands.{PlainCommand, plain_command, plain_commands}
 use Rattle.otel_trace.specs.PlainReply.{PlainReply}
-use Rattle.otel_trace.specs.SessionDelivery.{Histories, SessionFrame, Demands, DemandAll, SessionState, frame_of, frame_with, Steps, Rests, MayStep, Asked, answers_of, first_kept, first_lost, unshown, CarriesOut, Shows, NoneLeft, LosesNone, RunsAll, RunsBeginning}
+use Rattle.otel_trace.specs.SessionDelivery.{Histories, SessionFrame, Demands, DemandAll, SessionState, frame_of, frame_with, Steps, Asked, answers_of, first_kept, first_lost, unshown, CarriesOut, Shows, NoneLeft, LosesNone, RunsAll, Refuses, RunsBeginning}
 use Rattle.otel_trace.specs.declared.command.Command.{Command}
 use Rattle.otel_trace.specs.declared.reply.Answer.{Answer}
 use Rattle.otel_trace.proofs.ShownLemmas.{shows_nothing, shows_no_more, shows_reply, none_left}
@@ -35,11 +35,6 @@ asked_append : {P : Type 0} (told : P → ProcessorTelling) (gives : EndGives P)
 asked_append told gives [] [] ps qs us h k = k ∙ h
 asked_append told gives [] (y ∷ ys) ps qs us h k = (k.0, k.1, k.2 ∙ h, k.3, k.4)
 asked_append told gives (x ∷ xs) ys ps qs us h k = (h.0, h.1, h.2, h.3, asked_append told gives xs ys h.1 qs us h.4 k)
-
--- no delivery behind them
-asked_rest : {P : Type 0} (told : P → ProcessorTelling) (gives : EndGives P) (ds : List Delivery) (ps qs us : List P) → Asked told gives ds ps qs → map told us ≡ map told qs → Asked told gives ds ps us
-asked_rest told gives [] ps qs us h e = e ∙ h
-asked_rest told gives (d ∷ ds) ps qs us h e = (h.0, h.1, h.2, h.3, asked_rest told gives ds h.1 qs us h.4 e)
 
 -- no command
 carries_nothing : {P : Type 0} (told : P → ProcessorTelling) (gives : EndGives P) (session : SessionState P) → CarriesOut told gives session [] [] session
@@ -68,26 +63,6 @@ carries_more {P} told gives old middle new done replies command reply h k s = (
       ),
 )
 
--- a command that was refused
-carries_rest : {P : Type 0} (told : P → ProcessorTelling) (gives : EndGives P) (old middle new : SessionState P) (done : List Command) (replies : List PlainReply)
-    → CarriesOut told gives old done replies middle
-    → Rests told middle.scope middle.provider middle.spans new.provider new.spans
-    → new.scope ≡ middle.scope
-    → CarriesOut told gives old done replies new
-carries_rest {P} told gives old middle new done replies h k s = (
-  ap (frame_with new.provider) s ∙ k.0 ∙ h.0,
-  λ histories give.
-      let first = h.1 histories give in (
-        first.0,
-        first.1,
-        first.2,
-        (λ q. k.1 q ∙ first.3 q),
-        subst (λ (ds : List Delivery). EachFollows told ds old.provider.processors new.provider.processors) (append-nil first.0)
-            (EachFollows-append told first.0 [] old.provider.processors middle.provider.processors new.provider.processors first.4 (EachFollows-same told middle.provider.processors new.provider.processors k.2)),
-        asked_rest told gives first.0 old.provider.processors middle.provider.processors new.provider.processors first.5 k.2,
-      ),
-)
-
 -- the commands before those that are left were carried out, each with its reply
 abbrev pub Ran : {P : Type 0} → (P → ProcessorTelling) → EndGives P → (P → List (List PlainSpanData)) → (P → ℕ) → SessionState P → List Command → List Command → List PlainReply → SessionState P → Type 0
 Ran told gives kept lost old commands left replies new = (done : List Command) × (commands ≡ done ++ left)
@@ -97,9 +72,6 @@ Ran told gives kept lost old commands left replies new = (done : List Command) �
 pub ran_nothing : {P : Type 0} (told : P → ProcessorTelling) (gives : EndGives P) (kept : P → List (List PlainSpanData)) (lost : P → ℕ) (session : SessionState P) (commands left : List Command)
     → left ≡ commands → Ran told gives kept lost session commands left [] session
 ran_nothing told gives kept lost session commands left e = ([], sym e, carries_nothing told gives session, shows_nothing kept session, inl refl, refl)
-
-pub runs_nothing : {P : Type 0} (told : P → ProcessorTelling) (gives : EndGives P) (kept : P → List (List PlainSpanData)) (session : SessionState P) → RunsBeginning told gives kept session [] [] [] session
-runs_nothing told gives kept session = ([], [], [], [], refl, refl, inl refl, carries_nothing told gives session, shows_nothing kept session)
 
 -- all of them
 pub ran_all : {P : Type 0} (told : P → ProcessorTelling) (gives : EndGives P) (kept : P → List (List PlainSpanData)) (lost : P → ℕ) (old new : SessionState P) (commands left : List Command) (replies before now : List PlainReply)
@@ -126,41 +98,16 @@ ran_more {P} told gives kept lost old middle asked new commands queue left repli
       ap (first_lost lost) marked ∙ answered.2 ∙ ran.5,
     )
 
--- one more, without its reply
-pub ran_unanswered : {P : Type 0} (told : P → ProcessorTelling) (gives : EndGives P) (kept : P → List (List PlainSpanData)) (lost : P → ℕ) (old middle new : SessionState P) (commands queue left : List Command) (replies before now : List PlainReply) (command : Command) (answer : Answer)
-    → queue ≡ command ∷ left → Ran told gives kept lost old commands queue replies middle → now ≡ before ++ replies
-    → Steps told gives middle.scope middle.provider middle.spans (plain_command command) answer new.provider new.spans
-    → new ≡ record middle { provider = new.provider; spans = new.spans } → Appends (first_kept kept middle) (first_kept kept new)
-    → RunsBeginning told gives kept old commands before now new
-ran_unanswered {P} told gives kept lost old middle new commands queue left replies before now command answer popped ran appended step rest keeps =
-    let last : PlainReply = record { exported = []; answer = answer } in (
-      ran.0 ++ command ∷ [],
-      left,
-      replies ++ last ∷ [],
-      replies,
-      ran.1 ∙ ap (λ (l : List Command). ran.0 ++ l) popped ∙ sym (append_assoc ran.0 (command ∷ []) left),
-      appended,
-      inr (last, refl),
-      carries_more told gives old middle new ran.0 replies command last ran.2 step (ap (λ (s : SessionState P). s.scope) rest),
-      shows_no_more kept old middle new replies ran.3 keeps (ap (λ (s : SessionState P). s.shown) rest),
-    )
-
--- one that was refused, carried out or not
+-- one more, which was refused
 pub ran_refused : {P : Type 0} (told : P → ProcessorTelling) (gives : EndGives P) (kept : P → List (List PlainSpanData)) (lost : P → ℕ) (old middle new : SessionState P) (commands queue left : List Command) (replies before now : List PlainReply) (command : Command)
     → queue ≡ command ∷ left → Ran told gives kept lost old commands queue replies middle → now ≡ before ++ replies
-    → MayStep told gives middle.scope middle.provider middle.spans (plain_command command) new.provider new.spans
-    → new ≡ record middle { provider = new.provider; spans = new.spans } → Appends (first_kept kept middle) (first_kept kept new)
-    → RunsBeginning told gives kept old commands before now new
-ran_refused {P} told gives kept lost old middle new commands queue left replies before now command popped ran appended (inl rests) rest keeps = (
+    → Refuses told gives kept middle command new → RunsBeginning told gives kept lost old commands before now new
+ran_refused told gives kept lost old middle new commands queue left replies before now command popped ran appended refuses = (
   ran.0,
-  queue,
-  replies,
-  replies,
-  ran.1,
-  appended,
-  inl refl,
-  carries_rest told gives old middle new ran.0 replies ran.2 rests (ap (λ (s : SessionState P). s.scope) rest),
-  shows_no_more kept old middle new replies ran.3 keeps (ap (λ (s : SessionState P). s.shown) rest),
+  command,
+  left,
+  middle,
+  ran.1 ∙ ap (λ (l : List Command). ran.0 ++ l) popped,
+  (replies, appended, ran.2, ran.3, ran.4, ran.5),
+  refuses,
 )
-ran_refused told gives kept lost old middle new commands queue left replies before now command popped ran appended (inr step) rest keeps =
-    ran_unanswered told gives kept lost old middle new commands queue left replies before now command step.0 popped ran appended step.1 rest keeps

@@ -13,7 +13,7 @@ use Rattle.opentelemetry_sdk.specs.ProcessorTelling.{ProcessorTelling, Delivery,
 use Rattle.opentelemetry_sdk.specs.Each.{AskedAll}
 use Rattle.opentelemetry.specs.PlainContexts.{empty_span_context}
 use Rattle.opentelemetry_sdk.specs.Provider.{ProviderState, ShutsDown, TakesAndTells, root_span}
-use Rattle.otel_trace.specs.Commands.{PlainCommand, start, attr, end, plain_commands}
+use Rattle.otel_trace.specs.Commands.{PlainCommand, start, attr, end, plain_command, plain_commands}
 use Rattle.otel_trace.specs.KeptBatches.{Appends}
 use Rattle.otel_trace.specs.OpenSpans.{NamedSpans, EndGives, SameSpans, named, is_name}
 use Rattle.otel_trace.specs.AnswerText.{replies_text}
@@ -185,10 +185,6 @@ CarriesOut {P} told gives old commands replies new = (frame_of new ≡ frame_of 
     × DemandAll (frame_of old) histories (plain_commands commands) (answers_of replies) ds after × Give after new.spans
     × EachFollows told ds old.provider.processors new.provider.processors × Asked told gives ds old.provider.processors new.provider.processors)
 
--- the replies of all commands, or of all but the last
-abbrev pub AllOrButLast : List PlainReply → List PlainReply → Type 0
-AllOrButLast replies appended = (appended ≡ replies) ⊎ ((last : PlainReply) × (replies ≡ appended ++ last ∷ []))
-
 -- no batch was lost meanwhile
 abbrev pub LosesNone : {P : Type 0} → (P → ℕ) → SessionState P → SessionState P → Type 0
 LosesNone lost old new = first_lost lost new ≡ first_lost lost old
@@ -198,37 +194,40 @@ abbrev pub RunsAll : {P : Type 0} → (P → ProcessorTelling) → EndGives P �
 RunsAll told gives kept lost old commands before now new = (replies : List PlainReply) × (now ≡ before ++ replies)
     × CarriesOut told gives old commands replies new × Shows kept old replies new × NoneLeft kept replies new × LosesNone lost old new
 
--- a beginning of the commands was carried out, the last one perhaps without its reply; what the replies do not show is left
--- to show
-abbrev pub RunsBeginning : {P : Type 0} → (P → ProcessorTelling) → EndGives P → (P → List (List PlainSpanData)) → SessionState P → List Command → List PlainReply → List PlainReply → SessionState P → Type 0
-RunsBeginning told gives kept old commands before now new = (done : List Command) × (left : List Command) × (replies : List PlainReply) × (appended : List PlainReply)
-    × (commands ≡ done ++ left) × (now ≡ before ++ appended) × AllOrButLast replies appended
-    × CarriesOut told gives old done replies new × Shows kept old appended new
+-- a command found no memory: it was carried out or not, it has no reply, and what it exported is left to show
+abbrev pub Refuses : {P : Type 0} → (P → ProcessorTelling) → EndGives P → (P → List (List PlainSpanData)) → SessionState P → Command → SessionState P → Type 0
+Refuses told gives kept old command new = MayStep told gives old.scope old.provider old.spans (plain_command command) new.provider new.spans
+    × (new ≡ record old { provider = new.provider; spans = new.spans }) × Appends (first_kept kept old) (first_kept kept new)
+
+-- a beginning of the commands was carried out, each with its reply, and the one behind it was refused
+abbrev pub RunsBeginning : {P : Type 0} → (P → ProcessorTelling) → EndGives P → (P → List (List PlainSpanData)) → (P → ℕ) → SessionState P → List Command → List PlainReply → List PlainReply → SessionState P → Type 0
+RunsBeginning {P} told gives kept lost old commands before now new = (done : List Command) × (command : Command) × (left : List Command) × (middle : SessionState P)
+    × (commands ≡ done ++ command ∷ left) × RunsAll told gives kept lost old done before now middle × Refuses told gives kept middle command new
 
 -- the same where the replies were written: none counts a refusal
 abbrev pub WritesAll : {P : Type 0} → (P → ProcessorTelling) → EndGives P → (P → List (List PlainSpanData)) → (P → ℕ) → SessionState P → List Command → List ℕ → List ℕ → SessionState P → Type 0
 WritesAll told gives kept lost old commands before now new = (replies : List PlainReply) × (now ≡ before ++ replies_text replies) × NoneRefused replies
     × RunsAll told gives kept lost old commands [] replies new
 
-abbrev pub WritesBeginning : {P : Type 0} → (P → ProcessorTelling) → EndGives P → (P → List (List PlainSpanData)) → SessionState P → List Command → List ℕ → List ℕ → SessionState P → Type 0
-WritesBeginning told gives kept old commands before now new = (replies : List PlainReply) × (now ≡ before ++ replies_text replies) × NoneRefused replies
-    × RunsBeginning told gives kept old commands [] replies new
+abbrev pub WritesBeginning : {P : Type 0} → (P → ProcessorTelling) → EndGives P → (P → List (List PlainSpanData)) → (P → ℕ) → SessionState P → List Command → List ℕ → List ℕ → SessionState P → Type 0
+WritesBeginning told gives kept lost old commands before now new = (replies : List PlainReply) × (now ≡ before ++ replies_text replies) × NoneRefused replies
+    × RunsBeginning told gives kept lost old commands [] replies new
 
 -- a text was fed whole: its lines up to the first bad one spell the commands that were carried out
 abbrev pub FedUpTo : {P : Type 0} → (P → ProcessorTelling) → EndGives P → (P → List (List PlainSpanData)) → (P → ℕ) → SessionState P → List ℕ → Option ℕ → List ℕ → List ℕ → SessionState P → Type 0
 FedUpTo told gives kept lost old bytes bad_line before now new = (commands : List Command) × TextSpells bytes (plain_commands commands) bad_line
     × WritesAll told gives kept lost old commands before now new
 
--- memory ran out: a beginning of the commands that the text spells was carried out, or nothing
-abbrev pub FedBeginning : {P : Type 0} → (P → ProcessorTelling) → EndGives P → (P → List (List PlainSpanData)) → SessionState P → List ℕ → List ℕ → List ℕ → SessionState P → Type 0
-FedBeginning told gives kept old bytes before now new = (commands : List Command) × ((commands ≡ []) ⊎ ((bad_line : Option ℕ) × TextSpells bytes (plain_commands commands) bad_line))
-    × WritesBeginning told gives kept old commands before now new
+-- memory ran out: nothing was carried out, or a beginning of the commands that the text spells
+abbrev pub FedBeginning : {P : Type 0} → (P → ProcessorTelling) → EndGives P → (P → List (List PlainSpanData)) → (P → ℕ) → SessionState P → List ℕ → List ℕ → List ℕ → SessionState P → Type 0
+FedBeginning told gives kept lost old bytes before now new = ((now ≡ before) × (new ≡ old))
+    ⊎ ((commands : List Command) × (bad_line : Option ℕ) × TextSpells bytes (plain_commands commands) bad_line × WritesBeginning told gives kept lost old commands before now new)
 
 -- what feeding a text does, by its answer
 abbrev pub Fed : {P T : Type 0} → (P → ProcessorTelling) → EndGives P → (P → List (List PlainSpanData)) → (P → ℕ) → SessionState P → List ℕ → List ℕ → Result T FeedError → List ℕ → SessionState P → Type 0
 Fed told gives kept lost old bytes before (Ok _) now new = FedUpTo told gives kept lost old bytes None before now new
 Fed told gives kept lost old bytes before (Err (feeds.Line n)) now new = FedUpTo told gives kept lost old bytes (Some n) before now new
-Fed told gives kept lost old bytes before (Err feeds.Memory) now new = FedBeginning told gives kept old bytes before now new
+Fed told gives kept lost old bytes before (Err feeds.Memory) now new = FedBeginning told gives kept lost old bytes before now new
 
 -- the shutdown of a session's provider with a timeout: where it was shut nothing happens
 abbrev pub ShutsIfOpen : {P : Type 0} → (P → ProcessorTelling) → (P → ℕ → Result (Unit {0}) OTelSdkError → P → Type 0) → ProviderState P → ℕ → Result (Unit {0}) OTelSdkError → ProviderState P → Type 0

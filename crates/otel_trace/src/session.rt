@@ -100,7 +100,7 @@ impl<P: KeepsBatches> Session<P> {
         replies: &mut Vec<Reply>,
     ) -> Result<(), AllocError>
         ensures ok { OnOk result (RunsAll P.told P.end_gives P.kept P.lost self.old commands.items replies.old.items replies.new.items self.new) }
-        ensures err { OnErr result (RunsBeginning P.told P.end_gives P.kept self.old commands.items replies.old.items replies.new.items self.new) }
+        ensures err { OnErr result (RunsBeginning P.told P.end_gives P.kept P.lost self.old commands.items replies.old.items replies.new.items self.new) }
     {
         let mut queue = VecDeque::from_vec(commands);
         while let Some(command) = queue.pop_front() {
@@ -159,7 +159,7 @@ impl<P: KeepsBatches> Session<P> {
         output: &mut Vec<u8>,
     ) -> Result<(), AllocError>
         ensures ok { OnOk result (WritesAll P.told P.end_gives P.kept P.lost self.old commands.items output.old.items output.new.items self.new) }
-        ensures err { OnErr result (WritesBeginning P.told P.end_gives P.kept self.old commands.items output.old.items output.new.items self.new) }
+        ensures err { OnErr result (WritesBeginning P.told P.end_gives P.kept P.lost self.old commands.items output.old.items output.new.items self.new) }
     {
         let mut queue = VecDeque::from_vec(commands);
         while let Some(command) = queue.pop_front() {

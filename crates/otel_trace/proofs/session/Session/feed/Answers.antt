@@ -1,14 +1,13 @@
-use Rattle.std.proofs.Common.{ℕ, [], Option, sym, subst, refl, inl, inr, append-nil}
+use Rattle.std.proofs.Common.{ℕ, Option, subst, refl, inl, inr}
 use Rattle.otel_trace.specs.Commands.{plain_commands}
 use Rattle.otel_trace.specs.Lines.{TextSpells}
-use Rattle.otel_trace.proofs.RunLemmas.{runs_nothing}
 use Rattle.otel_trace.proofs.session.Session.feed.Goals as goal
 
 pub returns-in_default : goal.returns-in_default
-returns-in_default g c = ([], inl refl, ([], sym (append-nil c.args.output.now.items), tt, runs_nothing g.P.SpanProcessor.told g.P.SpanProcessor.end_gives g.P.KeepsBatches.kept c.args.self.now))
+returns-in_default g c = inl (refl, refl)
 
 pub returns-in_default-run_and_write : goal.returns-in_default-run_and_write
-returns-in_default-run_and_write g c = (c.in-Ok.script.commands.items, inr (c.in-Ok.script.bad_line, c.in-Ok.ensures.spelled), c.in_default-run_and_write.ensures.err)
+returns-in_default-run_and_write g c = inr (c.in-Ok.script.commands.items, c.in-Ok.script.bad_line, c.in-Ok.ensures.spelled, c.in_default-run_and_write.ensures.err)
 
 pub returns-in-Some : goal.returns-in-Some
 returns-in-Some g c = (

@@ -1,9 +1,9 @@
-use Rattle.std.proofs.Common.{rules, [], ◌∷◌, ◌++◌, sym, refl, ◌∙◌, append-nil}
+use Rattle.std.proofs.Common.{rules, [], ◌∷◌, ◌++◌, sym, refl, ◌∙◌, append-nil, inr}
 use Rattle.otel_trace.specs.PlainReply.{PlainReply}
 use Rattle.otel_trace.specs.SessionDelivery.{WritesBeginning}
 use Rattle.otel_trace.proofs.FeedLemmas.{written_more, none_refused_more}
 use Rattle.otel_trace.proofs.NamedLemmas.{always_on_err}
-use Rattle.otel_trace.proofs.RunLemmas.{ran_nothing, ran_all, ran_more, ran_unanswered, ran_refused}
+use Rattle.otel_trace.proofs.RunLemmas.{ran_nothing, ran_all, ran_more, ran_refused}
 use Rattle.otel_trace.proofs.session.Session.run_and_write.Goals as goal
 
 pub loop-command-init : goal.loop-command-init
@@ -12,21 +12,21 @@ loop-command-init g c = ([], sym (append-nil _), tt, ran_nothing g.P.SpanProcess
 pub returns-in_err-reply-clause-err : goal.returns-in_err-reply-clause-err
 returns-in_err-reply-clause-err g c =
     let i = c.loop-command.invariant in
-    always_on_err {P = WritesBeginning g.P.SpanProcessor.told g.P.SpanProcessor.end_gives g.P.KeepsBatches.kept c.args.self.now c.args.commands.items c.args.output.now.items c.loop-command.output.items c.reply_to.new.self} _ (
+    always_on_err {P = WritesBeginning g.P.SpanProcessor.told g.P.SpanProcessor.end_gives g.P.KeepsBatches.kept g.P.KeepsBatches.lost c.args.self.now c.args.commands.items c.args.output.now.items c.loop-command.output.items c.reply_to.new.self} _ (
       i.0,
       i.1,
       i.2,
-      ran_refused g.P.SpanProcessor.told g.P.SpanProcessor.end_gives g.P.KeepsBatches.kept g.P.KeepsBatches.lost c.args.self.now c.loop-command.self c.reply_to.new.self c.args.commands.items c.loop-command.queue.items c.pop_front.new.self.items i.0 [] i.0 c.in-Some.command c.in-Some.ensures.items i.3 refl c.in_err-reply.ensures.err c.reply_to.ensures.rest c.reply_to.ensures.keeps,
+      ran_refused g.P.SpanProcessor.told g.P.SpanProcessor.end_gives g.P.KeepsBatches.kept g.P.KeepsBatches.lost c.args.self.now c.loop-command.self c.reply_to.new.self c.args.commands.items c.loop-command.queue.items c.pop_front.new.self.items i.0 [] i.0 c.in-Some.command c.in-Some.ensures.items i.3 refl (c.in_err-reply.ensures.err, c.reply_to.ensures.rest, c.reply_to.ensures.keeps),
     )
 
 pub returns-in_err-write_unrefused-clause-err : goal.returns-in_err-write_unrefused-clause-err
 returns-in_err-write_unrefused-clause-err g c =
     let i = c.loop-command.invariant in
-    always_on_err {P = WritesBeginning g.P.SpanProcessor.told g.P.SpanProcessor.end_gives g.P.KeepsBatches.kept c.args.self.now c.args.commands.items c.args.output.now.items c.write_unrefused.new.output.items c.reply_to.new.self} _ (
+    always_on_err {P = WritesBeginning g.P.SpanProcessor.told g.P.SpanProcessor.end_gives g.P.KeepsBatches.kept g.P.KeepsBatches.lost c.args.self.now c.args.commands.items c.args.output.now.items c.write_unrefused.new.output.items c.reply_to.new.self} _ (
       i.0,
       c.in_err-write_unrefused.ensures.err ∙ i.1,
       i.2,
-      ran_unanswered g.P.SpanProcessor.told g.P.SpanProcessor.end_gives g.P.KeepsBatches.kept g.P.KeepsBatches.lost c.args.self.now c.loop-command.self c.reply_to.new.self c.args.commands.items c.loop-command.queue.items c.pop_front.new.self.items i.0 [] i.0 c.in-Some.command c.in_ok-reply.reply.answer c.in-Some.ensures.items i.3 refl c.in_ok-reply.ensures.ok.0 c.reply_to.ensures.rest c.reply_to.ensures.keeps,
+      ran_refused g.P.SpanProcessor.told g.P.SpanProcessor.end_gives g.P.KeepsBatches.kept g.P.KeepsBatches.lost c.args.self.now c.loop-command.self c.reply_to.new.self c.args.commands.items c.loop-command.queue.items c.pop_front.new.self.items i.0 [] i.0 c.in-Some.command c.in-Some.ensures.items i.3 refl (inr (c.in_ok-reply.reply.answer, c.in_ok-reply.ensures.ok.0), c.reply_to.ensures.rest, c.reply_to.ensures.keeps),
     )
 
 pub loop-command-preserved : goal.loop-command-preserved
