@@ -1,8 +1,10 @@
 //! What the program does with its arguments and its three streams. It reads the whole input, feeds it to one session,
 //! closes the session, and then writes the output and behind it what was wrong.
 
-ghost use Rattle.std.specs.Prelude.{◌≡◌};
+ghost use Rattle.std.specs.Prelude.{◌≡◌, false};
+ghost use Rattle.otel_trace.specs.SessionDelivery.{Finishes};
 
+use crate::exported::KeepsBatches;
 use crate::lines::number_of;
 use crate::session::{FeedError, Session};
 use opentelemetry_sdk::trace::{Processor, SdkTracerProvider, SimpleSpanProcessor};
@@ -89,36 +91,50 @@ fn name_bad_line<F: Write>(alloc: Global, line: u64, faults: &mut F) -> u8 {
 
 /// One session over the whole input.
 fn trace(alloc: Global, seed: u64, input: &[u8]) -> Outcome {
-    let mut text = Vec::new(alloc);
     let Ok(provider) = provider_of(alloc, seed) else {
-        return Outcome {
+        return failed(alloc);
+    };
+    match Session::new(alloc, provider) {
+        Ok(session) => finish(alloc, session, input),
+        Err((provider, _)) => {
+            let _ = provider.close();
+            failed(alloc)
+        }
+    }
+}
+
+/// What a session that could not be made comes to.
+fn failed(alloc: Global) -> Outcome {
+    Outcome {
+        text: Vec::new(alloc),
+        bad_line: None,
+        has_failed: true,
+    }
+}
+
+/// Feeds the whole input to a session and closes it.
+fn finish<P: KeepsBatches>(alloc: Global, mut session: Session<P>, input: &[u8]) -> Outcome
+    ensures { result.has_failed ≡ false → Finishes P.told P.end_gives P.shutdown_gives P.kept P.lost session input.now result.bad_line result.text.items }
+{
+    let mut text = Vec::new(alloc);
+    let fed = session.feed(input, &mut text);
+    let has_closed = session.close(&mut text).is_ok();
+    match fed {
+        Ok(()) => Outcome {
+            text,
+            bad_line: None,
+            has_failed: !has_closed,
+        },
+        Err(FeedError::Line(line)) => Outcome {
+            text,
+            bad_line: Some(line),
+            has_failed: !has_closed,
+        },
+        Err(FeedError::Memory) => Outcome {
             text,
             bad_line: None,
             has_failed: true,
-        };
-    };
-    let mut session = match Session::new(alloc, provider) {
-        Ok(session) => session,
-        Err((provider, _)) => {
-            let _ = provider.close();
-            return Outcome {
-                text,
-                bad_line: None,
-                has_failed: true,
-            };
-        }
-    };
-    let fed = session.feed(input, &mut text);
-    let has_closed = session.close(&mut text).is_ok();
-    let (bad_line, found_memory) = match fed {
-        Ok(()) => (None, true),
-        Err(FeedError::Line(line)) => (Some(line), true),
-        Err(FeedError::Memory) => (None, false),
-    };
-    Outcome {
-        text,
-        bad_line,
-        has_failed: !found_memory || !has_closed,
+        },
     }
 }
 

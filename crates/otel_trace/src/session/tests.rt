@@ -44,6 +44,49 @@ impl SpanProcessor for Refusing {
     }
 }
 
+/// A processor that loses each batch.
+#[derive(Drop)]
+struct Losing {
+    lost: u64,
+}
+
+impl SpanProcessor for Losing {
+    fn on_start(&mut self, _span: &mut Span, _cx: &Context) {}
+
+    fn on_end(&mut self, _span: SpanData) -> Result<(), AllocError> {
+        self.lost = self.lost.saturating_add(1);
+        Ok(())
+    }
+
+    fn force_flush(&mut self) -> OTelSdkResult {
+        Ok(())
+    }
+
+    fn shutdown_with_timeout(&mut self, _timeout: Duration) -> OTelSdkResult {
+        Ok(())
+    }
+}
+
+impl KeepsBatches for Losing {
+    ghost use Rattle.std.specs.Prelude.{[], refl};
+
+    ghost kept = { λ _. [] };
+
+    ghost lost = { λ p. p.lost };
+
+    ghost start_appends = { λ _ _ _ _ _ _. ([], refl) };
+
+    ghost end_appends = { λ _ _ _ _ _. ([], refl) };
+
+    fn batches(&self) -> &[Vec<SpanData>] {
+        &[]
+    }
+
+    fn lost_batches(&self) -> u64 {
+        self.lost
+    }
+}
+
 fn provider_over(alloc: Global, exporter: ExporterBox) -> Result<SdkTracerProvider, AllocError> {
     provider_of(
         alloc,
@@ -51,10 +94,10 @@ fn provider_over(alloc: Global, exporter: ExporterBox) -> Result<SdkTracerProvid
     )
 }
 
-fn provider_of(alloc: Global, processor: Processor) -> Result<SdkTracerProvider, AllocError> {
+fn provider_of<P>(alloc: Global, processor: P) -> Result<ProviderOf<P>, AllocError> {
     let mut processors = Vec::new(alloc);
     processors.push(processor)?;
-    Ok(SdkTracerProvider::from_parts(
+    Ok(ProviderOf::from_parts(
         processors,
         Sampler::AlwaysOn,
         RandomIdGenerator::new(0),
@@ -85,7 +128,10 @@ fn a_session_closes_as_its_exporter_does(rt: HostRuntime) -> Result<(), Fail> {
     assert!(rt; kept.is_ok());
     let stuck = ExporterBox::Custom(Box::new(rt.alloc(), Stuck)?);
     let failed = closed(rt.alloc(), provider_over(rt.alloc(), stuck)?, &mut output)?;
-    assert!(rt; failed.is_err());
+    let Err(OTelSdkError::InternalFailure(reason)) = failed else {
+        return Err(Fail::new("another answer"));
+    };
+    assert_eq!(rt; reason.as_str(), "Shutdown errors: 1");
     assert!(rt; output.is_empty());
     Ok(())
 }
@@ -155,5 +201,55 @@ fn a_refused_span_is_counted_in_a_reply_and_stops_a_text(rt: HostRuntime) -> Res
     assert_eq!(rt; replies[2].answer, Answer::Ended(1));
     assert_eq!(rt; fed, [Err(FeedError::Memory), Ok(())]);
     assert_eq!(rt; output.as_slice(), "no such span\nignored\n".as_bytes());
+    Ok(())
+}
+
+#[test]
+fn a_lost_batch_stops_a_run(rt: HostRuntime) -> Result<(), Fail> {
+    let commands = two_started_and_one_ended(rt.alloc())?;
+    let provider = provider_of(rt.alloc(), Losing { lost: 0 })?;
+    let mut replies = Vec::new(rt.alloc());
+    match Session::new(rt.alloc(), provider) {
+        Ok(mut session) => {
+            let run = session.run(commands, &mut replies);
+            let _ = session.close(&mut Vec::new(rt.alloc()));
+            assert_eq!(rt; run, Err(AllocError));
+            assert_eq!(rt; replies.len(), 2);
+            Ok(())
+        }
+        Err((provider, error)) => {
+            let _ = provider.close();
+            Err(error.into())
+        }
+    }
+}
+
+/// A provider that has delivered a span.
+fn used_provider(alloc: Global) -> Result<SdkTracerProvider, AllocError> {
+    let memory = ExporterBox::Memory(InMemorySpanExporter::new(alloc));
+    let mut provider = provider_over(alloc, memory)?;
+    match deliver_one(alloc, &mut provider) {
+        Ok(()) => Ok(provider),
+        Err(error) => {
+            let _ = provider.close();
+            Err(error)
+        }
+    }
+}
+
+fn deliver_one(alloc: Global, provider: &mut SdkTracerProvider) -> Result<(), AllocError> {
+    let tracer = provider.tracer(String::from_str(alloc, "before")?)?;
+    let mut span = tracer.start(String::from_str(alloc, "a")?, provider, Moment(1))?;
+    let ended = span.end_with_timestamp(provider, Moment(2));
+    span.abandon();
+    ended.map(|_| ())
+}
+
+#[test]
+fn a_session_shows_no_span_from_before_it(rt: HostRuntime) -> Result<(), Fail> {
+    let provider = used_provider(rt.alloc())?;
+    let mut output = Vec::new(rt.alloc());
+    assert!(rt; closed(rt.alloc(), provider, &mut output)?.is_ok());
+    assert!(rt; output.is_empty());
     Ok(())
 }
