@@ -1,7 +1,7 @@
 //! A span: one operation within a trace. It records until its end; its end delivers what it recorded to the processors
 //! of its provider. A span must be spent, so that none is forgotten.
 
-ghost use Rattle.std.specs.Prelude.{◌≡◌, ◌≤◌, length, OnOk, OnErr, IfOk, IsOk, IsNone, IsTrue, Some, is_some, option_copied};
+ghost use Rattle.std.specs.Prelude.{◌≡◌, ◌≤◌, length, OnOk, OnErr, IfOk, IfSome, IsOk, IsNone, IsTrue, Some, is_some, option_copied};
 ghost use Rattle.opentelemetry_sdk.specs.ProcessorTelling.{EachFollows};
 ghost use Rattle.opentelemetry.specs.PlainContexts.{empty_span_context};
 ghost use Rattle.opentelemetry_sdk.specs.Provider.{DeliversIf, deliveries};
@@ -78,13 +78,14 @@ impl Span {
         self.data = None;
     }
 
-    /// Adds an attribute; over the limit it is only counted. Nothing happens where the span is not recording
-    /// (OpenTelemetry specification, "Set Attributes").
+    /// Adds an attribute; over the limit it is only counted, which takes no memory. Nothing happens where the span is not
+    /// recording (OpenTelemetry specification, "Set Attributes").
     pub fn set_attribute(&mut self, attribute: KeyValue) -> Result<(), AllocError>
         ensures ok { OnOk result (self.new ≡ history.edited (history.set_attribute attribute) self.old) }
         ensures err { OnErr result (self.new ≡ self.old) }
         ensures edits { history.IsEdited self.old self.new }
         ensures free { IsNone self.old.recorded → IsOk result }
+        ensures full { IfSome self.old.recorded (λ recorded. self.old.limits.max_attributes_per_span ≤ length recorded.attributes → IsOk result) }
     {
         add_attribute(&mut self.data, self.span_limits, attribute)
     }
@@ -155,6 +156,7 @@ fn add_attribute(
     ensures ok { OnOk result (recorded.new ≡ history.edited_if limits (history.set_attribute attribute) recorded.old) }
     ensures err { OnErr result (recorded.new ≡ recorded.old) }
     ensures free { IsNone recorded.old → IsOk result }
+    ensures full { IfSome recorded.old (λ kept. limits.max_attributes_per_span ≤ length kept.attributes → IsOk result) }
 {
     match recorded {
         Some(recorded) => push_attribute(recorded, limits, attribute),
@@ -169,6 +171,7 @@ fn push_attribute(
 ) -> Result<(), AllocError>
     ensures ok { OnOk result (recorded.new ≡ history.edited_data limits (history.set_attribute attribute) recorded.old) }
     ensures err { OnErr result (recorded.new ≡ recorded.old) }
+    ensures full { limits.max_attributes_per_span ≤ length recorded.old.attributes → IsOk result }
 {
     if recorded.attributes.len() < limits.max_attributes_per_span as usize {
         recorded.attributes.push(attribute)?;

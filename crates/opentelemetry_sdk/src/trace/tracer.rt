@@ -1,6 +1,6 @@
 //! The tracer of a library: it starts spans under the library's scope (OpenTelemetry specification, "Tracer").
 
-ghost use Rattle.std.specs.Prelude.{◌≡◌, [], map, IfOk, OnErr, false, string_bytes};
+ghost use Rattle.std.specs.Prelude.{◌≡◌, [], map, IfOk, IsOk, IsTrue, OnErr, false, string_bytes};
 ghost use Rattle.opentelemetry_sdk.specs.Each.{PassedThrough};
 ghost use Rattle.opentelemetry_sdk.specs.Provider.{Starts, root_cx, root_span};
 ghost use Rattle.opentelemetry_sdk.specs.SpanHistory.{IsEdited, data_of};
@@ -35,8 +35,8 @@ impl SdkTracer {
     }
 
     /// Starts a root span at this moment: in a context where no span is active and nothing is suppressed. The provider
-    /// decides alone: where it is shut the span does not record and has the empty context. It takes no memory but the
-    /// count of the shared scope; on an error nothing was drawn and no processor was asked.
+    /// decides alone: where it is shut the span does not record and has the empty context, and no memory is taken. Else
+    /// it takes none but the count of the shared scope; on an error nothing was drawn and no processor was asked.
     pub fn start<P: SpanProcessor>(
         &self,
         name: String,
@@ -47,6 +47,7 @@ impl SdkTracer {
         ensures told { map P.told provider.new.processors ≡ map P.told provider.old.processors }
         ensures rest { provider.new ≡ record provider.old { processors = provider.new.processors; id_generator = provider.new.id_generator } }
         ensures err { OnErr result (provider.new ≡ provider.old) }
+        ensures shut { IsTrue provider.old.is_shut → IsOk result }
     {
         let span_limits = provider.span_limits();
         if provider.is_shut() {
