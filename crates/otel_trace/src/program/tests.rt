@@ -160,7 +160,9 @@ fn the_first_bad_line_is_named(rt: HostRuntime) -> Result<(), Fail> {
 #[test]
 fn wrong_arguments_are_refused_before_the_input(rt: HostRuntime) -> Result<(), Fail> {
     let usage = "usage: otel_trace trace SEED simple | trace SEED batch Q B | steps Q B P\n";
-    let cases: [(&str, &[&str]); 6] = [
+    let cases: [(&str, &[&str]); 8] = [
+        ("a batch processor", &["trace", "0", "batch", "3", "2"]),
+        ("the steps of a machine", &["steps", "3", "2", "1"]),
         ("no argument", &[]),
         ("a mode alone", &["trace"]),
         ("a seed that is no number", &["trace", "x", "simple"]),

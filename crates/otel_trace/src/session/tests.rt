@@ -94,7 +94,7 @@ fn provider_over(alloc: Global, exporter: ExporterBox) -> Result<SdkTracerProvid
     )
 }
 
-fn provider_of<P>(alloc: Global, processor: P) -> Result<ProviderOf<P>, AllocError> {
+fn provider_of<P: SpanProcessor>(alloc: Global, processor: P) -> Result<ProviderOf<P>, AllocError> {
     let mut processors = Vec::new(alloc);
     processors.push(processor)?;
     Ok(ProviderOf::from_parts(

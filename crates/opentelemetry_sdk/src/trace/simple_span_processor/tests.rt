@@ -5,9 +5,11 @@ use otel_base::error::OTelSdkError;
 use otel_batch::trace::ExporterBox;
 use std::test::Fail;
 
-/// An exporter whose shutdown answers the timeout that it was given.
+/// An exporter whose shutdown answers the timeout that it was given, and how often it was asked for one, in hundreds.
 #[derive(Drop)]
-struct Stuck;
+struct Stuck {
+    asked: u64,
+}
 
 impl SpanExporter for Stuck {
     ghost told = { λ _. None };
@@ -17,7 +19,9 @@ impl SpanExporter for Stuck {
     }
 
     fn shutdown_with_timeout(&mut self, timeout: Duration) -> OTelSdkResult {
-        Err(OTelSdkError::Timeout(timeout))
+        self.asked = self.asked.saturating_add(1);
+        let seconds = self.asked.saturating_mul(100).saturating_add(timeout.as_secs());
+        Err(OTelSdkError::Timeout(Duration::from_secs(seconds)))
     }
 }
 
@@ -31,12 +35,12 @@ fn seconds_of(answer: OTelSdkResult) -> Option<u64> {
 
 #[test]
 fn each_shutdown_answers_what_the_exporter_does(rt: HostRuntime) -> Result<(), Fail> {
-    let exporter = ExporterBox::Custom(Box::new(rt.alloc(), Stuck)?);
+    let exporter = ExporterBox::Custom(Box::new(rt.alloc(), Stuck { asked: 0 })?);
     let mut processor = SimpleSpanProcessor::new(rt.alloc(), exporter);
-    for seconds in [7, 8] {
-        let answer = processor.shutdown_with_timeout(Duration::from_secs(seconds));
-        assert_eq!(rt; seconds_of(answer), Some(seconds));
-    }
-    assert_eq!(rt; seconds_of(processor.shutdown()), Some(5));
+    let first = processor.shutdown_with_timeout(Duration::from_secs(7));
+    assert_eq!(rt; seconds_of(first), Some(107));
+    let second = processor.shutdown_with_timeout(Duration::from_secs(8));
+    assert_eq!(rt; seconds_of(second), Some(208));
+    assert_eq!(rt; seconds_of(processor.shutdown()), Some(305));
     Ok(())
 }

@@ -8,9 +8,20 @@ use otel_base::error::OTelSdkError;
 use std::alloc::{AllocError, Global};
 use std::test::Fail;
 
-/// An exporter of a caller's own: each answer says, as a time that ran out, what it was handed.
+/// An exporter of a caller's own: each answer says, as a time that ran out, what it was handed, and of a shutdown or a flush
+/// how often it was asked for one, in hundreds.
 #[derive(Drop)]
-struct Echo;
+struct Echo {
+    asked: u64,
+}
+
+impl Echo {
+    fn ask(&mut self, seconds: u64) -> OTelSdkResult {
+        self.asked = self.asked.saturating_add(1);
+        let seconds = self.asked.saturating_mul(100).saturating_add(seconds);
+        Err(OTelSdkError::Timeout(Duration::from_secs(seconds)))
+    }
+}
 
 impl SpanExporter for Echo {
     ghost told = { λ _. None };
@@ -21,7 +32,11 @@ impl SpanExporter for Echo {
     }
 
     fn shutdown_with_timeout(&mut self, timeout: Duration) -> OTelSdkResult {
-        Err(OTelSdkError::Timeout(timeout))
+        self.ask(timeout.as_secs())
+    }
+
+    fn force_flush(&mut self) -> OTelSdkResult {
+        self.ask(0)
     }
 }
 
@@ -74,15 +89,20 @@ fn batches_are_kept_in_order(rt: HostRuntime) -> Result<(), Fail> {
         assert_eq!(rt; batch.len(), 1);
         assert_eq!(rt; batch[0].start_time.0, moment);
     }
+    assert_eq!(rt; memory.lost_batches(), 0);
+    assert!(rt; exporter.force_flush().is_ok());
+    assert!(rt; exporter.shutdown().is_ok());
     Ok(())
 }
 
 #[test]
 fn an_exporter_of_the_callers_is_reached(rt: HostRuntime) -> Result<(), Fail> {
-    let mut exporter = ExporterBox::Custom(Box::new(rt.alloc(), Echo)?);
+    let mut exporter = ExporterBox::Custom(Box::new(rt.alloc(), Echo { asked: 0 })?);
     let exported = exporter.export(batch_from(rt.alloc(), 7)?);
     assert_eq!(rt; seconds_of(exported), Some(7));
-    assert!(rt; exporter.force_flush().is_ok());
-    assert_eq!(rt; seconds_of(exporter.shutdown()), Some(5));
+    assert_eq!(rt; seconds_of(exporter.force_flush()), Some(100));
+    let shut = exporter.shutdown_with_timeout(Duration::from_secs(7));
+    assert_eq!(rt; seconds_of(shut), Some(207));
+    assert_eq!(rt; seconds_of(exporter.shutdown()), Some(305));
     Ok(())
 }
