@@ -6,7 +6,7 @@ use Rattle.otel_base.specs.declared.trace.span_limit.SpanLimits.{SpanLimits}
 use Rattle.otel_batch.specs.PlainSpanData.{PlainSpanData}
 use Rattle.opentelemetry_sdk.specs.Each.{PassedThrough}
 use Rattle.opentelemetry.specs.PlainContexts.{empty_span_context}
-use Rattle.opentelemetry_sdk.specs.Provider.{ProviderState, Starts, root_context, root_span, root_start, after_root}
+use Rattle.opentelemetry_sdk.specs.Provider.{root_span_context, ProviderState, Starts, root_context, root_span, root_start, after_root}
 use Rattle.opentelemetry_sdk.specs.SpanHistory.{PlainSpan, IsEdited, data_of, recording, not_recording}
 
 -- from the span as it was begun and the provider behind the draws
@@ -30,14 +30,14 @@ span_with context limits recorded = record { span_context = context; limits = li
 -- the span that is begun, from its parts
 pub begun_is : {P : Type 0} (old : ProviderState P) (name : List ℕ) (now trace_id span_id trace_flags : ℕ) (context own : PlainSpanContext) (scope own_scope : PlainScope) (limits : SpanLimits) (recorded : PlainSpanData) (begun : PlainSpan)
     → trace_id ≡ (next_trace_id (next_span_id old.id_generator).1).0 → span_id ≡ (next_span_id old.id_generator).0 → trace_flags ≡ 1
-    → context ≡ record { trace_id = trace_id; span_id = span_id; trace_flags = trace_flags; is_remote = false; trace_state = [] }
-    → own ≡ record { trace_id = trace_id; span_id = span_id; trace_flags = trace_flags; is_remote = false; trace_state = [] }
+    → context ≡ root_span_context trace_id span_id trace_flags
+    → own ≡ root_span_context trace_id span_id trace_flags
     → own_scope ≡ scope → limits ≡ old.span_limits
     → ((l : SpanLimits) → recorded ≡ data_of (root_span context own_scope name now l) [] now)
     → begun ≡ record { span_context = own; limits = limits; recorded = Some recorded }
     → begun ≡ recording (root_start old scope name now) []
 begun_is old name now trace_id span_id trace_flags context own scope own_scope limits recorded begun t s f c o w l d b =
-    let ids : record { trace_id = trace_id; span_id = span_id; trace_flags = trace_flags; is_remote = false; trace_state = [] } ≡ root_context old.id_generator = cc in
+    let ids : root_span_context trace_id span_id trace_flags ≡ root_context old.id_generator = cc in
     let own_is : own ≡ root_context old.id_generator = o ∙ ids in
     let context_is : context ≡ root_context old.id_generator = c ∙ ids in
     let data_is : recorded ≡ data_of (root_start old scope name now) [] now =

@@ -21,11 +21,15 @@ pub record ProviderState (P : Type 0) : Type 0 where
   pub span_limits : SpanLimits
   pub is_shut : Bool
 
+-- the context of a root span of these ids and flags
+abbrev pub root_span_context : ℕ → ℕ → ℕ → PlainSpanContext
+root_span_context trace_id span_id trace_flags = record { trace_id = trace_id; span_id = span_id; trace_flags = trace_flags; is_remote = false; trace_state = [] }
+
 -- the context of a new root span: a span id is drawn, and then a trace id; the span is sampled
 abbrev pub root_context : List ℕ → PlainSpanContext
 root_context generator =
     let span = next_span_id generator in
-    record { trace_id = (next_trace_id span.1).0; span_id = span.0; trace_flags = 1; is_remote = false; trace_state = [] }
+    root_span_context (next_trace_id span.1).0 span.0 1
 
 -- the generator after these draws
 abbrev pub after_root : List ℕ → List ℕ

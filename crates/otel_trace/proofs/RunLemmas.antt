@@ -8,7 +8,7 @@ use Rattle.otel_trace.specs.KeptBatches.{Appends}
 use Rattle.otel_trace.specs.OpenSpans.{EndGives}
 use Rattle.otel_trace.specs.Commands.{PlainCommand, plain_command, plain_commands}
 use Rattle.otel_trace.specs.PlainReply.{PlainReply}
-use Rattle.otel_trace.specs.SessionDelivery.{Histories, SessionFrame, Demands, DemandAll, SessionState, frame_of, frame_with, Steps, Asked, answers_of, first_kept, first_lost, unshown, CarriesOut, Shows, NoneLeft, LosesNone, RunsAll, Refuses, RunsBeginning}
+use Rattle.otel_trace.specs.SessionDelivery.{Histories, SessionFrame, Demands, DemandAll, SessionState, frame_of, frame_with, Steps, Asked, answers_of, session_batches, session_losses, unshown, CarriesOut, Shows, NoneLeft, LosesNone, RunsAll, Refuses, RunsBeginning}
 use Rattle.otel_trace.specs.declared.command.Command.{Command}
 use Rattle.otel_trace.specs.declared.reply.Answer.{Answer}
 use Rattle.otel_trace.proofs.ShownLemmas.{shows_nothing, shows_no_more, shows_reply, none_left}
@@ -84,8 +84,8 @@ ran_all told gives kept lost old new commands left replies before now none ran a
 pub ran_more : {P : Type 0} (told : P → ProcessorTelling) (gives : EndGives P) (kept : P → List (List PlainSpanData)) (lost : P → ℕ) (old middle asked new : SessionState P) (commands queue left : List Command) (replies : List PlainReply) (command : Command) (reply : PlainReply)
     → queue ≡ command ∷ left → Ran told gives kept lost old commands queue replies middle
     → Steps told gives middle.scope middle.provider middle.spans (plain_command command) reply.answer asked.provider asked.spans × (reply.exported ≡ unshown kept asked) × LosesNone lost middle asked
-    → asked ≡ record middle { provider = asked.provider; spans = asked.spans } → Appends (first_kept kept middle) (first_kept kept asked)
-    → new ≡ record asked { shown = length (first_kept kept asked) }
+    → asked ≡ record middle { provider = asked.provider; spans = asked.spans } → Appends (session_batches kept middle) (session_batches kept asked)
+    → new ≡ record asked { shown = length (session_batches kept asked) }
     → Ran told gives kept lost old commands left (replies ++ reply ∷ []) new
 ran_more {P} told gives kept lost old middle asked new commands queue left replies command reply popped ran answered rest keeps marked =
     let carried = carries_more told gives old middle asked ran.0 replies command reply ran.2 answered.0 (ap (λ (s : SessionState P). s.scope) rest) in
@@ -95,7 +95,7 @@ ran_more {P} told gives kept lost old middle asked new commands queue left repli
       subst (λ (s : SessionState P). CarriesOut told gives old (ran.0 ++ command ∷ []) (replies ++ reply ∷ []) s) (sym marked) carried,
       shows_reply kept old asked new replies reply shown answered.1 marked,
       none_left kept asked new (replies ++ reply ∷ []) marked,
-      ap (first_lost lost) marked ∙ answered.2 ∙ ran.5,
+      ap (session_losses lost) marked ∙ answered.2 ∙ ran.5,
     )
 
 -- one more, which was refused

@@ -12,7 +12,7 @@ use Rattle.std.specs.declared.alloc.AllocError.{AllocError}
 use Rattle.otel_trace.specs.KeptBatches.{Appends}
 use Rattle.otel_trace.specs.OpenSpans.{MayStart, MayDeliver}
 use Rattle.otel_trace.specs.PlainReply.{PlainReply}
-use Rattle.otel_trace.specs.SessionDelivery.{SessionState, Shows, NoneLeft, first_kept, first_keeps, exported_in, spans_in, unshown}
+use Rattle.otel_trace.specs.SessionDelivery.{SessionState, Shows, NoneLeft, session_batches, batches_of_first, exported_in, spans_in, unshown}
 
 abbrev Batches : Type 0
 Batches = List (List PlainSpanData)
@@ -33,11 +33,11 @@ none_shown batches n h = ap spans_in (sym (drop_of_length-le (take n batches) (s
 
 -- no reply
 pub shows_nothing : {P : Type 0} (kept : P → Batches) (session : SessionState P) → Shows kept session [] session
-shows_nothing kept session = (appends_none _ _ refl, λ within. (omega arith, within, none_shown (first_kept kept session) session.shown within))
+shows_nothing kept session = (appends_none _ _ refl, λ within. (omega arith, within, none_shown (session_batches kept session) session.shown within))
 
 -- batches came, and no reply
 pub shows_no_more : {P : Type 0} (kept : P → Batches) (old middle new : SessionState P) (replies : List PlainReply)
-    → Shows kept old replies middle → Appends (first_kept kept middle) (first_kept kept new) → new.shown ≡ middle.shown
+    → Shows kept old replies middle → Appends (session_batches kept middle) (session_batches kept new) → new.shown ≡ middle.shown
     → Shows kept old replies new
 shows_no_more kept old middle new replies h k e = (
   appends_more _ _ _ h.0 k,
@@ -48,7 +48,7 @@ shows_no_more kept old middle new replies h k e = (
         omega (arith, e, shown.1, longer),
         shown.2
             ∙ ap (λ (l : Batches). spans_in (drop old.shown l))
-            (sym (take-append-le middle.shown (first_kept kept middle) k.0 shown.1) ∙ ap (take middle.shown) (sym k.1) ∙ ap (λ (n : ℕ). take n (first_kept kept new)) (sym e)),
+            (sym (take-append-le middle.shown (session_batches kept middle) k.0 shown.1) ∙ ap (take middle.shown) (sym k.1) ∙ ap (λ (n : ℕ). take n (session_batches kept new)) (sym e)),
       ),
 )
 
@@ -59,14 +59,14 @@ split_drop batches a b h k =
 
 -- a reply that shows what was left to show
 pub shows_reply : {P : Type 0} (kept : P → Batches) (old middle new : SessionState P) (replies : List PlainReply) (reply : PlainReply)
-    → Shows kept old replies middle → reply.exported ≡ unshown kept middle → new ≡ record middle { shown = length (first_kept kept middle) }
+    → Shows kept old replies middle → reply.exported ≡ unshown kept middle → new ≡ record middle { shown = length (session_batches kept middle) }
     → Shows kept old (replies ++ reply ∷ []) new
 shows_reply {P} kept old middle new replies reply h e n =
     subst (λ (s : SessionState P). Shows kept old (replies ++ reply ∷ []) s) (sym n) (
       h.0,
       λ within.
           let shown = h.1 within in
-          let batches = first_kept kept middle in (
+          let batches = session_batches kept middle in (
             omega (arith, shown.0, shown.1),
             omega arith,
             flat_map-append (λ r. r.exported) replies (reply ∷ [])
@@ -77,13 +77,13 @@ shows_reply {P} kept old middle new replies reply h e n =
           ),
     )
 
-pub none_left : {P : Type 0} (kept : P → Batches) (middle new : SessionState P) (replies : List PlainReply) → new ≡ record middle { shown = length (first_kept kept middle) } → NoneLeft kept replies new
+pub none_left : {P : Type 0} (kept : P → Batches) (middle new : SessionState P) (replies : List PlainReply) → new ≡ record middle { shown = length (session_batches kept middle) } → NoneLeft kept replies new
 none_left {P} kept middle new replies e = subst (λ (s : SessionState P). NoneLeft kept replies s) (sym e) (inr refl)
 
 -- what the first processor keeps where each took part in a start
 started_keeps : {P : Type 0} (kept : P → Batches) (gives : P → PlainSpan → PlainSpan → P → Type 0)
     → ((p : P) (s t : PlainSpan) (q : P) → gives p s t q → Appends (kept p) (kept q))
-    → (s t : PlainSpan) (ps qs : List P) → PassedThrough gives s ps qs t → Appends (first_keeps kept ps) (first_keeps kept qs)
+    → (s t : PlainSpan) (ps qs : List P) → PassedThrough gives s ps qs t → Appends (batches_of_first kept ps) (batches_of_first kept qs)
 started_keeps kept gives law s t [] [] h = ([], refl)
 started_keeps kept gives law s t [] (q ∷ qs) h = absurd h
 started_keeps kept gives law s t (p ∷ ps) [] h = absurd h
@@ -93,22 +93,22 @@ start_keeps : {P : Type 0} (kept : P → Batches) (gives : P → PlainSpan → P
     → ((p : P) (s t : PlainSpan) (q : P) → gives p s t q → Appends (kept p) (kept q))
     → (is_shut : Bool) (A C : Type 0) (old new : ProviderState P) (B : Type 0) (s t : PlainSpan)
     → MatchBool is_shut (A × (new ≡ old)) (B × PassedThrough gives s old.processors new.processors t × C)
-    → Appends (first_keeps kept old.processors) (first_keeps kept new.processors)
-start_keeps {P} kept gives law true A C old new B s t h = appends_none _ _ (ap (λ (r : ProviderState P). first_keeps kept r.processors) h.1)
+    → Appends (batches_of_first kept old.processors) (batches_of_first kept new.processors)
+start_keeps {P} kept gives law true A C old new B s t h = appends_none _ _ (ap (λ (r : ProviderState P). batches_of_first kept r.processors) h.1)
 start_keeps kept gives law false A C old new B s t h = started_keeps kept gives law s t old.processors new.processors h.1
 
 pub may_start_keeps : {P : Type 0} (kept : P → Batches) (gives : P → PlainSpan → PlainSpan → P → Type 0)
     → ((p : P) (s t : PlainSpan) (q : P) → gives p s t q → Appends (kept p) (kept q))
     → (old new : ProviderState P) (scope : PlainScope) (called : List ℕ) (now : ℕ)
-    → MayStart gives old scope called now new → Appends (first_keeps kept old.processors) (first_keeps kept new.processors)
-may_start_keeps {P} kept gives law old new scope called now (inl e) = appends_none _ _ (ap (λ (r : ProviderState P). first_keeps kept r.processors) e)
+    → MayStart gives old scope called now new → Appends (batches_of_first kept old.processors) (batches_of_first kept new.processors)
+may_start_keeps {P} kept gives law old new scope called now (inl e) = appends_none _ _ (ap (λ (r : ProviderState P). batches_of_first kept r.processors) e)
 may_start_keeps kept gives law old new scope called now (inr h) = start_keeps kept gives law old.is_shut _ _ old new _ _ _ h.1
 
 -- the same of an end
 asked_keeps : {P : Type 0} (told : P → ProcessorTelling) (kept : P → Batches) (gives : P → PlainSpanData → Result (Unit {0}) AllocError → P → Type 0)
     → ((p : P) (span : PlainSpanData) (answer : Result (Unit {0}) AllocError) (q : P) → gives p span answer q → Appends (kept p) (kept q))
     → (span : PlainSpanData) (ps qs : List P) (rs : List (Result (Unit {0}) AllocError)) → Each (TakesAndTells told gives span) ps rs qs
-    → Appends (first_keeps kept ps) (first_keeps kept qs)
+    → Appends (batches_of_first kept ps) (batches_of_first kept qs)
 asked_keeps told kept gives law span [] [] [] h = ([], refl)
 asked_keeps told kept gives law span [] (q ∷ qs) [] h = absurd h
 asked_keeps told kept gives law span [] qs (r ∷ rs) h = absurd h
@@ -118,6 +118,6 @@ asked_keeps told kept gives law span (p ∷ ps) (q ∷ qs) (r ∷ rs) h = law p 
 
 pub may_deliver_keeps : {P : Type 0} (told : P → ProcessorTelling) (kept : P → Batches) (gives : P → PlainSpanData → Result (Unit {0}) AllocError → P → Type 0)
     → ((p : P) (span : PlainSpanData) (answer : Result (Unit {0}) AllocError) (q : P) → gives p span answer q → Appends (kept p) (kept q))
-    → (ps qs : List P) → MayDeliver told gives ps qs → Appends (first_keeps kept ps) (first_keeps kept qs)
-may_deliver_keeps told kept gives law ps qs (inl e) = appends_none _ _ (ap (first_keeps kept) e)
+    → (ps qs : List P) → MayDeliver told gives ps qs → Appends (batches_of_first kept ps) (batches_of_first kept qs)
+may_deliver_keeps told kept gives law ps qs (inl e) = appends_none _ _ (ap (batches_of_first kept) e)
 may_deliver_keeps told kept gives law ps qs (inr h) = asked_keeps told kept gives law h.0 ps qs h.2.0 h.2.2

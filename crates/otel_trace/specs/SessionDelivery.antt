@@ -12,7 +12,7 @@ use Rattle.opentelemetry_sdk.specs.SpanHistory.{SpanHistory, begun, over, Edit, 
 use Rattle.opentelemetry_sdk.specs.ProcessorTelling.{ProcessorTelling, Delivery, EachFollows}
 use Rattle.opentelemetry_sdk.specs.Each.{AskedAll}
 use Rattle.opentelemetry.specs.PlainContexts.{empty_span_context}
-use Rattle.opentelemetry_sdk.specs.Provider.{ProviderState, ShutsDown, TakesAndTells, root_span}
+use Rattle.opentelemetry_sdk.specs.Provider.{ProviderState, ShutsDown, TakesAndTells, root_span, root_span_context}
 use Rattle.otel_trace.specs.Commands.{PlainCommand, start, attr, end, plain_command, plain_commands}
 use Rattle.otel_trace.specs.KeptBatches.{Appends}
 use Rattle.otel_trace.specs.OpenSpans.{NamedSpans, EndGives, SameSpans, named, is_name}
@@ -47,7 +47,7 @@ pub record SessionFrame : Type 0 where
 
 -- the context that an identity stands for at a root span
 abbrev pub root_context_of : SpanIdentity → PlainSpanContext
-root_context_of identity = record { trace_id = identity.trace_id; span_id = identity.span_id; trace_flags = identity.trace_flags; is_remote = false; trace_state = [] }
+root_context_of identity = root_span_context identity.trace_id identity.span_id identity.trace_flags
 
 -- who the span of a shut provider is: nobody
 abbrev pub nobody : SpanIdentity
@@ -141,18 +141,18 @@ abbrev pub MayStep : {P : Type 0} → (P → ProcessorTelling) → EndGives P �
 MayStep told gives scope p old command q new = Rests told scope p old q new ⊎ ((answer : Answer) × Steps told gives scope p old command answer q new)
 
 -- the batches that the first of these processors keeps
-abbrev pub first_keeps : {P : Type 0} → (P → List (List PlainSpanData)) → List P → List (List PlainSpanData)
-first_keeps kept processors = option_map_or kept (slice_get processors 0) []
+abbrev pub batches_of_first : {P : Type 0} → (P → List (List PlainSpanData)) → List P → List (List PlainSpanData)
+batches_of_first kept processors = option_map_or kept (slice_get processors 0) []
 
-abbrev pub first_kept : {P : Type 0} → (P → List (List PlainSpanData)) → SessionState P → List (List PlainSpanData)
-first_kept kept session = first_keeps kept session.provider.processors
+abbrev pub session_batches : {P : Type 0} → (P → List (List PlainSpanData)) → SessionState P → List (List PlainSpanData)
+session_batches kept session = batches_of_first kept session.provider.processors
 
 -- how many batches the first of these processors lost for want of memory
-abbrev pub first_loses : {P : Type 0} → (P → ℕ) → List P → ℕ
-first_loses lost processors = option_map_or lost (slice_get processors 0) 0
+abbrev pub losses_of_first : {P : Type 0} → (P → ℕ) → List P → ℕ
+losses_of_first lost processors = option_map_or lost (slice_get processors 0) 0
 
-abbrev pub first_lost : {P : Type 0} → (P → ℕ) → SessionState P → ℕ
-first_lost lost session = first_loses lost session.provider.processors
+abbrev pub session_losses : {P : Type 0} → (P → ℕ) → SessionState P → ℕ
+session_losses lost session = losses_of_first lost session.provider.processors
 
 -- the spans of batches
 abbrev pub spans_in : List (List PlainSpanData) → List PlainSpanData
@@ -160,7 +160,7 @@ spans_in batches = flat_map (λ batch. batch) batches
 
 -- the spans of those that no reply has shown
 abbrev pub unshown : {P : Type 0} → (P → List (List PlainSpanData)) → SessionState P → List PlainSpanData
-unshown kept session = spans_in (drop session.shown (first_kept kept session))
+unshown kept session = spans_in (drop session.shown (session_batches kept session))
 
 -- the spans that replies show
 abbrev pub exported_in : List PlainReply → List PlainSpanData
@@ -169,13 +169,13 @@ exported_in replies = flat_map (λ reply. reply.exported) replies
 -- batches are kept behind those that were kept, and the replies show them in order and each once: the spans of the batches
 -- behind those that were shown before, up to those that are shown now
 abbrev pub Shows : {P : Type 0} → (P → List (List PlainSpanData)) → SessionState P → List PlainReply → SessionState P → Type 0
-Shows kept old replies new = Appends (first_kept kept old) (first_kept kept new)
-    × (old.shown ≤ length (first_kept kept old) → (old.shown ≤ new.shown) × (new.shown ≤ length (first_kept kept new))
-    × (exported_in replies ≡ spans_in (drop old.shown (take new.shown (first_kept kept new)))))
+Shows kept old replies new = Appends (session_batches kept old) (session_batches kept new)
+    × (old.shown ≤ length (session_batches kept old) → (old.shown ≤ new.shown) × (new.shown ≤ length (session_batches kept new))
+    × (exported_in replies ≡ spans_in (drop old.shown (take new.shown (session_batches kept new)))))
 
 -- behind a reply nothing is left to show
 abbrev pub NoneLeft : {P : Type 0} → (P → List (List PlainSpanData)) → List PlainReply → SessionState P → Type 0
-NoneLeft kept replies new = (replies ≡ []) ⊎ (new.shown ≡ length (first_kept kept new))
+NoneLeft kept replies new = (replies ≡ []) ⊎ (new.shown ≡ length (session_batches kept new))
 
 -- commands were carried out: the replies' answers, the spans and the tellings of the processors are what they demand of
 -- the histories that the spans had, and the same deliveries reach each processor
@@ -187,7 +187,7 @@ CarriesOut {P} told gives old commands replies new = (frame_of new ≡ frame_of 
 
 -- no batch was lost meanwhile
 abbrev pub LosesNone : {P : Type 0} → (P → ℕ) → SessionState P → SessionState P → Type 0
-LosesNone lost old new = first_lost lost new ≡ first_lost lost old
+LosesNone lost old new = session_losses lost new ≡ session_losses lost old
 
 -- all commands were carried out, each with its reply, and the replies show all spans that were exported meanwhile
 abbrev pub RunsAll : {P : Type 0} → (P → ProcessorTelling) → EndGives P → (P → List (List PlainSpanData)) → (P → ℕ) → SessionState P → List Command → List PlainReply → List PlainReply → SessionState P → Type 0
@@ -197,7 +197,7 @@ RunsAll told gives kept lost old commands before now new = (replies : List Plain
 -- a command found no memory: it was carried out or not, it has no reply, and what it exported is left to show
 abbrev pub Refuses : {P : Type 0} → (P → ProcessorTelling) → EndGives P → (P → List (List PlainSpanData)) → SessionState P → Command → SessionState P → Type 0
 Refuses told gives kept old command new = MayStep told gives old.scope old.provider old.spans (plain_command command) new.provider new.spans
-    × (new ≡ record old { provider = new.provider; spans = new.spans }) × Appends (first_kept kept old) (first_kept kept new)
+    × (new ≡ record old { provider = new.provider; spans = new.spans }) × Appends (session_batches kept old) (session_batches kept new)
 
 -- a beginning of the commands was carried out, each with its reply, and the one behind it was refused
 abbrev pub RunsBeginning : {P : Type 0} → (P → ProcessorTelling) → EndGives P → (P → List (List PlainSpanData)) → (P → ℕ) → SessionState P → List Command → List PlainReply → List PlainReply → SessionState P → Type 0

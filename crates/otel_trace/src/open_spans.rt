@@ -35,7 +35,7 @@ impl OpenSpans {
     }
 
     /// Starts a span under a name; none where the name is taken. Where there is no memory for the name, the span that was
-    /// started is abandoned: ids were drawn, and no processor was given a span.
+    /// started is abandoned: ids were drawn and each processor was told of the start, and nothing was delivered.
     pub(crate) fn start<P: SpanProcessor>(
         &mut self,
         name: String,

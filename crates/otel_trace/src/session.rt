@@ -12,7 +12,7 @@ ghost use Rattle.otel_trace.specs.PlainReply.{counts_refusals};
 ghost use Rattle.otel_trace.specs.ReplyText.{span_lines};
 ghost use Rattle.otel_trace.specs.OpenSpans.{EditsNamed, EndsNamed, MayDeliver, MayStart, SameSpans, StartsNamed, attr_answer, end_answer, named, start_answer};
 ghost use Rattle.otel_trace.specs.declared.reply.SpanIdentity.{SpanIdentity};
-ghost use Rattle.otel_trace.specs.SessionDelivery.{Closes, Fed, LosesNone, MayStep, Rests, RunsAll, RunsBeginning, Steps, WritesAll, WritesBeginning, first_keeps, first_kept, first_loses, first_lost, ShutsIfOpen, or_no_memory, spans_in, unshown};
+ghost use Rattle.otel_trace.specs.SessionDelivery.{Closes, Fed, LosesNone, MayStep, Rests, RunsAll, RunsBeginning, Steps, WritesAll, WritesBeginning, batches_of_first, session_batches, losses_of_first, session_losses, ShutsIfOpen, or_no_memory, spans_in, unshown};
 ghost use Rattle.otel_trace.specs.KeptBatches.{Appends};
 
 use crate::command::Command;
@@ -74,7 +74,7 @@ impl<P: KeepsBatches> Session<P> {
         alloc: Global,
         provider: ProviderOf<P>,
     ) -> Result<Session<P>, (ProviderOf<P>, AllocError)>
-        ensures ok { IfOk result (λ session. session ≡ record { provider = provider; scope = scope_named (codes "otel_trace"); spans = []; shown = length (first_keeps P.kept provider.processors) }) }
+        ensures ok { IfOk result (λ session. session ≡ record { provider = provider; scope = scope_named (codes "otel_trace"); spans = []; shown = length (batches_of_first P.kept provider.processors) }) }
         ensures err { IfErr result (λ e. e.0 ≡ provider) }
     {
         let tracer = match tracer_of(alloc, &provider) {
@@ -176,7 +176,7 @@ impl<P: KeepsBatches> Session<P> {
         ensures ok { IfOk result (λ reply. Steps P.told P.end_gives self.old.scope self.old.provider self.old.spans (plain_command command) reply.answer self.new.provider self.new.spans × (reply.exported ≡ unshown P.kept self.new) × LosesNone P.lost self.old self.new) }
         ensures err { OnErr result (MayStep P.told P.end_gives self.old.scope self.old.provider self.old.spans (plain_command command) self.new.provider self.new.spans) }
         ensures rest { self.new ≡ record self.old { provider = self.new.provider; spans = self.new.spans } }
-        ensures keeps { Appends (first_kept P.kept self.old) (first_kept P.kept self.new) }
+        ensures keeps { Appends (session_batches P.kept self.old) (session_batches P.kept self.new) }
     {
         let lost = self.lost_batches();
         let answer = self.answer(command)?;
@@ -192,7 +192,7 @@ impl<P: KeepsBatches> Session<P> {
         ensures ok { IfOk result (λ answer. Steps P.told P.end_gives self.old.scope self.old.provider self.old.spans (plain_command command) answer self.new.provider self.new.spans) }
         ensures err { OnErr result (Rests P.told self.old.scope self.old.provider self.old.spans self.new.provider self.new.spans) }
         ensures rest { self.new ≡ record self.old { provider = self.new.provider; spans = self.new.spans } }
-        ensures keeps { Appends (first_kept P.kept self.old) (first_kept P.kept self.new) }
+        ensures keeps { Appends (session_batches P.kept self.old) (session_batches P.kept self.new) }
     {
         carry_out(&self.tracer, &mut self.provider, &mut self.spans, command)
     }
@@ -206,14 +206,14 @@ impl<P: KeepsBatches> Session<P> {
 
     /// How many batches of the first processor found no memory.
     fn lost_batches(&self) -> u64
-        ensures { result ≡ first_lost P.lost self.now }
+        ensures { result ≡ session_losses P.lost self.now }
     {
         lost_by_first(self.provider.processors())
     }
 
     /// A reply has shown what the first processor exported so far.
     fn mark_shown(&mut self)
-        ensures { self.new ≡ record self.old { shown = length (first_kept P.kept self.old) } }
+        ensures { self.new ≡ record self.old { shown = length (session_batches P.kept self.old) } }
     {
         self.shown = kept_by_first(self.provider.processors()).len();
     }
@@ -241,7 +241,7 @@ fn close_answer(shutdown: OTelSdkResult, written: Result<(), AllocError>) -> OTe
 
 /// The batches that the first of these processors keeps.
 fn kept_by_first<P: KeepsBatches>(processors: &[P]) -> &[Vec<SpanData>]
-    ensures { map (λ batch. batch.items) result.now ≡ first_keeps P.kept processors.now }
+    ensures { map (λ batch. batch.items) result.now ≡ batches_of_first P.kept processors.now }
 {
     match processors.first() {
         Some(first) => first.batches(),
@@ -251,7 +251,7 @@ fn kept_by_first<P: KeepsBatches>(processors: &[P]) -> &[Vec<SpanData>]
 
 /// How many batches of the first of these processors found no memory.
 fn lost_by_first<P: KeepsBatches>(processors: &[P]) -> u64
-    ensures { result ≡ first_loses P.lost processors.now }
+    ensures { result ≡ losses_of_first P.lost processors.now }
 {
     match processors.first() {
         Some(first) => first.lost_batches(),
@@ -265,7 +265,7 @@ fn copies_of_unshown<P: KeepsBatches>(
     processors: &[P],
     shown: usize,
 ) -> Result<Vec<SpanData>, AllocError>
-    ensures { IfOk result (λ spans. spans.items ≡ spans_in (drop shown (first_keeps P.kept processors.now))) }
+    ensures { IfOk result (λ spans. spans.items ≡ spans_in (drop shown (batches_of_first P.kept processors.now))) }
 {
     copies_since(alloc, kept_by_first(processors), shown)
 }
@@ -277,7 +277,7 @@ fn write_unshown<P: KeepsBatches>(
     shown: usize,
     output: &mut Vec<u8>,
 ) -> Result<(), AllocError>
-    ensures ok { OnOk result (output.new.items ≡ output.old.items ++ span_lines (spans_in (drop shown (first_keeps P.kept processors.now)))) }
+    ensures ok { OnOk result (output.new.items ≡ output.old.items ++ span_lines (spans_in (drop shown (batches_of_first P.kept processors.now)))) }
     ensures err { OnErr result (output.new.items ≡ output.old.items) }
 {
     let spans = copies_of_unshown(alloc, processors, shown)?;
@@ -304,7 +304,7 @@ fn carry_out<P: KeepsBatches>(
 ) -> Result<Answer, AllocError>
     ensures ok { IfOk result (λ answer. Steps P.told P.end_gives tracer.now provider.old spans.old (plain_command command) answer provider.new spans.new) }
     ensures err { OnErr result (Rests P.told tracer.now provider.old spans.old provider.new spans.new) }
-    ensures keeps { Appends (first_keeps P.kept provider.old.processors) (first_keeps P.kept provider.new.processors) }
+    ensures keeps { Appends (batches_of_first P.kept provider.old.processors) (batches_of_first P.kept provider.new.processors) }
 {
     match command {
         Command::Start { span, name, moment } => start_span(

@@ -2,7 +2,7 @@
 
 ghost use Rattle.std.specs.Prelude.{◌≡◌, [], map, IfOk, IsOk, IsTrue, OnErr, false, string_bytes};
 ghost use Rattle.opentelemetry_sdk.specs.Each.{PassedThrough};
-ghost use Rattle.opentelemetry_sdk.specs.Provider.{Starts, root_cx, root_span};
+ghost use Rattle.opentelemetry_sdk.specs.Provider.{root_span_context, Starts, root_cx, root_span};
 ghost use Rattle.opentelemetry_sdk.specs.SpanHistory.{IsEdited, data_of};
 
 use crate::trace::{ProviderOf, Span, SpanProcessor};
@@ -94,7 +94,7 @@ fn sampled_flags(sampler: &Sampler) -> TraceFlags
 
 /// The context of a root span.
 fn root_context(trace_id: TraceId, span_id: SpanId, trace_flags: TraceFlags) -> SpanContext
-    ensures { result ≡ record { trace_id = trace_id; span_id = span_id; trace_flags = trace_flags; is_remote = false; trace_state = [] } }
+    ensures { result ≡ root_span_context trace_id span_id trace_flags }
 {
     SpanContext::new(trace_id, span_id, trace_flags, false, TraceState::new())
 }

@@ -20,7 +20,10 @@ impl SpanExporter for Stuck {
 
     fn shutdown_with_timeout(&mut self, timeout: Duration) -> OTelSdkResult {
         self.asked = self.asked.saturating_add(1);
-        let seconds = self.asked.saturating_mul(100).saturating_add(timeout.as_secs());
+        let seconds = self
+            .asked
+            .saturating_mul(100)
+            .saturating_add(timeout.as_secs());
         Err(OTelSdkError::Timeout(Duration::from_secs(seconds)))
     }
 }

@@ -4,7 +4,7 @@ use Rattle.opentelemetry_sdk.specs.Provider.{root_cx}
 use Rattle.opentelemetry_sdk.specs.SpanHistory.{set_attribute}
 use Rattle.otel_trace.specs.Commands.{plain_command, start, attr, end}
 use Rattle.otel_trace.specs.OpenSpans.{EditsNamed, named}
-use Rattle.otel_trace.specs.SessionDelivery.{Steps, first_keeps}
+use Rattle.otel_trace.specs.SessionDelivery.{Steps, batches_of_first}
 use Rattle.otel_trace.specs.declared.command.Command.{Command}
 use Rattle.otel_trace.specs.declared.reply.Answer.{Answer}
 use Rattle.otel_trace.proofs.StepLemmas.{if_ok_map, steps_start, steps_attr, steps_end}
@@ -35,7 +35,7 @@ pub returns-in-Start-clause-keeps : goal.returns-in-Start-clause-keeps
 returns-in-Start-clause-keeps g c = may_start_keeps g.P.KeepsBatches.kept (λ p s t q. g.P.SpanProcessor.start_gives p s root_cx t q) (λ p s t q h. g.met.P.KeepsBatches.start_appends p s root_cx t q h) c.args.provider.now c.start_span.new.provider c.args.tracer.now (string_bytes c.in-Start.name) c.in-Start.moment.0 c.start_span.ensures.asks
 
 pub returns-in-Attr-clause-keeps : goal.returns-in-Attr-clause-keeps
-returns-in-Attr-clause-keeps g c = appends_none (first_keeps g.P.KeepsBatches.kept c.args.provider.now.processors) _ refl
+returns-in-Attr-clause-keeps g c = appends_none (batches_of_first g.P.KeepsBatches.kept c.args.provider.now.processors) _ refl
 
 pub returns-in-End-clause-keeps : goal.returns-in-End-clause-keeps
 returns-in-End-clause-keeps g c = may_deliver_keeps g.P.SpanProcessor.told g.P.KeepsBatches.kept g.P.SpanProcessor.end_gives g.met.P.KeepsBatches.end_appends c.args.provider.now.processors c.end_span.new.provider.processors c.end_span.ensures.asks

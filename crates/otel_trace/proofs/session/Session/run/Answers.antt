@@ -12,15 +12,15 @@ pub returns-in_err-reply-clause-err : goal.returns-in_err-reply-clause-err
 returns-in_err-reply-clause-err g c =
     let i = c.loop-command.invariant in
     always_on_err {P = RunsBeginning g.P.SpanProcessor.told g.P.SpanProcessor.end_gives g.P.KeepsBatches.kept g.P.KeepsBatches.lost c.args.self.now c.args.commands.items c.args.replies.now.items c.loop-command.replies.items c.reply_to.new.self} _
-        (ran_refused g.P.SpanProcessor.told g.P.SpanProcessor.end_gives g.P.KeepsBatches.kept g.P.KeepsBatches.lost c.args.self.now c.loop-command.self c.reply_to.new.self c.args.commands.items c.loop-command.queue.items c.pop_front.new.self.items i.0 c.args.replies.now.items c.loop-command.replies.items c.in-Some.command
-        c.in-Some.ensures.items i.2 i.1 (c.in_err-reply.ensures.err, c.reply_to.ensures.rest, c.reply_to.ensures.keeps))
+    (ran_refused g.P.SpanProcessor.told g.P.SpanProcessor.end_gives g.P.KeepsBatches.kept g.P.KeepsBatches.lost c.args.self.now c.loop-command.self c.reply_to.new.self c.args.commands.items c.loop-command.queue.items c.pop_front.new.self.items i.0 c.args.replies.now.items c.loop-command.replies.items c.in-Some.command
+    c.in-Some.ensures.items i.2 i.1 (c.in_err-reply.ensures.err, c.reply_to.ensures.rest, c.reply_to.ensures.keeps))
 
 pub returns-in_err-push-clause-err : goal.returns-in_err-push-clause-err
 returns-in_err-push-clause-err g c =
     let i = c.loop-command.invariant in
     always_on_err {P = RunsBeginning g.P.SpanProcessor.told g.P.SpanProcessor.end_gives g.P.KeepsBatches.kept g.P.KeepsBatches.lost c.args.self.now c.args.commands.items c.args.replies.now.items c.push.new.self.items c.reply_to.new.self} _
-        (ran_refused g.P.SpanProcessor.told g.P.SpanProcessor.end_gives g.P.KeepsBatches.kept g.P.KeepsBatches.lost c.args.self.now c.loop-command.self c.reply_to.new.self c.args.commands.items c.loop-command.queue.items c.pop_front.new.self.items i.0 c.args.replies.now.items c.push.new.self.items c.in-Some.command
-        c.in-Some.ensures.items i.2 (c.in_err-push.ensures.items ∙ i.1) (inr (c.in_ok-reply.reply.answer, c.in_ok-reply.ensures.ok.0), c.reply_to.ensures.rest, c.reply_to.ensures.keeps))
+    (ran_refused g.P.SpanProcessor.told g.P.SpanProcessor.end_gives g.P.KeepsBatches.kept g.P.KeepsBatches.lost c.args.self.now c.loop-command.self c.reply_to.new.self c.args.commands.items c.loop-command.queue.items c.pop_front.new.self.items i.0 c.args.replies.now.items c.push.new.self.items c.in-Some.command
+    c.in-Some.ensures.items i.2 (c.in_err-push.ensures.items ∙ i.1) (inr (c.in_ok-reply.reply.answer, c.in_ok-reply.ensures.ok.0), c.reply_to.ensures.rest, c.reply_to.ensures.keeps))
 
 pub loop-command-preserved : goal.loop-command-preserved
 loop-command-preserved g c =
