@@ -64,19 +64,27 @@ impl<C: SpanExporter, D: SpanProcessor> KeepsBatches
     }
 }
 
-/// Copies of the spans of the batches behind those that were shown.
-pub(crate) fn copies_since(
+/// The batches behind those that were shown.
+pub(crate) fn batches_since(batches: &[Vec<SpanData>], shown: usize) -> &[Vec<SpanData>]
+    ensures { result.now ≡ drop shown batches.now }
+{
+    if shown < batches.len() {
+        &batches[shown..]
+    } else {
+        &[]
+    }
+}
+
+/// Copies of the spans of batches.
+pub(crate) fn copies_of(
     alloc: Global,
     batches: &[Vec<SpanData>],
-    shown: usize,
 ) -> Result<Vec<SpanData>, AllocError>
-    ensures { IfOk result (λ spans. spans.items ≡ flat_map (λ batch. batch.items) (drop shown batches.now)) }
+    ensures { IfOk result (λ spans. spans.items ≡ flat_map (λ batch. batch.items) batches.now) }
 {
     let mut spans = Vec::new(alloc);
-    if shown < batches.len() {
-        for batch in &batches[shown..] {
-            push_copies(&mut spans, batch)?;
-        }
+    for batch in batches {
+        push_copies(&mut spans, batch)?;
     }
     Ok(spans)
 }

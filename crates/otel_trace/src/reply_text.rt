@@ -3,11 +3,12 @@
 
 ghost use Rattle.std.specs.Prelude.{◌≡◌, ◌++◌, ◌∷◌, [], ℕ, ◌<◌, length, take, IfOk, OnOk, OnErr, string_bytes, vec_len};
 ghost use Rattle.std.specs.Fmt.{decimal};
+ghost use Rattle.std.specs.List.{flat_map};
 ghost use Rattle.opentelemetry.specs.PlainValues.{plain_status};
-ghost use Rattle.otel_trace.specs.AnswerText.{answer_line, reply_text};
+ghost use Rattle.otel_trace.specs.AnswerText.{answer_line};
 ghost use Rattle.otel_trace.specs.ReplyText.{listed, spaced, comma_before, status_text, attribute_text, attributes_text, event_text, events_text, links_text, identity_text, span_line, span_lines, context_text, started_line, dropped_line};
 
-use crate::reply::{Answer, Reply};
+use crate::reply::Answer;
 use opentelemetry::trace::{Event, Status};
 use opentelemetry::{KeyValue, SpanId, TraceFlags, TraceId};
 use otel_batch::trace::{SpanData, SpanEvents, SpanLinks};
@@ -147,12 +148,22 @@ fn push_span(text: &mut String, span: &SpanData) -> Result<(), AllocError>
     text.push('\n')
 }
 
-/// The lines of exported spans, in order.
+/// The lines of the spans of a batch, in order.
 fn push_spans(text: &mut String, spans: &[SpanData]) -> Result<(), AllocError>
     ensures { OnOk result (string_bytes text.new ≡ string_bytes text.old ++ span_lines spans.now) }
 {
     for span in spans {
         push_span(text, span)?;
+    }
+    Ok(())
+}
+
+/// The lines of the spans of batches, in order.
+fn push_batches(text: &mut String, batches: &[Vec<SpanData>]) -> Result<(), AllocError>
+    ensures { OnOk result (string_bytes text.new ≡ string_bytes text.old ++ span_lines (flat_map (λ batch. batch.items) batches.now)) }
+{
+    for batch in batches {
+        push_spans(text, batch)?;
     }
     Ok(())
 }
@@ -214,32 +225,41 @@ fn push_answer(text: &mut String, answer: Answer) -> Result<(), AllocError>
     }
 }
 
-/// The lines of a reply.
-fn text_of(alloc: Global, reply: &Reply) -> Result<String, AllocError>
-    ensures { IfOk result (λ text. string_bytes text ≡ reply_text reply.now) }
+/// The lines of a reply: those of the exported spans, and the answer's.
+fn text_of(alloc: Global, exported: &[Vec<SpanData>], answer: Answer) -> Result<String, AllocError>
+    ensures { IfOk result (λ text. string_bytes text ≡ span_lines (flat_map (λ batch. batch.items) exported.now) ++ answer_line answer) }
 {
     let mut text = String::new(alloc);
-    push_spans(&mut text, reply.exported.as_slice())?;
-    push_answer(&mut text, reply.answer)?;
+    push_batches(&mut text, exported)?;
+    push_answer(&mut text, answer)?;
     Ok(text)
 }
 
-/// Writes the lines of exported spans, or nothing where memory runs out.
-pub fn write_spans(alloc: Global, out: &mut Vec<u8>, spans: &[SpanData]) -> Result<(), AllocError>
-    ensures ok { OnOk result (out.new.items ≡ out.old.items ++ span_lines spans.now) }
+/// Writes the lines of exported batches, or nothing where memory runs out.
+pub fn write_batches(
+    alloc: Global,
+    out: &mut Vec<u8>,
+    exported: &[Vec<SpanData>],
+) -> Result<(), AllocError>
+    ensures ok { OnOk result (out.new.items ≡ out.old.items ++ span_lines (flat_map (λ batch. batch.items) exported.now)) }
     ensures err { OnErr result (out.new.items ≡ out.old.items) }
 {
     let mut text = String::new(alloc);
-    push_spans(&mut text, spans)?;
+    push_batches(&mut text, exported)?;
     write_text(out, text.as_str())
 }
 
-/// Writes a whole reply, or nothing where memory runs out.
-pub fn write_reply(alloc: Global, out: &mut Vec<u8>, reply: &Reply) -> Result<(), AllocError>
-    ensures ok { OnOk result (out.new.items ≡ out.old.items ++ reply_text reply.now) }
+/// Writes a whole reply, or nothing where memory runs out: the spans are read where the exporter keeps them.
+pub fn write_reply(
+    alloc: Global,
+    out: &mut Vec<u8>,
+    exported: &[Vec<SpanData>],
+    answer: Answer,
+) -> Result<(), AllocError>
+    ensures ok { OnOk result (out.new.items ≡ out.old.items ++ (span_lines (flat_map (λ batch. batch.items) exported.now) ++ answer_line answer)) }
     ensures err { OnErr result (out.new.items ≡ out.old.items) }
 {
-    let text = text_of(alloc, reply)?;
+    let text = text_of(alloc, exported, answer)?;
     write_text(out, text.as_str())
 }
 
@@ -361,15 +381,15 @@ span 5c0fdf91ec9a7bfc61da6f3dc380d507 02eebf8c3bbe5e1a 0000000000000000 01 1000 
 ended
 ";
 
-    fn answers(alloc: Global, answers: &[Answer]) -> Result<Vec<Reply>, AllocError> {
-        let mut replies = Vec::new(alloc);
-        for answer in answers {
-            replies.push(Reply {
-                exported: Vec::new(alloc),
-                answer: *answer,
-            })?;
+    // Two batches of one span.
+    fn batches(alloc: Global) -> Result<Vec<Vec<SpanData>>, AllocError> {
+        let mut batches = Vec::new(alloc);
+        for span in [failed(alloc)?, root(alloc)?] {
+            let mut batch = Vec::new(alloc);
+            batch.push(span)?;
+            batches.push(batch)?;
         }
-        Ok(replies)
+        Ok(batches)
     }
 
     #[test]
@@ -384,28 +404,19 @@ ended
             span_id: SpanId::INVALID,
             trace_flags: TraceFlags::new(0),
         };
-        let mut exported = Vec::new(rt.alloc());
-        exported.push(failed(rt.alloc())?)?;
-        exported.push(root(rt.alloc())?)?;
-        let mut replies = answers(
-            rt.alloc(),
-            &[
-                Answer::Started(span),
-                Answer::Dropped(nobody),
-                Answer::Ok,
-                Answer::Ignored,
-                Answer::NoSuchSpan,
-                Answer::SpanExists,
-            ],
-        )?;
-        replies.push(Reply {
-            exported,
-            answer: Answer::Ended(0),
-        })?;
         let mut out = Vec::new(rt.alloc());
-        for reply in &replies {
-            write_reply(rt.alloc(), &mut out, reply)?;
+        for answer in [
+            Answer::Started(span),
+            Answer::Dropped(nobody),
+            Answer::Ok,
+            Answer::Ignored,
+            Answer::NoSuchSpan,
+            Answer::SpanExists,
+        ] {
+            write_reply(rt.alloc(), &mut out, &[], answer)?;
         }
+        let exported = batches(rt.alloc())?;
+        write_reply(rt.alloc(), &mut out, &exported, Answer::Ended(0))?;
         assert_eq!(rt; out.as_slice(), LINES.as_bytes());
         Ok(())
     }

@@ -2,12 +2,13 @@
 //! the histories of its spans, apart from the code that fills them.
 
 ghost use Rattle.std.specs.Prelude.{◌≡◌, ◌++◌, ℕ, Bool, List, [], Option, drop, false, length, map, IfErr, IfOk, MatchResult, OnOk, OnErr, codes, string_bytes};
+ghost use Rattle.std.specs.List.{flat_map};
 ghost use Rattle.opentelemetry.specs.Plain.{text};
 ghost use Rattle.opentelemetry_sdk.specs.Provider.{named as scope_named};
 ghost use Rattle.opentelemetry_sdk.specs.Provider.{root_cx};
 ghost use Rattle.opentelemetry_sdk.specs.SpanHistory as edits;
 ghost use Rattle.otel_trace.specs.Commands.{plain_command};
-ghost use Rattle.otel_trace.specs.AnswerText.{reply_text};
+ghost use Rattle.otel_trace.specs.AnswerText.{answer_line};
 ghost use Rattle.otel_trace.specs.PlainReply.{counts_refusals};
 ghost use Rattle.otel_trace.specs.ReplyText.{span_lines};
 ghost use Rattle.otel_trace.specs.OpenSpans.{EditsNamed, EndsNamed, MayDeliver, MayStart, SameSpans, StartsNamed, attr_answer, end_answer, named, start_answer};
@@ -16,11 +17,11 @@ ghost use Rattle.otel_trace.specs.SessionDelivery.{Closes, Fed, LosesNone, MaySt
 ghost use Rattle.otel_trace.specs.KeptBatches.{Appends};
 
 use crate::command::Command;
-use crate::exported::{KeepsBatches, copies_since};
+use crate::exported::{KeepsBatches, batches_since, copies_of};
 use crate::lines::parse;
 use crate::open_spans::OpenSpans;
 use crate::reply::{Answer, Reply};
-use crate::reply_text::{write_reply, write_spans};
+use crate::reply_text::{write_batches, write_reply};
 use opentelemetry::{Key, KeyValue, Moment, Value};
 use opentelemetry_sdk::trace::{ProviderOf, SdkTracer, SpanProcessor};
 use otel_base::error::{OTelSdkError, OTelSdkResult};
@@ -104,8 +105,9 @@ impl<P: KeepsBatches> Session<P> {
     {
         let mut queue = VecDeque::from_vec(commands);
         while let Some(command) = queue.pop_front() {
-            let reply = self.reply_to(command)?;
-            replies.push(reply)?;
+            let answer = self.answer(command)?;
+            let exported = copies_of(self.alloc, self.unshown())?;
+            replies.push(Reply { exported, answer })?;
             self.mark_shown();
         }
         Ok(())
@@ -146,7 +148,8 @@ impl<P: KeepsBatches> Session<P> {
         } = self;
         spans.abandon();
         let shutdown = shut_down(&mut provider);
-        let written = write_unshown(alloc, provider.processors(), shown, output);
+        let unshown = unshown_by_first(provider.processors(), shown);
+        let written = write_batches(alloc, output, unshown);
         let _ = provider.close();
         close_answer(shutdown, written)
     }
@@ -163,32 +166,41 @@ impl<P: KeepsBatches> Session<P> {
     {
         let mut queue = VecDeque::from_vec(commands);
         while let Some(command) = queue.pop_front() {
-            let reply = self.reply_to(command)?;
-            write_unrefused(self.alloc, output, &reply)?;
+            let answer = self.answer(command)?;
+            self.write_unrefused(answer, output)?;
             self.mark_shown();
         }
         Ok(())
     }
 
-    /// Carries one command out. The reply has copies of the spans that were exported since the last one. On an error the
-    /// command was carried out or not, and what it exported is left for the next reply.
-    fn reply_to(&mut self, command: Command) -> Result<Reply, AllocError>
-        ensures ok { IfOk result (λ reply. Steps P.told P.end_gives self.old.scope self.old.provider self.old.spans (plain_command command) reply.answer self.new.provider self.new.spans × (reply.exported ≡ unshown P.kept self.new) × LosesNone P.lost self.old self.new) }
+    /// Writes a reply whose answer counts no refusal, or nothing.
+    fn write_unrefused(&self, answer: Answer, output: &mut Vec<u8>) -> Result<(), AllocError>
+        ensures ok { OnOk result ((counts_refusals answer ≡ false) × (output.new.items ≡ output.old.items ++ (span_lines (unshown P.kept self.now) ++ answer_line answer))) }
+        ensures err { OnErr result (output.new.items ≡ output.old.items) }
+    {
+        if answer.counts_refusals() {
+            return Err(AllocError);
+        }
+        write_reply(self.alloc, output, self.unshown(), answer)
+    }
+
+    /// Carries one command out. On an error it was carried out or not, and what it exported is left for the next reply.
+    fn answer(&mut self, command: Command) -> Result<Answer, AllocError>
+        ensures ok { IfOk result (λ answer. Steps P.told P.end_gives self.old.scope self.old.provider self.old.spans (plain_command command) answer self.new.provider self.new.spans × LosesNone P.lost self.old self.new) }
         ensures err { OnErr result (MayStep P.told P.end_gives self.old.scope self.old.provider self.old.spans (plain_command command) self.new.provider self.new.spans) }
         ensures rest { self.new ≡ record self.old { provider = self.new.provider; spans = self.new.spans } }
         ensures keeps { Appends (session_batches P.kept self.old) (session_batches P.kept self.new) }
     {
         let lost = self.lost_batches();
-        let answer = self.answer(command)?;
+        let answer = self.carry_out(command)?;
         if self.lost_batches() != lost {
             return Err(AllocError);
         }
-        let exported = self.unshown()?;
-        Ok(Reply { exported, answer })
+        Ok(answer)
     }
 
-    /// Carries one command out.
-    fn answer(&mut self, command: Command) -> Result<Answer, AllocError>
+    /// Carries one command out, also where a batch was lost.
+    fn carry_out(&mut self, command: Command) -> Result<Answer, AllocError>
         ensures ok { IfOk result (λ answer. Steps P.told P.end_gives self.old.scope self.old.provider self.old.spans (plain_command command) answer self.new.provider self.new.spans) }
         ensures err { OnErr result (Rests P.told self.old.scope self.old.provider self.old.spans self.new.provider self.new.spans) }
         ensures rest { self.new ≡ record self.old { provider = self.new.provider; spans = self.new.spans } }
@@ -197,11 +209,11 @@ impl<P: KeepsBatches> Session<P> {
         carry_out(&self.tracer, &mut self.provider, &mut self.spans, command)
     }
 
-    /// Copies of the spans that the first processor exported into memory and no reply has shown.
-    fn unshown(&self) -> Result<Vec<SpanData>, AllocError>
-        ensures { IfOk result (λ spans. spans.items ≡ unshown P.kept self.now) }
+    /// The batches that the first processor's exporter keeps and no reply has shown.
+    fn unshown(&self) -> &[Vec<SpanData>]
+        ensures { flat_map (λ batch. batch.items) result.now ≡ unshown P.kept self.now }
     {
-        copies_of_unshown(self.alloc, self.provider.processors(), self.shown)
+        unshown_by_first(self.provider.processors(), self.shown)
     }
 
     /// How many batches of the first processor found no memory.
@@ -259,40 +271,11 @@ fn lost_by_first<P: KeepsBatches>(processors: &[P]) -> u64
     }
 }
 
-/// Copies of the spans of the batches that the first of these processors keeps behind those that were shown.
-fn copies_of_unshown<P: KeepsBatches>(
-    alloc: Global,
-    processors: &[P],
-    shown: usize,
-) -> Result<Vec<SpanData>, AllocError>
-    ensures { IfOk result (λ spans. spans.items ≡ spans_in (drop shown (batches_of_first P.kept processors.now))) }
+/// The batches that the first of these processors keeps behind those that were shown.
+fn unshown_by_first<P: KeepsBatches>(processors: &[P], shown: usize) -> &[Vec<SpanData>]
+    ensures { flat_map (λ batch. batch.items) result.now ≡ spans_in (drop shown (batches_of_first P.kept processors.now)) }
 {
-    copies_since(alloc, kept_by_first(processors), shown)
-}
-
-/// Writes the lines of the spans that no reply has shown.
-fn write_unshown<P: KeepsBatches>(
-    alloc: Global,
-    processors: &[P],
-    shown: usize,
-    output: &mut Vec<u8>,
-) -> Result<(), AllocError>
-    ensures ok { OnOk result (output.new.items ≡ output.old.items ++ span_lines (spans_in (drop shown (batches_of_first P.kept processors.now)))) }
-    ensures err { OnErr result (output.new.items ≡ output.old.items) }
-{
-    let spans = copies_of_unshown(alloc, processors, shown)?;
-    write_spans(alloc, output, &spans)
-}
-
-/// Writes a reply whose answer counts no refusal, or nothing.
-fn write_unrefused(alloc: Global, output: &mut Vec<u8>, reply: &Reply) -> Result<(), AllocError>
-    ensures ok { OnOk result ((counts_refusals reply.now.answer ≡ false) × (output.new.items ≡ output.old.items ++ reply_text reply.now)) }
-    ensures err { OnErr result (output.new.items ≡ output.old.items) }
-{
-    if reply.answer.counts_refusals() {
-        return Err(AllocError);
-    }
-    write_reply(alloc, output, reply)
+    batches_since(kept_by_first(processors), shown)
 }
 
 /// Carries one command out.

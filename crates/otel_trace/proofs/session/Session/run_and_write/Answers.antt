@@ -1,6 +1,6 @@
 use Rattle.std.proofs.Common.{rules, [], ◌∷◌, ◌++◌, sym, refl, ◌∙◌, append-nil, inr}
 use Rattle.otel_trace.specs.PlainReply.{PlainReply}
-use Rattle.otel_trace.specs.SessionDelivery.{WritesBeginning}
+use Rattle.otel_trace.specs.SessionDelivery.{WritesBeginning, unshown}
 use Rattle.otel_trace.proofs.FeedLemmas.{written_more, none_refused_more}
 use Rattle.otel_trace.proofs.NamedLemmas.{always_on_err}
 use Rattle.otel_trace.proofs.RunLemmas.{ran_nothing, ran_all, ran_more, ran_refused}
@@ -9,35 +9,35 @@ use Rattle.otel_trace.proofs.session.Session.run_and_write.Goals as goal
 pub loop-command-init : goal.loop-command-init
 loop-command-init g c = ([], sym (append-nil _), tt, ran_nothing g.P.SpanProcessor.told g.P.SpanProcessor.end_gives g.P.KeepsBatches.kept g.P.KeepsBatches.lost c.args.self.now c.args.commands.items c.from_vec-queue.result.items c.from_vec-queue.ensures.items)
 
-pub returns-in_err-reply-clause-err : goal.returns-in_err-reply-clause-err
-returns-in_err-reply-clause-err g c =
+pub returns-in_err-answer-clause-err : goal.returns-in_err-answer-clause-err
+returns-in_err-answer-clause-err g c =
     let i = c.loop-command.invariant in
-    always_on_err {P = WritesBeginning g.P.SpanProcessor.told g.P.SpanProcessor.end_gives g.P.KeepsBatches.kept g.P.KeepsBatches.lost c.args.self.now c.args.commands.items c.args.output.now.items c.loop-command.output.items c.reply_to.new.self} _ (
+    always_on_err {P = WritesBeginning g.P.SpanProcessor.told g.P.SpanProcessor.end_gives g.P.KeepsBatches.kept g.P.KeepsBatches.lost c.args.self.now c.args.commands.items c.args.output.now.items c.loop-command.output.items c.answer.new.self} _ (
       i.0,
       i.1,
       i.2,
-      ran_refused g.P.SpanProcessor.told g.P.SpanProcessor.end_gives g.P.KeepsBatches.kept g.P.KeepsBatches.lost c.args.self.now c.loop-command.self c.reply_to.new.self c.args.commands.items c.loop-command.queue.items c.pop_front.new.self.items i.0 [] i.0 c.in-Some.command c.in-Some.ensures.items i.3 refl (c.in_err-reply.ensures.err, c.reply_to.ensures.rest, c.reply_to.ensures.keeps),
+      ran_refused g.P.SpanProcessor.told g.P.SpanProcessor.end_gives g.P.KeepsBatches.kept g.P.KeepsBatches.lost c.args.self.now c.loop-command.self c.answer.new.self c.args.commands.items c.loop-command.queue.items c.pop_front.new.self.items i.0 [] i.0 c.in-Some.command c.in-Some.ensures.items i.3 refl (c.in_err-answer.ensures.err, c.answer.ensures.rest, c.answer.ensures.keeps),
     )
 
 pub returns-in_err-write_unrefused-clause-err : goal.returns-in_err-write_unrefused-clause-err
 returns-in_err-write_unrefused-clause-err g c =
     let i = c.loop-command.invariant in
-    always_on_err {P = WritesBeginning g.P.SpanProcessor.told g.P.SpanProcessor.end_gives g.P.KeepsBatches.kept g.P.KeepsBatches.lost c.args.self.now c.args.commands.items c.args.output.now.items c.write_unrefused.new.output.items c.reply_to.new.self} _ (
+    always_on_err {P = WritesBeginning g.P.SpanProcessor.told g.P.SpanProcessor.end_gives g.P.KeepsBatches.kept g.P.KeepsBatches.lost c.args.self.now c.args.commands.items c.args.output.now.items c.write_unrefused.new.output.items c.answer.new.self} _ (
       i.0,
       c.in_err-write_unrefused.ensures.err ∙ i.1,
       i.2,
-      ran_refused g.P.SpanProcessor.told g.P.SpanProcessor.end_gives g.P.KeepsBatches.kept g.P.KeepsBatches.lost c.args.self.now c.loop-command.self c.reply_to.new.self c.args.commands.items c.loop-command.queue.items c.pop_front.new.self.items i.0 [] i.0 c.in-Some.command c.in-Some.ensures.items i.3 refl (inr (c.in_ok-reply.reply.answer, c.in_ok-reply.ensures.ok.0), c.reply_to.ensures.rest, c.reply_to.ensures.keeps),
+      ran_refused g.P.SpanProcessor.told g.P.SpanProcessor.end_gives g.P.KeepsBatches.kept g.P.KeepsBatches.lost c.args.self.now c.loop-command.self c.answer.new.self c.args.commands.items c.loop-command.queue.items c.pop_front.new.self.items i.0 [] i.0 c.in-Some.command c.in-Some.ensures.items i.3 refl (inr (c.in_ok-answer.answer, c.in_ok-answer.ensures.ok.0), c.answer.ensures.rest, c.answer.ensures.keeps),
     )
 
 pub loop-command-preserved : goal.loop-command-preserved
 loop-command-preserved g c =
     let i = c.loop-command.invariant in
-    let reply : PlainReply = c.in_ok-reply.reply in (
+    let reply : PlainReply = record { exported = unshown g.P.KeepsBatches.kept c.answer.new.self; answer = c.in_ok-answer.answer } in (
       i.0 ++ reply ∷ [],
       written_more i.0 reply c.args.output.now.items c.loop-command.output.items c.write_unrefused.new.output.items i.1 c.in_ok-write_unrefused.ensures.ok.1,
       none_refused_more i.0 reply i.2 c.in_ok-write_unrefused.ensures.ok.0,
-      ran_more g.P.SpanProcessor.told g.P.SpanProcessor.end_gives g.P.KeepsBatches.kept g.P.KeepsBatches.lost c.args.self.now c.loop-command.self c.reply_to.new.self c.mark_shown.new.self c.args.commands.items c.loop-command.queue.items c.pop_front.new.self.items i.0 c.in-Some.command reply
-          c.in-Some.ensures.items i.3 c.in_ok-reply.ensures.ok c.reply_to.ensures.rest c.reply_to.ensures.keeps c.mark_shown.ensures,
+      ran_more g.P.SpanProcessor.told g.P.SpanProcessor.end_gives g.P.KeepsBatches.kept g.P.KeepsBatches.lost c.args.self.now c.loop-command.self c.answer.new.self c.mark_shown.new.self c.args.commands.items c.loop-command.queue.items c.pop_front.new.self.items i.0 c.in-Some.command reply
+          c.in-Some.ensures.items i.3 (c.in_ok-answer.ensures.ok.0, refl, c.in_ok-answer.ensures.ok.1) c.answer.ensures.rest c.answer.ensures.keeps c.mark_shown.ensures,
     )
 
 pub returns-clause-ok : goal.returns-clause-ok

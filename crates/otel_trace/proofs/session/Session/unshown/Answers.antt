@@ -1,10 +1,9 @@
 use Rattle.std.proofs.Common.{List, drop, ap, ◌∙◌}
 use Rattle.otel_trace.specs.SessionDelivery.{SessionState, batches_of_first, spans_in, unshown}
-use Rattle.otel_trace.proofs.StepLemmas.{if_ok_map}
 use Rattle.otel_trace.proofs.session.Session.unshown.Goals as goal
 
 pub returns : goal.returns
-returns g c = if_ok_map c.copies_of_unshown.result (λ spans copied.
-    copied
+returns g c =
+    c.unshown_by_first.ensures
     ∙ ap (λ (processors : List g.row.P.Denot). spans_in (drop c.self.inside.shown (batches_of_first g.P.KeepsBatches.kept processors))) c.processors.ensures
-    ∙ ap (λ (s : SessionState g.row.P.Denot). unshown g.P.KeepsBatches.kept s) c.self.view_is) c.copies_of_unshown.ensures
+    ∙ ap (λ (s : SessionState g.row.P.Denot). unshown g.P.KeepsBatches.kept s) c.self.view_is

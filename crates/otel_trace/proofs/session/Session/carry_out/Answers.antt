@@ -1,7 +1,7 @@
 use Rattle.std.proofs.Common.{IfOk, OnErr, subst}
 use Rattle.otel_trace.specs.Commands.{plain_command}
 use Rattle.otel_trace.specs.SessionDelivery.{SessionState, Steps, Rests}
-use Rattle.otel_trace.proofs.session.Session.answer.Goals as goal
+use Rattle.otel_trace.proofs.session.Session.carry_out.Goals as goal
 
 pub returns-clause-ok : goal.returns-clause-ok
 returns-clause-ok g c = subst (λ (s : SessionState g.row.P.Denot). IfOk c.carry_out.result (λ answer. Steps g.P.SpanProcessor.told g.P.SpanProcessor.end_gives s.scope s.provider s.spans (plain_command c.args.command) answer c.carry_out.new.provider c.carry_out.new.spans)) c.self.view_is c.carry_out.ensures.ok

@@ -1,6 +1,0 @@
-use Rattle.std.proofs.Common.{◌≡◌, take, drop}
-use Rattle.std.specs.List.{flat_map}
-use Rattle.otel_trace.proofs.exported.copies_since.Given as goal
-
-abbrev pub invariant-loop-batch : goal.invariant-loop-batch
-invariant-loop-batch l = l.spans.items ≡ flat_map (λ batch. batch.items) (take l.batch-index (drop l.shown l.batches))
