@@ -1,13 +1,12 @@
 -- What stands in the output behind replies, and behind a whole text.
-use Rattle.std.proofs.Common.{subst, Some, None, Result, Ok, Err, is_ok, not, ◌≡◌, ℕ, List, [], ◌∷◌, ◌++◌, false, sym, ◌∙◌, ap, append-nil, append_assoc}
+use Rattle.std.proofs.Common.{subst, Result, Ok, Err, is_ok, not, ◌≡◌, ℕ, List, [], ◌∷◌, ◌++◌, false, sym, ◌∙◌, ap, append-nil, append_assoc}
 use Rattle.std.proofs.lemmas.List.Concat.{flat_map-append}
 use Rattle.otel_base.specs.declared.error.OTelSdkError.{OTelSdkError}
 use Rattle.otel_batch.specs.PlainSpanData.{PlainSpanData}
 use Rattle.opentelemetry_sdk.specs.ProcessorTelling.{ProcessorTelling}
 use Rattle.otel_trace.specs.OpenSpans.{EndGives}
-use Rattle.otel_trace.specs.SessionDelivery.{SessionState, Fed, FedUpTo, Closes}
+use Rattle.otel_trace.specs.SessionDelivery.{SessionState, Fed, Closes}
 use Rattle.otel_trace.specs.declared.session.FeedError.{FeedError}
-use Rattle.otel_trace.specs.declared.session.FeedError.TheVariants as feeds
 use Rattle.otel_trace.specs.AnswerText.{reply_text, replies_text}
 use Rattle.otel_trace.specs.PlainReply.{PlainReply, counts_refusals, NoneRefused}
 
@@ -22,16 +21,11 @@ pub none_refused_more : (replies : List PlainReply) (reply : PlainReply) → Non
 none_refused_more [] reply h k = (k, tt)
 none_refused_more (first ∷ replies) reply h k = (h.0, none_refused_more replies reply h.1 k)
 
--- a text that was fed up to its end, or to its first bad line
-pub fed_whole : {P : Type 0} (told : P → ProcessorTelling) (gives : EndGives P) (kept : P → List (List PlainSpanData)) (lost : P → ℕ) (old new : SessionState P) (bytes before now : List ℕ) (answer : Result (Unit {0}) FeedError)
-    → answer ≡ Ok tt → before ≡ [] → Fed told gives kept lost old bytes before answer now new → FedUpTo told gives kept lost old bytes None [] now new
-fed_whole {P} told gives kept lost old new bytes before now answer e b h =
-    subst (λ (l : List ℕ). FedUpTo told gives kept lost old bytes None l now new) b (subst (λ (r : Result (Unit {0}) FeedError). Fed told gives kept lost old bytes before r now new) e h)
-
-pub fed_to_line : {P : Type 0} (told : P → ProcessorTelling) (gives : EndGives P) (kept : P → List (List PlainSpanData)) (lost : P → ℕ) (old new : SessionState P) (bytes before now : List ℕ) (answer : Result (Unit {0}) FeedError) (n : ℕ)
-    → answer ≡ Err (feeds.Line n) → before ≡ [] → Fed told gives kept lost old bytes before answer now new → FedUpTo told gives kept lost old bytes (Some n) [] now new
-fed_to_line {P} told gives kept lost old new bytes before now answer n e b h =
-    subst (λ (l : List ℕ). FedUpTo told gives kept lost old bytes (Some n) l now new) b (subst (λ (r : Result (Unit {0}) FeedError). Fed told gives kept lost old bytes before r now new) e h)
+-- a text that was fed to a new output
+pub fed_anew : {P : Type 0} (told : P → ProcessorTelling) (gives : EndGives P) (kept : P → List (List PlainSpanData)) (lost : P → ℕ) (old new : SessionState P) (bytes before now : List ℕ) (answer said : Result (Unit {0}) FeedError)
+    → answer ≡ said → before ≡ [] → Fed told gives kept lost old bytes before answer now new → Fed told gives kept lost old bytes [] said now new
+fed_anew told gives kept lost old new bytes before now answer said e b h =
+    subst (λ (l : List ℕ). Fed told gives kept lost old bytes l said now new) b (subst (λ (r : Result (Unit {0}) FeedError). Fed told gives kept lost old bytes before r now new) e h)
 
 -- a session that closed well
 pub closed_well : {P : Type 0} (told : P → ProcessorTelling) (shuts : P → ℕ → Result (Unit {0}) OTelSdkError → P → Type 0) (kept : P → List (List PlainSpanData)) (session : SessionState P) (before now : List ℕ) (answer : Result (Unit {0}) OTelSdkError)

@@ -1,5 +1,5 @@
 -- A map whose keys are texts, seen as the spans of their names.
-use Rattle.std.proofs.Common.{◌≡◌, ℕ, Bool, true, false, cond, if◌then◌else◌, List, [], ◌∷◌, string_bytes, String, Option, Some, None, is_some, Result, Ok, Err, OnOk, OnErr, refl, sym, ◌∙◌, ap}
+use Rattle.std.proofs.Common.{◌≡◌, ℕ, Bool, true, false, cond, if◌then◌else◌, List, [], ◌∷◌, string_bytes, String, Option, Some, None, is_some, refl, sym, ◌∙◌, ap}
 use Rattle.std.specs.Ordering.{nat_cmp, is_eq}
 use Rattle.std.specs.declared.cmp.Ordering.{Ordering}
 use Rattle.std.specs.declared.cmp.Ordering.TheVariants.{Less, Equal, Greater}
@@ -47,16 +47,6 @@ put_same old new s span there put = λ q. put q ∙ put_there old s span q (is_n
 -- entries that stay
 pub same_entries : {Y : Type 0} (old new : List (String Y × PlainSpan)) → new ≡ old → SameSpans (by_name old) (by_name new)
 same_entries {Y} old new h = λ q. ap (λ (entries : List (String Y × PlainSpan)). named (by_name entries) q) h
-
--- what always holds holds on Ok
-pub always_on_ok : {T E : Type 0} {P : Type 0} (r : Result T E) → P → OnOk r P
-always_on_ok (Ok _) p = p
-always_on_ok (Err _) p = tt
-
--- what always holds holds on an error
-pub always_on_err : {T E : Type 0} {P : Type 0} (r : Result T E) → P → OnErr r P
-always_on_err (Ok _) p = tt
-always_on_err (Err _) p = p
 
 -- a name that is taken
 pub starts_taken : {P : Type 0} (gives : P → PlainSpan → PlainSpan → P → Type 0) (old : NamedSpans) (name : List ℕ) (p : ProviderState P) (scope : PlainScope) (called : List ℕ) (now : ℕ) (found : Option PlainSpan)

@@ -10,7 +10,7 @@ use Rattle.opentelemetry_sdk.specs.Provider.{ProviderState, TakesAndTells}
 use Rattle.opentelemetry_sdk.specs.SpanHistory.{PlainSpan}
 use Rattle.std.specs.declared.alloc.AllocError.{AllocError}
 use Rattle.otel_trace.specs.KeptBatches.{Appends}
-use Rattle.otel_trace.specs.OpenSpans.{MayStart, MayDeliver}
+use Rattle.otel_trace.specs.OpenSpans.{EndGives, MayStart, MayDeliver}
 use Rattle.otel_trace.specs.PlainReply.{PlainReply}
 use Rattle.otel_trace.specs.SessionDelivery.{SessionState, Shows, NoneLeft, session_batches, batches_of_first, exported_in, spans_in, unshown}
 
@@ -105,7 +105,7 @@ may_start_keeps {P} kept gives law old new scope called now (inl e) = appends_no
 may_start_keeps kept gives law old new scope called now (inr h) = start_keeps kept gives law old.is_shut _ _ old new _ _ _ h.1
 
 -- the same of an end
-asked_keeps : {P : Type 0} (told : P → ProcessorTelling) (kept : P → Batches) (gives : P → PlainSpanData → Result (Unit {0}) AllocError → P → Type 0)
+asked_keeps : {P : Type 0} (told : P → ProcessorTelling) (kept : P → Batches) (gives : EndGives P)
     → ((p : P) (span : PlainSpanData) (answer : Result (Unit {0}) AllocError) (q : P) → gives p span answer q → Appends (kept p) (kept q))
     → (span : PlainSpanData) (ps qs : List P) (rs : List (Result (Unit {0}) AllocError)) → Each (TakesAndTells told gives span) ps rs qs
     → Appends (batches_of_first kept ps) (batches_of_first kept qs)
@@ -116,7 +116,7 @@ asked_keeps told kept gives law span (p ∷ ps) qs [] h = absurd h
 asked_keeps told kept gives law span (p ∷ ps) [] (r ∷ rs) h = absurd h
 asked_keeps told kept gives law span (p ∷ ps) (q ∷ qs) (r ∷ rs) h = law p span r q h.0.0
 
-pub may_deliver_keeps : {P : Type 0} (told : P → ProcessorTelling) (kept : P → Batches) (gives : P → PlainSpanData → Result (Unit {0}) AllocError → P → Type 0)
+pub may_deliver_keeps : {P : Type 0} (told : P → ProcessorTelling) (kept : P → Batches) (gives : EndGives P)
     → ((p : P) (span : PlainSpanData) (answer : Result (Unit {0}) AllocError) (q : P) → gives p span answer q → Appends (kept p) (kept q))
     → (ps qs : List P) → MayDeliver told gives ps qs → Appends (batches_of_first kept ps) (batches_of_first kept qs)
 may_deliver_keeps told kept gives law ps qs (inl e) = appends_none _ _ (ap (batches_of_first kept) e)

@@ -29,10 +29,6 @@ pub record HasRead (text rest : List ℕ) (commands : List PlainCommand) (number
   pub count : number ≡ length before
   pub spelled : Spell before commands
 
--- nothing is read yet
-pub read_none : (text : List ℕ) → HasRead text text [] 0
-read_none text = record { before = []; parts = refl; count = refl; spelled = tt }
-
 -- what is read with the next line
 parts_more : (text rest line behind : List ℕ) (before : List (List ℕ)) → lines text ≡ before ++ lines rest → lines rest ≡ line ∷ lines behind → lines text ≡ (before ++ line ∷ []) ++ lines behind
 parts_more text rest line behind before parts next =

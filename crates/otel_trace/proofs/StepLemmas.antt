@@ -1,5 +1,5 @@
 -- What one command does to the spans of a session is what it demands of their histories.
-use Rattle.std.proofs.Common.{◌≡◌, ℕ, Bool, true, false, if◌then◌else◌, List, [], ◌∷◌, ◌++◌, map, Option, Some, None, is_some, Result, Ok, Err, IfOk, MatchBool, refl, sym, ◌∙◌, ap, subst}
+use Rattle.std.proofs.Common.{◌≡◌, ℕ, Bool, true, false, if◌then◌else◌, List, [], ◌∷◌, ◌++◌, map, Option, Some, None, is_some, MatchBool, refl, sym, ◌∙◌, ap, subst}
 use Rattle.std.specs.Option.{option_map}
 use Rattle.opentelemetry.specs.Plain.{PlainScope, text}
 use Rattle.otel_base.specs.declared.trace.span_limit.SpanLimits.{SpanLimits}
@@ -13,7 +13,7 @@ use Rattle.opentelemetry_sdk.proofs.Following.{EachFollows-same}
 use Rattle.opentelemetry_sdk.proofs.SpanLaws.{edited-recording, after-recording}
 use Rattle.otel_trace.specs.Commands.{start, attr, end}
 use Rattle.otel_trace.specs.OpenSpans.{NamedSpans, EndGives, named, is_name, PutsSpan, SameSpans, StartsNamed, EditsNamed, EndsNamed, identity_of, attr_answer, end_answer, start_answer}
-use Rattle.otel_trace.specs.SessionDelivery.{Histories, with_history, Give, SessionFrame, StartFound, NewSpan, AttrFound, EndFound, frame_with, Asked, Steps, Rests, end_delivers, root_context_of}
+use Rattle.otel_trace.specs.SessionDelivery.{Histories, with_history, Give, SessionFrame, StartFound, NewSpan, AttrFound, EndFound, frame_with, Asked, Steps, end_delivers, root_context_of}
 use Rattle.otel_trace.specs.declared.reply.SpanIdentity.{SpanIdentity}
 use Rattle.otel_trace.proofs.NamedLemmas.{put_same}
 
@@ -163,17 +163,3 @@ steps_start told ends gives scope p q old new span name moment given r t h = (
       (subst (λ (o : Option PlainSpan). StartsNamed gives old span p scope name moment o given new q) (give span) h) in
       ([], found.0, found.1, found.2, EachFollows-same told p.processors q.processors t, t),
 )
-
--- a refused start
-pub rests_start : {P : Type 0} (told : P → ProcessorTelling) (scope : PlainScope) (p q : ProviderState P) (old new : NamedSpans)
-    → q ≡ record p { processors = q.processors; id_generator = q.id_generator } → map told q.processors ≡ map told p.processors → SameSpans old new → Rests told scope p old q new
-rests_start told scope p q old new r t same = (frame_rest p q scope r, same, t)
-
--- a refusal that leaves the provider
-pub rests_same : {P : Type 0} (told : P → ProcessorTelling) (scope : PlainScope) (p q : ProviderState P) (old new : NamedSpans) → q ≡ p → SameSpans old new → Rests told scope p old q new
-rests_same {P} told scope p q old new e same = (ap (λ (r : ProviderState P). frame_with r scope) e, same, ap (λ (r : ProviderState P). map told r.processors) e)
-
--- what follows on Ok
-pub if_ok_map : {T E : Type 0} {A B : T → Type 0} (r : Result T E) → ((x : T) → A x → B x) → IfOk r A → IfOk r B
-if_ok_map (Ok x) f h = f x h
-if_ok_map (Err e) f h = tt

@@ -245,7 +245,7 @@ Closes {P} told gives kept session before answer now = (provider : ProviderState
     × ShutsIfOpen told gives session.provider 5_000_000_000 shutdown provider
     × (((answer ≡ shutdown) × (now ≡ before ++ span_lines (unshown kept (record session { provider = provider })))) ⊎ ((answer ≡ or_no_memory shutdown) × (now ≡ before)))
 
--- a text was fed whole to a session, which then closed well
+-- a text was fed to a session, whole or up to its first bad line, and the session closed well
 abbrev pub Finishes : {P : Type 0} → (P → ProcessorTelling) → EndGives P → (P → ℕ → Result (Unit {0}) OTelSdkError → P → Type 0) → (P → List (List PlainSpanData)) → (P → ℕ) → SessionState P → List ℕ → Option ℕ → List ℕ → Type 0
 Finishes {P} told gives shuts kept lost session bytes bad_line now = (fed : List ℕ) × (after : SessionState P)
     × FedUpTo told gives kept lost session bytes bad_line [] fed after × Closes told shuts kept after fed (Ok tt) now

@@ -12,7 +12,8 @@ use opentelemetry_sdk::trace::{ProcessorOf, SimpleSpanProcessor, SpanProcessor};
 use otel_batch::trace::{ExporterOf, InMemorySpanExporter, SpanData, SpanExporter};
 use std::alloc::{AllocError, Global};
 
-/// A processor whose exporter may keep its batches. Where a span starts or ends, batches come behind those that are kept.
+/// A processor whose exporter may keep its batches. Where a span starts or ends, batches may only come behind those that are
+/// kept.
 pub trait KeepsBatches: SpanProcessor {
     /// The batches that are kept; none where the exporter keeps none.
     ghost kept: { Self → List (List PlainSpanData) };
@@ -26,8 +27,10 @@ pub trait KeepsBatches: SpanProcessor {
     fn lost_batches(&self) -> u64
         ensures { result ≡ lost self.now };
 
+    /// A start of a span takes back no batch.
     ghost start_appends: { (p : Self) (span : PlainSpan) (cx : PlainContext) (edited : PlainSpan) (q : Self) → Self.start_gives p span cx edited q → Appends (kept p) (kept q) };
 
+    /// Nor does an end.
     ghost end_appends: { (p : Self) (span : PlainSpanData) (answer : Result (Unit {0}) AllocError) (q : Self) → Self.end_gives p span answer q → Appends (kept p) (kept q) };
 }
 

@@ -1,8 +1,8 @@
 //! The text that a session is fed, read as commands. Reading stops at the first line that is no command.
 
-ghost use Rattle.std.specs.Prelude.{◌≡◌, ◌≢◌, ℕ, ◌^◌, ◌<◌, List, [], ◌∷◌, ◌++◌, length, Option, None, Some, IfOk, MatchOption, All, codes, position, ◌==◌};
+ghost use Rattle.std.specs.Prelude.{◌≡◌, ℕ, ◌<◌, List, [], ◌∷◌, ◌++◌, length, Option, None, Some, IfOk, MatchOption, codes, position, ◌==◌};
 ghost use Rattle.std.specs.Str.Lines.{lines as lines_of, strip_carriage_return};
-ghost use Rattle.otel_trace.specs.Commands.{PlainCommand, plain_command, plain_commands};
+ghost use Rattle.otel_trace.specs.Commands.{PlainCommand, plain_commands};
 ghost use Rattle.otel_trace.specs.Lines.{IsField, IsMoment, LineGives, FieldsGive, TextSpells};
 
 use crate::command::Command;

@@ -27,7 +27,7 @@ const REFUSED: u8 = 2;
 /// How a session over the whole input ended.
 #[derive(Debug, Drop)]
 struct Outcome {
-    /// The texts of the replies.
+    /// The texts of the replies, and the lines of closing.
     text: Vec<u8>,
     /// The first bad line.
     bad_line: Option<u64>,

@@ -1,8 +1,7 @@
 //! The texts of replies. Each reply's text is put together in a `String` of its own, which a refusal for memory leaves
 //! unfinished, and is then written whole by `write_text` or not at all.
 
-ghost use Rattle.std.specs.Prelude.{◌≡◌, ◌++◌, ◌∷◌, [], ℕ, ◌<◌, length, take, IfOk, OnOk, OnErr, string_bytes, vec_len};
-ghost use Rattle.std.specs.Fmt.{decimal};
+ghost use Rattle.std.specs.Prelude.{◌≡◌, ◌++◌, ◌∷◌, [], IfOk, OnOk, OnErr, string_bytes};
 ghost use Rattle.std.specs.List.{flat_map};
 ghost use Rattle.opentelemetry.specs.PlainValues.{plain_status};
 ghost use Rattle.otel_trace.specs.AnswerText.{answer_line};

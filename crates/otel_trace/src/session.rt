@@ -1,11 +1,10 @@
 //! A session: commands against one provider, each with a reply. What its commands deliver to the exporters is stated by
 //! the histories of its spans, apart from the code that fills them.
 
-ghost use Rattle.std.specs.Prelude.{◌≡◌, ◌++◌, ℕ, Bool, List, [], Option, drop, false, length, map, IfErr, IfOk, MatchResult, OnOk, OnErr, codes, string_bytes};
+ghost use Rattle.std.specs.Prelude.{◌≡◌, ◌++◌, ℕ, Bool, [], Option, drop, false, length, map, IfErr, IfOk, MatchResult, OnOk, OnErr, codes, string_bytes};
 ghost use Rattle.std.specs.List.{flat_map};
 ghost use Rattle.opentelemetry.specs.Plain.{text};
-ghost use Rattle.opentelemetry_sdk.specs.Provider.{named as scope_named};
-ghost use Rattle.opentelemetry_sdk.specs.Provider.{root_cx};
+ghost use Rattle.opentelemetry_sdk.specs.Provider.{named as scope_named, root_cx};
 ghost use Rattle.opentelemetry_sdk.specs.SpanHistory as edits;
 ghost use Rattle.otel_trace.specs.Commands.{plain_command};
 ghost use Rattle.otel_trace.specs.AnswerText.{answer_line};
@@ -184,7 +183,8 @@ impl<P: KeepsBatches> Session<P> {
         write_reply(self.alloc, output, self.unshown(), answer)
     }
 
-    /// Carries one command out. On an error it was carried out or not, and what it exported is left for the next reply.
+    /// Carries one command out. It is also an error where the first processor's exporter lost a batch meanwhile. On an error
+    /// the command was carried out or not, and what it exported is left for the next reply.
     fn answer(&mut self, command: Command) -> Result<Answer, AllocError>
         ensures ok { IfOk result (λ answer. Steps P.told P.end_gives self.old.scope self.old.provider self.old.spans (plain_command command) answer self.new.provider self.new.spans × LosesNone P.lost self.old self.new) }
         ensures err { OnErr result (MayStep P.told P.end_gives self.old.scope self.old.provider self.old.spans (plain_command command) self.new.provider self.new.spans) }
@@ -199,7 +199,7 @@ impl<P: KeepsBatches> Session<P> {
         Ok(answer)
     }
 
-    /// Carries one command out, also where a batch was lost.
+    /// Carries one command out; a lost batch is no error.
     fn carry_out(&mut self, command: Command) -> Result<Answer, AllocError>
         ensures ok { IfOk result (λ answer. Steps P.told P.end_gives self.old.scope self.old.provider self.old.spans (plain_command command) answer self.new.provider self.new.spans) }
         ensures err { OnErr result (Rests P.told self.old.scope self.old.provider self.old.spans self.new.provider self.new.spans) }
@@ -278,7 +278,7 @@ fn unshown_by_first<P: KeepsBatches>(processors: &[P], shown: usize) -> &[Vec<Sp
     batches_since(kept_by_first(processors), shown)
 }
 
-/// Carries one command out.
+/// The same on the parts of a session.
 fn carry_out<P: KeepsBatches>(
     tracer: &SdkTracer,
     provider: &mut ProviderOf<P>,

@@ -1,8 +1,7 @@
 //! The entries of a baggage in a map that keeps their order, and the number of bytes that they count for.
 
-ghost use Rattle.std.specs.Prelude.{◌≡◌, [], ℕ, List, ◌+◌, ◌-◌, ◌^◌, ◌<◌, ◌≤◌, ◌↔◌, min, length, OnOk, OnErr, IfOk, IfSome, IsNone, IsErrOf, is_some, string_bytes, Some, None};
-ghost use Rattle.std.specs.Option.{option_map, option_copied, option_map_or};
-ghost use Rattle.indexmap.specs.IndexMap.{index_map_len};
+ghost use Rattle.std.specs.Prelude.{◌≡◌, [], ℕ, List, ◌+◌, ◌-◌, ◌^◌, ◌<◌, ◌≤◌, ◌↔◌, min, length, OnOk, OnErr, IfOk, IfSome, IsNone, string_bytes, Some, None};
+ghost use Rattle.std.specs.Option.{option_map};
 ghost use Rattle.opentelemetry.specs.Baggage.{value_and_metadata, entry_bytes, baggage_bytes, entry_at, with_entry, without_entry, plain_entries, BreaksLimit, IsWithinLimits, HasDistinctNames};
 ghost use Rattle.opentelemetry.specs.SameParts.{same_baggage};
 

@@ -2,13 +2,12 @@
 //! and shuts the processors down (OpenTelemetry specification, "Tracer Provider"). It is handed in wherever a span
 //! starts or ends, and must be spent by `close`.
 
-ghost use Rattle.std.specs.Prelude.{◌≡◌, ℕ, ◌-◌, ◌≤◌, ◌↔◌, List, length, map, replicate, vec_len, false, true, Ok, IfErr, IfOk, IsOk, IsErrOf, string_bytes};
+ghost use Rattle.std.specs.Prelude.{◌≡◌, ◌-◌, ◌≤◌, ◌↔◌, length, map, replicate, vec_len, false, true, Ok, IfErr, IfOk, IsOk, IsErrOf, string_bytes};
 ghost use Rattle.std.specs.Bool.{OnTrue, OnFalse};
 ghost use Rattle.std.specs.Duration.{as_nanos};
 ghost use Rattle.otel_base.specs.Ids.{next_span_id, next_trace_id};
 ghost use Rattle.otel_batch.specs.PlainSpanData.{PlainSpanData};
 ghost use Rattle.opentelemetry_sdk.specs.Each.{AskedAll, PassedThrough};
-ghost use Rattle.opentelemetry_sdk.specs.ProcessorTelling.{EachFollows};
 ghost use Rattle.opentelemetry_sdk.specs.Provider.{TakesAndTells, GivesAndKeeps, IsInternalFailure, ShutsDown, named};
 ghost use Rattle.opentelemetry_sdk.specs.SpanHistory.{IsEdited, ended_at};
 
@@ -144,7 +143,7 @@ impl<P: SpanProcessor> ProviderOf<P> {
         start_each(&mut self.processors, span, cx);
     }
 
-    /// A span has ended: each processor gets its copy, the last one the original. How many refused theirs.
+    /// A span has ended: each processor gets its copy, the last one the original. The answer is how many refused.
     pub(crate) fn end_each(&mut self, copies: Vec<SpanData>, original: SpanData) -> usize
         requires { copies.items ≡ replicate (length self.old.processors - 1) original }
         ensures asked { AskedAll (TakesAndTells P.told P.end_gives original) self.old.processors self.new.processors result }
@@ -261,7 +260,7 @@ fn end_each<P: SpanProcessor>(
     }
 }
 
-/// Each of these processors gets a copy, also after one refused. How many refused.
+/// Each of these processors gets a copy, also after one refused. The answer is how many refused.
 fn end_copies<P: SpanProcessor>(processors: &mut [P], mut copies: Vec<SpanData>) -> usize
     requires { vec_len copies ≡ length processors.old }
     ensures asked { (d : PlainSpanData) → copies.items ≡ replicate (length processors.old) d → AskedAll (TakesAndTells P.told P.end_gives d) processors.old processors.new result }
@@ -277,7 +276,7 @@ fn end_copies<P: SpanProcessor>(processors: &mut [P], mut copies: Vec<SpanData>)
     refused
 }
 
-/// Each is shut down, also after one failed. How many failed.
+/// Each is shut down, also after one failed. The answer is how many failed.
 fn shutdown_each<P: SpanProcessor>(processors: &mut [P], timeout: Duration) -> usize
     ensures { AskedAll (GivesAndKeeps P.told (λ p. P.shutdown_gives p (as_nanos timeout))) processors.old processors.new result }
 {

@@ -46,7 +46,7 @@ impl Span {
         }
     }
 
-    /// A span that is none.
+    /// A span that records nothing and has the empty context.
     pub(crate) fn not_recording(span_limits: SpanLimits) -> Span
         ensures { result ≡ history.not_recording empty_span_context span_limits }
     {

@@ -14,7 +14,7 @@
 //! telling, and a relation for each call between the processor before it, what it is given and answers, and the
 //! processor after it.
 
-ghost use Rattle.std.specs.Prelude.{ℕ, Result};
+ghost use Rattle.std.specs.Prelude.{◌≡◌, ℕ, Result};
 ghost use Rattle.std.specs.Duration.{as_nanos};
 ghost use Rattle.std.specs.declared.alloc.AllocError.{AllocError};
 ghost use Rattle.opentelemetry.specs.Plain.{PlainContext};
@@ -22,7 +22,6 @@ ghost use Rattle.otel_base.specs.declared.error.OTelSdkError.{OTelSdkError};
 ghost use Rattle.otel_batch.specs.PlainSpanData.{PlainSpanData};
 ghost use Rattle.opentelemetry_sdk.specs.ProcessorTelling.{ProcessorTelling, TakesNothing, TakesSpan, silent};
 ghost use Rattle.opentelemetry_sdk.specs.SpanHistory.{PlainSpan, IsEdited};
-ghost use Rattle.std.specs.Prelude.{◌≡◌};
 
 use crate::trace::Span;
 use opentelemetry::Context;

@@ -2,7 +2,7 @@
 //! (OpenTelemetry specification, "Specifying resource information via an environment variable" and
 //! "SDK-provided resource attributes").
 
-ghost use Rattle.std.specs.Prelude.{◌≡◌, ◌++◌, ◌∷◌, [], None, ℕ, List, IfOk, OnOk, OnErr, string_bytes};
+ghost use Rattle.std.specs.Prelude.{◌≡◌, ◌++◌, None, ℕ, List, IfOk, OnOk, OnErr, string_bytes};
 ghost use Rattle.std.specs.Option.{option_map};
 ghost use Rattle.opentelemetry.specs.Plain.{PlainKeyValue};
 ghost use Rattle.opentelemetry.specs.PlainValues.{plain_value};

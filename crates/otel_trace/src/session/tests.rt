@@ -248,8 +248,21 @@ fn deliver_one(alloc: Global, provider: &mut SdkTracerProvider) -> Result<(), Al
 #[test]
 fn a_session_shows_no_span_from_before_it(rt: HostRuntime) -> Result<(), Fail> {
     let provider = used_provider(rt.alloc())?;
+    let kept = provider.processors().first().map_or(0, |first| first.batches().len());
     let mut output = Vec::new(rt.alloc());
-    assert!(rt; closed(rt.alloc(), provider, &mut output)?.is_ok());
-    assert!(rt; output.is_empty());
-    Ok(())
+    match Session::new(rt.alloc(), provider) {
+        Ok(mut session) => {
+            let fed = session.feed(b"end x 5\n", &mut output);
+            let closed = session.close(&mut output);
+            assert_eq!(rt; kept, 1);
+            assert_eq!(rt; fed, Ok(()));
+            assert!(rt; closed.is_ok());
+            assert_eq!(rt; output.as_slice(), "no such span\n".as_bytes());
+            Ok(())
+        }
+        Err((provider, error)) => {
+            let _ = provider.close();
+            Err(error.into())
+        }
+    }
 }

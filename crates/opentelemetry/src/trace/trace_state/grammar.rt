@@ -1,9 +1,9 @@
 //! The text form of a trace state (W3C Trace Context, section 3.3): which keys and values are well formed, and what
 //! stands between the commas of a text. None of these calls takes memory.
 
-ghost use Rattle.std.specs.Prelude.{◌≡◌, ◌<◌, ◌∷◌, ◌++◌, [], List, ℕ, Some, None, length, reverse, slice_index, ◌-◌, ◌==◌, MatchOption, IfSome, IsTrue};
+ghost use Rattle.std.specs.Prelude.{◌≡◌, ◌<◌, ◌∷◌, List, Some, None, length, reverse, slice_index, ◌-◌, ◌==◌, MatchOption, IfSome};
 ghost use Rattle.std.specs.List.{list_all, position_or_len, slice_split};
-ghost use Rattle.opentelemetry.specs.Tracestate.{is_key_start, is_key_byte, is_key, is_value_byte, is_value, is_blank, trim_front, trimmed, is_equals, pair_of, pair_fault, piece_fault, pieces_left, first_fault, members};
+ghost use Rattle.opentelemetry.specs.Tracestate.{is_key_start, is_key_byte, is_key, is_value_byte, is_value, trim_front, trimmed, is_equals, pair_of, pair_fault, piece_fault, pieces_left, first_fault, members};
 
 use super::TraceStateError;
 

@@ -1,7 +1,7 @@
 //! Lists of pairs: read from a text, tested, copied without a key, and written as a header.
 
 ghost use Rattle.std.specs.Prelude.{◌≡◌, ◌∷◌, ◌++◌, [], Some, None, map, string_bytes, IfOk, OnOk, if◌then◌else◌, nat_lt, option_map};
-ghost use Rattle.std.specs.List.{filter, join_with_byte};
+ghost use Rattle.std.specs.List.{filter};
 ghost use Rattle.opentelemetry.specs.PlainValues.{plain_pair};
 ghost use Rattle.opentelemetry.specs.Tracestate.{first_fault, first_pair_fault, is_some_text, members, member_text, pair_of, piece_fault, tracestate_text, value_of_key, without_key};
 

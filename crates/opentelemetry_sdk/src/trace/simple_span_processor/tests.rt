@@ -5,7 +5,8 @@ use otel_base::error::OTelSdkError;
 use otel_batch::trace::ExporterBox;
 use std::test::Fail;
 
-/// An exporter whose shutdown answers the timeout that it was given, and how often it was asked for one, in hundreds.
+/// An exporter whose shutdown answers, as a time that ran out, the timeout in seconds and a hundred for each time that it was
+/// asked.
 #[derive(Drop)]
 struct Stuck {
     asked: u64,

@@ -8,8 +8,8 @@ use otel_base::error::OTelSdkError;
 use std::alloc::{AllocError, Global};
 use std::test::Fail;
 
-/// An exporter of a caller's own: each answer says, as a time that ran out, what it was handed, and of a shutdown or a flush
-/// how often it was asked for one, in hundreds.
+/// An exporter of a caller's own: each answer says, as a time that ran out, what it was handed; that of a shutdown or a flush
+/// has a hundred seconds more for each time that it was asked for either.
 #[derive(Drop)]
 struct Echo {
     asked: u64,
@@ -90,7 +90,14 @@ fn batches_are_kept_in_order(rt: HostRuntime) -> Result<(), Fail> {
         assert_eq!(rt; batch[0].start_time.0, moment);
     }
     assert_eq!(rt; memory.lost_batches(), 0);
+    Ok(())
+}
+
+#[test]
+fn an_exporter_in_memory_has_nothing_to_send(rt: HostRuntime) -> Result<(), Fail> {
+    let mut exporter = ExporterBox::Memory(InMemorySpanExporter::new(rt.alloc()));
     assert!(rt; exporter.force_flush().is_ok());
+    assert!(rt; exporter.shutdown_with_timeout(Duration::from_secs(7)).is_ok());
     assert!(rt; exporter.shutdown().is_ok());
     Ok(())
 }

@@ -1,7 +1,8 @@
 use Rattle.std.proofs.Common.{◌≡◌, ◌∙◌, sym, ap, is_some, ℕ, Some, None, refl, subst, Option, Bool, true, false, rules}
 use Rattle.otel_batch.specs.PlainSpanData.{PlainSpanData}
 use Rattle.opentelemetry_sdk.specs.SpanHistory.{PlainSpan}
-use Rattle.otel_trace.proofs.NamedLemmas.{named-get, puts_span, put_same, same_entries, always_on_err}
+use Rattle.otel_trace.proofs.NamedLemmas.{named-get, puts_span, put_same, same_entries}
+use Rattle.otel_trace.proofs.Clauses.{always_on_err}
 use Rattle.otel_trace.specs.OpenSpans.{EndsNamed, PutsSpan, named, by_name, refusals}
 use Rattle.otel_trace.proofs.open_spans.end_in.Goals as goal
 

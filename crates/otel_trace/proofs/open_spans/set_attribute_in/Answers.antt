@@ -1,6 +1,7 @@
 use Rattle.std.proofs.Common.{◌≡◌, ◌∙◌, sym, ap, Some, None, rules, refl, subst, Option, Bool}
 use Rattle.opentelemetry_sdk.specs.SpanHistory.{PlainSpan, set_attribute}
-use Rattle.otel_trace.proofs.NamedLemmas.{named-get, puts_span, put_same, same_entries, always_on_err}
+use Rattle.otel_trace.proofs.NamedLemmas.{named-get, puts_span, put_same, same_entries}
+use Rattle.otel_trace.proofs.Clauses.{always_on_err}
 use Rattle.otel_trace.specs.OpenSpans.{EditsNamed, PutsSpan, named, by_name}
 use Rattle.otel_trace.proofs.open_spans.set_attribute_in.Goals as goal
 

@@ -1,13 +1,13 @@
-use Rattle.std.proofs.Common.{◌≡◌, Err, not, sym, ◌∙◌, ap, rules}
+use Rattle.std.proofs.Common.{◌≡◌, Ok, Err, not, sym, ◌∙◌, ap, rules}
 use Rattle.otel_trace.specs.declared.session.FeedError.TheVariants as feeds
-use Rattle.otel_trace.proofs.FeedLemmas.{fed_whole, fed_to_line, closed_well}
+use Rattle.otel_trace.proofs.FeedLemmas.{fed_anew, closed_well}
 use Rattle.otel_trace.proofs.program.finish.Goals as goal
 
 pub returns-in-Ok : goal.returns-in-Ok
 returns-in-Ok g c = λ well. (
   c.feed-fed.new.output.items,
   c.feed-fed.new.self,
-  fed_whole g.P.SpanProcessor.told g.P.SpanProcessor.end_gives g.P.KeepsBatches.kept g.P.KeepsBatches.lost c.args.session c.feed-fed.new.self c.args.input.now c.new-text.result.items c.feed-fed.new.output.items c.feed-fed.result c.in-Ok.is c.new-text.ensures.items c.feed-fed.ensures,
+  fed_anew g.P.SpanProcessor.told g.P.SpanProcessor.end_gives g.P.KeepsBatches.kept g.P.KeepsBatches.lost c.args.session c.feed-fed.new.self c.args.input.now c.new-text.result.items c.feed-fed.new.output.items c.feed-fed.result (Ok tt) c.in-Ok.is c.new-text.ensures.items c.feed-fed.ensures,
   closed_well g.P.SpanProcessor.told g.P.SpanProcessor.shutdown_gives g.P.KeepsBatches.kept c.feed-fed.new.self c.feed-fed.new.output.items c.close.new.output.items c.close.result (ap not (sym c.is_ok-has_closed.ensures.value) ∙ well) c.close.ensures,
 )
 
@@ -16,6 +16,6 @@ returns-in-Err-Line g c =
     let is_line : c.feed-fed.result ≡ Err (feeds.Line c.in-Err-Line.line) = search rules in λ well. (
       c.feed-fed.new.output.items,
       c.feed-fed.new.self,
-      fed_to_line g.P.SpanProcessor.told g.P.SpanProcessor.end_gives g.P.KeepsBatches.kept g.P.KeepsBatches.lost c.args.session c.feed-fed.new.self c.args.input.now c.new-text.result.items c.feed-fed.new.output.items c.feed-fed.result c.in-Err-Line.line is_line c.new-text.ensures.items c.feed-fed.ensures,
+      fed_anew g.P.SpanProcessor.told g.P.SpanProcessor.end_gives g.P.KeepsBatches.kept g.P.KeepsBatches.lost c.args.session c.feed-fed.new.self c.args.input.now c.new-text.result.items c.feed-fed.new.output.items c.feed-fed.result (Err (feeds.Line c.in-Err-Line.line)) is_line c.new-text.ensures.items c.feed-fed.ensures,
       closed_well g.P.SpanProcessor.told g.P.SpanProcessor.shutdown_gives g.P.KeepsBatches.kept c.feed-fed.new.self c.feed-fed.new.output.items c.close.new.output.items c.close.result (ap not (sym c.is_ok-has_closed.ensures.value) ∙ well) c.close.ensures,
     )

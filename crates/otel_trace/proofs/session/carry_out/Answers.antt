@@ -7,7 +7,8 @@ use Rattle.otel_trace.specs.OpenSpans.{EditsNamed, named}
 use Rattle.otel_trace.specs.SessionDelivery.{Steps, batches_of_first}
 use Rattle.otel_trace.specs.declared.command.Command.{Command}
 use Rattle.otel_trace.specs.declared.reply.Answer.{Answer}
-use Rattle.otel_trace.proofs.StepLemmas.{if_ok_map, steps_start, steps_attr, steps_end}
+use Rattle.otel_trace.proofs.Clauses.{if_ok_map}
+use Rattle.otel_trace.proofs.StepLemmas.{steps_start, steps_attr, steps_end}
 use Rattle.otel_trace.proofs.ShownLemmas.{appends_none, may_start_keeps, may_deliver_keeps}
 use Rattle.otel_trace.proofs.session.carry_out.Goals as goal
 
