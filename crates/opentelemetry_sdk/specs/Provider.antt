@@ -75,11 +75,15 @@ abbrev pub DeliversIf : {P T E : Type 0} → (P → ProcessorTelling) → (P →
 DeliversIf told gives shut moment None ps qs n = (qs ≡ ps) × (n ≡ 0)
 DeliversIf told gives shut moment (Some recorded) ps qs n = Delivers told gives shut (ended_at moment recorded) ps qs n
 
--- the deliveries of an end
+-- the deliveries of an end that has this data: none at a shut provider
+abbrev pub end_delivers : Bool → PlainSpanData → ℕ → List Delivery
+end_delivers true span refused = []
+end_delivers false span refused = record { span = span; refused = refused } ∷ []
+
+-- the same of a span that may not be recording
 abbrev pub deliveries : Bool → ℕ → Option PlainSpanData → ℕ → List Delivery
 deliveries shut moment None n = []
-deliveries true moment (Some recorded) n = []
-deliveries false moment (Some recorded) n = record { span = ended_at moment recorded; refused = n } ∷ []
+deliveries shut moment (Some recorded) n = end_delivers shut (ended_at moment recorded) n
 
 -- the library of a name alone
 abbrev pub named : List ℕ → PlainScope

@@ -4,16 +4,16 @@ use Rattle.std.specs.Option.{option_map}
 use Rattle.opentelemetry.specs.Plain.{PlainScope, text}
 use Rattle.otel_base.specs.declared.trace.span_limit.SpanLimits.{SpanLimits}
 use Rattle.otel_batch.specs.PlainSpanData.{PlainSpanData}
-use Rattle.opentelemetry_sdk.specs.SpanHistory.{PlainSpan, SpanStart, SpanHistory, begun, over, Edit, set_attribute, recording, not_recording, data_of, span_of, IsEdited}
+use Rattle.opentelemetry_sdk.specs.SpanHistory.{PlainSpan, SpanHistory, begun, over, Edit, set_attribute, recording, not_recording, data_of, span_of, IsEdited}
 use Rattle.opentelemetry_sdk.specs.ProcessorTelling.{ProcessorTelling, Delivery, EachFollows}
 use Rattle.opentelemetry_sdk.specs.Each.{PassedThrough}
 use Rattle.opentelemetry.specs.PlainContexts.{empty_span_context}
-use Rattle.opentelemetry_sdk.specs.Provider.{ProviderState, Delivers, deliveries, root_context, root_start, root_span, after_root}
+use Rattle.opentelemetry_sdk.specs.Provider.{ProviderState, Delivers, end_delivers, root_context, root_start, root_span, after_root}
 use Rattle.opentelemetry_sdk.proofs.Following.{EachFollows-same}
 use Rattle.opentelemetry_sdk.proofs.SpanLaws.{edited-recording, after-recording}
 use Rattle.otel_trace.specs.Commands.{start, attr, end}
 use Rattle.otel_trace.specs.OpenSpans.{NamedSpans, EndGives, named, is_name, PutsSpan, SameSpans, StartsNamed, EditsNamed, EndsNamed, identity_of, attr_answer, end_answer, start_answer}
-use Rattle.otel_trace.specs.SessionDelivery.{Histories, with_history, Give, SessionFrame, StartFound, NewSpan, AttrFound, EndFound, frame_with, Asked, Steps, end_delivers, root_context_of}
+use Rattle.otel_trace.specs.SessionDelivery.{Histories, with_history, Give, SessionFrame, StartFound, NewSpan, AttrFound, EndFound, frame_with, Asked, Steps, root_context_of}
 use Rattle.otel_trace.specs.declared.reply.SpanIdentity.{SpanIdentity}
 use Rattle.otel_trace.proofs.NamedLemmas.{put_same}
 
@@ -42,13 +42,6 @@ attr_found histories old new name key value (Some (begun from edits)) answer e g
       give_put histories old new name (begun from (edits ++ edit ∷ [])) give (subst (λ (span : PlainSpan). PutsSpan old name span new) (edited-recording from edits edit) h.1),
     )
 
-deliveries_are : (shut : Bool) (from : SpanStart) (edits : List Edit) (moment n : ℕ) → deliveries shut moment (Some (data_of from edits from.start_time)) n ≡ end_delivers shut (data_of from edits moment) n
-deliveries_are true from edits moment n = refl
-deliveries_are false from edits moment n = refl
-
-no_deliveries : (shut : Bool) (moment n : ℕ) → deliveries shut moment None n ≡ []
-no_deliveries shut moment n = refl
-
 -- who was given the span of an end
 asked_one : {P : Type 0} (told : P → ProcessorTelling) (gives : EndGives P) (shut : Bool) (span : PlainSpanData) (ps qs : List P) (n : ℕ) → Delivers told gives shut span ps qs n → Asked told gives (end_delivers shut span n) ps qs
 asked_one told gives true span ps qs n h = ap (map told) h.0
@@ -76,7 +69,7 @@ end_found told gives frame histories old new name moment p q (Some (over context
       histories,
       (ap end_answer h.1, refl, refl),
       give_same histories old new give (put_same old new name (not_recording context limits) there h.2),
-      subst (λ (ds : List Delivery). EachFollows told ds p.processors q.processors) (no_deliveries p.is_shut moment h.0) h.3,
+      h.3,
       ap (map told) h.5.0,
     )
 end_found told gives frame histories old new name moment p q (Some (begun from edits)) answer s e give h = (
@@ -84,7 +77,7 @@ end_found told gives frame histories old new name moment p q (Some (begun from e
   with_history histories name (over from.span_context from.limits),
   (h.0, ap end_answer h.1, refl, refl, λ shut. shut_refuses_none told gives p.is_shut (data_of from edits moment) p.processors q.processors h.0 h.5 (sym s ∙ shut)),
   give_put histories old new name (over from.span_context from.limits) give h.2,
-  subst (λ (ds : List Delivery). EachFollows told ds p.processors q.processors) (deliveries_are p.is_shut from edits moment h.0 ∙ ap (λ (b : Bool). end_delivers b (data_of from edits moment) h.0) (sym s)) h.3,
+  subst (λ (b : Bool). EachFollows told (end_delivers b (data_of from edits moment) h.0) p.processors q.processors) (sym s) h.3,
   subst (λ (b : Bool). Asked told gives (end_delivers b (data_of from edits moment) h.0) p.processors q.processors) (sym s) (asked_one told gives p.is_shut (data_of from edits moment) p.processors q.processors h.0 h.5),
 )
 

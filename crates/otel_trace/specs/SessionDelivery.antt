@@ -12,7 +12,7 @@ use Rattle.opentelemetry_sdk.specs.SpanHistory.{SpanHistory, begun, over, Edit, 
 use Rattle.opentelemetry_sdk.specs.ProcessorTelling.{ProcessorTelling, Delivery, EachFollows}
 use Rattle.opentelemetry_sdk.specs.Each.{AskedAll}
 use Rattle.opentelemetry.specs.PlainContexts.{empty_span_context}
-use Rattle.opentelemetry_sdk.specs.Provider.{ProviderState, ShutsDown, TakesAndTells, root_span, root_span_context}
+use Rattle.opentelemetry_sdk.specs.Provider.{ProviderState, ShutsDown, TakesAndTells, end_delivers, root_span, root_span_context}
 use Rattle.otel_trace.specs.Commands.{PlainCommand, start, attr, end, plain_command, plain_commands}
 use Rattle.otel_trace.specs.KeptBatches.{Appends}
 use Rattle.otel_trace.specs.OpenSpans.{NamedSpans, EndGives, SameSpans, named, is_name}
@@ -52,11 +52,6 @@ root_context_of identity = root_span_context identity.trace_id identity.span_id 
 -- who the span of a shut provider is: nobody
 abbrev pub nobody : SpanIdentity
 nobody = record { trace_id = 0; span_id = 0; trace_flags = 0 }
-
--- the deliveries of an end at a provider: none where it is shut
-abbrev pub end_delivers : Bool → PlainSpanData → ℕ → List Delivery
-end_delivers true span refused = []
-end_delivers false span refused = record { span = span; refused = refused } ∷ []
 
 -- what a start makes of a new name: a span of its own, which the processors may edit at once; at a shut provider nobody
 abbrev pub NewSpan : SessionFrame → Bool → Histories → List ℕ → List ℕ → ℕ → Answer → Histories → Type 0
