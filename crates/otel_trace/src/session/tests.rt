@@ -248,7 +248,10 @@ fn deliver_one(alloc: Global, provider: &mut SdkTracerProvider) -> Result<(), Al
 #[test]
 fn a_session_shows_no_span_from_before_it(rt: HostRuntime) -> Result<(), Fail> {
     let provider = used_provider(rt.alloc())?;
-    let kept = provider.processors().first().map_or(0, |first| first.batches().len());
+    let kept = provider
+        .processors()
+        .first()
+        .map_or(0, |first| first.batches().len());
     let mut output = Vec::new(rt.alloc());
     match Session::new(rt.alloc(), provider) {
         Ok(mut session) => {

@@ -97,7 +97,11 @@ fn batches_are_kept_in_order(rt: HostRuntime) -> Result<(), Fail> {
 fn an_exporter_in_memory_has_nothing_to_send(rt: HostRuntime) -> Result<(), Fail> {
     let mut exporter = ExporterBox::Memory(InMemorySpanExporter::new(rt.alloc()));
     assert!(rt; exporter.force_flush().is_ok());
-    assert!(rt; exporter.shutdown_with_timeout(Duration::from_secs(7)).is_ok());
+    assert!(rt;
+        exporter
+            .shutdown_with_timeout(Duration::from_secs(7))
+            .is_ok()
+    );
     assert!(rt; exporter.shutdown().is_ok());
     Ok(())
 }
