@@ -5,7 +5,11 @@ use Rattle.std.proofs.Math.ListN.{set}
 use Rattle.std.proofs.Math.Seq.{take-append_seam}
 use Rattle.std.proofs.lemmas.List.{take_all, take_more, take_more_set, drop-set-lt, get_or-drop, drop-drop, length-drop, length-set}
 use Rattle.std.proofs.lemmas.Slice.{drop-append-drop}
-use Rattle.opentelemetry_sdk.specs.Each.{Each, AskedAll, errors, PassedThrough}
+use Rattle.opentelemetry.specs.Plain.{PlainContext}
+use Rattle.opentelemetry_sdk.specs.Each.{Each, AskedAll, errors}
+use Rattle.opentelemetry_sdk.specs.SpanHistory.{PlainSpan}
+use Rattle.opentelemetry_sdk.specs.Starting.{PassesThrough}
+use Rattle.opentelemetry_sdk.specs.declared.trace.span_processor.SpanProcessor.{Ghosts}
 
 -- one more place
 Each-push : {P R : Type 0} (G : P → R → P → Type 0) (ps : List P) (rs : List R) (qs : List P) {p : P} {r : R} {q : P} → Each G ps rs qs → G p r q → Each G (ps ++ p ∷ []) (rs ++ r ∷ []) (qs ++ q ∷ [])
@@ -81,20 +85,21 @@ map_kept f [] i d x h e = absurd (omega arith)
 map_kept f (y ∷ xs) zero d x h e = ap (λ z. z ∷ map f xs) e
 map_kept f (y ∷ xs) (suc i) d x h e = ap (λ zs. f y ∷ zs) (map_kept f xs i d x (omega arith) e)
 
--- a value passed through one processor more
-PassedThrough-push : {P X : Type 0} (G : P → X → X → P → Type 0) (x : X) (ps qs : List P) (y z : X) (p q : P) → PassedThrough G x ps qs y → G p y z q → PassedThrough G x (ps ++ p ∷ []) (qs ++ q ∷ []) z
-PassedThrough-push {P} {X} G x [] [] y z p q e h = (z, subst (λ (w : X). G p w z q) e h, refl)
-PassedThrough-push G x [] (r ∷ qs) y z p q e h = absurd e
-PassedThrough-push G x (r ∷ ps) [] y z p q e h = absurd e
-PassedThrough-push G x (r ∷ ps) (s ∷ qs) y z p q e h = (e.0, e.1, PassedThrough-push G e.0 ps qs y z p q e.2 h)
+-- a span passed through one processor more
+PassesThrough-push : {P : Type 0} (calls : Ghosts P) (cx : PlainContext) (x : PlainSpan) (ps qs : List P) (y z : PlainSpan) (p q : P)
+    → PassesThrough calls cx x ps qs y → calls.start_gives p y cx z q → PassesThrough calls cx x (ps ++ p ∷ []) (qs ++ q ∷ []) z
+PassesThrough-push calls cx x [] [] y z p q e h = (z, subst (λ (w : PlainSpan). calls.start_gives p w cx z q) e h, refl)
+PassesThrough-push calls cx x [] (r ∷ qs) y z p q e h = absurd e
+PassesThrough-push calls cx x (r ∷ ps) [] y z p q e h = absurd e
+PassesThrough-push calls cx x (r ∷ ps) (s ∷ qs) y z p q e h = (e.0, e.1, PassesThrough-push calls cx e.0 ps qs y z p q e.2 h)
 
 -- the same in a loop by index
-pub passed_next : {P X : Type 0} (G : P → X → X → P → Type 0) (x : X) (init now : List P) (i : ℕ) (d q : P) (y z : X)
-    → i < length init → length now ≡ length init → drop i now ≡ drop i init → PassedThrough G x (take i init) (take i now) y → G (get_or now i d) y z q
-    → PassedThrough G x (take (i + 1) init) (take (i + 1) (set now i q)) z
-passed_next G x init now i d q y z short same rest passed h =
+pub passes_next : {P : Type 0} (calls : Ghosts P) (cx : PlainContext) (x : PlainSpan) (init now : List P) (i : ℕ) (d q : P) (y z : PlainSpan)
+    → i < length init → length now ≡ length init → drop i now ≡ drop i init → PassesThrough calls cx x (take i init) (take i now) y
+    → calls.start_gives (get_or now i d) y cx z q → PassesThrough calls cx x (take (i + 1) init) (take (i + 1) (set now i q)) z
+passes_next calls cx x init now i d q y z short same rest passed h =
     rw (take_more init i d short, take_more_set now i q (omega arith))
-    (PassedThrough-push G x (take i init) (take i now) y z (get_or init i d) q passed (subst (λ w. G w y z q) (at_front init now i d rest) h))
+    (PassesThrough-push calls cx x (take i init) (take i now) y z (get_or init i d) q passed (subst (λ w. calls.start_gives w y cx z q) (at_front init now i d rest) h))
 
 -- all but the last were asked, and then the last
 pub asked_last : {P T E : Type 0} (G : P → Result T E → P → Type 0) (init front : List P) (last n m : ℕ) (d q : P) (r : Result T E)

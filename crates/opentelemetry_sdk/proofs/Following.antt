@@ -4,9 +4,12 @@ use Rattle.std.proofs.lemmas.List.{map-append}
 use Rattle.std.proofs.lemmas.List.Elements.{filter-append}
 use Rattle.otel_batch.specs.PlainSpanData.{PlainSpanData}
 use Rattle.otel_batch.specs.Telling.{Tells}
-use Rattle.opentelemetry_sdk.specs.ProcessorTelling.{ProcessorTelling, Delivery, TakesSpan, HandsOver, Follows, EachFollows, Reaches, one_each, spans_of, is_sampled}
+use Rattle.std.specs.declared.alloc.AllocError.{AllocError}
+use Rattle.opentelemetry_sdk.specs.ProcessorTelling.{ProcessorTelling, TakesSpan, HandsOver, is_sampled}
+use Rattle.opentelemetry_sdk.specs.Deliveries.{Delivery, Follows, EachFollows, Reaches, one_each, spans_of}
+use Rattle.opentelemetry_sdk.specs.declared.trace.span_processor.SpanProcessor.{Ghosts}
 use Rattle.opentelemetry_sdk.specs.Each.{Each, errors}
-use Rattle.opentelemetry_sdk.specs.Provider.{TakesAndTells, DeliversIf, deliveries}
+use Rattle.opentelemetry_sdk.specs.Ending.{TakesAndTells, DeliversIf, deliveries}
 use Rattle.opentelemetry_sdk.specs.SpanHistory.{ended_at}
 
 -- one telling after another is the telling of both
@@ -87,23 +90,23 @@ follows_append a b c xs ys h k = (
 )
 
 -- each processor of a list, one list of deliveries after another
-pub EachFollows-append : {P : Type 0} (told : P → ProcessorTelling) (xs ys : List Delivery) (ps qs us : List P) → EachFollows told xs ps qs → EachFollows told ys qs us → EachFollows told (xs ++ ys) ps us
-EachFollows-append told xs ys [] [] [] h k = tt
-EachFollows-append told xs ys [] [] (u ∷ us) h k = absurd k
-EachFollows-append told xs ys [] (q ∷ qs) us h k = absurd h
-EachFollows-append told xs ys (p ∷ ps) [] us h k = absurd h
-EachFollows-append told xs ys (p ∷ ps) (q ∷ qs) [] h k = absurd k
-EachFollows-append told xs ys (p ∷ ps) (q ∷ qs) (u ∷ us) h k = (follows_append (told p) (told q) (told u) xs ys h.0 k.0, EachFollows-append told xs ys ps qs us h.1 k.1)
+pub EachFollows-append : {P : Type 0} (calls : Ghosts P) (xs ys : List Delivery) (ps qs us : List P) → EachFollows calls xs ps qs → EachFollows calls ys qs us → EachFollows calls (xs ++ ys) ps us
+EachFollows-append calls xs ys [] [] [] h k = tt
+EachFollows-append calls xs ys [] [] (u ∷ us) h k = absurd k
+EachFollows-append calls xs ys [] (q ∷ qs) us h k = absurd h
+EachFollows-append calls xs ys (p ∷ ps) [] us h k = absurd h
+EachFollows-append calls xs ys (p ∷ ps) (q ∷ qs) [] h k = absurd k
+EachFollows-append calls xs ys (p ∷ ps) (q ∷ qs) (u ∷ us) h k = (follows_append (calls.told p) (calls.told q) (calls.told u) xs ys h.0 k.0, EachFollows-append calls xs ys ps qs us h.1 k.1)
 
 -- processors that tell what they told follow no delivery
-pub EachFollows-same : {P : Type 0} (told : P → ProcessorTelling) (ps qs : List P) → map told qs ≡ map told ps → EachFollows told [] ps qs
-EachFollows-same told [] [] e = tt
-EachFollows-same told [] (q ∷ qs) e = cc
-EachFollows-same told (p ∷ ps) [] e = cc
-EachFollows-same told (p ∷ ps) (q ∷ qs) e =
-    let first : told q ≡ told p = cc in
-    let others : map told qs ≡ map told ps = cc in
-    (subst (λ (t : ProcessorTelling). Follows (told p) [] t) (sym first) (follows_nothing (told p)), EachFollows-same told ps qs others)
+pub EachFollows-same : {P : Type 0} (calls : Ghosts P) (ps qs : List P) → map calls.told qs ≡ map calls.told ps → EachFollows calls [] ps qs
+EachFollows-same calls [] [] e = tt
+EachFollows-same calls [] (q ∷ qs) e = cc
+EachFollows-same calls (p ∷ ps) [] e = cc
+EachFollows-same calls (p ∷ ps) (q ∷ qs) e =
+    let first : calls.told q ≡ calls.told p = cc in
+    let others : map calls.told qs ≡ map calls.told ps = cc in
+    (subst (λ (t : ProcessorTelling). Follows (calls.told p) [] t) (sym first) (follows_nothing (calls.told p)), EachFollows-same calls ps qs others)
 
 -- the errors among more answers are no fewer
 counted_first : {T E : Type 0} (r : Result T E) (rs : List (Result T E)) (n : ℕ) → errors (r ∷ rs) ≤ n → IsCounted r n
@@ -114,19 +117,19 @@ errors-rest : {T E : Type 0} (r : Result T E) (rs : List (Result T E)) (n : ℕ)
 errors-rest (Ok _) rs n h = h
 errors-rest (Err _) rs n h = omega arith
 
-each_follows : {P T E : Type 0} (told : P → ProcessorTelling) (gives : P → PlainSpanData → Result T E → P → Type 0) (span : PlainSpanData) (n : ℕ) (ps : List P) (rs : List (Result T E)) (qs : List P)
-    → errors rs ≤ n → Each (TakesAndTells told gives span) ps rs qs → EachFollows told (record { span = span; refused = n } ∷ []) ps qs
-each_follows told gives span n [] [] [] m h = tt
-each_follows told gives span n [] [] (q ∷ qs) m h = absurd h
-each_follows told gives span n [] (r ∷ rs) qs m h = absurd h
-each_follows told gives span n (p ∷ ps) [] qs m h = absurd h
-each_follows told gives span n (p ∷ ps) (r ∷ rs) [] m h = absurd h
-each_follows told gives span n (p ∷ ps) (r ∷ rs) (q ∷ qs) m h =
-    (follows_one (told p) span r n (told q) h.0.1 (counted_first r rs n m), each_follows told gives span n ps rs qs (errors-rest r rs n m) h.1)
+each_follows : {P : Type 0} (calls : Ghosts P) (span : PlainSpanData) (n : ℕ) (ps : List P) (rs : List (Result (Unit {0}) AllocError)) (qs : List P)
+    → errors rs ≤ n → Each (TakesAndTells calls span) ps rs qs → EachFollows calls (record { span = span; refused = n } ∷ []) ps qs
+each_follows calls span n [] [] [] m h = tt
+each_follows calls span n [] [] (q ∷ qs) m h = absurd h
+each_follows calls span n [] (r ∷ rs) qs m h = absurd h
+each_follows calls span n (p ∷ ps) [] qs m h = absurd h
+each_follows calls span n (p ∷ ps) (r ∷ rs) [] m h = absurd h
+each_follows calls span n (p ∷ ps) (r ∷ rs) (q ∷ qs) m h =
+    (follows_one (calls.told p) span r n (calls.told q) h.0.told (counted_first r rs n m), each_follows calls span n ps rs qs (errors-rest r rs n m) h.1)
 
 -- the processors of a provider follow what an end delivers
-pub delivered_follows : {P T E : Type 0} (told : P → ProcessorTelling) (gives : P → PlainSpanData → Result T E → P → Type 0) (shut : Bool) (moment : ℕ) (recorded : Option PlainSpanData) (ps qs : List P) (n : ℕ)
-    → DeliversIf told gives shut moment recorded ps qs n → EachFollows told (deliveries shut moment recorded n) ps qs
-delivered_follows told gives shut moment None ps qs n h = EachFollows-same told ps qs (ap (map told) h.0)
-delivered_follows told gives true moment (Some recorded) ps qs n h = EachFollows-same told ps qs (ap (map told) h.0)
-delivered_follows told gives false moment (Some recorded) ps qs n h = each_follows told gives (ended_at moment recorded) n ps h.0 qs (omega (arith, h.1)) h.2
+pub delivered_follows : {P : Type 0} (calls : Ghosts P) (shut : Bool) (moment : ℕ) (recorded : Option PlainSpanData) (ps qs : List P) (n : ℕ)
+    → DeliversIf calls shut moment recorded ps qs n → EachFollows calls (deliveries shut moment recorded n) ps qs
+delivered_follows calls shut moment None ps qs n h = EachFollows-same calls ps qs (ap (map calls.told) h.0)
+delivered_follows calls true moment (Some recorded) ps qs n h = EachFollows-same calls ps qs (ap (map calls.told) h.0)
+delivered_follows calls false moment (Some recorded) ps qs n h = each_follows calls (ended_at moment recorded) n ps h.0 qs (omega (arith, h.1)) h.2

@@ -4,21 +4,23 @@ use Rattle.opentelemetry.specs.Plain.{PlainScope, PlainSpanContext}
 use Rattle.otel_base.specs.Ids.{next_span_id, next_trace_id}
 use Rattle.otel_base.specs.declared.trace.span_limit.SpanLimits.{SpanLimits}
 use Rattle.otel_batch.specs.PlainSpanData.{PlainSpanData}
-use Rattle.opentelemetry_sdk.specs.Each.{PassedThrough}
+use Rattle.opentelemetry_sdk.specs.Starting.{PassesThrough}
 use Rattle.opentelemetry.specs.PlainContexts.{empty_span_context}
-use Rattle.opentelemetry_sdk.specs.Provider.{root_span_context, ProviderState, Starts, root_context, root_span, root_start, after_root}
+use Rattle.opentelemetry_sdk.specs.Provider.{ProviderState}
+use Rattle.opentelemetry_sdk.specs.Starting.{PassesThrough, Starts, root_span_context, root_context, root_span, root_start, after_root, root_cx}
+use Rattle.opentelemetry_sdk.specs.declared.trace.span_processor.SpanProcessor.{Ghosts}
 use Rattle.opentelemetry_sdk.specs.SpanHistory.{PlainSpan, IsEdited, data_of, recording, not_recording}
 
 -- from the span as it was begun and the provider behind the draws
-pub starts_open : {P : Type 0} (gives : P → PlainSpan → PlainSpan → P → Type 0) (old drawn new : ProviderState P) (scope : PlainScope) (name : List ℕ) (now : ℕ) (begun span : PlainSpan)
+pub starts_open : {P : Type 0} (calls : Ghosts P) (old drawn new : ProviderState P) (scope : PlainScope) (name : List ℕ) (now : ℕ) (begun span : PlainSpan)
     → old.is_shut ≡ false
     → begun ≡ recording (root_start old scope name now) []
     → drawn ≡ record old { id_generator = after_root old.id_generator }
-    → IsEdited begun span → PassedThrough gives begun drawn.processors new.processors span → new ≡ record drawn { processors = new.processors }
-    → Starts gives old scope name now span new
-starts_open {P} gives old drawn new scope name now begun span h e d edits passed rest =
-    let B : PlainSpan → Type 0 = λ b. IsEdited b span × PassedThrough gives b old.processors new.processors span × (new ≡ record old { processors = new.processors; id_generator = after_root old.id_generator }) in
-    let D : ProviderState P → Type 0 = λ m. PassedThrough gives begun m.processors new.processors span × (new ≡ record m { processors = new.processors }) in
+    → IsEdited begun span → PassesThrough calls root_cx begun drawn.processors new.processors span → new ≡ record drawn { processors = new.processors }
+    → Starts calls old scope name now span new
+starts_open {P} calls old drawn new scope name now begun span h e d edits passed rest =
+    let B : PlainSpan → Type 0 = λ b. IsEdited b span × PassesThrough calls root_cx b old.processors new.processors span × (new ≡ record old { processors = new.processors; id_generator = after_root old.id_generator }) in
+    let D : ProviderState P → Type 0 = λ m. PassesThrough calls root_cx begun m.processors new.processors span × (new ≡ record m { processors = new.processors }) in
     let moved = subst D d (passed, rest) in
     subst (λ (b : Bool). MatchBool b ((span ≡ not_recording empty_span_context old.span_limits) × (new ≡ old)) (B (recording (root_start old scope name now) []))) (sym h)
     (subst B e (edits, moved.0, moved.1))

@@ -19,10 +19,3 @@ errors (Err _ ∷ rs) = errors rs + 1
 -- each was asked, also after one refused: n of the answers are errors
 abbrev pub AskedAll : {P T E : Type 0} → (P → Result T E → P → Type 0) → List P → List P → ℕ → Type 0
 AskedAll {P} {T} {E} G ps qs n = (rs : List (Result T E)) × (errors rs ≡ n) × Each G ps rs qs
-
--- what is asked passes from one to the next: the processor and the value before, the value and the processor after
-abbrev pub PassedThrough : {P X : Type 0} → (P → X → X → P → Type 0) → X → List P → List P → X → Type 0
-PassedThrough G x [] [] y = y ≡ x
-PassedThrough G x [] (q ∷ qs) y = ⊥
-PassedThrough G x (p ∷ ps) [] y = ⊥
-PassedThrough {P} {X} G x (p ∷ ps) (q ∷ qs) y = (z : X) × G p x z q × PassedThrough G z ps qs y

@@ -7,8 +7,10 @@ ghost use Rattle.std.specs.Bool.{OnTrue, OnFalse};
 ghost use Rattle.std.specs.Duration.{as_nanos};
 ghost use Rattle.otel_base.specs.Ids.{next_span_id, next_trace_id};
 ghost use Rattle.otel_batch.specs.PlainSpanData.{PlainSpanData};
-ghost use Rattle.opentelemetry_sdk.specs.Each.{AskedAll, PassedThrough};
-ghost use Rattle.opentelemetry_sdk.specs.Provider.{TakesAndTells, GivesAndKeeps, IsInternalFailure, ShutsDown, named};
+ghost use Rattle.opentelemetry_sdk.specs.Each.{AskedAll};
+ghost use Rattle.opentelemetry_sdk.specs.Ending.{TakesAndTells};
+ghost use Rattle.opentelemetry_sdk.specs.Provider.{IsInternalFailure, ShutsDown, ShutsProcessor, scope_named};
+ghost use Rattle.opentelemetry_sdk.specs.Starting.{PassesThrough};
 ghost use Rattle.opentelemetry_sdk.specs.SpanHistory.{IsEdited, ended_at};
 
 use crate::trace::{Processor, SdkTracer, Span, SpanProcessor};
@@ -68,7 +70,7 @@ impl<P> ProviderOf<P> {
 
     /// A tracer for the library of this name. Its scope takes memory once, so that no start does.
     pub fn tracer(&self, name: String) -> Result<SdkTracer, AllocError>
-        ensures { IfOk result (λ tracer. tracer ≡ named (string_bytes name)) }
+        ensures { IfOk result (λ tracer. tracer ≡ scope_named (string_bytes name)) }
     {
         let scope = InstrumentationScope::builder(self.allocator(), name).build()?;
         Ok(self.tracer_with_scope(scope))
@@ -137,7 +139,7 @@ impl<P: SpanProcessor> ProviderOf<P> {
     pub(crate) fn start_each(&mut self, span: &mut Span, cx: &Context)
         ensures edits { IsEdited span.old span.new }
         ensures told { map P.told self.new.processors ≡ map P.told self.old.processors }
-        ensures gives { PassedThrough (λ p s t q. P.start_gives p s cx.now t q) span.old self.old.processors self.new.processors span.new }
+        ensures gives { PassesThrough P.SpanProcessor cx.now span.old self.old.processors self.new.processors span.new }
         ensures rest { self.new ≡ record self.old { processors = self.new.processors } }
     {
         start_each(&mut self.processors, span, cx);
@@ -146,7 +148,7 @@ impl<P: SpanProcessor> ProviderOf<P> {
     /// A span has ended: each processor gets its copy, the last one the original. The answer is how many refused.
     pub(crate) fn end_each(&mut self, copies: Vec<SpanData>, original: SpanData) -> usize
         requires { copies.items ≡ replicate (length self.old.processors - 1) original }
-        ensures asked { AskedAll (TakesAndTells P.told P.end_gives original) self.old.processors self.new.processors result }
+        ensures asked { AskedAll (TakesAndTells P.SpanProcessor original) self.old.processors self.new.processors result }
         ensures rest { self.new ≡ record self.old { processors = self.new.processors } }
     {
         end_each(&mut self.processors, copies, original)
@@ -156,7 +158,7 @@ impl<P: SpanProcessor> ProviderOf<P> {
     /// none; failures of processors are an `InternalFailure` that counts them.
     pub fn shutdown_with_timeout(&mut self, timeout: Duration) -> OTelSdkResult
         ensures again { OnTrue self.old.is_shut (IsErrOf result OTelSdkError.AlreadyShutdown × (self.new ≡ self.old)) }
-        ensures first { OnFalse self.old.is_shut (ShutsDown P.told P.shutdown_gives self.old (as_nanos timeout) result self.new) }
+        ensures first { OnFalse self.old.is_shut (ShutsDown P.SpanProcessor self.old (as_nanos timeout) result self.new) }
     {
         if self.is_shut {
             return Err(OTelSdkError::AlreadyShutdown);
@@ -169,7 +171,7 @@ impl<P: SpanProcessor> ProviderOf<P> {
     /// The same with 5 seconds.
     pub fn shutdown(&mut self) -> OTelSdkResult
         ensures again { OnTrue self.old.is_shut (IsErrOf result OTelSdkError.AlreadyShutdown × (self.new ≡ self.old)) }
-        ensures first { OnFalse self.old.is_shut (ShutsDown P.told P.shutdown_gives self.old 5_000_000_000 result self.new) }
+        ensures first { OnFalse self.old.is_shut (ShutsDown P.SpanProcessor self.old 5_000_000_000 result self.new) }
     {
         self.shutdown_with_timeout(Duration::from_secs(5))
     }
@@ -177,7 +179,7 @@ impl<P: SpanProcessor> ProviderOf<P> {
     /// Spends the provider. Where it is still open it is shut down, and the answer is that of the shutdown.
     pub fn close(mut self) -> OTelSdkResult
         ensures shut { OnTrue self.is_shut (result ≡ Ok tt) }
-        ensures open { OnFalse self.is_shut ((after : _) × ShutsDown P.told P.shutdown_gives self 5_000_000_000 result after) }
+        ensures open { OnFalse self.is_shut ((after : _) × ShutsDown P.SpanProcessor self 5_000_000_000 result after) }
     {
         if self.is_shut {
             self.spend();
@@ -235,7 +237,7 @@ fn copies_of(
 fn start_each<P: SpanProcessor>(processors: &mut [P], span: &mut Span, cx: &Context)
     ensures edits { IsEdited span.old span.new }
     ensures told { map P.told processors.new ≡ map P.told processors.old }
-    ensures gives { PassedThrough (λ p s t q. P.start_gives p s cx.now t q) span.old processors.old processors.new span.new }
+    ensures gives { PassesThrough P.SpanProcessor cx.now span.old processors.old processors.new span.new }
 {
     for processor in processors.iter_mut() {
         processor.on_start(span, cx);
@@ -248,7 +250,7 @@ fn end_each<P: SpanProcessor>(
     original: SpanData,
 ) -> usize
     requires { copies.items ≡ replicate (length processors.old - 1) original }
-    ensures { AskedAll (TakesAndTells P.told P.end_gives original) processors.old processors.new result }
+    ensures { AskedAll (TakesAndTells P.SpanProcessor original) processors.old processors.new result }
 {
     let Some(last) = processors.len().checked_sub(1) else {
         return 0;
@@ -263,7 +265,7 @@ fn end_each<P: SpanProcessor>(
 /// Each of these processors gets a copy, also after one refused. The answer is how many refused.
 fn end_copies<P: SpanProcessor>(processors: &mut [P], mut copies: Vec<SpanData>) -> usize
     requires { vec_len copies ≡ length processors.old }
-    ensures asked { (d : PlainSpanData) → copies.items ≡ replicate (length processors.old) d → AskedAll (TakesAndTells P.told P.end_gives d) processors.old processors.new result }
+    ensures asked { (d : PlainSpanData) → copies.items ≡ replicate (length processors.old) d → AskedAll (TakesAndTells P.SpanProcessor d) processors.old processors.new result }
     ensures few { result ≤ length processors.old }
 {
     let mut refused = 0;
@@ -278,7 +280,7 @@ fn end_copies<P: SpanProcessor>(processors: &mut [P], mut copies: Vec<SpanData>)
 
 /// Each is shut down, also after one failed. The answer is how many failed.
 fn shutdown_each<P: SpanProcessor>(processors: &mut [P], timeout: Duration) -> usize
-    ensures { AskedAll (GivesAndKeeps P.told (λ p. P.shutdown_gives p (as_nanos timeout))) processors.old processors.new result }
+    ensures { AskedAll (ShutsProcessor P.SpanProcessor (as_nanos timeout)) processors.old processors.new result }
 {
     let mut failed = 0;
     for processor in processors.iter_mut() {

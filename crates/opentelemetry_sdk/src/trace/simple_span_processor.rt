@@ -53,7 +53,7 @@ impl<E: SpanExporter> SpanProcessor for SimpleSpanProcessor<E> {
 
     ghost start_gives = { λ p s cx t q. (q ≡ p) × (t ≡ s) };
 
-    ghost end_gives = { SimpleEnds E.told E.export_gives };
+    ghost end_gives = { SimpleEnds E.SpanExporter };
 
     ghost flush_gives = { λ p r q. (r ≡ Ok tt) × (q ≡ p) };
 

@@ -2,9 +2,9 @@
 //! of its provider. A span must be spent, so that none is forgotten.
 
 ghost use Rattle.std.specs.Prelude.{◌≡◌, ◌≤◌, length, OnOk, OnErr, IfOk, IfSome, IsOk, IsNone, IsTrue, Some, is_some, option_copied};
-ghost use Rattle.opentelemetry_sdk.specs.ProcessorTelling.{EachFollows};
+ghost use Rattle.opentelemetry_sdk.specs.Deliveries.{EachFollows};
 ghost use Rattle.opentelemetry.specs.PlainContexts.{empty_span_context};
-ghost use Rattle.opentelemetry_sdk.specs.Provider.{DeliversIf, deliveries};
+ghost use Rattle.opentelemetry_sdk.specs.Ending.{DeliversIf, deliveries};
 ghost use Rattle.opentelemetry_sdk.specs.SpanHistory as history;
 
 use crate::trace::{ProviderOf, SpanProcessor};
@@ -114,8 +114,8 @@ impl Span {
         provider: &mut ProviderOf<P>,
         timestamp: Moment,
     ) -> Result<usize, AllocError>
-        ensures ok { IfOk result (λ refused. DeliversIf P.told P.end_gives provider.old.is_shut timestamp.0 self.old.recorded provider.old.processors provider.new.processors refused) }
-        ensures told { IfOk result (λ refused. EachFollows P.told (deliveries provider.old.is_shut timestamp.0 self.old.recorded refused) provider.old.processors provider.new.processors) }
+        ensures ok { IfOk result (λ refused. DeliversIf P.SpanProcessor provider.old.is_shut timestamp.0 self.old.recorded provider.old.processors provider.new.processors refused) }
+        ensures told { IfOk result (λ refused. EachFollows P.SpanProcessor (deliveries provider.old.is_shut timestamp.0 self.old.recorded refused) provider.old.processors provider.new.processors) }
         ensures rest { provider.new ≡ record provider.old { processors = provider.new.processors } }
         ensures ended { OnOk result (self.new ≡ history.ended self.old) }
         ensures err { OnErr result ((self.new ≡ self.old) × (provider.new ≡ provider.old)) }

@@ -1,8 +1,7 @@
 //! The tracer of a library: it starts spans under the library's scope (OpenTelemetry specification, "Tracer").
 
 ghost use Rattle.std.specs.Prelude.{◌≡◌, [], map, IfOk, IsOk, IsTrue, OnErr, false, string_bytes};
-ghost use Rattle.opentelemetry_sdk.specs.Each.{PassedThrough};
-ghost use Rattle.opentelemetry_sdk.specs.Provider.{root_span_context, Starts, root_cx, root_span};
+ghost use Rattle.opentelemetry_sdk.specs.Starting.{PassesThrough, Starts, root_cx, root_span, root_span_context};
 ghost use Rattle.opentelemetry_sdk.specs.SpanHistory.{IsEdited, data_of};
 
 use crate::trace::{ProviderOf, Span, SpanProcessor};
@@ -43,7 +42,7 @@ impl SdkTracer {
         provider: &mut ProviderOf<P>,
         now: Moment,
     ) -> Result<Span, AllocError>
-        ensures ok { IfOk result (λ span. Starts (λ p s t q. P.start_gives p s root_cx t q) provider.old self.now (string_bytes name) now.0 span provider.new) }
+        ensures ok { IfOk result (λ span. Starts P.SpanProcessor provider.old self.now (string_bytes name) now.0 span provider.new) }
         ensures told { map P.told provider.new.processors ≡ map P.told provider.old.processors }
         ensures rest { provider.new ≡ record provider.old { processors = provider.new.processors; id_generator = provider.new.id_generator } }
         ensures err { OnErr result (provider.new ≡ provider.old) }
@@ -77,7 +76,7 @@ impl SdkTracer {
 fn start_each<P: SpanProcessor>(provider: &mut ProviderOf<P>, span: &mut Span)
     ensures edits { IsEdited span.old span.new }
     ensures told { map P.told provider.new.processors ≡ map P.told provider.old.processors }
-    ensures gives { PassedThrough (λ p s t q. P.start_gives p s root_cx t q) span.old provider.old.processors provider.new.processors span.new }
+    ensures gives { PassesThrough P.SpanProcessor root_cx span.old provider.old.processors provider.new.processors span.new }
     ensures rest { provider.new ≡ record provider.old { processors = provider.new.processors } }
 {
     provider.start_each(span, &Context::new());

@@ -1,6 +1,6 @@
 use Rattle.std.proofs.Common.{◌≡◌, ℕ, suc, ◌-◌, ◌+◌, [], ◌∷◌, ◌++◌, length, replicate, arith, ◌∙◌, sym, rules, ap, subst, get_or}
 use Rattle.otel_batch.specs.PlainSpanData.{PlainSpanData}
-use Rattle.opentelemetry_sdk.specs.Provider.{TakesAndTells}
+use Rattle.opentelemetry_sdk.specs.Ending.{TakesAndTells}
 use Rattle.opentelemetry_sdk.proofs.EachLemmas.{asked_next, rest_more, err_answer, ok_answer, with_answer, last_copy}
 use Rattle.opentelemetry_sdk.proofs.trace.provider.end_copies.Goals as goal
 use Rattle.opentelemetry_sdk.proofs.trace.provider.end_copies.Goals.{then-is_err, else-is_err}
@@ -18,8 +18,8 @@ loop-processor-preserved g c =
           let one : c.pop.new.self.items ++ c.unwrap-copy.result ∷ [] ≡ replicate (suc left) d =
           sym (rw c.unwrap-copy.ensures at c.pop.ensures.items) ∙ (c.loop-processor.invariant.asked d h).1 ∙ ap (λ n. replicate n d) fewer in
           let last = last_copy left d c.pop.new.self.items c.unwrap-copy.result one in
-          let done : TakesAndTells g.P.SpanProcessor.told g.P.SpanProcessor.end_gives d (get_or c.loop-processor.processors c.loop-processor.processor-index c.processor-item.result) c.on_end.result c.on_end.new.self =
-          subst (λ (e : PlainSpanData). TakesAndTells g.P.SpanProcessor.told g.P.SpanProcessor.end_gives e (get_or c.loop-processor.processors c.loop-processor.processor-index c.processor-item.result) c.on_end.result c.on_end.new.self) last.1 (c.on_end.ensures.gives, c.on_end.ensures.told) in
+          let done : TakesAndTells g.P.SpanProcessor d (get_or c.loop-processor.processors c.loop-processor.processor-index c.processor-item.result) c.on_end.result c.on_end.new.self =
+          subst (λ (e : PlainSpanData). TakesAndTells g.P.SpanProcessor e (get_or c.loop-processor.processors c.loop-processor.processor-index c.processor-item.result) c.on_end.result c.on_end.new.self) last.1 (record { gives = c.on_end.ensures.gives; told = c.on_end.ensures.told }) in
           (asked_next _ _ _ _ _ _ c.processor-item.result _ _ (omega arith) (search rules) c.loop-processor.invariant.rest (c.loop-processor.invariant.asked d h).0 done counted, last.0);
       rest = rest_more c.args.processors.now c.loop-processor.processors c.loop-processor.processor-index c.on_end.new.self c.loop-processor.invariant.rest;
       room = omega (arith, rw c.unwrap-copy.ensures at c.pop.ensures.len);

@@ -1,13 +1,13 @@
 use Rattle.std.proofs.Common.{◌≡◌, ◌+◌, ◌-◌, take, drop, ◌≤◌, length, replicate, vec_len}
 use Rattle.otel_batch.specs.PlainSpanData.{PlainSpanData}
 use Rattle.opentelemetry_sdk.specs.Each.{AskedAll}
-use Rattle.opentelemetry_sdk.specs.Provider.{TakesAndTells}
+use Rattle.opentelemetry_sdk.specs.Ending.{TakesAndTells}
 use Rattle.opentelemetry_sdk.proofs.trace.provider.end_copies.Given as goal
 
 abbrev pub invariant-loop-processor : goal.invariant-loop-processor
 invariant-loop-processor g l = record {
   asked : (d : PlainSpanData) → l.fn.copies.items ≡ replicate (length l.fn.processors) d
-      → AskedAll (TakesAndTells g.P.SpanProcessor.told g.P.SpanProcessor.end_gives d) (take l.processor-index l.fn.processors) (take l.processor-index l.processors) l.refused
+      → AskedAll (TakesAndTells g.P.SpanProcessor d) (take l.processor-index l.fn.processors) (take l.processor-index l.processors) l.refused
       × (l.copies.items ≡ replicate (length l.fn.processors - l.processor-index) d);
   rest : drop l.processor-index l.processors ≡ drop l.processor-index l.fn.processors;
   room : vec_len l.copies + l.processor-index ≡ length l.fn.processors;

@@ -1,5 +1,5 @@
 use Rattle.std.proofs.Common.{◌≡◌, map, take, drop}
-use Rattle.opentelemetry_sdk.specs.Each.{PassedThrough}
+use Rattle.opentelemetry_sdk.specs.Starting.{PassesThrough}
 use Rattle.opentelemetry_sdk.specs.SpanHistory.{IsEdited}
 use Rattle.opentelemetry_sdk.proofs.trace.provider.start_each.Given as goal
 
@@ -7,6 +7,6 @@ abbrev pub invariant-loop-processor : goal.invariant-loop-processor
 invariant-loop-processor g l = record {
   edits : IsEdited l.fn.span l.span;
   told : map g.P.SpanProcessor.told l.processors ≡ map g.P.SpanProcessor.told l.fn.processors;
-  passed : PassedThrough (λ p s t q. g.P.SpanProcessor.start_gives p s l.cx t q) l.fn.span (take l.processor-index l.fn.processors) (take l.processor-index l.processors) l.span;
+  passed : PassesThrough g.P.SpanProcessor l.cx l.fn.span (take l.processor-index l.fn.processors) (take l.processor-index l.processors) l.span;
   rest : drop l.processor-index l.processors ≡ drop l.processor-index l.fn.processors;
 }
