@@ -51,10 +51,11 @@ pub edited-recording : (start : SpanStart) (edits : List Edit) (edit : Edit) →
 unfolding made
 edited-recording start edits (set_attribute attribute) =
     let limit : ℕ = start.limits.max_attributes_per_span in
-    let grown : attributes_set edits ++ attribute ∷ [] ≡ attributes_set (edits ++ set_attribute attribute ∷ []) = sym (attributes_set-append edits (set_attribute attribute ∷ [])) in
-    made_same start
-    (kept_with-kept limit (attributes_set edits) attribute ∙ ap (kept limit) grown)
-    (left_out_with-kept limit (attributes_set edits) attribute ∙ ap (left_out limit) grown)
+    let whole : List PlainKeyValue = start.attributes ++ attributes_set edits in
+    let grown : whole ++ attribute ∷ [] ≡ start.attributes ++ attributes_set (edits ++ set_attribute attribute ∷ []) =
+    append_assoc start.attributes (attributes_set edits) (attribute ∷ [])
+    ∙ ap (λ (l : List PlainKeyValue). start.attributes ++ l) (sym (attributes_set-append edits (set_attribute attribute ∷ []))) in
+    made_same start (kept_with-kept limit whole attribute ∙ ap (kept limit) grown) (left_out_with-kept limit whole attribute ∙ ap (left_out limit) grown)
 
 -- more edits of a span are those edits at the end of its history
 pub after-recording : (start : SpanStart) (edits more : List Edit) → after more (recording start edits) ≡ recording start (edits ++ more)

@@ -5,7 +5,7 @@ use Rattle.opentelemetry.specs.declared.trace.span_kind.SpanKind.{SpanKind}
 use Rattle.otel_base.specs.declared.trace.span_limit.SpanLimits.{SpanLimits}
 use Rattle.otel_batch.specs.PlainSpanData.{PlainSpanData, kept, left_out}
 
--- how a span started
+-- how a span started; the attributes are those that it was given at once
 pub record SpanStart : Type 0 where
   pub span_context : PlainSpanContext
   pub parent_span_id : ℕ
@@ -13,6 +13,7 @@ pub record SpanStart : Type 0 where
   pub span_kind : SpanKind
   pub name : List ℕ
   pub start_time : ℕ
+  pub attributes : List PlainKeyValue
   pub instrumentation_scope : PlainScope
   pub limits : SpanLimits
 
@@ -35,8 +36,8 @@ data_of start edits moment = record {
   name = start.name;
   start_time = start.start_time;
   end_time = moment;
-  attributes = kept start.limits.max_attributes_per_span (attributes_set edits);
-  dropped_attributes_count = left_out start.limits.max_attributes_per_span (attributes_set edits);
+  attributes = kept start.limits.max_attributes_per_span (start.attributes ++ attributes_set edits);
+  dropped_attributes_count = left_out start.limits.max_attributes_per_span (start.attributes ++ attributes_set edits);
   events = record { events = []; dropped_count = 0 };
   links = record { links = []; dropped_count = 0 };
   status = unset;

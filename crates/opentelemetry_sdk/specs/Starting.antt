@@ -5,7 +5,7 @@ use Rattle.opentelemetry.specs.PlainContexts.{empty_span_context}
 use Rattle.opentelemetry.specs.declared.trace.span_kind.SpanKind.TheVariants.{Internal}
 use Rattle.otel_base.specs.declared.trace.span_limit.SpanLimits.{SpanLimits}
 use Rattle.otel_base.specs.Ids.{next_span_id, next_trace_id}
-use Rattle.opentelemetry_sdk.specs.SpanHistory.{PlainSpan, SpanStart, recording, not_recording, IsEdited}
+use Rattle.opentelemetry_sdk.specs.SpanHistory.{PlainSpan, SpanStart, SpanHistory, begun, over, Edit, recording}
 use Rattle.opentelemetry_sdk.specs.Provider.{ProviderState}
 use Rattle.opentelemetry_sdk.specs.declared.trace.span_processor.SpanProcessor.{Ghosts}
 
@@ -32,6 +32,7 @@ root_span context scope name now limits = record {
   span_kind = Internal;
   name = name;
   start_time = now;
+  attributes = [];
   instrumentation_scope = scope;
   limits = limits;
 }
@@ -52,11 +53,15 @@ module _ {P : Type 0} (calls : Ghosts P) where
   PassesThrough cx old (p ∷ ps) [] new = ⊥
   PassesThrough cx old (p ∷ ps) (q ∷ qs) new = (middle : PlainSpan) × calls.start_gives p old cx middle q × PassesThrough cx middle ps qs new
 
-  -- what a start makes: while the provider is open a recording span, which each processor may edit in its turn; else no
-  -- span, and nothing is drawn
-  abbrev pub Starts : ProviderState P → PlainScope → List ℕ → ℕ → PlainSpan → ProviderState P → Type 0
-  Starts old scope name now span new = MatchBool old.is_shut
-      ((span ≡ not_recording empty_span_context old.span_limits) × (new ≡ old))
-      (IsEdited (recording (root_start old scope name now) []) span
-      × PassesThrough root_cx (recording (root_start old scope name now) []) old.processors new.processors span
-      × (new ≡ record old { processors = new.processors; id_generator = after_root old.id_generator }))
+  -- at an open provider: a span that is drawn its ids, which each processor may edit in its turn
+  pub record StartsOpen (old : ProviderState P) (scope : PlainScope) (name : List ℕ) (now : ℕ) (history : SpanHistory) (new : ProviderState P) : Type 0 where
+    pub edits : List Edit
+    pub history_is : history ≡ begun (root_start old scope name now) edits
+    pub passes : PassesThrough root_cx (recording (root_start old scope name now) []) old.processors new.processors (recording (root_start old scope name now) edits)
+    pub rest : new ≡ record old { processors = new.processors; id_generator = after_root old.id_generator }
+
+  -- what a start makes, by the history of the span: where the provider is shut no span, and nothing is drawn
+  abbrev pub Starts : ProviderState P → PlainScope → List ℕ → ℕ → SpanHistory → ProviderState P → Type 0
+  Starts old scope name now history new = MatchBool old.is_shut
+      ((history ≡ over empty_span_context old.span_limits) × (new ≡ old))
+      (StartsOpen old scope name now history new)

@@ -2,7 +2,7 @@
 
 ghost use Rattle.std.specs.Prelude.{◌≡◌, [], map, IfOk, IsOk, IsTrue, OnErr, false, string_bytes};
 ghost use Rattle.opentelemetry_sdk.specs.Starting.{PassesThrough, Starts, root_cx, root_span, root_span_context};
-ghost use Rattle.opentelemetry_sdk.specs.SpanHistory.{IsEdited, data_of};
+ghost use Rattle.opentelemetry_sdk.specs.SpanHistory.{IsEdited, SpanHistory, data_of, span_of};
 
 use crate::trace::{ProviderOf, Span, SpanProcessor};
 use opentelemetry::trace::{SpanContext, SpanKind, Status, TraceState};
@@ -42,7 +42,8 @@ impl SdkTracer {
         provider: &mut ProviderOf<P>,
         now: Moment,
     ) -> Result<Span, AllocError>
-        ensures ok { IfOk result (λ span. Starts P.SpanProcessor provider.old self.now (string_bytes name) now.0 span provider.new) }
+        ensures ok { IfOk result (λ span. (history : SpanHistory) × (span ≡ span_of history)
+            × Starts P.SpanProcessor provider.old self.now (string_bytes name) now.0 history provider.new) }
         ensures told { map P.told provider.new.processors ≡ map P.told provider.old.processors }
         ensures rest { provider.new ≡ record provider.old { processors = provider.new.processors; id_generator = provider.new.id_generator } }
         ensures err { OnErr result (provider.new ≡ provider.old) }
