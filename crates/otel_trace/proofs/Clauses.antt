@@ -10,3 +10,8 @@ always_on_err (Err _) p = p
 pub if_ok_map : {T E : Type 0} {A B : T → Type 0} (r : Result T E) → ((x : T) → A x → B x) → IfOk r A → IfOk r B
 if_ok_map (Ok x) f h = f x h
 if_ok_map (Err e) f h = tt
+
+-- what follows on an error
+pub on_err_map : {T E : Type 0} {A B : Type 0} (r : Result T E) → (A → B) → OnErr r A → OnErr r B
+on_err_map (Ok x) f h = tt
+on_err_map (Err e) f h = f h

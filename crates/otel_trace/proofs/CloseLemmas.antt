@@ -13,8 +13,8 @@ use Rattle.otel_trace.specs.SessionDelivery.{SessionState, Closes, ShutsIfOpen, 
 pub closes : {P : Type 0} (calls : Ghosts P) (batches : kept.Ghosts P) (session : SessionState P) (provider : ProviderState P)
     (shutdown : Result (Unit {0}) OTelSdkError) (written : Result (Unit {0}) AllocError) (answer : Result (Unit {0}) OTelSdkError) (before now : List ℕ)
     → ShutsIfOpen calls session.provider 5_000_000_000 shutdown provider
-    → OnOk written (now ≡ before ++ span_lines (spans_in (drop session.shown (batches_of_first batches.kept provider.processors)))) → OnErr written (now ≡ before)
+    → OnOk written (now ≡ before ++ span_lines (spans_in (drop session.shown (batches_of_first batches provider.processors)))) → OnErr written (now ≡ before)
     → MatchResult written (λ _. answer ≡ shutdown) (λ _. answer ≡ or_no_memory shutdown)
     → Closes calls batches session before answer now
-closes calls batches session provider shutdown (Ok _) answer before now shuts ok err answers = (provider, shutdown, shuts, inl (answers, ok))
-closes calls batches session provider shutdown (Err _) answer before now shuts ok err answers = (provider, shutdown, shuts, inr (answers, err))
+closes calls batches session provider shutdown (Ok _) answer before now shuts ok err answers = record { provider = provider; shutdown = shutdown; shuts = shuts; writes = inl (answers, ok) }
+closes calls batches session provider shutdown (Err _) answer before now shuts ok err answers = record { provider = provider; shutdown = shutdown; shuts = shuts; writes = inr (answers, err) }

@@ -6,7 +6,7 @@ use Rattle.otel_batch.specs.PlainSpanData.{PlainSpanData}
 use Rattle.opentelemetry_sdk.specs.ProcessorTelling.{ProcessorTelling}
 use Rattle.opentelemetry_sdk.specs.declared.trace.span_processor.SpanProcessor.{Ghosts}
 use Rattle.otel_trace.specs.declared.exported.KeepsBatches as kept
-use Rattle.otel_trace.specs.SessionDelivery.{SessionState, Fed, Closes}
+use Rattle.otel_trace.specs.SessionDelivery.{SessionState, Feeds, Closes}
 use Rattle.otel_trace.specs.declared.session.FeedError.{FeedError}
 use Rattle.otel_trace.specs.AnswerText.{reply_text, replies_text}
 use Rattle.otel_trace.specs.PlainReply.{PlainReply, counts_refusals, NoneRefused}
@@ -24,9 +24,9 @@ none_refused_more (first ∷ replies) reply h k = (h.0, none_refused_more replie
 
 -- a text that was fed to a new output
 pub fed_anew : {P : Type 0} (calls : Ghosts P) (batches : kept.Ghosts P) (old new : SessionState P) (bytes before now : List ℕ) (answer said : Result (Unit {0}) FeedError)
-    → answer ≡ said → before ≡ [] → Fed calls batches old bytes before answer now new → Fed calls batches old bytes [] said now new
+    → answer ≡ said → before ≡ [] → Feeds calls batches old bytes before answer now new → Feeds calls batches old bytes [] said now new
 fed_anew calls batches old new bytes before now answer said e b h =
-    subst (λ (l : List ℕ). Fed calls batches old bytes l said now new) b (subst (λ (r : Result (Unit {0}) FeedError). Fed calls batches old bytes before r now new) e h)
+    subst (λ (l : List ℕ). Feeds calls batches old bytes l said now new) b (subst (λ (r : Result (Unit {0}) FeedError). Feeds calls batches old bytes before r now new) e h)
 
 -- a session that closed well
 pub closed_well : {P : Type 0} (calls : Ghosts P) (batches : kept.Ghosts P) (session : SessionState P) (before now : List ℕ) (answer : Result (Unit {0}) OTelSdkError)

@@ -1,121 +1,164 @@
 -- What commands one after another demand.
-use Rattle.std.proofs.Common.{◌≡◌, List, [], ◌∷◌, ◌++◌, refl, sym, ◌∙◌, ap, subst, append_assoc, append-nil, length, ℕ, inl}
+use Rattle.std.proofs.Common.{◌≡◌, ℕ, List, [], ◌∷◌, ◌++◌, refl, sym, ◌∙◌, ap, subst, append_assoc, append-nil, length, drop, inl}
 use Rattle.std.proofs.lemmas.List.{map-append}
-use Rattle.opentelemetry_sdk.specs.ProcessorTelling.{ProcessorTelling, Delivery}
-use Rattle.opentelemetry_sdk.proofs.Following.{EachFollows-same, EachFollows-append}
+use Rattle.opentelemetry.specs.Plain.{PlainScope}
 use Rattle.otel_batch.specs.PlainSpanData.{PlainSpanData}
+use Rattle.opentelemetry_sdk.specs.Deliveries.{Delivery}
 use Rattle.opentelemetry_sdk.specs.declared.trace.span_processor.SpanProcessor.{Ghosts}
+use Rattle.opentelemetry_sdk.proofs.Following.{EachFollows-same, EachFollows-append}
 use Rattle.otel_trace.specs.declared.exported.KeepsBatches as kept
 use Rattle.otel_trace.specs.KeptBatches.{Appends}
 use Rattle.otel_trace.specs.Commands.{PlainCommand, plain_command, plain_commands}
 use Rattle.otel_trace.specs.PlainReply.{PlainReply}
-use Rattle.otel_trace.specs.SessionDelivery.{Histories, SessionFrame, Demands, DemandAll, SessionState, frame_of, frame_with, Steps, Asked, answers_of, session_batches, session_losses, unshown, CarriesOut, Shows, NoneLeft, LosesNone, RunsAll, Refuses, RunsBeginning}
+use Rattle.otel_trace.specs.SessionDelivery.{Histories, Describe, Course, course_of, Demands, Replies, DemandAll, Demanded, SessionState, CarriesOutOne, session_batches, session_losses, batches_of_first, spans_in, unshown, CarriesOut, Shows, NoneLeft, LosesNone, RunsAll, Refuses, RunsBeginning}
 use Rattle.otel_trace.specs.declared.command.Command.{Command}
-use Rattle.otel_trace.specs.declared.reply.Answer.{Answer}
 use Rattle.otel_trace.proofs.ShownLemmas.{shows_nothing, shows_no_more, shows_reply, none_left}
 
--- one more command
-DemandAll-push : (frame : SessionFrame) (old middle new : Histories) (commands : List PlainCommand) (answers : List Answer) (ds d : List Delivery) (command : PlainCommand) (answer : Answer)
-    → DemandAll frame old commands answers ds middle → Demands frame middle command answer d new
-    → DemandAll frame old (commands ++ command ∷ []) (answers ++ answer ∷ []) (ds ++ d) new
-DemandAll-push frame old middle new [] [] ds d command answer h k =
-    (new, d, [], subst (λ (m : Histories). Demands frame m command answer d new) h.1 k, (refl, refl), ap (λ (l : List Delivery). l ++ d) h.0 ∙ sym (append-nil d))
-DemandAll-push frame old middle new [] (a ∷ answers) ds d command answer h k = absurd h
-DemandAll-push frame old middle new (c ∷ commands) [] ds d command answer h k = absurd h
-DemandAll-push frame old middle new (c ∷ commands) (a ∷ answers) ds d command answer h k = (
-  h.0,
-  h.1,
-  h.2 ++ d,
-  h.3,
-  DemandAll-push frame h.0 middle new commands answers h.2 d command answer h.4 k,
-  ap (λ (l : List Delivery). l ++ d) h.5 ∙ append_assoc h.1 h.2 d,
-)
+module _ {P : Type 0} (calls : Ghosts P) (keeps : kept.Ghosts P) where
+  -- one more command
+  DemandAll-push : (scope : PlainScope) (old middle new : Course P) (before shown : ℕ) (commands : List PlainCommand) (replies : List PlainReply) (ds d : List Delivery) (command : PlainCommand) (reply : PlainReply)
+      → DemandAll calls keeps scope old before commands replies ds middle shown → Replies calls keeps scope middle shown command reply d new
+      → DemandAll calls keeps scope old before (commands ++ command ∷ []) (replies ++ reply ∷ []) (ds ++ d) new (length (batches_of_first keeps new.provider.processors))
+  DemandAll-push scope old middle new before shown [] [] ds d command reply h k = (
+    new,
+    d,
+    [],
+    subst (λ (n : ℕ). Replies calls keeps scope old n command reply d new) h.2 (subst (λ (m : Course P). Replies calls keeps scope m shown command reply d new) h.1 k),
+    (refl, refl, refl),
+    ap (λ (l : List Delivery). l ++ d) h.0 ∙ sym (append-nil d),
+  )
+  DemandAll-push scope old middle new before shown [] (r ∷ replies) ds d command reply h k = absurd h
+  DemandAll-push scope old middle new before shown (c ∷ commands) [] ds d command reply h k = absurd h
+  DemandAll-push scope old middle new before shown (c ∷ commands) (r ∷ replies) ds d command reply h k = (
+    h.0,
+    h.1,
+    h.2 ++ d,
+    h.3,
+    DemandAll-push scope h.0 middle new (length (batches_of_first keeps h.0.provider.processors)) shown commands replies h.2 d command reply h.4 k,
+    ap (λ (l : List Delivery). l ++ d) h.5 ∙ append_assoc h.1 h.2 d,
+  )
 
--- deliveries one after another
-asked_append : {P : Type 0} (calls : Ghosts P) (xs ys : List Delivery) (ps qs us : List P) → Asked calls xs ps qs → Asked calls ys qs us → Asked calls (xs ++ ys) ps us
-asked_append calls [] [] ps qs us h k = k ∙ h
-asked_append calls [] (y ∷ ys) ps qs us h k = (k.0, k.1, k.2 ∙ h, k.3, k.4)
-asked_append calls (x ∷ xs) ys ps qs us h k = (h.0, h.1, h.2, h.3, asked_append calls xs ys h.1 qs us h.4 k)
+  -- no command
+  carries_nothing : (session : SessionState P) → CarriesOut calls keeps session [] [] session
+  carries_nothing session = record {
+    scope = refl;
+    demanded = λ histories describes. record {
+      deliveries = [];
+      after = histories;
+      demands = (refl, refl, refl);
+      describes = describes;
+      follows = EachFollows-same calls session.provider.processors session.provider.processors refl;
+    };
+  }
 
--- no command
-carries_nothing : {P : Type 0} (calls : Ghosts P) (session : SessionState P) → CarriesOut calls session [] [] session
-carries_nothing calls session = (refl, λ histories give. ([], histories, (refl, refl), give, EachFollows-same calls.told session.provider.processors session.provider.processors refl, refl))
+  -- one command, with a reply that shows what was left to show
+  pub record Answers (old : SessionState P) (command : Command) (reply : PlainReply) (new : SessionState P) : Type 0 where
+    pub carried : CarriesOutOne calls old.scope old.provider old.spans (plain_command command) reply.answer new.provider new.spans
+    pub shows : reply.exported ≡ unshown keeps new
+    pub loses_none : LosesNone keeps old new
+    pub rest : new ≡ record old { provider = new.provider; spans = new.spans }
+    pub appends : Appends (session_batches keeps old) (session_batches keeps new)
 
--- one more command, with its reply
-carries_more : {P : Type 0} (calls : Ghosts P) (old middle new : SessionState P) (done : List Command) (replies : List PlainReply) (command : Command) (reply : PlainReply)
-    → CarriesOut calls old done replies middle
-    → Steps calls middle.scope middle.provider middle.spans (plain_command command) reply.answer new.provider new.spans
-    → new.scope ≡ middle.scope
-    → CarriesOut calls old (done ++ command ∷ []) (replies ++ reply ∷ []) new
-carries_more {P} calls old middle new done replies command reply h k s = (
-  ap (frame_with new.provider) s ∙ k.0 ∙ h.0,
-  λ histories give.
-      let first = h.1 histories give in
-      let next = k.1 first.1 first.3 in (
-        first.0 ++ next.0,
-        next.1,
-        subst (λ (commands : List PlainCommand). DemandAll (frame_of old) histories commands (answers_of (replies ++ reply ∷ [])) (first.0 ++ next.0) next.1) (sym (map-append plain_command done (command ∷ [])))
-            (subst (λ (answers : List Answer). DemandAll (frame_of old) histories (plain_commands done ++ plain_command command ∷ []) answers (first.0 ++ next.0) next.1) (sym (map-append (λ r. r.answer) replies (reply ∷ [])))
-            (DemandAll-push (frame_of old) histories first.1 next.1 (plain_commands done) (answers_of replies) first.0 next.0 (plain_command command) reply.answer first.2
-            (subst (λ (frame : SessionFrame). Demands frame first.1 (plain_command command) reply.answer next.0 next.1) h.0 next.2))),
-        next.3,
-        EachFollows-append calls.told first.0 next.0 old.provider.processors middle.provider.processors new.provider.processors first.4 next.4,
-        asked_append calls first.0 next.0 old.provider.processors middle.provider.processors new.provider.processors first.5 next.5,
-      ),
-)
+  -- a session whose replies have shown all that is kept
+  abbrev marked : SessionState P → SessionState P
+  marked session = record session { shown = length (session_batches keeps session) }
 
--- the commands before those that are left were carried out, each with its reply
-abbrev pub Ran : {P : Type 0} → Ghosts P → kept.Ghosts P → SessionState P → List Command → List Command → List PlainReply → SessionState P → Type 0
-Ran calls batches old commands left replies new = (done : List Command) × (commands ≡ done ++ left)
-    × CarriesOut calls old done replies new × Shows batches.kept old replies new × NoneLeft batches.kept replies new × LosesNone batches.lost old new
+  -- one more command, with its reply
+  demands_more : (old middle new : SessionState P) (histories : Histories) (done : List Command) (replies : List PlainReply) (command : Command) (reply : PlainReply)
+      → middle.scope ≡ old.scope → Demanded calls keeps old histories (plain_commands done) replies middle → Answers middle command reply new
+      → Demanded calls keeps old histories (plain_commands (done ++ command ∷ [])) (replies ++ reply ∷ []) (marked new)
+  demands_more old middle new histories done replies command reply scope first answers =
+      let next = answers.carried first.after first.describes in
+      let shown : new.shown ≡ middle.shown = ap (λ (s : SessionState P). s.shown) answers.rest in
+      let replied : Replies calls keeps old.scope (course_of middle first.after) middle.shown (plain_command command) reply next.deliveries (course_of new next.after) = record {
+        demands = subst (λ (s : PlainScope). Demands calls s (course_of middle first.after) (plain_command command) reply.answer next.deliveries (course_of new next.after)) scope next.demands;
+        shows = answers.shows ∙ ap (λ (n : ℕ). spans_in (drop n (session_batches keeps new))) shown;
+        loses_none = answers.loses_none;
+      } in record {
+        deliveries = first.deliveries ++ next.deliveries;
+        after = next.after;
+        demands = subst (λ (commands : List PlainCommand). DemandAll calls keeps old.scope (course_of old histories) old.shown commands (replies ++ reply ∷ []) (first.deliveries ++ next.deliveries) (course_of new next.after) (length (session_batches keeps new)))
+            (sym (map-append plain_command done (command ∷ [])))
+            (DemandAll-push old.scope (course_of old histories) (course_of middle first.after) (course_of new next.after) old.shown middle.shown (plain_commands done) replies first.deliveries next.deliveries (plain_command command) reply first.demands replied);
+        describes = next.describes;
+        follows = EachFollows-append calls first.deliveries next.deliveries old.provider.processors middle.provider.processors new.provider.processors first.follows next.follows;
+      }
 
--- none of them
-pub ran_nothing : {P : Type 0} (calls : Ghosts P) (batches : kept.Ghosts P) (session : SessionState P) (commands left : List Command)
-    → left ≡ commands → Ran calls batches session commands left [] session
-ran_nothing calls batches session commands left e = ([], sym e, carries_nothing calls session, shows_nothing batches.kept session, inl refl, refl)
+  carries_more : (old middle new : SessionState P) (done : List Command) (replies : List PlainReply) (command : Command) (reply : PlainReply)
+      → CarriesOut calls keeps old done replies middle → Answers middle command reply new
+      → CarriesOut calls keeps old (done ++ command ∷ []) (replies ++ reply ∷ []) (marked new)
+  carries_more old middle new done replies command reply carried answers = record {
+    scope = ap (λ (s : SessionState P). s.scope) answers.rest ∙ carried.scope;
+    demanded = λ histories describes. demands_more old middle new histories done replies command reply carried.scope (carried.demanded histories describes) answers;
+  }
 
--- all of them
-pub ran_all : {P : Type 0} (calls : Ghosts P) (batches : kept.Ghosts P) (old new : SessionState P) (commands left : List Command) (replies before now : List PlainReply)
-    → left ≡ [] → Ran calls batches old commands left replies new → now ≡ before ++ replies → RunsAll calls batches old commands before now new
-ran_all calls batches old new commands left replies before now none ran appended =
-    let whole = ran.1 ∙ ap (λ (l : List Command). ran.0 ++ l) none ∙ append-nil ran.0 in
-    record {
+  -- the commands before those that are left were carried out, each with its reply
+  pub record Ran (old : SessionState P) (commands left : List Command) (replies : List PlainReply) (new : SessionState P) : Type 0 where
+    pub done : List Command
+    pub parts : commands ≡ done ++ left
+    pub carried : CarriesOut calls keeps old done replies new
+    pub shown : Shows keeps old replies new
+    pub none_left : NoneLeft keeps replies new
+    pub none_lost : LosesNone keeps old new
+
+  -- none of them
+  pub ran_nothing : (session : SessionState P) (commands left : List Command) → left ≡ commands → Ran session commands left [] session
+  ran_nothing session commands left e = record {
+    done = [];
+    parts = sym e;
+    carried = carries_nothing session;
+    shown = shows_nothing keeps session;
+    none_left = inl refl;
+    none_lost = refl;
+  }
+
+  -- all of them
+  pub ran_all : (old new : SessionState P) (commands left : List Command) (replies before now : List PlainReply)
+      → left ≡ [] → Ran old commands left replies new → now ≡ before ++ replies → RunsAll calls keeps old commands before now new
+  ran_all old new commands left replies before now none ran appended =
+      let whole = ran.parts ∙ ap (λ (l : List Command). ran.done ++ l) none ∙ append-nil ran.done in
+      record {
+        replies = replies;
+        appended = appended;
+        carried = subst (λ (l : List Command). CarriesOut calls keeps old l replies new) (sym whole) ran.carried;
+        shown = ran.shown;
+        none_left = ran.none_left;
+        none_lost = ran.none_lost;
+      }
+
+  -- one more, with its reply, which marks what it shows
+  pub ran_more : (old middle answered new : SessionState P) (commands queue left : List Command) (replies : List PlainReply) (command : Command) (reply : PlainReply)
+      → queue ≡ command ∷ left → Ran old commands queue replies middle → Answers middle command reply answered → new ≡ marked answered
+      → Ran old commands left (replies ++ reply ∷ []) new
+  ran_more old middle answered new commands queue left replies command reply popped ran answers e =
+      let shown = shows_no_more keeps old middle answered replies ran.shown answers.appends (ap (λ (s : SessionState P). s.shown) answers.rest) in
+      record {
+        done = ran.done ++ command ∷ [];
+        parts = ran.parts ∙ ap (λ (l : List Command). ran.done ++ l) popped ∙ sym (append_assoc ran.done (command ∷ []) left);
+        carried = subst (λ (s : SessionState P). CarriesOut calls keeps old (ran.done ++ command ∷ []) (replies ++ reply ∷ []) s) (sym e)
+            (carries_more old middle answered ran.done replies command reply ran.carried answers);
+        shown = shows_reply keeps old answered new replies reply shown answers.shows e;
+        none_left = none_left keeps answered new (replies ++ reply ∷ []) e;
+        none_lost = ap (session_losses keeps) e ∙ answers.loses_none ∙ ran.none_lost;
+      }
+
+  -- one more, which was refused
+  pub ran_refused : (old middle new : SessionState P) (commands queue left : List Command) (replies before now : List PlainReply) (command : Command)
+      → queue ≡ command ∷ left → Ran old commands queue replies middle → now ≡ before ++ replies
+      → Refuses calls keeps middle command new → RunsBeginning calls keeps old commands before now new
+  ran_refused old middle new commands queue left replies before now command popped ran appended refuses = record {
+    done = ran.done;
+    refused = command;
+    left = left;
+    middle = middle;
+    parts = ran.parts ∙ ap (λ (l : List Command). ran.done ++ l) popped;
+    ran = record {
       replies = replies;
       appended = appended;
-      carried = subst (λ (l : List Command). CarriesOut calls old l replies new) (sym whole) ran.2;
-      shown = ran.3;
-      none_left = ran.4;
-      none_lost = ran.5;
-    }
-
--- one more, with its reply, which marks what it shows
-pub ran_more : {P : Type 0} (calls : Ghosts P) (batches : kept.Ghosts P) (old middle asked new : SessionState P) (commands queue left : List Command) (replies : List PlainReply) (command : Command) (reply : PlainReply)
-    → queue ≡ command ∷ left → Ran calls batches old commands queue replies middle
-    → Steps calls middle.scope middle.provider middle.spans (plain_command command) reply.answer asked.provider asked.spans × (reply.exported ≡ unshown batches.kept asked) × LosesNone batches.lost middle asked
-    → asked ≡ record middle { provider = asked.provider; spans = asked.spans } → Appends (session_batches batches.kept middle) (session_batches batches.kept asked)
-    → new ≡ record asked { shown = length (session_batches batches.kept asked) }
-    → Ran calls batches old commands left (replies ++ reply ∷ []) new
-ran_more {P} calls batches old middle asked new commands queue left replies command reply popped ran answered rest keeps marked =
-    let carried = carries_more calls old middle asked ran.0 replies command reply ran.2 answered.0 (ap (λ (s : SessionState P). s.scope) rest) in
-    let shown = shows_no_more batches.kept old middle asked replies ran.3 keeps (ap (λ (s : SessionState P). s.shown) rest) in (
-      ran.0 ++ command ∷ [],
-      ran.1 ∙ ap (λ (l : List Command). ran.0 ++ l) popped ∙ sym (append_assoc ran.0 (command ∷ []) left),
-      subst (λ (s : SessionState P). CarriesOut calls old (ran.0 ++ command ∷ []) (replies ++ reply ∷ []) s) (sym marked) carried,
-      shows_reply batches.kept old asked new replies reply shown answered.1 marked,
-      none_left batches.kept asked new (replies ++ reply ∷ []) marked,
-      ap (session_losses batches.lost) marked ∙ answered.2 ∙ ran.5,
-    )
-
--- one more, which was refused
-pub ran_refused : {P : Type 0} (calls : Ghosts P) (batches : kept.Ghosts P) (old middle new : SessionState P) (commands queue left : List Command) (replies before now : List PlainReply) (command : Command)
-    → queue ≡ command ∷ left → Ran calls batches old commands queue replies middle → now ≡ before ++ replies
-    → Refuses calls batches middle command new → RunsBeginning calls batches old commands before now new
-ran_refused calls batches old middle new commands queue left replies before now command popped ran appended refuses = record {
-  done = ran.0;
-  refused = command;
-  left = left;
-  middle = middle;
-  parts = ran.1 ∙ ap (λ (l : List Command). ran.0 ++ l) popped;
-  ran = record { replies = replies; appended = appended; carried = ran.2; shown = ran.3; none_left = ran.4; none_lost = ran.5 };
-  refuses = refuses;
-}
+      carried = ran.carried;
+      shown = ran.shown;
+      none_left = ran.none_left;
+      none_lost = ran.none_lost;
+    };
+    refuses = refuses;
+  }

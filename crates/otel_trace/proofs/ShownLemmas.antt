@@ -4,12 +4,17 @@ use Rattle.std.proofs.lemmas.List.{take-append-le, drop-append-le}
 use Rattle.std.proofs.lemmas.List.Concat.{flat_map-append}
 use Rattle.otel_batch.specs.PlainSpanData.{PlainSpanData}
 use Rattle.opentelemetry.specs.Plain.{PlainScope}
-use Rattle.opentelemetry_sdk.specs.Each.{PassedThrough, Each}
+use Rattle.opentelemetry.specs.Plain.{PlainContext}
+use Rattle.opentelemetry_sdk.specs.Each.{Each}
 use Rattle.opentelemetry_sdk.specs.declared.trace.span_processor.SpanProcessor.{Ghosts}
-use Rattle.opentelemetry_sdk.specs.Provider.{ProviderState, TakesAndTells, root_cx}
-use Rattle.opentelemetry_sdk.specs.SpanHistory.{PlainSpan}
+use Rattle.opentelemetry_sdk.specs.Provider.{ProviderState}
+use Rattle.opentelemetry_sdk.specs.Starting.{PassesThrough, Starts, StartsOpen, root_cx, root_start}
+use Rattle.opentelemetry_sdk.specs.Ending.{TakesAndTells}
+use Rattle.opentelemetry_sdk.specs.SpanHistory.{PlainSpan, SpanHistory, over, recording}
+use Rattle.otel_trace.specs.declared.exported.KeepsBatches as kept
 use Rattle.std.specs.declared.alloc.AllocError.{AllocError}
-use Rattle.otel_trace.specs.KeptBatches.{Appends}
+use Rattle.opentelemetry.specs.PlainContexts.{empty_span_context}
+use Rattle.otel_trace.specs.KeptBatches.{Appends, OnlyAppends}
 use Rattle.otel_trace.specs.OpenSpans.{MayStart, MayDeliver}
 use Rattle.otel_trace.specs.PlainReply.{PlainReply}
 use Rattle.otel_trace.specs.SessionDelivery.{SessionState, Shows, NoneLeft, session_batches, batches_of_first, exported_in, spans_in, unshown}
@@ -32,14 +37,14 @@ none_shown : (batches : Batches) (n : ℕ) → n ≤ length batches → [] ≡ s
 none_shown batches n h = ap spans_in (sym (drop_of_length-le (take n batches) (subst (λ (m : ℕ). m ≤ n) (sym (length-take-le n batches h)) (omega arith))))
 
 -- no reply
-pub shows_nothing : {P : Type 0} (kept : P → Batches) (session : SessionState P) → Shows kept session [] session
-shows_nothing kept session = (appends_none _ _ refl, λ within. (omega arith, within, none_shown (session_batches kept session) session.shown within))
+pub shows_nothing : {P : Type 0} (keeps : kept.Ghosts P) (session : SessionState P) → Shows keeps session [] session
+shows_nothing keeps session = (appends_none _ _ refl, λ within. (omega arith, within, none_shown (session_batches keeps session) session.shown within))
 
 -- batches came, and no reply
-pub shows_no_more : {P : Type 0} (kept : P → Batches) (old middle new : SessionState P) (replies : List PlainReply)
-    → Shows kept old replies middle → Appends (session_batches kept middle) (session_batches kept new) → new.shown ≡ middle.shown
-    → Shows kept old replies new
-shows_no_more kept old middle new replies h k e = (
+pub shows_no_more : {P : Type 0} (keeps : kept.Ghosts P) (old middle new : SessionState P) (replies : List PlainReply)
+    → Shows keeps old replies middle → Appends (session_batches keeps middle) (session_batches keeps new) → new.shown ≡ middle.shown
+    → Shows keeps old replies new
+shows_no_more keeps old middle new replies h k e = (
   appends_more _ _ _ h.0 k,
   λ within.
       let shown = h.1 within in
@@ -48,7 +53,7 @@ shows_no_more kept old middle new replies h k e = (
         omega (arith, e, shown.1, longer),
         shown.2
             ∙ ap (λ (l : Batches). spans_in (drop old.shown l))
-            (sym (take-append-le middle.shown (session_batches kept middle) k.0 shown.1) ∙ ap (take middle.shown) (sym k.1) ∙ ap (λ (n : ℕ). take n (session_batches kept new)) (sym e)),
+            (sym (take-append-le middle.shown (session_batches keeps middle) k.0 shown.1) ∙ ap (take middle.shown) (sym k.1) ∙ ap (λ (n : ℕ). take n (session_batches keeps new)) (sym e)),
       ),
 )
 
@@ -58,15 +63,15 @@ split_drop batches a b h k =
     ∙ ap (drop a) (take-append-drop b batches)
 
 -- a reply that shows what was left to show
-pub shows_reply : {P : Type 0} (kept : P → Batches) (old middle new : SessionState P) (replies : List PlainReply) (reply : PlainReply)
-    → Shows kept old replies middle → reply.exported ≡ unshown kept middle → new ≡ record middle { shown = length (session_batches kept middle) }
-    → Shows kept old (replies ++ reply ∷ []) new
-shows_reply {P} kept old middle new replies reply h e n =
-    subst (λ (s : SessionState P). Shows kept old (replies ++ reply ∷ []) s) (sym n) (
+pub shows_reply : {P : Type 0} (keeps : kept.Ghosts P) (old middle new : SessionState P) (replies : List PlainReply) (reply : PlainReply)
+    → Shows keeps old replies middle → reply.exported ≡ unshown keeps middle → new ≡ record middle { shown = length (session_batches keeps middle) }
+    → Shows keeps old (replies ++ reply ∷ []) new
+shows_reply {P} keeps old middle new replies reply h e n =
+    subst (λ (s : SessionState P). Shows keeps old (replies ++ reply ∷ []) s) (sym n) (
       h.0,
       λ within.
           let shown = h.1 within in
-          let batches = session_batches kept middle in (
+          let batches = session_batches keeps middle in (
             omega (arith, shown.0, shown.1),
             omega arith,
             flat_map-append (λ r. r.exported) replies (reply ∷ [])
@@ -77,47 +82,38 @@ shows_reply {P} kept old middle new replies reply h e n =
           ),
     )
 
-pub none_left : {P : Type 0} (kept : P → Batches) (middle new : SessionState P) (replies : List PlainReply) → new ≡ record middle { shown = length (session_batches kept middle) } → NoneLeft kept replies new
-none_left {P} kept middle new replies e = subst (λ (s : SessionState P). NoneLeft kept replies s) (sym e) (inr refl)
+pub none_left : {P : Type 0} (keeps : kept.Ghosts P) (middle new : SessionState P) (replies : List PlainReply) → new ≡ record middle { shown = length (session_batches keeps middle) } → NoneLeft keeps replies new
+none_left {P} keeps middle new replies e = subst (λ (s : SessionState P). NoneLeft keeps replies s) (sym e) (inr refl)
 
--- what the first processor keeps where each took part in a start
-started_keeps : {P : Type 0} (kept : P → Batches) (gives : P → PlainSpan → PlainSpan → P → Type 0)
-    → ((p : P) (s t : PlainSpan) (q : P) → gives p s t q → Appends (kept p) (kept q))
-    → (s t : PlainSpan) (ps qs : List P) → PassedThrough gives s ps qs t → Appends (batches_of_first kept ps) (batches_of_first kept qs)
-started_keeps kept gives law s t [] [] h = ([], refl)
-started_keeps kept gives law s t [] (q ∷ qs) h = absurd h
-started_keeps kept gives law s t (p ∷ ps) [] h = absurd h
-started_keeps kept gives law s t (p ∷ ps) (q ∷ qs) h = law p s h.0 q h.1
+module _ {P : Type 0} (calls : Ghosts P) (keeps : kept.Ghosts P) (law : OnlyAppends calls keeps.kept) where
+  -- what the first processor keeps where each took part in a start
+  passed_keeps : (cx : PlainContext) (s t : PlainSpan) (ps qs : List P) → PassesThrough calls cx s ps qs t → Appends (batches_of_first keeps ps) (batches_of_first keeps qs)
+  passed_keeps cx s t [] [] h = ([], refl)
+  passed_keeps cx s t [] (q ∷ qs) h = absurd h
+  passed_keeps cx s t (p ∷ ps) [] h = absurd h
+  passed_keeps cx s t (p ∷ ps) (q ∷ qs) h = law.starts p s cx h.0 q h.1
 
-start_keeps : {P : Type 0} (kept : P → Batches) (gives : P → PlainSpan → PlainSpan → P → Type 0)
-    → ((p : P) (s t : PlainSpan) (q : P) → gives p s t q → Appends (kept p) (kept q))
-    → (is_shut : Bool) (A C : Type 0) (old new : ProviderState P) (B : Type 0) (s t : PlainSpan)
-    → MatchBool is_shut (A × (new ≡ old)) (B × PassedThrough gives s old.processors new.processors t × C)
-    → Appends (batches_of_first kept old.processors) (batches_of_first kept new.processors)
-start_keeps {P} kept gives law true A C old new B s t h = appends_none _ _ (ap (λ (r : ProviderState P). batches_of_first kept r.processors) h.1)
-start_keeps kept gives law false A C old new B s t h = started_keeps kept gives law s t old.processors new.processors h.1
+  started_keeps : (is_shut : Bool) (old new : ProviderState P) (scope : PlainScope) (called : List ℕ) (now : ℕ) (history : SpanHistory)
+      → MatchBool is_shut ((history ≡ over empty_span_context old.span_limits) × (new ≡ old)) (StartsOpen calls old scope called now history new)
+      → Appends (batches_of_first keeps old.processors) (batches_of_first keeps new.processors)
+  started_keeps true old new scope called now history h = appends_none _ _ (ap (λ (r : ProviderState P). batches_of_first keeps r.processors) h.1)
+  started_keeps false old new scope called now history h = passed_keeps root_cx _ _ old.processors new.processors h.passes
 
-pub may_start_keeps : {P : Type 0} (kept : P → Batches) (calls : Ghosts P)
-    → ((p : P) (s t : PlainSpan) (q : P) → calls.start_gives p s root_cx t q → Appends (kept p) (kept q))
-    → (old new : ProviderState P) (scope : PlainScope) (called : List ℕ) (now : ℕ)
-    → MayStart calls old scope called now new → Appends (batches_of_first kept old.processors) (batches_of_first kept new.processors)
-may_start_keeps {P} kept calls law old new scope called now (inl e) = appends_none _ _ (ap (λ (r : ProviderState P). batches_of_first kept r.processors) e)
-may_start_keeps kept calls law old new scope called now (inr h) = start_keeps kept (λ p s t q. calls.start_gives p s root_cx t q) law old.is_shut _ _ old new _ _ _ h.1
+  pub may_start_keeps : (old new : ProviderState P) (scope : PlainScope) (called : List ℕ) (now : ℕ)
+      → MayStart calls old scope called now new → Appends (batches_of_first keeps old.processors) (batches_of_first keeps new.processors)
+  may_start_keeps old new scope called now (inl e) = appends_none _ _ (ap (λ (r : ProviderState P). batches_of_first keeps r.processors) e)
+  may_start_keeps old new scope called now (inr h) = started_keeps old.is_shut old new scope called now h.0 h.1
 
--- the same of an end
-asked_keeps : {P : Type 0} (calls : Ghosts P) (kept : P → Batches)
-    → ((p : P) (span : PlainSpanData) (answer : Result (Unit {0}) AllocError) (q : P) → calls.end_gives p span answer q → Appends (kept p) (kept q))
-    → (span : PlainSpanData) (ps qs : List P) (rs : List (Result (Unit {0}) AllocError)) → Each (TakesAndTells calls.told calls.end_gives span) ps rs qs
-    → Appends (batches_of_first kept ps) (batches_of_first kept qs)
-asked_keeps calls kept law span [] [] [] h = ([], refl)
-asked_keeps calls kept law span [] (q ∷ qs) [] h = absurd h
-asked_keeps calls kept law span [] qs (r ∷ rs) h = absurd h
-asked_keeps calls kept law span (p ∷ ps) qs [] h = absurd h
-asked_keeps calls kept law span (p ∷ ps) [] (r ∷ rs) h = absurd h
-asked_keeps calls kept law span (p ∷ ps) (q ∷ qs) (r ∷ rs) h = law p span r q h.0.0
+  -- the same of an end
+  asked_keeps : (span : PlainSpanData) (ps qs : List P) (rs : List (Result (Unit {0}) AllocError)) → Each (TakesAndTells calls span) ps rs qs
+      → Appends (batches_of_first keeps ps) (batches_of_first keeps qs)
+  asked_keeps span [] [] [] h = ([], refl)
+  asked_keeps span [] (q ∷ qs) [] h = absurd h
+  asked_keeps span [] qs (r ∷ rs) h = absurd h
+  asked_keeps span (p ∷ ps) qs [] h = absurd h
+  asked_keeps span (p ∷ ps) [] (r ∷ rs) h = absurd h
+  asked_keeps span (p ∷ ps) (q ∷ qs) (r ∷ rs) h = law.ends p span r q h.0.gives
 
-pub may_deliver_keeps : {P : Type 0} (calls : Ghosts P) (kept : P → Batches)
-    → ((p : P) (span : PlainSpanData) (answer : Result (Unit {0}) AllocError) (q : P) → calls.end_gives p span answer q → Appends (kept p) (kept q))
-    → (ps qs : List P) → MayDeliver calls ps qs → Appends (batches_of_first kept ps) (batches_of_first kept qs)
-may_deliver_keeps calls kept law ps qs (inl e) = appends_none _ _ (ap (batches_of_first kept) e)
-may_deliver_keeps calls kept law ps qs (inr h) = asked_keeps calls kept law h.0 ps qs h.2.0 h.2.2
+  pub may_deliver_keeps : (ps qs : List P) → MayDeliver calls ps qs → Appends (batches_of_first keeps ps) (batches_of_first keeps qs)
+  may_deliver_keeps ps qs (inl e) = appends_none _ _ (ap (batches_of_first keeps) e)
+  may_deliver_keeps ps qs (inr h) = asked_keeps h.0 ps qs h.2.0 h.2.2

@@ -3,6 +3,7 @@
 use Rattle.std.specs.Prelude.{◌≡◌, ◌++◌, ◌&&◌, not, ℕ, List, [], ◌∷◌, Option, Bool, true, false, Result, Ok, Err, refl}
 use Rattle.std.specs.declared.alloc.AllocError.{AllocError}
 use Rattle.std.proofs.Common.{ap, sym, ◌∙◌, append-nil}
+use Rattle.opentelemetry.specs.Plain.{PlainContext}
 use Rattle.otel_base.specs.declared.error.OTelSdkError.{OTelSdkError}
 use Rattle.otel_batch.specs.ExporterKinds.{ExporterGives}
 use Rattle.otel_batch.specs.PlainSpanData.{PlainSpanData}
@@ -11,6 +12,9 @@ use Rattle.otel_batch.specs.declared.trace.exporter_box.ExporterOf.{ExporterOf}
 use Rattle.otel_batch.specs.declared.trace.exporter_box.ExporterOf.TheVariants as exporters
 use Rattle.opentelemetry_sdk.specs.ProcessorKinds.{ProcessorGives}
 use Rattle.opentelemetry_sdk.specs.ProcessorTelling.{is_sampled}
+use Rattle.opentelemetry_sdk.specs.SpanHistory.{PlainSpan}
+use Rattle.opentelemetry_sdk.specs.declared.trace.span_processor.SpanProcessor.{Ghosts}
+use Rattle.otel_batch.specs.declared.trace.export.SpanExporter as exporting
 use Rattle.opentelemetry_sdk.specs.SimpleProcessor.{SimpleProcessor, SimpleEnds, ExportsIf}
 use Rattle.opentelemetry_sdk.specs.declared.trace.processor.ProcessorOf.{ProcessorOf}
 use Rattle.opentelemetry_sdk.specs.declared.trace.processor.ProcessorOf.TheVariants as kinds
@@ -18,6 +22,11 @@ use Rattle.opentelemetry_sdk.specs.declared.trace.processor.ProcessorOf.TheVaria
 -- a list and another that begins with it
 abbrev pub Appends : {X : Type 0} → List X → List X → Type 0
 Appends {X} old new = (more : List X) × (new ≡ old ++ more)
+
+-- a call of a processor that starts or ends a span takes back no batch
+pub record OnlyAppends {P : Type 0} (calls : Ghosts P) (kept : P → List (List PlainSpanData)) : Type 0 where
+  pub starts : (p : P) (span : PlainSpan) (cx : PlainContext) (edited : PlainSpan) (q : P) → calls.start_gives p span cx edited q → Appends (kept p) (kept q)
+  pub ends : (p : P) (span : PlainSpanData) (answer : Result (Unit {0}) AllocError) (q : P) → calls.end_gives p span answer q → Appends (kept p) (kept q)
 
 -- the batches that an exporter keeps, and how many it lost; none where it is not the one in memory
 abbrev pub exporter_keeps : {C : Type 0} → ExporterOf StoredBatches C → List (List PlainSpanData)
@@ -54,19 +63,19 @@ exporter_appends exports (exporters.Custom c) batch answer (exporters.Memory n) 
 exporter_appends exports (exporters.Custom c) batch answer (exporters.Custom d) h = ([], refl)
 
 -- an end at a simple processor
-appends_if : {E : Type 0} (keeps : E → List (List PlainSpanData)) (told : E → Option (List (List PlainSpanData))) (exports : E → List PlainSpanData → Result (Unit {0}) OTelSdkError → E → Type 0)
-    → ((old : E) (batch : List PlainSpanData) (answer : Result (Unit {0}) OTelSdkError) (new : E) → exports old batch answer new → Appends (keeps old) (keeps new))
+appends_if : {E : Type 0} (keeps : E → List (List PlainSpanData)) (calls : exporting.Ghosts E)
+    → ((old : E) (batch : List PlainSpanData) (answer : Result (Unit {0}) OTelSdkError) (new : E) → calls.export_gives old batch answer new → Appends (keeps old) (keeps new))
     → (is_due : Bool) (old : SimpleProcessor E) (span : PlainSpanData) (taken : Result (Unit {0}) AllocError) (new : SimpleProcessor E)
-    → ExportsIf is_due told exports old span taken new → Appends (keeps old.exporter) (keeps new.exporter)
-appends_if keeps told exports appends true old span (Ok _) new h = appends old.exporter (span ∷ []) h.0 new.exporter h.1
-appends_if {E} keeps told exports appends true old span (Err _) new h = nothing_more (λ (p : SimpleProcessor E). keeps p.exporter) old new h
-appends_if {E} keeps told exports appends false old span taken new h = nothing_more (λ (p : SimpleProcessor E). keeps p.exporter) old new h.1
+    → ExportsIf calls is_due old span taken new → Appends (keeps old.exporter) (keeps new.exporter)
+appends_if keeps calls appends true old span (Ok _) new h = appends old.exporter (span ∷ []) h.answer new.exporter h.gives
+appends_if {E} keeps calls appends true old span (Err _) new h = nothing_more (λ (p : SimpleProcessor E). keeps p.exporter) old new h
+appends_if {E} keeps calls appends false old span taken new h = nothing_more (λ (p : SimpleProcessor E). keeps p.exporter) old new h.1
 
-pub simple_appends : {E : Type 0} (keeps : E → List (List PlainSpanData)) (told : E → Option (List (List PlainSpanData))) (exports : E → List PlainSpanData → Result (Unit {0}) OTelSdkError → E → Type 0)
-    → ((old : E) (batch : List PlainSpanData) (answer : Result (Unit {0}) OTelSdkError) (new : E) → exports old batch answer new → Appends (keeps old) (keeps new))
+pub simple_appends : {E : Type 0} (keeps : E → List (List PlainSpanData)) (calls : exporting.Ghosts E)
+    → ((old : E) (batch : List PlainSpanData) (answer : Result (Unit {0}) OTelSdkError) (new : E) → calls.export_gives old batch answer new → Appends (keeps old) (keeps new))
     → (old : SimpleProcessor E) (span : PlainSpanData) (taken : Result (Unit {0}) AllocError) (new : SimpleProcessor E)
-    → SimpleEnds told exports old span taken new → Appends (keeps old.exporter) (keeps new.exporter)
-simple_appends keeps told exports appends old span taken new h = appends_if keeps told exports appends (not old.is_shut && is_sampled span) old span taken new h
+    → SimpleEnds calls old span taken new → Appends (keeps old.exporter) (keeps new.exporter)
+simple_appends keeps calls appends old span taken new h = appends_if keeps calls appends (not old.is_shut && is_sampled span) old span taken new h
 
 -- a call that leaves a simple processor as it was
 pub simple_stays : {E : Type 0} {B : Type 0} (keeps : E → List (List PlainSpanData)) (old new : SimpleProcessor E) → (new ≡ old) × B → Appends (keeps old.exporter) (keeps new.exporter)

@@ -1,19 +1,21 @@
 -- The spans of a session by name, and what the commands do to the span of a name.
-use Rattle.std.specs.Prelude.{◌≡◌, ℕ, Bool, true, false, List, [], ◌∷◌, Option, Some, None, is_some, map, string_bytes, String, if◌then◌else◌, Result, ◌⊎◌}
-use Rattle.std.specs.declared.alloc.AllocError.{AllocError}
+use Rattle.std.specs.Prelude.{◌≡◌, ℕ, Bool, List, [], ◌∷◌, Option, Some, None, is_some, map, string_bytes, String, if◌then◌else◌, ◌⊎◌}
 use Rattle.std.specs.Ordering.{nat_cmp}
 use Rattle.std.specs.Cmp.Lexicographic.{slice_cmp}
 use Rattle.std.specs.BTreeMap.{is_at}
 use Rattle.opentelemetry.specs.Plain.{PlainScope}
-use Rattle.opentelemetry_sdk.specs.SpanHistory.{PlainSpan, Edit, edited, ended}
-use Rattle.opentelemetry_sdk.specs.ProcessorTelling.{ProcessorTelling, EachFollows}
+use Rattle.otel_batch.specs.PlainSpanData.{PlainSpanData}
+use Rattle.opentelemetry_sdk.specs.SpanHistory.{PlainSpan, SpanHistory, span_of, Edit, set_attribute, edited, ended}
 use Rattle.opentelemetry_sdk.specs.Each.{AskedAll}
+use Rattle.opentelemetry_sdk.specs.Provider.{ProviderState}
+use Rattle.opentelemetry_sdk.specs.Starting.{Starts}
+use Rattle.opentelemetry_sdk.specs.Ending.{TakesAndTells, DeliversIf}
 use Rattle.opentelemetry_sdk.specs.declared.trace.span_processor.SpanProcessor.{Ghosts}
-use Rattle.opentelemetry_sdk.specs.Provider.{ProviderState, Starts, root_cx, TakesAndTells, DeliversIf, deliveries}
+use Rattle.otel_trace.specs.declared.command.SpanEdit.{SpanEdit}
+use Rattle.otel_trace.specs.declared.command.SpanEdit.TheVariants as span_edits
 use Rattle.otel_trace.specs.declared.reply.Answer.{Answer}
 use Rattle.otel_trace.specs.declared.reply.Answer.TheVariants as answers
 use Rattle.otel_trace.specs.declared.reply.SpanIdentity.{SpanIdentity}
-use Rattle.otel_batch.specs.PlainSpanData.{PlainSpanData}
 
 -- spans, each under the bytes of its name
 abbrev pub NamedSpans : Type 0
@@ -44,51 +46,59 @@ SameSpans old new = (q : List ℕ) → named new q ≡ named old q
 abbrev pub identity_of : PlainSpan → SpanIdentity
 identity_of span = record { trace_id = span.span_context.trace_id; span_id = span.span_context.span_id; trace_flags = span.span_context.trace_flags }
 
--- a start under a name: nothing where the name is taken; else the new span stands there
-abbrev pub StartsNamed : {P : Type 0} → Ghosts P → NamedSpans → List ℕ → ProviderState P → PlainScope → List ℕ → ℕ → Option PlainSpan → Option (SpanIdentity × Bool) → NamedSpans → ProviderState P → Type 0
-StartsNamed calls old name p scope called now (Some _) answer new q = (answer ≡ None) × SameSpans old new × (q ≡ p)
-StartsNamed calls old name p scope called now None answer new q = (span : PlainSpan) × Starts (λ p s t q. calls.start_gives p s root_cx t q) p scope called now span q
-    × (answer ≡ Some (identity_of span, is_some span.recorded)) × PutsSpan old name span new
+-- what is said of a start, by the span that it made
+abbrev pub start_answer : PlainSpan → Answer
+start_answer span = if is_some span.recorded then answers.Started (identity_of span) else answers.Dropped (identity_of span)
 
--- what a start may do to a provider, also where its span found no memory: nothing, or what the start of a span does
-abbrev pub MayStart : {P : Type 0} → Ghosts P → ProviderState P → PlainScope → List ℕ → ℕ → ProviderState P → Type 0
-MayStart calls old scope called now new = (new ≡ old) ⊎ ((span : PlainSpan) × Starts (λ p s t q. calls.start_gives p s root_cx t q) old scope called now span new)
+-- what is said of an edit of a span
+abbrev pub edit_answer : PlainSpan → Answer
+edit_answer span = if is_some span.recorded then answers.Ok else answers.Ignored
 
--- an edit of the span of a name: none where there is no such span; else whether it is recording, and the edit
-abbrev pub EditsNamed : NamedSpans → List ℕ → Edit → Option PlainSpan → Option Bool → NamedSpans → Type 0
-EditsNamed old name edit None answer new = (answer ≡ None) × SameSpans old new
-EditsNamed old name edit (Some span) answer new = (answer ≡ Some (is_some span.recorded)) × PutsSpan old name (edited edit span) new
+-- what is said of the end of a span, which so many processors refused
+abbrev pub end_answer : PlainSpan → ℕ → Answer
+end_answer span refused = if is_some span.recorded then answers.Ended refused else answers.Ignored
 
--- how many processors refused, where the span was recording
-abbrev pub refusals : Option PlainSpanData → ℕ → Option ℕ
-refusals None n = None
-refusals (Some _) n = Some n
+-- an edit without where its texts lie
+abbrev pub plain_edit : SpanEdit → Edit
+plain_edit (span_edits.SetAttribute attribute) = set_attribute attribute
 
--- the end of the span of a name: none where there is no such span; else what its end delivers, and to whom
-abbrev pub EndsNamed : {P : Type 0} → Ghosts P → NamedSpans → List ℕ → ProviderState P → ℕ → Option PlainSpan → Option (Option ℕ) → NamedSpans → ProviderState P → Type 0
-EndsNamed calls old name p moment None answer new q = (answer ≡ None) × SameSpans old new × (q ≡ p)
-EndsNamed calls old name p moment (Some span) answer new q = (n : ℕ) × (answer ≡ Some (refusals span.recorded n)) × PutsSpan old name (ended span) new
-    × EachFollows calls.told (deliveries p.is_shut moment span.recorded n) p.processors q.processors × (q ≡ record p { processors = q.processors })
-    × DeliversIf calls.told calls.end_gives p.is_shut moment span.recorded p.processors q.processors n
+-- an edit of the span of a name
+abbrev pub EditsNamed : NamedSpans → List ℕ → Edit → Option PlainSpan → Answer → NamedSpans → Type 0
+EditsNamed old name edit None answer new = (answer ≡ answers.NoSuchSpan) × SameSpans old new
+EditsNamed old name edit (Some span) answer new = (answer ≡ edit_answer span) × PutsSpan old name (edited edit span) new
 
--- what an end may do to processors: nothing, or each is given one span
-abbrev pub MayDeliver : {P : Type 0} → Ghosts P → List P → List P → Type 0
-MayDeliver calls ps qs = (qs ≡ ps) ⊎ ((span : PlainSpanData) × (n : ℕ) × AskedAll (TakesAndTells calls.told calls.end_gives span) ps qs n)
+module _ {P : Type 0} (calls : Ghosts P) where
+  -- a new name is given the span that a start makes
+  pub record PutsStarted (p : ProviderState P) (scope : PlainScope) (old : NamedSpans) (name called : List ℕ) (moment : ℕ)
+      (answer : Answer) (q : ProviderState P) (new : NamedSpans) : Type 0 where
+    pub history : SpanHistory
+    pub starts : Starts calls p scope called moment history q
+    pub says : answer ≡ start_answer (span_of history)
+    pub put : PutsSpan old name (span_of history) new
 
--- the answer to an attribute
-abbrev pub attr_answer : Option Bool → Answer
-attr_answer None = answers.NoSuchSpan
-attr_answer (Some true) = answers.Ok
-attr_answer (Some false) = answers.Ignored
+  -- a start under a name: nothing where the name is taken
+  abbrev pub StartsNamed : ProviderState P → PlainScope → NamedSpans → List ℕ → List ℕ → ℕ → Option PlainSpan → Answer → ProviderState P → NamedSpans → Type 0
+  StartsNamed p scope old name called moment (Some _) answer q new = (answer ≡ answers.SpanExists) × (q ≡ p) × SameSpans old new
+  StartsNamed p scope old name called moment None answer q new = PutsStarted p scope old name called moment answer q new
 
--- the answer to an end
-abbrev pub end_answer : Option (Option ℕ) → Answer
-end_answer None = answers.NoSuchSpan
-end_answer (Some None) = answers.Ignored
-end_answer (Some (Some refused)) = answers.Ended refused
+  -- what a start may do to a provider, also where its span found no memory: nothing, or what the start of a span does
+  abbrev pub MayStart : ProviderState P → PlainScope → List ℕ → ℕ → ProviderState P → Type 0
+  MayStart p scope called moment q = (q ≡ p) ⊎ ((history : SpanHistory) × Starts calls p scope called moment history q)
 
--- the answer to a start
-abbrev pub start_answer : Option (SpanIdentity × Bool) → Answer
-start_answer None = answers.SpanExists
-start_answer (Some (identity, true)) = answers.Started identity
-start_answer (Some (identity, false)) = answers.Dropped identity
+  -- the end of a span: what it delivers, and to whom
+  pub record EndsSpan (p : ProviderState P) (old : NamedSpans) (name : List ℕ) (moment : ℕ) (span : PlainSpan)
+      (answer : Answer) (q : ProviderState P) (new : NamedSpans) : Type 0 where
+    pub refused : ℕ
+    pub delivers : DeliversIf calls p.is_shut moment span.recorded p.processors q.processors refused
+    pub says : answer ≡ end_answer span refused
+    pub put : PutsSpan old name (ended span) new
+    pub rest : q ≡ record p { processors = q.processors }
+
+  -- the end of the span of a name
+  abbrev pub EndsNamed : ProviderState P → NamedSpans → List ℕ → ℕ → Option PlainSpan → Answer → ProviderState P → NamedSpans → Type 0
+  EndsNamed p old name moment None answer q new = (answer ≡ answers.NoSuchSpan) × (q ≡ p) × SameSpans old new
+  EndsNamed p old name moment (Some span) answer q new = EndsSpan p old name moment span answer q new
+
+  -- what an end may do to processors: nothing, or each is given one span
+  abbrev pub MayDeliver : List P → List P → Type 0
+  MayDeliver ps qs = (qs ≡ ps) ⊎ ((span : PlainSpanData) × (n : ℕ) × AskedAll (TakesAndTells calls span) ps qs n)

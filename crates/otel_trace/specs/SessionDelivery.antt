@@ -1,23 +1,23 @@
--- What the commands of a session demand of its exporters. It speaks of each span as its history, a start and the edits
--- since, and of what an end delivers as the data of that history: whole lists, each cut once. No history is stored.
-use Rattle.std.specs.Prelude.{◌≡◌, ℕ, Bool, true, false, List, [], ◌∷◌, ◌++◌, Option, Some, None, map, take, drop, slice_get, Result, Ok, Err, MatchBool, if◌then◌else◌, ◌⊎◌, ◌≤◌, length}
+-- What the commands of a session demand of its provider and its exporters. It speaks of each span as its history, a start
+-- and the edits since, and of what an end delivers as the data of that history: whole lists, each cut once. No history is
+-- stored.
+use Rattle.std.specs.Prelude.{◌≡◌, ℕ, true, false, List, [], ◌∷◌, ◌++◌, Option, Some, None, map, take, drop, slice_get, Result, Ok, Err, MatchBool, if◌then◌else◌, ◌⊎◌, ◌≤◌, length}
 use Rattle.std.specs.List.{flat_map}
 use Rattle.std.specs.Option.{option_map, option_map_or}
-use Rattle.opentelemetry.specs.Plain.{PlainSpanContext, PlainScope, text}
+use Rattle.opentelemetry.specs.Plain.{PlainScope, text}
 use Rattle.otel_base.specs.declared.error.OTelSdkError.{OTelSdkError}
 use Rattle.otel_base.specs.declared.error.OTelSdkError.TheVariants as errors
-use Rattle.otel_base.specs.declared.trace.span_limit.SpanLimits.{SpanLimits}
 use Rattle.otel_batch.specs.PlainSpanData.{PlainSpanData}
-use Rattle.opentelemetry_sdk.specs.SpanHistory.{SpanHistory, begun, over, Edit, set_attribute, data_of, span_of}
-use Rattle.opentelemetry_sdk.specs.ProcessorTelling.{ProcessorTelling, Delivery, EachFollows}
-use Rattle.opentelemetry_sdk.specs.Each.{AskedAll}
+use Rattle.opentelemetry_sdk.specs.SpanHistory.{SpanHistory, begun, over, SpanStart, Edit, set_attribute, data_of, span_of}
+use Rattle.opentelemetry_sdk.specs.Deliveries.{Delivery, EachFollows}
+use Rattle.opentelemetry_sdk.specs.Provider.{ProviderState, ShutsDown}
+use Rattle.opentelemetry_sdk.specs.Starting.{Starts}
+use Rattle.opentelemetry_sdk.specs.Ending.{Delivers, end_delivers}
 use Rattle.opentelemetry_sdk.specs.declared.trace.span_processor.SpanProcessor.{Ghosts}
 use Rattle.otel_trace.specs.declared.exported.KeepsBatches as kept
-use Rattle.opentelemetry.specs.PlainContexts.{empty_span_context}
-use Rattle.opentelemetry_sdk.specs.Provider.{ProviderState, ShutsDown, TakesAndTells, end_delivers, root_span, root_span_context}
 use Rattle.otel_trace.specs.Commands.{PlainCommand, start, attr, end, plain_command, plain_commands}
 use Rattle.otel_trace.specs.KeptBatches.{Appends}
-use Rattle.otel_trace.specs.OpenSpans.{NamedSpans, SameSpans, named, is_name}
+use Rattle.otel_trace.specs.OpenSpans.{NamedSpans, SameSpans, MayStart, named, is_name, start_answer}
 use Rattle.otel_trace.specs.AnswerText.{replies_text}
 use Rattle.otel_trace.specs.Lines.{TextSpells}
 use Rattle.otel_trace.specs.PlainReply.{PlainReply, NoneRefused}
@@ -27,7 +27,6 @@ use Rattle.otel_trace.specs.declared.session.FeedError.TheVariants as feeds
 use Rattle.otel_trace.specs.declared.command.Command.{Command}
 use Rattle.otel_trace.specs.declared.reply.Answer.{Answer}
 use Rattle.otel_trace.specs.declared.reply.Answer.TheVariants as answers
-use Rattle.otel_trace.specs.declared.reply.SpanIdentity.{SpanIdentity}
 
 -- the history of the span of each name, where a start made it
 abbrev pub Histories : Type 0
@@ -38,62 +37,47 @@ abbrev pub with_history : Histories → List ℕ → SpanHistory → Histories
 with_history old name history = λ q. if is_name q name then Some history else old q
 
 -- these spans are those that the histories give
-abbrev pub Give : Histories → NamedSpans → Type 0
-Give histories spans = (q : List ℕ) → named spans q ≡ option_map span_of (histories q)
+abbrev pub Describe : Histories → NamedSpans → Type 0
+Describe histories spans = (q : List ℕ) → named spans q ≡ option_map span_of (histories q)
 
--- what a session's commands depend on and leave alone: whether its provider is shut, the limits, and the library's scope
-pub record SessionFrame : Type 0 where
-  pub is_shut : Bool
-  pub limits : SpanLimits
-  pub scope : PlainScope
+-- where the commands of a session stand: its provider, and the history of the span of each name
+pub record Course (P : Type 0) : Type 0 where
+  pub provider : ProviderState P
+  pub histories : Histories
 
--- the context that an identity stands for at a root span
-abbrev pub root_context_of : SpanIdentity → PlainSpanContext
-root_context_of identity = root_span_context identity.trace_id identity.span_id identity.trace_flags
+-- a command that is answered and changes nothing
+pub record OnlyAnswers {P : Type 0} (said : Answer) (old : Course P) (answer : Answer) (ds : List Delivery) (new : Course P) : Type 0 where
+  pub says : answer ≡ said
+  pub delivers : ds ≡ []
+  pub rest : new ≡ old
 
--- who the span of a shut provider is: nobody
-abbrev pub nobody : SpanIdentity
-nobody = record { trace_id = 0; span_id = 0; trace_flags = 0 }
+-- one more edit at the end of a history
+pub record AddsEdit {P : Type 0} (old : Course P) (name : List ℕ) (from : SpanStart) (edits : List Edit) (answer : Answer) (ds : List Delivery) (new : Course P) : Type 0 where
+  pub says : answer ≡ answers.Ok
+  pub delivers : ds ≡ []
+  pub rest : new ≡ record old { histories = with_history old.histories name (begun from edits) }
 
--- what a start makes of a new name: a span of its own, which the processors may edit at once; at a shut provider nobody
-abbrev pub NewSpan : SessionFrame → Bool → Histories → List ℕ → List ℕ → ℕ → Answer → Histories → Type 0
-NewSpan frame true old span name moment answer new = (answer ≡ answers.Dropped nobody) × (new ≡ with_history old span (over empty_span_context frame.limits))
-NewSpan frame false old span name moment answer new = (identity : SpanIdentity) × (edits : List Edit) × (identity.trace_flags ≡ 1) × (answer ≡ answers.Started identity)
-    × (new ≡ with_history old span (begun (root_span (root_context_of identity) frame.scope name moment frame.limits) edits))
+-- an edit of the span of a name: it reaches a history that is not over
+abbrev pub EditDemands : {P : Type 0} → Course P → List ℕ → Edit → Option SpanHistory → Answer → List Delivery → Course P → Type 0
+EditDemands old name edit None answer ds new = OnlyAnswers answers.NoSuchSpan old answer ds new
+EditDemands old name edit (Some (over context limits)) answer ds new = OnlyAnswers answers.Ignored old answer ds new
+EditDemands old name edit (Some (begun from edits)) answer ds new = AddsEdit old name from (edits ++ edit ∷ []) answer ds new
 
--- a start: a name is taken once
-abbrev pub StartFound : SessionFrame → Histories → List ℕ → List ℕ → ℕ → Option SpanHistory → Answer → List Delivery → Histories → Type 0
-StartFound frame old span name moment (Some _) answer ds new = (answer ≡ answers.SpanExists) × (ds ≡ []) × (new ≡ old)
-StartFound frame old span name moment None answer ds new = NewSpan frame frame.is_shut old span name moment answer new × (ds ≡ [])
+-- the batches that the first of these processors keeps
+abbrev pub batches_of_first : {P : Type 0} → kept.Ghosts P → List P → List (List PlainSpanData)
+batches_of_first keeps processors = option_map_or keeps.kept (slice_get processors 0) []
 
--- an attribute: one more edit of a history that is not over
-abbrev pub AttrFound : Histories → List ℕ → List ℕ → List ℕ → Option SpanHistory → Answer → List Delivery → Histories → Type 0
-AttrFound old span key value None answer ds new = (answer ≡ answers.NoSuchSpan) × (ds ≡ []) × (new ≡ old)
-AttrFound old span key value (Some (over context limits)) answer ds new = (answer ≡ answers.Ignored) × (ds ≡ []) × (new ≡ old)
-AttrFound old span key value (Some (begun from edits)) answer ds new = (answer ≡ answers.Ok) × (ds ≡ [])
-    × (new ≡ with_history old span (begun from (edits ++ set_attribute (record { key = key; value = text value }) ∷ [])))
+-- how many batches the first of these processors lost for want of memory
+abbrev pub losses_of_first : {P : Type 0} → kept.Ghosts P → List P → ℕ
+losses_of_first keeps processors = option_map_or keeps.lost (slice_get processors 0) 0
 
--- an end: the history is over, and its data is delivered, unless the provider is shut
-abbrev pub EndFound : SessionFrame → Histories → List ℕ → ℕ → Option SpanHistory → Answer → List Delivery → Histories → Type 0
-EndFound frame old span moment None answer ds new = (answer ≡ answers.NoSuchSpan) × (ds ≡ []) × (new ≡ old)
-EndFound frame old span moment (Some (over context limits)) answer ds new = (answer ≡ answers.Ignored) × (ds ≡ []) × (new ≡ old)
-EndFound frame old span moment (Some (begun from edits)) answer ds new = (refused : ℕ) × (answer ≡ answers.Ended refused)
-    × (ds ≡ end_delivers frame.is_shut (data_of from edits moment) refused) × (new ≡ with_history old span (over from.span_context from.limits))
-    × (frame.is_shut ≡ true → refused ≡ 0)
+-- the spans of batches
+abbrev pub spans_in : List (List PlainSpanData) → List PlainSpanData
+spans_in batches = flat_map (λ batch. batch) batches
 
--- what one command demands: its answer, what is delivered, and the histories behind it
-abbrev pub Demands : SessionFrame → Histories → PlainCommand → Answer → List Delivery → Histories → Type 0
-Demands frame old (start span name moment) answer ds new = StartFound frame old span name moment (old span) answer ds new
-Demands frame old (attr span key value) answer ds new = AttrFound old span key value (old span) answer ds new
-Demands frame old (end span moment) answer ds new = EndFound frame old span moment (old span) answer ds new
-
--- what commands demand one after another: the deliveries join
-abbrev pub DemandAll : SessionFrame → Histories → List PlainCommand → List Answer → List Delivery → Histories → Type 0
-DemandAll frame old [] [] ds new = (ds ≡ []) × (new ≡ old)
-DemandAll frame old [] (answer ∷ answers) ds new = ⊥
-DemandAll frame old (command ∷ commands) [] ds new = ⊥
-DemandAll frame old (command ∷ commands) (answer ∷ answers) ds new = (middle : Histories) × (first : List Delivery) × (rest : List Delivery)
-    × Demands frame old command answer first middle × DemandAll frame middle commands answers rest new × (ds ≡ first ++ rest)
+-- the spans that replies show
+abbrev pub exported_in : List PlainReply → List PlainSpanData
+exported_in replies = flat_map (λ reply. reply.exported) replies
 
 -- a session: its provider, the library's scope, its spans, and how many batches its replies have shown
 pub record SessionState (P : Type 0) : Type 0 where
@@ -102,158 +86,212 @@ pub record SessionState (P : Type 0) : Type 0 where
   pub spans : NamedSpans
   pub shown : ℕ
 
--- what the commands of a session depend on
-abbrev pub frame_with : {P : Type 0} → ProviderState P → PlainScope → SessionFrame
-frame_with provider scope = record { is_shut = provider.is_shut; limits = provider.span_limits; scope = scope }
-
-abbrev pub frame_of : {P : Type 0} → SessionState P → SessionFrame
-frame_of session = frame_with session.provider session.scope
-
--- the answers of replies
-abbrev pub answers_of : List PlainReply → List Answer
-answers_of replies = map (λ reply. reply.answer) replies
-
--- each delivery was given to each processor in its turn, as many of which refused it as it counts; whatever else they were
--- asked, no telling changed
-abbrev pub Asked : {P : Type 0} → Ghosts P → List Delivery → List P → List P → Type 0
-Asked calls [] ps qs = map calls.told qs ≡ map calls.told ps
-Asked {P} calls (delivery ∷ ds) ps qs = (before : List P) × (after : List P) × (map calls.told before ≡ map calls.told ps)
-    × AskedAll (TakesAndTells calls.told calls.end_gives delivery.span) before after delivery.refused × Asked calls ds after qs
-
--- one command was carried out: its answer, the spans and what the processors were given are what it demands of the
--- histories that the spans had
-abbrev pub Steps : {P : Type 0} → Ghosts P → PlainScope → ProviderState P → NamedSpans → PlainCommand → Answer → ProviderState P → NamedSpans → Type 0
-Steps {P} calls scope p old command answer q new = (frame_with q scope ≡ frame_with p scope)
-    × ((histories : Histories) → Give histories old → (ds : List Delivery) × (after : Histories)
-    × Demands (frame_with p scope) histories command answer ds after × Give after new
-    × EachFollows calls.told ds p.processors q.processors × Asked calls ds p.processors q.processors)
-
--- nothing was carried out: each name has the span that it had, and each processor tells what it told
-abbrev pub Rests : {P : Type 0} → Ghosts P → PlainScope → ProviderState P → NamedSpans → ProviderState P → NamedSpans → Type 0
-Rests {P} calls scope p old q new = (frame_with q scope ≡ frame_with p scope) × SameSpans old new
-    × (map calls.told q.processors ≡ map calls.told p.processors)
-
--- a command was carried out or not, and has no reply
-abbrev pub MayStep : {P : Type 0} → Ghosts P → PlainScope → ProviderState P → NamedSpans → PlainCommand → ProviderState P → NamedSpans → Type 0
-MayStep calls scope p old command q new = Rests calls scope p old q new ⊎ ((answer : Answer) × Steps calls scope p old command answer q new)
-
--- the batches that the first of these processors keeps
-abbrev pub batches_of_first : {P : Type 0} → (P → List (List PlainSpanData)) → List P → List (List PlainSpanData)
-batches_of_first kept processors = option_map_or kept (slice_get processors 0) []
-
-abbrev pub session_batches : {P : Type 0} → (P → List (List PlainSpanData)) → SessionState P → List (List PlainSpanData)
-session_batches kept session = batches_of_first kept session.provider.processors
-
--- how many batches the first of these processors lost for want of memory
-abbrev pub losses_of_first : {P : Type 0} → (P → ℕ) → List P → ℕ
-losses_of_first lost processors = option_map_or lost (slice_get processors 0) 0
-
-abbrev pub session_losses : {P : Type 0} → (P → ℕ) → SessionState P → ℕ
-session_losses lost session = losses_of_first lost session.provider.processors
-
--- the spans of batches
-abbrev pub spans_in : List (List PlainSpanData) → List PlainSpanData
-spans_in batches = flat_map (λ batch. batch) batches
-
--- the spans of those that no reply has shown
-abbrev pub unshown : {P : Type 0} → (P → List (List PlainSpanData)) → SessionState P → List PlainSpanData
-unshown kept session = spans_in (drop session.shown (session_batches kept session))
-
--- the spans that replies show
-abbrev pub exported_in : List PlainReply → List PlainSpanData
-exported_in replies = flat_map (λ reply. reply.exported) replies
-
--- batches are kept behind those that were kept, and the replies show them in order and each once: the spans of the batches
--- behind those that were shown before, up to those that are shown now
-abbrev pub Shows : {P : Type 0} → (P → List (List PlainSpanData)) → SessionState P → List PlainReply → SessionState P → Type 0
-Shows kept old replies new = Appends (session_batches kept old) (session_batches kept new)
-    × (old.shown ≤ length (session_batches kept old) → (old.shown ≤ new.shown) × (new.shown ≤ length (session_batches kept new))
-    × (exported_in replies ≡ spans_in (drop old.shown (take new.shown (session_batches kept new)))))
-
--- behind a reply nothing is left to show
-abbrev pub NoneLeft : {P : Type 0} → (P → List (List PlainSpanData)) → List PlainReply → SessionState P → Type 0
-NoneLeft kept replies new = (replies ≡ []) ⊎ (new.shown ≡ length (session_batches kept new))
-
--- commands were carried out: the replies' answers, the spans and the tellings of the processors are what they demand of
--- the histories that the spans had, and the same deliveries reach each processor
-abbrev pub CarriesOut : {P : Type 0} → Ghosts P → SessionState P → List Command → List PlainReply → SessionState P → Type 0
-CarriesOut {P} calls old commands replies new = (frame_of new ≡ frame_of old)
-    × ((histories : Histories) → Give histories old.spans → (ds : List Delivery) × (after : Histories)
-    × DemandAll (frame_of old) histories (plain_commands commands) (answers_of replies) ds after × Give after new.spans
-    × EachFollows calls.told ds old.provider.processors new.provider.processors × Asked calls ds old.provider.processors new.provider.processors)
-
--- no batch was lost meanwhile
-abbrev pub LosesNone : {P : Type 0} → (P → ℕ) → SessionState P → SessionState P → Type 0
-LosesNone lost old new = session_losses lost new ≡ session_losses lost old
-
--- all commands were carried out, each with its reply, and the replies show all spans that were exported meanwhile
-pub record RunsAll {P : Type 0} (calls : Ghosts P) (batches : kept.Ghosts P) (old : SessionState P) (commands : List Command)
-    (before now : List PlainReply) (new : SessionState P) : Type 0 where
-  pub replies : List PlainReply
-  pub appended : now ≡ before ++ replies
-  pub carried : CarriesOut calls old commands replies new
-  pub shown : Shows batches.kept old replies new
-  pub none_left : NoneLeft batches.kept replies new
-  pub none_lost : LosesNone batches.lost old new
-
--- a command found no memory: it was carried out or not, it has no reply, and what it exported is left to show
-abbrev pub Refuses : {P : Type 0} → Ghosts P → kept.Ghosts P → SessionState P → Command → SessionState P → Type 0
-Refuses calls batches old command new = MayStep calls old.scope old.provider old.spans (plain_command command) new.provider new.spans
-    × (new ≡ record old { provider = new.provider; spans = new.spans }) × Appends (session_batches batches.kept old) (session_batches batches.kept new)
-
--- a beginning of the commands was carried out, each with its reply, and the one behind it was refused
-pub record RunsBeginning {P : Type 0} (calls : Ghosts P) (batches : kept.Ghosts P) (old : SessionState P) (commands : List Command)
-    (before now : List PlainReply) (new : SessionState P) : Type 0 where
-  pub done : List Command
-  pub refused : Command
-  pub left : List Command
-  pub middle : SessionState P
-  pub parts : commands ≡ done ++ refused ∷ left
-  pub ran : RunsAll calls batches old done before now middle
-  pub refuses : Refuses calls batches middle refused new
-
--- the same where the replies were written: none counts a refusal
-abbrev pub WritesAll : {P : Type 0} → Ghosts P → kept.Ghosts P → SessionState P → List Command → List ℕ → List ℕ → SessionState P → Type 0
-WritesAll calls batches old commands before now new = (replies : List PlainReply) × (now ≡ before ++ replies_text replies) × NoneRefused replies
-    × RunsAll calls batches old commands [] replies new
-
-abbrev pub WritesBeginning : {P : Type 0} → Ghosts P → kept.Ghosts P → SessionState P → List Command → List ℕ → List ℕ → SessionState P → Type 0
-WritesBeginning calls batches old commands before now new = (replies : List PlainReply) × (now ≡ before ++ replies_text replies) × NoneRefused replies
-    × RunsBeginning calls batches old commands [] replies new
-
--- a text was fed whole: its lines up to the first bad one spell the commands that were carried out
-abbrev pub FedUpTo : {P : Type 0} → Ghosts P → kept.Ghosts P → SessionState P → List ℕ → Option ℕ → List ℕ → List ℕ → SessionState P → Type 0
-FedUpTo calls batches old bytes bad_line before now new = (commands : List Command) × TextSpells bytes (plain_commands commands) bad_line
-    × WritesAll calls batches old commands before now new
-
--- memory ran out: nothing was carried out, or a beginning of the commands that the text spells
-abbrev pub FedBeginning : {P : Type 0} → Ghosts P → kept.Ghosts P → SessionState P → List ℕ → List ℕ → List ℕ → SessionState P → Type 0
-FedBeginning calls batches old bytes before now new = ((now ≡ before) × (new ≡ old))
-    ⊎ ((commands : List Command) × (bad_line : Option ℕ) × TextSpells bytes (plain_commands commands) bad_line × WritesBeginning calls batches old commands before now new)
-
--- what feeding a text does, by its answer
-abbrev pub Fed : {P T : Type 0} → Ghosts P → kept.Ghosts P → SessionState P → List ℕ → List ℕ → Result T FeedError → List ℕ → SessionState P → Type 0
-Fed calls batches old bytes before (Ok _) now new = FedUpTo calls batches old bytes None before now new
-Fed calls batches old bytes before (Err (feeds.Line n)) now new = FedUpTo calls batches old bytes (Some n) before now new
-Fed calls batches old bytes before (Err feeds.Memory) now new = FedBeginning calls batches old bytes before now new
-
--- the shutdown of a session's provider with a timeout: where it was shut nothing happens
-abbrev pub ShutsIfOpen : {P : Type 0} → Ghosts P → ProviderState P → ℕ → Result (Unit {0}) OTelSdkError → ProviderState P → Type 0
-ShutsIfOpen calls old timeout answer new = MatchBool old.is_shut ((answer ≡ Ok tt) × (new ≡ old)) (ShutsDown calls.told calls.shutdown_gives old timeout answer new)
+-- where a session stands, by histories of its spans
+abbrev pub course_of : {P : Type 0} → SessionState P → Histories → Course P
+course_of session histories = record { provider = session.provider; histories = histories }
 
 -- want of memory, unless there is an error already
 abbrev pub or_no_memory : Result (Unit {0}) OTelSdkError → Result (Unit {0}) OTelSdkError
 or_no_memory (Ok _) = Err errors.OutOfMemory
 or_no_memory (Err error) = Err error
 
--- closing: the provider is shut down with 5 seconds, and the lines of the spans that no reply has shown are appended, those
--- exported by the shutdown among them; where there is no memory for them, none is
-abbrev pub Closes : {P : Type 0} → Ghosts P → kept.Ghosts P → SessionState P → List ℕ → Result (Unit {0}) OTelSdkError → List ℕ → Type 0
-Closes {P} calls batches session before answer now = (provider : ProviderState P) × (shutdown : Result (Unit {0}) OTelSdkError)
-    × ShutsIfOpen calls session.provider 5_000_000_000 shutdown provider
-    × (((answer ≡ shutdown) × (now ≡ before ++ span_lines (unshown batches.kept (record session { provider = provider })))) ⊎ ((answer ≡ or_no_memory shutdown) × (now ≡ before)))
+module _ {P : Type 0} (calls : Ghosts P) where
+  -- a new name is given what the start of a span makes
+  pub record BeginsSpan (scope : PlainScope) (old : Course P) (name called : List ℕ) (moment : ℕ) (answer : Answer) (ds : List Delivery) (new : Course P) : Type 0 where
+    pub history : SpanHistory
+    pub starts : Starts calls old.provider scope called moment history new.provider
+    pub says : answer ≡ start_answer (span_of history)
+    pub delivers : ds ≡ []
+    pub histories : new.histories ≡ with_history old.histories name history
 
--- a text was fed to a session, whole or up to its first bad line, and the session closed well
-abbrev pub Finishes : {P : Type 0} → Ghosts P → kept.Ghosts P → SessionState P → List ℕ → Option ℕ → List ℕ → Type 0
-Finishes {P} calls batches session bytes bad_line now = (fed : List ℕ) × (after : SessionState P)
-    × FedUpTo calls batches session bytes bad_line [] fed after × Closes calls batches after fed (Ok tt) now
+  -- a start: a name is taken once
+  abbrev pub StartDemands : PlainScope → Course P → List ℕ → List ℕ → ℕ → Option SpanHistory → Answer → List Delivery → Course P → Type 0
+  StartDemands scope old name called moment (Some _) answer ds new = OnlyAnswers answers.SpanExists old answer ds new
+  StartDemands scope old name called moment None answer ds new = BeginsSpan scope old name called moment answer ds new
+
+  -- a history is over, and its data is delivered, unless the provider is shut
+  pub record EndsHistory (old : Course P) (name : List ℕ) (from : SpanStart) (span : PlainSpanData) (answer : Answer) (ds : List Delivery) (new : Course P) : Type 0 where
+    pub refused : ℕ
+    pub delivered : Delivers calls old.provider.is_shut span old.provider.processors new.provider.processors refused
+    pub says : answer ≡ answers.Ended refused
+    pub delivers : ds ≡ end_delivers old.provider.is_shut span refused
+    pub provider : new.provider ≡ record old.provider { processors = new.provider.processors }
+    pub histories : new.histories ≡ with_history old.histories name (over from.span_context from.limits)
+
+  -- the end of the span of a name
+  abbrev pub EndDemands : Course P → List ℕ → ℕ → Option SpanHistory → Answer → List Delivery → Course P → Type 0
+  EndDemands old name moment None answer ds new = OnlyAnswers answers.NoSuchSpan old answer ds new
+  EndDemands old name moment (Some (over context limits)) answer ds new = OnlyAnswers answers.Ignored old answer ds new
+  EndDemands old name moment (Some (begun from edits)) answer ds new = EndsHistory old name from (data_of from edits moment) answer ds new
+
+  -- what one command demands: its answer, what is delivered, and where the session then stands
+  abbrev pub Demands : PlainScope → Course P → PlainCommand → Answer → List Delivery → Course P → Type 0
+  Demands scope old (start span name moment) answer ds new = StartDemands scope old span name moment (old.histories span) answer ds new
+  Demands scope old (attr span key value) answer ds new =
+      EditDemands old span (set_attribute (record { key = key; value = text value })) (old.histories span) answer ds new
+  Demands scope old (end span moment) answer ds new = EndDemands old span moment (old.histories span) answer ds new
+
+  -- one command was carried out on the spans of a session, as it demands of the histories that they had, and each
+  -- processor follows what was delivered
+  pub record DemandsOne (scope : PlainScope) (p : ProviderState P) (histories : Histories) (command : PlainCommand) (answer : Answer)
+      (q : ProviderState P) (new : NamedSpans) : Type 0 where
+    pub deliveries : List Delivery
+    pub after : Histories
+    pub demands : Demands scope (record { provider = p; histories = histories }) command answer deliveries (record { provider = q; histories = after })
+    pub describes : Describe after new
+    pub follows : EachFollows calls deliveries p.processors q.processors
+
+  -- the same, whatever histories the spans had
+  abbrev pub CarriesOutOne : PlainScope → ProviderState P → NamedSpans → PlainCommand → Answer → ProviderState P → NamedSpans → Type 0
+  CarriesOutOne scope p old command answer q new = (histories : Histories) → Describe histories old → DemandsOne scope p histories command answer q new
+
+  -- what a command that is refused may do to the provider: nothing, but that a start may have made a span that found no
+  -- place: then ids were drawn and each processor was told of the start
+  abbrev pub MayAsk : PlainScope → ProviderState P → PlainCommand → ProviderState P → Type 0
+  MayAsk scope p (start span name moment) q = MayStart calls p scope name moment q
+  MayAsk scope p (attr span key value) q = q ≡ p
+  MayAsk scope p (end span moment) q = q ≡ p
+
+  -- a command was not carried out: each name has the span that it had, and each processor tells what it told
+  pub record RefusesOne (scope : PlainScope) (p : ProviderState P) (old : NamedSpans) (command : PlainCommand) (q : ProviderState P) (new : NamedSpans) : Type 0 where
+    pub spans : SameSpans old new
+    pub asks : MayAsk scope p command q
+    pub told : map calls.told q.processors ≡ map calls.told p.processors
+
+  -- a command was carried out or not, and has no reply
+  abbrev pub MayCarryOut : PlainScope → ProviderState P → NamedSpans → PlainCommand → ProviderState P → NamedSpans → Type 0
+  MayCarryOut scope p old command q new = RefusesOne scope p old command q new ⊎ ((answer : Answer) × CarriesOutOne scope p old command answer q new)
+
+  -- the shutdown of a session's provider with a timeout: where it was shut nothing happens
+  abbrev pub ShutsIfOpen : ProviderState P → ℕ → Result (Unit {0}) OTelSdkError → ProviderState P → Type 0
+  ShutsIfOpen old timeout answer new = MatchBool old.is_shut ((answer ≡ Ok tt) × (new ≡ old)) (ShutsDown calls old timeout answer new)
+
+module _ {P : Type 0} (keeps : kept.Ghosts P) where
+  -- the batches that the first processor of a session keeps, and how many it lost
+  abbrev pub session_batches : SessionState P → List (List PlainSpanData)
+  session_batches session = batches_of_first keeps session.provider.processors
+
+  abbrev pub session_losses : SessionState P → ℕ
+  session_losses session = losses_of_first keeps session.provider.processors
+
+  -- the spans of those that no reply has shown
+  abbrev pub unshown : SessionState P → List PlainSpanData
+  unshown session = spans_in (drop session.shown (session_batches session))
+
+  -- batches are kept behind those that were kept, and the replies show them in order and each once: the spans of the
+  -- batches behind those that were shown before, up to those that are shown now
+  abbrev pub Shows : SessionState P → List PlainReply → SessionState P → Type 0
+  Shows old replies new = Appends (session_batches old) (session_batches new)
+      × (old.shown ≤ length (session_batches old) → (old.shown ≤ new.shown) × (new.shown ≤ length (session_batches new))
+      × (exported_in replies ≡ spans_in (drop old.shown (take new.shown (session_batches new)))))
+
+  -- behind a reply nothing is left to show
+  abbrev pub NoneLeft : List PlainReply → SessionState P → Type 0
+  NoneLeft replies new = (replies ≡ []) ⊎ (new.shown ≡ length (session_batches new))
+
+  -- no batch was lost meanwhile
+  abbrev pub LosesNone : SessionState P → SessionState P → Type 0
+  LosesNone old new = session_losses new ≡ session_losses old
+
+module _ {P : Type 0} (calls : Ghosts P) (keeps : kept.Ghosts P) where
+  -- one command with its reply: its answer is as demanded, it shows the spans of the batches that the first processor's
+  -- exporter took since the reply before, and that exporter lost none
+  pub record Replies (scope : PlainScope) (old : Course P) (shown : ℕ) (command : PlainCommand) (reply : PlainReply) (ds : List Delivery) (new : Course P) : Type 0 where
+    pub demands : Demands calls scope old command reply.answer ds new
+    pub shows : reply.exported ≡ spans_in (drop shown (batches_of_first keeps new.provider.processors))
+    pub loses_none : losses_of_first keeps new.provider.processors ≡ losses_of_first keeps old.provider.processors
+
+  -- commands one after another, each with its reply, which begins behind the batches that were shown before it: the
+  -- deliveries join
+  abbrev pub DemandAll : PlainScope → Course P → ℕ → List PlainCommand → List PlainReply → List Delivery → Course P → ℕ → Type 0
+  DemandAll scope old before [] [] ds new shown = (ds ≡ []) × (new ≡ old) × (shown ≡ before)
+  DemandAll scope old before [] (reply ∷ replies) ds new shown = ⊥
+  DemandAll scope old before (command ∷ commands) [] ds new shown = ⊥
+  DemandAll scope old before (command ∷ commands) (reply ∷ replies) ds new shown = (middle : Course P) × (first : List Delivery) × (rest : List Delivery)
+      × Replies scope old before command reply first middle
+      × DemandAll scope middle (length (batches_of_first keeps middle.provider.processors)) commands replies rest new shown
+      × (ds ≡ first ++ rest)
+
+  -- what commands demand of the histories that the spans of a session had; each processor follows all that was delivered,
+  -- in order
+  pub record Demanded (old : SessionState P) (histories : Histories) (commands : List PlainCommand) (replies : List PlainReply) (new : SessionState P) : Type 0 where
+    pub deliveries : List Delivery
+    pub after : Histories
+    pub demands : DemandAll old.scope (course_of old histories) old.shown commands replies deliveries (course_of new after) new.shown
+    pub describes : Describe after new.spans
+    pub follows : EachFollows calls deliveries old.provider.processors new.provider.processors
+
+  -- commands were carried out, each with its reply, whatever histories the spans had
+  pub record CarriesOut (old : SessionState P) (commands : List Command) (replies : List PlainReply) (new : SessionState P) : Type 0 where
+    pub scope : new.scope ≡ old.scope
+    pub demanded : (histories : Histories) → Describe histories old.spans → Demanded old histories (plain_commands commands) replies new
+
+  -- all commands were carried out, each with its reply, and the replies show all spans that were exported meanwhile
+  pub record RunsAll (old : SessionState P) (commands : List Command) (before now : List PlainReply) (new : SessionState P) : Type 0 where
+    pub replies : List PlainReply
+    pub appended : now ≡ before ++ replies
+    pub carried : CarriesOut old commands replies new
+    pub shown : Shows keeps old replies new
+    pub none_left : NoneLeft keeps replies new
+    pub none_lost : LosesNone keeps old new
+
+  -- a command found no memory: it was carried out or not, it has no reply, and what it exported is left to show
+  pub record Refuses (old : SessionState P) (command : Command) (new : SessionState P) : Type 0 where
+    pub asked : MayCarryOut calls old.scope old.provider old.spans (plain_command command) new.provider new.spans
+    pub rest : new ≡ record old { provider = new.provider; spans = new.spans }
+    pub keeps_batches : Appends (session_batches keeps old) (session_batches keeps new)
+
+  -- a beginning of the commands was carried out, each with its reply, and the one behind it was refused
+  pub record RunsBeginning (old : SessionState P) (commands : List Command) (before now : List PlainReply) (new : SessionState P) : Type 0 where
+    pub done : List Command
+    pub refused : Command
+    pub left : List Command
+    pub middle : SessionState P
+    pub parts : commands ≡ done ++ refused ∷ left
+    pub ran : RunsAll old done before now middle
+    pub refuses : Refuses middle refused new
+
+  -- the same where the replies were written: none counts a refusal
+  pub record WritesAll (old : SessionState P) (commands : List Command) (before now : List ℕ) (new : SessionState P) : Type 0 where
+    pub replies : List PlainReply
+    pub written : now ≡ before ++ replies_text replies
+    pub none_refused : NoneRefused replies
+    pub ran : RunsAll old commands [] replies new
+
+  pub record WritesBeginning (old : SessionState P) (commands : List Command) (before now : List ℕ) (new : SessionState P) : Type 0 where
+    pub replies : List PlainReply
+    pub written : now ≡ before ++ replies_text replies
+    pub none_refused : NoneRefused replies
+    pub ran : RunsBeginning old commands [] replies new
+
+  -- a text was fed whole: its lines up to the first bad one spell the commands that were carried out
+  abbrev pub FeedsUpTo : SessionState P → List ℕ → Option ℕ → List ℕ → List ℕ → SessionState P → Type 0
+  FeedsUpTo old bytes bad_line before now new = (commands : List Command) × TextSpells bytes (plain_commands commands) bad_line
+      × WritesAll old commands before now new
+
+  -- memory ran out: nothing was carried out, or a beginning of the commands that the text spells
+  abbrev pub FeedsBeginning : SessionState P → List ℕ → List ℕ → List ℕ → SessionState P → Type 0
+  FeedsBeginning old bytes before now new = ((now ≡ before) × (new ≡ old))
+      ⊎ ((commands : List Command) × (bad_line : Option ℕ) × TextSpells bytes (plain_commands commands) bad_line × WritesBeginning old commands before now new)
+
+  -- what feeding a text does, by its answer
+  abbrev pub Feeds : {T : Type 0} → SessionState P → List ℕ → List ℕ → Result T FeedError → List ℕ → SessionState P → Type 0
+  Feeds old bytes before (Ok _) now new = FeedsUpTo old bytes None before now new
+  Feeds old bytes before (Err (feeds.Line n)) now new = FeedsUpTo old bytes (Some n) before now new
+  Feeds old bytes before (Err feeds.Memory) now new = FeedsBeginning old bytes before now new
+
+  -- the lines of the spans that no reply has shown are appended, those exported by the shutdown among them; where there is
+  -- no memory for them, none is
+  pub record Closes (session : SessionState P) (before : List ℕ) (answer : Result (Unit {0}) OTelSdkError) (now : List ℕ) : Type 0 where
+    pub provider : ProviderState P
+    pub shutdown : Result (Unit {0}) OTelSdkError
+    pub shuts : ShutsIfOpen calls session.provider 5_000_000_000 shutdown provider
+    pub writes : ((answer ≡ shutdown) × (now ≡ before ++ span_lines (unshown keeps (record session { provider = provider }))))
+        ⊎ ((answer ≡ or_no_memory shutdown) × (now ≡ before))
+
+  -- a text was fed to a session, whole or up to its first bad line, and the session closed well
+  pub record Finishes (session : SessionState P) (bytes : List ℕ) (bad_line : Option ℕ) (now : List ℕ) : Type 0 where
+    pub written : List ℕ
+    pub after : SessionState P
+    pub feeds : FeedsUpTo session bytes bad_line [] written after
+    pub closes : Closes after written (Ok tt) now

@@ -1,6 +1,6 @@
 //! What a line of the input can ask for.
 
-use opentelemetry::Moment;
+use opentelemetry::{KeyValue, Moment};
 
 /// One request to a session. A span is named by a text of the caller's choice.
 #[derive(Debug, Drop)]
@@ -22,4 +22,10 @@ pub enum Command {
         span: String,
         moment: Moment,
     },
+}
+
+/// A change of a span that records, which a command asks for.
+#[derive(Debug, Drop)]
+pub enum SpanEdit {
+    SetAttribute(KeyValue),
 }

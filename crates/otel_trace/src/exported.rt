@@ -1,12 +1,9 @@
 //! The batches that the in-memory exporter of a processor keeps, which the replies of a session show.
 
-ghost use Rattle.std.specs.Prelude.{◌≡◌, ◌++◌, ℕ, List, map, IfOk, OnOk, Result, drop};
+ghost use Rattle.std.specs.Prelude.{◌≡◌, ◌++◌, ℕ, List, map, IfOk, OnOk, drop};
 ghost use Rattle.std.specs.List.{flat_map};
-ghost use Rattle.std.specs.declared.alloc.AllocError.{AllocError};
-ghost use Rattle.opentelemetry.specs.Plain.{PlainContext};
-ghost use Rattle.opentelemetry_sdk.specs.SpanHistory.{PlainSpan};
 ghost use Rattle.otel_batch.specs.PlainSpanData.{PlainSpanData};
-ghost use Rattle.otel_trace.specs.KeptBatches.{Appends};
+ghost use Rattle.otel_trace.specs.KeptBatches.{OnlyAppends};
 
 use opentelemetry_sdk::trace::{ProcessorOf, SimpleSpanProcessor, SpanProcessor};
 use otel_batch::trace::{ExporterOf, InMemorySpanExporter, SpanData, SpanExporter};
@@ -27,11 +24,8 @@ pub trait KeepsBatches: SpanProcessor {
     fn lost_batches(&self) -> u64
         ensures { result ≡ lost self.now };
 
-    /// A start of a span takes back no batch.
-    ghost start_appends: { (p : Self) (span : PlainSpan) (cx : PlainContext) (edited : PlainSpan) (q : Self) → Self.start_gives p span cx edited q → Appends (kept p) (kept q) };
-
-    /// Nor does an end.
-    ghost end_appends: { (p : Self) (span : PlainSpanData) (answer : Result (Unit {0}) AllocError) (q : Self) → Self.end_gives p span answer q → Appends (kept p) (kept q) };
+    /// A start or an end of a span takes back no batch.
+    ghost appends: { OnlyAppends Self.SpanProcessor kept };
 }
 
 impl<C: SpanExporter, D: SpanProcessor> KeepsBatches
@@ -42,9 +36,13 @@ impl<C: SpanExporter, D: SpanProcessor> KeepsBatches
 
     ghost lost = { processor_loses (λ simple. exporter_loses simple.exporter) };
 
-    ghost start_appends = { λ p span cx edited q given. processor_appends (λ simple. exporter_keeps simple.exporter) _ _ (λ a b h. simple_stays exporter_keeps a b h) p q given };
-
-    ghost end_appends = { λ p span answer q given. processor_appends (λ simple. exporter_keeps simple.exporter) _ _ (λ a b h. simple_appends exporter_keeps (⟦<ExporterOf<InMemorySpanExporter, C> as SpanExporter>⟧.told) (⟦<ExporterOf<InMemorySpanExporter, C> as SpanExporter>⟧.export_gives) (exporter_appends C.export_gives) a span answer b h) p q given };
+    ghost appends = { record {
+      starts = λ p span cx edited q given.
+          processor_appends (λ simple. exporter_keeps simple.exporter) _ _ (λ a b h. simple_stays exporter_keeps a b h) p q given;
+      ends = λ p span answer q given.
+          processor_appends (λ simple. exporter_keeps simple.exporter) _ _ (λ a b h. simple_appends exporter_keeps
+          ⟦<ExporterOf<InMemorySpanExporter, C> as SpanExporter>⟧ (exporter_appends C.export_gives) a span answer b h) p q given;
+    } };
 
     fn batches(&self) -> &[Vec<SpanData>] {
         match self {

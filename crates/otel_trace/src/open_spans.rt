@@ -1,12 +1,25 @@
 //! The spans of a session by name. They must be spent: each is abandoned when the session closes.
 
-ghost use Rattle.std.specs.Prelude.{◌≡◌, [], None, IfOk, OnOk, OnErr, is_some, string_bytes, map};
-ghost use Rattle.opentelemetry_sdk.specs.Provider.{root_cx};
-ghost use Rattle.opentelemetry_sdk.specs.SpanHistory.{set_attribute};
-ghost use Rattle.otel_trace.specs.OpenSpans.{EditsNamed, EndsNamed, MayDeliver, MayStart, PutsSpan, SameSpans, StartsNamed, by_name, identity_of, named};
+ghost use Rattle.std.specs.Prelude.{◌≡◌, [], None, IfOk, OnOk, OnErr, is_some, string_bytes, map, if◌then◌else◌};
+ghost use Rattle.opentelemetry_sdk.specs.SpanHistory.{edited};
+ghost use Rattle.otel_trace.specs.OpenSpans.{
+  EditsNamed,
+  EndsNamed,
+  MayDeliver,
+  MayStart,
+  PutsSpan,
+  SameSpans,
+  StartsNamed,
+  by_name,
+  identity_of,
+  named,
+  plain_edit,
+  start_answer,
+};
 
-use crate::reply::SpanIdentity;
-use opentelemetry::{KeyValue, Moment};
+use crate::command::SpanEdit;
+use crate::reply::{Answer, SpanIdentity};
+use opentelemetry::Moment;
 use opentelemetry_sdk::trace::{ProviderOf, SdkTracer, Span, SpanProcessor};
 use std::alloc::{AllocError, Global};
 use std::collections::BTreeMap;
@@ -34,8 +47,8 @@ impl OpenSpans {
         }
     }
 
-    /// Starts a span under a name; none where the name is taken. Where there is no memory for the name, the span that was
-    /// started is abandoned: ids were drawn and each processor was told of the start, and nothing was delivered.
+    /// Starts a span under a name. Where there is no memory for the name, the span that was started is abandoned: ids were
+    /// drawn and each processor was told of the start, and nothing was delivered.
     pub(crate) fn start<P: SpanProcessor>(
         &mut self,
         name: String,
@@ -43,20 +56,20 @@ impl OpenSpans {
         provider: &mut ProviderOf<P>,
         called: String,
         now: Moment,
-    ) -> Result<Option<(SpanIdentity, bool)>, AllocError>
-        ensures ok { IfOk result (λ answer. StartsNamed P.SpanProcessor self.old (string_bytes name) provider.old tracer.now (string_bytes called) now.0 (named self.old (string_bytes name)) answer self.new provider.new) }
+    ) -> Result<Answer, AllocError>
+        ensures ok { IfOk result (λ answer. StartsNamed P.SpanProcessor provider.old tracer.now self.old (string_bytes name)
+            (string_bytes called) now.0 (named self.old (string_bytes name)) answer provider.new self.new) }
         ensures told { map P.told provider.new.processors ≡ map P.told provider.old.processors }
-        ensures rest { provider.new ≡ record provider.old { processors = provider.new.processors; id_generator = provider.new.id_generator } }
         ensures asks { MayStart P.SpanProcessor provider.old tracer.now (string_bytes called) now.0 provider.new }
         ensures err { OnErr result (SameSpans self.old self.new) }
     {
         if self.contains(name.as_str()) {
-            return Ok(None);
+            return Ok(Answer::SpanExists);
         }
         let span = tracer.start(called, provider, now)?;
-        let answer = (identity(&span), span.is_recording());
+        let answer = answer_to_start(&span);
         self.put(name, span)?;
-        Ok(Some(answer))
+        Ok(answer)
     }
 
     fn contains(&self, name: &str) -> bool
@@ -74,28 +87,23 @@ impl OpenSpans {
         put_in(&mut self.spans, name, span)
     }
 
-    /// Sets an attribute of the span of a name. The answer is whether the span is recording; none where there is no such
-    /// span.
-    pub(crate) fn set_attribute(
-        &mut self,
-        name: &str,
-        attribute: KeyValue,
-    ) -> Result<Option<bool>, AllocError>
-        ensures ok { IfOk result (λ answer. EditsNamed self.old name.now (set_attribute attribute) (named self.old name.now) answer self.new) }
+    /// Edits the span of a name.
+    pub(crate) fn edit(&mut self, name: &str, edit: SpanEdit) -> Result<Answer, AllocError>
+        ensures ok { IfOk result (λ answer. EditsNamed self.old name.now (plain_edit edit) (named self.old name.now) answer self.new) }
         ensures err { OnErr result (SameSpans self.old self.new) }
     {
-        set_attribute_in(&mut self.spans, name, attribute)
+        edit_in(&mut self.spans, name, edit)
     }
 
-    /// Ends the span of a name. The answer is how many processors refused it; none where it was not recording, and none
-    /// at all where there is no such span.
+    /// Ends the span of a name.
     pub(crate) fn end<P: SpanProcessor>(
         &mut self,
         name: &str,
         provider: &mut ProviderOf<P>,
         moment: Moment,
-    ) -> Result<Option<Option<usize>>, AllocError>
-        ensures ok { IfOk result (λ answer. EndsNamed P.SpanProcessor self.old name.now provider.old moment.0 (named self.old name.now) answer self.new provider.new) }
+    ) -> Result<Answer, AllocError>
+        ensures ok { IfOk result (λ answer. EndsNamed P.SpanProcessor provider.old self.old name.now moment.0
+            (named self.old name.now) answer provider.new self.new) }
         ensures asks { MayDeliver P.SpanProcessor provider.old.processors provider.new.processors }
         ensures err { OnErr result (SameSpans self.old self.new × (provider.new ≡ provider.old)) }
     {
@@ -125,6 +133,17 @@ fn put_in(spans: &mut BTreeMap<String, Span>, name: String, span: Span) -> Resul
     }
 }
 
+/// What is said of the start of a span.
+fn answer_to_start(span: &Span) -> Answer
+    ensures { result ≡ start_answer span.now }
+{
+    if span.is_recording() {
+        Answer::Started(identity(span))
+    } else {
+        Answer::Dropped(identity(span))
+    }
+}
+
 fn identity(span: &Span) -> SpanIdentity
     ensures { result ≡ identity_of span.now }
 {
@@ -136,20 +155,38 @@ fn identity(span: &Span) -> SpanIdentity
     }
 }
 
-fn set_attribute_in(
+fn edit_in(
     spans: &mut BTreeMap<String, Span>,
     name: &str,
-    attribute: KeyValue,
-) -> Result<Option<bool>, AllocError>
-    ensures ok { IfOk result (λ answer. EditsNamed (by_name spans.old.entries) name.now (set_attribute attribute) (named (by_name spans.old.entries) name.now) answer (by_name spans.new.entries)) }
+    edit: SpanEdit,
+) -> Result<Answer, AllocError>
+    ensures ok { IfOk result (λ answer. EditsNamed (by_name spans.old.entries) name.now (plain_edit edit)
+        (named (by_name spans.old.entries) name.now) answer (by_name spans.new.entries)) }
     ensures err { OnErr result (SameSpans (by_name spans.old.entries) (by_name spans.new.entries)) }
 {
     let Some(span) = spans.get_mut(name) else {
-        return Ok(None);
+        return Ok(Answer::NoSuchSpan);
     };
     let is_recording = span.is_recording();
-    span.set_attribute(attribute)?;
-    Ok(Some(is_recording))
+    edit_span(span, edit)?;
+    Ok(answer_to_edit(is_recording))
+}
+
+/// What is said of an edit of a span that was recording or not.
+fn answer_to_edit(is_recording: bool) -> Answer
+    ensures { result ≡ (if is_recording then Answer.Ok else Answer.Ignored) }
+{
+    if is_recording { Answer::Ok } else { Answer::Ignored }
+}
+
+/// Makes one edit of a span.
+fn edit_span(span: &mut Span, edit: SpanEdit) -> Result<(), AllocError>
+    ensures ok { OnOk result (span.new ≡ edited (plain_edit edit) span.old) }
+    ensures err { OnErr result (span.new ≡ span.old) }
+{
+    match edit {
+        SpanEdit::SetAttribute(attribute) => span.set_attribute(attribute),
+    }
 }
 
 fn end_in<P: SpanProcessor>(
@@ -157,20 +194,28 @@ fn end_in<P: SpanProcessor>(
     name: &str,
     provider: &mut ProviderOf<P>,
     moment: Moment,
-) -> Result<Option<Option<usize>>, AllocError>
-    ensures ok { IfOk result (λ answer. EndsNamed P.SpanProcessor (by_name spans.old.entries) name.now provider.old moment.0 (named (by_name spans.old.entries) name.now) answer (by_name spans.new.entries) provider.new) }
+) -> Result<Answer, AllocError>
+    ensures ok { IfOk result (λ answer. EndsNamed P.SpanProcessor provider.old (by_name spans.old.entries) name.now moment.0
+        (named (by_name spans.old.entries) name.now) answer provider.new (by_name spans.new.entries)) }
     ensures asks { MayDeliver P.SpanProcessor provider.old.processors provider.new.processors }
     ensures err { OnErr result (SameSpans (by_name spans.old.entries) (by_name spans.new.entries) × (provider.new ≡ provider.old)) }
 {
     let Some(span) = spans.get_mut(name) else {
-        return Ok(None);
+        return Ok(Answer::NoSuchSpan);
     };
     let is_recording = span.is_recording();
     let refused = span.end_with_timestamp(provider, moment)?;
+    Ok(answer_to_end(is_recording, refused))
+}
+
+/// What is said of the end of a span that was recording or not, and that so many processors refused.
+fn answer_to_end(is_recording: bool, refused: usize) -> Answer
+    ensures { result ≡ (if is_recording then Answer.Ended refused else Answer.Ignored) }
+{
     if is_recording {
-        Ok(Some(Some(refused)))
+        Answer::Ended(refused)
     } else {
-        Ok(Some(None))
+        Answer::Ignored
     }
 }
 

@@ -1,27 +1,45 @@
 //! A session: commands against one provider, each with a reply. What its commands deliver to the exporters is stated by
 //! the histories of its spans, apart from the code that fills them.
 
-ghost use Rattle.std.specs.Prelude.{◌≡◌, ◌++◌, ℕ, Bool, [], Option, drop, false, length, map, IfErr, IfOk, MatchResult, OnOk, OnErr, codes, string_bytes};
+ghost use Rattle.std.specs.Prelude.{◌≡◌, ◌++◌, [], drop, false, length, map, IfErr, IfOk, MatchResult, OnOk, OnErr, codes, string_bytes};
 ghost use Rattle.std.specs.List.{flat_map};
 ghost use Rattle.opentelemetry.specs.Plain.{text};
-ghost use Rattle.opentelemetry_sdk.specs.Provider.{named as scope_named, root_cx};
-ghost use Rattle.opentelemetry_sdk.specs.SpanHistory as edits;
+ghost use Rattle.opentelemetry_sdk.specs.Provider.{scope_named};
+ghost use Rattle.opentelemetry_sdk.specs.SpanHistory.{set_attribute};
 ghost use Rattle.otel_trace.specs.Commands.{plain_command};
 ghost use Rattle.otel_trace.specs.AnswerText.{answer_line};
+ghost use Rattle.otel_trace.specs.KeptBatches.{Appends};
+ghost use Rattle.otel_trace.specs.OpenSpans.{plain_edit};
 ghost use Rattle.otel_trace.specs.PlainReply.{counts_refusals};
 ghost use Rattle.otel_trace.specs.ReplyText.{span_lines};
-ghost use Rattle.otel_trace.specs.OpenSpans.{EditsNamed, EndsNamed, MayDeliver, MayStart, SameSpans, StartsNamed, attr_answer, end_answer, named, start_answer};
-ghost use Rattle.otel_trace.specs.declared.reply.SpanIdentity.{SpanIdentity};
-ghost use Rattle.otel_trace.specs.SessionDelivery.{Closes, Fed, LosesNone, MayStep, Rests, RunsAll, RunsBeginning, Steps, WritesAll, WritesBeginning, batches_of_first, session_batches, losses_of_first, session_losses, ShutsIfOpen, or_no_memory, spans_in, unshown};
-ghost use Rattle.otel_trace.specs.KeptBatches.{Appends};
+ghost use Rattle.otel_trace.specs.SessionDelivery.{
+  CarriesOutOne,
+  Closes,
+  Feeds,
+  LosesNone,
+  MayCarryOut,
+  RefusesOne,
+  RunsAll,
+  RunsBeginning,
+  ShutsIfOpen,
+  WritesAll,
+  WritesBeginning,
+  batches_of_first,
+  losses_of_first,
+  or_no_memory,
+  session_batches,
+  session_losses,
+  spans_in,
+  unshown,
+};
 
-use crate::command::Command;
+use crate::command::{Command, SpanEdit};
 use crate::exported::{KeepsBatches, batches_since, copies_of};
 use crate::lines::parse;
 use crate::open_spans::OpenSpans;
 use crate::reply::{Answer, Reply};
 use crate::reply_text::{write_batches, write_reply};
-use opentelemetry::{Key, KeyValue, Moment, Value};
+use opentelemetry::{Key, KeyValue, Value};
 use opentelemetry_sdk::trace::{ProviderOf, SdkTracer, SpanProcessor};
 use otel_base::error::{OTelSdkError, OTelSdkResult};
 use otel_batch::trace::SpanData;
@@ -74,7 +92,12 @@ impl<P: KeepsBatches> Session<P> {
         alloc: Global,
         provider: ProviderOf<P>,
     ) -> Result<Session<P>, (ProviderOf<P>, AllocError)>
-        ensures ok { IfOk result (λ session. session ≡ record { provider = provider; scope = scope_named (codes "otel_trace"); spans = []; shown = length (batches_of_first P.kept provider.processors) }) }
+        ensures ok { IfOk result (λ session. session ≡ record {
+          provider = provider;
+          scope = scope_named (codes "otel_trace");
+          spans = [];
+          shown = length (batches_of_first P.KeepsBatches.own provider.processors);
+        }) }
         ensures err { IfErr result (λ e. e.0 ≡ provider) }
     {
         let tracer = match tracer_of(alloc, &provider) {
@@ -122,7 +145,7 @@ impl<P: KeepsBatches> Session<P> {
     /// a beginning of the commands, and at most one more command was carried out. What that one exported is left for the
     /// next reply.
     pub fn feed(&mut self, text: &[u8], output: &mut Vec<u8>) -> Result<(), FeedError>
-        ensures { Fed P.SpanProcessor P.KeepsBatches.own self.old text.now output.old.items result output.new.items self.new }
+        ensures { Feeds P.SpanProcessor P.KeepsBatches.own self.old text.now output.old.items result output.new.items self.new }
     {
         let Ok(script) = parse(self.alloc, text) else {
             return Err(FeedError::Memory);
@@ -164,8 +187,10 @@ impl<P: KeepsBatches> Session<P> {
         commands: Vec<Command>,
         output: &mut Vec<u8>,
     ) -> Result<(), AllocError>
-        ensures ok { OnOk result (WritesAll P.SpanProcessor P.KeepsBatches.own self.old commands.items output.old.items output.new.items self.new) }
-        ensures err { OnErr result (WritesBeginning P.SpanProcessor P.KeepsBatches.own self.old commands.items output.old.items output.new.items self.new) }
+        ensures ok { OnOk result (WritesAll P.SpanProcessor P.KeepsBatches.own
+            self.old commands.items output.old.items output.new.items self.new) }
+        ensures err { OnErr result (WritesBeginning P.SpanProcessor P.KeepsBatches.own
+            self.old commands.items output.old.items output.new.items self.new) }
     {
         let mut queue = VecDeque::from_vec(commands);
         while let Some(command) = queue.pop_front() {
@@ -178,7 +203,8 @@ impl<P: KeepsBatches> Session<P> {
 
     /// Writes a reply whose answer counts no refusal, or nothing.
     fn write_unrefused(&self, answer: Answer, output: &mut Vec<u8>) -> Result<(), AllocError>
-        ensures ok { OnOk result ((counts_refusals answer ≡ false) × (output.new.items ≡ output.old.items ++ (span_lines (unshown P.kept self.now) ++ answer_line answer))) }
+        ensures ok { OnOk result ((counts_refusals answer ≡ false)
+            × (output.new.items ≡ output.old.items ++ (span_lines (unshown P.KeepsBatches.own self.now) ++ answer_line answer))) }
         ensures err { OnErr result (output.new.items ≡ output.old.items) }
     {
         if answer.counts_refusals() {
@@ -190,10 +216,12 @@ impl<P: KeepsBatches> Session<P> {
     /// Carries one command out. It is also an error where the first processor's exporter lost a batch meanwhile. On an error
     /// the command was carried out or not, and what it exported is left for the next reply.
     fn answer(&mut self, command: Command) -> Result<Answer, AllocError>
-        ensures ok { IfOk result (λ answer. Steps P.SpanProcessor self.old.scope self.old.provider self.old.spans (plain_command command) answer self.new.provider self.new.spans × LosesNone P.lost self.old self.new) }
-        ensures err { OnErr result (MayStep P.SpanProcessor self.old.scope self.old.provider self.old.spans (plain_command command) self.new.provider self.new.spans) }
+        ensures ok { IfOk result (λ answer. CarriesOutOne P.SpanProcessor self.old.scope self.old.provider self.old.spans
+            (plain_command command) answer self.new.provider self.new.spans × LosesNone P.KeepsBatches.own self.old self.new) }
+        ensures err { OnErr result (MayCarryOut P.SpanProcessor self.old.scope self.old.provider self.old.spans
+            (plain_command command) self.new.provider self.new.spans) }
         ensures rest { self.new ≡ record self.old { provider = self.new.provider; spans = self.new.spans } }
-        ensures keeps { Appends (session_batches P.kept self.old) (session_batches P.kept self.new) }
+        ensures keeps { Appends (session_batches P.KeepsBatches.own self.old) (session_batches P.KeepsBatches.own self.new) }
     {
         let lost = self.lost_batches();
         let answer = self.carry_out(command)?;
@@ -205,31 +233,33 @@ impl<P: KeepsBatches> Session<P> {
 
     /// Carries one command out; a lost batch is no error.
     fn carry_out(&mut self, command: Command) -> Result<Answer, AllocError>
-        ensures ok { IfOk result (λ answer. Steps P.SpanProcessor self.old.scope self.old.provider self.old.spans (plain_command command) answer self.new.provider self.new.spans) }
-        ensures err { OnErr result (Rests P.SpanProcessor self.old.scope self.old.provider self.old.spans self.new.provider self.new.spans) }
+        ensures ok { IfOk result (λ answer. CarriesOutOne P.SpanProcessor self.old.scope self.old.provider self.old.spans
+            (plain_command command) answer self.new.provider self.new.spans) }
+        ensures err { OnErr result (RefusesOne P.SpanProcessor self.old.scope self.old.provider self.old.spans
+            (plain_command command) self.new.provider self.new.spans) }
         ensures rest { self.new ≡ record self.old { provider = self.new.provider; spans = self.new.spans } }
-        ensures keeps { Appends (session_batches P.kept self.old) (session_batches P.kept self.new) }
+        ensures keeps { Appends (session_batches P.KeepsBatches.own self.old) (session_batches P.KeepsBatches.own self.new) }
     {
         carry_out(&self.tracer, &mut self.provider, &mut self.spans, command)
     }
 
     /// The batches that the first processor's exporter keeps and no reply has shown.
     fn unshown(&self) -> &[Vec<SpanData>]
-        ensures { flat_map (λ batch. batch.items) result.now ≡ unshown P.kept self.now }
+        ensures { flat_map (λ batch. batch.items) result.now ≡ unshown P.KeepsBatches.own self.now }
     {
         unshown_by_first(self.provider.processors(), self.shown)
     }
 
     /// How many batches of the first processor found no memory.
     fn lost_batches(&self) -> u64
-        ensures { result ≡ session_losses P.lost self.now }
+        ensures { result ≡ session_losses P.KeepsBatches.own self.now }
     {
         lost_by_first(self.provider.processors())
     }
 
     /// A reply has shown what the first processor exported so far.
     fn mark_shown(&mut self)
-        ensures { self.new ≡ record self.old { shown = length (session_batches P.kept self.old) } }
+        ensures { self.new ≡ record self.old { shown = length (session_batches P.KeepsBatches.own self.old) } }
     {
         self.shown = kept_by_first(self.provider.processors()).len();
     }
@@ -257,7 +287,7 @@ fn close_answer(shutdown: OTelSdkResult, written: Result<(), AllocError>) -> OTe
 
 /// The batches that the first of these processors keeps.
 fn kept_by_first<P: KeepsBatches>(processors: &[P]) -> &[Vec<SpanData>]
-    ensures { map (λ batch. batch.items) result.now ≡ batches_of_first P.kept processors.now }
+    ensures { map (λ batch. batch.items) result.now ≡ batches_of_first P.KeepsBatches.own processors.now }
 {
     match processors.first() {
         Some(first) => first.batches(),
@@ -267,7 +297,7 @@ fn kept_by_first<P: KeepsBatches>(processors: &[P]) -> &[Vec<SpanData>]
 
 /// How many batches of the first of these processors found no memory.
 fn lost_by_first<P: KeepsBatches>(processors: &[P]) -> u64
-    ensures { result ≡ losses_of_first P.lost processors.now }
+    ensures { result ≡ losses_of_first P.KeepsBatches.own processors.now }
 {
     match processors.first() {
         Some(first) => first.lost_batches(),
@@ -277,7 +307,8 @@ fn lost_by_first<P: KeepsBatches>(processors: &[P]) -> u64
 
 /// The batches that the first of these processors keeps behind those that were shown.
 fn unshown_by_first<P: KeepsBatches>(processors: &[P], shown: usize) -> &[Vec<SpanData>]
-    ensures { flat_map (λ batch. batch.items) result.now ≡ spans_in (drop shown (batches_of_first P.kept processors.now)) }
+    ensures { flat_map (λ batch. batch.items) result.now
+        ≡ spans_in (drop shown (batches_of_first P.KeepsBatches.own processors.now)) }
 {
     batches_since(kept_by_first(processors), shown)
 }
@@ -289,81 +320,25 @@ fn carry_out<P: KeepsBatches>(
     spans: &mut OpenSpans,
     command: Command,
 ) -> Result<Answer, AllocError>
-    ensures ok { IfOk result (λ answer. Steps P.SpanProcessor tracer.now provider.old spans.old (plain_command command) answer provider.new spans.new) }
-    ensures err { OnErr result (Rests P.SpanProcessor tracer.now provider.old spans.old provider.new spans.new) }
-    ensures keeps { Appends (batches_of_first P.kept provider.old.processors) (batches_of_first P.kept provider.new.processors) }
+    ensures ok { IfOk result (λ answer. CarriesOutOne P.SpanProcessor tracer.now provider.old spans.old
+        (plain_command command) answer provider.new spans.new) }
+    ensures err { OnErr result (RefusesOne P.SpanProcessor tracer.now provider.old spans.old
+        (plain_command command) provider.new spans.new) }
+    ensures keeps { Appends (batches_of_first P.KeepsBatches.own provider.old.processors)
+        (batches_of_first P.KeepsBatches.own provider.new.processors) }
 {
     match command {
-        Command::Start { span, name, moment } => start_span(
-            tracer, provider, spans, span, name, moment,
-        ),
-        Command::Attr { span, key, value } => set_attribute(
-            spans,
-            span,
-            text_attribute(key, value),
-        ),
-        Command::End { span, moment } => end_span(provider, spans, span, moment),
+        Command::Start { span, name, moment } => spans.start(span, tracer, provider, name, moment),
+        Command::Attr { span, key, value } => spans.edit(span.as_str(), text_attribute(key, value)),
+        Command::End { span, moment } => spans.end(span.as_str(), provider, moment),
     }
 }
 
-fn start_span<P: SpanProcessor>(
-    tracer: &SdkTracer,
-    provider: &mut ProviderOf<P>,
-    spans: &mut OpenSpans,
-    span: String,
-    name: String,
-    moment: Moment,
-) -> Result<Answer, AllocError>
-    ensures ok { IfOk result (λ answer. (given : Option (SpanIdentity × Bool)) × (answer ≡ start_answer given) × StartsNamed P.SpanProcessor spans.old (string_bytes span) provider.old tracer.now (string_bytes name) moment.0 (named spans.old (string_bytes span)) given spans.new provider.new) }
-    ensures told { map P.told provider.new.processors ≡ map P.told provider.old.processors }
-    ensures rest { provider.new ≡ record provider.old { processors = provider.new.processors; id_generator = provider.new.id_generator } }
-    ensures asks { MayStart P.SpanProcessor provider.old tracer.now (string_bytes name) moment.0 provider.new }
-    ensures err { OnErr result (SameSpans spans.old spans.new) }
+/// The edit that sets an attribute whose value is a text.
+fn text_attribute(key: String, value: String) -> SpanEdit
+    ensures { plain_edit result ≡ set_attribute (record { key = string_bytes key; value = text (string_bytes value) }) }
 {
-    match spans.start(span, tracer, provider, name, moment)? {
-        None => Ok(Answer::SpanExists),
-        Some((identity, true)) => Ok(Answer::Started(identity)),
-        Some((identity, false)) => Ok(Answer::Dropped(identity)),
-    }
-}
-
-fn set_attribute(
-    spans: &mut OpenSpans,
-    span: String,
-    attribute: KeyValue,
-) -> Result<Answer, AllocError>
-    ensures ok { IfOk result (λ answer. (given : Option Bool) × (answer ≡ attr_answer given) × EditsNamed spans.old (string_bytes span) (edits.set_attribute attribute) (named spans.old (string_bytes span)) given spans.new) }
-    ensures err { OnErr result (SameSpans spans.old spans.new) }
-{
-    match spans.set_attribute(span.as_str(), attribute)? {
-        None => Ok(Answer::NoSuchSpan),
-        Some(true) => Ok(Answer::Ok),
-        Some(false) => Ok(Answer::Ignored),
-    }
-}
-
-fn end_span<P: SpanProcessor>(
-    provider: &mut ProviderOf<P>,
-    spans: &mut OpenSpans,
-    span: String,
-    moment: Moment,
-) -> Result<Answer, AllocError>
-    ensures ok { IfOk result (λ answer. (given : Option (Option ℕ)) × (answer ≡ end_answer given) × EndsNamed P.SpanProcessor spans.old (string_bytes span) provider.old moment.0 (named spans.old (string_bytes span)) given spans.new provider.new) }
-    ensures asks { MayDeliver P.SpanProcessor provider.old.processors provider.new.processors }
-    ensures err { OnErr result (SameSpans spans.old spans.new × (provider.new ≡ provider.old)) }
-{
-    match spans.end(span.as_str(), provider, moment)? {
-        None => Ok(Answer::NoSuchSpan),
-        Some(None) => Ok(Answer::Ignored),
-        Some(Some(refused)) => Ok(Answer::Ended(refused)),
-    }
-}
-
-/// The attribute whose value is a text.
-fn text_attribute(key: String, value: String) -> KeyValue
-    ensures { result ≡ record { key = string_bytes key; value = text (string_bytes value) } }
-{
-    KeyValue::new(Key::new(key), Value::String(value))
+    SpanEdit::SetAttribute(KeyValue::new(Key::new(key), Value::String(value)))
 }
 
 #[cfg(test)]

@@ -13,21 +13,21 @@ returns-in_err-answer-clause-err g c =
     let i = c.loop-command.invariant in
     always_on_err {P = RunsBeginning g.P.SpanProcessor g.P.KeepsBatches c.args.self.now c.args.commands.items c.args.replies.now.items c.loop-command.replies.items c.answer.new.self} _
     (ran_refused g.P.SpanProcessor g.P.KeepsBatches c.args.self.now c.loop-command.self c.answer.new.self c.args.commands.items c.loop-command.queue.items c.pop_front.new.self.items i.0 c.args.replies.now.items c.loop-command.replies.items c.in-Some.command
-    c.in-Some.ensures.items i.2 i.1 (c.in_err-answer.ensures.err, c.answer.ensures.rest, c.answer.ensures.keeps))
+    c.in-Some.ensures.items i.2 i.1 (record { asked = c.in_err-answer.ensures.err; rest = c.answer.ensures.rest; keeps_batches = c.answer.ensures.keeps }))
 
 pub returns-in_err-exported-clause-err : goal.returns-in_err-exported-clause-err
 returns-in_err-exported-clause-err g c =
     let i = c.loop-command.invariant in
     always_on_err {P = RunsBeginning g.P.SpanProcessor g.P.KeepsBatches c.args.self.now c.args.commands.items c.args.replies.now.items c.loop-command.replies.items c.answer.new.self} _
     (ran_refused g.P.SpanProcessor g.P.KeepsBatches c.args.self.now c.loop-command.self c.answer.new.self c.args.commands.items c.loop-command.queue.items c.pop_front.new.self.items i.0 c.args.replies.now.items c.loop-command.replies.items c.in-Some.command
-    c.in-Some.ensures.items i.2 i.1 (inr (c.in_ok-answer.answer, c.in_ok-answer.ensures.ok.0), c.answer.ensures.rest, c.answer.ensures.keeps))
+    c.in-Some.ensures.items i.2 i.1 (record { asked = inr (c.in_ok-answer.answer, c.in_ok-answer.ensures.ok.0); rest = c.answer.ensures.rest; keeps_batches = c.answer.ensures.keeps }))
 
 pub returns-in_err-push-clause-err : goal.returns-in_err-push-clause-err
 returns-in_err-push-clause-err g c =
     let i = c.loop-command.invariant in
     always_on_err {P = RunsBeginning g.P.SpanProcessor g.P.KeepsBatches c.args.self.now c.args.commands.items c.args.replies.now.items c.push.new.self.items c.answer.new.self} _
     (ran_refused g.P.SpanProcessor g.P.KeepsBatches c.args.self.now c.loop-command.self c.answer.new.self c.args.commands.items c.loop-command.queue.items c.pop_front.new.self.items i.0 c.args.replies.now.items c.push.new.self.items c.in-Some.command
-    c.in-Some.ensures.items i.2 (c.in_err-push.ensures.items ∙ i.1) (inr (c.in_ok-answer.answer, c.in_ok-answer.ensures.ok.0), c.answer.ensures.rest, c.answer.ensures.keeps))
+    c.in-Some.ensures.items i.2 (c.in_err-push.ensures.items ∙ i.1) (record { asked = inr (c.in_ok-answer.answer, c.in_ok-answer.ensures.ok.0); rest = c.answer.ensures.rest; keeps_batches = c.answer.ensures.keeps }))
 
 pub loop-command-preserved : goal.loop-command-preserved
 loop-command-preserved g c =
@@ -36,7 +36,14 @@ loop-command-preserved g c =
       i.0 ++ reply ∷ [],
       c.in_ok-push.ensures.items ∙ ap (λ (l : List PlainReply). l ++ reply ∷ []) i.1 ∙ append_assoc c.args.replies.now.items i.0 (reply ∷ []),
       ran_more g.P.SpanProcessor g.P.KeepsBatches c.args.self.now c.loop-command.self c.answer.new.self c.mark_shown.new.self c.args.commands.items c.loop-command.queue.items c.pop_front.new.self.items i.0 c.in-Some.command reply
-          c.in-Some.ensures.items i.2 (c.in_ok-answer.ensures.ok.0, c.in_ok-exported.ensures ∙ c.unshown.ensures, c.in_ok-answer.ensures.ok.1) c.answer.ensures.rest c.answer.ensures.keeps c.mark_shown.ensures,
+          c.in-Some.ensures.items i.2
+          (record {
+            carried = c.in_ok-answer.ensures.ok.0;
+            shows = c.in_ok-exported.ensures ∙ c.unshown.ensures;
+            loses_none = c.in_ok-answer.ensures.ok.1;
+            rest = c.answer.ensures.rest;
+            appends = c.answer.ensures.keeps;
+          }) c.mark_shown.ensures,
     )
 
 pub returns-clause-ok : goal.returns-clause-ok

@@ -5,5 +5,5 @@ use Rattle.otel_trace.proofs.session.Session.unshown.Goals as goal
 pub returns : goal.returns
 returns g c =
     c.unshown_by_first.ensures
-    ∙ ap (λ (processors : List g.row.P.Denot). spans_in (drop c.self.inside.shown (batches_of_first g.P.KeepsBatches.kept processors))) c.processors.ensures
-    ∙ ap (λ (s : SessionState g.row.P.Denot). unshown g.P.KeepsBatches.kept s) c.self.view_is
+    ∙ ap (λ (processors : List g.row.P.Denot). spans_in (drop c.self.inside.shown (batches_of_first g.P.KeepsBatches processors))) c.processors.ensures
+    ∙ ap (λ (s : SessionState g.row.P.Denot). unshown g.P.KeepsBatches s) c.self.view_is
