@@ -1,6 +1,9 @@
 pub mod AttributesString
 pub mod DetectedResource
 pub mod ErrorText
+pub mod IdSource
 pub mod Ids
 pub mod Resource
 pub mod SameResource
+pub mod Sampler
+pub mod Sampling
