@@ -5,5 +5,6 @@ pub mod IdSource
 pub mod Ids
 pub mod Resource
 pub mod SameResource
+pub mod SameSamplingResult
 pub mod Sampler
 pub mod Sampling

@@ -1,7 +1,8 @@
 //! Which spans are recorded and sampled (OpenTelemetry specification, "Sampler"). A tracer asks its sampler about each
 //! span before it starts.
 
-ghost use Rattle.std.specs.Prelude.{◌≡◌, [], IfOk, IsFalse, IsOk, IsTrue, OnErr, option_map};
+ghost use Rattle.std.specs.Prelude.{◌≡◌, ◌↔◌, [], IfOk, IsFalse, IsOk, IsTrue, OnErr, option_map};
+ghost use Rattle.otel_base.specs.SameSamplingResult.{same_answer, same_decision};
 ghost use Rattle.otel_base.specs.Sampling.{PlainSamplingResult, SamplingQuestion, question_of};
 ghost use Rattle.otel_base.specs.Sampler.{IsTryOf, active_in, built_in, has_custom, has_delegate, passed_trace_state};
 ghost use Rattle.otel_base.specs.Sampler.{plan};
@@ -42,6 +43,69 @@ impl Model for SamplingResult {
       attributes = added_attributes a.attributes;
       trace_state = a.trace_state;
     } };
+}
+
+impl SamplingResult {
+    // The attributes, in a list of none where there is none.
+    fn added_attributes(&self) -> &[KeyValue]
+        ensures { result.now ≡ self.now.attributes }
+    {
+        match &self.attributes {
+            Some(attributes) => attributes.as_slice(),
+            None => &[],
+        }
+    }
+}
+
+impl Clone for SamplingResult {
+    ghost use Rattle.std.specs.Prelude.{◌≡◌};
+
+    ghost is_clone = { λ answer copy. copy ≡ answer };
+
+    fn clone(&self) -> Result<SamplingResult, AllocError> {
+        Ok(SamplingResult {
+            decision: self.decision,
+            attributes: self.attributes.clone()?,
+            trace_state: self.trace_state.clone()?,
+        })
+    }
+}
+
+/// No list of attributes is the same as an empty one.
+impl PartialEq for SamplingResult {
+    ghost use Rattle.opentelemetry.specs.Same.{partial_equivalence_from_decides};
+    ghost use Rattle.otel_base.specs.SameSamplingResult.{same_answer, same_answer_decides};
+
+    ghost eq = { same_answer };
+
+    ghost laws = { partial_equivalence_from_decides same_answer same_answer_decides };
+
+    fn eq(&self, other: &SamplingResult) -> bool
+        ensures value { result ≡ same_answer self.now other.now }
+        ensures same { IsTrue result ↔ (self.now ≡ other.now) }
+    {
+        same_decision(self.decision, other.decision)
+            && self.added_attributes() == other.added_attributes()
+            && self.trace_state == other.trace_state
+    }
+}
+
+impl Eq for SamplingResult {
+    ghost use Rattle.opentelemetry.specs.Same.{equivalence_from_decides};
+    ghost use Rattle.otel_base.specs.SameSamplingResult.{same_answer, same_answer_decides};
+
+    ghost laws = { equivalence_from_decides same_answer same_answer_decides };
+}
+
+fn same_decision(this: SamplingDecision, that: SamplingDecision) -> bool
+    ensures { result ≡ same_decision this that }
+{
+    match (this, that) {
+        (SamplingDecision::Drop, SamplingDecision::Drop)
+        | (SamplingDecision::RecordOnly, SamplingDecision::RecordOnly)
+        | (SamplingDecision::RecordAndSample, SamplingDecision::RecordAndSample) => true,
+        _ => false,
+    }
 }
 
 /// Decides on the spans of a provider. A sampler does not change: what it answers depends on itself and the question.
