@@ -1,6 +1,10 @@
 pub mod AttributesString
 pub mod DetectedResource
 pub mod ErrorText
+pub mod IdSource
 pub mod Ids
 pub mod Resource
 pub mod SameResource
+pub mod SameSamplingResult
+pub mod Sampler
+pub mod Sampling

@@ -4,6 +4,6 @@ pub mod id_generator;
 pub mod sampler;
 pub mod span_limit;
 
-pub use id_generator::{IdGenerator, RandomIdGenerator};
-pub use sampler::Sampler;
+pub use id_generator::{IdGenerator, IdSource, IdSourceOf, RandomIdGenerator};
+pub use sampler::{Sampler, SamplerOf, SamplingDecision, SamplingResult, ShouldSample};
 pub use span_limit::SpanLimits;

@@ -1,0 +1,87 @@
+-- What each sampler of the SDK answers (OpenTelemetry specification, "Built-in samplers").
+use Rattle.std.specs.Prelude.{◌≡◌, ℕ, ◌%◌, ◌==◌, if◌then◌else◌, Bool, true, false, IsTrue, IsFalse, List, [], Option, Some, None, MatchOption}
+use Rattle.opentelemetry.specs.Plain.{PlainContext, PlainSpanContext}
+use Rattle.otel_base.specs.Sampling.{SamplingQuestion, PlainSamplingResult}
+use Rattle.otel_base.specs.declared.trace.sampler.SamplingDecision.{SamplingDecision}
+use Rattle.otel_base.specs.declared.trace.sampler.SamplingDecision.TheVariants as decisions
+use Rattle.otel_base.specs.declared.trace.sampler.SamplerOf.{SamplerOf, AlwaysOn, AlwaysOff, ParentBased', Custom}
+
+-- what a sampler is made of, without where it lies in memory: one of the SDK's, perhaps over another one, or a
+-- custom one
+pub data SamplerPlan (C : Type 0) : Type 0 where
+  always_on : SamplerPlan C
+  always_off : SamplerPlan C
+  parent_based : SamplerPlan C → SamplerPlan C
+  custom : C → SamplerPlan C
+
+-- the plan of a sampler
+abbrev pub plan : {C : Type 0} → SamplerOf C → SamplerPlan C
+plan AlwaysOn = always_on
+plan AlwaysOff = always_off
+plan (ParentBased' p delegate) = parent_based (plan delegate)
+plan (Custom c) = custom c
+
+-- the context of the span that is active in a context, if there is one
+abbrev pub active_in : Option PlainContext → Option PlainSpanContext
+active_in None = None
+active_in (Some context) = context.span_context
+
+-- the trace state of the active span; the empty one where none is active
+abbrev pub passed_trace_state : Option PlainSpanContext → List (List ℕ × List ℕ)
+passed_trace_state None = []
+passed_trace_state (Some span) = span.trace_state
+
+-- a decision of a sampler of the SDK: it adds no attributes and passes the trace state on
+abbrev pub built_in : SamplingDecision → Option PlainSpanContext → PlainSamplingResult
+built_in decision active = record { decision = decision; attributes = []; trace_state = passed_trace_state active }
+
+-- the child of a sampled span is sampled, and that of another one is dropped
+abbrev pub parent_decision : PlainSpanContext → SamplingDecision
+parent_decision span = if span.trace_flags % 2 == 1 then decisions.RecordAndSample else decisions.Drop
+
+-- what a sampler answers, where custom_gives is what a custom one does: an active span decides alone in place of a
+-- delegate, which is asked where none is active
+abbrev pub SamplerGives : {C : Type 0} → (C → SamplingQuestion → PlainSamplingResult → Type 0)
+    → SamplerPlan C → SamplingQuestion → PlainSamplingResult → Type 0
+SamplerGives custom_gives always_on question answer =
+    answer ≡ built_in decisions.RecordAndSample (active_in question.parent_context)
+SamplerGives custom_gives always_off question answer =
+    answer ≡ built_in decisions.Drop (active_in question.parent_context)
+SamplerGives custom_gives (parent_based delegate) question answer =
+    MatchOption (active_in question.parent_context)
+    (SamplerGives custom_gives delegate question answer)
+    (λ span. answer ≡ built_in (parent_decision span) (Some span))
+SamplerGives custom_gives (custom c) question answer = custom_gives c question answer
+
+-- where a sampler answers whether memory is there or not: a sampler of the SDK does where the active span has no
+-- trace state to be passed on, a custom one where custom_is_infallible says so
+abbrev pub SamplerIsInfallible : {C : Type 0} → (C → SamplingQuestion → Type 0)
+    → SamplerPlan C → SamplingQuestion → Type 0
+SamplerIsInfallible custom_is_infallible always_on question =
+    passed_trace_state (active_in question.parent_context) ≡ []
+SamplerIsInfallible custom_is_infallible always_off question =
+    passed_trace_state (active_in question.parent_context) ≡ []
+SamplerIsInfallible custom_is_infallible (parent_based delegate) question =
+    MatchOption (active_in question.parent_context)
+    (SamplerIsInfallible custom_is_infallible delegate question)
+    (λ span. span.trace_state ≡ [])
+SamplerIsInfallible custom_is_infallible (custom c) question = custom_is_infallible c question
+
+-- whether a custom sampler stands in a plan
+abbrev pub has_custom : {C : Type 0} → SamplerPlan C → Bool
+has_custom always_on = false
+has_custom always_off = false
+has_custom (parent_based delegate) = has_custom delegate
+has_custom (custom c) = true
+
+-- whether a plan begins with a sampler that has a delegate
+abbrev pub has_delegate : {C : Type 0} → SamplerPlan C → Bool
+has_delegate always_on = false
+has_delegate always_off = false
+has_delegate (parent_based delegate) = true
+has_delegate (custom c) = false
+
+-- what a try at a copy answers: a sampler of the same plan, or none where a custom one stands in it
+abbrev pub IsTryOf : {C : Type 0} → SamplerPlan C → Option (SamplerOf C) → Type 0
+IsTryOf original None = IsTrue (has_custom original)
+IsTryOf original (Some copy) = (plan copy ≡ original) × IsFalse (has_custom original)
