@@ -1,15 +1,17 @@
 -- What each processor of a list was told, after one end and after many.
-use Rattle.std.proofs.Common.{◌≡◌, ℕ, ◌<◌, ◌≤◌, Bool, true, false, ◌&&◌, List, [], ◌∷◌, ◌++◌, map, filter, Option, Some, None, Result, Ok, Err, MatchBool, if◌then◌else◌, refl, sym, ◌∙◌, ap, subst, append_assoc, append-nil, arith, inl, inr}
+use Rattle.std.proofs.Common.{◌≡◌, ℕ, ◌+◌, ◌-◌, ◌^◌, ◌<◌, ◌≤◌, Bool, true, false, ◌&&◌, ◌⊎◌, List, [], ◌∷◌, ◌++◌, map, Option, Some, None, Result, Ok, Err, refl, sym, ◌∙◌, ap, subst, append_assoc, append-nil, arith, inl, inr}
+use Rattle.std.specs.Bool.{IsTrue, IsFalse}
 use Rattle.std.proofs.lemmas.List.{map-append}
-use Rattle.std.proofs.lemmas.List.Elements.{filter-append}
+use Rattle.otel_base.specs.declared.error.OTelSdkError.{OTelSdkError}
 use Rattle.otel_batch.specs.PlainSpanData.{PlainSpanData}
 use Rattle.otel_batch.specs.Telling.{Tells}
 use Rattle.std.specs.declared.alloc.AllocError.{AllocError}
-use Rattle.opentelemetry_sdk.specs.ProcessorTelling.{ProcessorTelling, TakesSpan, HandsOver, is_sampled}
-use Rattle.opentelemetry_sdk.specs.Deliveries.{Delivery, Follows, EachFollows, Reaches, one_each, spans_of}
+use Rattle.opentelemetry_sdk.specs.ProcessorTelling.{ProcessorTelling, CountsUp, TakesSpan, TakesNothing, HandsOver, HearsNothing, HearsOne, DropsOne, is_sampled}
+use Rattle.opentelemetry_sdk.specs.Deliveries.{Delivery, Follows, EachFollows, Reaches, ReachesFirst, spans_of}
 use Rattle.opentelemetry_sdk.specs.declared.trace.span_processor.SpanProcessor.{Ghosts}
-use Rattle.opentelemetry_sdk.specs.Each.{Each, errors}
+use Rattle.opentelemetry_sdk.specs.Each.{Each, AskedAll, errors}
 use Rattle.opentelemetry_sdk.specs.Ending.{TakesAndTells, DeliversIf, deliveries}
+use Rattle.opentelemetry_sdk.specs.Provider.{ProviderState, ShutsDown, ShutsProcessor}
 use Rattle.opentelemetry_sdk.specs.SpanHistory.{ended_at}
 
 -- one telling after another is the telling of both
@@ -26,68 +28,187 @@ tells_same : {D : Type 0} (a b : Option (List D)) → b ≡ a → Tells a [] b
 tells_same {D} None b e = subst (λ (o : Option (List D)). Tells None [] o) (sym e) tt
 tells_same {D} (Some x) b e = subst (λ (o : Option (List D)). Tells (Some x) [] o) (sym e) (ap (λ (l : List D). Some l) (append-nil x))
 
+-- a count that stays counts up by nothing
+counts_nothing : (before after : ℕ) → after ≡ before → CountsUp before 0 after
+counts_nothing before after e = record { no_fewer = omega arith; no_more = omega arith; exact = λ _. omega arith }
+
+-- one count after another
+counts_both : (a n b m c : ℕ) → CountsUp a n b → CountsUp b m c → CountsUp a (n + m) c
+counts_both a n b m c h k =
+    let first : a ≤ b = h.no_fewer in
+    let second : b ≤ c = k.no_fewer in
+    let first_more : b ≤ a + n = h.no_more in
+    let second_more : c ≤ b + m = k.no_more in
+    record {
+      no_fewer = omega arith;
+      no_more = omega arith;
+      exact = λ below.
+          let late : c ≡ b + m = k.exact below in
+          let early : b ≡ a + n = h.exact (omega arith) in
+          omega arith;
+    }
+
+-- one delivery in front of others that are one list after another
+first_both : (b : Bool) (delivery : Delivery) (xs ys : List Delivery) (first second : List PlainSpanData) (n m : ℕ)
+    → ((rest : List PlainSpanData) (k : ℕ) → Reaches xs rest k → Reaches (xs ++ ys) (rest ++ second) (k + m))
+    → ReachesFirst b delivery (Reaches xs) first n → ReachesFirst b delivery (Reaches (xs ++ ys)) (first ++ second) (n + m)
+first_both true delivery xs ys first second n m others (inl (rest, e, h)) =
+    inl (rest ++ second, ap (λ (l : List PlainSpanData). l ++ second) e, others rest n h)
+first_both true delivery xs ys first second n m others (inr (inl (refused, h))) = inr (inl (refused, others first n h))
+first_both true delivery xs ys first second n m others (inr (inr (fewer, e, h))) = inr (inr (fewer + m, omega arith, others first fewer h))
+first_both false delivery xs ys first second n m others h = others first n h
+
+-- what reaches a processor of one list of deliveries after another
+Reaches-append : (xs ys : List Delivery) (first second : List PlainSpanData) (n m : ℕ)
+    → Reaches xs first n → Reaches ys second m → Reaches (xs ++ ys) (first ++ second) (n + m)
+Reaches-append [] ys first second n m h k =
+    let same : m ≡ n + m = omega (arith, h.1) in
+    let missed : Reaches ys second (n + m) = subst (λ (l : ℕ). Reaches ys second l) same k in
+    subst (λ (l : List PlainSpanData). Reaches ys (l ++ second) (n + m)) (sym h.0) missed
+Reaches-append (x ∷ xs) ys first second n m h k =
+    first_both (is_sampled x.span) x xs ys first second n m (λ rest fewer l. Reaches-append xs ys rest second fewer m l k) h
+
 -- an answer that is an error counts
 abbrev pub IsCounted : {T E : Type 0} → Result T E → ℕ → Type 0
 IsCounted (Ok _) n = Unit {0}
 IsCounted (Err _) n = 0 < n
 
-one_each-sampled : (span : PlainSpanData) → is_sampled span ≡ true → one_each (span ∷ []) ≡ (span ∷ []) ∷ []
-one_each-sampled span e = ap (λ (b : Bool). map (λ s. s ∷ []) (if b then span ∷ [] else [])) e
+-- what one delivery leads from one telling to another, at a processor that was open and where it was shut
+abbrev FollowsOne : Bool → Bool → ProcessorTelling → Delivery → ProcessorTelling → Type 0
+FollowsOne true sampled before delivery after =
+    (reached : List PlainSpanData) × (missed : ℕ) × ReachesFirst sampled delivery (Reaches []) reached missed
+    × Tells before.heard reached after.heard × CountsUp before.dropped missed after.dropped
+FollowsOne false sampled before delivery after = Tells before.heard [] after.heard × CountsUp before.dropped 0 after.dropped
 
-one_each-unsampled : (span : PlainSpanData) → is_sampled span ≡ false → one_each (span ∷ []) ≡ []
-one_each-unsampled span e = ap (λ (b : Bool). map (λ s. s ∷ []) (if b then span ∷ [] else [])) e
+-- nothing more was heard
+hears_nothing : (before after : ProcessorTelling) → HearsNothing before after → Tells before.heard [] after.heard × CountsUp before.dropped 0 after.dropped
+hears_nothing before after h = (tells_same before.heard after.heard h.heard, counts_nothing before.dropped after.dropped h.dropped)
 
-one_each-append : (xs ys : List PlainSpanData) → one_each (xs ++ ys) ≡ one_each xs ++ one_each ys
-one_each-append xs ys = ap (map (λ s. s ∷ [])) (filter-append is_sampled xs ys) ∙ map-append (λ s. s ∷ []) (filter is_sampled xs) (filter is_sampled ys)
+-- a span that was handed over reaches the processor, or it was refused or missed
+handed_over : {T E : Type 0} (is_open sampled : Bool) (before : ProcessorTelling) (span : PlainSpanData) (answer : Result T E) (n : ℕ) (after : ProcessorTelling)
+    → HandsOver (is_open && sampled) before span answer after → IsCounted answer n
+    → FollowsOne is_open sampled before (record { span = span; refused = n }) after
+handed_over true true before span (Ok _) n after (inl h) counted =
+    (span ∷ [], 0, inl ([], refl, (refl, refl)), h.heard, counts_nothing before.dropped after.dropped h.dropped)
+handed_over true true before span (Ok _) n after (inr h) counted =
+    ([], 1, inr (inr (0, refl, (refl, refl))), tells_same before.heard after.heard h.heard, h.dropped)
+handed_over true true before span (Err _) n after h counted =
+    let nothing = hears_nothing before after h in
+    ([], 0, inr (inl (counted, (refl, refl))), nothing.0, nothing.1)
+handed_over true false before span answer n after h counted =
+    let nothing = hears_nothing before after h in
+    ([], 0, (refl, refl), nothing.0, nothing.1)
+handed_over false sampled before span answer n after h counted = hears_nothing before after h
 
--- what one end leads an exporter to tell
-handed_one : {T E : Type 0} (is_open sampled : Bool) (before : Option (List (List PlainSpanData))) (span : PlainSpanData) (answer : Result T E) (n : ℕ) (after : Option (List (List PlainSpanData)))
-    → is_sampled span ≡ sampled → HandsOver (is_open && sampled) before span answer after → IsCounted answer n
-    → MatchBool is_open ((handed : List PlainSpanData) × Reaches (record { span = span; refused = n } ∷ []) handed × Tells before (one_each handed) after) (after ≡ before)
-handed_one true true before span (Ok _) n after e h k =
-    (span ∷ [], inl ([], refl, refl), subst (λ (l : List (List PlainSpanData)). Tells before l after) (sym (one_each-sampled span e)) h)
-handed_one true true before span (Err _) n after e h k = ([], inr (k, refl), tells_same before after h)
-handed_one true false before span answer n after e h k =
-    (span ∷ [], inl ([], refl, refl), subst (λ (l : List (List PlainSpanData)). Tells before l after) (sym (one_each-unsampled span e)) (tells_same before after h))
-handed_one false sampled before span answer n after e h k = h
+-- a delivery that leads from one telling to another is followed
+follows_by : (is_open : Bool) (before : ProcessorTelling) (delivery : Delivery) (after : ProcessorTelling) → before.is_open ≡ is_open
+    → Tells before.spans (delivery.span ∷ []) after.spans → FollowsOne is_open (is_sampled delivery.span) before delivery after → after.is_open ≡ before.is_open
+    → Follows before (delivery ∷ []) after
+follows_by true before delivery after e spans (reached, missed, reaches, heard, dropped) stays = record {
+  spans = spans;
+  while_open = delivery ∷ [];
+  while_shut = [];
+  whole = refl;
+  still_open = λ _. refl;
+  was_shut = λ shut. cc;
+  reached = reached;
+  missed = missed;
+  reaches = reaches;
+  heard = heard;
+  dropped = dropped;
+  never_reopens = λ open_now. cc;
+}
+follows_by false before delivery after e spans h stays = record {
+  spans = spans;
+  while_open = [];
+  while_shut = delivery ∷ [];
+  whole = refl;
+  still_open = λ open_now. cc;
+  was_shut = λ _. refl;
+  reached = [];
+  missed = 0;
+  reaches = (refl, refl);
+  heard = h.0;
+  dropped = h.1;
+  never_reopens = λ open_now. cc;
+}
 
 -- a processor that was given a span follows that delivery
 follows_one : {T E : Type 0} (before : ProcessorTelling) (span : PlainSpanData) (answer : Result T E) (n : ℕ) (after : ProcessorTelling)
     → TakesSpan before span answer after → IsCounted answer n → Follows before (record { span = span; refused = n } ∷ []) after
-follows_one before span answer n after h k = (h.0, handed_one before.is_open (is_sampled span) before.batches span answer n after.batches refl h.1 k, h.2)
+follows_one before span answer n after h counted =
+    follows_by before.is_open before (record { span = span; refused = n }) after refl h.spans
+    (handed_over before.is_open (is_sampled span) before span answer n after h.handed counted) h.is_open
 
-handed_nothing : (is_open : Bool) (before : Option (List (List PlainSpanData))) → MatchBool is_open ((handed : List PlainSpanData) × Reaches [] handed × Tells before (one_each handed) before) (before ≡ before)
-handed_nothing true before = ([], refl, tells_same before before refl)
-handed_nothing false before = refl
+-- a processor that was asked to flush or to shut down follows no delivery
+follows_nothing : (before after : ProcessorTelling) → TakesNothing before after → Follows before [] after
+follows_nothing before after h = record {
+  spans = tells_same before.spans after.spans h.spans;
+  while_open = [];
+  while_shut = [];
+  whole = refl;
+  still_open = λ _. refl;
+  was_shut = λ _. refl;
+  reached = [];
+  missed = 0;
+  reaches = (refl, refl);
+  heard = h.heard;
+  dropped = counts_nothing before.dropped after.dropped h.dropped;
+  never_reopens = h.never_reopens;
+}
 
--- a processor that stays follows no delivery
-follows_nothing : (telling : ProcessorTelling) → Follows telling [] telling
-follows_nothing telling = (tells_same telling.spans telling.spans refl, handed_nothing telling.is_open telling.batches, refl)
+-- and so does one that was not asked
+takes_nothing : (telling : ProcessorTelling) → TakesNothing telling telling
+takes_nothing telling = record { spans = refl; heard = tells_same telling.heard telling.heard refl; dropped = refl; never_reopens = λ is_open. is_open }
 
-Reaches-append : (xs ys : List Delivery) (first second : List PlainSpanData) → Reaches xs first → Reaches ys second → Reaches (xs ++ ys) (first ++ second)
-Reaches-append [] ys first second h k = subst (λ (l : List PlainSpanData). Reaches ys (l ++ second)) (sym h) k
-Reaches-append (x ∷ xs) ys first second (inl (rest, e, h)) k = inl (rest ++ second, ap (λ (l : List PlainSpanData). l ++ second) e, Reaches-append xs ys rest second h k)
-Reaches-append (x ∷ xs) ys first second (inr (m, h)) k = inr (m, Reaches-append xs ys first second h k)
+-- a telling behind one that stays
+tells_nothing_before : {D : Type 0} (a : Option (List D)) (xs : List D) (b c : Option (List D)) → Tells a xs b → Tells b [] c → Tells a xs c
+tells_nothing_before {D} a xs b c h k = subst (λ (l : List D). Tells a l c) (append-nil xs) (tells_append a xs b [] c h k)
 
-handed_append : (is_open : Bool) (a b c : Option (List (List PlainSpanData))) (xs ys : List Delivery)
-    → MatchBool is_open ((handed : List PlainSpanData) × Reaches xs handed × Tells a (one_each handed) b) (b ≡ a)
-    → MatchBool is_open ((handed : List PlainSpanData) × Reaches ys handed × Tells b (one_each handed) c) (c ≡ b)
-    → MatchBool is_open ((handed : List PlainSpanData) × Reaches (xs ++ ys) handed × Tells a (one_each handed) c) (c ≡ a)
-handed_append true a b c xs ys h k = (
-  h.0 ++ k.0,
-  Reaches-append xs ys h.0 k.0 h.1 k.1,
-  subst (λ (l : List (List PlainSpanData)). Tells a l c) (sym (one_each-append h.0 k.0)) (tells_append a (one_each h.0) b (one_each k.0) c h.2 k.2),
-)
-handed_append false a b c xs ys h k = k ∙ h
+-- one list of deliveries after another, where the processor was open or shut between them
+follows_both : (between : Bool) (a b c : ProcessorTelling) (xs ys : List Delivery) → b.is_open ≡ between → Follows a xs b → Follows b ys c → Follows a (xs ++ ys) c
+follows_both true a b c xs ys e h k =
+    let none : h.while_shut ≡ [] = h.still_open e in
+    record {
+      spans = subst (λ (l : List PlainSpanData). Tells a.spans l c.spans) (sym (map-append (λ d. d.span) xs ys)) (tells_append a.spans (spans_of xs) b.spans (spans_of ys) c.spans h.spans k.spans);
+      while_open = h.while_open ++ k.while_open;
+      while_shut = k.while_shut;
+      whole = ap (λ (l : List Delivery). l ++ ys) (h.whole ∙ ap (λ (l : List Delivery). h.while_open ++ l) none ∙ append-nil h.while_open)
+          ∙ ap (λ (l : List Delivery). h.while_open ++ l) k.whole ∙ sym (append_assoc h.while_open k.while_open k.while_shut);
+      still_open = k.still_open;
+      was_shut = λ shut. let was : IsTrue a.is_open = h.never_reopens e in cc;
+      reached = h.reached ++ k.reached;
+      missed = h.missed + k.missed;
+      reaches = Reaches-append h.while_open k.while_open h.reached k.reached h.missed k.missed h.reaches k.reaches;
+      heard = tells_append a.heard h.reached b.heard k.reached c.heard h.heard k.heard;
+      dropped = counts_both a.dropped h.missed b.dropped k.missed c.dropped h.dropped k.dropped;
+      never_reopens = λ is_open. h.never_reopens (k.never_reopens is_open);
+    }
+follows_both false a b c xs ys e h k =
+    let none : k.while_open ≡ [] = k.was_shut e in
+    let nothing : Reaches [] k.reached k.missed = subst (λ (l : List Delivery). Reaches l k.reached k.missed) none k.reaches in
+    record {
+      spans = subst (λ (l : List PlainSpanData). Tells a.spans l c.spans) (sym (map-append (λ d. d.span) xs ys)) (tells_append a.spans (spans_of xs) b.spans (spans_of ys) c.spans h.spans k.spans);
+      while_open = h.while_open;
+      while_shut = h.while_shut ++ ys;
+      whole = ap (λ (l : List Delivery). l ++ ys) h.whole ∙ append_assoc h.while_open h.while_shut ys;
+      still_open = λ is_open. let was : IsTrue b.is_open = k.never_reopens is_open in cc;
+      was_shut = h.was_shut;
+      reached = h.reached;
+      missed = h.missed;
+      reaches = h.reaches;
+      heard = tells_nothing_before a.heard h.reached b.heard c.heard h.heard (subst (λ (l : List PlainSpanData). Tells b.heard l c.heard) nothing.0 k.heard);
+      dropped =
+          let after : CountsUp b.dropped 0 c.dropped = subst (λ (m : ℕ). CountsUp b.dropped m c.dropped) nothing.1 k.dropped in
+          let both : CountsUp a.dropped (h.missed + 0) c.dropped = counts_both a.dropped h.missed b.dropped 0 c.dropped h.dropped after in
+          let same : h.missed + 0 ≡ h.missed = omega arith in
+          subst (λ (m : ℕ). CountsUp a.dropped m c.dropped) same both;
+      never_reopens = λ is_open. h.never_reopens (k.never_reopens is_open);
+    }
 
 -- one list of deliveries after another
 follows_append : (a b c : ProcessorTelling) (xs ys : List Delivery) → Follows a xs b → Follows b ys c → Follows a (xs ++ ys) c
-follows_append a b c xs ys h k = (
-  subst (λ (l : List PlainSpanData). Tells a.spans l c.spans) (sym (map-append (λ d. d.span) xs ys)) (tells_append a.spans (spans_of xs) b.spans (spans_of ys) c.spans h.0 k.0),
-  handed_append a.is_open a.batches b.batches c.batches xs ys h.1
-      (subst (λ (o : Bool). MatchBool o ((handed : List PlainSpanData) × Reaches ys handed × Tells b.batches (one_each handed) c.batches) (c.batches ≡ b.batches)) h.2 k.1),
-  k.2 ∙ h.2,
-)
+follows_append a b c xs ys h k = follows_both b.is_open a b c xs ys refl h k
 
 -- each processor of a list, one list of deliveries after another
 pub EachFollows-append : {P : Type 0} (calls : Ghosts P) (xs ys : List Delivery) (ps qs us : List P) → EachFollows calls xs ps qs → EachFollows calls ys qs us → EachFollows calls (xs ++ ys) ps us
@@ -106,7 +227,28 @@ EachFollows-same calls (p ∷ ps) [] e = cc
 EachFollows-same calls (p ∷ ps) (q ∷ qs) e =
     let first : calls.told q ≡ calls.told p = cc in
     let others : map calls.told qs ≡ map calls.told ps = cc in
-    (subst (λ (t : ProcessorTelling). Follows (calls.told p) [] t) (sym first) (follows_nothing (calls.told p)), EachFollows-same calls ps qs others)
+    (subst (λ (t : ProcessorTelling). Follows (calls.told p) [] t) (sym first) (follows_nothing (calls.told p) (calls.told p) (takes_nothing (calls.told p))), EachFollows-same calls ps qs others)
+
+each_takes_nothing : {P R : Type 0} (calls : Ghosts P) (G : P → R → P → Type 0) → ((p : P) (r : R) (q : P) → G p r q → TakesNothing (calls.told p) (calls.told q))
+    → (ps : List P) (rs : List R) (qs : List P) → Each G ps rs qs → EachFollows calls [] ps qs
+each_takes_nothing calls G takes [] [] [] h = tt
+each_takes_nothing calls G takes [] [] (q ∷ qs) h = absurd h
+each_takes_nothing calls G takes [] (r ∷ rs) qs h = absurd h
+each_takes_nothing calls G takes (p ∷ ps) [] qs h = absurd h
+each_takes_nothing calls G takes (p ∷ ps) (r ∷ rs) [] h = absurd h
+each_takes_nothing calls G takes (p ∷ ps) (r ∷ rs) (q ∷ qs) h =
+    (follows_nothing (calls.told p) (calls.told q) (takes p r q h.0), each_takes_nothing calls G takes ps rs qs h.1)
+
+-- processors of which each was asked to flush or to shut down follow no delivery
+pub EachFollows-asked : {P T E : Type 0} (calls : Ghosts P) (G : P → Result T E → P → Type 0) → ((p : P) (r : Result T E) (q : P) → G p r q → TakesNothing (calls.told p) (calls.told q))
+    → (ps qs : List P) (n : ℕ) → AskedAll G ps qs n → EachFollows calls [] ps qs
+EachFollows-asked calls G takes ps qs n h = each_takes_nothing calls G takes ps h.0 qs h.2
+
+-- the processors of a provider that was shut down follow no delivery
+pub EachFollows-shut : {P : Type 0} (calls : Ghosts P) (old : ProviderState P) (timeout : ℕ) (answer : Result (Unit {0}) OTelSdkError) (new : ProviderState P)
+    → ShutsDown calls old timeout answer new → EachFollows calls [] old.processors new.processors
+EachFollows-shut calls old timeout answer new h =
+    EachFollows-asked calls (ShutsProcessor calls timeout) (λ p r q done. done.told) old.processors new.processors h.failed h.asked
 
 -- the errors among more answers are no fewer
 counted_first : {T E : Type 0} (r : Result T E) (rs : List (Result T E)) (n : ℕ) → errors (r ∷ rs) ≤ n → IsCounted r n

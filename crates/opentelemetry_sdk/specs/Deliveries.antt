@@ -1,9 +1,9 @@
--- What is delivered to the processors of a provider, and what of it reaches each.
-use Rattle.std.specs.Prelude.{◌≡◌, ℕ, ◌<◌, ◌⊎◌, List, [], ◌∷◌, map, filter, MatchBool}
+-- What is delivered to the processors of a provider, and what of it each tells.
+use Rattle.std.specs.Prelude.{◌≡◌, ℕ, ◌+◌, ◌<◌, ◌⊎◌, List, [], ◌∷◌, ◌++◌, map, Bool, true, false, IsTrue, IsFalse}
 use Rattle.std.specs.List.{AllZip}
 use Rattle.otel_batch.specs.PlainSpanData.{PlainSpanData}
 use Rattle.otel_batch.specs.Telling.{Tells}
-use Rattle.opentelemetry_sdk.specs.ProcessorTelling.{ProcessorTelling, is_sampled}
+use Rattle.opentelemetry_sdk.specs.ProcessorTelling.{ProcessorTelling, CountsUp, is_sampled}
 use Rattle.opentelemetry_sdk.specs.declared.trace.span_processor.SpanProcessor.{Ghosts}
 
 -- what an end delivers to each processor, and how many of them refused it
@@ -15,24 +15,36 @@ pub record Delivery : Type 0 where
 abbrev pub spans_of : List Delivery → List PlainSpanData
 spans_of deliveries = map (λ delivery. delivery.span) deliveries
 
--- what reaches one processor of a list of deliveries: all in order, but one that counts a refusal may be missing
-abbrev pub Reaches : List Delivery → List PlainSpanData → Type 0
-Reaches [] handed = handed ≡ []
-Reaches (delivery ∷ deliveries) handed =
-    ((rest : List PlainSpanData) × (handed ≡ delivery.span ∷ rest) × Reaches deliveries rest) ⊎ ((0 < delivery.refused) × Reaches deliveries handed)
+-- one delivery in front of others, of which `Others` says what reaches a processor: a sampled span reaches it, or the
+-- processor refused it, or it counts as missed
+abbrev pub ReachesFirst : Bool → Delivery → (List PlainSpanData → ℕ → Type 0) → List PlainSpanData → ℕ → Type 0
+ReachesFirst true delivery Others reached missed =
+    ((rest : List PlainSpanData) × (reached ≡ delivery.span ∷ rest) × Others rest missed)
+    ⊎ (((0 < delivery.refused) × Others reached missed)
+    ⊎ ((fewer : ℕ) × (missed ≡ fewer + 1) × Others reached fewer))
+ReachesFirst false delivery Others reached missed = Others reached missed
 
--- the batches that a processor which exports at once makes of spans: one of each that is sampled
-abbrev pub one_each : List PlainSpanData → List (List PlainSpanData)
-one_each spans = map (λ span. span ∷ []) (filter is_sampled spans)
+-- the spans that reach an open processor of a list of deliveries, and how many it missed at a full queue: the sampled
+-- ones, each once and in order, but for refused and missed ones
+abbrev pub Reaches : List Delivery → List PlainSpanData → ℕ → Type 0
+Reaches [] reached missed = (reached ≡ []) × (missed ≡ 0)
+Reaches (delivery ∷ deliveries) reached missed = ReachesFirst (is_sampled delivery.span) delivery (Reaches deliveries) reached missed
 
--- a processor before and after deliveries: it tells their spans, and the exporter of an open one tells a batch for each
--- sampled span that reached it; an exporter of a shut one was handed nothing
-abbrev pub Follows : ProcessorTelling → List Delivery → ProcessorTelling → Type 0
-Follows before deliveries after = Tells before.spans (spans_of deliveries) after.spans
-    × MatchBool before.is_open
-    ((handed : List PlainSpanData) × Reaches deliveries handed × Tells before.batches (one_each handed) after.batches)
-    (after.batches ≡ before.batches)
-    × (after.is_open ≡ before.is_open)
+-- a processor before and after deliveries. It tells their spans. It was open for the first of them and shut for the
+-- others: the first ones reached it and are heard or count as dropped, and of the others nothing is heard
+pub record Follows (before : ProcessorTelling) (deliveries : List Delivery) (after : ProcessorTelling) : Type 0 where
+  pub spans : Tells before.spans (spans_of deliveries) after.spans
+  pub while_open : List Delivery
+  pub while_shut : List Delivery
+  pub whole : deliveries ≡ while_open ++ while_shut
+  pub still_open : IsTrue after.is_open → while_shut ≡ []
+  pub was_shut : IsFalse before.is_open → while_open ≡ []
+  pub reached : List PlainSpanData
+  pub missed : ℕ
+  pub reaches : Reaches while_open reached missed
+  pub heard : Tells before.heard reached after.heard
+  pub dropped : CountsUp before.dropped missed after.dropped
+  pub never_reopens : IsTrue after.is_open → IsTrue before.is_open
 
 -- each processor was given the same deliveries
 abbrev pub EachFollows : {P : Type 0} → Ghosts P → List Delivery → List P → List P → Type 0

@@ -5,6 +5,7 @@ ghost use Rattle.std.specs.Prelude.{◌≡◌};
 use crate::trace::{SimpleSpanProcessor, Span, SpanProcessor};
 use opentelemetry::Context;
 use otel_base::error::OTelSdkResult;
+use otel_base::resource::Resource;
 use otel_batch::trace::{ExporterBox, SpanData};
 use std::alloc::AllocError;
 use std::time::Duration;
@@ -20,6 +21,7 @@ pub enum ProcessorOf<S, C> {
 pub type Processor = ProcessorOf<SimpleSpanProcessor<ExporterBox>, Box<dyn SpanProcessor>>;
 
 impl<S: SpanProcessor, C: SpanProcessor> SpanProcessor for ProcessorOf<S, C> {
+    ghost use Rattle.otel_batch.specs.RestsOr.{RestsOr};
     ghost use Rattle.opentelemetry_sdk.specs.ProcessorKinds.{ProcessorGives};
     ghost use Rattle.opentelemetry_sdk.specs.declared.trace.processor.ProcessorOf.TheVariants as kinds;
 
@@ -32,6 +34,10 @@ impl<S: SpanProcessor, C: SpanProcessor> SpanProcessor for ProcessorOf<S, C> {
     ghost flush_gives = { λ p r q. ProcessorGives (λ a b. S.flush_gives a r b) (λ c d. C.flush_gives c r d) p q };
 
     ghost shutdown_gives = { λ p timeout r q. ProcessorGives (λ a b. S.shutdown_gives a timeout r b) (λ c d. C.shutdown_gives c timeout r d) p q };
+
+    ghost resource_gives = { λ p resource r q. ProcessorGives
+        (λ a b. RestsOr (λ x answer y. S.resource_gives x resource answer y) a r b)
+        (λ c d. RestsOr (λ x answer y. C.resource_gives x resource answer y) c r d) p q };
 
     fn on_start(&mut self, span: &mut Span, cx: &Context) {
         match self {
@@ -65,6 +71,13 @@ impl<S: SpanProcessor, C: SpanProcessor> SpanProcessor for ProcessorOf<S, C> {
         match self {
             ProcessorOf::Simple(simple) => simple.shutdown(),
             ProcessorOf::Custom(custom) => custom.shutdown(),
+        }
+    }
+
+    fn set_resource(&mut self, resource: &Resource) -> Result<(), AllocError> {
+        match self {
+            ProcessorOf::Simple(simple) => simple.set_resource(resource),
+            ProcessorOf::Custom(custom) => custom.set_resource(resource),
         }
     }
 }

@@ -6,6 +6,7 @@ ghost use Rattle.std.specs.Prelude.{◌≡◌, ◌∷◌, [], false, IfOk};
 use crate::trace::{Span, SpanProcessor};
 use opentelemetry::Context;
 use otel_base::error::OTelSdkResult;
+use otel_base::resource::Resource;
 use otel_batch::trace::{SpanData, SpanExporter};
 use std::alloc::{AllocError, Global};
 use std::marker::Model;
@@ -46,10 +47,10 @@ impl<E> SimpleSpanProcessor<E> {
 }
 
 impl<E: SpanExporter> SpanProcessor for SimpleSpanProcessor<E> {
-    ghost use Rattle.std.specs.Prelude.{◌≡◌, not, None, Ok, true};
-    ghost use Rattle.opentelemetry_sdk.specs.SimpleProcessor.{SimpleEnds};
+    ghost use Rattle.std.specs.Prelude.{◌≡◌, Ok};
+    ghost use Rattle.opentelemetry_sdk.specs.SimpleProcessor.{HandsResource, SimpleEnds, SimpleShuts, simple_telling};
 
-    ghost told = { λ p. record { spans = None; batches = E.told p.exporter; is_open = not p.is_shut } };
+    ghost told = { simple_telling E.SpanExporter };
 
     ghost start_gives = { λ p s cx t q. (q ≡ p) × (t ≡ s) };
 
@@ -57,7 +58,9 @@ impl<E: SpanExporter> SpanProcessor for SimpleSpanProcessor<E> {
 
     ghost flush_gives = { λ p r q. (r ≡ Ok tt) × (q ≡ p) };
 
-    ghost shutdown_gives = { λ p timeout r q. (q ≡ record p { exporter = q.exporter; is_shut = true }) × (E.told q.exporter ≡ E.told p.exporter) };
+    ghost shutdown_gives = { SimpleShuts E.SpanExporter };
+
+    ghost resource_gives = { HandsResource E.SpanExporter };
 
     fn on_start(&mut self, _span: &mut Span, _cx: &Context) {}
 
@@ -77,6 +80,11 @@ impl<E: SpanExporter> SpanProcessor for SimpleSpanProcessor<E> {
     fn shutdown_with_timeout(&mut self, timeout: Duration) -> OTelSdkResult {
         self.is_shut = true;
         self.exporter.shutdown_with_timeout(timeout)
+    }
+
+    fn set_resource(&mut self, resource: &Resource) -> Result<(), AllocError> {
+        self.exporter.set_resource(resource);
+        Ok(())
     }
 }
 

@@ -18,14 +18,17 @@ ghost use Rattle.std.specs.Prelude.{◌≡◌, ℕ, Result};
 ghost use Rattle.std.specs.Duration.{as_nanos};
 ghost use Rattle.std.specs.declared.alloc.AllocError.{AllocError};
 ghost use Rattle.opentelemetry.specs.Plain.{PlainContext};
+ghost use Rattle.otel_base.specs.Resource.{PlainResource};
 ghost use Rattle.otel_base.specs.declared.error.OTelSdkError.{OTelSdkError};
 ghost use Rattle.otel_batch.specs.PlainSpanData.{PlainSpanData};
+ghost use Rattle.otel_batch.specs.RestsOr.{RestsOr};
 ghost use Rattle.opentelemetry_sdk.specs.ProcessorTelling.{ProcessorTelling, TakesNothing, TakesSpan, silent};
 ghost use Rattle.opentelemetry_sdk.specs.SpanHistory.{PlainSpan, IsEdited};
 
 use crate::trace::Span;
 use opentelemetry::Context;
 use otel_base::error::OTelSdkResult;
+use otel_base::resource::Resource;
 use otel_batch::trace::SpanData;
 use std::alloc::AllocError;
 use std::time::Duration;
@@ -47,6 +50,10 @@ pub trait SpanProcessor: Drop {
     /// What a shutdown does: the processor before it, the timeout in nanoseconds, the answer, and the processor after it.
     ghost shutdown_gives: { Self → ℕ → Result (Unit {0}) OTelSdkError → Self → Type 0 } = { λ _ _ _ _. Unit {0} };
 
+    /// What it does to hear the resource, where it does anything: the processor before it, the resource, the answer, and
+    /// the processor after it.
+    ghost resource_gives: { Self → PlainResource → Result (Unit {0}) AllocError → Self → Type 0 } = { λ _ _ _ _. Unit {0} };
+
     /// A span starts. The processor may edit it and cannot replace it.
     fn on_start(&mut self, span: &mut Span, cx: &Context)
         ensures told { told self.new ≡ told self.old }
@@ -61,6 +68,7 @@ pub trait SpanProcessor: Drop {
     /// Exports what waits.
     fn force_flush(&mut self) -> OTelSdkResult
         ensures told { TakesNothing (told self.old) (told self.new) }
+        ensures is_open { (told self.new).is_open ≡ (told self.old).is_open }
         ensures gives { flush_gives self.old result self.new };
 
     /// Exports what waits, and nothing afterwards.
@@ -75,10 +83,21 @@ pub trait SpanProcessor: Drop {
     {
         self.shutdown_with_timeout(Duration::from_secs(5))
     }
+
+    /// The spans to come are of this resource. An error says that there was no memory to keep it.
+    fn set_resource(&mut self, _resource: &Resource) -> Result<(), AllocError>
+        ensures told { told self.new ≡ told self.old }
+        ensures gives { RestsOr
+            (λ old answer new. resource_gives old _resource.now answer new)
+            self.old result self.new }
+    {
+        Ok(())
+    }
 }
 
 impl SpanProcessor for Box<dyn SpanProcessor> {
     ghost use Rattle.std.specs.Prelude.{◌≡◌};
+    ghost use Rattle.otel_batch.specs.RestsOr.{RestsOr};
 
     ghost told = { λ b. (SpanProcessor-box b).told b.value };
 
@@ -89,6 +108,8 @@ impl SpanProcessor for Box<dyn SpanProcessor> {
     ghost flush_gives = { λ b r c. (v : _) × (c ≡ record b { value = v }) × (SpanProcessor-box b).flush_gives b.value r v };
 
     ghost shutdown_gives = { λ b t r c. (v : _) × (c ≡ record b { value = v }) × (SpanProcessor-box b).shutdown_gives b.value t r v };
+
+    ghost resource_gives = { λ b s r c. (v : _) × (c ≡ record b { value = v }) × RestsOr (λ x a y. (SpanProcessor-box b).resource_gives x s a y) b.value r v };
 
     fn on_start(&mut self, span: &mut Span, cx: &Context) {
         let inner = &mut **self;
@@ -113,5 +134,10 @@ impl SpanProcessor for Box<dyn SpanProcessor> {
     fn shutdown(&mut self) -> OTelSdkResult {
         let inner = &mut **self;
         inner.shutdown()
+    }
+
+    fn set_resource(&mut self, resource: &Resource) -> Result<(), AllocError> {
+        let inner = &mut **self;
+        inner.set_resource(resource)
     }
 }

@@ -51,11 +51,18 @@ impl InMemorySpanExporter {
 }
 
 impl SpanExporter for InMemorySpanExporter {
+    ghost use Rattle.std.specs.Prelude.{◌≡◌, Ok};
     ghost use Rattle.otel_batch.specs.StoredBatches.{StoresBatch, told_unless_lost};
 
     ghost told = { λ m. told_unless_lost m.lost m.batches };
 
     ghost export_gives = { StoresBatch };
+
+    ghost shutdown_gives = { λ m _ r n. (r ≡ Ok tt) × (n ≡ m) };
+
+    ghost flush_gives = { λ m r n. (r ≡ Ok tt) × (n ≡ m) };
+
+    ghost resource_gives = { λ m _ n. n ≡ m };
 
     fn export(&mut self, batch: Vec<SpanData>) -> OTelSdkResult {
         match self.batches.push(batch) {
