@@ -245,7 +245,7 @@ pub EachFollows-asked : {P T E : Type 0} (calls : Ghosts P) (G : P → Result T 
 EachFollows-asked calls G takes ps qs n h = each_takes_nothing calls G takes ps h.0 qs h.2
 
 -- the processors of a provider that was shut down follow no delivery
-pub EachFollows-shut : {P : Type 0} (calls : Ghosts P) (old : ProviderState P) (timeout : ℕ) (answer : Result (Unit {0}) OTelSdkError) (new : ProviderState P)
+pub EachFollows-shut : {P S G : Type 0} (calls : Ghosts P) (old : ProviderState P S G) (timeout : ℕ) (answer : Result (Unit {0}) OTelSdkError) (new : ProviderState P S G)
     → ShutsDown calls old timeout answer new → EachFollows calls [] old.processors new.processors
 EachFollows-shut calls old timeout answer new h =
     EachFollows-asked calls (ShutsProcessor calls timeout) (λ p r q done. done.told) old.processors new.processors h.failed h.asked

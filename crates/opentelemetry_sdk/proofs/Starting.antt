@@ -1,69 +1,85 @@
--- What a start at an open provider makes.
-use Rattle.std.proofs.Common.{◌≡◌, ℕ, Bool, true, false, List, [], Some, MatchBool, refl, sym, subst, ap, ◌∙◌}
-use Rattle.opentelemetry.specs.Plain.{PlainScope, PlainSpanContext}
-use Rattle.otel_base.specs.Ids.{next_span_id, next_trace_id}
-use Rattle.otel_base.specs.declared.trace.span_limit.SpanLimits.{SpanLimits}
-use Rattle.otel_batch.specs.PlainSpanData.{PlainSpanData}
-use Rattle.opentelemetry_sdk.specs.Starting.{PassesThrough}
+-- What a start makes.
+use Rattle.std.proofs.Common.{◌≡◌, ℕ, Bool, true, false, List, [], Option, Some, None, IsSome, IsNone, MatchBool, refl, sym, subst, ap, ◌∙◌}
+use Rattle.opentelemetry.specs.Plain.{PlainScope}
 use Rattle.opentelemetry.specs.PlainContexts.{empty_span_context}
+use Rattle.otel_base.specs.declared.trace.sampler.SamplingDecision.{SamplingDecision}
+use Rattle.otel_base.specs.declared.trace.sampler.SamplingDecision.TheVariants as decisions
+use Rattle.otel_base.specs.declared.trace.sampler.ShouldSample as sampling
+use Rattle.otel_base.specs.declared.trace.id_generator.IdGenerator as drawing
+use Rattle.otel_base.specs.Sampling.{PlainSamplingResult}
+use Rattle.otel_batch.specs.PlainSpanData.{PlainSpanData}
 use Rattle.opentelemetry_sdk.specs.Provider.{ProviderState}
-use Rattle.opentelemetry_sdk.specs.Starting.{PassesThrough, Starts, StartsOpen, root_span_context, root_context, root_span, root_start, after_root, root_cx}
+use Rattle.opentelemetry_sdk.specs.Starting.{DrawsIds, PassesThrough, Records, Decided, Starts, StartsOpen, new_span, root_cx, root_question, root_span_context, root_start}
+use Rattle.opentelemetry_sdk.specs.SpanHistory.{PlainSpan, SpanStart, SpanHistory, begun, over, span_of, IsEdited, after, recording, not_recording}
 use Rattle.opentelemetry_sdk.specs.declared.trace.span_processor.SpanProcessor.{Ghosts}
-use Rattle.opentelemetry_sdk.specs.SpanHistory.{PlainSpan, SpanStart, SpanHistory, begun, over, span_of, IsEdited, after, data_of, recording, not_recording}
 use Rattle.opentelemetry_sdk.proofs.SpanLaws.{after-recording}
 
--- from the span as it was begun and the provider behind the draws
-pub starts_open : {P : Type 0} (calls : Ghosts P) (old drawn new : ProviderState P) (scope : PlainScope) (name : List ℕ) (now : ℕ) (begun_span span : PlainSpan)
-    → old.is_shut ≡ false
-    → begun_span ≡ recording (root_start old scope name now) []
-    → drawn ≡ record old { id_generator = after_root old.id_generator }
-    → IsEdited begun_span span → PassesThrough calls root_cx begun_span drawn.processors new.processors span → new ≡ record drawn { processors = new.processors }
-    → (history : SpanHistory) × (span ≡ span_of history) × Starts calls old scope name now history new
-starts_open {P} calls old drawn new scope name now begun_span span h e d edited passed rest =
-    let start : SpanStart = root_start old scope name now in
-    let span_is : span ≡ recording start edited.0 = edited.1 ∙ ap (after edited.0) e ∙ after-recording start [] edited.0 in
-    let D : ProviderState P → Type 0 = λ m. PassesThrough calls root_cx begun_span m.processors new.processors span × (new ≡ record m { processors = new.processors }) in
-    let moved = subst D d (passed, rest) in
-    let begun_passed : PassesThrough calls root_cx (recording start []) old.processors new.processors span = subst (λ (b : PlainSpan). PassesThrough calls root_cx b old.processors new.processors span) e moved.0 in
-    let opened : StartsOpen calls old scope name now (begun start edited.0) new = record {
-      edits = edited.0;
-      history_is = refl;
-      passes = subst (λ (s : PlainSpan). PassesThrough calls root_cx (recording start []) old.processors new.processors s) span_is begun_passed;
-      rest = moved.1;
-    } in (
-      begun start edited.0,
-      span_is,
-      subst (λ (b : Bool). MatchBool b ((begun start edited.0 ≡ over empty_span_context old.span_limits) × (new ≡ old)) (StartsOpen calls old scope name now (begun start edited.0) new)) (sym h) opened,
-    )
+module _ {P : Type 0} (calls : Ghosts P) where
+  -- a span that records passed through the processors
+  records : (start : SpanStart) (old new : List P) (first span : PlainSpan) → first ≡ recording start [] → IsEdited first span → PassesThrough calls root_cx first old new span
+      → (history : SpanHistory) × (span ≡ span_of history) × Records calls start old new history
+  records start old new first span e edited passed =
+      let span_is : span ≡ recording start edited.0 = edited.1 ∙ ap (after edited.0) e ∙ after-recording start [] edited.0 in
+      let through : PassesThrough calls root_cx (recording start []) old new span = subst (λ (s : PlainSpan). PassesThrough calls root_cx s old new span) e passed in (
+        begun start edited.0,
+        span_is,
+        record {
+          edits = edited.0;
+          history_is = refl;
+          passes = subst (λ (s : PlainSpan). PassesThrough calls root_cx (recording start []) old new s) span_is through;
+        },
+      )
 
--- at a shut provider
-pub starts_shut : {P : Type 0} (calls : Ghosts P) (old : ProviderState P) (scope : PlainScope) (name : List ℕ) (now : ℕ) (span : PlainSpan)
-    → old.is_shut ≡ true → span ≡ not_recording empty_span_context old.span_limits → (history : SpanHistory) × (span ≡ span_of history) × Starts calls old scope name now history old
-starts_shut calls old scope name now span h e = (
-  over empty_span_context old.span_limits,
-  e,
-  subst (λ (b : Bool). MatchBool b ((over empty_span_context old.span_limits ≡ over empty_span_context old.span_limits) × (old ≡ old)) (StartsOpen calls old scope name now (over empty_span_context old.span_limits) old)) (sym h) (refl, refl),
-)
+  -- what became of a span, by the decision
+  decided : (decision : SamplingDecision) (start : SpanStart) (old new : List P) (first span : PlainSpan) → first ≡ new_span decision start → IsEdited first span
+      → (IsSome first.recorded → PassesThrough calls root_cx first old new span) → (IsNone first.recorded → (span ≡ first) × (new ≡ old))
+      → (history : SpanHistory) × (span ≡ span_of history) × Decided calls decision start old new history
+  decided decisions.Drop start old new first span e edited recorded dropped =
+      let none : IsNone first.recorded = subst (λ (s : PlainSpan). IsNone s.recorded) (sym e) (search) in
+      let stays = dropped none in
+      (over start.span_context start.limits, stays.0 ∙ e, (refl, stays.1))
+  decided decisions.RecordOnly start old new first span e edited recorded dropped =
+      records start old new first span e edited (recorded (subst (λ (s : PlainSpan). IsSome s.recorded) (sym e) (search)))
+  decided decisions.RecordAndSample start old new first span e edited recorded dropped =
+      records start old new first span e edited (recorded (subst (λ (s : PlainSpan). IsSome s.recorded) (sym e) (search)))
 
--- a recording span by its parts
-abbrev span_with : PlainSpanContext → SpanLimits → PlainSpanData → PlainSpan
-span_with context limits recorded = record { span_context = context; limits = limits; recorded = Some recorded }
+module _ {P S G : Type 0} (calls : Ghosts P) (sampler : sampling.Ghosts S) (ids : drawing.Ghosts G) where
+  -- at an open provider, from the provider behind the draws and the span before any processor is told
+  pub starts_open : (old drawn new : ProviderState P S G) (scope : PlainScope) (name : List ℕ) (now trace_id span_id : ℕ) (answer : PlainSamplingResult) (first span : PlainSpan)
+      → old.is_shut ≡ false
+      → DrawsIds ids old.id_generator trace_id span_id drawn.id_generator → drawn ≡ record old { id_generator = drawn.id_generator }
+      → sampler.gives drawn.sampler (root_question trace_id name) answer
+      → first ≡ new_span answer.decision (root_start scope name now old.span_limits (root_span_context trace_id span_id answer) answer.attributes)
+      → IsEdited first span
+      → (IsSome first.recorded → PassesThrough calls root_cx first drawn.processors new.processors span)
+      → (IsNone first.recorded → (span ≡ first) × (new ≡ drawn))
+      → new ≡ record drawn { processors = new.processors }
+      → (history : SpanHistory) × (span ≡ span_of history) × Starts calls sampler ids old scope name now history new
+  starts_open old drawn new scope name now trace_id span_id answer first span h draws d asked made edited recorded dropped rest =
+      let start : SpanStart = root_start scope name now old.span_limits (root_span_context trace_id span_id answer) answer.attributes in
+      let same : drawn.processors ≡ old.processors = ap (λ (p : ProviderState P S G). p.processors) d in
+      let what = decided calls answer.decision start drawn.processors new.processors first span made edited recorded (λ none. let stays = dropped none in (stays.0, ap (λ (p : ProviderState P S G). p.processors) stays.1)) in
+      let opened : StartsOpen calls sampler ids old scope name now what.0 new = record {
+        trace_id = trace_id;
+        span_id = span_id;
+        answer = answer;
+        draws = subst (λ (g : G). DrawsIds ids old.id_generator trace_id span_id g) (sym (ap (λ (p : ProviderState P S G). p.id_generator) rest)) draws;
+        asks = subst (λ (s : S). sampler.gives s (root_question trace_id name) answer) (ap (λ (p : ProviderState P S G). p.sampler) d) asked;
+        decided = subst (λ (ps : List P). Decided calls answer.decision start ps new.processors what.0) same what.2;
+        rest = rest ∙ ap (λ (p : ProviderState P S G). record p { processors = new.processors }) d
+            ∙ ap (λ (g : G). record old { processors = new.processors; id_generator = g }) (sym (ap (λ (p : ProviderState P S G). p.id_generator) rest));
+      } in (
+        what.0,
+        what.1,
+        subst (λ (b : Bool). MatchBool b ((what.0 ≡ over empty_span_context old.span_limits) × (new ≡ old)) (StartsOpen calls sampler ids old scope name now what.0 new)) (sym h) opened,
+      )
 
--- the span that is begun, from its parts
-pub begun_is : {P : Type 0} (old : ProviderState P) (name : List ℕ) (now trace_id span_id trace_flags : ℕ) (context own : PlainSpanContext) (scope own_scope : PlainScope) (limits : SpanLimits) (recorded : PlainSpanData) (made : PlainSpan)
-    → trace_id ≡ (next_trace_id (next_span_id old.id_generator).1).0 → span_id ≡ (next_span_id old.id_generator).0 → trace_flags ≡ 1
-    → context ≡ root_span_context trace_id span_id trace_flags
-    → own ≡ root_span_context trace_id span_id trace_flags
-    → own_scope ≡ scope → limits ≡ old.span_limits
-    → ((l : SpanLimits) → recorded ≡ data_of (root_span context own_scope name now l) [] now)
-    → made ≡ record { span_context = own; limits = limits; recorded = Some recorded }
-    → made ≡ recording (root_start old scope name now) []
-begun_is old name now trace_id span_id trace_flags context own scope own_scope limits recorded made t s f c o w l d b =
-    let ids : root_span_context trace_id span_id trace_flags ≡ root_context old.id_generator = cc in
-    let own_is : own ≡ root_context old.id_generator = o ∙ ids in
-    let context_is : context ≡ root_context old.id_generator = c ∙ ids in
-    let data_is : recorded ≡ data_of (root_start old scope name now) [] now =
-    d old.span_limits ∙ ap (λ (x : PlainSpanContext). data_of (root_span x own_scope name now old.span_limits) [] now) context_is
-    ∙ ap (λ (x : PlainScope). data_of (root_span (root_context old.id_generator) x name now old.span_limits) [] now) w in
-    b ∙ ap (λ (x : PlainSpanContext). span_with x limits recorded) own_is ∙ ap (λ (x : SpanLimits). span_with (root_context old.id_generator) x recorded) l
-    ∙ ap (λ (x : PlainSpanData). span_with (root_context old.id_generator) old.span_limits x) data_is
+  -- at a shut provider
+  pub starts_shut : (old : ProviderState P S G) (scope : PlainScope) (name : List ℕ) (now : ℕ) (span : PlainSpan)
+      → old.is_shut ≡ true → span ≡ not_recording empty_span_context old.span_limits → (history : SpanHistory) × (span ≡ span_of history) × Starts calls sampler ids old scope name now history old
+  starts_shut old scope name now span h e =
+      let history : SpanHistory = over empty_span_context old.span_limits in (
+        history,
+        e,
+        subst (λ (b : Bool). MatchBool b ((history ≡ over empty_span_context old.span_limits) × (old ≡ old)) (StartsOpen calls sampler ids old scope name now history old)) (sym h) (refl, refl),
+      )

@@ -3,17 +3,16 @@ use Rattle.std.specs.Prelude.{◌≡◌, ℕ, ◌↔◌, Bool, true, List, [], O
 use Rattle.opentelemetry.specs.Plain.{PlainScope}
 use Rattle.otel_base.specs.declared.error.OTelSdkError.{OTelSdkError}
 use Rattle.otel_base.specs.declared.error.OTelSdkError.TheVariants as errors
-use Rattle.otel_base.specs.declared.trace.sampler.Sampler.{Sampler}
 use Rattle.otel_base.specs.declared.trace.span_limit.SpanLimits.{SpanLimits}
 use Rattle.opentelemetry_sdk.specs.ProcessorTelling.{TakesNothing}
 use Rattle.opentelemetry_sdk.specs.Each.{AskedAll}
 use Rattle.opentelemetry_sdk.specs.declared.trace.span_processor.SpanProcessor.{Ghosts}
 
--- a provider: its processors, what it hands to each start, and whether it is shut
-pub record ProviderState (P : Type 0) : Type 0 where
+-- a provider: its processors, what each start asks and is handed, and whether it is shut
+pub record ProviderState (P S G : Type 0) : Type 0 where
   pub processors : List P
-  pub sampler : Sampler
-  pub id_generator : List ℕ
+  pub sampler : S
+  pub id_generator : G
   pub span_limits : SpanLimits
   pub is_shut : Bool
 
@@ -34,7 +33,7 @@ module _ {P : Type 0} (calls : Ghosts P) where
 
   -- what a first shutdown does: the provider is shut, each processor was asked with this timeout, and the answer is Ok
   -- exactly where none failed
-  pub record ShutsDown (old : ProviderState P) (timeout : ℕ) (answer : Result (Unit {0}) OTelSdkError) (new : ProviderState P) : Type 0 where
+  pub record ShutsDown {S G : Type 0} (old : ProviderState P S G) (timeout : ℕ) (answer : Result (Unit {0}) OTelSdkError) (new : ProviderState P S G) : Type 0 where
     pub failed : ℕ
     pub asked : AskedAll (ShutsProcessor timeout) old.processors new.processors failed
     pub ok : IsOk answer ↔ (failed ≡ 0)

@@ -1,49 +1,86 @@
 -- What the start of a span makes, and what it does to its provider.
-use Rattle.std.specs.Prelude.{◌≡◌, ℕ, false, List, [], ◌∷◌, None, MatchBool}
-use Rattle.opentelemetry.specs.Plain.{PlainSpanContext, PlainContext, PlainScope}
+use Rattle.std.specs.Prelude.{◌≡◌, ◌⊎◌, ℕ, false, List, [], ◌∷◌, Option, Some, None, MatchBool}
+use Rattle.opentelemetry.specs.Plain.{PlainKeyValue, PlainSpanContext, PlainContext, PlainScope}
 use Rattle.opentelemetry.specs.PlainContexts.{empty_span_context}
 use Rattle.opentelemetry.specs.declared.trace.span_kind.SpanKind.TheVariants.{Internal}
 use Rattle.otel_base.specs.declared.trace.span_limit.SpanLimits.{SpanLimits}
-use Rattle.otel_base.specs.Ids.{next_span_id, next_trace_id}
-use Rattle.opentelemetry_sdk.specs.SpanHistory.{PlainSpan, SpanStart, SpanHistory, begun, over, Edit, recording}
+use Rattle.otel_base.specs.declared.trace.sampler.SamplingDecision.{SamplingDecision}
+use Rattle.otel_base.specs.declared.trace.sampler.SamplingDecision.TheVariants as decisions
+use Rattle.otel_base.specs.declared.trace.sampler.ShouldSample as sampling
+use Rattle.otel_base.specs.declared.trace.id_generator.IdGenerator as drawing
+use Rattle.otel_base.specs.Sampling.{SamplingQuestion, PlainSamplingResult}
+use Rattle.opentelemetry_sdk.specs.SpanHistory.{PlainSpan, SpanStart, SpanHistory, begun, over, Edit, recording, not_recording}
 use Rattle.opentelemetry_sdk.specs.Provider.{ProviderState}
 use Rattle.opentelemetry_sdk.specs.declared.trace.span_processor.SpanProcessor.{Ghosts}
 
--- the context of a root span of these ids and flags
-abbrev pub root_span_context : ℕ → ℕ → ℕ → PlainSpanContext
-root_span_context trace_id span_id trace_flags = record { trace_id = trace_id; span_id = span_id; trace_flags = trace_flags; is_remote = false; trace_state = [] }
+-- the context in which no span is active
+abbrev pub root_cx : PlainContext
+root_cx = record { span_context = None; baggage = []; telemetry_suppressed = false }
 
--- the context of a new root span: a span id is drawn, and then a trace id; the span is sampled
-abbrev pub root_context : List ℕ → PlainSpanContext
-root_context generator =
-    let span = next_span_id generator in
-    root_span_context (next_trace_id span.1).0 span.0 1
+-- what the sampler is asked of a root span with nothing but a name
+abbrev pub root_question : ℕ → List ℕ → SamplingQuestion
+root_question trace_id name = record {
+  parent_context = Some root_cx;
+  trace_id = trace_id;
+  name = name;
+  span_kind = Internal;
+  attributes = [];
+  links = [];
+}
 
--- the generator after these draws
-abbrev pub after_root : List ℕ → List ℕ
-after_root generator = (next_trace_id (next_span_id generator).1).1
+-- the flags of a root span: the sampled flag, where it is exported
+abbrev pub root_flags : SamplingDecision → ℕ
+root_flags decisions.Drop = 0
+root_flags decisions.RecordOnly = 0
+root_flags decisions.RecordAndSample = 1
 
--- the start of a root span with nothing but a name and a moment
-abbrev pub root_span : PlainSpanContext → PlainScope → List ℕ → ℕ → SpanLimits → SpanStart
-root_span context scope name now limits = record {
+-- the context of a root span of these ids, as the sampler answered
+abbrev pub root_span_context : ℕ → ℕ → PlainSamplingResult → PlainSpanContext
+root_span_context trace_id span_id answer = record {
+  trace_id = trace_id;
+  span_id = span_id;
+  trace_flags = root_flags answer.decision;
+  is_remote = false;
+  trace_state = answer.trace_state;
+}
+
+-- the start of a root span with nothing but a name, a moment and the sampler's attributes
+abbrev pub root_start : PlainScope → List ℕ → ℕ → SpanLimits → PlainSpanContext → List PlainKeyValue → SpanStart
+root_start scope name now limits context attributes = record {
   span_context = context;
   parent_span_id = 0;
   parent_span_is_remote = false;
   span_kind = Internal;
   name = name;
   start_time = now;
-  attributes = [];
+  attributes = attributes;
   instrumentation_scope = scope;
   limits = limits;
 }
 
--- the same at a provider, which draws the ids
-abbrev pub root_start : {P : Type 0} → ProviderState P → PlainScope → List ℕ → ℕ → SpanStart
-root_start provider scope name now = root_span (root_context provider.id_generator) scope name now provider.span_limits
+-- the span of a start before any processor is told of it: it records unless it is dropped
+abbrev pub new_span : SamplingDecision → SpanStart → PlainSpan
+new_span decisions.Drop start = not_recording start.span_context start.limits
+new_span decisions.RecordOnly start = recording start []
+new_span decisions.RecordAndSample start = recording start []
 
--- the context in which no span is active
-abbrev pub root_cx : PlainContext
-root_cx = record { span_context = None; baggage = []; telemetry_suppressed = false }
+module _ {G : Type 0} (ids : drawing.Ghosts G) where
+  -- the ids of a root span: the span id is drawn first, and then the trace id
+  pub record DrawsIds (old : G) (trace_id span_id : ℕ) (new : G) : Type 0 where
+    pub between : G
+    pub draws_span_id : ids.span_id_gives old span_id between
+    pub draws_trace_id : ids.trace_id_gives between trace_id new
+
+  -- ids were drawn, and nothing else happened
+  pub record OnlyDraws {P S : Type 0} (old new : ProviderState P S G) : Type 0 where
+    pub trace_id : ℕ
+    pub span_id : ℕ
+    pub draws : DrawsIds old.id_generator trace_id span_id new.id_generator
+    pub rest : new ≡ record old { id_generator = new.id_generator }
+
+  -- a start that found no memory: nothing happened, or ids were drawn
+  abbrev pub MayDraw : {P S : Type 0} → ProviderState P S G → ProviderState P S G → Type 0
+  MayDraw old new = (new ≡ old) ⊎ OnlyDraws old new
 
 module _ {P : Type 0} (calls : Ghosts P) where
   -- a span is passed from one processor to the next, each of which may edit it: the span before all and behind all
@@ -53,15 +90,32 @@ module _ {P : Type 0} (calls : Ghosts P) where
   PassesThrough cx old (p ∷ ps) [] new = ⊥
   PassesThrough cx old (p ∷ ps) (q ∷ qs) new = (middle : PlainSpan) × calls.start_gives p old cx middle q × PassesThrough cx middle ps qs new
 
-  -- at an open provider: a span that is drawn its ids, which each processor may edit in its turn
-  pub record StartsOpen (old : ProviderState P) (scope : PlainScope) (name : List ℕ) (now : ℕ) (history : SpanHistory) (new : ProviderState P) : Type 0 where
+  -- a span that records: each processor may edit it in its turn
+  pub record Records (start : SpanStart) (old new : List P) (history : SpanHistory) : Type 0 where
     pub edits : List Edit
-    pub history_is : history ≡ begun (root_start old scope name now) edits
-    pub passes : PassesThrough root_cx (recording (root_start old scope name now) []) old.processors new.processors (recording (root_start old scope name now) edits)
-    pub rest : new ≡ record old { processors = new.processors; id_generator = after_root old.id_generator }
+    pub history_is : history ≡ begun start edits
+    pub passes : PassesThrough root_cx (recording start []) old new (recording start edits)
+
+  -- what becomes of a start, as the sampler decided: no processor is told of a span that is dropped
+  abbrev pub Decided : SamplingDecision → SpanStart → List P → List P → SpanHistory → Type 0
+  Decided decisions.Drop start old new history = (history ≡ over start.span_context start.limits) × (new ≡ old)
+  Decided decisions.RecordOnly start old new history = Records start old new history
+  Decided decisions.RecordAndSample start old new history = Records start old new history
+
+module _ {P S G : Type 0} (calls : Ghosts P) (sampler : sampling.Ghosts S) (ids : drawing.Ghosts G) where
+  -- at an open provider: ids are drawn, the sampler is asked, and a span that records passes through the processors
+  pub record StartsOpen (old : ProviderState P S G) (scope : PlainScope) (name : List ℕ) (now : ℕ) (history : SpanHistory) (new : ProviderState P S G) : Type 0 where
+    pub trace_id : ℕ
+    pub span_id : ℕ
+    pub answer : PlainSamplingResult
+    pub draws : DrawsIds ids old.id_generator trace_id span_id new.id_generator
+    pub asks : sampler.gives old.sampler (root_question trace_id name) answer
+    pub decided : Decided calls answer.decision (root_start scope name now old.span_limits (root_span_context trace_id span_id answer) answer.attributes)
+        old.processors new.processors history
+    pub rest : new ≡ record old { processors = new.processors; id_generator = new.id_generator }
 
   -- what a start makes, by the history of the span: where the provider is shut no span, and nothing is drawn
-  abbrev pub Starts : ProviderState P → PlainScope → List ℕ → ℕ → SpanHistory → ProviderState P → Type 0
+  abbrev pub Starts : ProviderState P S G → PlainScope → List ℕ → ℕ → SpanHistory → ProviderState P S G → Type 0
   Starts old scope name now history new = MatchBool old.is_shut
       ((history ≡ over empty_span_context old.span_limits) × (new ≡ old))
       (StartsOpen old scope name now history new)

@@ -5,52 +5,63 @@
 ghost use Rattle.std.specs.Prelude.{◌≡◌, ◌-◌, ◌≤◌, ◌↔◌, length, map, replicate, vec_len, false, true, Ok, IfErr, IfOk, IsOk, IsErrOf, string_bytes};
 ghost use Rattle.std.specs.Bool.{OnTrue, OnFalse};
 ghost use Rattle.std.specs.Duration.{as_nanos};
-ghost use Rattle.otel_base.specs.Ids.{next_span_id, next_trace_id};
 ghost use Rattle.otel_batch.specs.PlainSpanData.{PlainSpanData};
 ghost use Rattle.opentelemetry_sdk.specs.Each.{AskedAll};
 ghost use Rattle.opentelemetry_sdk.specs.Ending.{TakesAndTells};
 ghost use Rattle.opentelemetry_sdk.specs.Provider.{IsInternalFailure, ShutsDown, ShutsProcessor, scope_named};
-ghost use Rattle.opentelemetry_sdk.specs.Starting.{PassesThrough};
+ghost use Rattle.opentelemetry_sdk.specs.Starting.{DrawsIds, PassesThrough};
 ghost use Rattle.opentelemetry_sdk.specs.SpanHistory.{IsEdited, ended_at};
 
 use crate::trace::{Processor, SdkTracer, Span, SpanProcessor};
 use opentelemetry::{Context, InstrumentationScope, Moment, SpanId, TraceId};
 use otel_base::error::{OTelSdkError, OTelSdkResult};
-use otel_base::trace::{IdGenerator, RandomIdGenerator, Sampler, SpanLimits};
+use otel_base::trace::{IdGenerator, IdSource, Sampler, SpanLimits};
 use otel_batch::trace::SpanData;
 use std::alloc::{AllocError, Global};
 use std::marker::Model;
 use std::time::Duration;
 
-/// A provider over processors of any one kind.
-pub struct ProviderOf<P> {
+/// A provider over processors, a sampler and a generator of ids of any one kind each.
+pub struct ProviderOf<P, S, G> {
     processors: Vec<P>,
-    sampler: Sampler,
-    id_generator: RandomIdGenerator,
+    sampler: S,
+    id_generator: G,
     span_limits: SpanLimits,
     is_shut: bool,
 }
 
 /// The provider of the SDK.
-pub type SdkTracerProvider = ProviderOf<Processor>;
+pub type SdkTracerProvider = ProviderOf<Processor, Sampler, IdSource>;
 
-impl<P> Model for ProviderOf<P> {
+impl<P, S, G> Model for ProviderOf<P, S, G> {
     ghost use Rattle.opentelemetry_sdk.specs.Provider.{ProviderState};
 
-    ghost Value = { ProviderState P };
+    ghost Value = { ProviderState P S G };
 
-    ghost view = { λ a. record { processors = a.processors.items; sampler = a.sampler; id_generator = a.id_generator; span_limits = a.span_limits; is_shut = a.is_shut } };
+    ghost view = { λ a. record {
+      processors = a.processors.items;
+      sampler = a.sampler;
+      id_generator = a.id_generator;
+      span_limits = a.span_limits;
+      is_shut = a.is_shut;
+    } };
 }
 
-impl<P> ProviderOf<P> {
+impl<P, S, G> ProviderOf<P, S, G> {
     /// An open provider of these parts; it calls no processor.
     pub fn from_parts(
         processors: Vec<P>,
-        sampler: Sampler,
-        id_generator: RandomIdGenerator,
+        sampler: S,
+        id_generator: G,
         span_limits: SpanLimits,
-    ) -> ProviderOf<P>
-        ensures { result ≡ record { processors = processors.items; sampler = sampler; id_generator = id_generator; span_limits = span_limits; is_shut = false } }
+    ) -> ProviderOf<P, S, G>
+        ensures { result ≡ record {
+          processors = processors.items;
+          sampler = sampler;
+          id_generator = id_generator;
+          span_limits = span_limits;
+          is_shut = false;
+        } }
     {
         ProviderOf {
             processors,
@@ -93,7 +104,7 @@ impl<P> ProviderOf<P> {
         self.is_shut
     }
 
-    pub(crate) fn sampler(&self) -> &Sampler
+    pub(crate) fn sampler(&self) -> &S
         ensures { result.now ≡ self.now.sampler }
     {
         &self.sampler
@@ -105,24 +116,14 @@ impl<P> ProviderOf<P> {
         self.span_limits
     }
 
-    /// The ids of a new root span. The span id is drawn before the trace id.
-    pub(crate) fn root_ids(&mut self) -> (TraceId, SpanId)
-        ensures span_id { result.1 ≡ (next_span_id self.old.id_generator).0 }
-        ensures trace_id { result.0 ≡ (next_trace_id (next_span_id self.old.id_generator).1).0 }
-        ensures rest { self.new ≡ record self.old { id_generator = (next_trace_id (next_span_id self.old.id_generator).1).1 } }
-    {
-        let span_id = self.id_generator.new_span_id();
-        let trace_id = self.id_generator.new_trace_id();
-        (trace_id, span_id)
-    }
-
     /// The copies of what an ending span recorded: one for each processor but the last, which gets the original.
     pub(crate) fn copies_of(
         &self,
         recorded: &SpanData,
         timestamp: Moment,
     ) -> Result<Vec<SpanData>, AllocError>
-        ensures copies { IfOk result (λ copies. copies.items ≡ replicate (length self.now.processors - 1) (ended_at timestamp.0 recorded.now)) }
+        ensures copies { IfOk result (λ copies. copies.items
+            ≡ replicate (length self.now.processors - 1) (ended_at timestamp.0 recorded.now)) }
         ensures one { length self.now.processors ≤ 1 → IsOk result }
     {
         copies_of(
@@ -134,7 +135,19 @@ impl<P> ProviderOf<P> {
     }
 }
 
-impl<P: SpanProcessor> ProviderOf<P> {
+impl<P, S, G: IdGenerator> ProviderOf<P, S, G> {
+    /// The ids of a new root span. The span id is drawn before the trace id.
+    pub(crate) fn draw_ids(&mut self) -> (TraceId, SpanId)
+        ensures draws { DrawsIds G.IdGenerator self.old.id_generator result.0 result.1 self.new.id_generator }
+        ensures rest { self.new ≡ record self.old { id_generator = self.new.id_generator } }
+    {
+        let span_id = self.id_generator.new_span_id();
+        let trace_id = self.id_generator.new_trace_id();
+        (trace_id, span_id)
+    }
+}
+
+impl<P: SpanProcessor, S: Drop, G: Drop> ProviderOf<P, S, G> {
     /// A span has started: each processor is told in its turn.
     pub(crate) fn start_each(&mut self, span: &mut Span, cx: &Context)
         ensures edits { IsEdited span.old span.new }
@@ -265,7 +278,8 @@ fn end_each<P: SpanProcessor>(
 /// Each of these processors gets a copy, also after one refused. The answer is how many refused.
 fn end_copies<P: SpanProcessor>(processors: &mut [P], mut copies: Vec<SpanData>) -> usize
     requires { vec_len copies ≡ length processors.old }
-    ensures asked { (d : PlainSpanData) → copies.items ≡ replicate (length processors.old) d → AskedAll (TakesAndTells P.SpanProcessor d) processors.old processors.new result }
+    ensures asked { (d : PlainSpanData) → copies.items ≡ replicate (length processors.old) d
+        → AskedAll (TakesAndTells P.SpanProcessor d) processors.old processors.new result }
     ensures few { result ≤ length processors.old }
 {
     let mut refused = 0;

@@ -3,7 +3,6 @@
 
 ghost use Rattle.std.specs.Prelude.{◌≡◌, ◌≤◌, length, OnOk, OnErr, IfOk, IfSome, IsOk, IsNone, IsTrue, Some, is_some, option_copied};
 ghost use Rattle.opentelemetry_sdk.specs.Deliveries.{EachFollows};
-ghost use Rattle.opentelemetry.specs.PlainContexts.{empty_span_context};
 ghost use Rattle.opentelemetry_sdk.specs.Ending.{DeliversIf, deliveries};
 ghost use Rattle.opentelemetry_sdk.specs.SpanHistory as history;
 
@@ -46,12 +45,12 @@ impl Span {
         }
     }
 
-    /// A span that records nothing and has the empty context.
-    pub(crate) fn not_recording(span_limits: SpanLimits) -> Span
-        ensures { result ≡ history.not_recording empty_span_context span_limits }
+    /// A span that records nothing.
+    pub(crate) fn not_recording(span_context: SpanContext, span_limits: SpanLimits) -> Span
+        ensures { result ≡ history.not_recording span_context span_limits }
     {
         Span {
-            span_context: SpanContext::empty_context(),
+            span_context,
             data: None,
             span_limits,
         }
@@ -109,13 +108,16 @@ impl Span {
     /// after one refused it. The answer is how many refused for want of memory. All copies are made before any processor
     /// is given one, so that on an error span and processors are unchanged; the last processor gets the original, and
     /// with one processor nothing is copied. A span that is not recording, or whose provider is shut, ends with 0.
-    pub fn end_with_timestamp<P: SpanProcessor>(
+    pub fn end_with_timestamp<P: SpanProcessor, S: Drop, G: Drop>(
         &mut self,
-        provider: &mut ProviderOf<P>,
+        provider: &mut ProviderOf<P, S, G>,
         timestamp: Moment,
     ) -> Result<usize, AllocError>
-        ensures ok { IfOk result (λ refused. DeliversIf P.SpanProcessor provider.old.is_shut timestamp.0 self.old.recorded provider.old.processors provider.new.processors refused) }
-        ensures told { IfOk result (λ refused. EachFollows P.SpanProcessor (deliveries provider.old.is_shut timestamp.0 self.old.recorded refused) provider.old.processors provider.new.processors) }
+        ensures ok { IfOk result (λ refused. DeliversIf P.SpanProcessor provider.old.is_shut timestamp.0 self.old.recorded
+            provider.old.processors provider.new.processors refused) }
+        ensures told { IfOk result (λ refused. EachFollows P.SpanProcessor
+            (deliveries provider.old.is_shut timestamp.0 self.old.recorded refused)
+            provider.old.processors provider.new.processors) }
         ensures rest { provider.new ≡ record provider.old { processors = provider.new.processors } }
         ensures ended { OnOk result (self.new ≡ history.ended self.old) }
         ensures err { OnErr result ((self.new ≡ self.old) × (provider.new ≡ provider.old)) }
