@@ -2,6 +2,8 @@
 use Rattle.std.proofs.Common.{subst, Result, Ok, Err, is_ok, not, ◌≡◌, ℕ, List, [], ◌∷◌, ◌++◌, false, sym, ◌∙◌, ap, append-nil, append_assoc}
 use Rattle.std.proofs.lemmas.List.Concat.{flat_map-append}
 use Rattle.otel_base.specs.declared.error.OTelSdkError.{OTelSdkError}
+use Rattle.otel_base.specs.declared.trace.sampler.ShouldSample as sampling
+use Rattle.otel_base.specs.declared.trace.id_generator.IdGenerator as drawing
 use Rattle.otel_batch.specs.PlainSpanData.{PlainSpanData}
 use Rattle.opentelemetry_sdk.specs.ProcessorTelling.{ProcessorTelling}
 use Rattle.opentelemetry_sdk.specs.declared.trace.span_processor.SpanProcessor.{Ghosts}
@@ -23,13 +25,13 @@ none_refused_more [] reply h k = (k, tt)
 none_refused_more (first ∷ replies) reply h k = (h.0, none_refused_more replies reply h.1 k)
 
 -- a text that was fed to a new output
-pub fed_anew : {P : Type 0} (calls : Ghosts P) (batches : kept.Ghosts P) (old new : SessionState P) (bytes before now : List ℕ) (answer said : Result (Unit {0}) FeedError)
-    → answer ≡ said → before ≡ [] → Feeds calls batches old bytes before answer now new → Feeds calls batches old bytes [] said now new
-fed_anew calls batches old new bytes before now answer said e b h =
-    subst (λ (l : List ℕ). Feeds calls batches old bytes l said now new) b (subst (λ (r : Result (Unit {0}) FeedError). Feeds calls batches old bytes before r now new) e h)
+pub fed_anew : {P S G : Type 0} (calls : Ghosts P) (batches : kept.Ghosts P) (sampler : sampling.Ghosts S) (ids : drawing.Ghosts G) (old new : SessionState P S G) (bytes before now : List ℕ) (answer said : Result (Unit {0}) FeedError)
+    → answer ≡ said → before ≡ [] → Feeds calls batches sampler ids old bytes before answer now new → Feeds calls batches sampler ids old bytes [] said now new
+fed_anew calls batches sampler ids old new bytes before now answer said e b h =
+    subst (λ (l : List ℕ). Feeds calls batches sampler ids old bytes l said now new) b (subst (λ (r : Result (Unit {0}) FeedError). Feeds calls batches sampler ids old bytes before r now new) e h)
 
 -- a session that closed well
-pub closed_well : {P : Type 0} (calls : Ghosts P) (batches : kept.Ghosts P) (session : SessionState P) (before now : List ℕ) (answer : Result (Unit {0}) OTelSdkError)
-    → not (is_ok answer) ≡ false → Closes calls batches session before answer now → Closes calls batches session before (Ok tt) now
-closed_well calls batches session before now (Ok _) e h = h
-closed_well calls batches session before now (Err error) e h = cc
+pub closed_well : {P S G : Type 0} (calls : Ghosts P) (batches : kept.Ghosts P) (sampler : sampling.Ghosts S) (ids : drawing.Ghosts G) (session : SessionState P S G) (before now : List ℕ) (answer : Result (Unit {0}) OTelSdkError)
+    → not (is_ok answer) ≡ false → Closes calls batches sampler ids session before answer now → Closes calls batches sampler ids session before (Ok tt) now
+closed_well calls batches sampler ids session before now (Ok _) e h = h
+closed_well calls batches sampler ids session before now (Err error) e h = cc

@@ -3,6 +3,8 @@ use Rattle.std.proofs.Common.{◌≡◌, ℕ, List, [], ◌∷◌, ◌++◌, ref
 use Rattle.std.proofs.lemmas.List.{map-append}
 use Rattle.opentelemetry.specs.Plain.{PlainScope}
 use Rattle.otel_batch.specs.PlainSpanData.{PlainSpanData}
+use Rattle.otel_base.specs.declared.trace.sampler.ShouldSample as sampling
+use Rattle.otel_base.specs.declared.trace.id_generator.IdGenerator as drawing
 use Rattle.opentelemetry_sdk.specs.Deliveries.{Delivery}
 use Rattle.opentelemetry_sdk.specs.declared.trace.span_processor.SpanProcessor.{Ghosts}
 use Rattle.opentelemetry_sdk.proofs.Following.{EachFollows-same, EachFollows-append}
@@ -10,20 +12,21 @@ use Rattle.otel_trace.specs.declared.exported.KeepsBatches as kept
 use Rattle.otel_trace.specs.KeptBatches.{Appends}
 use Rattle.otel_trace.specs.Commands.{PlainCommand, plain_command, plain_commands}
 use Rattle.otel_trace.specs.PlainReply.{PlainReply}
-use Rattle.otel_trace.specs.SessionDelivery.{Histories, Describe, Course, course_of, Demands, Replies, DemandAll, Demanded, SessionState, CarriesOutOne, session_batches, session_losses, batches_of_first, spans_in, unshown, CarriesOut, Shows, NoneLeft, LosesNone, RunsAll, Refuses, RunsBeginning}
+use Rattle.opentelemetry_sdk.specs.ProcessorTelling.{spans_in}
+use Rattle.otel_trace.specs.SessionDelivery.{Histories, Describe, Course, course_of, Demands, Replies, DemandAll, Demanded, SessionState, CarriesOutOne, session_batches, session_losses, batches_of_first, unshown, CarriesOut, Shows, NoneLeft, LosesNone, RunsAll, Refuses, RunsBeginning}
 use Rattle.otel_trace.specs.declared.command.Command.{Command}
 use Rattle.otel_trace.proofs.ShownLemmas.{shows_nothing, shows_no_more, shows_reply, none_left}
 
-module _ {P : Type 0} (calls : Ghosts P) (keeps : kept.Ghosts P) where
+module _ {P S G : Type 0} (calls : Ghosts P) (keeps : kept.Ghosts P) (sampler : sampling.Ghosts S) (ids : drawing.Ghosts G) where
   -- one more command
-  DemandAll-push : (scope : PlainScope) (old middle new : Course P) (before shown : ℕ) (commands : List PlainCommand) (replies : List PlainReply) (ds d : List Delivery) (command : PlainCommand) (reply : PlainReply)
-      → DemandAll calls keeps scope old before commands replies ds middle shown → Replies calls keeps scope middle shown command reply d new
-      → DemandAll calls keeps scope old before (commands ++ command ∷ []) (replies ++ reply ∷ []) (ds ++ d) new (length (batches_of_first keeps new.provider.processors))
+  DemandAll-push : (scope : PlainScope) (old middle new : Course P S G) (before shown : ℕ) (commands : List PlainCommand) (replies : List PlainReply) (ds d : List Delivery) (command : PlainCommand) (reply : PlainReply)
+      → DemandAll calls keeps sampler ids scope old before commands replies ds middle shown → Replies calls keeps sampler ids scope middle shown command reply d new
+      → DemandAll calls keeps sampler ids scope old before (commands ++ command ∷ []) (replies ++ reply ∷ []) (ds ++ d) new (length (batches_of_first keeps new.provider.processors))
   DemandAll-push scope old middle new before shown [] [] ds d command reply h k = (
     new,
     d,
     [],
-    subst (λ (n : ℕ). Replies calls keeps scope old n command reply d new) h.2 (subst (λ (m : Course P). Replies calls keeps scope m shown command reply d new) h.1 k),
+    subst (λ (n : ℕ). Replies calls keeps sampler ids scope old n command reply d new) h.2 (subst (λ (m : Course P S G). Replies calls keeps sampler ids scope m shown command reply d new) h.1 k),
     (refl, refl, refl),
     ap (λ (l : List Delivery). l ++ d) h.0 ∙ sym (append-nil d),
   )
@@ -39,7 +42,7 @@ module _ {P : Type 0} (calls : Ghosts P) (keeps : kept.Ghosts P) where
   )
 
   -- no command
-  carries_nothing : (session : SessionState P) → CarriesOut calls keeps session [] [] session
+  carries_nothing : (session : SessionState P S G) → CarriesOut calls keeps sampler ids session [] [] session
   carries_nothing session = record {
     scope = refl;
     demanded = λ histories describes. record {
@@ -52,57 +55,57 @@ module _ {P : Type 0} (calls : Ghosts P) (keeps : kept.Ghosts P) where
   }
 
   -- one command, with a reply that shows what was left to show
-  pub record Answers (old : SessionState P) (command : Command) (reply : PlainReply) (new : SessionState P) : Type 0 where
-    pub carried : CarriesOutOne calls old.scope old.provider old.spans (plain_command command) reply.answer new.provider new.spans
+  pub record Answers (old : SessionState P S G) (command : Command) (reply : PlainReply) (new : SessionState P S G) : Type 0 where
+    pub carried : CarriesOutOne calls sampler ids old.scope old.provider old.spans (plain_command command) reply.answer new.provider new.spans
     pub shows : reply.exported ≡ unshown keeps new
     pub loses_none : LosesNone keeps old new
     pub rest : new ≡ record old { provider = new.provider; spans = new.spans }
     pub appends : Appends (session_batches keeps old) (session_batches keeps new)
 
   -- a session whose replies have shown all that is kept
-  abbrev marked : SessionState P → SessionState P
+  abbrev marked : SessionState P S G → SessionState P S G
   marked session = record session { shown = length (session_batches keeps session) }
 
   -- one more command, with its reply
-  demands_more : (old middle new : SessionState P) (histories : Histories) (done : List Command) (replies : List PlainReply) (command : Command) (reply : PlainReply)
-      → middle.scope ≡ old.scope → Demanded calls keeps old histories (plain_commands done) replies middle → Answers middle command reply new
-      → Demanded calls keeps old histories (plain_commands (done ++ command ∷ [])) (replies ++ reply ∷ []) (marked new)
+  demands_more : (old middle new : SessionState P S G) (histories : Histories) (done : List Command) (replies : List PlainReply) (command : Command) (reply : PlainReply)
+      → middle.scope ≡ old.scope → Demanded calls keeps sampler ids old histories (plain_commands done) replies middle → Answers middle command reply new
+      → Demanded calls keeps sampler ids old histories (plain_commands (done ++ command ∷ [])) (replies ++ reply ∷ []) (marked new)
   demands_more old middle new histories done replies command reply scope first answers =
       let next = answers.carried first.after first.describes in
-      let shown : new.shown ≡ middle.shown = ap (λ (s : SessionState P). s.shown) answers.rest in
-      let replied : Replies calls keeps old.scope (course_of middle first.after) middle.shown (plain_command command) reply next.deliveries (course_of new next.after) = record {
-        demands = subst (λ (s : PlainScope). Demands calls s (course_of middle first.after) (plain_command command) reply.answer next.deliveries (course_of new next.after)) scope next.demands;
+      let shown : new.shown ≡ middle.shown = ap (λ (s : SessionState P S G). s.shown) answers.rest in
+      let replied : Replies calls keeps sampler ids old.scope (course_of middle first.after) middle.shown (plain_command command) reply next.deliveries (course_of new next.after) = record {
+        demands = subst (λ (s : PlainScope). Demands calls sampler ids s (course_of middle first.after) (plain_command command) reply.answer next.deliveries (course_of new next.after)) scope next.demands;
         shows = answers.shows ∙ ap (λ (n : ℕ). spans_in (drop n (session_batches keeps new))) shown;
         loses_none = answers.loses_none;
       } in record {
         deliveries = first.deliveries ++ next.deliveries;
         after = next.after;
-        demands = subst (λ (commands : List PlainCommand). DemandAll calls keeps old.scope (course_of old histories) old.shown commands (replies ++ reply ∷ []) (first.deliveries ++ next.deliveries) (course_of new next.after) (length (session_batches keeps new)))
+        demands = subst (λ (commands : List PlainCommand). DemandAll calls keeps sampler ids old.scope (course_of old histories) old.shown commands (replies ++ reply ∷ []) (first.deliveries ++ next.deliveries) (course_of new next.after) (length (session_batches keeps new)))
             (sym (map-append plain_command done (command ∷ [])))
             (DemandAll-push old.scope (course_of old histories) (course_of middle first.after) (course_of new next.after) old.shown middle.shown (plain_commands done) replies first.deliveries next.deliveries (plain_command command) reply first.demands replied);
         describes = next.describes;
         follows = EachFollows-append calls first.deliveries next.deliveries old.provider.processors middle.provider.processors new.provider.processors first.follows next.follows;
       }
 
-  carries_more : (old middle new : SessionState P) (done : List Command) (replies : List PlainReply) (command : Command) (reply : PlainReply)
-      → CarriesOut calls keeps old done replies middle → Answers middle command reply new
-      → CarriesOut calls keeps old (done ++ command ∷ []) (replies ++ reply ∷ []) (marked new)
+  carries_more : (old middle new : SessionState P S G) (done : List Command) (replies : List PlainReply) (command : Command) (reply : PlainReply)
+      → CarriesOut calls keeps sampler ids old done replies middle → Answers middle command reply new
+      → CarriesOut calls keeps sampler ids old (done ++ command ∷ []) (replies ++ reply ∷ []) (marked new)
   carries_more old middle new done replies command reply carried answers = record {
-    scope = ap (λ (s : SessionState P). s.scope) answers.rest ∙ carried.scope;
+    scope = ap (λ (s : SessionState P S G). s.scope) answers.rest ∙ carried.scope;
     demanded = λ histories describes. demands_more old middle new histories done replies command reply carried.scope (carried.demanded histories describes) answers;
   }
 
   -- the commands before those that are left were carried out, each with its reply
-  pub record Ran (old : SessionState P) (commands left : List Command) (replies : List PlainReply) (new : SessionState P) : Type 0 where
+  pub record Ran (old : SessionState P S G) (commands left : List Command) (replies : List PlainReply) (new : SessionState P S G) : Type 0 where
     pub done : List Command
     pub parts : commands ≡ done ++ left
-    pub carried : CarriesOut calls keeps old done replies new
+    pub carried : CarriesOut calls keeps sampler ids old done replies new
     pub shown : Shows keeps old replies new
     pub none_left : NoneLeft keeps replies new
     pub none_lost : LosesNone keeps old new
 
   -- none of them
-  pub ran_nothing : (session : SessionState P) (commands left : List Command) → left ≡ commands → Ran session commands left [] session
+  pub ran_nothing : (session : SessionState P S G) (commands left : List Command) → left ≡ commands → Ran session commands left [] session
   ran_nothing session commands left e = record {
     done = [];
     parts = sym e;
@@ -113,29 +116,29 @@ module _ {P : Type 0} (calls : Ghosts P) (keeps : kept.Ghosts P) where
   }
 
   -- all of them
-  pub ran_all : (old new : SessionState P) (commands left : List Command) (replies before now : List PlainReply)
-      → left ≡ [] → Ran old commands left replies new → now ≡ before ++ replies → RunsAll calls keeps old commands before now new
+  pub ran_all : (old new : SessionState P S G) (commands left : List Command) (replies before now : List PlainReply)
+      → left ≡ [] → Ran old commands left replies new → now ≡ before ++ replies → RunsAll calls keeps sampler ids old commands before now new
   ran_all old new commands left replies before now none ran appended =
       let whole = ran.parts ∙ ap (λ (l : List Command). ran.done ++ l) none ∙ append-nil ran.done in
       record {
         replies = replies;
         appended = appended;
-        carried = subst (λ (l : List Command). CarriesOut calls keeps old l replies new) (sym whole) ran.carried;
+        carried = subst (λ (l : List Command). CarriesOut calls keeps sampler ids old l replies new) (sym whole) ran.carried;
         shown = ran.shown;
         none_left = ran.none_left;
         none_lost = ran.none_lost;
       }
 
   -- one more, with its reply, which marks what it shows
-  pub ran_more : (old middle answered new : SessionState P) (commands queue left : List Command) (replies : List PlainReply) (command : Command) (reply : PlainReply)
+  pub ran_more : (old middle answered new : SessionState P S G) (commands queue left : List Command) (replies : List PlainReply) (command : Command) (reply : PlainReply)
       → queue ≡ command ∷ left → Ran old commands queue replies middle → Answers middle command reply answered → new ≡ marked answered
       → Ran old commands left (replies ++ reply ∷ []) new
   ran_more old middle answered new commands queue left replies command reply popped ran answers e =
-      let shown = shows_no_more keeps old middle answered replies ran.shown answers.appends (ap (λ (s : SessionState P). s.shown) answers.rest) in
+      let shown = shows_no_more keeps old middle answered replies ran.shown answers.appends (ap (λ (s : SessionState P S G). s.shown) answers.rest) in
       record {
         done = ran.done ++ command ∷ [];
         parts = ran.parts ∙ ap (λ (l : List Command). ran.done ++ l) popped ∙ sym (append_assoc ran.done (command ∷ []) left);
-        carried = subst (λ (s : SessionState P). CarriesOut calls keeps old (ran.done ++ command ∷ []) (replies ++ reply ∷ []) s) (sym e)
+        carried = subst (λ (s : SessionState P S G). CarriesOut calls keeps sampler ids old (ran.done ++ command ∷ []) (replies ++ reply ∷ []) s) (sym e)
             (carries_more old middle answered ran.done replies command reply ran.carried answers);
         shown = shows_reply keeps old answered new replies reply shown answers.shows e;
         none_left = none_left keeps answered new (replies ++ reply ∷ []) e;
@@ -143,9 +146,9 @@ module _ {P : Type 0} (calls : Ghosts P) (keeps : kept.Ghosts P) where
       }
 
   -- one more, which was refused
-  pub ran_refused : (old middle new : SessionState P) (commands queue left : List Command) (replies before now : List PlainReply) (command : Command)
+  pub ran_refused : (old middle new : SessionState P S G) (commands queue left : List Command) (replies before now : List PlainReply) (command : Command)
       → queue ≡ command ∷ left → Ran old commands queue replies middle → now ≡ before ++ replies
-      → Refuses calls keeps middle command new → RunsBeginning calls keeps old commands before now new
+      → Refuses calls keeps sampler ids middle command new → RunsBeginning calls keeps sampler ids old commands before now new
   ran_refused old middle new commands queue left replies before now command popped ran appended refuses = record {
     done = ran.done;
     refused = command;

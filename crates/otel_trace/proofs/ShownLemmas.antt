@@ -7,17 +7,22 @@ use Rattle.opentelemetry.specs.Plain.{PlainScope}
 use Rattle.opentelemetry.specs.Plain.{PlainContext}
 use Rattle.opentelemetry_sdk.specs.Each.{Each}
 use Rattle.opentelemetry_sdk.specs.declared.trace.span_processor.SpanProcessor.{Ghosts}
+use Rattle.otel_base.specs.declared.trace.sampler.SamplingDecision.{SamplingDecision}
+use Rattle.otel_base.specs.declared.trace.sampler.SamplingDecision.TheVariants as decisions
+use Rattle.otel_base.specs.declared.trace.sampler.ShouldSample as sampling
+use Rattle.otel_base.specs.declared.trace.id_generator.IdGenerator as drawing
 use Rattle.opentelemetry_sdk.specs.Provider.{ProviderState}
-use Rattle.opentelemetry_sdk.specs.Starting.{PassesThrough, Starts, StartsOpen, root_cx, root_start}
+use Rattle.opentelemetry_sdk.specs.Starting.{PassesThrough, Decided, StartsOpen, root_cx}
 use Rattle.opentelemetry_sdk.specs.Ending.{TakesAndTells}
-use Rattle.opentelemetry_sdk.specs.SpanHistory.{PlainSpan, SpanHistory, over, recording}
+use Rattle.opentelemetry_sdk.specs.SpanHistory.{PlainSpan, SpanStart, SpanHistory, over}
 use Rattle.otel_trace.specs.declared.exported.KeepsBatches as kept
 use Rattle.std.specs.declared.alloc.AllocError.{AllocError}
 use Rattle.opentelemetry.specs.PlainContexts.{empty_span_context}
 use Rattle.otel_trace.specs.KeptBatches.{Appends, OnlyAppends}
 use Rattle.otel_trace.specs.OpenSpans.{MayStart, MayDeliver}
 use Rattle.otel_trace.specs.PlainReply.{PlainReply}
-use Rattle.otel_trace.specs.SessionDelivery.{SessionState, Shows, NoneLeft, session_batches, batches_of_first, exported_in, spans_in, unshown}
+use Rattle.opentelemetry_sdk.specs.ProcessorTelling.{spans_in}
+use Rattle.otel_trace.specs.SessionDelivery.{SessionState, Shows, NoneLeft, session_batches, batches_of_first, exported_in, unshown}
 
 abbrev Batches : Type 0
 Batches = List (List PlainSpanData)
@@ -37,11 +42,11 @@ none_shown : (batches : Batches) (n : ℕ) → n ≤ length batches → [] ≡ s
 none_shown batches n h = ap spans_in (sym (drop_of_length-le (take n batches) (subst (λ (m : ℕ). m ≤ n) (sym (length-take-le n batches h)) (omega arith))))
 
 -- no reply
-pub shows_nothing : {P : Type 0} (keeps : kept.Ghosts P) (session : SessionState P) → Shows keeps session [] session
+pub shows_nothing : {P S G : Type 0} (keeps : kept.Ghosts P) (session : SessionState P S G) → Shows keeps session [] session
 shows_nothing keeps session = (appends_none _ _ refl, λ within. (omega arith, within, none_shown (session_batches keeps session) session.shown within))
 
 -- batches came, and no reply
-pub shows_no_more : {P : Type 0} (keeps : kept.Ghosts P) (old middle new : SessionState P) (replies : List PlainReply)
+pub shows_no_more : {P S G : Type 0} (keeps : kept.Ghosts P) (old middle new : SessionState P S G) (replies : List PlainReply)
     → Shows keeps old replies middle → Appends (session_batches keeps middle) (session_batches keeps new) → new.shown ≡ middle.shown
     → Shows keeps old replies new
 shows_no_more keeps old middle new replies h k e = (
@@ -63,11 +68,11 @@ split_drop batches a b h k =
     ∙ ap (drop a) (take-append-drop b batches)
 
 -- a reply that shows what was left to show
-pub shows_reply : {P : Type 0} (keeps : kept.Ghosts P) (old middle new : SessionState P) (replies : List PlainReply) (reply : PlainReply)
+pub shows_reply : {P S G : Type 0} (keeps : kept.Ghosts P) (old middle new : SessionState P S G) (replies : List PlainReply) (reply : PlainReply)
     → Shows keeps old replies middle → reply.exported ≡ unshown keeps middle → new ≡ record middle { shown = length (session_batches keeps middle) }
     → Shows keeps old (replies ++ reply ∷ []) new
-shows_reply {P} keeps old middle new replies reply h e n =
-    subst (λ (s : SessionState P). Shows keeps old (replies ++ reply ∷ []) s) (sym n) (
+shows_reply {P} {S} {G} keeps old middle new replies reply h e n =
+    subst (λ (s : SessionState P S G). Shows keeps old (replies ++ reply ∷ []) s) (sym n) (
       h.0,
       λ within.
           let shown = h.1 within in
@@ -82,8 +87,8 @@ shows_reply {P} keeps old middle new replies reply h e n =
           ),
     )
 
-pub none_left : {P : Type 0} (keeps : kept.Ghosts P) (middle new : SessionState P) (replies : List PlainReply) → new ≡ record middle { shown = length (session_batches keeps middle) } → NoneLeft keeps replies new
-none_left {P} keeps middle new replies e = subst (λ (s : SessionState P). NoneLeft keeps replies s) (sym e) (inr refl)
+pub none_left : {P S G : Type 0} (keeps : kept.Ghosts P) (middle new : SessionState P S G) (replies : List PlainReply) → new ≡ record middle { shown = length (session_batches keeps middle) } → NoneLeft keeps replies new
+none_left {P} {S} {G} keeps middle new replies e = subst (λ (s : SessionState P S G). NoneLeft keeps replies s) (sym e) (inr refl)
 
 module _ {P : Type 0} (calls : Ghosts P) (keeps : kept.Ghosts P) (law : OnlyAppends calls keeps.kept) where
   -- what the first processor keeps where each took part in a start
@@ -92,17 +97,6 @@ module _ {P : Type 0} (calls : Ghosts P) (keeps : kept.Ghosts P) (law : OnlyAppe
   passed_keeps cx s t [] (q ∷ qs) h = absurd h
   passed_keeps cx s t (p ∷ ps) [] h = absurd h
   passed_keeps cx s t (p ∷ ps) (q ∷ qs) h = law.starts p s cx h.0 q h.1
-
-  started_keeps : (is_shut : Bool) (old new : ProviderState P) (scope : PlainScope) (called : List ℕ) (now : ℕ) (history : SpanHistory)
-      → MatchBool is_shut ((history ≡ over empty_span_context old.span_limits) × (new ≡ old)) (StartsOpen calls old scope called now history new)
-      → Appends (batches_of_first keeps old.processors) (batches_of_first keeps new.processors)
-  started_keeps true old new scope called now history h = appends_none _ _ (ap (λ (r : ProviderState P). batches_of_first keeps r.processors) h.1)
-  started_keeps false old new scope called now history h = passed_keeps root_cx _ _ old.processors new.processors h.passes
-
-  pub may_start_keeps : (old new : ProviderState P) (scope : PlainScope) (called : List ℕ) (now : ℕ)
-      → MayStart calls old scope called now new → Appends (batches_of_first keeps old.processors) (batches_of_first keeps new.processors)
-  may_start_keeps old new scope called now (inl e) = appends_none _ _ (ap (λ (r : ProviderState P). batches_of_first keeps r.processors) e)
-  may_start_keeps old new scope called now (inr h) = started_keeps old.is_shut old new scope called now h.0 h.1
 
   -- the same of an end
   asked_keeps : (span : PlainSpanData) (ps qs : List P) (rs : List (Result (Unit {0}) AllocError)) → Each (TakesAndTells calls span) ps rs qs
@@ -117,3 +111,26 @@ module _ {P : Type 0} (calls : Ghosts P) (keeps : kept.Ghosts P) (law : OnlyAppe
   pub may_deliver_keeps : (ps qs : List P) → MayDeliver calls ps qs → Appends (batches_of_first keeps ps) (batches_of_first keeps qs)
   may_deliver_keeps ps qs (inl e) = appends_none _ _ (ap (batches_of_first keeps) e)
   may_deliver_keeps ps qs (inr h) = asked_keeps h.0 ps qs h.2.0 h.2.2
+
+  -- the same where the sampler decided
+  decided_keeps : (decision : SamplingDecision) (start : SpanStart) (ps qs : List P) (history : SpanHistory) → Decided calls decision start ps qs history → Appends (batches_of_first keeps ps) (batches_of_first keeps qs)
+  decided_keeps decisions.Drop start ps qs history h = appends_none _ _ (ap (batches_of_first keeps) h.1)
+  decided_keeps decisions.RecordOnly start ps qs history h = passed_keeps root_cx _ _ ps qs h.passes
+  decided_keeps decisions.RecordAndSample start ps qs history h = passed_keeps root_cx _ _ ps qs h.passes
+
+module _ {P S G : Type 0} (calls : Ghosts P) (keeps : kept.Ghosts P) (law : OnlyAppends calls keeps.kept) (sampler : sampling.Ghosts S) (ids : drawing.Ghosts G) where
+  -- a provider that stays as it was, but for what has no part in it
+  stays_keeps : (old new : ProviderState P S G) (g : G) → new ≡ record old { id_generator = g } → Appends (batches_of_first keeps old.processors) (batches_of_first keeps new.processors)
+  stays_keeps old new g e = appends_none _ _ (ap (λ (r : ProviderState P S G). batches_of_first keeps r.processors) e)
+
+  started_keeps : (is_shut : Bool) (old new : ProviderState P S G) (scope : PlainScope) (called : List ℕ) (now : ℕ) (history : SpanHistory)
+      → MatchBool is_shut ((history ≡ over empty_span_context old.span_limits) × (new ≡ old)) (StartsOpen calls sampler ids old scope called now history new)
+      → Appends (batches_of_first keeps old.processors) (batches_of_first keeps new.processors)
+  started_keeps true old new scope called now history h = stays_keeps old new old.id_generator h.1
+  started_keeps false old new scope called now history h = decided_keeps calls keeps law h.answer.decision _ old.processors new.processors history h.decided
+
+  pub may_start_keeps : (old new : ProviderState P S G) (scope : PlainScope) (called : List ℕ) (now : ℕ)
+      → MayStart calls sampler ids old scope called now new → Appends (batches_of_first keeps old.processors) (batches_of_first keeps new.processors)
+  may_start_keeps old new scope called now (inl (inl e)) = stays_keeps old new old.id_generator e
+  may_start_keeps old new scope called now (inl (inr h)) = stays_keeps old new new.id_generator h.rest
+  may_start_keeps old new scope called now (inr h) = started_keeps old.is_shut old new scope called now h.0 h.1

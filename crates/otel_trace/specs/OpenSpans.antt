@@ -4,11 +4,13 @@ use Rattle.std.specs.Ordering.{nat_cmp}
 use Rattle.std.specs.Cmp.Lexicographic.{slice_cmp}
 use Rattle.std.specs.BTreeMap.{is_at}
 use Rattle.opentelemetry.specs.Plain.{PlainScope}
+use Rattle.otel_base.specs.declared.trace.sampler.ShouldSample as sampling
+use Rattle.otel_base.specs.declared.trace.id_generator.IdGenerator as drawing
 use Rattle.otel_batch.specs.PlainSpanData.{PlainSpanData}
 use Rattle.opentelemetry_sdk.specs.SpanHistory.{PlainSpan, SpanHistory, span_of, Edit, set_attribute, edited, ended}
 use Rattle.opentelemetry_sdk.specs.Each.{AskedAll}
 use Rattle.opentelemetry_sdk.specs.Provider.{ProviderState}
-use Rattle.opentelemetry_sdk.specs.Starting.{Starts}
+use Rattle.opentelemetry_sdk.specs.Starting.{MayDraw, Starts}
 use Rattle.opentelemetry_sdk.specs.Ending.{TakesAndTells, DeliversIf}
 use Rattle.opentelemetry_sdk.specs.declared.trace.span_processor.SpanProcessor.{Ghosts}
 use Rattle.otel_trace.specs.declared.command.SpanEdit.{SpanEdit}
@@ -67,27 +69,29 @@ abbrev pub EditsNamed : NamedSpans → List ℕ → Edit → Option PlainSpan �
 EditsNamed old name edit None answer new = (answer ≡ answers.NoSuchSpan) × SameSpans old new
 EditsNamed old name edit (Some span) answer new = (answer ≡ edit_answer span) × PutsSpan old name (edited edit span) new
 
-module _ {P : Type 0} (calls : Ghosts P) where
+module _ {P S G : Type 0} (calls : Ghosts P) (sampler : sampling.Ghosts S) (ids : drawing.Ghosts G) where
   -- a new name is given the span that a start makes
-  pub record PutsStarted (p : ProviderState P) (scope : PlainScope) (old : NamedSpans) (name called : List ℕ) (moment : ℕ)
-      (answer : Answer) (q : ProviderState P) (new : NamedSpans) : Type 0 where
+  pub record PutsStarted (p : ProviderState P S G) (scope : PlainScope) (old : NamedSpans) (name called : List ℕ) (moment : ℕ)
+      (answer : Answer) (q : ProviderState P S G) (new : NamedSpans) : Type 0 where
     pub history : SpanHistory
-    pub starts : Starts calls p scope called moment history q
+    pub starts : Starts calls sampler ids p scope called moment history q
     pub says : answer ≡ start_answer (span_of history)
     pub put : PutsSpan old name (span_of history) new
 
   -- a start under a name: nothing where the name is taken
-  abbrev pub StartsNamed : ProviderState P → PlainScope → NamedSpans → List ℕ → List ℕ → ℕ → Option PlainSpan → Answer → ProviderState P → NamedSpans → Type 0
+  abbrev pub StartsNamed : ProviderState P S G → PlainScope → NamedSpans → List ℕ → List ℕ → ℕ → Option PlainSpan → Answer → ProviderState P S G → NamedSpans → Type 0
   StartsNamed p scope old name called moment (Some _) answer q new = (answer ≡ answers.SpanExists) × (q ≡ p) × SameSpans old new
   StartsNamed p scope old name called moment None answer q new = PutsStarted p scope old name called moment answer q new
 
-  -- what a start may do to a provider, also where its span found no memory: nothing, or what the start of a span does
-  abbrev pub MayStart : ProviderState P → PlainScope → List ℕ → ℕ → ProviderState P → Type 0
-  MayStart p scope called moment q = (q ≡ p) ⊎ ((history : SpanHistory) × Starts calls p scope called moment history q)
+  -- what a start may do to a provider, also where it found no memory: nothing, or ids are drawn, or all that the start of a
+  -- span does
+  abbrev pub MayStart : ProviderState P S G → PlainScope → List ℕ → ℕ → ProviderState P S G → Type 0
+  MayStart p scope called moment q = MayDraw ids p q ⊎ ((history : SpanHistory) × Starts calls sampler ids p scope called moment history q)
 
+module _ {P S G : Type 0} (calls : Ghosts P) where
   -- the end of a span: what it delivers, and to whom
-  pub record EndsSpan (p : ProviderState P) (old : NamedSpans) (name : List ℕ) (moment : ℕ) (span : PlainSpan)
-      (answer : Answer) (q : ProviderState P) (new : NamedSpans) : Type 0 where
+  pub record EndsSpan (p : ProviderState P S G) (old : NamedSpans) (name : List ℕ) (moment : ℕ) (span : PlainSpan)
+      (answer : Answer) (q : ProviderState P S G) (new : NamedSpans) : Type 0 where
     pub refused : ℕ
     pub delivers : DeliversIf calls p.is_shut moment span.recorded p.processors q.processors refused
     pub says : answer ≡ end_answer span refused
@@ -95,10 +99,11 @@ module _ {P : Type 0} (calls : Ghosts P) where
     pub rest : q ≡ record p { processors = q.processors }
 
   -- the end of the span of a name
-  abbrev pub EndsNamed : ProviderState P → NamedSpans → List ℕ → ℕ → Option PlainSpan → Answer → ProviderState P → NamedSpans → Type 0
+  abbrev pub EndsNamed : ProviderState P S G → NamedSpans → List ℕ → ℕ → Option PlainSpan → Answer → ProviderState P S G → NamedSpans → Type 0
   EndsNamed p old name moment None answer q new = (answer ≡ answers.NoSuchSpan) × (q ≡ p) × SameSpans old new
   EndsNamed p old name moment (Some span) answer q new = EndsSpan p old name moment span answer q new
 
+module _ {P : Type 0} (calls : Ghosts P) where
   -- what an end may do to processors: nothing, or each is given one span
   abbrev pub MayDeliver : List P → List P → Type 0
   MayDeliver ps qs = (qs ≡ ps) ⊎ ((span : PlainSpanData) × (n : ℕ) × AskedAll (TakesAndTells calls span) ps qs n)

@@ -21,6 +21,7 @@ use crate::command::SpanEdit;
 use crate::reply::{Answer, SpanIdentity};
 use opentelemetry::Moment;
 use opentelemetry_sdk::trace::{ProviderOf, SdkTracer, Span, SpanProcessor};
+use otel_base::trace::{IdGenerator, ShouldSample};
 use std::alloc::{AllocError, Global};
 use std::collections::BTreeMap;
 use std::marker::Model;
@@ -49,18 +50,18 @@ impl OpenSpans {
 
     /// Starts a span under a name. Where there is no memory for the name, the span that was started is abandoned: ids were
     /// drawn and each processor was told of the start, and nothing was delivered.
-    pub(crate) fn start<P: SpanProcessor>(
+    pub(crate) fn start<P: SpanProcessor, S: ShouldSample, G: IdGenerator>(
         &mut self,
         name: String,
         tracer: &SdkTracer,
-        provider: &mut ProviderOf<P>,
+        provider: &mut ProviderOf<P, S, G>,
         called: String,
         now: Moment,
     ) -> Result<Answer, AllocError>
-        ensures ok { IfOk result (λ answer. StartsNamed P.SpanProcessor provider.old tracer.now self.old (string_bytes name)
+        ensures ok { IfOk result (λ answer. StartsNamed P.SpanProcessor S.ShouldSample G.IdGenerator provider.old tracer.now self.old (string_bytes name)
             (string_bytes called) now.0 (named self.old (string_bytes name)) answer provider.new self.new) }
         ensures told { map P.told provider.new.processors ≡ map P.told provider.old.processors }
-        ensures asks { MayStart P.SpanProcessor provider.old tracer.now (string_bytes called) now.0 provider.new }
+        ensures asks { MayStart P.SpanProcessor S.ShouldSample G.IdGenerator provider.old tracer.now (string_bytes called) now.0 provider.new }
         ensures err { OnErr result (SameSpans self.old self.new) }
     {
         if self.contains(name.as_str()) {
@@ -96,10 +97,10 @@ impl OpenSpans {
     }
 
     /// Ends the span of a name.
-    pub(crate) fn end<P: SpanProcessor>(
+    pub(crate) fn end<P: SpanProcessor, S: Drop, G: Drop>(
         &mut self,
         name: &str,
-        provider: &mut ProviderOf<P>,
+        provider: &mut ProviderOf<P, S, G>,
         moment: Moment,
     ) -> Result<Answer, AllocError>
         ensures ok { IfOk result (λ answer. EndsNamed P.SpanProcessor provider.old self.old name.now moment.0
@@ -176,7 +177,11 @@ fn edit_in(
 fn answer_to_edit(is_recording: bool) -> Answer
     ensures { result ≡ (if is_recording then Answer.Ok else Answer.Ignored) }
 {
-    if is_recording { Answer::Ok } else { Answer::Ignored }
+    if is_recording {
+        Answer::Ok
+    } else {
+        Answer::Ignored
+    }
 }
 
 /// Makes one edit of a span.
@@ -189,10 +194,10 @@ fn edit_span(span: &mut Span, edit: SpanEdit) -> Result<(), AllocError>
     }
 }
 
-fn end_in<P: SpanProcessor>(
+fn end_in<P: SpanProcessor, S: Drop, G: Drop>(
     spans: &mut BTreeMap<String, Span>,
     name: &str,
-    provider: &mut ProviderOf<P>,
+    provider: &mut ProviderOf<P, S, G>,
     moment: Moment,
 ) -> Result<Answer, AllocError>
     ensures ok { IfOk result (λ answer. EndsNamed P.SpanProcessor provider.old (by_name spans.old.entries) name.now moment.0

@@ -8,7 +8,9 @@ use crate::exported::KeepsBatches;
 use crate::lines::number_of;
 use crate::session::{FeedError, Session};
 use opentelemetry_sdk::trace::{Processor, SdkTracerProvider, SimpleSpanProcessor};
-use otel_base::trace::{RandomIdGenerator, Sampler, SpanLimits};
+use otel_base::trace::{
+    IdGenerator, IdSource, RandomIdGenerator, Sampler, ShouldSample, SpanLimits,
+};
 use otel_batch::trace::{ExporterBox, InMemorySpanExporter};
 use std::alloc::{AllocError, Global};
 use std::io::{Read, Write};
@@ -113,8 +115,12 @@ fn failed(alloc: Global) -> Outcome {
 }
 
 /// Feeds the whole input to a session and closes it.
-fn finish<P: KeepsBatches>(alloc: Global, mut session: Session<P>, input: &[u8]) -> Outcome
-    ensures { result.has_failed ≡ false → Finishes P.SpanProcessor P.KeepsBatches.own session input.now result.bad_line result.text.items }
+fn finish<P: KeepsBatches, S: ShouldSample, G: IdGenerator>(
+    alloc: Global,
+    mut session: Session<P, S, G>,
+    input: &[u8],
+) -> Outcome
+    ensures { result.has_failed ≡ false → Finishes P.SpanProcessor P.KeepsBatches.own S.ShouldSample G.IdGenerator session input.now result.bad_line result.text.items }
 {
     let mut text = Vec::new(alloc);
     let fed = session.feed(input, &mut text);
@@ -146,7 +152,7 @@ fn provider_of(alloc: Global, seed: u64) -> Result<SdkTracerProvider, AllocError
     Ok(SdkTracerProvider::from_parts(
         processors,
         Sampler::AlwaysOn,
-        RandomIdGenerator::new(seed),
+        IdSource::Random(RandomIdGenerator::new(seed)),
         SpanLimits::default(),
     ))
 }

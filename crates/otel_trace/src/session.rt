@@ -4,6 +4,7 @@
 ghost use Rattle.std.specs.Prelude.{◌≡◌, ◌++◌, [], drop, false, length, map, IfErr, IfOk, MatchResult, OnOk, OnErr, codes, string_bytes};
 ghost use Rattle.std.specs.List.{flat_map};
 ghost use Rattle.opentelemetry.specs.Plain.{text};
+ghost use Rattle.opentelemetry_sdk.specs.ProcessorTelling.{spans_in};
 ghost use Rattle.opentelemetry_sdk.specs.Provider.{scope_named};
 ghost use Rattle.opentelemetry_sdk.specs.SpanHistory.{set_attribute};
 ghost use Rattle.otel_trace.specs.Commands.{plain_command};
@@ -29,7 +30,7 @@ ghost use Rattle.otel_trace.specs.SessionDelivery.{
   or_no_memory,
   session_batches,
   session_losses,
-  spans_in,
+ 
   unshown,
 };
 
@@ -42,6 +43,7 @@ use crate::reply_text::{write_batches, write_reply};
 use opentelemetry::{Key, KeyValue, Value};
 use opentelemetry_sdk::trace::{ProviderOf, SdkTracer, SpanProcessor};
 use otel_base::error::{OTelSdkError, OTelSdkResult};
+use otel_base::trace::{IdGenerator, ShouldSample};
 use otel_batch::trace::SpanData;
 use std::alloc::{AllocError, Global};
 use std::collections::VecDeque;
@@ -63,35 +65,38 @@ pub enum FeedError {
 const SCOPE_NAME: &str = "otel_trace";
 
 /// Commands against one provider. It must be spent by `close`.
-pub struct Session<P> {
-    provider: ProviderOf<P>,
+pub struct Session<P, S, G> {
+    provider: ProviderOf<P, S, G>,
     tracer: SdkTracer,
     spans: OpenSpans,
     shown: usize,
     alloc: Global,
 }
 
-impl<P> Model for Session<P> {
+impl<P, S, G> Model for Session<P, S, G> {
     ghost use Rattle.otel_trace.specs.SessionDelivery.{SessionState};
 
-    ghost Value = { SessionState P };
+    ghost Value = { SessionState P S G };
 
     ghost view = { λ a. record { provider = a.provider; scope = a.tracer; spans = a.spans; shown = a.shown } };
 }
 
-fn tracer_of<P>(alloc: Global, provider: &ProviderOf<P>) -> Result<SdkTracer, AllocError>
+fn tracer_of<P, S, G>(
+    alloc: Global,
+    provider: &ProviderOf<P, S, G>,
+) -> Result<SdkTracer, AllocError>
     ensures { IfOk result (λ tracer. tracer ≡ scope_named (codes "otel_trace")) }
 {
     provider.tracer(String::from_str(alloc, SCOPE_NAME)?)
 }
 
-impl<P: KeepsBatches> Session<P> {
+impl<P: KeepsBatches, S: ShouldSample, G: IdGenerator> Session<P, S, G> {
     /// A session with no spans. It shows no batch that is kept already. Where there is no memory for its scope, the
     /// provider comes back.
     pub fn new(
         alloc: Global,
-        provider: ProviderOf<P>,
-    ) -> Result<Session<P>, (ProviderOf<P>, AllocError)>
+        provider: ProviderOf<P, S, G>,
+    ) -> Result<Session<P, S, G>, (ProviderOf<P, S, G>, AllocError)>
         ensures ok { IfOk result (λ session. session ≡ record {
           provider = provider;
           scope = scope_named (codes "otel_trace");
@@ -122,11 +127,11 @@ impl<P: KeepsBatches> Session<P> {
         commands: Vec<Command>,
         replies: &mut Vec<Reply>,
     ) -> Result<(), AllocError>
-        ensures ok { OnOk result (RunsAll P.SpanProcessor P.KeepsBatches.own
+        ensures ok { OnOk result (RunsAll P.SpanProcessor P.KeepsBatches.own S.ShouldSample G.IdGenerator
             self.old commands.items replies.old.items replies.new.items self.new) }
 
         // Where memory ran out.
-        ensures err { OnErr result (RunsBeginning P.SpanProcessor P.KeepsBatches.own
+        ensures err { OnErr result (RunsBeginning P.SpanProcessor P.KeepsBatches.own S.ShouldSample G.IdGenerator
             self.old commands.items replies.old.items replies.new.items self.new) }
     {
         let mut queue = VecDeque::from_vec(commands);
@@ -145,7 +150,7 @@ impl<P: KeepsBatches> Session<P> {
     /// a beginning of the commands, and at most one more command was carried out. What that one exported is left for the
     /// next reply.
     pub fn feed(&mut self, text: &[u8], output: &mut Vec<u8>) -> Result<(), FeedError>
-        ensures { Feeds P.SpanProcessor P.KeepsBatches.own self.old text.now output.old.items result output.new.items self.new }
+        ensures { Feeds P.SpanProcessor P.KeepsBatches.own S.ShouldSample G.IdGenerator self.old text.now output.old.items result output.new.items self.new }
     {
         let Ok(script) = parse(self.alloc, text) else {
             return Err(FeedError::Memory);
@@ -163,7 +168,7 @@ impl<P: KeepsBatches> Session<P> {
     /// that no reply has shown are appended. The answer is that of the shutdown, or `OutOfMemory` where that is Ok and the
     /// lines found no memory.
     pub fn close(self, output: &mut Vec<u8>) -> OTelSdkResult
-        ensures { Closes P.SpanProcessor P.KeepsBatches.own self output.old.items result output.new.items }
+        ensures { Closes P.SpanProcessor P.KeepsBatches.own S.ShouldSample G.IdGenerator self output.old.items result output.new.items }
     {
         let Session {
             mut provider,
@@ -187,9 +192,9 @@ impl<P: KeepsBatches> Session<P> {
         commands: Vec<Command>,
         output: &mut Vec<u8>,
     ) -> Result<(), AllocError>
-        ensures ok { OnOk result (WritesAll P.SpanProcessor P.KeepsBatches.own
+        ensures ok { OnOk result (WritesAll P.SpanProcessor P.KeepsBatches.own S.ShouldSample G.IdGenerator
             self.old commands.items output.old.items output.new.items self.new) }
-        ensures err { OnErr result (WritesBeginning P.SpanProcessor P.KeepsBatches.own
+        ensures err { OnErr result (WritesBeginning P.SpanProcessor P.KeepsBatches.own S.ShouldSample G.IdGenerator
             self.old commands.items output.old.items output.new.items self.new) }
     {
         let mut queue = VecDeque::from_vec(commands);
@@ -216,9 +221,9 @@ impl<P: KeepsBatches> Session<P> {
     /// Carries one command out. It is also an error where the first processor's exporter lost a batch meanwhile. On an error
     /// the command was carried out or not, and what it exported is left for the next reply.
     fn answer(&mut self, command: Command) -> Result<Answer, AllocError>
-        ensures ok { IfOk result (λ answer. CarriesOutOne P.SpanProcessor self.old.scope self.old.provider self.old.spans
+        ensures ok { IfOk result (λ answer. CarriesOutOne P.SpanProcessor S.ShouldSample G.IdGenerator self.old.scope self.old.provider self.old.spans
             (plain_command command) answer self.new.provider self.new.spans × LosesNone P.KeepsBatches.own self.old self.new) }
-        ensures err { OnErr result (MayCarryOut P.SpanProcessor self.old.scope self.old.provider self.old.spans
+        ensures err { OnErr result (MayCarryOut P.SpanProcessor S.ShouldSample G.IdGenerator self.old.scope self.old.provider self.old.spans
             (plain_command command) self.new.provider self.new.spans) }
         ensures rest { self.new ≡ record self.old { provider = self.new.provider; spans = self.new.spans } }
         ensures keeps { Appends (session_batches P.KeepsBatches.own self.old) (session_batches P.KeepsBatches.own self.new) }
@@ -233,9 +238,9 @@ impl<P: KeepsBatches> Session<P> {
 
     /// Carries one command out; a lost batch is no error.
     fn carry_out(&mut self, command: Command) -> Result<Answer, AllocError>
-        ensures ok { IfOk result (λ answer. CarriesOutOne P.SpanProcessor self.old.scope self.old.provider self.old.spans
+        ensures ok { IfOk result (λ answer. CarriesOutOne P.SpanProcessor S.ShouldSample G.IdGenerator self.old.scope self.old.provider self.old.spans
             (plain_command command) answer self.new.provider self.new.spans) }
-        ensures err { OnErr result (RefusesOne P.SpanProcessor self.old.scope self.old.provider self.old.spans
+        ensures err { OnErr result (RefusesOne P.SpanProcessor S.ShouldSample G.IdGenerator self.old.scope self.old.provider self.old.spans
             (plain_command command) self.new.provider self.new.spans) }
         ensures rest { self.new ≡ record self.old { provider = self.new.provider; spans = self.new.spans } }
         ensures keeps { Appends (session_batches P.KeepsBatches.own self.old) (session_batches P.KeepsBatches.own self.new) }
@@ -266,7 +271,9 @@ impl<P: KeepsBatches> Session<P> {
 }
 
 /// Shuts the provider down where it is open.
-fn shut_down<P: SpanProcessor>(provider: &mut ProviderOf<P>) -> OTelSdkResult
+fn shut_down<P: SpanProcessor, S: Drop, G: Drop>(
+    provider: &mut ProviderOf<P, S, G>,
+) -> OTelSdkResult
     ensures { ShutsIfOpen P.SpanProcessor provider.old 5_000_000_000 result provider.new }
 {
     match provider.shutdown() {
@@ -314,15 +321,15 @@ fn unshown_by_first<P: KeepsBatches>(processors: &[P], shown: usize) -> &[Vec<Sp
 }
 
 /// The same on the parts of a session.
-fn carry_out<P: KeepsBatches>(
+fn carry_out<P: KeepsBatches, S: ShouldSample, G: IdGenerator>(
     tracer: &SdkTracer,
-    provider: &mut ProviderOf<P>,
+    provider: &mut ProviderOf<P, S, G>,
     spans: &mut OpenSpans,
     command: Command,
 ) -> Result<Answer, AllocError>
-    ensures ok { IfOk result (λ answer. CarriesOutOne P.SpanProcessor tracer.now provider.old spans.old
+    ensures ok { IfOk result (λ answer. CarriesOutOne P.SpanProcessor S.ShouldSample G.IdGenerator tracer.now provider.old spans.old
         (plain_command command) answer provider.new spans.new) }
-    ensures err { OnErr result (RefusesOne P.SpanProcessor tracer.now provider.old spans.old
+    ensures err { OnErr result (RefusesOne P.SpanProcessor S.ShouldSample G.IdGenerator tracer.now provider.old spans.old
         (plain_command command) provider.new spans.new) }
     ensures keeps { Appends (batches_of_first P.KeepsBatches.own provider.old.processors)
         (batches_of_first P.KeepsBatches.own provider.new.processors) }

@@ -5,7 +5,7 @@ use Rattle.otel_trace.proofs.NamedLemmas.{starts_taken, none_from_test}
 use Rattle.otel_trace.proofs.open_spans.OpenSpans.start.Goals as goal
 
 pub returns-then-contains-clause-ok : goal.returns-then-contains-clause-ok
-returns-then-contains-clause-ok g c = starts_taken g.P.SpanProcessor c.args.provider.now c.args.tracer.now c.args.self.now (string_bytes c.args.name) (string_bytes c.args.called) c.args.now.0 (named c.args.self.now (string_bytes c.args.name))
+returns-then-contains-clause-ok g c = starts_taken g.P.SpanProcessor g.S.ShouldSample g.G.IdGenerator c.args.provider.now c.args.tracer.now c.args.self.now (string_bytes c.args.name) (string_bytes c.args.called) c.args.now.0 (named c.args.self.now (string_bytes c.args.name))
     (sym (ap (λ (name : List ℕ). is_some (named c.args.self.now name)) c.as_str.ensures.value) ∙ sym c.contains.ensures ∙ c.if-contains.true)
 
 pub put-requires : goal.put-requires
@@ -17,7 +17,7 @@ returns-clause-ok g c =
     let absent = none_from_test (named c.args.self.now (string_bytes c.args.name)) c.contains.result
     (c.contains.ensures ∙ ap (λ (name : List ℕ). is_some (named c.args.self.now name)) c.as_str.ensures.value) c.if-contains.false in
     let begun = c.in_ok-span.ensures.ok in
-    subst (λ (o : Option PlainSpan). StartsNamed g.P.SpanProcessor c.args.provider.now c.args.tracer.now c.args.self.now (string_bytes c.args.name) (string_bytes c.args.called) c.args.now.0 o c.answer_to_start-answer.result c.start.new.provider c.put.new.self) (sym absent)
+    subst (λ (o : Option PlainSpan). StartsNamed g.P.SpanProcessor g.S.ShouldSample g.G.IdGenerator c.args.provider.now c.args.tracer.now c.args.self.now (string_bytes c.args.name) (string_bytes c.args.called) c.args.now.0 o c.answer_to_start-answer.result c.start.new.provider c.put.new.self) (sym absent)
     (record {
       history = begun.0;
       starts = begun.2;
@@ -26,7 +26,7 @@ returns-clause-ok g c =
     })
 
 pub returns-then-contains-clause-asks : goal.returns-then-contains-clause-asks
-returns-then-contains-clause-asks g c = inl refl
+returns-then-contains-clause-asks g c = inl (inl refl)
 
 pub returns-in_err-span-clause-asks : goal.returns-in_err-span-clause-asks
 returns-in_err-span-clause-asks g c = inl c.in_err-span.ensures.err

@@ -1,18 +1,19 @@
 use Rattle.std.proofs.Common.{◌≡◌, ◌++◌, ◌∙◌, ap, List, OnOk, drop, subst}
 use Rattle.otel_batch.specs.PlainSpanData.{PlainSpanData}
 use Rattle.otel_trace.specs.ReplyText.{span_lines}
-use Rattle.otel_trace.specs.SessionDelivery.{SessionState, Closes, batches_of_first, spans_in}
+use Rattle.opentelemetry_sdk.specs.ProcessorTelling.{spans_in}
+use Rattle.otel_trace.specs.SessionDelivery.{SessionState, Closes, batches_of_first}
 use Rattle.otel_trace.proofs.CloseLemmas.{closes}
 use Rattle.otel_trace.proofs.session.Session.close.Goals as goal
 
 pub returns : goal.returns
 returns g c =
     let inside = c.self.inside in
-    let session : SessionState g.row.P.Denot = record { provider = inside.provider; scope = inside.tracer; spans = inside.spans; shown = inside.shown } in
+    let session : SessionState g.row.P.Denot g.row.S.Denot g.row.G.Denot = record { provider = inside.provider; scope = inside.tracer; spans = inside.spans; shown = inside.shown } in
     let before = c.args.output.now.items in
     let now = c.write_batches-written.new.out.items in
     let shown = c.unshown_by_first-unshown.ensures ∙ ap (λ (processors : List g.row.P.Denot). spans_in (drop inside.shown (batches_of_first g.P.KeepsBatches processors))) c.processors.ensures in
     let lines = subst (λ (spans : List PlainSpanData). OnOk c.write_batches-written.result (now ≡ before ++ span_lines spans)) shown c.write_batches-written.ensures.ok in
-    subst (λ (s : SessionState g.row.P.Denot). Closes g.P.SpanProcessor g.P.KeepsBatches s before c.close_answer.result now) c.self.view_is
-    (closes g.P.SpanProcessor g.P.KeepsBatches session c.shut_down-shutdown.new.provider c.shut_down-shutdown.result c.write_batches-written.result c.close_answer.result before now
+    subst (λ (s : SessionState g.row.P.Denot g.row.S.Denot g.row.G.Denot). Closes g.P.SpanProcessor g.P.KeepsBatches g.S.ShouldSample g.G.IdGenerator s before c.close_answer.result now) c.self.view_is
+    (closes g.P.SpanProcessor g.P.KeepsBatches g.S.ShouldSample g.G.IdGenerator session c.shut_down-shutdown.new.provider c.shut_down-shutdown.result c.write_batches-written.result c.close_answer.result before now
     c.shut_down-shutdown.ensures lines c.write_batches-written.ensures.err c.close_answer.ensures)
