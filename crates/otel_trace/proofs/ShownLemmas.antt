@@ -22,7 +22,7 @@ use Rattle.otel_trace.specs.KeptBatches.{Appends, OnlyAppends}
 use Rattle.otel_trace.specs.OpenSpans.{MayStart, MayDeliver}
 use Rattle.otel_trace.specs.PlainReply.{PlainReply}
 use Rattle.opentelemetry_sdk.specs.ProcessorTelling.{spans_in}
-use Rattle.otel_trace.specs.SessionDelivery.{SessionState, Shows, NoneLeft, session_batches, batches_of_first, exported_in, unshown}
+use Rattle.otel_trace.specs.SessionDelivery.{SessionState, Shows, NoneLeft, session_batches, batches_of_first, losses_of_first, exported_in, unshown}
 
 abbrev Batches : Type 0
 Batches = List (List PlainSpanData)
@@ -90,15 +90,28 @@ shows_reply {P} {S} {G} keeps old middle new replies reply h e n =
 pub none_left : {P S G : Type 0} (keeps : kept.Ghosts P) (middle new : SessionState P S G) (replies : List PlainReply) → new ≡ record middle { shown = length (session_batches keeps middle) } → NoneLeft keeps replies new
 none_left {P} {S} {G} keeps middle new replies e = subst (λ (s : SessionState P S G). NoneLeft keeps replies s) (sym e) (inr refl)
 
-module _ {P : Type 0} (calls : Ghosts P) (keeps : kept.Ghosts P) (law : OnlyAppends calls keeps.kept) where
+-- batches are kept behind those that were kept, and none was lost
+abbrev pub LosesNothing : {P : Type 0} → kept.Ghosts P → List P → List P → Type 0
+LosesNothing keeps old new = Appends (batches_of_first keeps old) (batches_of_first keeps new) × (losses_of_first keeps new ≡ losses_of_first keeps old)
+
+pub loses_nothing : {P : Type 0} (keeps : kept.Ghosts P) (old new : List P) → new ≡ old → LosesNothing keeps old new
+loses_nothing keeps old new e = (appends_none _ _ (ap (batches_of_first keeps) e), ap (losses_of_first keeps) e)
+
+module _ {P : Type 0} (calls : Ghosts P) (keeps : kept.Ghosts P) (law : OnlyAppends calls keeps.kept keeps.lost) where
   -- what the first processor keeps where each took part in a start
-  passed_keeps : (cx : PlainContext) (s t : PlainSpan) (ps qs : List P) → PassesThrough calls cx s ps qs t → Appends (batches_of_first keeps ps) (batches_of_first keeps qs)
-  passed_keeps cx s t [] [] h = ([], refl)
+  passed_keeps : (cx : PlainContext) (s t : PlainSpan) (ps qs : List P) → PassesThrough calls cx s ps qs t → LosesNothing keeps ps qs
+  passed_keeps cx s t [] [] h = loses_nothing keeps [] [] refl
   passed_keeps cx s t [] (q ∷ qs) h = absurd h
   passed_keeps cx s t (p ∷ ps) [] h = absurd h
   passed_keeps cx s t (p ∷ ps) (q ∷ qs) h = law.starts p s cx h.0 q h.1
 
-  -- the same of an end
+  -- the same where the sampler decided
+  decided_keeps : (decision : SamplingDecision) (start : SpanStart) (ps qs : List P) (history : SpanHistory) → Decided calls decision start ps qs history → LosesNothing keeps ps qs
+  decided_keeps decisions.Drop start ps qs history h = loses_nothing keeps ps qs h.1
+  decided_keeps decisions.RecordOnly start ps qs history h = passed_keeps root_cx _ _ ps qs h.passes
+  decided_keeps decisions.RecordAndSample start ps qs history h = passed_keeps root_cx _ _ ps qs h.passes
+
+  -- what it keeps where each may have been given an ended span
   asked_keeps : (span : PlainSpanData) (ps qs : List P) (rs : List (Result (Unit {0}) AllocError)) → Each (TakesAndTells calls span) ps rs qs
       → Appends (batches_of_first keeps ps) (batches_of_first keeps qs)
   asked_keeps span [] [] [] h = ([], refl)
@@ -112,25 +125,19 @@ module _ {P : Type 0} (calls : Ghosts P) (keeps : kept.Ghosts P) (law : OnlyAppe
   may_deliver_keeps ps qs (inl e) = appends_none _ _ (ap (batches_of_first keeps) e)
   may_deliver_keeps ps qs (inr h) = asked_keeps h.0 ps qs h.2.0 h.2.2
 
-  -- the same where the sampler decided
-  decided_keeps : (decision : SamplingDecision) (start : SpanStart) (ps qs : List P) (history : SpanHistory) → Decided calls decision start ps qs history → Appends (batches_of_first keeps ps) (batches_of_first keeps qs)
-  decided_keeps decisions.Drop start ps qs history h = appends_none _ _ (ap (batches_of_first keeps) h.1)
-  decided_keeps decisions.RecordOnly start ps qs history h = passed_keeps root_cx _ _ ps qs h.passes
-  decided_keeps decisions.RecordAndSample start ps qs history h = passed_keeps root_cx _ _ ps qs h.passes
-
-module _ {P S G : Type 0} (calls : Ghosts P) (keeps : kept.Ghosts P) (law : OnlyAppends calls keeps.kept) (sampler : sampling.Ghosts S) (ids : drawing.Ghosts G) where
-  -- a provider that stays as it was, but for what has no part in it
-  stays_keeps : (old new : ProviderState P S G) (g : G) → new ≡ record old { id_generator = g } → Appends (batches_of_first keeps old.processors) (batches_of_first keeps new.processors)
-  stays_keeps old new g e = appends_none _ _ (ap (λ (r : ProviderState P S G). batches_of_first keeps r.processors) e)
+module _ {P S G : Type 0} (calls : Ghosts P) (keeps : kept.Ghosts P) (law : OnlyAppends calls keeps.kept keeps.lost) (sampler : sampling.Ghosts S) (ids : drawing.Ghosts G) where
+  -- a provider that stays as it was, but for its generator
+  stays_keeps : (old new : ProviderState P S G) (g : G) → new ≡ record old { id_generator = g } → LosesNothing keeps old.processors new.processors
+  stays_keeps old new g e = loses_nothing keeps old.processors new.processors (ap (λ (r : ProviderState P S G). r.processors) e)
 
   started_keeps : (is_shut : Bool) (old new : ProviderState P S G) (scope : PlainScope) (called : List ℕ) (now : ℕ) (history : SpanHistory)
       → MatchBool is_shut ((history ≡ over empty_span_context old.span_limits) × (new ≡ old)) (StartsOpen calls sampler ids old scope called now history new)
-      → Appends (batches_of_first keeps old.processors) (batches_of_first keeps new.processors)
+      → LosesNothing keeps old.processors new.processors
   started_keeps true old new scope called now history h = stays_keeps old new old.id_generator h.1
   started_keeps false old new scope called now history h = decided_keeps calls keeps law h.answer.decision _ old.processors new.processors history h.decided
 
   pub may_start_keeps : (old new : ProviderState P S G) (scope : PlainScope) (called : List ℕ) (now : ℕ)
-      → MayStart calls sampler ids old scope called now new → Appends (batches_of_first keeps old.processors) (batches_of_first keeps new.processors)
+      → MayStart calls sampler ids old scope called now new → LosesNothing keeps old.processors new.processors
   may_start_keeps old new scope called now (inl (inl e)) = stays_keeps old new old.id_generator e
   may_start_keeps old new scope called now (inl (inr h)) = stays_keeps old new new.id_generator h.rest
   may_start_keeps old new scope called now (inr h) = started_keeps old.is_shut old new scope called now h.0 h.1

@@ -1,5 +1,5 @@
 -- Commands as contracts see them: numbers, and texts as their bytes.
-use Rattle.std.specs.Prelude.{ℕ, List, map, string_bytes}
+use Rattle.std.specs.Prelude.{ℕ, Bool, true, false, List, map, string_bytes}
 use Rattle.otel_trace.specs.declared.command.Command.{Command}
 use Rattle.otel_trace.specs.declared.command.Command.TheVariants as commands
 
@@ -17,6 +17,12 @@ abbrev pub plain_command : Command → PlainCommand
 plain_command (commands.Start span name moment) = start (string_bytes span) (string_bytes name) moment.0
 plain_command (commands.Attr span key value) = attr (string_bytes span) (string_bytes key) (string_bytes value)
 plain_command (commands.End span moment) = end (string_bytes span) moment.0
+
+-- whether a command may end a span
+abbrev pub is_end : PlainCommand → Bool
+is_end (start span name moment) = false
+is_end (attr span key value) = false
+is_end (end span moment) = true
 
 -- what commands ask for, in order
 abbrev pub plain_commands : List Command → List PlainCommand

@@ -23,9 +23,10 @@ use Rattle.opentelemetry_sdk.specs.declared.trace.processor.ProcessorOf.TheVaria
 abbrev pub Appends : {X : Type 0} → List X → List X → Type 0
 Appends {X} old new = (more : List X) × (new ≡ old ++ more)
 
--- a call of a processor that starts or ends a span takes back no batch
-pub record OnlyAppends {P : Type 0} (calls : Ghosts P) (kept : P → List (List PlainSpanData)) : Type 0 where
-  pub starts : (p : P) (span : PlainSpan) (cx : PlainContext) (edited : PlainSpan) (q : P) → calls.start_gives p span cx edited q → Appends (kept p) (kept q)
+-- a call of a processor that starts or ends a span takes back no batch, and only an end may lose one
+pub record OnlyAppends {P : Type 0} (calls : Ghosts P) (kept : P → List (List PlainSpanData)) (lost : P → ℕ) : Type 0 where
+  pub starts : (p : P) (span : PlainSpan) (cx : PlainContext) (edited : PlainSpan) (q : P) → calls.start_gives p span cx edited q
+      → Appends (kept p) (kept q) × (lost q ≡ lost p)
   pub ends : (p : P) (span : PlainSpanData) (answer : Result (Unit {0}) AllocError) (q : P) → calls.end_gives p span answer q → Appends (kept p) (kept q)
 
 -- the batches that an exporter keeps, and how many it lost; none where it is not the one in memory
@@ -77,9 +78,10 @@ pub simple_appends : {E : Type 0} (keeps : E → List (List PlainSpanData)) (cal
     → SimpleEnds calls old span taken new → Appends (keeps old.exporter) (keeps new.exporter)
 simple_appends keeps calls appends old span taken new h = appends_if keeps calls appends (not old.is_shut && is_sampled span) old span taken new h
 
--- a call that leaves a simple processor as it was
-pub simple_stays : {E : Type 0} {B : Type 0} (keeps : E → List (List PlainSpanData)) (old new : SimpleProcessor E) → (new ≡ old) × B → Appends (keeps old.exporter) (keeps new.exporter)
-simple_stays {E} keeps old new h = nothing_more (λ (p : SimpleProcessor E). keeps p.exporter) old new h.0
+-- a call that leaves a simple processor as it was keeps what is kept and loses nothing
+pub simple_stays : {E : Type 0} {B : Type 0} (keeps : E → List (List PlainSpanData)) (loses : E → ℕ) (old new : SimpleProcessor E)
+    → (new ≡ old) × B → Appends (keeps old.exporter) (keeps new.exporter) × (loses new.exporter ≡ loses old.exporter)
+simple_stays {E} keeps loses old new h = (nothing_more (λ (p : SimpleProcessor E). keeps p.exporter) old new h.0, ap (λ (p : SimpleProcessor E). loses p.exporter) h.0)
 
 -- a call of a processor of either kind
 pub processor_appends : {S D : Type 0} (keeps : S → List (List PlainSpanData)) (simple : S → S → Type 0) (custom : D → D → Type 0)
@@ -89,3 +91,12 @@ processor_appends keeps simple custom appends (kinds.Simple a) (kinds.Simple b) 
 processor_appends keeps simple custom appends (kinds.Simple a) (kinds.Custom d) h = absurd h
 processor_appends keeps simple custom appends (kinds.Custom c) (kinds.Simple b) h = absurd h
 processor_appends keeps simple custom appends (kinds.Custom c) (kinds.Custom d) h = ([], refl)
+
+-- the same where none is lost either
+pub processor_stays : {S D : Type 0} (keeps : S → List (List PlainSpanData)) (loses : S → ℕ) (simple : S → S → Type 0) (custom : D → D → Type 0)
+    → ((a b : S) → simple a b → Appends (keeps a) (keeps b) × (loses b ≡ loses a)) → (old new : ProcessorOf S D)
+    → ProcessorGives simple custom old new → Appends (processor_keeps keeps old) (processor_keeps keeps new) × (processor_loses loses new ≡ processor_loses loses old)
+processor_stays keeps loses simple custom stays (kinds.Simple a) (kinds.Simple b) h = stays a b h
+processor_stays keeps loses simple custom stays (kinds.Simple a) (kinds.Custom d) h = absurd h
+processor_stays keeps loses simple custom stays (kinds.Custom c) (kinds.Simple b) h = absurd h
+processor_stays keeps loses simple custom stays (kinds.Custom c) (kinds.Custom d) h = (([], refl), refl)

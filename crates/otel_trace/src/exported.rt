@@ -24,13 +24,13 @@ pub trait KeepsBatches: SpanProcessor {
     fn lost_batches(&self) -> u64
         ensures { result ≡ lost self.now };
 
-    /// A start or an end of a span takes back no batch.
-    ghost appends: { OnlyAppends Self.SpanProcessor kept };
+    /// A start or an end of a span takes back no batch, and only an end may lose one.
+    ghost appends: { OnlyAppends Self.SpanProcessor kept lost };
 }
 
 impl<C: SpanExporter, D: SpanProcessor> KeepsBatches
     for ProcessorOf<SimpleSpanProcessor<ExporterOf<InMemorySpanExporter, C>>, D> {
-    ghost use Rattle.otel_trace.specs.KeptBatches.{exporter_keeps, exporter_loses, exporter_appends, processor_keeps, processor_loses, processor_appends, simple_appends, simple_stays};
+    ghost use Rattle.otel_trace.specs.KeptBatches.{exporter_keeps, exporter_loses, exporter_appends, processor_keeps, processor_loses, processor_appends, processor_stays, simple_appends, simple_stays};
 
     ghost kept = { processor_keeps (λ simple. exporter_keeps simple.exporter) };
 
@@ -38,7 +38,8 @@ impl<C: SpanExporter, D: SpanProcessor> KeepsBatches
 
     ghost appends = { record {
       starts = λ p span cx edited q given.
-          processor_appends (λ simple. exporter_keeps simple.exporter) _ _ (λ a b h. simple_stays exporter_keeps a b h) p q given;
+          processor_stays (λ simple. exporter_keeps simple.exporter) (λ simple. exporter_loses simple.exporter) _ _
+          (λ a b h. simple_stays exporter_keeps exporter_loses a b h) p q given;
       ends = λ p span answer q given.
           processor_appends (λ simple. exporter_keeps simple.exporter) _ _ (λ a b h. simple_appends exporter_keeps
           ⟦<ExporterOf<InMemorySpanExporter, C> as SpanExporter>⟧ (exporter_appends C.export_gives) a span answer b h) p q given;

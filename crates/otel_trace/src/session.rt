@@ -1,13 +1,13 @@
 //! A session: commands against one provider, each with a reply. What its commands deliver to the exporters is stated by
 //! the histories of its spans, apart from the code that fills them.
 
-ghost use Rattle.std.specs.Prelude.{◌≡◌, ◌++◌, [], drop, false, length, map, IfErr, IfOk, MatchResult, OnOk, OnErr, codes, string_bytes};
+ghost use Rattle.std.specs.Prelude.{◌≡◌, ◌++◌, [], drop, false, length, map, IfErr, IfOk, IsFalse, MatchResult, OnOk, OnErr, codes, string_bytes};
 ghost use Rattle.std.specs.List.{flat_map};
 ghost use Rattle.opentelemetry.specs.Plain.{text};
 ghost use Rattle.opentelemetry_sdk.specs.ProcessorTelling.{spans_in};
 ghost use Rattle.opentelemetry_sdk.specs.Provider.{scope_named};
 ghost use Rattle.opentelemetry_sdk.specs.SpanHistory.{set_attribute};
-ghost use Rattle.otel_trace.specs.Commands.{plain_command};
+ghost use Rattle.otel_trace.specs.Commands.{is_end, plain_command};
 ghost use Rattle.otel_trace.specs.AnswerText.{answer_line};
 ghost use Rattle.otel_trace.specs.KeptBatches.{Appends};
 ghost use Rattle.otel_trace.specs.OpenSpans.{plain_edit};
@@ -30,7 +30,6 @@ ghost use Rattle.otel_trace.specs.SessionDelivery.{
   or_no_memory,
   session_batches,
   session_losses,
- 
   unshown,
 };
 
@@ -218,8 +217,8 @@ impl<P: KeepsBatches, S: ShouldSample, G: IdGenerator> Session<P, S, G> {
         write_reply(self.alloc, output, self.unshown(), answer)
     }
 
-    /// Carries one command out. It is also an error where the first processor's exporter lost a batch meanwhile. On an error
-    /// the command was carried out or not, and what it exported is left for the next reply.
+    /// Carries one command out. It is also an error where the first processor's exporter lost the batch of an ended span.
+    /// On an error the command was carried out or not, and what it exported is left for the next reply.
     fn answer(&mut self, command: Command) -> Result<Answer, AllocError>
         ensures ok { IfOk result (λ answer. CarriesOutOne P.SpanProcessor S.ShouldSample G.IdGenerator self.old.scope self.old.provider self.old.spans
             (plain_command command) answer self.new.provider self.new.spans × LosesNone P.KeepsBatches.own self.old self.new) }
@@ -228,9 +227,10 @@ impl<P: KeepsBatches, S: ShouldSample, G: IdGenerator> Session<P, S, G> {
         ensures rest { self.new ≡ record self.old { provider = self.new.provider; spans = self.new.spans } }
         ensures keeps { Appends (session_batches P.KeepsBatches.own self.old) (session_batches P.KeepsBatches.own self.new) }
     {
+        let ends_span = command.ends_span();
         let lost = self.lost_batches();
         let answer = self.carry_out(command)?;
-        if self.lost_batches() != lost {
+        if ends_span && self.lost_batches() != lost {
             return Err(AllocError);
         }
         Ok(answer)
@@ -244,6 +244,7 @@ impl<P: KeepsBatches, S: ShouldSample, G: IdGenerator> Session<P, S, G> {
             (plain_command command) self.new.provider self.new.spans) }
         ensures rest { self.new ≡ record self.old { provider = self.new.provider; spans = self.new.spans } }
         ensures keeps { Appends (session_batches P.KeepsBatches.own self.old) (session_batches P.KeepsBatches.own self.new) }
+        ensures loses { IsFalse (is_end (plain_command command)) → LosesNone P.KeepsBatches.own self.old self.new }
     {
         carry_out(&self.tracer, &mut self.provider, &mut self.spans, command)
     }
@@ -333,6 +334,8 @@ fn carry_out<P: KeepsBatches, S: ShouldSample, G: IdGenerator>(
         (plain_command command) provider.new spans.new) }
     ensures keeps { Appends (batches_of_first P.KeepsBatches.own provider.old.processors)
         (batches_of_first P.KeepsBatches.own provider.new.processors) }
+    ensures loses { IsFalse (is_end (plain_command command))
+        → losses_of_first P.KeepsBatches.own provider.new.processors ≡ losses_of_first P.KeepsBatches.own provider.old.processors }
 {
     match command {
         Command::Start { span, name, moment } => spans.start(span, tracer, provider, name, moment),

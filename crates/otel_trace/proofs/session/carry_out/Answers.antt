@@ -1,7 +1,7 @@
-use Rattle.std.proofs.Common.{◌≡◌, refl, subst, sym, ap, inl, map, string_bytes, ◌∙◌, List, ℕ}
+use Rattle.std.proofs.Common.{◌≡◌, true, IsFalse, refl, subst, sym, ap, inl, map, rules, string_bytes, ◌∙◌, List, ℕ}
 use Rattle.opentelemetry.specs.Plain.{PlainKeyValue}
 use Rattle.opentelemetry_sdk.specs.SpanHistory.{Edit, set_attribute}
-use Rattle.otel_trace.specs.Commands.{plain_command, start, attr, end}
+use Rattle.otel_trace.specs.Commands.{plain_command, is_end, start, attr, end}
 use Rattle.otel_trace.specs.OpenSpans.{EditsNamed, EndsNamed, named, plain_edit}
 use Rattle.otel_trace.specs.SessionDelivery.{CarriesOutOne, RefusesOne, batches_of_first}
 use Rattle.otel_trace.specs.declared.command.Command.{Command}
@@ -45,10 +45,17 @@ returns-in-End-clause-err g c = on_err_map c.end.result (λ h.
     (record { spans = h.0; asks = h.1; told = ap (λ r. map g.P.SpanProcessor.told r.processors) h.1 })) c.end.ensures.err
 
 pub returns-in-Start-clause-keeps : goal.returns-in-Start-clause-keeps
-returns-in-Start-clause-keeps g c = may_start_keeps g.P.SpanProcessor g.P.KeepsBatches g.met.P.KeepsBatches.appends g.S.ShouldSample g.G.IdGenerator c.args.provider.now c.start.new.provider c.args.tracer.now (string_bytes c.in-Start.name) c.in-Start.moment.0 c.start.ensures.asks
+returns-in-Start-clause-keeps g c = (may_start_keeps g.P.SpanProcessor g.P.KeepsBatches g.met.P.KeepsBatches.appends g.S.ShouldSample g.G.IdGenerator c.args.provider.now c.start.new.provider c.args.tracer.now (string_bytes c.in-Start.name) c.in-Start.moment.0 c.start.ensures.asks).0
 
 pub returns-in-Attr-clause-keeps : goal.returns-in-Attr-clause-keeps
 returns-in-Attr-clause-keeps g c = appends_none (batches_of_first g.P.KeepsBatches c.args.provider.now.processors) _ refl
 
 pub returns-in-End-clause-keeps : goal.returns-in-End-clause-keeps
 returns-in-End-clause-keeps g c = may_deliver_keeps g.P.SpanProcessor g.P.KeepsBatches g.met.P.KeepsBatches.appends c.args.provider.now.processors c.end.new.provider.processors c.end.ensures.asks
+
+pub returns-in-Start-clause-loses : goal.returns-in-Start-clause-loses
+returns-in-Start-clause-loses g c = λ not_end. (may_start_keeps g.P.SpanProcessor g.P.KeepsBatches g.met.P.KeepsBatches.appends g.S.ShouldSample g.G.IdGenerator c.args.provider.now c.start.new.provider c.args.tracer.now (string_bytes c.in-Start.name) c.in-Start.moment.0 c.start.ensures.asks).1
+
+pub returns-in-End-clause-loses : goal.returns-in-End-clause-loses
+returns-in-End-clause-loses g c = λ not_end. let e : is_end (plain_command c.args.command) ≡ true = ap (λ (command : Command). is_end (plain_command command)) c.in-End.is in
+    let never : IsFalse true = subst IsFalse e not_end in search rules
