@@ -13,3 +13,8 @@ pub use simple_span_processor::SimpleSpanProcessor;
 pub use span::Span;
 pub use span_processor::SpanProcessor;
 pub use tracer::SdkTracer;
+
+#[cfg(test)]
+mod queueing_processor;
+#[cfg(test)]
+mod tests;

@@ -1,12 +1,14 @@
 ghost use Rattle.std.specs.Prelude.{None};
 
 use super::*;
+use crate::trace::Processor;
+use opentelemetry::Value;
 use otel_base::error::OTelSdkError;
 use otel_batch::trace::ExporterBox;
 use std::test::Fail;
 
 /// An exporter whose shutdown answers, as a time that ran out, the timeout in seconds and a hundred for each time that it was
-/// asked.
+/// asked, and for each attribute of a resource that it heard.
 #[derive(Drop)]
 struct Stuck {
     asked: u64,
@@ -27,6 +29,10 @@ impl SpanExporter for Stuck {
             .saturating_add(timeout.as_secs());
         Err(OTelSdkError::Timeout(Duration::from_secs(seconds)))
     }
+
+    fn set_resource(&mut self, resource: &Resource) {
+        self.asked = self.asked.saturating_add(resource.len() as u64);
+    }
 }
 
 /// The seconds that ran out.
@@ -46,5 +52,23 @@ fn each_shutdown_answers_what_the_exporter_does(rt: HostRuntime) -> Result<(), F
     let second = processor.shutdown_with_timeout(Duration::from_secs(8));
     assert_eq!(rt; seconds_of(second), Some(208));
     assert_eq!(rt; seconds_of(processor.shutdown()), Some(305));
+    Ok(())
+}
+
+#[test]
+fn the_resource_reaches_the_exporter_through_either_kind(rt: HostRuntime) -> Result<(), Fail> {
+    let alloc = rt.alloc();
+    let resource = Resource::builder_empty(alloc)
+        .with_service_name(Value::I64(7))?
+        .build();
+    let boxed = ExporterBox::Custom(Box::new(alloc, Stuck { asked: 0 })?);
+    let custom = SimpleSpanProcessor::new(alloc, Stuck { asked: 0 });
+    let mut processors = Vec::new(alloc);
+    processors.push(Processor::Simple(SimpleSpanProcessor::new(alloc, boxed)))?;
+    processors.push(Processor::Custom(Box::new(alloc, custom)?))?;
+    for processor in processors.iter_mut() {
+        processor.set_resource(&resource)?;
+        assert_eq!(rt; seconds_of(processor.shutdown()), Some(205));
+    }
     Ok(())
 }

@@ -3,7 +3,7 @@ ghost use Rattle.std.specs.Prelude.{None};
 use super::*;
 use crate::trace::{SpanEvents, SpanLinks};
 use opentelemetry::trace::{SpanContext, SpanKind, Status, TraceState};
-use opentelemetry::{InstrumentationScope, Moment, SpanId, TraceFlags, TraceId};
+use opentelemetry::{InstrumentationScope, Moment, SpanId, TraceFlags, TraceId, Value};
 use otel_base::error::OTelSdkError;
 use std::alloc::{AllocError, Global};
 use std::test::Fail;
@@ -37,6 +37,11 @@ impl SpanExporter for Echo {
 
     fn force_flush(&mut self) -> OTelSdkResult {
         self.ask(0)
+    }
+
+    /// Counts each attribute as if it had been asked once.
+    fn set_resource(&mut self, resource: &Resource) {
+        self.asked = self.asked.saturating_add(resource.len() as u64);
     }
 }
 
@@ -115,5 +120,16 @@ fn an_exporter_of_the_callers_is_reached(rt: HostRuntime) -> Result<(), Fail> {
     let shut = exporter.shutdown_with_timeout(Duration::from_secs(7));
     assert_eq!(rt; seconds_of(shut), Some(207));
     assert_eq!(rt; seconds_of(exporter.shutdown()), Some(305));
+    Ok(())
+}
+
+#[test]
+fn the_resource_reaches_an_exporter_of_the_callers(rt: HostRuntime) -> Result<(), Fail> {
+    let resource = Resource::builder_empty(rt.alloc())
+        .with_service_name(Value::I64(7))?
+        .build();
+    let mut exporter = ExporterBox::Custom(Box::new(rt.alloc(), Echo { asked: 0 })?);
+    exporter.set_resource(&resource);
+    assert_eq!(rt; seconds_of(exporter.force_flush()), Some(200));
     Ok(())
 }

@@ -1,0 +1,120 @@
+//! What no clause says of the pipeline: that each of several processors is asked in its turn.
+
+use super::*;
+use opentelemetry::trace::{SpanContext, SpanKind, Status, TraceState};
+use opentelemetry::{Context, InstrumentationScope, Moment, SpanId, TraceFlags, TraceId};
+use otel_base::error::OTelSdkResult;
+use otel_base::trace::{RandomIdGenerator, Sampler, SpanLimits};
+use otel_batch::trace::{SpanData, SpanEvents, SpanLinks};
+use std::alloc::{AllocError, Global};
+use std::cell::Cell;
+use std::test::Fail;
+use std::time::Duration;
+
+fn context_of(flags: u8) -> SpanContext {
+    SpanContext::new(
+        TraceId::from(1),
+        SpanId::from(2),
+        TraceFlags::new(flags),
+        false,
+        TraceState::new(),
+    )
+}
+
+/// The data of a span that started at this moment and has these flags.
+pub(crate) fn span_data(alloc: Global, moment: u64, flags: u8) -> Result<SpanData, AllocError> {
+    Ok(SpanData {
+        span_context: context_of(flags),
+        parent_span_id: SpanId::INVALID,
+        parent_span_is_remote: false,
+        span_kind: SpanKind::Internal,
+        name: String::new(alloc),
+        start_time: Moment(moment),
+        end_time: Moment(moment),
+        attributes: Vec::new(alloc),
+        dropped_attributes_count: 0,
+        events: SpanEvents::new(alloc),
+        links: SpanLinks::new(alloc),
+        status: Status::Unset,
+        instrumentation_scope: InstrumentationScope::builder(alloc, String::new(alloc)).build()?,
+    })
+}
+
+/// A processor that writes its digit on a board that several share, at each end and at each shutdown, and keeps the
+/// spans that it was given.
+#[derive(Drop)]
+struct Writer<'a> {
+    digit: u64,
+    board: &'a Cell<u64>,
+    taken: Vec<SpanData>,
+}
+
+impl Writer<'_> {
+    fn write(&self) {
+        self.board.set(
+            self.board
+                .get()
+                .saturating_mul(10)
+                .saturating_add(self.digit),
+        );
+    }
+}
+
+impl SpanProcessor for Writer<'_> {
+    fn on_start(&mut self, _span: &mut Span, _cx: &Context) {}
+
+    fn on_end(&mut self, span: SpanData) -> Result<(), AllocError> {
+        self.write();
+        self.taken.push(span)?;
+        Ok(())
+    }
+
+    fn force_flush(&mut self) -> OTelSdkResult {
+        Ok(())
+    }
+
+    fn shutdown_with_timeout(&mut self, _timeout: Duration) -> OTelSdkResult {
+        self.write();
+        Ok(())
+    }
+}
+
+/// An open provider over three processors that share a board.
+fn three_writers(alloc: Global, board: &Cell<u64>) -> Result<ProviderOf<Writer<'_>>, AllocError> {
+    let mut writers = Vec::new(alloc);
+    for digit in 1..4 {
+        writers.push(Writer {
+            digit,
+            board,
+            taken: Vec::new(alloc),
+        })?;
+    }
+    Ok(ProviderOf::from_parts(
+        writers,
+        Sampler::AlwaysOn,
+        RandomIdGenerator::new(0),
+        SpanLimits::default(),
+    ))
+}
+
+#[test]
+fn ends_and_shutdowns_ask_each_processor_in_its_turn(rt: HostRuntime) -> Result<(), Fail> {
+    let board = Cell::new(0);
+    let recorded = span_data(rt.alloc(), 7, 1)?;
+    let mut provider = three_writers(rt.alloc(), &board)?;
+    let mut span = Span::recording(context_of(1), recorded, SpanLimits::default());
+    let refused = span.end_with_timestamp(&mut provider, Moment(9));
+    let shut = provider.shutdown();
+    for writer in provider.processors() {
+        assert_eq!(rt; writer.taken.len(), 1);
+        assert_eq!(rt; writer.taken[0].start_time.0, 7);
+        assert_eq!(rt; writer.taken[0].end_time.0, 9);
+    }
+    span.abandon();
+    let closed = provider.close();
+    assert_eq!(rt; refused, Ok(0));
+    assert!(rt; shut.is_ok());
+    assert!(rt; closed.is_ok());
+    assert_eq!(rt; board.get(), 123_123);
+    Ok(())
+}
