@@ -1,5 +1,5 @@
 -- What the start of a span makes, and what it does to its provider.
-use Rattle.std.specs.Prelude.{◌≡◌, ◌⊎◌, ℕ, false, List, [], ◌∷◌, Option, Some, None, MatchBool}
+use Rattle.std.specs.Prelude.{◌≡◌, ◌≢◌, ◌⊎◌, ℕ, false, List, [], ◌∷◌, Option, Some, None, MatchBool}
 use Rattle.opentelemetry.specs.Plain.{PlainKeyValue, PlainSpanContext, PlainContext, PlainScope}
 use Rattle.opentelemetry.specs.PlainContexts.{empty_span_context}
 use Rattle.opentelemetry.specs.declared.trace.span_kind.SpanKind.TheVariants.{Internal}
@@ -71,16 +71,20 @@ module _ {G : Type 0} (ids : drawing.Ghosts G) where
     pub draws_span_id : ids.span_id_gives old span_id between
     pub draws_trace_id : ids.trace_id_gives between trace_id new
 
-  -- ids were drawn, and nothing else happened
-  pub record OnlyDraws {P S : Type 0} (old new : ProviderState P S G) : Type 0 where
+module _ {P S G : Type 0} (sampler : sampling.Ghosts S) (ids : drawing.Ghosts G) where
+  -- ids were drawn and the sampler was asked, and nothing else happened: it found no memory, or its answer has a trace
+  -- state, which is copied
+  pub record OnlyDraws (old : ProviderState P S G) (name : List ℕ) (new : ProviderState P S G) : Type 0 where
     pub trace_id : ℕ
     pub span_id : ℕ
-    pub draws : DrawsIds old.id_generator trace_id span_id new.id_generator
+    pub draws : DrawsIds ids old.id_generator trace_id span_id new.id_generator
+    pub needs : sampler.is_infallible old.sampler (root_question trace_id name)
+        → (answer : PlainSamplingResult) × sampler.gives old.sampler (root_question trace_id name) answer × (answer.trace_state ≢ [])
     pub rest : new ≡ record old { id_generator = new.id_generator }
 
   -- a start that found no memory: nothing happened, or ids were drawn
-  abbrev pub MayDraw : {P S : Type 0} → ProviderState P S G → ProviderState P S G → Type 0
-  MayDraw old new = (new ≡ old) ⊎ OnlyDraws old new
+  abbrev pub MayDraw : ProviderState P S G → List ℕ → ProviderState P S G → Type 0
+  MayDraw old name new = (new ≡ old) ⊎ OnlyDraws old name new
 
 module _ {P : Type 0} (calls : Ghosts P) where
   -- a span is passed from one processor to the next, each of which may edit it: the span before all and behind all

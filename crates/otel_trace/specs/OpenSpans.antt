@@ -86,7 +86,7 @@ module _ {P S G : Type 0} (calls : Ghosts P) (sampler : sampling.Ghosts S) (ids 
   -- what a start may do to a provider, also where it found no memory: nothing, or ids are drawn, or all that the start of a
   -- span does
   abbrev pub MayStart : ProviderState P S G → PlainScope → List ℕ → ℕ → ProviderState P S G → Type 0
-  MayStart p scope called moment q = MayDraw ids p q ⊎ ((history : SpanHistory) × Starts calls sampler ids p scope called moment history q)
+  MayStart p scope called moment q = MayDraw sampler ids p called q ⊎ ((history : SpanHistory) × Starts calls sampler ids p scope called moment history q)
 
 module _ {P S G : Type 0} (calls : Ghosts P) where
   -- the end of a span: what it delivers, and to whom

@@ -170,10 +170,17 @@ impl Clone for TraceState {
 
     ghost is_clone = { λ state copy. copy ≡ state };
 
-    fn clone(&self) -> Result<TraceState, AllocError> {
-        Ok(TraceState {
-            pairs: self.pairs.clone()?,
-        })
+    /// A clone of the empty trace state takes no memory.
+    fn clone(&self) -> Result<TraceState, AllocError>
+        ensures clone { IfOk result (λ copy. copy ≡ self.now) }
+        ensures free { self.now ≡ [] → IsOk result }
+    {
+        match &self.pairs {
+            Some(pairs) if !pairs.is_empty() => Ok(TraceState {
+                pairs: Some(pairs.clone()?),
+            }),
+            _ => Ok(TraceState::new()),
+        }
     }
 }
 

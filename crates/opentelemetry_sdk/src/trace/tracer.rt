@@ -61,7 +61,7 @@ impl SdkTracer {
           processors = provider.new.processors;
           id_generator = provider.new.id_generator;
         } }
-        ensures err { OnErr result (MayDraw G.IdGenerator provider.old provider.new) }
+        ensures err { OnErr result (MayDraw S.ShouldSample G.IdGenerator provider.old (string_bytes name) provider.new) }
         ensures shut { IsTrue provider.old.is_shut → IsOk result }
     {
         let span_limits = provider.span_limits();
@@ -93,7 +93,8 @@ fn ask<S: ShouldSample>(
     trace_id: TraceId,
     name: &str,
 ) -> Result<SamplingResult, AllocError>
-    ensures { IfOk result (S.gives sampler.now (root_question trace_id name.now)) }
+    ensures gives { IfOk result (S.gives sampler.now (root_question trace_id name.now)) }
+    ensures free { S.is_infallible sampler.now (root_question trace_id name.now) → IsOk result }
 {
     sampler.should_sample(
         Some(&Context::new()),
@@ -116,8 +117,9 @@ fn begin(
     now: Moment,
     span_limits: SpanLimits,
 ) -> Result<Span, AllocError>
-    ensures { IfOk result (λ span. span ≡ new_span answer.decision (root_start scope (string_bytes name) now.0 span_limits
-        (root_span_context trace_id span_id answer) answer.attributes)) }
+    ensures span { IfOk result (λ span. span ≡ new_span answer.decision (root_start scope (string_bytes name) now.0
+        span_limits (root_span_context trace_id span_id answer) answer.attributes)) }
+    ensures free { answer.trace_state ≡ [] → IsOk result }
 {
     let SamplingResult {
         decision,
@@ -125,13 +127,22 @@ fn begin(
         trace_state,
     } = answer;
     let flags = root_flags(decision);
-    let span_context = SpanContext::new(trace_id, span_id, flags, false, trace_state);
     if let SamplingDecision::Drop = decision {
+        let span_context = SpanContext::new(trace_id, span_id, flags, false, trace_state);
         return Ok(Span::not_recording(span_context, span_limits));
     }
+    let span_context = SpanContext::new(trace_id, span_id, flags, false, trace_state.clone()?);
+    let recorded_context = SpanContext::new(trace_id, span_id, flags, false, trace_state);
     let attributes = attributes.unwrap_or(Vec::new(alloc));
-    let context = span_context.clone()?;
-    let recorded = root_data(alloc, context, attributes, scope, name, now, span_limits);
+    let recorded = root_data(
+        alloc,
+        recorded_context,
+        attributes,
+        scope,
+        name,
+        now,
+        span_limits,
+    );
     Ok(Span::recording(span_context, recorded, span_limits))
 }
 

@@ -256,7 +256,7 @@ fn built_in(
     ensures infallible { passed_trace_state (option_map (λ span. span.now) active.entry) ≡ [] → IsOk result }
 {
     let trace_state = match active {
-        Some(span) => copy_of(span.trace_state())?,
+        Some(span) => span.trace_state().clone()?,
         None => TraceState::new(),
     };
     Ok(SamplingResult {
@@ -264,15 +264,4 @@ fn built_in(
         attributes: None,
         trace_state,
     })
-}
-
-// A copy, which takes no memory where the trace state is empty.
-fn copy_of(trace_state: &TraceState) -> Result<TraceState, AllocError>
-    ensures value { IfOk result (λ copy. copy ≡ trace_state.now) }
-    ensures infallible { trace_state.now ≡ [] → IsOk result }
-{
-    if *trace_state == TraceState::new() {
-        return Ok(TraceState::new());
-    }
-    trace_state.clone()
 }

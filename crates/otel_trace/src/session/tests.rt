@@ -1,9 +1,9 @@
 ghost use Rattle.std.specs.Prelude.{None};
 
 use super::*;
-use opentelemetry::Context;
+use opentelemetry::{Context, Moment};
 use opentelemetry_sdk::trace::{Processor, SdkTracerProvider, SimpleSpanProcessor, Span};
-use otel_base::trace::{RandomIdGenerator, Sampler, SpanLimits};
+use otel_base::trace::{IdSource, RandomIdGenerator, Sampler, SpanLimits};
 use otel_batch::trace::{ExporterBox, InMemorySpanExporter, SpanExporter};
 use std::test::Fail;
 use std::time::Duration;
@@ -51,6 +51,10 @@ struct Losing {
 }
 
 impl SpanProcessor for Losing {
+    ghost use Rattle.std.specs.Prelude.{◌≡◌};
+
+    ghost start_gives = { λ p span cx edited q. q ≡ p };
+
     fn on_start(&mut self, _span: &mut Span, _cx: &Context) {}
 
     fn on_end(&mut self, _span: SpanData) -> Result<(), AllocError> {
@@ -69,14 +73,16 @@ impl SpanProcessor for Losing {
 
 impl KeepsBatches for Losing {
     ghost use Rattle.std.specs.Prelude.{[], refl};
+    ghost use Rattle.std.proofs.Common.{ap};
 
     ghost kept = { λ _. [] };
 
     ghost lost = { λ p. p.lost };
 
-    ghost start_appends = { λ _ _ _ _ _ _. ([], refl) };
-
-    ghost end_appends = { λ _ _ _ _ _. ([], refl) };
+    ghost appends = { record {
+      starts = λ p span cx edited q same. (([], refl), ap (λ r. r.lost) same);
+      ends = λ _ _ _ _ _. ([], refl);
+    } };
 
     fn batches(&self) -> &[Vec<SpanData>] {
         &[]
@@ -94,15 +100,22 @@ fn provider_over(alloc: Global, exporter: ExporterBox) -> Result<SdkTracerProvid
     )
 }
 
-fn provider_of<P: SpanProcessor>(alloc: Global, processor: P) -> Result<ProviderOf<P>, AllocError> {
+fn provider_of<P: SpanProcessor>(
+    alloc: Global,
+    processor: P,
+) -> Result<ProviderOf<P, Sampler, IdSource>, AllocError> {
     let mut processors = Vec::new(alloc);
     processors.push(processor)?;
-    Ok(ProviderOf::from_parts(
+    Ok(provider_with(processors))
+}
+
+fn provider_with<P: SpanProcessor>(processors: Vec<P>) -> ProviderOf<P, Sampler, IdSource> {
+    ProviderOf::from_parts(
         processors,
         Sampler::AlwaysOn,
-        RandomIdGenerator::new(0),
+        IdSource::Random(RandomIdGenerator::new(0)),
         SpanLimits::default(),
-    ))
+    )
 }
 
 /// What a session over this provider answers where it is closed at once.
@@ -268,4 +281,92 @@ fn a_session_shows_no_span_from_before_it(rt: HostRuntime) -> Result<(), Fail> {
             Err(error.into())
         }
     }
+}
+
+/// A processor that refuses each span, and fails to shut down.
+#[derive(Drop)]
+struct Failing;
+
+impl SpanProcessor for Failing {
+    fn on_start(&mut self, _span: &mut Span, _cx: &Context) {}
+
+    fn on_end(&mut self, _span: SpanData) -> Result<(), AllocError> {
+        Err(AllocError)
+    }
+
+    fn force_flush(&mut self) -> OTelSdkResult {
+        Ok(())
+    }
+
+    fn shutdown_with_timeout(&mut self, timeout: Duration) -> OTelSdkResult {
+        Err(OTelSdkError::Timeout(timeout))
+    }
+}
+
+/// A provider whose first processor exports into memory, and whose second one fails.
+fn half_failing_provider(alloc: Global) -> Result<SdkTracerProvider, AllocError> {
+    let memory = ExporterBox::Memory(InMemorySpanExporter::new(alloc));
+    let mut processors = Vec::new(alloc);
+    processors.push(Processor::Simple(SimpleSpanProcessor::new(alloc, memory)))?;
+    processors.push(Processor::Custom(Box::new(alloc, Failing)?))?;
+    Ok(provider_with(processors))
+}
+
+#[test]
+fn closing_shows_the_rest_where_the_shutdown_fails(rt: HostRuntime) -> Result<(), Fail> {
+    let mut output = Vec::new(rt.alloc());
+    match Session::new(rt.alloc(), half_failing_provider(rt.alloc())?) {
+        Ok(mut session) => {
+            let fed = session.feed(b"start s a 1\nend s 2\n", &mut output);
+            let before = output.len();
+            let closed = session.close(&mut output);
+            assert_eq!(rt; fed, Err(FeedError::Memory));
+            assert!(rt; matches!(closed, Err(OTelSdkError::InternalFailure(_))));
+            assert!(rt; before < output.len());
+            assert_eq!(rt; &output[before..], SPAN_S);
+            Ok(())
+        }
+        Err((provider, error)) => {
+            let _ = provider.close();
+            Err(error.into())
+        }
+    }
+}
+
+/// The line of a span `a` from 1 to 2 that is the first of seed 0.
+const SPAN_S: &[u8] =
+    b"span 5c0fdf91ec9a7bfc61da6f3dc380d507 53175d61490b23df 0000000000000000 01 1 2 a unset attrs [] 0 events [] 0 links 0 0\n";
+
+/// How many spans each reply shows, where two spans start and end in turn.
+fn shown_by_each_reply(alloc: Global) -> Result<Vec<usize>, AllocError> {
+    let mut commands = two_started_and_one_ended(alloc)?;
+    commands.push(Command::End {
+        span: String::from_str(alloc, "s")?,
+        moment: Moment(3),
+    })?;
+    let mut replies = Vec::new(alloc);
+    let mut counts = Vec::new(alloc);
+    let memory = ExporterBox::Memory(InMemorySpanExporter::new(alloc));
+    match Session::new(alloc, provider_over(alloc, memory)?) {
+        Ok(mut session) => {
+            let run = session.run(commands, &mut replies);
+            let _ = session.close(&mut Vec::new(alloc));
+            run?;
+            for reply in &replies {
+                counts.push(reply.exported.len())?;
+            }
+            Ok(counts)
+        }
+        Err((provider, error)) => {
+            let _ = provider.close();
+            Err(error)
+        }
+    }
+}
+
+#[test]
+fn each_reply_shows_its_own_spans(rt: HostRuntime) -> Result<(), Fail> {
+    let shown = shown_by_each_reply(rt.alloc())?;
+    assert_eq!(rt; shown.as_slice(), [0, 0, 1, 1].as_slice());
+    Ok(())
 }

@@ -13,12 +13,12 @@ returns-clause-ok g c =
     let span_id = c.draw_ids-trace_id.result.1 in
     let old = c.args.provider.now in
     let first : PlainScope → SpanLimits → PlainSpan = λ scope limits.
-        new_span answer.decision (root_start scope (string_bytes c.args.name) c.args.now.0 limits (root_span_context trace_id span_id answer) answer.attributes) in
+    new_span answer.decision (root_start scope (string_bytes c.args.name) c.args.now.0 limits (root_span_context trace_id span_id answer) answer.attributes) in
     let scope_is : c.in_ok-scope.scope ≡ c.args.self.now = search rules in
     let limits_is : c.span_limits-span_limits.result ≡ old.span_limits = c.span_limits-span_limits.ensures in
     let made : c.in_ok-span.span ≡ first c.args.self.now old.span_limits =
-    c.in_ok-span.ensures ∙ ap (λ (scope : PlainScope). first scope c.span_limits-span_limits.result) scope_is ∙ ap (λ (limits : SpanLimits). first c.args.self.now limits) limits_is in
-    let asked = subst (λ (name : List ℕ). g.S.ShouldSample.gives c.sampler.result.now (root_question trace_id name) answer) c.as_str.ensures.value c.in_ok-answer.ensures in
+    c.in_ok-span.ensures.span ∙ ap (λ (scope : PlainScope). first scope c.span_limits-span_limits.result) scope_is ∙ ap (λ (limits : SpanLimits). first c.args.self.now limits) limits_is in
+    let asked = subst (λ (name : List ℕ). g.S.ShouldSample.gives c.sampler.result.now (root_question trace_id name) answer) c.as_str.ensures.value c.in_ok-answer.ensures.gives in
     starts_open g.P.SpanProcessor g.S.ShouldSample g.G.IdGenerator old c.draw_ids-trace_id.new.self c.tell_each.new.provider c.args.self.now (string_bytes c.args.name) c.args.now.0 trace_id span_id answer c.in_ok-span.span c.tell_each.new.span
     (search rules) c.draw_ids-trace_id.ensures.draws c.draw_ids-trace_id.ensures.rest
     (subst (λ (s : g.row.S.Denot). g.S.ShouldSample.gives s (root_question trace_id (string_bytes c.args.name)) answer) c.sampler.ensures asked)
