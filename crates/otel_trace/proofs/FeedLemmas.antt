@@ -4,7 +4,8 @@ use Rattle.std.proofs.lemmas.List.Concat.{flat_map-append}
 use Rattle.otel_base.specs.declared.error.OTelSdkError.{OTelSdkError}
 use Rattle.otel_batch.specs.PlainSpanData.{PlainSpanData}
 use Rattle.opentelemetry_sdk.specs.ProcessorTelling.{ProcessorTelling}
-use Rattle.otel_trace.specs.OpenSpans.{EndGives}
+use Rattle.opentelemetry_sdk.specs.declared.trace.span_processor.SpanProcessor.{Ghosts}
+use Rattle.otel_trace.specs.declared.exported.KeepsBatches as kept
 use Rattle.otel_trace.specs.SessionDelivery.{SessionState, Fed, Closes}
 use Rattle.otel_trace.specs.declared.session.FeedError.{FeedError}
 use Rattle.otel_trace.specs.AnswerText.{reply_text, replies_text}
@@ -22,13 +23,13 @@ none_refused_more [] reply h k = (k, tt)
 none_refused_more (first ∷ replies) reply h k = (h.0, none_refused_more replies reply h.1 k)
 
 -- a text that was fed to a new output
-pub fed_anew : {P : Type 0} (told : P → ProcessorTelling) (gives : EndGives P) (kept : P → List (List PlainSpanData)) (lost : P → ℕ) (old new : SessionState P) (bytes before now : List ℕ) (answer said : Result (Unit {0}) FeedError)
-    → answer ≡ said → before ≡ [] → Fed told gives kept lost old bytes before answer now new → Fed told gives kept lost old bytes [] said now new
-fed_anew told gives kept lost old new bytes before now answer said e b h =
-    subst (λ (l : List ℕ). Fed told gives kept lost old bytes l said now new) b (subst (λ (r : Result (Unit {0}) FeedError). Fed told gives kept lost old bytes before r now new) e h)
+pub fed_anew : {P : Type 0} (calls : Ghosts P) (batches : kept.Ghosts P) (old new : SessionState P) (bytes before now : List ℕ) (answer said : Result (Unit {0}) FeedError)
+    → answer ≡ said → before ≡ [] → Fed calls batches old bytes before answer now new → Fed calls batches old bytes [] said now new
+fed_anew calls batches old new bytes before now answer said e b h =
+    subst (λ (l : List ℕ). Fed calls batches old bytes l said now new) b (subst (λ (r : Result (Unit {0}) FeedError). Fed calls batches old bytes before r now new) e h)
 
 -- a session that closed well
-pub closed_well : {P : Type 0} (told : P → ProcessorTelling) (shuts : P → ℕ → Result (Unit {0}) OTelSdkError → P → Type 0) (kept : P → List (List PlainSpanData)) (session : SessionState P) (before now : List ℕ) (answer : Result (Unit {0}) OTelSdkError)
-    → not (is_ok answer) ≡ false → Closes told shuts kept session before answer now → Closes told shuts kept session before (Ok tt) now
-closed_well told shuts kept session before now (Ok _) e h = h
-closed_well told shuts kept session before now (Err error) e h = cc
+pub closed_well : {P : Type 0} (calls : Ghosts P) (batches : kept.Ghosts P) (session : SessionState P) (before now : List ℕ) (answer : Result (Unit {0}) OTelSdkError)
+    → not (is_ok answer) ≡ false → Closes calls batches session before answer now → Closes calls batches session before (Ok tt) now
+closed_well calls batches session before now (Ok _) e h = h
+closed_well calls batches session before now (Err error) e h = cc

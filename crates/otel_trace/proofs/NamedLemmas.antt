@@ -13,6 +13,7 @@ use Rattle.std.proofs.lemmas.Map.Text.{btree_map_updates_text, is_eq-slice_cmp}
 use Rattle.opentelemetry.specs.Plain.{PlainScope}
 use Rattle.opentelemetry_sdk.specs.Provider.{ProviderState}
 use Rattle.opentelemetry_sdk.specs.SpanHistory.{PlainSpan}
+use Rattle.opentelemetry_sdk.specs.declared.trace.span_processor.SpanProcessor.{Ghosts}
 use Rattle.otel_trace.specs.OpenSpans.{NamedSpans, named, by_name, is_name, PutsSpan, SameSpans, StartsNamed}
 
 named-lookup : {Y : Type 0} (entries : List (String Y × PlainSpan)) (q : List ℕ) → named (by_name entries) q ≡ lookup (is_at (λ k. slice_cmp nat_cmp q (string_bytes k))) entries
@@ -49,10 +50,10 @@ pub same_entries : {Y : Type 0} (old new : List (String Y × PlainSpan)) → new
 same_entries {Y} old new h = λ q. ap (λ (entries : List (String Y × PlainSpan)). named (by_name entries) q) h
 
 -- a name that is taken
-pub starts_taken : {P : Type 0} (gives : P → PlainSpan → PlainSpan → P → Type 0) (old : NamedSpans) (name : List ℕ) (p : ProviderState P) (scope : PlainScope) (called : List ℕ) (now : ℕ) (found : Option PlainSpan)
-    → is_some found ≡ true → StartsNamed gives old name p scope called now found None old p
-starts_taken gives old name p scope called now None h = cc
-starts_taken gives old name p scope called now (Some span) h = (refl, λ q. refl, refl)
+pub starts_taken : {P : Type 0} (calls : Ghosts P) (old : NamedSpans) (name : List ℕ) (p : ProviderState P) (scope : PlainScope) (called : List ℕ) (now : ℕ) (found : Option PlainSpan)
+    → is_some found ≡ true → StartsNamed calls old name p scope called now found None old p
+starts_taken calls old name p scope called now None h = cc
+starts_taken calls old name p scope called now (Some span) h = (refl, λ q. refl, refl)
 
 pub none_from_test : {X : Type 0} (o : Option X) (b : Bool) → b ≡ is_some o → b ≡ false → o ≡ None
 none_from_test None b e h = refl

@@ -5,12 +5,12 @@ use Rattle.std.proofs.lemmas.List.Concat.{flat_map-append}
 use Rattle.otel_batch.specs.PlainSpanData.{PlainSpanData}
 use Rattle.opentelemetry.specs.Plain.{PlainScope}
 use Rattle.opentelemetry_sdk.specs.Each.{PassedThrough, Each}
-use Rattle.opentelemetry_sdk.specs.ProcessorTelling.{ProcessorTelling}
-use Rattle.opentelemetry_sdk.specs.Provider.{ProviderState, TakesAndTells}
+use Rattle.opentelemetry_sdk.specs.declared.trace.span_processor.SpanProcessor.{Ghosts}
+use Rattle.opentelemetry_sdk.specs.Provider.{ProviderState, TakesAndTells, root_cx}
 use Rattle.opentelemetry_sdk.specs.SpanHistory.{PlainSpan}
 use Rattle.std.specs.declared.alloc.AllocError.{AllocError}
 use Rattle.otel_trace.specs.KeptBatches.{Appends}
-use Rattle.otel_trace.specs.OpenSpans.{EndGives, MayStart, MayDeliver}
+use Rattle.otel_trace.specs.OpenSpans.{MayStart, MayDeliver}
 use Rattle.otel_trace.specs.PlainReply.{PlainReply}
 use Rattle.otel_trace.specs.SessionDelivery.{SessionState, Shows, NoneLeft, session_batches, batches_of_first, exported_in, spans_in, unshown}
 
@@ -97,27 +97,27 @@ start_keeps : {P : Type 0} (kept : P → Batches) (gives : P → PlainSpan → P
 start_keeps {P} kept gives law true A C old new B s t h = appends_none _ _ (ap (λ (r : ProviderState P). batches_of_first kept r.processors) h.1)
 start_keeps kept gives law false A C old new B s t h = started_keeps kept gives law s t old.processors new.processors h.1
 
-pub may_start_keeps : {P : Type 0} (kept : P → Batches) (gives : P → PlainSpan → PlainSpan → P → Type 0)
-    → ((p : P) (s t : PlainSpan) (q : P) → gives p s t q → Appends (kept p) (kept q))
+pub may_start_keeps : {P : Type 0} (kept : P → Batches) (calls : Ghosts P)
+    → ((p : P) (s t : PlainSpan) (q : P) → calls.start_gives p s root_cx t q → Appends (kept p) (kept q))
     → (old new : ProviderState P) (scope : PlainScope) (called : List ℕ) (now : ℕ)
-    → MayStart gives old scope called now new → Appends (batches_of_first kept old.processors) (batches_of_first kept new.processors)
-may_start_keeps {P} kept gives law old new scope called now (inl e) = appends_none _ _ (ap (λ (r : ProviderState P). batches_of_first kept r.processors) e)
-may_start_keeps kept gives law old new scope called now (inr h) = start_keeps kept gives law old.is_shut _ _ old new _ _ _ h.1
+    → MayStart calls old scope called now new → Appends (batches_of_first kept old.processors) (batches_of_first kept new.processors)
+may_start_keeps {P} kept calls law old new scope called now (inl e) = appends_none _ _ (ap (λ (r : ProviderState P). batches_of_first kept r.processors) e)
+may_start_keeps kept calls law old new scope called now (inr h) = start_keeps kept (λ p s t q. calls.start_gives p s root_cx t q) law old.is_shut _ _ old new _ _ _ h.1
 
 -- the same of an end
-asked_keeps : {P : Type 0} (told : P → ProcessorTelling) (kept : P → Batches) (gives : EndGives P)
-    → ((p : P) (span : PlainSpanData) (answer : Result (Unit {0}) AllocError) (q : P) → gives p span answer q → Appends (kept p) (kept q))
-    → (span : PlainSpanData) (ps qs : List P) (rs : List (Result (Unit {0}) AllocError)) → Each (TakesAndTells told gives span) ps rs qs
+asked_keeps : {P : Type 0} (calls : Ghosts P) (kept : P → Batches)
+    → ((p : P) (span : PlainSpanData) (answer : Result (Unit {0}) AllocError) (q : P) → calls.end_gives p span answer q → Appends (kept p) (kept q))
+    → (span : PlainSpanData) (ps qs : List P) (rs : List (Result (Unit {0}) AllocError)) → Each (TakesAndTells calls.told calls.end_gives span) ps rs qs
     → Appends (batches_of_first kept ps) (batches_of_first kept qs)
-asked_keeps told kept gives law span [] [] [] h = ([], refl)
-asked_keeps told kept gives law span [] (q ∷ qs) [] h = absurd h
-asked_keeps told kept gives law span [] qs (r ∷ rs) h = absurd h
-asked_keeps told kept gives law span (p ∷ ps) qs [] h = absurd h
-asked_keeps told kept gives law span (p ∷ ps) [] (r ∷ rs) h = absurd h
-asked_keeps told kept gives law span (p ∷ ps) (q ∷ qs) (r ∷ rs) h = law p span r q h.0.0
+asked_keeps calls kept law span [] [] [] h = ([], refl)
+asked_keeps calls kept law span [] (q ∷ qs) [] h = absurd h
+asked_keeps calls kept law span [] qs (r ∷ rs) h = absurd h
+asked_keeps calls kept law span (p ∷ ps) qs [] h = absurd h
+asked_keeps calls kept law span (p ∷ ps) [] (r ∷ rs) h = absurd h
+asked_keeps calls kept law span (p ∷ ps) (q ∷ qs) (r ∷ rs) h = law p span r q h.0.0
 
-pub may_deliver_keeps : {P : Type 0} (told : P → ProcessorTelling) (kept : P → Batches) (gives : EndGives P)
-    → ((p : P) (span : PlainSpanData) (answer : Result (Unit {0}) AllocError) (q : P) → gives p span answer q → Appends (kept p) (kept q))
-    → (ps qs : List P) → MayDeliver told gives ps qs → Appends (batches_of_first kept ps) (batches_of_first kept qs)
-may_deliver_keeps told kept gives law ps qs (inl e) = appends_none _ _ (ap (batches_of_first kept) e)
-may_deliver_keeps told kept gives law ps qs (inr h) = asked_keeps told kept gives law h.0 ps qs h.2.0 h.2.2
+pub may_deliver_keeps : {P : Type 0} (calls : Ghosts P) (kept : P → Batches)
+    → ((p : P) (span : PlainSpanData) (answer : Result (Unit {0}) AllocError) (q : P) → calls.end_gives p span answer q → Appends (kept p) (kept q))
+    → (ps qs : List P) → MayDeliver calls ps qs → Appends (batches_of_first kept ps) (batches_of_first kept qs)
+may_deliver_keeps calls kept law ps qs (inl e) = appends_none _ _ (ap (batches_of_first kept) e)
+may_deliver_keeps calls kept law ps qs (inr h) = asked_keeps calls kept law h.0 ps qs h.2.0 h.2.2

@@ -8,7 +8,8 @@ use Rattle.opentelemetry.specs.Plain.{PlainScope}
 use Rattle.opentelemetry_sdk.specs.SpanHistory.{PlainSpan, Edit, edited, ended}
 use Rattle.opentelemetry_sdk.specs.ProcessorTelling.{ProcessorTelling, EachFollows}
 use Rattle.opentelemetry_sdk.specs.Each.{AskedAll}
-use Rattle.opentelemetry_sdk.specs.Provider.{ProviderState, Starts, TakesAndTells, DeliversIf, deliveries}
+use Rattle.opentelemetry_sdk.specs.declared.trace.span_processor.SpanProcessor.{Ghosts}
+use Rattle.opentelemetry_sdk.specs.Provider.{ProviderState, Starts, root_cx, TakesAndTells, DeliversIf, deliveries}
 use Rattle.otel_trace.specs.declared.reply.Answer.{Answer}
 use Rattle.otel_trace.specs.declared.reply.Answer.TheVariants as answers
 use Rattle.otel_trace.specs.declared.reply.SpanIdentity.{SpanIdentity}
@@ -44,14 +45,14 @@ abbrev pub identity_of : PlainSpan → SpanIdentity
 identity_of span = record { trace_id = span.span_context.trace_id; span_id = span.span_context.span_id; trace_flags = span.span_context.trace_flags }
 
 -- a start under a name: nothing where the name is taken; else the new span stands there
-abbrev pub StartsNamed : {P : Type 0} → (P → PlainSpan → PlainSpan → P → Type 0) → NamedSpans → List ℕ → ProviderState P → PlainScope → List ℕ → ℕ → Option PlainSpan → Option (SpanIdentity × Bool) → NamedSpans → ProviderState P → Type 0
-StartsNamed gives old name p scope called now (Some _) answer new q = (answer ≡ None) × SameSpans old new × (q ≡ p)
-StartsNamed gives old name p scope called now None answer new q = (span : PlainSpan) × Starts gives p scope called now span q
+abbrev pub StartsNamed : {P : Type 0} → Ghosts P → NamedSpans → List ℕ → ProviderState P → PlainScope → List ℕ → ℕ → Option PlainSpan → Option (SpanIdentity × Bool) → NamedSpans → ProviderState P → Type 0
+StartsNamed calls old name p scope called now (Some _) answer new q = (answer ≡ None) × SameSpans old new × (q ≡ p)
+StartsNamed calls old name p scope called now None answer new q = (span : PlainSpan) × Starts (λ p s t q. calls.start_gives p s root_cx t q) p scope called now span q
     × (answer ≡ Some (identity_of span, is_some span.recorded)) × PutsSpan old name span new
 
 -- what a start may do to a provider, also where its span found no memory: nothing, or what the start of a span does
-abbrev pub MayStart : {P : Type 0} → (P → PlainSpan → PlainSpan → P → Type 0) → ProviderState P → PlainScope → List ℕ → ℕ → ProviderState P → Type 0
-MayStart gives old scope called now new = (new ≡ old) ⊎ ((span : PlainSpan) × Starts gives old scope called now span new)
+abbrev pub MayStart : {P : Type 0} → Ghosts P → ProviderState P → PlainScope → List ℕ → ℕ → ProviderState P → Type 0
+MayStart calls old scope called now new = (new ≡ old) ⊎ ((span : PlainSpan) × Starts (λ p s t q. calls.start_gives p s root_cx t q) old scope called now span new)
 
 -- an edit of the span of a name: none where there is no such span; else whether it is recording, and the edit
 abbrev pub EditsNamed : NamedSpans → List ℕ → Edit → Option PlainSpan → Option Bool → NamedSpans → Type 0
@@ -63,20 +64,16 @@ abbrev pub refusals : Option PlainSpanData → ℕ → Option ℕ
 refusals None n = None
 refusals (Some _) n = Some n
 
--- what an end of a span does to a processor, by its answer
-abbrev pub EndGives : Type 0 → Type 1
-EndGives P = P → PlainSpanData → Result (Unit {0}) AllocError → P → Type 0
-
 -- the end of the span of a name: none where there is no such span; else what its end delivers, and to whom
-abbrev pub EndsNamed : {P : Type 0} → (P → ProcessorTelling) → EndGives P → NamedSpans → List ℕ → ProviderState P → ℕ → Option PlainSpan → Option (Option ℕ) → NamedSpans → ProviderState P → Type 0
-EndsNamed told gives old name p moment None answer new q = (answer ≡ None) × SameSpans old new × (q ≡ p)
-EndsNamed told gives old name p moment (Some span) answer new q = (n : ℕ) × (answer ≡ Some (refusals span.recorded n)) × PutsSpan old name (ended span) new
-    × EachFollows told (deliveries p.is_shut moment span.recorded n) p.processors q.processors × (q ≡ record p { processors = q.processors })
-    × DeliversIf told gives p.is_shut moment span.recorded p.processors q.processors n
+abbrev pub EndsNamed : {P : Type 0} → Ghosts P → NamedSpans → List ℕ → ProviderState P → ℕ → Option PlainSpan → Option (Option ℕ) → NamedSpans → ProviderState P → Type 0
+EndsNamed calls old name p moment None answer new q = (answer ≡ None) × SameSpans old new × (q ≡ p)
+EndsNamed calls old name p moment (Some span) answer new q = (n : ℕ) × (answer ≡ Some (refusals span.recorded n)) × PutsSpan old name (ended span) new
+    × EachFollows calls.told (deliveries p.is_shut moment span.recorded n) p.processors q.processors × (q ≡ record p { processors = q.processors })
+    × DeliversIf calls.told calls.end_gives p.is_shut moment span.recorded p.processors q.processors n
 
 -- what an end may do to processors: nothing, or each is given one span
-abbrev pub MayDeliver : {P : Type 0} → (P → ProcessorTelling) → EndGives P → List P → List P → Type 0
-MayDeliver told gives ps qs = (qs ≡ ps) ⊎ ((span : PlainSpanData) × (n : ℕ) × AskedAll (TakesAndTells told gives span) ps qs n)
+abbrev pub MayDeliver : {P : Type 0} → Ghosts P → List P → List P → Type 0
+MayDeliver calls ps qs = (qs ≡ ps) ⊎ ((span : PlainSpanData) × (n : ℕ) × AskedAll (TakesAndTells calls.told calls.end_gives span) ps qs n)
 
 -- the answer to an attribute
 abbrev pub attr_answer : Option Bool → Answer

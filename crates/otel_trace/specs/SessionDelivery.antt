@@ -11,11 +11,13 @@ use Rattle.otel_batch.specs.PlainSpanData.{PlainSpanData}
 use Rattle.opentelemetry_sdk.specs.SpanHistory.{SpanHistory, begun, over, Edit, set_attribute, data_of, span_of}
 use Rattle.opentelemetry_sdk.specs.ProcessorTelling.{ProcessorTelling, Delivery, EachFollows}
 use Rattle.opentelemetry_sdk.specs.Each.{AskedAll}
+use Rattle.opentelemetry_sdk.specs.declared.trace.span_processor.SpanProcessor.{Ghosts}
+use Rattle.otel_trace.specs.declared.exported.KeepsBatches as kept
 use Rattle.opentelemetry.specs.PlainContexts.{empty_span_context}
 use Rattle.opentelemetry_sdk.specs.Provider.{ProviderState, ShutsDown, TakesAndTells, end_delivers, root_span, root_span_context}
 use Rattle.otel_trace.specs.Commands.{PlainCommand, start, attr, end, plain_command, plain_commands}
 use Rattle.otel_trace.specs.KeptBatches.{Appends}
-use Rattle.otel_trace.specs.OpenSpans.{NamedSpans, EndGives, SameSpans, named, is_name}
+use Rattle.otel_trace.specs.OpenSpans.{NamedSpans, SameSpans, named, is_name}
 use Rattle.otel_trace.specs.AnswerText.{replies_text}
 use Rattle.otel_trace.specs.Lines.{TextSpells}
 use Rattle.otel_trace.specs.PlainReply.{PlainReply, NoneRefused}
@@ -113,27 +115,27 @@ answers_of replies = map (λ reply. reply.answer) replies
 
 -- each delivery was given to each processor in its turn, as many of which refused it as it counts; whatever else they were
 -- asked, no telling changed
-abbrev pub Asked : {P : Type 0} → (P → ProcessorTelling) → EndGives P → List Delivery → List P → List P → Type 0
-Asked told gives [] ps qs = map told qs ≡ map told ps
-Asked {P} told gives (delivery ∷ ds) ps qs = (before : List P) × (after : List P) × (map told before ≡ map told ps)
-    × AskedAll (TakesAndTells told gives delivery.span) before after delivery.refused × Asked told gives ds after qs
+abbrev pub Asked : {P : Type 0} → Ghosts P → List Delivery → List P → List P → Type 0
+Asked calls [] ps qs = map calls.told qs ≡ map calls.told ps
+Asked {P} calls (delivery ∷ ds) ps qs = (before : List P) × (after : List P) × (map calls.told before ≡ map calls.told ps)
+    × AskedAll (TakesAndTells calls.told calls.end_gives delivery.span) before after delivery.refused × Asked calls ds after qs
 
 -- one command was carried out: its answer, the spans and what the processors were given are what it demands of the
 -- histories that the spans had
-abbrev pub Steps : {P : Type 0} → (P → ProcessorTelling) → EndGives P → PlainScope → ProviderState P → NamedSpans → PlainCommand → Answer → ProviderState P → NamedSpans → Type 0
-Steps {P} told gives scope p old command answer q new = (frame_with q scope ≡ frame_with p scope)
+abbrev pub Steps : {P : Type 0} → Ghosts P → PlainScope → ProviderState P → NamedSpans → PlainCommand → Answer → ProviderState P → NamedSpans → Type 0
+Steps {P} calls scope p old command answer q new = (frame_with q scope ≡ frame_with p scope)
     × ((histories : Histories) → Give histories old → (ds : List Delivery) × (after : Histories)
     × Demands (frame_with p scope) histories command answer ds after × Give after new
-    × EachFollows told ds p.processors q.processors × Asked told gives ds p.processors q.processors)
+    × EachFollows calls.told ds p.processors q.processors × Asked calls ds p.processors q.processors)
 
 -- nothing was carried out: each name has the span that it had, and each processor tells what it told
-abbrev pub Rests : {P : Type 0} → (P → ProcessorTelling) → PlainScope → ProviderState P → NamedSpans → ProviderState P → NamedSpans → Type 0
-Rests {P} told scope p old q new = (frame_with q scope ≡ frame_with p scope) × SameSpans old new
-    × (map told q.processors ≡ map told p.processors)
+abbrev pub Rests : {P : Type 0} → Ghosts P → PlainScope → ProviderState P → NamedSpans → ProviderState P → NamedSpans → Type 0
+Rests {P} calls scope p old q new = (frame_with q scope ≡ frame_with p scope) × SameSpans old new
+    × (map calls.told q.processors ≡ map calls.told p.processors)
 
 -- a command was carried out or not, and has no reply
-abbrev pub MayStep : {P : Type 0} → (P → ProcessorTelling) → EndGives P → PlainScope → ProviderState P → NamedSpans → PlainCommand → ProviderState P → NamedSpans → Type 0
-MayStep told gives scope p old command q new = Rests told scope p old q new ⊎ ((answer : Answer) × Steps told gives scope p old command answer q new)
+abbrev pub MayStep : {P : Type 0} → Ghosts P → PlainScope → ProviderState P → NamedSpans → PlainCommand → ProviderState P → NamedSpans → Type 0
+MayStep calls scope p old command q new = Rests calls scope p old q new ⊎ ((answer : Answer) × Steps calls scope p old command answer q new)
 
 -- the batches that the first of these processors keeps
 abbrev pub batches_of_first : {P : Type 0} → (P → List (List PlainSpanData)) → List P → List (List PlainSpanData)
@@ -174,59 +176,70 @@ NoneLeft kept replies new = (replies ≡ []) ⊎ (new.shown ≡ length (session_
 
 -- commands were carried out: the replies' answers, the spans and the tellings of the processors are what they demand of
 -- the histories that the spans had, and the same deliveries reach each processor
-abbrev pub CarriesOut : {P : Type 0} → (P → ProcessorTelling) → EndGives P → SessionState P → List Command → List PlainReply → SessionState P → Type 0
-CarriesOut {P} told gives old commands replies new = (frame_of new ≡ frame_of old)
+abbrev pub CarriesOut : {P : Type 0} → Ghosts P → SessionState P → List Command → List PlainReply → SessionState P → Type 0
+CarriesOut {P} calls old commands replies new = (frame_of new ≡ frame_of old)
     × ((histories : Histories) → Give histories old.spans → (ds : List Delivery) × (after : Histories)
     × DemandAll (frame_of old) histories (plain_commands commands) (answers_of replies) ds after × Give after new.spans
-    × EachFollows told ds old.provider.processors new.provider.processors × Asked told gives ds old.provider.processors new.provider.processors)
+    × EachFollows calls.told ds old.provider.processors new.provider.processors × Asked calls ds old.provider.processors new.provider.processors)
 
 -- no batch was lost meanwhile
 abbrev pub LosesNone : {P : Type 0} → (P → ℕ) → SessionState P → SessionState P → Type 0
 LosesNone lost old new = session_losses lost new ≡ session_losses lost old
 
 -- all commands were carried out, each with its reply, and the replies show all spans that were exported meanwhile
-abbrev pub RunsAll : {P : Type 0} → (P → ProcessorTelling) → EndGives P → (P → List (List PlainSpanData)) → (P → ℕ) → SessionState P → List Command → List PlainReply → List PlainReply → SessionState P → Type 0
-RunsAll told gives kept lost old commands before now new = (replies : List PlainReply) × (now ≡ before ++ replies)
-    × CarriesOut told gives old commands replies new × Shows kept old replies new × NoneLeft kept replies new × LosesNone lost old new
+pub record RunsAll {P : Type 0} (calls : Ghosts P) (batches : kept.Ghosts P) (old : SessionState P) (commands : List Command)
+    (before now : List PlainReply) (new : SessionState P) : Type 0 where
+  pub replies : List PlainReply
+  pub appended : now ≡ before ++ replies
+  pub carried : CarriesOut calls old commands replies new
+  pub shown : Shows batches.kept old replies new
+  pub none_left : NoneLeft batches.kept replies new
+  pub none_lost : LosesNone batches.lost old new
 
 -- a command found no memory: it was carried out or not, it has no reply, and what it exported is left to show
-abbrev pub Refuses : {P : Type 0} → (P → ProcessorTelling) → EndGives P → (P → List (List PlainSpanData)) → SessionState P → Command → SessionState P → Type 0
-Refuses told gives kept old command new = MayStep told gives old.scope old.provider old.spans (plain_command command) new.provider new.spans
-    × (new ≡ record old { provider = new.provider; spans = new.spans }) × Appends (session_batches kept old) (session_batches kept new)
+abbrev pub Refuses : {P : Type 0} → Ghosts P → kept.Ghosts P → SessionState P → Command → SessionState P → Type 0
+Refuses calls batches old command new = MayStep calls old.scope old.provider old.spans (plain_command command) new.provider new.spans
+    × (new ≡ record old { provider = new.provider; spans = new.spans }) × Appends (session_batches batches.kept old) (session_batches batches.kept new)
 
 -- a beginning of the commands was carried out, each with its reply, and the one behind it was refused
-abbrev pub RunsBeginning : {P : Type 0} → (P → ProcessorTelling) → EndGives P → (P → List (List PlainSpanData)) → (P → ℕ) → SessionState P → List Command → List PlainReply → List PlainReply → SessionState P → Type 0
-RunsBeginning {P} told gives kept lost old commands before now new = (done : List Command) × (command : Command) × (left : List Command) × (middle : SessionState P)
-    × (commands ≡ done ++ command ∷ left) × RunsAll told gives kept lost old done before now middle × Refuses told gives kept middle command new
+pub record RunsBeginning {P : Type 0} (calls : Ghosts P) (batches : kept.Ghosts P) (old : SessionState P) (commands : List Command)
+    (before now : List PlainReply) (new : SessionState P) : Type 0 where
+  pub done : List Command
+  pub refused : Command
+  pub left : List Command
+  pub middle : SessionState P
+  pub parts : commands ≡ done ++ refused ∷ left
+  pub ran : RunsAll calls batches old done before now middle
+  pub refuses : Refuses calls batches middle refused new
 
 -- the same where the replies were written: none counts a refusal
-abbrev pub WritesAll : {P : Type 0} → (P → ProcessorTelling) → EndGives P → (P → List (List PlainSpanData)) → (P → ℕ) → SessionState P → List Command → List ℕ → List ℕ → SessionState P → Type 0
-WritesAll told gives kept lost old commands before now new = (replies : List PlainReply) × (now ≡ before ++ replies_text replies) × NoneRefused replies
-    × RunsAll told gives kept lost old commands [] replies new
+abbrev pub WritesAll : {P : Type 0} → Ghosts P → kept.Ghosts P → SessionState P → List Command → List ℕ → List ℕ → SessionState P → Type 0
+WritesAll calls batches old commands before now new = (replies : List PlainReply) × (now ≡ before ++ replies_text replies) × NoneRefused replies
+    × RunsAll calls batches old commands [] replies new
 
-abbrev pub WritesBeginning : {P : Type 0} → (P → ProcessorTelling) → EndGives P → (P → List (List PlainSpanData)) → (P → ℕ) → SessionState P → List Command → List ℕ → List ℕ → SessionState P → Type 0
-WritesBeginning told gives kept lost old commands before now new = (replies : List PlainReply) × (now ≡ before ++ replies_text replies) × NoneRefused replies
-    × RunsBeginning told gives kept lost old commands [] replies new
+abbrev pub WritesBeginning : {P : Type 0} → Ghosts P → kept.Ghosts P → SessionState P → List Command → List ℕ → List ℕ → SessionState P → Type 0
+WritesBeginning calls batches old commands before now new = (replies : List PlainReply) × (now ≡ before ++ replies_text replies) × NoneRefused replies
+    × RunsBeginning calls batches old commands [] replies new
 
 -- a text was fed whole: its lines up to the first bad one spell the commands that were carried out
-abbrev pub FedUpTo : {P : Type 0} → (P → ProcessorTelling) → EndGives P → (P → List (List PlainSpanData)) → (P → ℕ) → SessionState P → List ℕ → Option ℕ → List ℕ → List ℕ → SessionState P → Type 0
-FedUpTo told gives kept lost old bytes bad_line before now new = (commands : List Command) × TextSpells bytes (plain_commands commands) bad_line
-    × WritesAll told gives kept lost old commands before now new
+abbrev pub FedUpTo : {P : Type 0} → Ghosts P → kept.Ghosts P → SessionState P → List ℕ → Option ℕ → List ℕ → List ℕ → SessionState P → Type 0
+FedUpTo calls batches old bytes bad_line before now new = (commands : List Command) × TextSpells bytes (plain_commands commands) bad_line
+    × WritesAll calls batches old commands before now new
 
 -- memory ran out: nothing was carried out, or a beginning of the commands that the text spells
-abbrev pub FedBeginning : {P : Type 0} → (P → ProcessorTelling) → EndGives P → (P → List (List PlainSpanData)) → (P → ℕ) → SessionState P → List ℕ → List ℕ → List ℕ → SessionState P → Type 0
-FedBeginning told gives kept lost old bytes before now new = ((now ≡ before) × (new ≡ old))
-    ⊎ ((commands : List Command) × (bad_line : Option ℕ) × TextSpells bytes (plain_commands commands) bad_line × WritesBeginning told gives kept lost old commands before now new)
+abbrev pub FedBeginning : {P : Type 0} → Ghosts P → kept.Ghosts P → SessionState P → List ℕ → List ℕ → List ℕ → SessionState P → Type 0
+FedBeginning calls batches old bytes before now new = ((now ≡ before) × (new ≡ old))
+    ⊎ ((commands : List Command) × (bad_line : Option ℕ) × TextSpells bytes (plain_commands commands) bad_line × WritesBeginning calls batches old commands before now new)
 
 -- what feeding a text does, by its answer
-abbrev pub Fed : {P T : Type 0} → (P → ProcessorTelling) → EndGives P → (P → List (List PlainSpanData)) → (P → ℕ) → SessionState P → List ℕ → List ℕ → Result T FeedError → List ℕ → SessionState P → Type 0
-Fed told gives kept lost old bytes before (Ok _) now new = FedUpTo told gives kept lost old bytes None before now new
-Fed told gives kept lost old bytes before (Err (feeds.Line n)) now new = FedUpTo told gives kept lost old bytes (Some n) before now new
-Fed told gives kept lost old bytes before (Err feeds.Memory) now new = FedBeginning told gives kept lost old bytes before now new
+abbrev pub Fed : {P T : Type 0} → Ghosts P → kept.Ghosts P → SessionState P → List ℕ → List ℕ → Result T FeedError → List ℕ → SessionState P → Type 0
+Fed calls batches old bytes before (Ok _) now new = FedUpTo calls batches old bytes None before now new
+Fed calls batches old bytes before (Err (feeds.Line n)) now new = FedUpTo calls batches old bytes (Some n) before now new
+Fed calls batches old bytes before (Err feeds.Memory) now new = FedBeginning calls batches old bytes before now new
 
 -- the shutdown of a session's provider with a timeout: where it was shut nothing happens
-abbrev pub ShutsIfOpen : {P : Type 0} → (P → ProcessorTelling) → (P → ℕ → Result (Unit {0}) OTelSdkError → P → Type 0) → ProviderState P → ℕ → Result (Unit {0}) OTelSdkError → ProviderState P → Type 0
-ShutsIfOpen told gives old timeout answer new = MatchBool old.is_shut ((answer ≡ Ok tt) × (new ≡ old)) (ShutsDown told gives old timeout answer new)
+abbrev pub ShutsIfOpen : {P : Type 0} → Ghosts P → ProviderState P → ℕ → Result (Unit {0}) OTelSdkError → ProviderState P → Type 0
+ShutsIfOpen calls old timeout answer new = MatchBool old.is_shut ((answer ≡ Ok tt) × (new ≡ old)) (ShutsDown calls.told calls.shutdown_gives old timeout answer new)
 
 -- want of memory, unless there is an error already
 abbrev pub or_no_memory : Result (Unit {0}) OTelSdkError → Result (Unit {0}) OTelSdkError
@@ -235,12 +248,12 @@ or_no_memory (Err error) = Err error
 
 -- closing: the provider is shut down with 5 seconds, and the lines of the spans that no reply has shown are appended, those
 -- exported by the shutdown among them; where there is no memory for them, none is
-abbrev pub Closes : {P : Type 0} → (P → ProcessorTelling) → (P → ℕ → Result (Unit {0}) OTelSdkError → P → Type 0) → (P → List (List PlainSpanData)) → SessionState P → List ℕ → Result (Unit {0}) OTelSdkError → List ℕ → Type 0
-Closes {P} told gives kept session before answer now = (provider : ProviderState P) × (shutdown : Result (Unit {0}) OTelSdkError)
-    × ShutsIfOpen told gives session.provider 5_000_000_000 shutdown provider
-    × (((answer ≡ shutdown) × (now ≡ before ++ span_lines (unshown kept (record session { provider = provider })))) ⊎ ((answer ≡ or_no_memory shutdown) × (now ≡ before)))
+abbrev pub Closes : {P : Type 0} → Ghosts P → kept.Ghosts P → SessionState P → List ℕ → Result (Unit {0}) OTelSdkError → List ℕ → Type 0
+Closes {P} calls batches session before answer now = (provider : ProviderState P) × (shutdown : Result (Unit {0}) OTelSdkError)
+    × ShutsIfOpen calls session.provider 5_000_000_000 shutdown provider
+    × (((answer ≡ shutdown) × (now ≡ before ++ span_lines (unshown batches.kept (record session { provider = provider })))) ⊎ ((answer ≡ or_no_memory shutdown) × (now ≡ before)))
 
 -- a text was fed to a session, whole or up to its first bad line, and the session closed well
-abbrev pub Finishes : {P : Type 0} → (P → ProcessorTelling) → EndGives P → (P → ℕ → Result (Unit {0}) OTelSdkError → P → Type 0) → (P → List (List PlainSpanData)) → (P → ℕ) → SessionState P → List ℕ → Option ℕ → List ℕ → Type 0
-Finishes {P} told gives shuts kept lost session bytes bad_line now = (fed : List ℕ) × (after : SessionState P)
-    × FedUpTo told gives kept lost session bytes bad_line [] fed after × Closes told shuts kept after fed (Ok tt) now
+abbrev pub Finishes : {P : Type 0} → Ghosts P → kept.Ghosts P → SessionState P → List ℕ → Option ℕ → List ℕ → Type 0
+Finishes {P} calls batches session bytes bad_line now = (fed : List ℕ) × (after : SessionState P)
+    × FedUpTo calls batches session bytes bad_line [] fed after × Closes calls batches after fed (Ok tt) now

@@ -44,10 +44,10 @@ impl OpenSpans {
         called: String,
         now: Moment,
     ) -> Result<Option<(SpanIdentity, bool)>, AllocError>
-        ensures ok { IfOk result (λ answer. StartsNamed (λ p s t q. P.start_gives p s root_cx t q) self.old (string_bytes name) provider.old tracer.now (string_bytes called) now.0 (named self.old (string_bytes name)) answer self.new provider.new) }
+        ensures ok { IfOk result (λ answer. StartsNamed P.SpanProcessor self.old (string_bytes name) provider.old tracer.now (string_bytes called) now.0 (named self.old (string_bytes name)) answer self.new provider.new) }
         ensures told { map P.told provider.new.processors ≡ map P.told provider.old.processors }
         ensures rest { provider.new ≡ record provider.old { processors = provider.new.processors; id_generator = provider.new.id_generator } }
-        ensures asks { MayStart (λ p s t q. P.start_gives p s root_cx t q) provider.old tracer.now (string_bytes called) now.0 provider.new }
+        ensures asks { MayStart P.SpanProcessor provider.old tracer.now (string_bytes called) now.0 provider.new }
         ensures err { OnErr result (SameSpans self.old self.new) }
     {
         if self.contains(name.as_str()) {
@@ -95,8 +95,8 @@ impl OpenSpans {
         provider: &mut ProviderOf<P>,
         moment: Moment,
     ) -> Result<Option<Option<usize>>, AllocError>
-        ensures ok { IfOk result (λ answer. EndsNamed P.told P.end_gives self.old name.now provider.old moment.0 (named self.old name.now) answer self.new provider.new) }
-        ensures asks { MayDeliver P.told P.end_gives provider.old.processors provider.new.processors }
+        ensures ok { IfOk result (λ answer. EndsNamed P.SpanProcessor self.old name.now provider.old moment.0 (named self.old name.now) answer self.new provider.new) }
+        ensures asks { MayDeliver P.SpanProcessor provider.old.processors provider.new.processors }
         ensures err { OnErr result (SameSpans self.old self.new × (provider.new ≡ provider.old)) }
     {
         end_in(&mut self.spans, name, provider, moment)
@@ -158,8 +158,8 @@ fn end_in<P: SpanProcessor>(
     provider: &mut ProviderOf<P>,
     moment: Moment,
 ) -> Result<Option<Option<usize>>, AllocError>
-    ensures ok { IfOk result (λ answer. EndsNamed P.told P.end_gives (by_name spans.old.entries) name.now provider.old moment.0 (named (by_name spans.old.entries) name.now) answer (by_name spans.new.entries) provider.new) }
-    ensures asks { MayDeliver P.told P.end_gives provider.old.processors provider.new.processors }
+    ensures ok { IfOk result (λ answer. EndsNamed P.SpanProcessor (by_name spans.old.entries) name.now provider.old moment.0 (named (by_name spans.old.entries) name.now) answer (by_name spans.new.entries) provider.new) }
+    ensures asks { MayDeliver P.SpanProcessor provider.old.processors provider.new.processors }
     ensures err { OnErr result (SameSpans (by_name spans.old.entries) (by_name spans.new.entries) × (provider.new ≡ provider.old)) }
 {
     let Some(span) = spans.get_mut(name) else {

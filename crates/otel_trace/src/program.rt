@@ -114,7 +114,7 @@ fn failed(alloc: Global) -> Outcome {
 
 /// Feeds the whole input to a session and closes it.
 fn finish<P: KeepsBatches>(alloc: Global, mut session: Session<P>, input: &[u8]) -> Outcome
-    ensures { result.has_failed ≡ false → Finishes P.told P.end_gives P.shutdown_gives P.kept P.lost session input.now result.bad_line result.text.items }
+    ensures { result.has_failed ≡ false → Finishes P.SpanProcessor P.KeepsBatches.own session input.now result.bad_line result.text.items }
 {
     let mut text = Vec::new(alloc);
     let fed = session.feed(input, &mut text);

@@ -99,8 +99,12 @@ impl<P: KeepsBatches> Session<P> {
         commands: Vec<Command>,
         replies: &mut Vec<Reply>,
     ) -> Result<(), AllocError>
-        ensures ok { OnOk result (RunsAll P.told P.end_gives P.kept P.lost self.old commands.items replies.old.items replies.new.items self.new) }
-        ensures err { OnErr result (RunsBeginning P.told P.end_gives P.kept P.lost self.old commands.items replies.old.items replies.new.items self.new) }
+        ensures ok { OnOk result (RunsAll P.SpanProcessor P.KeepsBatches.own
+            self.old commands.items replies.old.items replies.new.items self.new) }
+
+        // Where memory ran out.
+        ensures err { OnErr result (RunsBeginning P.SpanProcessor P.KeepsBatches.own
+            self.old commands.items replies.old.items replies.new.items self.new) }
     {
         let mut queue = VecDeque::from_vec(commands);
         while let Some(command) = queue.pop_front() {
@@ -118,7 +122,7 @@ impl<P: KeepsBatches> Session<P> {
     /// a beginning of the commands, and at most one more command was carried out. What that one exported is left for the
     /// next reply.
     pub fn feed(&mut self, text: &[u8], output: &mut Vec<u8>) -> Result<(), FeedError>
-        ensures { Fed P.told P.end_gives P.kept P.lost self.old text.now output.old.items result output.new.items self.new }
+        ensures { Fed P.SpanProcessor P.KeepsBatches.own self.old text.now output.old.items result output.new.items self.new }
     {
         let Ok(script) = parse(self.alloc, text) else {
             return Err(FeedError::Memory);
@@ -136,7 +140,7 @@ impl<P: KeepsBatches> Session<P> {
     /// that no reply has shown are appended. The answer is that of the shutdown, or `OutOfMemory` where that is Ok and the
     /// lines found no memory.
     pub fn close(self, output: &mut Vec<u8>) -> OTelSdkResult
-        ensures { Closes P.told P.shutdown_gives P.kept self output.old.items result output.new.items }
+        ensures { Closes P.SpanProcessor P.KeepsBatches.own self output.old.items result output.new.items }
     {
         let Session {
             mut provider,
@@ -160,8 +164,8 @@ impl<P: KeepsBatches> Session<P> {
         commands: Vec<Command>,
         output: &mut Vec<u8>,
     ) -> Result<(), AllocError>
-        ensures ok { OnOk result (WritesAll P.told P.end_gives P.kept P.lost self.old commands.items output.old.items output.new.items self.new) }
-        ensures err { OnErr result (WritesBeginning P.told P.end_gives P.kept P.lost self.old commands.items output.old.items output.new.items self.new) }
+        ensures ok { OnOk result (WritesAll P.SpanProcessor P.KeepsBatches.own self.old commands.items output.old.items output.new.items self.new) }
+        ensures err { OnErr result (WritesBeginning P.SpanProcessor P.KeepsBatches.own self.old commands.items output.old.items output.new.items self.new) }
     {
         let mut queue = VecDeque::from_vec(commands);
         while let Some(command) = queue.pop_front() {
@@ -186,8 +190,8 @@ impl<P: KeepsBatches> Session<P> {
     /// Carries one command out. It is also an error where the first processor's exporter lost a batch meanwhile. On an error
     /// the command was carried out or not, and what it exported is left for the next reply.
     fn answer(&mut self, command: Command) -> Result<Answer, AllocError>
-        ensures ok { IfOk result (λ answer. Steps P.told P.end_gives self.old.scope self.old.provider self.old.spans (plain_command command) answer self.new.provider self.new.spans × LosesNone P.lost self.old self.new) }
-        ensures err { OnErr result (MayStep P.told P.end_gives self.old.scope self.old.provider self.old.spans (plain_command command) self.new.provider self.new.spans) }
+        ensures ok { IfOk result (λ answer. Steps P.SpanProcessor self.old.scope self.old.provider self.old.spans (plain_command command) answer self.new.provider self.new.spans × LosesNone P.lost self.old self.new) }
+        ensures err { OnErr result (MayStep P.SpanProcessor self.old.scope self.old.provider self.old.spans (plain_command command) self.new.provider self.new.spans) }
         ensures rest { self.new ≡ record self.old { provider = self.new.provider; spans = self.new.spans } }
         ensures keeps { Appends (session_batches P.kept self.old) (session_batches P.kept self.new) }
     {
@@ -201,8 +205,8 @@ impl<P: KeepsBatches> Session<P> {
 
     /// Carries one command out; a lost batch is no error.
     fn carry_out(&mut self, command: Command) -> Result<Answer, AllocError>
-        ensures ok { IfOk result (λ answer. Steps P.told P.end_gives self.old.scope self.old.provider self.old.spans (plain_command command) answer self.new.provider self.new.spans) }
-        ensures err { OnErr result (Rests P.told self.old.scope self.old.provider self.old.spans self.new.provider self.new.spans) }
+        ensures ok { IfOk result (λ answer. Steps P.SpanProcessor self.old.scope self.old.provider self.old.spans (plain_command command) answer self.new.provider self.new.spans) }
+        ensures err { OnErr result (Rests P.SpanProcessor self.old.scope self.old.provider self.old.spans self.new.provider self.new.spans) }
         ensures rest { self.new ≡ record self.old { provider = self.new.provider; spans = self.new.spans } }
         ensures keeps { Appends (session_batches P.kept self.old) (session_batches P.kept self.new) }
     {
@@ -233,7 +237,7 @@ impl<P: KeepsBatches> Session<P> {
 
 /// Shuts the provider down where it is open.
 fn shut_down<P: SpanProcessor>(provider: &mut ProviderOf<P>) -> OTelSdkResult
-    ensures { ShutsIfOpen P.told P.shutdown_gives provider.old 5_000_000_000 result provider.new }
+    ensures { ShutsIfOpen P.SpanProcessor provider.old 5_000_000_000 result provider.new }
 {
     match provider.shutdown() {
         Err(OTelSdkError::AlreadyShutdown) => Ok(()),
@@ -285,8 +289,8 @@ fn carry_out<P: KeepsBatches>(
     spans: &mut OpenSpans,
     command: Command,
 ) -> Result<Answer, AllocError>
-    ensures ok { IfOk result (λ answer. Steps P.told P.end_gives tracer.now provider.old spans.old (plain_command command) answer provider.new spans.new) }
-    ensures err { OnErr result (Rests P.told tracer.now provider.old spans.old provider.new spans.new) }
+    ensures ok { IfOk result (λ answer. Steps P.SpanProcessor tracer.now provider.old spans.old (plain_command command) answer provider.new spans.new) }
+    ensures err { OnErr result (Rests P.SpanProcessor tracer.now provider.old spans.old provider.new spans.new) }
     ensures keeps { Appends (batches_of_first P.kept provider.old.processors) (batches_of_first P.kept provider.new.processors) }
 {
     match command {
@@ -310,10 +314,10 @@ fn start_span<P: SpanProcessor>(
     name: String,
     moment: Moment,
 ) -> Result<Answer, AllocError>
-    ensures ok { IfOk result (λ answer. (given : Option (SpanIdentity × Bool)) × (answer ≡ start_answer given) × StartsNamed (λ p s t q. P.start_gives p s root_cx t q) spans.old (string_bytes span) provider.old tracer.now (string_bytes name) moment.0 (named spans.old (string_bytes span)) given spans.new provider.new) }
+    ensures ok { IfOk result (λ answer. (given : Option (SpanIdentity × Bool)) × (answer ≡ start_answer given) × StartsNamed P.SpanProcessor spans.old (string_bytes span) provider.old tracer.now (string_bytes name) moment.0 (named spans.old (string_bytes span)) given spans.new provider.new) }
     ensures told { map P.told provider.new.processors ≡ map P.told provider.old.processors }
     ensures rest { provider.new ≡ record provider.old { processors = provider.new.processors; id_generator = provider.new.id_generator } }
-    ensures asks { MayStart (λ p s t q. P.start_gives p s root_cx t q) provider.old tracer.now (string_bytes name) moment.0 provider.new }
+    ensures asks { MayStart P.SpanProcessor provider.old tracer.now (string_bytes name) moment.0 provider.new }
     ensures err { OnErr result (SameSpans spans.old spans.new) }
 {
     match spans.start(span, tracer, provider, name, moment)? {
@@ -344,8 +348,8 @@ fn end_span<P: SpanProcessor>(
     span: String,
     moment: Moment,
 ) -> Result<Answer, AllocError>
-    ensures ok { IfOk result (λ answer. (given : Option (Option ℕ)) × (answer ≡ end_answer given) × EndsNamed P.told P.end_gives spans.old (string_bytes span) provider.old moment.0 (named spans.old (string_bytes span)) given spans.new provider.new) }
-    ensures asks { MayDeliver P.told P.end_gives provider.old.processors provider.new.processors }
+    ensures ok { IfOk result (λ answer. (given : Option (Option ℕ)) × (answer ≡ end_answer given) × EndsNamed P.SpanProcessor spans.old (string_bytes span) provider.old moment.0 (named spans.old (string_bytes span)) given spans.new provider.new) }
+    ensures asks { MayDeliver P.SpanProcessor provider.old.processors provider.new.processors }
     ensures err { OnErr result (SameSpans spans.old spans.new × (provider.new ≡ provider.old)) }
 {
     match spans.end(span.as_str(), provider, moment)? {

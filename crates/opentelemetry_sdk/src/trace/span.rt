@@ -120,6 +120,10 @@ impl Span {
         ensures ended { OnOk result (self.new ≡ history.ended self.old) }
         ensures err { OnErr result ((self.new ≡ self.old) × (provider.new ≡ provider.old)) }
         ensures not_recording { IsNone self.old.recorded → IsOk result }
+
+        // A second end asks nobody.
+        ensures silent { IsNone self.old.recorded → provider.new ≡ provider.old }
+
         ensures shut { IsTrue provider.old.is_shut → IsOk result }
         ensures one { length provider.old.processors ≤ 1 → IsOk result }
     {

@@ -7,8 +7,8 @@ pub returns-in-Ok : goal.returns-in-Ok
 returns-in-Ok g c = λ well. (
   c.feed-fed.new.output.items,
   c.feed-fed.new.self,
-  fed_anew g.P.SpanProcessor.told g.P.SpanProcessor.end_gives g.P.KeepsBatches.kept g.P.KeepsBatches.lost c.args.session c.feed-fed.new.self c.args.input.now c.new-text.result.items c.feed-fed.new.output.items c.feed-fed.result (Ok tt) c.in-Ok.is c.new-text.ensures.items c.feed-fed.ensures,
-  closed_well g.P.SpanProcessor.told g.P.SpanProcessor.shutdown_gives g.P.KeepsBatches.kept c.feed-fed.new.self c.feed-fed.new.output.items c.close.new.output.items c.close.result (ap not (sym c.is_ok-has_closed.ensures.value) ∙ well) c.close.ensures,
+  fed_anew g.P.SpanProcessor g.P.KeepsBatches c.args.session c.feed-fed.new.self c.args.input.now c.new-text.result.items c.feed-fed.new.output.items c.feed-fed.result (Ok tt) c.in-Ok.is c.new-text.ensures.items c.feed-fed.ensures,
+  closed_well g.P.SpanProcessor g.P.KeepsBatches c.feed-fed.new.self c.feed-fed.new.output.items c.close.new.output.items c.close.result (ap not (sym c.is_ok-has_closed.ensures.value) ∙ well) c.close.ensures,
 )
 
 pub returns-in-Err-Line : goal.returns-in-Err-Line
@@ -16,6 +16,6 @@ returns-in-Err-Line g c =
     let is_line : c.feed-fed.result ≡ Err (feeds.Line c.in-Err-Line.line) = search rules in λ well. (
       c.feed-fed.new.output.items,
       c.feed-fed.new.self,
-      fed_anew g.P.SpanProcessor.told g.P.SpanProcessor.end_gives g.P.KeepsBatches.kept g.P.KeepsBatches.lost c.args.session c.feed-fed.new.self c.args.input.now c.new-text.result.items c.feed-fed.new.output.items c.feed-fed.result (Err (feeds.Line c.in-Err-Line.line)) is_line c.new-text.ensures.items c.feed-fed.ensures,
-      closed_well g.P.SpanProcessor.told g.P.SpanProcessor.shutdown_gives g.P.KeepsBatches.kept c.feed-fed.new.self c.feed-fed.new.output.items c.close.new.output.items c.close.result (ap not (sym c.is_ok-has_closed.ensures.value) ∙ well) c.close.ensures,
+      fed_anew g.P.SpanProcessor g.P.KeepsBatches c.args.session c.feed-fed.new.self c.args.input.now c.new-text.result.items c.feed-fed.new.output.items c.feed-fed.result (Err (feeds.Line c.in-Err-Line.line)) is_line c.new-text.ensures.items c.feed-fed.ensures,
+      closed_well g.P.SpanProcessor g.P.KeepsBatches c.feed-fed.new.self c.feed-fed.new.output.items c.close.new.output.items c.close.result (ap not (sym c.is_ok-has_closed.ensures.value) ∙ well) c.close.ensures,
     )

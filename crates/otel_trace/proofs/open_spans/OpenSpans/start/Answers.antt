@@ -7,7 +7,7 @@ use Rattle.otel_trace.proofs.NamedLemmas.{starts_taken, none_from_test}
 use Rattle.otel_trace.proofs.open_spans.OpenSpans.start.Goals as goal
 
 pub returns-then-contains-clause-ok : goal.returns-then-contains-clause-ok
-returns-then-contains-clause-ok g c = starts_taken (λ p s t q. g.P.SpanProcessor.start_gives p s root_cx t q) c.args.self.now (string_bytes c.args.name) c.args.provider.now c.args.tracer.now (string_bytes c.args.called) c.args.now.0 (named c.args.self.now (string_bytes c.args.name))
+returns-then-contains-clause-ok g c = starts_taken g.P.SpanProcessor c.args.self.now (string_bytes c.args.name) c.args.provider.now c.args.tracer.now (string_bytes c.args.called) c.args.now.0 (named c.args.self.now (string_bytes c.args.name))
     (sym (ap (λ (name : List ℕ). is_some (named c.args.self.now name)) c.as_str.ensures.value) ∙ sym c.contains.ensures ∙ c.if-contains.true)
 
 pub put-requires : goal.put-requires
@@ -20,7 +20,7 @@ returns-clause-ok g c =
     (c.contains.ensures ∙ ap (λ (name : List ℕ). is_some (named c.args.self.now name)) c.as_str.ensures.value) c.if-contains.false in
     let answer : Some (c.identity.result, c.is_recording.result) ≡ Some (identity_of c.in_ok-span.span, is_some c.in_ok-span.span.recorded) =
     ap (λ (i : SpanIdentity). Some (i, c.is_recording.result)) c.identity.ensures ∙ ap (λ (b : Bool). Some (identity_of c.in_ok-span.span, b)) c.is_recording.ensures in
-    subst (λ (o : Option PlainSpan). StartsNamed (λ p s t q. g.P.SpanProcessor.start_gives p s root_cx t q) c.args.self.now (string_bytes c.args.name) c.args.provider.now c.args.tracer.now (string_bytes c.args.called) c.args.now.0 o (Some (c.identity.result, c.is_recording.result)) c.put.new.self c.start.new.provider) (sym absent)
+    subst (λ (o : Option PlainSpan). StartsNamed g.P.SpanProcessor c.args.self.now (string_bytes c.args.name) c.args.provider.now c.args.tracer.now (string_bytes c.args.called) c.args.now.0 o (Some (c.identity.result, c.is_recording.result)) c.put.new.self c.start.new.provider) (sym absent)
     (c.in_ok-span.span, c.in_ok-span.ensures.ok, answer, c.in_ok-put.ensures.ok)
 
 pub returns-then-contains-clause-asks : goal.returns-then-contains-clause-asks

@@ -13,6 +13,6 @@ returns g c =
     let now = c.write_batches-written.new.out.items in
     let shown = c.unshown_by_first-unshown.ensures ∙ ap (λ (processors : List g.row.P.Denot). spans_in (drop inside.shown (batches_of_first g.P.KeepsBatches.kept processors))) c.processors.ensures in
     let lines = subst (λ (spans : List PlainSpanData). OnOk c.write_batches-written.result (now ≡ before ++ span_lines spans)) shown c.write_batches-written.ensures.ok in
-    subst (λ (s : SessionState g.row.P.Denot). Closes g.P.SpanProcessor.told g.P.SpanProcessor.shutdown_gives g.P.KeepsBatches.kept s before c.close_answer.result now) c.self.view_is
-    (closes g.P.SpanProcessor.told g.P.SpanProcessor.shutdown_gives g.P.KeepsBatches.kept session c.shut_down-shutdown.new.provider c.shut_down-shutdown.result c.write_batches-written.result c.close_answer.result before now
+    subst (λ (s : SessionState g.row.P.Denot). Closes g.P.SpanProcessor g.P.KeepsBatches s before c.close_answer.result now) c.self.view_is
+    (closes g.P.SpanProcessor g.P.KeepsBatches session c.shut_down-shutdown.new.provider c.shut_down-shutdown.result c.write_batches-written.result c.close_answer.result before now
     c.shut_down-shutdown.ensures lines c.write_batches-written.ensures.err c.close_answer.ensures)

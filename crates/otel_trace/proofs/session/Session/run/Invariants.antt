@@ -6,7 +6,7 @@ use Rattle.otel_trace.proofs.session.Session.run.Given as goal
 
 abbrev pub invariant-loop-command : goal.invariant-loop-command
 invariant-loop-command g l = (replies : List PlainReply) × (l.replies.items ≡ l.fn.replies.items ++ replies)
-    × Ran g.P.SpanProcessor.told g.P.SpanProcessor.end_gives g.P.KeepsBatches.kept g.P.KeepsBatches.lost l.fn.self l.fn.commands.items l.queue.items replies l.self
+    × Ran g.P.SpanProcessor g.P.KeepsBatches l.fn.self l.fn.commands.items l.queue.items replies l.self
 
 abbrev pub decreases-loop-command : goal.decreases-loop-command
 decreases-loop-command g l = deque_len l.queue

@@ -7,26 +7,26 @@ use Rattle.otel_trace.proofs.RunLemmas.{ran_nothing, ran_all, ran_more, ran_refu
 use Rattle.otel_trace.proofs.session.Session.run_and_write.Goals as goal
 
 pub loop-command-init : goal.loop-command-init
-loop-command-init g c = ([], sym (append-nil _), tt, ran_nothing g.P.SpanProcessor.told g.P.SpanProcessor.end_gives g.P.KeepsBatches.kept g.P.KeepsBatches.lost c.args.self.now c.args.commands.items c.from_vec-queue.result.items c.from_vec-queue.ensures.items)
+loop-command-init g c = ([], sym (append-nil _), tt, ran_nothing g.P.SpanProcessor g.P.KeepsBatches c.args.self.now c.args.commands.items c.from_vec-queue.result.items c.from_vec-queue.ensures.items)
 
 pub returns-in_err-answer-clause-err : goal.returns-in_err-answer-clause-err
 returns-in_err-answer-clause-err g c =
     let i = c.loop-command.invariant in
-    always_on_err {P = WritesBeginning g.P.SpanProcessor.told g.P.SpanProcessor.end_gives g.P.KeepsBatches.kept g.P.KeepsBatches.lost c.args.self.now c.args.commands.items c.args.output.now.items c.loop-command.output.items c.answer.new.self} _ (
+    always_on_err {P = WritesBeginning g.P.SpanProcessor g.P.KeepsBatches c.args.self.now c.args.commands.items c.args.output.now.items c.loop-command.output.items c.answer.new.self} _ (
       i.0,
       i.1,
       i.2,
-      ran_refused g.P.SpanProcessor.told g.P.SpanProcessor.end_gives g.P.KeepsBatches.kept g.P.KeepsBatches.lost c.args.self.now c.loop-command.self c.answer.new.self c.args.commands.items c.loop-command.queue.items c.pop_front.new.self.items i.0 [] i.0 c.in-Some.command c.in-Some.ensures.items i.3 refl (c.in_err-answer.ensures.err, c.answer.ensures.rest, c.answer.ensures.keeps),
+      ran_refused g.P.SpanProcessor g.P.KeepsBatches c.args.self.now c.loop-command.self c.answer.new.self c.args.commands.items c.loop-command.queue.items c.pop_front.new.self.items i.0 [] i.0 c.in-Some.command c.in-Some.ensures.items i.3 refl (c.in_err-answer.ensures.err, c.answer.ensures.rest, c.answer.ensures.keeps),
     )
 
 pub returns-in_err-write_unrefused-clause-err : goal.returns-in_err-write_unrefused-clause-err
 returns-in_err-write_unrefused-clause-err g c =
     let i = c.loop-command.invariant in
-    always_on_err {P = WritesBeginning g.P.SpanProcessor.told g.P.SpanProcessor.end_gives g.P.KeepsBatches.kept g.P.KeepsBatches.lost c.args.self.now c.args.commands.items c.args.output.now.items c.write_unrefused.new.output.items c.answer.new.self} _ (
+    always_on_err {P = WritesBeginning g.P.SpanProcessor g.P.KeepsBatches c.args.self.now c.args.commands.items c.args.output.now.items c.write_unrefused.new.output.items c.answer.new.self} _ (
       i.0,
       c.in_err-write_unrefused.ensures.err ∙ i.1,
       i.2,
-      ran_refused g.P.SpanProcessor.told g.P.SpanProcessor.end_gives g.P.KeepsBatches.kept g.P.KeepsBatches.lost c.args.self.now c.loop-command.self c.answer.new.self c.args.commands.items c.loop-command.queue.items c.pop_front.new.self.items i.0 [] i.0 c.in-Some.command c.in-Some.ensures.items i.3 refl (inr (c.in_ok-answer.answer, c.in_ok-answer.ensures.ok.0), c.answer.ensures.rest, c.answer.ensures.keeps),
+      ran_refused g.P.SpanProcessor g.P.KeepsBatches c.args.self.now c.loop-command.self c.answer.new.self c.args.commands.items c.loop-command.queue.items c.pop_front.new.self.items i.0 [] i.0 c.in-Some.command c.in-Some.ensures.items i.3 refl (inr (c.in_ok-answer.answer, c.in_ok-answer.ensures.ok.0), c.answer.ensures.rest, c.answer.ensures.keeps),
     )
 
 pub loop-command-preserved : goal.loop-command-preserved
@@ -36,11 +36,11 @@ loop-command-preserved g c =
       i.0 ++ reply ∷ [],
       written_more i.0 reply c.args.output.now.items c.loop-command.output.items c.write_unrefused.new.output.items i.1 c.in_ok-write_unrefused.ensures.ok.1,
       none_refused_more i.0 reply i.2 c.in_ok-write_unrefused.ensures.ok.0,
-      ran_more g.P.SpanProcessor.told g.P.SpanProcessor.end_gives g.P.KeepsBatches.kept g.P.KeepsBatches.lost c.args.self.now c.loop-command.self c.answer.new.self c.mark_shown.new.self c.args.commands.items c.loop-command.queue.items c.pop_front.new.self.items i.0 c.in-Some.command reply
+      ran_more g.P.SpanProcessor g.P.KeepsBatches c.args.self.now c.loop-command.self c.answer.new.self c.mark_shown.new.self c.args.commands.items c.loop-command.queue.items c.pop_front.new.self.items i.0 c.in-Some.command reply
           c.in-Some.ensures.items i.3 (c.in_ok-answer.ensures.ok.0, refl, c.in_ok-answer.ensures.ok.1) c.answer.ensures.rest c.answer.ensures.keeps c.mark_shown.ensures,
     )
 
 pub returns-clause-ok : goal.returns-clause-ok
 returns-clause-ok g c =
     let i = c.loop-command.invariant in
-    (i.0, i.1, i.2, ran_all g.P.SpanProcessor.told g.P.SpanProcessor.end_gives g.P.KeepsBatches.kept g.P.KeepsBatches.lost c.args.self.now c.loop-command.self c.args.commands.items c.loop-command.queue.items i.0 [] i.0 (search rules) i.3 refl)
+    (i.0, i.1, i.2, ran_all g.P.SpanProcessor g.P.KeepsBatches c.args.self.now c.loop-command.self c.args.commands.items c.loop-command.queue.items i.0 [] i.0 (search rules) i.3 refl)
