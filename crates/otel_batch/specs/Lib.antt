@@ -1,4 +1,5 @@
 pub mod PlainSpanData
+pub mod SameSpanData
 pub mod StoredBatches
 pub mod ExporterKinds
 pub mod RestsOr

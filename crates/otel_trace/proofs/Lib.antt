@@ -1,3 +1,4 @@
+pub mod ProgramLemmas
 pub mod Clauses
 pub mod CloseLemmas
 pub mod FeedLemmas

@@ -5,4 +5,5 @@ pub mod Lines
 pub mod OpenSpans
 pub mod PlainReply
 pub mod ReplyText
+pub mod Program
 pub mod SessionDelivery

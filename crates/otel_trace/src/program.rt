@@ -1,18 +1,23 @@
 //! What the program does with its arguments and its three streams. It reads the whole input, feeds it to one session,
 //! closes the session, and then writes the output and behind it what was wrong.
 
-ghost use Rattle.std.specs.Prelude.{◌≡◌, false};
+ghost use Rattle.std.specs.Prelude.{◌≡◌, ◌≢◌, ◌⊎◌, ◌≤◌, ℕ, List, Some, None, IfOk, IfSome, OnOk, MatchOption, false, true, map, string_bytes};
+ghost use Rattle.std.specs.Io.KnownBytes.{Appends, IsAtEnd};
+ghost use Rattle.otel_trace.specs.Program.{AsksFor, AsksForNothing, ReadsWhole, SessionWrites, TracesSeed, WritesText, bad_line_text, provider_of_seed, usage_text};
 ghost use Rattle.otel_trace.specs.SessionDelivery.{Finishes};
 
 use crate::exported::KeepsBatches;
 use crate::lines::number_of;
 use crate::session::{FeedError, Session};
-use opentelemetry_sdk::trace::{Processor, SdkTracerProvider, SimpleSpanProcessor};
+use opentelemetry::trace::{Link, SpanKind};
+use opentelemetry::{Context, KeyValue, TraceId};
+use opentelemetry_sdk::trace::{ProcessorOf, ProviderOf, SimpleSpanProcessor, SpanProcessor};
 use otel_base::trace::{
-    IdGenerator, IdSource, RandomIdGenerator, Sampler, ShouldSample, SpanLimits,
+    IdGenerator, RandomIdGenerator, SamplerOf, SamplingResult, ShouldSample, SpanLimits,
 };
-use otel_batch::trace::{ExporterBox, InMemorySpanExporter};
+use otel_batch::trace::{ExporterOf, InMemorySpanExporter};
 use std::alloc::{AllocError, Global};
+use std::io;
 use std::io::{Read, Write};
 
 const USAGE: &str = "usage: otel_trace trace SEED simple | trace SEED batch Q B | steps Q B P\n";
@@ -25,6 +30,37 @@ const FAILED: u8 = 1;
 
 /// The exit status of a bad line or of wrong arguments.
 const REFUSED: u8 = 2;
+
+/// What the program's provider holds. It has no processor and no exporter of another's own, so that any type may stand for
+/// theirs.
+type TraceProcessor = ProcessorOf<
+    SimpleSpanProcessor<ExporterOf<InMemorySpanExporter, InMemorySpanExporter>>,
+    SimpleSpanProcessor<InMemorySpanExporter>,
+>;
+
+/// A sampler of another's own, of which the program has none.
+#[derive(Drop)]
+enum NoSampler {}
+
+impl ShouldSample for NoSampler {
+    fn should_sample(
+        &self,
+        _parent_context: Option<&Context>,
+        _trace_id: TraceId,
+        _name: &str,
+        _span_kind: &SpanKind,
+        _attributes: &[KeyValue],
+        _links: &[Link],
+    ) -> Result<SamplingResult, AllocError> {
+        match *self {}
+    }
+}
+
+/// What the program's provider asks about each span.
+type TraceSampler = SamplerOf<NoSampler>;
+
+/// The program's provider.
+type TraceProvider = ProviderOf<TraceProcessor, TraceSampler, RandomIdGenerator>;
 
 /// How a session over the whole input ended.
 #[derive(Debug, Drop)]
@@ -39,23 +75,103 @@ struct Outcome {
 
 /// Runs the program over any reader and writers, and answers its exit status: 0 at the end of the input; 2 for a bad
 /// line or wrong arguments; 1 where reading, writing or the closing fails or memory is missing, also where 2 would be
-/// due. `words` are the arguments without the program's name; wrong ones are found before anything is read.
+/// due. `words` are the arguments without the program's name; wrong ones are found before anything is read. What status
+/// 1 leaves on the output and the faults is left open.
 pub fn run_program<R: Read, W: Write, F: Write>(
     alloc: Global,
     words: &[String],
     input: &mut R,
     output: &mut W,
     faults: &mut F,
-) -> u8 {
-    let Some(seed) = seed_of(words) else {
-        return refuse(faults, USAGE);
-    };
+) -> u8
+    ensures status { result ≤ 2 }
+
+    // Wrong arguments.
+    ensures unread { AsksForNothing (map string_bytes words.now) → (input.new ≡ input.old) × (output.new ≡ output.old) }
+    ensures usage { AsksForNothing (map string_bytes words.now) → (result ≢ 0)
+        × (result ≡ 2 → Appends (F.contents faults.old) (F.contents faults.new) usage_text) }
+
+    // One session over the whole input.
+    ensures done { (seed : ℕ) → AsksFor (map string_bytes words.now) seed → result ≡ 0 → (bytes : List ℕ)
+        × ReadsWhole (R.remaining input.old) (R.remaining input.new) bytes
+        × TracesSeed ⟦<TraceProcessor as SpanProcessor>⟧ ⟦<TraceSampler as ShouldSample>⟧
+        ⟦<RandomIdGenerator as IdGenerator>⟧ seed bytes None (W.contents output.old) (W.contents output.new)
+        × (faults.new ≡ faults.old) }
+    ensures bad_line { (seed : ℕ) → AsksFor (map string_bytes words.now) seed → result ≡ 2 → (bytes : List ℕ) × (line : ℕ)
+        × ReadsWhole (R.remaining input.old) (R.remaining input.new) bytes
+        × TracesSeed ⟦<TraceProcessor as SpanProcessor>⟧ ⟦<TraceSampler as ShouldSample>⟧
+        ⟦<RandomIdGenerator as IdGenerator>⟧ seed bytes (Some line) (W.contents output.old) (W.contents output.new)
+        × Appends (F.contents faults.old) (F.contents faults.new) (bad_line_text line) }
+{
+    match seed_of(words) {
+        Some(seed) => trace_input(alloc, seed, input, output, faults),
+        None => refuse(faults, USAGE),
+    }
+}
+
+/// The seed of `trace SEED simple`; none where the words are others.
+fn seed_of(words: &[String]) -> Option<u64>
+    ensures { MatchOption result (AsksForNothing (map string_bytes words.now))
+        (λ seed. AsksFor (map string_bytes words.now) seed) }
+{
+    match words {
+        [mode, seed, kind] if mode.as_str() == "trace" && kind.as_str() == "simple" => number_of(
+            seed.as_str(),
+        ),
+        _ => None,
+    }
+}
+
+/// Answers the whole input by one session of a seed.
+fn trace_input<R: Read, W: Write, F: Write>(
+    alloc: Global,
+    seed: u64,
+    input: &mut R,
+    output: &mut W,
+    faults: &mut F,
+) -> u8
+    ensures status { result ≤ 2 }
+    ensures done { result ≡ 0 → (bytes : List ℕ)
+        × ReadsWhole (R.remaining input.old) (R.remaining input.new) bytes
+        × TracesSeed ⟦<TraceProcessor as SpanProcessor>⟧ ⟦<TraceSampler as ShouldSample>⟧
+        ⟦<RandomIdGenerator as IdGenerator>⟧ seed bytes None (W.contents output.old) (W.contents output.new)
+        × (faults.new ≡ faults.old) }
+    ensures bad_line { result ≡ 2 → (bytes : List ℕ) × (line : ℕ)
+        × ReadsWhole (R.remaining input.old) (R.remaining input.new) bytes
+        × TracesSeed ⟦<TraceProcessor as SpanProcessor>⟧ ⟦<TraceSampler as ShouldSample>⟧
+        ⟦<RandomIdGenerator as IdGenerator>⟧ seed bytes (Some line) (W.contents output.old) (W.contents output.new)
+        × Appends (F.contents faults.old) (F.contents faults.new) (bad_line_text line) }
+{
     let mut bytes = Vec::new(alloc);
     if input.read_to_end(&mut bytes).is_err() {
         return FAILED;
     }
-    let outcome = trace(alloc, seed, &bytes);
-    if output.write_all(&outcome.text).is_err() || output.flush().is_err() {
+    match provider_of(alloc, seed) {
+        Ok(provider) => answer(alloc, provider, &bytes, output, faults),
+        Err(_) => FAILED,
+    }
+}
+
+/// Answers an input by one session under a provider.
+fn answer<P: KeepsBatches, S: ShouldSample, G: IdGenerator, W: Write, F: Write>(
+    alloc: Global,
+    provider: ProviderOf<P, S, G>,
+    input: &[u8],
+    output: &mut W,
+    faults: &mut F,
+) -> u8
+    ensures status { result ≤ 2 }
+    ensures done { result ≡ 0 →
+        WritesText P.SpanProcessor P.KeepsBatches.own S.ShouldSample G.IdGenerator provider
+        input.now None (W.contents output.old) (W.contents output.new)
+        × (faults.new ≡ faults.old) }
+    ensures bad_line { result ≡ 2 → (line : ℕ)
+        × WritesText P.SpanProcessor P.KeepsBatches.own S.ShouldSample G.IdGenerator provider
+        input.now (Some line) (W.contents output.old) (W.contents output.new)
+        × Appends (F.contents faults.old) (F.contents faults.new) (bad_line_text line) }
+{
+    let outcome = trace(alloc, provider, input);
+    if write_whole(output, &outcome.text).is_err() {
         return FAILED;
     }
     let status = match outcome.bad_line {
@@ -65,37 +181,45 @@ pub fn run_program<R: Read, W: Write, F: Write>(
     if outcome.has_failed { FAILED } else { status }
 }
 
-/// The seed of `trace SEED simple`; none where the words are others.
-fn seed_of(words: &[String]) -> Option<u64> {
-    match words {
-        [mode, seed, kind] if mode.as_str() == "trace" && kind.as_str() == "simple" => number_of(
-            seed.as_str(),
-        ),
-        _ => None,
-    }
+/// Writes bytes and sends them on.
+fn write_whole<W: Write>(writer: &mut W, bytes: &[u8]) -> io::Result<()>
+    ensures { OnOk result (Appends (W.contents writer.old) (W.contents writer.new) bytes.now) }
+{
+    writer.write_all(bytes)?;
+    writer.flush()
 }
 
 /// Writes what was wrong, and answers the status for it.
-fn refuse<F: Write>(faults: &mut F, text: &str) -> u8 {
-    if faults.write_all(text.as_bytes()).is_err() || faults.flush().is_err() {
+fn refuse<F: Write>(faults: &mut F, text: &str) -> u8
+    ensures status { (result ≡ 1) ⊎ (result ≡ 2) }
+    ensures written { result ≡ 2 → Appends (F.contents faults.old) (F.contents faults.new) text.now }
+{
+    if write_whole(faults, text.as_bytes()).is_err() {
         return FAILED;
     }
     REFUSED
 }
 
 /// Names a bad line, and answers the status for it.
-fn name_bad_line<F: Write>(alloc: Global, line: u64, faults: &mut F) -> u8 {
-    match format!(in alloc; "{}\n", FeedError::Line(line)) {
+fn name_bad_line<F: Write>(alloc: Global, line: u64, faults: &mut F) -> u8
+    ensures status { (result ≡ 1) ⊎ (result ≡ 2) }
+    ensures written { result ≡ 2 → Appends (F.contents faults.old) (F.contents faults.new) (bad_line_text line) }
+{
+    match format!(in alloc; "line {line}: cannot read\n") {
         Ok(text) => refuse(faults, text.as_str()),
         Err(_) => FAILED,
     }
 }
 
-/// One session over the whole input.
-fn trace(alloc: Global, seed: u64, input: &[u8]) -> Outcome {
-    let Ok(provider) = provider_of(alloc, seed) else {
-        return failed(alloc);
-    };
+/// One session under a provider.
+fn trace<P: KeepsBatches, S: ShouldSample, G: IdGenerator>(
+    alloc: Global,
+    provider: ProviderOf<P, S, G>,
+    input: &[u8],
+) -> Outcome
+    ensures { result.has_failed ≡ false →
+        SessionWrites P.SpanProcessor P.KeepsBatches.own S.ShouldSample G.IdGenerator provider input.now result.bad_line result.text.items }
+{
     match Session::new(alloc, provider) {
         Ok(session) => finish(alloc, session, input),
         Err((provider, _)) => {
@@ -106,7 +230,9 @@ fn trace(alloc: Global, seed: u64, input: &[u8]) -> Outcome {
 }
 
 /// What a session that could not be made comes to.
-fn failed(alloc: Global) -> Outcome {
+fn failed(alloc: Global) -> Outcome
+    ensures { result.has_failed ≡ true }
+{
     Outcome {
         text: Vec::new(alloc),
         bad_line: None,
@@ -120,7 +246,8 @@ fn finish<P: KeepsBatches, S: ShouldSample, G: IdGenerator>(
     mut session: Session<P, S, G>,
     input: &[u8],
 ) -> Outcome
-    ensures { result.has_failed ≡ false → Finishes P.SpanProcessor P.KeepsBatches.own S.ShouldSample G.IdGenerator session input.now result.bad_line result.text.items }
+    ensures { result.has_failed ≡ false → Finishes P.SpanProcessor P.KeepsBatches.own S.ShouldSample G.IdGenerator
+        session input.now result.bad_line result.text.items }
 {
     let mut text = Vec::new(alloc);
     let fed = session.feed(input, &mut text);
@@ -145,14 +272,16 @@ fn finish<P: KeepsBatches, S: ShouldSample, G: IdGenerator>(
 }
 
 /// A provider that samples every span and exports it at once into memory.
-fn provider_of(alloc: Global, seed: u64) -> Result<SdkTracerProvider, AllocError> {
-    let exporter = ExporterBox::Memory(InMemorySpanExporter::new(alloc));
+fn provider_of(alloc: Global, seed: u64) -> Result<TraceProvider, AllocError>
+    ensures { IfOk result (λ provider. provider ≡ provider_of_seed seed) }
+{
+    let exporter = ExporterOf::Memory(InMemorySpanExporter::new(alloc));
     let mut processors = Vec::new(alloc);
-    processors.push(Processor::Simple(SimpleSpanProcessor::new(alloc, exporter)))?;
-    Ok(SdkTracerProvider::from_parts(
+    processors.push(ProcessorOf::Simple(SimpleSpanProcessor::new(alloc, exporter)))?;
+    Ok(ProviderOf::from_parts(
         processors,
-        Sampler::AlwaysOn,
-        IdSource::Random(RandomIdGenerator::new(seed)),
+        SamplerOf::AlwaysOn,
+        RandomIdGenerator::new(seed),
         SpanLimits::default(),
     ))
 }

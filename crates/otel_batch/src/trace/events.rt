@@ -3,11 +3,11 @@
 ghost use Rattle.std.specs.Prelude.{◌≡◌, []};
 
 use opentelemetry::trace::Event;
-use std::alloc::{AllocError, Global};
+use std::alloc::Global;
 use std::marker::Model;
 
 /// Events in the order in which they were added; those over the span's limit are only counted.
-#[derive(Debug, Drop)]
+#[derive(Clone, Debug, Drop)]
 pub struct SpanEvents {
     pub events: Vec<Event>,
     pub dropped_count: u32,
@@ -31,17 +31,35 @@ impl SpanEvents {
             dropped_count: 0,
         }
     }
+
+    /// The events that were kept.
+    pub fn as_slice(&self) -> &[Event]
+        ensures { result.now ≡ self.now.events }
+    {
+        self.events.as_slice()
+    }
 }
 
-impl Clone for SpanEvents {
-    ghost use Rattle.std.specs.Prelude.{◌≡◌};
+impl PartialEq for SpanEvents {
+    ghost use Rattle.std.specs.Prelude.{◌≡◌, ◌↔◌, IsTrue};
+    ghost use Rattle.opentelemetry.specs.Same.{partial_equivalence_from_decides};
+    ghost use Rattle.otel_batch.specs.SameSpanData.{same_span_events, same_span_events_decides};
 
-    ghost is_clone = { λ events copy. copy ≡ events };
+    ghost eq = { same_span_events };
 
-    fn clone(&self) -> Result<SpanEvents, AllocError> {
-        Ok(SpanEvents {
-            events: self.events.clone()?,
-            dropped_count: self.dropped_count,
-        })
+    ghost laws = { partial_equivalence_from_decides same_span_events same_span_events_decides };
+
+    fn eq(&self, other: &SpanEvents) -> bool
+        ensures value { result ≡ same_span_events self.now other.now }
+        ensures same { IsTrue result ↔ (self.now ≡ other.now) }
+    {
+        self.events == other.events && self.dropped_count == other.dropped_count
     }
+}
+
+impl Eq for SpanEvents {
+    ghost use Rattle.opentelemetry.specs.Same.{equivalence_from_decides};
+    ghost use Rattle.otel_batch.specs.SameSpanData.{same_span_events, same_span_events_decides};
+
+    ghost laws = { equivalence_from_decides same_span_events same_span_events_decides };
 }

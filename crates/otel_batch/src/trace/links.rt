@@ -3,11 +3,11 @@
 ghost use Rattle.std.specs.Prelude.{◌≡◌, []};
 
 use opentelemetry::trace::Link;
-use std::alloc::{AllocError, Global};
+use std::alloc::Global;
 use std::marker::Model;
 
 /// Links in the order in which they were added; those over the span's limit are only counted.
-#[derive(Debug, Drop)]
+#[derive(Clone, Debug, Drop)]
 pub struct SpanLinks {
     pub links: Vec<Link>,
     pub dropped_count: u32,
@@ -31,17 +31,35 @@ impl SpanLinks {
             dropped_count: 0,
         }
     }
+
+    /// The links that were kept.
+    pub fn as_slice(&self) -> &[Link]
+        ensures { result.now ≡ self.now.links }
+    {
+        self.links.as_slice()
+    }
 }
 
-impl Clone for SpanLinks {
-    ghost use Rattle.std.specs.Prelude.{◌≡◌};
+impl PartialEq for SpanLinks {
+    ghost use Rattle.std.specs.Prelude.{◌≡◌, ◌↔◌, IsTrue};
+    ghost use Rattle.opentelemetry.specs.Same.{partial_equivalence_from_decides};
+    ghost use Rattle.otel_batch.specs.SameSpanData.{same_span_links, same_span_links_decides};
 
-    ghost is_clone = { λ links copy. copy ≡ links };
+    ghost eq = { same_span_links };
 
-    fn clone(&self) -> Result<SpanLinks, AllocError> {
-        Ok(SpanLinks {
-            links: self.links.clone()?,
-            dropped_count: self.dropped_count,
-        })
+    ghost laws = { partial_equivalence_from_decides same_span_links same_span_links_decides };
+
+    fn eq(&self, other: &SpanLinks) -> bool
+        ensures value { result ≡ same_span_links self.now other.now }
+        ensures same { IsTrue result ↔ (self.now ≡ other.now) }
+    {
+        self.links == other.links && self.dropped_count == other.dropped_count
     }
+}
+
+impl Eq for SpanLinks {
+    ghost use Rattle.opentelemetry.specs.Same.{equivalence_from_decides};
+    ghost use Rattle.otel_batch.specs.SameSpanData.{same_span_links, same_span_links_decides};
+
+    ghost laws = { equivalence_from_decides same_span_links same_span_links_decides };
 }

@@ -73,3 +73,60 @@ impl Clone for SpanData {
         })
     }
 }
+
+impl SpanData {
+    ghost use Rattle.std.specs.Prelude.{◌≡◌};
+    ghost use Rattle.otel_batch.specs.SameSpanData.{same_identity, same_recording};
+
+    /// Where it stands among spans, its kind, its name and its scope.
+    fn has_identity_of(&self, other: &SpanData) -> bool
+        ensures { result ≡ same_identity self.now other.now }
+    {
+        self.span_context == other.span_context
+            && self.parent_span_id == other.parent_span_id
+            && self.parent_span_is_remote == other.parent_span_is_remote
+            && self.span_kind == other.span_kind
+            && self.name == other.name
+            && self.instrumentation_scope == other.instrumentation_scope
+    }
+
+    /// Its moments, attributes, events, links and status.
+    fn has_recording_of(&self, other: &SpanData) -> bool
+        ensures { result ≡ same_recording self.now other.now }
+    {
+        self.start_time == other.start_time
+            && self.end_time == other.end_time
+            && self.attributes == other.attributes
+            && self.dropped_attributes_count == other.dropped_attributes_count
+            && self.events == other.events
+            && self.links == other.links
+            && self.status == other.status
+    }
+}
+
+impl PartialEq for SpanData {
+    ghost use Rattle.std.specs.Prelude.{◌≡◌, ◌↔◌, IsTrue};
+    ghost use Rattle.opentelemetry.specs.Same.{partial_equivalence_from_decides};
+    ghost use Rattle.otel_batch.specs.SameSpanData.{same_span_data, same_span_data_decides};
+
+    ghost eq = { same_span_data };
+
+    ghost laws = { partial_equivalence_from_decides same_span_data same_span_data_decides };
+
+    fn eq(&self, other: &SpanData) -> bool
+        ensures value { result ≡ same_span_data self.now other.now }
+        ensures same { IsTrue result ↔ (self.now ≡ other.now) }
+    {
+        self.has_identity_of(other) && self.has_recording_of(other)
+    }
+}
+
+impl Eq for SpanData {
+    ghost use Rattle.opentelemetry.specs.Same.{equivalence_from_decides};
+    ghost use Rattle.otel_batch.specs.SameSpanData.{same_span_data, same_span_data_decides};
+
+    ghost laws = { equivalence_from_decides same_span_data same_span_data_decides };
+}
+
+#[cfg(test)]
+mod tests;

@@ -1,0 +1,47 @@
+-- What the arguments of the program ask for, and what it does with its streams.
+use Rattle.std.proofs.Common.{◌≡◌, ℕ, ◌<◌, ◌≤◌, ◌++◌, List, [], ◌∷◌, map, length, Option, Some, None, IfSome, MatchOption, codes, ◌∙◌, sym, ap, subst, arith}
+use Rattle.std.proofs.Math.ListN.{get_or}
+use Rattle.std.specs.Str.Parse.{digits_value}
+use Rattle.otel_base.specs.declared.trace.sampler.SamplerOf.{SamplerOf}
+use Rattle.otel_base.specs.declared.trace.sampler.ShouldSample as sampling
+use Rattle.otel_base.specs.declared.trace.id_generator.IdGenerator as drawing
+use Rattle.opentelemetry_sdk.specs.Provider.{ProviderState}
+use Rattle.opentelemetry_sdk.specs.declared.trace.span_processor.SpanProcessor.{Ghosts}
+use Rattle.otel_trace.specs.Lines.{IsMoment}
+use Rattle.otel_trace.specs.Program.{AsksFor, AsksForNothing, MemoryProcessor, TracesSeed, WritesText, memory_batches, provider_of_seed}
+
+-- words ask for one seed
+pub asks_once : (words : List (List ℕ)) (seed other : ℕ) → AsksFor words seed → AsksFor words other → seed ≡ other
+asks_once words seed other (digits, is, e) (more, js, f) =
+    let same : digits ≡ more = cc in is.1 ∙ ap (λ d. digits_value 10 d) same ∙ sym js.1
+
+-- three words ask for what the second one writes
+pub three_ask : (words : List (List ℕ)) (digits : List ℕ) (found : Option ℕ) → words ≡ codes "trace" ∷ digits ∷ codes "simple" ∷ []
+    → MatchOption found ((seed : ℕ) → IsMoment digits seed → ⊥) (λ seed. IsMoment digits seed)
+    → MatchOption found (AsksForNothing words) (λ seed. AsksFor words seed)
+three_ask words digits (Some seed) e is = (digits, is, e)
+three_ask words digits None e isnt = λ seed asks. let same : asks.0 ≡ digits = cc in isnt seed (subst (λ d. IsMoment d seed) same asks.1)
+
+-- what a list of three is made of
+pub three_items : {X : Type 0} (h : X → List ℕ) (items : List X) (a b c : X) (p q r : List ℕ) → 3 ≤ length items → length items < 4
+    → a ≡ get_or items 0 a → b ≡ get_or items 1 b → c ≡ get_or items 2 c → h a ≡ p → h b ≡ q → h c ≡ r
+    → map h items ≡ p ∷ q ∷ r ∷ []
+three_items h [] a b c p q r least most ea eb ec ep eq er = absurd (omega arith)
+three_items h (x ∷ []) a b c p q r least most ea eb ec ep eq er = absurd (omega arith)
+three_items h (x ∷ y ∷ []) a b c p q r least most ea eb ec ep eq er = absurd (omega arith)
+three_items h (x ∷ y ∷ z ∷ []) a b c p q r least most ea eb ec ep eq er = cc
+three_items h (x ∷ y ∷ z ∷ w ∷ more) a b c p q r least most ea eb ec ep eq er = absurd (omega arith)
+
+-- what was read onto nothing is the whole
+pub whole_read : (stream : Option (List ℕ)) (before now bytes : List ℕ) → before ≡ [] → bytes ≡ now
+    → IfSome stream (λ all. now ≡ before ++ all) → IfSome stream (λ all. bytes ≡ all)
+whole_read None before now bytes e f h = tt
+whole_read (Some all) before now bytes e f h = f ∙ h ∙ ap (λ b. b ++ all) e
+
+-- the provider of a session, by its seed
+pub traces_seed : {C D E : Type 0} (calls : Ghosts (MemoryProcessor C D)) (sampler : sampling.Ghosts (SamplerOf E)) (ids : drawing.Ghosts (List ℕ))
+    (provider : ProviderState (MemoryProcessor C D) (SamplerOf E) (List ℕ)) (seed : ℕ) (input : List ℕ) (bad_line : Option ℕ)
+    (before after : Option (List ℕ)) → provider ≡ provider_of_seed seed
+    → WritesText calls memory_batches sampler ids provider input bad_line before after → TracesSeed calls sampler ids seed input bad_line before after
+traces_seed calls sampler ids provider seed input bad_line before after e h =
+    subst (λ p. WritesText calls memory_batches sampler ids p input bad_line before after) e h
