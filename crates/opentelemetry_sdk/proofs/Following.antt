@@ -1,12 +1,12 @@
 -- What each processor of a list was told, after one end and after many.
-use Rattle.std.proofs.Common.{◌≡◌, ℕ, ◌+◌, ◌-◌, ◌^◌, ◌<◌, ◌≤◌, Bool, true, false, ◌&&◌, ◌⊎◌, List, [], ◌∷◌, ◌++◌, map, Option, Some, None, Result, Ok, Err, refl, sym, ◌∙◌, ap, subst, append_assoc, append-nil, arith, inl, inr}
-use Rattle.std.specs.Bool.{IsTrue, IsFalse}
+use Rattle.std.proofs.Common.{◌≡◌, ℕ, ◌+◌, ◌<◌, ◌≤◌, Bool, true, false, ◌&&◌, List, [], ◌∷◌, ◌++◌, map, Option, Some, None, Result, Ok, Err, refl, sym, ◌∙◌, ap, subst, append_assoc, append-nil, arith, inl, inr}
+use Rattle.std.specs.Bool.{IsTrue}
 use Rattle.std.proofs.lemmas.List.{map-append}
 use Rattle.otel_base.specs.declared.error.OTelSdkError.{OTelSdkError}
 use Rattle.otel_batch.specs.PlainSpanData.{PlainSpanData}
 use Rattle.otel_batch.specs.Telling.{Tells}
 use Rattle.std.specs.declared.alloc.AllocError.{AllocError}
-use Rattle.opentelemetry_sdk.specs.ProcessorTelling.{ProcessorTelling, CountsUp, TakesSpan, TakesNothing, HandsOver, HearsNothing, HearsOne, DropsOne, is_sampled}
+use Rattle.opentelemetry_sdk.specs.ProcessorTelling.{ProcessorTelling, CountsUp, TakesSpan, TakesNothing, HandsOver, HearsNothing, is_sampled}
 use Rattle.opentelemetry_sdk.specs.Deliveries.{Delivery, Follows, EachFollows, Reaches, ReachesFirst, spans_of}
 use Rattle.opentelemetry_sdk.specs.declared.trace.span_processor.SpanProcessor.{Ghosts}
 use Rattle.opentelemetry_sdk.specs.Each.{Each, AskedAll, errors}

@@ -1,4 +1,4 @@
-use Rattle.std.specs.Prelude.{◌≡◌, ℕ, ◌&&◌, not, Bool, true, List, [], ◌∷◌, None, Result, Ok, MatchBool, MatchResult}
+use Rattle.std.specs.Prelude.{◌≡◌, ℕ, ◌&&◌, not, Bool, true, [], ◌∷◌, None, Result, Ok, MatchBool, MatchResult}
 use Rattle.std.specs.declared.alloc.AllocError.{AllocError}
 use Rattle.otel_base.specs.Resource.{PlainResource}
 use Rattle.otel_base.specs.declared.error.OTelSdkError.{OTelSdkError}
