@@ -1,12 +1,12 @@
 -- What each processor of a list was told, after one end and after many.
-use Rattle.std.proofs.Common.{◌≡◌, ℕ, ◌+◌, ◌-◌, ◌^◌, ◌<◌, ◌≤◌, Bool, true, false, ◌&&◌, ◌⊎◌, List, [], ◌∷◌, ◌++◌, map, Option, Some, None, Result, Ok, Err, refl, sym, ◌∙◌, ap, subst, append_assoc, append-nil, arith, inl, inr}
-use Rattle.std.specs.Bool.{IsTrue, IsFalse}
+use Rattle.std.proofs.Common.{◌≡◌, ℕ, ◌+◌, ◌<◌, ◌≤◌, Bool, true, false, ◌&&◌, List, [], ◌∷◌, ◌++◌, map, Option, Some, None, Result, Ok, Err, refl, sym, ◌∙◌, ap, subst, append_assoc, append-nil, arith, inl, inr}
+use Rattle.std.specs.Bool.{IsTrue}
 use Rattle.std.proofs.lemmas.List.{map-append}
 use Rattle.otel_base.specs.declared.error.OTelSdkError.{OTelSdkError}
 use Rattle.otel_batch.specs.PlainSpanData.{PlainSpanData}
 use Rattle.otel_batch.specs.Telling.{Tells}
 use Rattle.std.specs.declared.alloc.AllocError.{AllocError}
-use Rattle.opentelemetry_sdk.specs.ProcessorTelling.{ProcessorTelling, CountsUp, TakesSpan, TakesNothing, HandsOver, HearsNothing, HearsOne, DropsOne, is_sampled}
+use Rattle.opentelemetry_sdk.specs.ProcessorTelling.{ProcessorTelling, CountsUp, TakesSpan, TakesNothing, HandsOver, HearsNothing, is_sampled}
 use Rattle.opentelemetry_sdk.specs.Deliveries.{Delivery, Follows, EachFollows, Reaches, ReachesFirst, spans_of}
 use Rattle.opentelemetry_sdk.specs.declared.trace.span_processor.SpanProcessor.{Ghosts}
 use Rattle.opentelemetry_sdk.specs.Each.{Each, AskedAll, errors}
@@ -73,19 +73,25 @@ abbrev pub IsCounted : {T E : Type 0} → Result T E → ℕ → Type 0
 IsCounted (Ok _) n = Unit {0}
 IsCounted (Err _) n = 0 < n
 
--- what one delivery leads from one telling to another, at a processor that was open and where it was shut
+-- nothing more is told to be heard, and none to be dropped
+abbrev StaysHeard : ProcessorTelling → ProcessorTelling → Type 0
+StaysHeard before after = Tells before.heard [] after.heard × CountsUp before.dropped 0 after.dropped
+
+-- what one delivery leads to, at a processor that was open, and at one that was shut
 abbrev FollowsOne : Bool → Bool → ProcessorTelling → Delivery → ProcessorTelling → Type 0
 FollowsOne true sampled before delivery after =
     (reached : List PlainSpanData) × (missed : ℕ) × ReachesFirst sampled delivery (Reaches []) reached missed
     × Tells before.heard reached after.heard × CountsUp before.dropped missed after.dropped
-FollowsOne false sampled before delivery after = Tells before.heard [] after.heard × CountsUp before.dropped 0 after.dropped
+FollowsOne false sampled before delivery after = StaysHeard before after
 
 -- nothing more was heard
-hears_nothing : (before after : ProcessorTelling) → HearsNothing before after → Tells before.heard [] after.heard × CountsUp before.dropped 0 after.dropped
-hears_nothing before after h = (tells_same before.heard after.heard h.heard, counts_nothing before.dropped after.dropped h.dropped)
+hears_nothing : (before after : ProcessorTelling) → HearsNothing before after → StaysHeard before after
+hears_nothing before after h =
+    (tells_same before.heard after.heard h.heard, counts_nothing before.dropped after.dropped h.dropped)
 
 -- a span that was handed over reaches the processor, or it was refused or missed
-handed_over : {T E : Type 0} (is_open sampled : Bool) (before : ProcessorTelling) (span : PlainSpanData) (answer : Result T E) (n : ℕ) (after : ProcessorTelling)
+handed_over : {T E : Type 0} (is_open sampled : Bool) (before : ProcessorTelling) (span : PlainSpanData)
+    (answer : Result T E) (n : ℕ) (after : ProcessorTelling)
     → HandsOver (is_open && sampled) before span answer after → IsCounted answer n
     → FollowsOne is_open sampled before (record { span = span; refused = n }) after
 handed_over true true before span (Ok _) n after (inl h) counted =
@@ -101,8 +107,9 @@ handed_over true false before span answer n after h counted =
 handed_over false sampled before span answer n after h counted = hears_nothing before after h
 
 -- a delivery that leads from one telling to another is followed
-follows_by : (is_open : Bool) (before : ProcessorTelling) (delivery : Delivery) (after : ProcessorTelling) → before.is_open ≡ is_open
-    → Tells before.spans (delivery.span ∷ []) after.spans → FollowsOne is_open (is_sampled delivery.span) before delivery after → after.is_open ≡ before.is_open
+follows_by : (is_open : Bool) (before : ProcessorTelling) (delivery : Delivery) (after : ProcessorTelling)
+    → before.is_open ≡ is_open → Tells before.spans (delivery.span ∷ []) after.spans
+    → FollowsOne is_open (is_sampled delivery.span) before delivery after → after.is_open ≡ before.is_open
     → Follows before (delivery ∷ []) after
 follows_by true before delivery after e spans (reached, missed, reaches, heard, dropped) stays = record {
   spans = spans;
@@ -159,22 +166,40 @@ follows_nothing before after h = record {
 
 -- and so does one that was not asked
 takes_nothing : (telling : ProcessorTelling) → TakesNothing telling telling
-takes_nothing telling = record { spans = refl; heard = tells_same telling.heard telling.heard refl; dropped = refl; never_reopens = λ is_open. is_open }
+takes_nothing telling = record {
+  spans = refl;
+  heard = tells_same telling.heard telling.heard refl;
+  dropped = refl;
+  never_reopens = λ is_open. is_open;
+}
 
--- a telling behind one that stays
-tells_nothing_before : {D : Type 0} (a : Option (List D)) (xs : List D) (b c : Option (List D)) → Tells a xs b → Tells b [] c → Tells a xs c
-tells_nothing_before {D} a xs b c h k = subst (λ (l : List D). Tells a l c) (append-nil xs) (tells_append a xs b [] c h k)
+-- a telling behind which nothing is told
+tells_nothing_behind : {D : Type 0} (a : Option (List D)) (xs : List D) (b c : Option (List D))
+    → Tells a xs b → Tells b [] c → Tells a xs c
+tells_nothing_behind {D} a xs b c h k =
+    subst (λ (l : List D). Tells a l c) (append-nil xs) (tells_append a xs b [] c h k)
+
+-- the spans of one list of deliveries after another
+spans_both : (a b c : Option (List PlainSpanData)) (xs ys : List Delivery)
+    → Tells a (spans_of xs) b → Tells b (spans_of ys) c → Tells a (spans_of (xs ++ ys)) c
+spans_both a b c xs ys h k =
+    let both : Tells a (spans_of xs ++ spans_of ys) c = tells_append a (spans_of xs) b (spans_of ys) c h k in
+    subst (λ (l : List PlainSpanData). Tells a l c) (sym (map-append (λ d. d.span) xs ys)) both
 
 -- one list of deliveries after another, where the processor was open or shut between them
-follows_both : (between : Bool) (a b c : ProcessorTelling) (xs ys : List Delivery) → b.is_open ≡ between → Follows a xs b → Follows b ys c → Follows a (xs ++ ys) c
+follows_both : (between : Bool) (a b c : ProcessorTelling) (xs ys : List Delivery)
+    → b.is_open ≡ between → Follows a xs b → Follows b ys c → Follows a (xs ++ ys) c
 follows_both true a b c xs ys e h k =
     let none : h.while_shut ≡ [] = h.still_open e in
     record {
-      spans = subst (λ (l : List PlainSpanData). Tells a.spans l c.spans) (sym (map-append (λ d. d.span) xs ys)) (tells_append a.spans (spans_of xs) b.spans (spans_of ys) c.spans h.spans k.spans);
+      spans = spans_both a.spans b.spans c.spans xs ys h.spans k.spans;
       while_open = h.while_open ++ k.while_open;
       while_shut = k.while_shut;
-      whole = ap (λ (l : List Delivery). l ++ ys) (h.whole ∙ ap (λ (l : List Delivery). h.while_open ++ l) none ∙ append-nil h.while_open)
-          ∙ ap (λ (l : List Delivery). h.while_open ++ l) k.whole ∙ sym (append_assoc h.while_open k.while_open k.while_shut);
+      whole =
+          let behind : (List Delivery) → List Delivery = λ l. h.while_open ++ l in
+          let first : xs ≡ h.while_open = h.whole ∙ ap behind none ∙ append-nil h.while_open in
+          let regrouped = sym (append_assoc h.while_open k.while_open k.while_shut) in
+          ap (λ (l : List Delivery). l ++ ys) first ∙ ap behind k.whole ∙ regrouped;
       still_open = k.still_open;
       was_shut = λ shut. let was : IsTrue a.is_open = h.never_reopens e in cc;
       reached = h.reached ++ k.reached;
@@ -188,7 +213,7 @@ follows_both false a b c xs ys e h k =
     let none : k.while_open ≡ [] = k.was_shut e in
     let nothing : Reaches [] k.reached k.missed = subst (λ (l : List Delivery). Reaches l k.reached k.missed) none k.reaches in
     record {
-      spans = subst (λ (l : List PlainSpanData). Tells a.spans l c.spans) (sym (map-append (λ d. d.span) xs ys)) (tells_append a.spans (spans_of xs) b.spans (spans_of ys) c.spans h.spans k.spans);
+      spans = spans_both a.spans b.spans c.spans xs ys h.spans k.spans;
       while_open = h.while_open;
       while_shut = h.while_shut ++ ys;
       whole = ap (λ (l : List Delivery). l ++ ys) h.whole ∙ append_assoc h.while_open h.while_shut ys;
@@ -197,10 +222,13 @@ follows_both false a b c xs ys e h k =
       reached = h.reached;
       missed = h.missed;
       reaches = h.reaches;
-      heard = tells_nothing_before a.heard h.reached b.heard c.heard h.heard (subst (λ (l : List PlainSpanData). Tells b.heard l c.heard) nothing.0 k.heard);
+      heard =
+          let after : Tells b.heard [] c.heard = subst (λ (l : List PlainSpanData). Tells b.heard l c.heard) nothing.0 k.heard in
+          tells_nothing_behind a.heard h.reached b.heard c.heard h.heard after;
       dropped =
-          let after : CountsUp b.dropped 0 c.dropped = subst (λ (m : ℕ). CountsUp b.dropped m c.dropped) nothing.1 k.dropped in
-          let both : CountsUp a.dropped (h.missed + 0) c.dropped = counts_both a.dropped h.missed b.dropped 0 c.dropped h.dropped after in
+          let more : ℕ → Type 0 = λ m. CountsUp b.dropped m c.dropped in
+          let after : CountsUp b.dropped 0 c.dropped = subst more nothing.1 k.dropped in
+          let both = counts_both a.dropped h.missed b.dropped 0 c.dropped h.dropped after in
           let same : h.missed + 0 ≡ h.missed = omega arith in
           subst (λ (m : ℕ). CountsUp a.dropped m c.dropped) same both;
       never_reopens = λ is_open. h.never_reopens (k.never_reopens is_open);
@@ -227,9 +255,11 @@ EachFollows-same calls (p ∷ ps) [] e = cc
 EachFollows-same calls (p ∷ ps) (q ∷ qs) e =
     let first : calls.told q ≡ calls.told p = cc in
     let others : map calls.told qs ≡ map calls.told ps = cc in
-    (subst (λ (t : ProcessorTelling). Follows (calls.told p) [] t) (sym first) (follows_nothing (calls.told p) (calls.told p) (takes_nothing (calls.told p))), EachFollows-same calls ps qs others)
+    let stays : Follows (calls.told p) [] (calls.told p) = follows_nothing _ _ (takes_nothing (calls.told p)) in
+    (subst (λ (t : ProcessorTelling). Follows (calls.told p) [] t) (sym first) stays, EachFollows-same calls ps qs others)
 
-each_takes_nothing : {P R : Type 0} (calls : Ghosts P) (G : P → R → P → Type 0) → ((p : P) (r : R) (q : P) → G p r q → TakesNothing (calls.told p) (calls.told q))
+each_takes_nothing : {P R : Type 0} (calls : Ghosts P) (G : P → R → P → Type 0)
+    → ((p : P) (r : R) (q : P) → G p r q → TakesNothing (calls.told p) (calls.told q))
     → (ps : List P) (rs : List R) (qs : List P) → Each G ps rs qs → EachFollows calls [] ps qs
 each_takes_nothing calls G takes [] [] [] h = tt
 each_takes_nothing calls G takes [] [] (q ∷ qs) h = absurd h
@@ -240,15 +270,18 @@ each_takes_nothing calls G takes (p ∷ ps) (r ∷ rs) (q ∷ qs) h =
     (follows_nothing (calls.told p) (calls.told q) (takes p r q h.0), each_takes_nothing calls G takes ps rs qs h.1)
 
 -- processors of which each was asked to flush or to shut down follow no delivery
-pub EachFollows-asked : {P T E : Type 0} (calls : Ghosts P) (G : P → Result T E → P → Type 0) → ((p : P) (r : Result T E) (q : P) → G p r q → TakesNothing (calls.told p) (calls.told q))
+pub EachFollows-asked : {P T E : Type 0} (calls : Ghosts P) (G : P → Result T E → P → Type 0)
+    → ((p : P) (r : Result T E) (q : P) → G p r q → TakesNothing (calls.told p) (calls.told q))
     → (ps qs : List P) (n : ℕ) → AskedAll G ps qs n → EachFollows calls [] ps qs
 EachFollows-asked calls G takes ps qs n h = each_takes_nothing calls G takes ps h.0 qs h.2
 
 -- the processors of a provider that was shut down follow no delivery
-pub EachFollows-shut : {P S G : Type 0} (calls : Ghosts P) (old : ProviderState P S G) (timeout : ℕ) (answer : Result (Unit {0}) OTelSdkError) (new : ProviderState P S G)
+pub EachFollows-shut : {P S G : Type 0} (calls : Ghosts P)
+    (old : ProviderState P S G) (timeout : ℕ) (answer : Result (Unit {0}) OTelSdkError) (new : ProviderState P S G)
     → ShutsDown calls old timeout answer new → EachFollows calls [] old.processors new.processors
 EachFollows-shut calls old timeout answer new h =
-    EachFollows-asked calls (ShutsProcessor calls timeout) (λ p r q done. done.told) old.processors new.processors h.failed h.asked
+    EachFollows-asked calls (ShutsProcessor calls timeout) (λ p r q asked. asked.told)
+    old.processors new.processors h.failed h.asked
 
 -- the errors among more answers are no fewer
 counted_first : {T E : Type 0} (r : Result T E) (rs : List (Result T E)) (n : ℕ) → errors (r ∷ rs) ≤ n → IsCounted r n

@@ -28,7 +28,8 @@ ReachesFirst false delivery Others reached missed = Others reached missed
 -- ones, each once and in order, but for refused and missed ones
 abbrev pub Reaches : List Delivery → List PlainSpanData → ℕ → Type 0
 Reaches [] reached missed = (reached ≡ []) × (missed ≡ 0)
-Reaches (delivery ∷ deliveries) reached missed = ReachesFirst (is_sampled delivery.span) delivery (Reaches deliveries) reached missed
+Reaches (delivery ∷ deliveries) reached missed =
+    ReachesFirst (is_sampled delivery.span) delivery (Reaches deliveries) reached missed
 
 -- a processor before and after deliveries. It tells their spans. It was open for the first of them and shut for the
 -- others: the first ones reached it and are heard or count as dropped, and of the others nothing is heard

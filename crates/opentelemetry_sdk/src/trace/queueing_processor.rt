@@ -1,5 +1,5 @@
-//! An example: a processor of one's own that tells what becomes of each span. It keeps the sampled spans in a queue, and
-//! exports all that waits in one batch when it is flushed or shut down.
+//! An example: a processor of one's own that tells what becomes of each span. It keeps the sampled spans in a queue,
+//! and exports all that waits in one batch when it is flushed or shut down.
 //!
 //! ```text
 //!                      +---------------------------------------+
@@ -9,10 +9,10 @@
 //!        +--> counted as dropped, where the queue is full
 //! ```
 //!
-//! Its telling is one line: what was heard is what the exporter tells, followed by what waits. So a flush, which moves
-//! spans from the queue to the exporter, changes nothing of it, and the layers above need not know that there is a queue.
-//! The check proves that each call keeps what the trait asks of a telling. Where `on_end` lost a span without a count,
-//! `force_flush` forgot the queue, or a batch left out a span, the proof would fail.
+//! What it tells was heard is what the exporter tells, followed by what waits. So a flush, which moves spans from the
+//! queue to the exporter, changes nothing of it, and the layers above need not know that there is a queue. The check
+//! proves that each call keeps what the trait asks of a telling: it would refuse an `on_end` that lost a span without a
+//! count or counted one that it kept, and a `force_flush` that forgot a span.
 
 ghost use Rattle.std.specs.Prelude.{◌≡◌, []};
 

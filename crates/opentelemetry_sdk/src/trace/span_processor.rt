@@ -50,7 +50,7 @@ pub trait SpanProcessor: Drop {
     /// What a shutdown does: the processor before it, the timeout in nanoseconds, the answer, and the processor after it.
     ghost shutdown_gives: { Self → ℕ → Result (Unit {0}) OTelSdkError → Self → Type 0 } = { λ _ _ _ _. Unit {0} };
 
-    /// What it does to hear the resource, where it does anything: the processor before it, the resource, the answer, and
+    /// What it does with the resource, where it does anything: the processor before it, the resource, the answer, and
     /// the processor after it.
     ghost resource_gives: { Self → PlainResource → Result (Unit {0}) AllocError → Self → Type 0 } = { λ _ _ _ _. Unit {0} };
 
@@ -109,7 +109,8 @@ impl SpanProcessor for Box<dyn SpanProcessor> {
 
     ghost shutdown_gives = { λ b t r c. (v : _) × (c ≡ record b { value = v }) × (SpanProcessor-box b).shutdown_gives b.value t r v };
 
-    ghost resource_gives = { λ b s r c. (v : _) × (c ≡ record b { value = v }) × RestsOr (λ x a y. (SpanProcessor-box b).resource_gives x s a y) b.value r v };
+    ghost resource_gives = { λ b s r c. (v : _) × (c ≡ record b { value = v })
+        × RestsOr (λ x a y. (SpanProcessor-box b).resource_gives x s a y) b.value r v };
 
     fn on_start(&mut self, span: &mut Span, cx: &Context) {
         let inner = &mut **self;

@@ -24,14 +24,14 @@ pub trait SpanExporter: Drop {
     /// What a call of `export` does: the exporter before it, the batch, the answer, and the exporter after it.
     ghost export_gives: { Self → List PlainSpanData → Result (Unit {0}) OTelSdkError → Self → Type 0 } = { λ _ _ _ _. Unit {0} };
 
-    /// What a shutdown does, where it does anything: the exporter before it, the timeout in nanoseconds, the answer, and
-    /// the exporter after it.
+    /// What a shutdown does, where it does anything: the exporter before it, the timeout in nanoseconds, the answer,
+    /// and the exporter after it.
     ghost shutdown_gives: { Self → ℕ → Result (Unit {0}) OTelSdkError → Self → Type 0 } = { λ _ _ _ _. Unit {0} };
 
     /// What a flush does, where it does anything.
     ghost flush_gives: { Self → Result (Unit {0}) OTelSdkError → Self → Type 0 } = { λ _ _ _. Unit {0} };
 
-    /// What it does to hear the resource, where it does anything.
+    /// What it does with the resource, where it does anything.
     ghost resource_gives: { Self → PlainResource → Self → Type 0 } = { λ _ _ _. Unit {0} };
 
     /// Takes a batch over. It ends the telling, or appends the batch to it.
@@ -82,11 +82,14 @@ impl SpanExporter for Box<dyn SpanExporter> {
 
     ghost export_gives = { λ b batch r c. (v : _) × (c ≡ record b { value = v }) × (SpanExporter-box b).export_gives b.value batch r v };
 
-    ghost shutdown_gives = { λ b t r c. (v : _) × (c ≡ record b { value = v }) × RestsOr (λ x a y. (SpanExporter-box b).shutdown_gives x t a y) b.value r v };
+    ghost shutdown_gives = { λ b t r c. (v : _) × (c ≡ record b { value = v })
+        × RestsOr (λ x a y. (SpanExporter-box b).shutdown_gives x t a y) b.value r v };
 
-    ghost flush_gives = { λ b r c. (v : _) × (c ≡ record b { value = v }) × RestsOr (SpanExporter-box b).flush_gives b.value r v };
+    ghost flush_gives = { λ b r c. (v : _) × (c ≡ record b { value = v })
+        × RestsOr (SpanExporter-box b).flush_gives b.value r v };
 
-    ghost resource_gives = { λ b s c. (v : _) × (c ≡ record b { value = v }) × StaysOr (λ x y. (SpanExporter-box b).resource_gives x s y) b.value v };
+    ghost resource_gives = { λ b s c. (v : _) × (c ≡ record b { value = v })
+        × StaysOr (λ x y. (SpanExporter-box b).resource_gives x s y) b.value v };
 
     fn export(&mut self, batch: Vec<SpanData>) -> OTelSdkResult {
         let inner = &mut **self;

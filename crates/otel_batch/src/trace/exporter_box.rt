@@ -31,7 +31,9 @@ impl<M: SpanExporter, C: SpanExporter> SpanExporter for ExporterOf<M, C> {
         (λ m n. RestsOr (λ x a y. M.shutdown_gives x t a y) m r n)
         (λ c d. RestsOr (λ x a y. C.shutdown_gives x t a y) c r d) e f };
 
-    ghost flush_gives = { λ e r f. ExporterGives (λ m n. RestsOr M.flush_gives m r n) (λ c d. RestsOr C.flush_gives c r d) e f };
+    ghost flush_gives = { λ e r f. ExporterGives
+        (λ m n. RestsOr M.flush_gives m r n)
+        (λ c d. RestsOr C.flush_gives c r d) e f };
 
     ghost resource_gives = { λ e s f. ExporterGives
         (λ m n. StaysOr (λ x y. M.resource_gives x s y) m n)
