@@ -1,5 +1,6 @@
 -- A baggage: names with values and metadata, in order of insertion (W3C Baggage, section 3.3.1).
 use Rattle.std.specs.Prelude.{◌≡◌, ◌≢◌, ℕ, ◌+◌, ◌<◌, ◌≤◌, ◌⊎◌, List, [], ◌∷◌, Option, None, Some, map, length, find, sum_by, if◌then◌else◌, string_bytes, String}
+use Rattle.std.specs.Option.{option_map}
 use Rattle.std.specs.Str.{bytes_eq}
 use denote.Ref.{Bor}
 
@@ -17,6 +18,10 @@ PlainBaggage = List PlainBaggageEntry
 abbrev pub value_and_metadata : PlainBaggageEntry → List ℕ × List ℕ
 value_and_metadata e = (e.value, e.metadata)
 
+-- the entry of a name, a value and metadata
+abbrev pub entry_of : List ℕ → List ℕ → List ℕ → PlainBaggageEntry
+entry_of name value metadata = record { key = name; value = value; metadata = metadata }
+
 -- the bytes that an entry counts for: those of its name, value and metadata
 abbrev pub entry_bytes : PlainBaggageEntry → ℕ
 entry_bytes e = length e.key + length e.value + length e.metadata
@@ -28,6 +33,14 @@ baggage_bytes es = sum_by entry_bytes es
 -- the entry under a name
 abbrev pub entry_at : PlainBaggage → List ℕ → Option PlainBaggageEntry
 entry_at es name = find (λ e. bytes_eq name e.key) es
+
+-- the value and the metadata that stand under a name
+abbrev pub found_at : PlainBaggage → List ℕ → Option (List ℕ × List ℕ)
+found_at es name = option_map value_and_metadata (entry_at es name)
+
+-- a value and metadata that were handed out, without where they lie
+abbrev pub handed_out : {Y : Type 0} → Option (String Y × List ℕ) → Option (List ℕ × List ℕ)
+handed_out given = option_map (λ pair. (string_bytes pair.0, pair.1)) given
 
 -- the baggage with an entry: in the place of the one of its name, else last
 abbrev pub with_entry : PlainBaggage → PlainBaggageEntry → PlainBaggage

@@ -3,7 +3,7 @@
 
 ghost use Rattle.std.specs.Prelude.{◌≡◌, [], ◌↔◌, length, IsTrue, IfNone, OnOk, OnErr, IfOk, IsErrOf, string_bytes};
 ghost use Rattle.std.specs.Option.{option_map, option_copied};
-ghost use Rattle.opentelemetry.specs.Baggage.{value_and_metadata, entry_at, with_entry, without_entry, BreaksLimit, IsWithinLimits, HasDistinctNames, kept_entries};
+ghost use Rattle.opentelemetry.specs.Baggage.{value_and_metadata, entry_at, entry_of, found_at, handed_out, with_entry, without_entry, BreaksLimit, IsWithinLimits, HasDistinctNames, kept_entries};
 
 pub(crate) mod entries;
 pub mod iter;
@@ -209,9 +209,9 @@ impl Baggage {
         name: String,
         value: String,
     ) -> Result<Option<(String, BaggageMetadata)>, BaggageError>
-        ensures ok { OnOk result (self.new ≡ with_entry self.old (record { key = string_bytes name; value = string_bytes value; metadata = [] })) }
-        ensures replaced { IfOk result (λ old. option_map (λ pair. (string_bytes pair.0, pair.1)) old ≡ option_map value_and_metadata (entry_at self.old (string_bytes name))) }
-        ensures limit { IsErrOf result BaggageError.Limit ↔ BreaksLimit self.old (record { key = string_bytes name; value = string_bytes value; metadata = [] }) }
+        ensures ok { OnOk result (self.new ≡ with_entry self.old (entry_of (string_bytes name) (string_bytes value) [])) }
+        ensures replaced { IfOk result (λ old. handed_out old ≡ found_at self.old (string_bytes name)) }
+        ensures limit { IsErrOf result BaggageError.Limit ↔ BreaksLimit self.old (entry_of (string_bytes name) (string_bytes value) []) }
         ensures err { OnErr result (self.new ≡ self.old) }
     {
         let none = String::new(*name.allocator());
@@ -226,9 +226,9 @@ impl Baggage {
         value: String,
         metadata: BaggageMetadata,
     ) -> Result<Option<(String, BaggageMetadata)>, BaggageError>
-        ensures ok { OnOk result (self.new ≡ with_entry self.old (record { key = string_bytes name; value = string_bytes value; metadata = metadata })) }
-        ensures replaced { IfOk result (λ old. option_map (λ pair. (string_bytes pair.0, pair.1)) old ≡ option_map value_and_metadata (entry_at self.old (string_bytes name))) }
-        ensures limit { IsErrOf result BaggageError.Limit ↔ BreaksLimit self.old (record { key = string_bytes name; value = string_bytes value; metadata = metadata }) }
+        ensures ok { OnOk result (self.new ≡ with_entry self.old (entry_of (string_bytes name) (string_bytes value) metadata)) }
+        ensures replaced { IfOk result (λ old. handed_out old ≡ found_at self.old (string_bytes name)) }
+        ensures limit { IsErrOf result BaggageError.Limit ↔ BreaksLimit self.old (entry_of (string_bytes name) (string_bytes value) metadata) }
         ensures err { OnErr result (self.new ≡ self.old) }
     {
         insert_in(&mut self.entries, name, value, metadata)
@@ -244,7 +244,7 @@ impl Baggage {
     }
 
     pub fn get_with_metadata(&self, name: &str) -> Option<(&str, &BaggageMetadata)>
-        ensures { option_map (λ pair. (pair.0.now, pair.1.now)) result ≡ option_map value_and_metadata (entry_at self.now name.now) }
+        ensures { option_map (λ pair. (pair.0.now, pair.1.now)) result ≡ found_at self.now name.now }
     {
         match &self.entries {
             Some(entries) => entries.get(name),
@@ -255,7 +255,7 @@ impl Baggage {
     /// Takes out the entry of a name. The others keep their order.
     pub fn remove(&mut self, name: &str) -> Option<(String, BaggageMetadata)>
         ensures left { self.new ≡ without_entry self.old name.now }
-        ensures removed { option_map (λ pair. (string_bytes pair.0, pair.1)) result ≡ option_map value_and_metadata (entry_at self.old name.now) }
+        ensures removed { handed_out result ≡ found_at self.old name.now }
     {
         remove_in(&mut self.entries, name)
     }
@@ -336,9 +336,9 @@ fn insert_in(
     value: String,
     metadata: BaggageMetadata,
 ) -> Result<Option<(String, BaggageMetadata)>, BaggageError>
-    ensures ok { OnOk result (kept_entries entries.new ≡ with_entry (kept_entries entries.old) (record { key = string_bytes name; value = string_bytes value; metadata = metadata })) }
-    ensures replaced { IfOk result (λ old. option_map (λ pair. (string_bytes pair.0, pair.1)) old ≡ option_map value_and_metadata (entry_at (kept_entries entries.old) (string_bytes name))) }
-    ensures limit { IsErrOf result BaggageError.Limit ↔ BreaksLimit (kept_entries entries.old) (record { key = string_bytes name; value = string_bytes value; metadata = metadata }) }
+    ensures ok { OnOk result (kept_entries entries.new ≡ with_entry (kept_entries entries.old) (entry_of (string_bytes name) (string_bytes value) metadata)) }
+    ensures replaced { IfOk result (λ old. handed_out old ≡ found_at (kept_entries entries.old) (string_bytes name)) }
+    ensures limit { IsErrOf result BaggageError.Limit ↔ BreaksLimit (kept_entries entries.old) (entry_of (string_bytes name) (string_bytes value) metadata) }
     ensures err { OnErr result (kept_entries entries.new ≡ kept_entries entries.old) }
 {
     match entries {
@@ -358,9 +358,9 @@ fn insert_into(
     value: String,
     metadata: BaggageMetadata,
 ) -> Result<Option<(String, BaggageMetadata)>, BaggageError>
-    ensures ok { OnOk result (entries.new ≡ with_entry entries.old (record { key = string_bytes name; value = string_bytes value; metadata = metadata })) }
-    ensures replaced { IfOk result (λ old. option_map (λ pair. (string_bytes pair.0, pair.1)) old ≡ option_map value_and_metadata (entry_at entries.old (string_bytes name))) }
-    ensures limit { IsErrOf result BaggageError.Limit ↔ BreaksLimit entries.old (record { key = string_bytes name; value = string_bytes value; metadata = metadata }) }
+    ensures ok { OnOk result (entries.new ≡ with_entry entries.old (entry_of (string_bytes name) (string_bytes value) metadata)) }
+    ensures replaced { IfOk result (λ old. handed_out old ≡ found_at entries.old (string_bytes name)) }
+    ensures limit { IsErrOf result BaggageError.Limit ↔ BreaksLimit entries.old (entry_of (string_bytes name) (string_bytes value) metadata) }
     ensures err { OnErr result (entries.new ≡ entries.old) }
 {
     let Some(after) = entries.bytes_after(&name, &value, &metadata) else {
@@ -373,7 +373,7 @@ fn insert_into(
 /// As `Baggage::remove`.
 fn remove_in(entries: &mut Option<Entries>, name: &str) -> Option<(String, BaggageMetadata)>
     ensures left { kept_entries entries.new ≡ without_entry (kept_entries entries.old) name.now }
-    ensures removed { option_map (λ pair. (string_bytes pair.0, pair.1)) result ≡ option_map value_and_metadata (entry_at (kept_entries entries.old) name.now) }
+    ensures removed { handed_out result ≡ found_at (kept_entries entries.old) name.now }
 {
     match entries {
         Some(kept) => kept.remove(name),

@@ -2,7 +2,7 @@
 
 ghost use Rattle.std.specs.Prelude.{◌≡◌, [], ℕ, List, ◌+◌, ◌-◌, ◌^◌, ◌<◌, ◌≤◌, ◌↔◌, min, length, OnOk, OnErr, IfOk, IfSome, IsNone, string_bytes, Some, None};
 ghost use Rattle.std.specs.Option.{option_map};
-ghost use Rattle.opentelemetry.specs.Baggage.{value_and_metadata, entry_bytes, baggage_bytes, entry_at, with_entry, without_entry, plain_entries, BreaksLimit, IsWithinLimits, HasDistinctNames};
+ghost use Rattle.opentelemetry.specs.Baggage.{value_and_metadata, entry_bytes, baggage_bytes, entry_at, entry_of, found_at, handed_out, with_entry, without_entry, plain_entries, BreaksLimit, IsWithinLimits, HasDistinctNames};
 ghost use Rattle.opentelemetry.specs.SameParts.{same_baggage};
 
 use super::BaggageMetadata;
@@ -55,8 +55,8 @@ impl Entries {
         value: &str,
         metadata: &BaggageMetadata,
     ) -> Option<usize>
-        ensures refused { IsNone result ↔ BreaksLimit self.now (record { key = name.now; value = value.now; metadata = metadata.now }) }
-        ensures allowed { IfSome result (λ after. after ≡ baggage_bytes (with_entry self.now (record { key = name.now; value = value.now; metadata = metadata.now }))) }
+        ensures refused { IsNone result ↔ BreaksLimit self.now (entry_of name.now value.now metadata.now) }
+        ensures allowed { IfSome result (λ after. after ≡ baggage_bytes (with_entry self.now (entry_of name.now value.now metadata.now))) }
     {
         allowed_bytes(&self.map, self.bytes, name, value, metadata)
     }
@@ -70,10 +70,10 @@ impl Entries {
         value: String,
         metadata: BaggageMetadata,
     ) -> Result<Option<(String, BaggageMetadata)>, AllocError>
-        requires allowed { ¬ (BreaksLimit self.old (record { key = string_bytes name; value = string_bytes value; metadata = metadata })) }
-        requires counted { after ≡ baggage_bytes (with_entry self.old (record { key = string_bytes name; value = string_bytes value; metadata = metadata })) }
-        ensures ok { OnOk result (self.new ≡ with_entry self.old (record { key = string_bytes name; value = string_bytes value; metadata = metadata })) }
-        ensures replaced { IfOk result (λ old. option_map (λ pair. (string_bytes pair.0, pair.1)) old ≡ option_map value_and_metadata (entry_at self.old (string_bytes name))) }
+        requires allowed { ¬ (BreaksLimit self.old (entry_of (string_bytes name) (string_bytes value) metadata)) }
+        requires counted { after ≡ baggage_bytes (with_entry self.old (entry_of (string_bytes name) (string_bytes value) metadata)) }
+        ensures ok { OnOk result (self.new ≡ with_entry self.old (entry_of (string_bytes name) (string_bytes value) metadata)) }
+        ensures replaced { IfOk result (λ old. handed_out old ≡ found_at self.old (string_bytes name)) }
         ensures err { OnErr result (self.new ≡ self.old) }
     {
         let replaced = put_in(&mut self.map, name, value, metadata)?;
@@ -84,7 +84,7 @@ impl Entries {
     /// Takes out the entry of a name. The others keep their order.
     pub(crate) fn remove(&mut self, name: &str) -> Option<(String, BaggageMetadata)>
         ensures left { self.new ≡ without_entry self.old name.now }
-        ensures removed { option_map (λ pair. (string_bytes pair.0, pair.1)) result ≡ option_map value_and_metadata (entry_at self.old name.now) }
+        ensures removed { handed_out result ≡ found_at self.old name.now }
     {
         let counted = bytes_at(&self.map, name).unwrap_or(0);
         let removed = remove_in(&mut self.map, name);
@@ -93,7 +93,7 @@ impl Entries {
     }
 
     pub(crate) fn get(&self, name: &str) -> Option<(&str, &BaggageMetadata)>
-        ensures { option_map (λ pair. (pair.0.now, pair.1.now)) result ≡ option_map value_and_metadata (entry_at self.now name.now) }
+        ensures { option_map (λ pair. (pair.0.now, pair.1.now)) result ≡ found_at self.now name.now }
     {
         get_in(&self.map, name)
     }
@@ -174,7 +174,7 @@ fn get_in<'a>(
     map: &'a IndexMap<String, (String, BaggageMetadata)>,
     name: &str,
 ) -> Option<(&'a str, &'a BaggageMetadata)>
-    ensures { option_map (λ pair. (pair.0.now, pair.1.now)) result ≡ option_map value_and_metadata (entry_at (plain_entries map.now.entries) name.now) }
+    ensures { option_map (λ pair. (pair.0.now, pair.1.now)) result ≡ found_at (plain_entries map.now.entries) name.now }
 {
     match map.get(name) {
         Some(kept) => Some((kept.0.as_str(), &kept.1)),
@@ -187,7 +187,7 @@ fn remove_in(
     name: &str,
 ) -> Option<(String, BaggageMetadata)>
     ensures left { plain_entries map.new.entries ≡ without_entry (plain_entries map.old.entries) name.now }
-    ensures removed { option_map (λ pair. (string_bytes pair.0, pair.1)) result ≡ option_map value_and_metadata (entry_at (plain_entries map.old.entries) name.now) }
+    ensures removed { handed_out result ≡ found_at (plain_entries map.old.entries) name.now }
 {
     map.shift_remove(name)
 }
@@ -199,8 +199,8 @@ fn put_in(
     value: String,
     metadata: BaggageMetadata,
 ) -> Result<Option<(String, BaggageMetadata)>, AllocError>
-    ensures ok { OnOk result (plain_entries map.new.entries ≡ with_entry (plain_entries map.old.entries) (record { key = string_bytes name; value = string_bytes value; metadata = metadata })) }
-    ensures replaced { IfOk result (λ old. option_map (λ pair. (string_bytes pair.0, pair.1)) old ≡ option_map value_and_metadata (entry_at (plain_entries map.old.entries) (string_bytes name))) }
+    ensures ok { OnOk result (plain_entries map.new.entries ≡ with_entry (plain_entries map.old.entries) (entry_of (string_bytes name) (string_bytes value) metadata)) }
+    ensures replaced { IfOk result (λ old. handed_out old ≡ found_at (plain_entries map.old.entries) (string_bytes name)) }
     ensures err { OnErr result (plain_entries map.new.entries ≡ plain_entries map.old.entries) }
 {
     match map.insert(name, (value, metadata)) {
@@ -222,7 +222,7 @@ fn bytes_at(map: &IndexMap<String, (String, BaggageMetadata)>, name: &str) -> Op
 
 /// How many entries stand after one was put.
 fn count_with(map: &IndexMap<String, (String, BaggageMetadata)>, name: &str) -> usize
-    ensures { (value metadata : List ℕ) → result ≡ length (with_entry (plain_entries map.now.entries) (record { key = name.now; value = value; metadata = metadata })) }
+    ensures { (value metadata : List ℕ) → result ≡ length (with_entry (plain_entries map.now.entries) (entry_of name.now value metadata)) }
 {
     if map.contains_key(name) {
         map.len()
@@ -241,7 +241,7 @@ fn bytes_with(
 ) -> usize
     requires counted { bytes ≡ baggage_bytes (plain_entries map.now.entries) }
     requires small { bytes ≤ 8192 }
-    ensures { result ≡ min (baggage_bytes (with_entry (plain_entries map.now.entries) (record { key = name.now; value = value.now; metadata = metadata.now }))) (2 ^ 64 - 1) }
+    ensures { result ≡ min (baggage_bytes (with_entry (plain_entries map.now.entries) (entry_of name.now value.now metadata.now))) (2 ^ 64 - 1) }
 {
     let replaced = bytes_at(map, name).unwrap_or(0);
     let added = name
@@ -261,8 +261,8 @@ fn allowed_bytes(
 ) -> Option<usize>
     requires counted { bytes ≡ baggage_bytes (plain_entries map.now.entries) }
     requires small { bytes ≤ 8192 }
-    ensures refused { IsNone result ↔ BreaksLimit (plain_entries map.now.entries) (record { key = name.now; value = value.now; metadata = metadata.now }) }
-    ensures allowed { IfSome result (λ after. after ≡ baggage_bytes (with_entry (plain_entries map.now.entries) (record { key = name.now; value = value.now; metadata = metadata.now }))) }
+    ensures refused { IsNone result ↔ BreaksLimit (plain_entries map.now.entries) (entry_of name.now value.now metadata.now) }
+    ensures allowed { IfSome result (λ after. after ≡ baggage_bytes (with_entry (plain_entries map.now.entries) (entry_of name.now value.now metadata.now))) }
 {
     if name.is_empty() {
         return None;
