@@ -1,6 +1,6 @@
 -- A baggage: names with values and metadata, in order of insertion (W3C Baggage, section 3.3.1).
 use Rattle.std.specs.Prelude.{◌≡◌, ◌≢◌, ℕ, ◌+◌, ◌<◌, ◌≤◌, ◌⊎◌, List, [], ◌∷◌, Option, None, Some, map, length, find, sum_by, if◌then◌else◌, string_bytes, String}
-use Rattle.std.specs.Option.{option_map}
+use Rattle.std.specs.Option.{option_map, option_map_or}
 use Rattle.std.specs.Str.{bytes_eq}
 use denote.Ref.{Bor}
 
@@ -37,6 +37,10 @@ entry_at es name = find (λ e. bytes_eq name e.key) es
 -- the value and the metadata that stand under a name
 abbrev pub found_at : PlainBaggage → List ℕ → Option (List ℕ × List ℕ)
 found_at es name = option_map value_and_metadata (entry_at es name)
+
+-- the bytes that what was found under a name counts for with its name; none where nothing was found
+abbrev pub found_bytes : List ℕ → Option (List ℕ × List ℕ) → ℕ
+found_bytes name found = option_map_or (λ pair. length name + length pair.0 + length pair.1) found 0
 
 -- a value and metadata that were handed out, without where they lie
 abbrev pub handed_out : {Y : Type 0} → Option (String Y × List ℕ) → Option (List ℕ × List ℕ)

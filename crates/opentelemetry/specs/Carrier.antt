@@ -1,5 +1,5 @@
 -- What carries headers: a finite map from names to texts.
-use Rattle.std.specs.Prelude.{◌≡◌, ◌≢◌, ℕ, List, Option, Some}
+use Rattle.std.specs.Prelude.{◌≡◌, ◌≢◌, ◌⊎◌, ℕ, List, [], ◌∷◌, Option, Some}
 use Rattle.std.specs.Str.{str_to_ascii_lowercase}
 
 -- the texts that a carrier has, by name
@@ -18,3 +18,8 @@ pub record SetsText (old new : Texts) (name text : List ℕ) : Type 0 where
 -- every name has the text that it had
 abbrev pub SameTexts : Texts → Texts → Type 0
 SameTexts old new = (name : List ℕ) → new name ≡ old name
+
+-- one of the names differs from this one in ASCII case at most
+abbrev pub HasName : List ℕ → List (List ℕ) → Type 0
+HasName name [] = ⊥
+HasName name (other ∷ more) = (str_to_ascii_lowercase other ≡ str_to_ascii_lowercase name) ⊎ HasName name more

@@ -1,10 +1,10 @@
 -- The text form of a trace state (W3C Trace Context, section 3.3): members `key=value` between commas. This reading is
 -- lenient: keys of every vendor form are one form, any number of members is taken, and a key may stand twice.
-use Rattle.std.specs.Prelude.{◌≡◌, ℕ, ◌-◌, Bool, true, false, not, ◌&&◌, ◌||◌, List, [], ◌∷◌, ◌++◌, Option, Some, None, map, length, reverse, slice_index, nat_le, ◌==◌, IsTrue, if◌then◌else◌}
-use Rattle.std.specs.List.{AllZip, before_first, after_first, position_or_len, filter, join_with_byte, list_all, slice_split}
+use Rattle.std.specs.Prelude.{◌≡◌, ℕ, ◌-◌, Bool, true, false, not, ◌&&◌, ◌||◌, List, [], ◌∷◌, ◌++◌, Option, Some, None, map, length, reverse, slice_index, slice_get, nat_le, nat_lt, ◌==◌, IsTrue, if◌then◌else◌}
+use Rattle.std.specs.List.{AllByRecursion, AllZip, before_first, after_first, position_or_len, filter, join_with_byte, list_all, slice_split}
 use Rattle.opentelemetry.specs.declared.trace.trace_state.TraceStateError.{TraceStateError}
 use Rattle.opentelemetry.specs.declared.trace.trace_state.TraceStateError.TheVariants as faults
-use denote.Ref.{Bor}
+use Rattle.std.specs.Option.{option_map_or}
 use Rattle.opentelemetry.specs.Same.{same_text}
 
 -- a byte that a key may begin with: a to z, or 0 to 9
@@ -23,9 +23,17 @@ is_key bs = nat_le 1 (length bs) && (nat_le (length bs) 256 && (is_key_start (sl
 abbrev pub is_value_byte : ℕ → Bool
 is_value_byte b = (nat_le 32 b && nat_le b 126) && not (b == 44 || b == 61)
 
+-- the last byte; the empty list has none
+abbrev pub last_byte : List ℕ → Option ℕ
+last_byte bs = slice_get bs (length bs - 1)
+
+-- the last byte is a space
+abbrev pub ends_with_space : List ℕ → Bool
+ends_with_space bs = option_map_or (λ b. b == 32) (last_byte bs) false
+
 -- a value of at most 256 bytes, whose last byte is no space
 abbrev pub is_value : List ℕ → Bool
-is_value bs = nat_le (length bs) 256 && (list_all is_value_byte bs && not (slice_index bs (length bs - 1) == 32))
+is_value bs = nat_le (length bs) 256 && (list_all is_value_byte bs && not (ends_with_space bs))
 
 -- a space or a tab
 abbrev pub is_blank : ℕ → Bool
@@ -48,6 +56,14 @@ is_some_text (b ∷ bs) = true
 -- the members of a text: what stands between commas, trimmed, empty ones left out
 abbrev pub members : List ℕ → List (List ℕ)
 members bs = filter is_some_text (map trimmed (slice_split (λ b. b == 44) bs))
+
+-- a pair of a key and a value
+abbrev pub IsPair : List ℕ × List ℕ → Type 0
+IsPair pair = IsTrue (is_key pair.0) × IsTrue (is_value pair.1)
+
+-- each pair is one of a key and a value
+abbrev pub ArePairs : List (List ℕ × List ℕ) → Type 0
+ArePairs pairs = AllByRecursion IsPair pairs
 
 -- a member that spells a key and a value
 abbrev pub SpellsPair : List ℕ → List ℕ × List ℕ → Type 0
@@ -92,6 +108,10 @@ first_pair_fault (pair ∷ more) = first_of_two (pair_fault pair) (first_pair_fa
 abbrev pub member_text : List ℕ × List ℕ → List ℕ
 member_text pair = pair.0 ++ 61 ∷ pair.1
 
+-- the member that spells a pair, behind so many others: a comma stands between two
+abbrev pub next_member_text : ℕ → List ℕ × List ℕ → List ℕ
+next_member_text before pair = if nat_lt 0 before then 44 ∷ member_text pair else member_text pair
+
 -- the header of a trace state
 abbrev pub tracestate_text : List (List ℕ × List ℕ) → List ℕ
 tracestate_text pairs = join_with_byte 44 (map member_text pairs)
@@ -104,16 +124,3 @@ without_key key pairs = filter (λ pair. not (same_text pair.0 key)) pairs
 abbrev pub value_of_key : List ℕ → List (List ℕ × List ℕ) → Option (List ℕ)
 value_of_key key [] = None
 value_of_key key (pair ∷ more) = if same_text pair.0 key then Some pair.1 else value_of_key key more
-
--- what is left to cut at commas
-abbrev pub pieces_left : Option (Bor (List ℕ)) → List (List ℕ)
-pieces_left None = []
-pieces_left (Some rest) = slice_split (λ b. b == 44) rest.now
-
--- the members of what is left
-abbrev pub members_left : Option (Bor (List ℕ)) → List (List ℕ)
-members_left rest = filter is_some_text (map trimmed (pieces_left rest))
-
--- what is wrong with a trimmed piece: nothing where it is empty
-abbrev pub piece_fault : List ℕ → Option TraceStateError
-piece_fault piece = if is_some_text piece then member_fault piece else None

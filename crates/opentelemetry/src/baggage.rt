@@ -1,9 +1,10 @@
 //! Names with values that an application hands on from process to process (W3C Baggage). A baggage keeps its entries
 //! in order of insertion, at most 64 of them and at most 8192 bytes of names, values and metadata together.
 
-ghost use Rattle.std.specs.Prelude.{◌≡◌, [], ◌↔◌, length, IsTrue, IfNone, OnOk, OnErr, IfOk, IsErrOf, string_bytes};
+ghost use Rattle.std.specs.Prelude.{◌≡◌, [], ◌↔◌, length, IsTrue, IfNone, None, OnOk, OnErr, IfOk, IsErrOf, string_bytes};
 ghost use Rattle.std.specs.Option.{option_map, option_copied};
-ghost use Rattle.opentelemetry.specs.Baggage.{value_and_metadata, entry_at, entry_of, found_at, handed_out, with_entry, without_entry, BreaksLimit, IsWithinLimits, HasDistinctNames, kept_entries};
+ghost use Rattle.opentelemetry.specs.Baggage.{entry_at, entry_of, found_at, handed_out, with_entry, without_entry};
+ghost use Rattle.opentelemetry.specs.Baggage.{BreaksLimit, IsWithinLimits, HasDistinctNames, kept_entries};
 
 pub(crate) mod entries;
 pub mod iter;
@@ -203,15 +204,18 @@ impl Baggage {
         }
     }
 
-    /// Puts a name with its value and no metadata, and gives back what it replaced.
+    /// Puts a name with its value and no metadata, and gives back what it replaced. Only a new name takes memory.
     pub fn insert(
         &mut self,
         name: String,
         value: String,
     ) -> Result<Option<(String, BaggageMetadata)>, BaggageError>
-        ensures ok { OnOk result (self.new ≡ with_entry self.old (entry_of (string_bytes name) (string_bytes value) [])) }
+        ensures ok { OnOk result
+            (self.new ≡ with_entry self.old (entry_of (string_bytes name) (string_bytes value) [])) }
         ensures replaced { IfOk result (λ old. handed_out old ≡ found_at self.old (string_bytes name)) }
-        ensures limit { IsErrOf result BaggageError.Limit ↔ BreaksLimit self.old (entry_of (string_bytes name) (string_bytes value) []) }
+        ensures limit { IsErrOf result BaggageError.Limit
+            ↔ BreaksLimit self.old (entry_of (string_bytes name) (string_bytes value) []) }
+        ensures memory { IsErrOf result BaggageError.Memory → entry_at self.old (string_bytes name) ≡ None }
         ensures err { OnErr result (self.new ≡ self.old) }
     {
         let none = String::new(*name.allocator());
@@ -219,16 +223,19 @@ impl Baggage {
     }
 
     /// Puts a name with its value and metadata: in the place of the entry of that name, else last. Gives back what it
-    /// replaced. `Limit` where a limit does not allow the entry, and only else `Memory`.
+    /// replaced. `Limit` where a limit does not allow the entry, and only else `Memory`. Only a new name takes memory.
     pub fn insert_with_metadata(
         &mut self,
         name: String,
         value: String,
         metadata: BaggageMetadata,
     ) -> Result<Option<(String, BaggageMetadata)>, BaggageError>
-        ensures ok { OnOk result (self.new ≡ with_entry self.old (entry_of (string_bytes name) (string_bytes value) metadata)) }
+        ensures ok { OnOk result
+            (self.new ≡ with_entry self.old (entry_of (string_bytes name) (string_bytes value) metadata)) }
         ensures replaced { IfOk result (λ old. handed_out old ≡ found_at self.old (string_bytes name)) }
-        ensures limit { IsErrOf result BaggageError.Limit ↔ BreaksLimit self.old (entry_of (string_bytes name) (string_bytes value) metadata) }
+        ensures limit { IsErrOf result BaggageError.Limit
+            ↔ BreaksLimit self.old (entry_of (string_bytes name) (string_bytes value) metadata) }
+        ensures memory { IsErrOf result BaggageError.Memory → entry_at self.old (string_bytes name) ≡ None }
         ensures err { OnErr result (self.new ≡ self.old) }
     {
         insert_in(&mut self.entries, name, value, metadata)
@@ -336,9 +343,13 @@ fn insert_in(
     value: String,
     metadata: BaggageMetadata,
 ) -> Result<Option<(String, BaggageMetadata)>, BaggageError>
-    ensures ok { OnOk result (kept_entries entries.new ≡ with_entry (kept_entries entries.old) (entry_of (string_bytes name) (string_bytes value) metadata)) }
+    ensures ok { OnOk result (kept_entries entries.new
+        ≡ with_entry (kept_entries entries.old) (entry_of (string_bytes name) (string_bytes value) metadata)) }
     ensures replaced { IfOk result (λ old. handed_out old ≡ found_at (kept_entries entries.old) (string_bytes name)) }
-    ensures limit { IsErrOf result BaggageError.Limit ↔ BreaksLimit (kept_entries entries.old) (entry_of (string_bytes name) (string_bytes value) metadata) }
+    ensures limit { IsErrOf result BaggageError.Limit
+        ↔ BreaksLimit (kept_entries entries.old) (entry_of (string_bytes name) (string_bytes value) metadata) }
+    ensures memory { IsErrOf result BaggageError.Memory
+        → entry_at (kept_entries entries.old) (string_bytes name) ≡ None }
     ensures err { OnErr result (kept_entries entries.new ≡ kept_entries entries.old) }
 {
     match entries {
@@ -358,9 +369,12 @@ fn insert_into(
     value: String,
     metadata: BaggageMetadata,
 ) -> Result<Option<(String, BaggageMetadata)>, BaggageError>
-    ensures ok { OnOk result (entries.new ≡ with_entry entries.old (entry_of (string_bytes name) (string_bytes value) metadata)) }
+    ensures ok { OnOk result
+        (entries.new ≡ with_entry entries.old (entry_of (string_bytes name) (string_bytes value) metadata)) }
     ensures replaced { IfOk result (λ old. handed_out old ≡ found_at entries.old (string_bytes name)) }
-    ensures limit { IsErrOf result BaggageError.Limit ↔ BreaksLimit entries.old (entry_of (string_bytes name) (string_bytes value) metadata) }
+    ensures limit { IsErrOf result BaggageError.Limit
+        ↔ BreaksLimit entries.old (entry_of (string_bytes name) (string_bytes value) metadata) }
+    ensures memory { IsErrOf result BaggageError.Memory → entry_at entries.old (string_bytes name) ≡ None }
     ensures err { OnErr result (entries.new ≡ entries.old) }
 {
     let Some(after) = entries.bytes_after(&name, &value, &metadata) else {

@@ -6,7 +6,7 @@ ghost use Rattle.std.specs.Prelude.{◌≡◌, ℕ, List, Result, OnOk, OnErr, I
 ghost use Rattle.std.specs.Option.{option_copied};
 ghost use Rattle.std.specs.Iterator.{YieldsFirstBy, item_count};
 ghost use Rattle.std.specs.declared.alloc.AllocError.{AllocError};
-ghost use Rattle.opentelemetry.specs.Carrier.{Texts, SetsText, SameTexts};
+ghost use Rattle.opentelemetry.specs.Carrier.{Texts, SetsText, SameTexts, HasName};
 ghost use Rattle.opentelemetry.specs.Plain.{PlainContext};
 
 pub mod map_carrier;
@@ -39,16 +39,19 @@ pub trait Extractor {
     fn get(&self, key: &str) -> Option<&str>
         ensures { option_copied result ≡ reads self.now key.now };
 
-    /// The names, each with a text.
+    /// The names, each with a text. A name that can be read is one of them, in the same case or another.
     fn keys(&self, alloc: Global) -> Result<Vec<&str>, AllocError>
         ensures named { IfOk result (λ keys. map (λ key. key.now) keys.items ≡ names self.now) }
-        ensures read { IfOk result (λ keys. All (λ key. IsSome (reads self.now key.now)) keys.items) };
+        ensures read { IfOk result (λ keys. All (λ key. IsSome (reads self.now key.now)) keys.items) }
+        ensures complete { (name : List ℕ) → IsSome (reads self.now name) → HasName name (names self.now) };
 }
 
 /// Writes what of a context travels into a carrier, and reads it from one.
 pub trait TextMapPropagator {
     /// An answer of `inject_context`: the context, what the carrier had, the answer, and what the carrier has then.
-    ghost inject_gives: { Self → PlainContext → Texts → Result (Unit {0}) AllocError → Texts → Type 0 } = { λ _ _ _ _ _. Unit {0} };
+    ghost inject_gives: {
+        Self → PlainContext → Texts → Result (Unit {0}) AllocError → Texts → Type 0
+    } = { λ _ _ _ _ _. Unit {0} };
 
     ghost extract_gives: { Self → PlainContext → Texts → PlainContext → Type 0 } = { λ _ _ _ _. Unit {0} };
 

@@ -1,15 +1,17 @@
 //! The vendor data that travels with a span context (W3C Trace Context, section 3.3): pairs of a key and a value, in
 //! order. Clones share one copy.
 
-ghost use Rattle.std.specs.Prelude.{◌≡◌, ℕ, List, [], ◌∷◌, map, string_bytes, option_map, MatchOption, MatchResult, IfOk, IfErr, IsOk, IsTrue, Err, if◌then◌else◌};
+ghost use Rattle.std.specs.Prelude.{◌≡◌, ◌≢◌, ℕ, List, [], ◌∷◌, map, string_bytes, option_map, MatchOption, MatchResult};
+ghost use Rattle.std.specs.Prelude.{IfOk, IfErr, OnErr, IsOk, IsTrue, Err, if◌then◌else◌};
 ghost use Rattle.opentelemetry.specs.PlainValues.{plain_pair};
-ghost use Rattle.opentelemetry.specs.Tracestate.{IsTracestate, first_fault, first_pair_fault, is_key, members, pair_fault, tracestate_text, value_of_key, without_key};
+ghost use Rattle.opentelemetry.specs.Tracestate.{ArePairs, IsTracestate, first_fault, first_pair_fault, is_key, members};
+ghost use Rattle.opentelemetry.specs.Tracestate.{pair_fault, tracestate_text, value_of_key, without_key};
 
 mod grammar;
 mod pairs;
 
 use grammar::{is_key, pair_fault, text_fault};
-use pairs::{first_pair_fault, header, read_members, value_of_key, without_key};
+use pairs::{first_pair_fault, header, read_members, value_of_key, with_pair, without_key};
 use std::alloc::{AllocError, Global};
 use std::marker::Model;
 use std::sync::Arc;
@@ -49,10 +51,13 @@ pub struct TraceState {
 impl Model for TraceState {
     ghost use Rattle.std.specs.Prelude.{ℕ, List};
     ghost use Rattle.opentelemetry.specs.PlainValues.{shared_pairs};
+    ghost use Rattle.opentelemetry.specs.Tracestate.{ArePairs};
 
     ghost Value = { List (List ℕ × List ℕ) };
 
     ghost view = { λ state. shared_pairs state.pairs };
+
+    ghost invariant = { λ state. ArePairs (shared_pairs state.pairs) };
 }
 
 impl TraceState {
@@ -64,11 +69,16 @@ impl TraceState {
     }
 
     /// Reads the text of a header. Spaces and tabs around a member are left out, and so are empty members; a key may
-    /// stand twice. A text with a bad member is refused for the first one, whether memory is there or not.
+    /// stand twice. A text with a bad member is refused for the first one, whether memory is there or not. A text
+    /// without members takes no memory.
     pub fn from_str(alloc: Global, text: &str) -> Result<TraceState, TraceStateError>
         ensures value { IfOk result (λ state. IsTracestate text.now state) }
-        ensures only { (pairs : List (List ℕ × List ℕ)) → IsTracestate text.now pairs → MatchResult result (λ state. state ≡ pairs) (λ fault. fault ≡ TraceStateError.Memory) }
-        ensures fault { MatchOption (first_fault (members text.now)) (IfErr result (λ fault. fault ≡ TraceStateError.Memory)) (λ fault. result ≡ Err fault) }
+        ensures only { (pairs : List (List ℕ × List ℕ)) → IsTracestate text.now pairs
+            → MatchResult result (λ state. state ≡ pairs) (λ fault. fault ≡ TraceStateError.Memory) }
+        ensures fault { MatchOption (first_fault (members text.now))
+            (IfErr result (λ fault. fault ≡ TraceStateError.Memory))
+            (λ fault. result ≡ Err fault) }
+        ensures free { members text.now ≡ [] → IsOk result }
     {
         if let Some(fault) = text_fault(text) {
             return Err(fault);
@@ -77,13 +87,17 @@ impl TraceState {
         Ok(shared(alloc, pairs)?)
     }
 
-    /// Takes pairs as they come; a key may stand twice. The first bad pair is named, its key before its value.
+    /// Takes pairs as they come; a key may stand twice. The first bad pair is named, its key before its value. No pairs
+    /// take no memory.
     pub fn from_key_value(
         alloc: Global,
         pairs: Vec<(String, String)>,
     ) -> Result<TraceState, TraceStateError>
         ensures value { IfOk result (λ state. state ≡ map plain_pair pairs.items) }
-        ensures fault { MatchOption (first_pair_fault (map plain_pair pairs.items)) (IfErr result (λ fault. fault ≡ TraceStateError.Memory)) (λ fault. result ≡ Err fault) }
+        ensures fault { MatchOption (first_pair_fault (map plain_pair pairs.items))
+            (IfErr result (λ fault. fault ≡ TraceStateError.Memory))
+            (λ fault. result ≡ Err fault) }
+        ensures free { map plain_pair pairs.items ≡ [] → IsOk result }
     {
         if let Some(fault) = first_pair_fault(pairs.as_slice()) {
             return Err(fault);
@@ -105,20 +119,26 @@ impl TraceState {
         key: String,
         value: String,
     ) -> Result<TraceState, TraceStateError>
-        ensures value { IfOk result (λ state. state ≡ (string_bytes key, string_bytes value) ∷ without_key (string_bytes key) self.now) }
-        ensures fault { MatchOption (pair_fault (string_bytes key, string_bytes value)) (IfErr result (λ fault. fault ≡ TraceStateError.Memory)) (λ fault. result ≡ Err fault) }
+        ensures value { IfOk result (λ state. state
+            ≡ (string_bytes key, string_bytes value) ∷ without_key (string_bytes key) self.now) }
+        ensures fault { MatchOption (pair_fault (string_bytes key, string_bytes value))
+            (IfErr result (λ fault. fault ≡ TraceStateError.Memory))
+            (λ fault. result ≡ Err fault) }
     {
         if let Some(fault) = pair_fault(key.as_str(), value.as_str()) {
             return Err(fault);
         }
-        Ok(self.with_pair(alloc, key, value)?)
+        let pairs = with_pair(alloc, self.entries(), key, value)?;
+        Ok(shared(alloc, pairs)?)
     }
 
-    /// A copy without the pairs of the key, which has to be a key.
+    /// A copy without the pairs of the key, which has to be a key. Where no pair is left, this takes no memory.
     pub fn delete(&self, alloc: Global, key: &str) -> Result<TraceState, TraceStateError>
         ensures value { IfOk result (λ state. state ≡ without_key key.now self.now) }
-        ensures fault { IfErr result (λ fault. fault ≡ (if is_key key.now then TraceStateError.Memory else TraceStateError.Key)) }
+        ensures fault { IfErr result (λ fault. fault
+            ≡ (if is_key key.now then TraceStateError.Memory else TraceStateError.Key)) }
         ensures key { IsOk result → IsTrue (is_key key.now) }
+        ensures free { IsTrue (is_key key.now) → without_key key.now self.now ≡ [] → IsOk result }
     {
         if !is_key(key) {
             return Err(TraceStateError::Key);
@@ -127,24 +147,19 @@ impl TraceState {
         Ok(shared(alloc, pairs)?)
     }
 
-    /// The text of the header: the members `key=value`, joined by commas.
+    /// The text of the header: the members `key=value`, joined by commas. The empty one takes no memory.
     pub fn header(&self, alloc: Global) -> Result<String, AllocError>
-        ensures { IfOk result (λ text. string_bytes text ≡ tracestate_text self.now) }
+        ensures ok { IfOk result (λ text. string_bytes text ≡ tracestate_text self.now) }
+        ensures reads_back { IsTracestate (tracestate_text self.now) self.now }
+        ensures free { self.now ≡ [] → IsOk result }
     {
         header(alloc, self.entries())
     }
 
-    fn with_pair(&self, alloc: Global, key: String, value: String) -> Result<TraceState, AllocError>
-        ensures { IfOk result (λ state. state ≡ (string_bytes key, string_bytes value) ∷ without_key (string_bytes key) self.now) }
-    {
-        let mut pairs = without_key(alloc, self.entries(), key.as_str())?;
-        pairs.insert(0, (key, value))?;
-        shared(alloc, pairs)
-    }
-
     // The pairs, where they lie.
-    fn entries(&self) -> &[(String, String)]
-        ensures { map (λ p. (string_bytes p.0, string_bytes p.1)) result.now ≡ self.now }
+    pub(crate) fn entries(&self) -> &[(String, String)]
+        ensures value { map (λ p. (string_bytes p.0, string_bytes p.1)) result.now ≡ self.now }
+        ensures pairs { ArePairs self.now }
     {
         match &self.pairs {
             Some(pairs) => pairs.as_slice(),
@@ -155,7 +170,9 @@ impl TraceState {
 
 // A trace state whose clones will share these pairs.
 fn shared(alloc: Global, pairs: Vec<(String, String)>) -> Result<TraceState, AllocError>
-    ensures { IfOk result (λ state. state ≡ map plain_pair pairs.items) }
+    requires { ArePairs (map plain_pair pairs.items) }
+    ensures ok { IfOk result (λ state. state ≡ map plain_pair pairs.items) }
+    ensures err { OnErr result (map plain_pair pairs.items ≢ []) }
 {
     if pairs.is_empty() {
         return Ok(TraceState::new());
