@@ -23,6 +23,21 @@ plain_value (values.I64 n) = integer n
 plain_value (values.String t) = text (string_bytes t)
 plain_value (values.Array a) = plain_array a
 
+-- a value without a text and without a list: a copy takes no memory
+abbrev pub IsScalar : PlainValue → Type 0
+IsScalar (boolean b) = Unit {0}
+IsScalar (integer n) = Unit {0}
+IsScalar (text t) = ⊥
+IsScalar (booleans bs) = ⊥
+IsScalar (integers ns) = ⊥
+IsScalar (texts ts) = ⊥
+
+-- a status without a description: a copy takes no memory
+abbrev pub IsBare : PlainStatus → Type 0
+IsBare unset = Unit {0}
+IsBare (error description) = ⊥
+IsBare ok = Unit {0}
+
 -- a status without where it lies
 abbrev pub plain_status : Status → PlainStatus
 plain_status statuses.Unset = unset

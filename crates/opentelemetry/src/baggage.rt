@@ -97,7 +97,7 @@ impl Eq for BaggageMetadata {
 }
 
 /// One entry of a baggage.
-#[derive(Debug, Drop)]
+#[derive(Clone, Debug, Drop)]
 pub struct KeyValueMetadata {
     pub key: String,
     pub value: String,
@@ -122,20 +122,6 @@ impl KeyValueMetadata {
             value,
             metadata,
         }
-    }
-}
-
-impl Clone for KeyValueMetadata {
-    ghost use Rattle.std.specs.Prelude.{◌≡◌};
-
-    ghost is_clone = { λ entry copy. copy ≡ entry };
-
-    fn clone(&self) -> Result<KeyValueMetadata, AllocError> {
-        Ok(KeyValueMetadata {
-            key: self.key.clone()?,
-            value: self.value.clone()?,
-            metadata: self.metadata.clone()?,
-        })
     }
 }
 
@@ -164,7 +150,7 @@ impl Eq for KeyValueMetadata {
 }
 
 /// Entries in order of insertion, within the limits.
-#[derive(Debug, Drop)]
+#[derive(Clone, Debug, Drop)]
 pub struct Baggage {
     entries: Option<Entries>,
 }
@@ -292,18 +278,6 @@ impl Baggage {
         ensures { IsTrue result ↔ (self.now ≡ []) }
     {
         self.len() == 0
-    }
-}
-
-impl Clone for Baggage {
-    ghost use Rattle.std.specs.Prelude.{◌≡◌};
-
-    ghost is_clone = { λ baggage copy. copy ≡ baggage };
-
-    fn clone(&self) -> Result<Baggage, AllocError> {
-        Ok(Baggage {
-            entries: self.entries.clone()?,
-        })
     }
 }
 

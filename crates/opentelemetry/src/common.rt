@@ -16,7 +16,7 @@ use std::marker::Model;
 use std::sync::Arc;
 
 /// The name of an attribute.
-#[derive(Debug, Drop)]
+#[derive(Clone, Debug, Drop)]
 pub struct Key(String);
 
 impl Model for Key {
@@ -38,16 +38,6 @@ impl Key {
         ensures { result.now ≡ self.now }
     {
         self.0.as_str()
-    }
-}
-
-impl Clone for Key {
-    ghost use Rattle.std.specs.Prelude.{◌≡◌};
-
-    ghost is_clone = { λ key copy. copy ≡ key };
-
-    fn clone(&self) -> Result<Key, AllocError> {
-        Ok(Key(self.0.clone()?))
     }
 }
 
@@ -187,9 +177,11 @@ pub enum Value {
 
 impl Clone for Value {
     ghost use Rattle.std.specs.Prelude.{◌≡◌};
-    ghost use Rattle.opentelemetry.specs.PlainValues.{plain_value};
+    ghost use Rattle.opentelemetry.specs.PlainValues.{plain_value, IsScalar};
 
     ghost is_clone = { λ value copy. plain_value copy ≡ plain_value value };
+
+    ghost is_infallible = { λ value. IsScalar (plain_value value) };
 
     fn clone(&self) -> Result<Value, AllocError> {
         match self {
@@ -236,7 +228,7 @@ impl Eq for Value {
 }
 
 /// An attribute.
-#[derive(Debug, Drop)]
+#[derive(Clone, Debug, Drop)]
 pub struct KeyValue {
     pub key: Key,
     pub value: Value,
@@ -256,19 +248,6 @@ impl KeyValue {
         ensures { result ≡ record { key = key; value = plain_value value } }
     {
         KeyValue { key, value }
-    }
-}
-
-impl Clone for KeyValue {
-    ghost use Rattle.std.specs.Prelude.{◌≡◌};
-
-    ghost is_clone = { λ attribute copy. copy ≡ attribute };
-
-    fn clone(&self) -> Result<KeyValue, AllocError> {
-        Ok(KeyValue {
-            key: self.key.clone()?,
-            value: self.value.clone()?,
-        })
     }
 }
 

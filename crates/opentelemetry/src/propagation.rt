@@ -75,7 +75,7 @@ pub trait TextMapPropagator {
 }
 
 /// The names of a propagator's fields, in turn.
-#[derive(Debug, Drop)]
+#[derive(Clone, Debug, Drop)]
 pub struct FieldIter {
     names: &'static [&'static str],
     given: usize,
@@ -96,19 +96,6 @@ impl FieldIter {
         ensures { result ≡ map (λ name. name.now) names.now }
     {
         FieldIter { names, given: 0 }
-    }
-}
-
-impl Clone for FieldIter {
-    ghost use Rattle.std.specs.Prelude.{◌≡◌};
-
-    ghost is_clone = { λ fields copy. copy ≡ fields };
-
-    fn clone(&self) -> Result<FieldIter, AllocError> {
-        Ok(FieldIter {
-            names: self.names,
-            given: self.given,
-        })
     }
 }
 

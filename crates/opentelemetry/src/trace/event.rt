@@ -7,7 +7,7 @@ use std::alloc::AllocError;
 use std::marker::Model;
 
 /// A name, a moment, and attributes.
-#[derive(Debug, Drop)]
+#[derive(Clone, Debug, Drop)]
 pub struct Event {
     pub name: String,
     pub timestamp: Moment,
@@ -35,21 +35,6 @@ impl Event {
             attributes,
             dropped_attributes_count: dropped,
         }
-    }
-}
-
-impl Clone for Event {
-    ghost use Rattle.std.specs.Prelude.{◌≡◌};
-
-    ghost is_clone = { λ event copy. copy ≡ event };
-
-    fn clone(&self) -> Result<Event, AllocError> {
-        Ok(Event {
-            name: self.name.clone()?,
-            timestamp: self.timestamp,
-            attributes: self.attributes.clone()?,
-            dropped_attributes_count: self.dropped_attributes_count,
-        })
     }
 }
 

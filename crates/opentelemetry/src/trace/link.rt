@@ -8,7 +8,7 @@ use std::alloc::AllocError;
 use std::marker::Model;
 
 /// A span context, and attributes of the relation.
-#[derive(Debug, Drop)]
+#[derive(Clone, Debug, Drop)]
 pub struct Link {
     pub span_context: SpanContext,
     pub attributes: Vec<KeyValue>,
@@ -33,20 +33,6 @@ impl Link {
             attributes,
             dropped_attributes_count: dropped,
         }
-    }
-}
-
-impl Clone for Link {
-    ghost use Rattle.std.specs.Prelude.{◌≡◌};
-
-    ghost is_clone = { λ link copy. copy ≡ link };
-
-    fn clone(&self) -> Result<Link, AllocError> {
-        Ok(Link {
-            span_context: self.span_context.clone()?,
-            attributes: self.attributes.clone()?,
-            dropped_attributes_count: self.dropped_attributes_count,
-        })
     }
 }
 

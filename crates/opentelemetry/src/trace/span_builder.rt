@@ -13,7 +13,7 @@ use std::alloc::AllocError;
 use std::marker::Model;
 
 /// A span's name, and what else the caller knows of it before it starts. What is `None` is left to the tracer.
-#[derive(Debug, Drop)]
+#[derive(Clone, Debug, Drop)]
 pub struct SpanBuilder {
     pub name: String,
     pub span_kind: Option<SpanKind>,
@@ -82,23 +82,6 @@ impl SpanBuilder {
     {
         self.links = Some(links);
         self
-    }
-}
-
-impl Clone for SpanBuilder {
-    ghost use Rattle.std.specs.Prelude.{◌≡◌};
-
-    ghost is_clone = { λ builder copy. copy ≡ builder };
-
-    fn clone(&self) -> Result<SpanBuilder, AllocError> {
-        Ok(SpanBuilder {
-            name: self.name.clone()?,
-            span_kind: self.span_kind,
-            start_time: self.start_time,
-            attributes: self.attributes.clone()?,
-            events: self.events.clone()?,
-            links: self.links.clone()?,
-        })
     }
 }
 

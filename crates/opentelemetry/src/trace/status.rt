@@ -13,9 +13,11 @@ pub enum Status {
 
 impl Clone for Status {
     ghost use Rattle.std.specs.Prelude.{◌≡◌};
-    ghost use Rattle.opentelemetry.specs.PlainValues.{plain_status};
+    ghost use Rattle.opentelemetry.specs.PlainValues.{plain_status, IsBare};
 
     ghost is_clone = { λ status copy. plain_status copy ≡ plain_status status };
+
+    ghost is_infallible = { λ status. IsBare (plain_status status) };
 
     fn clone(&self) -> Result<Status, AllocError> {
         match self {
