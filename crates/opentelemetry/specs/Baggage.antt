@@ -1,5 +1,6 @@
 -- A baggage: names with values and metadata, in order of insertion (W3C Baggage, section 3.3.1).
-use Rattle.std.specs.Prelude.{◌≡◌, ◌≢◌, ℕ, ◌+◌, ◌<◌, ◌≤◌, ◌⊎◌, List, [], ◌∷◌, Option, None, Some, map, length, find, sum_by, if◌then◌else◌, string_bytes, String}
+use Rattle.std.specs.Prelude.{◌≡◌, ◌≢◌, ℕ, ◌+◌, ◌<◌, ◌≤◌, ◌⊎◌, List, [], ◌∷◌, Option, None, Some}
+use Rattle.std.specs.Prelude.{map, length, find, sum_by, if◌then◌else◌, string_bytes, String}
 use Rattle.std.specs.Option.{option_map, option_map_or}
 use Rattle.std.specs.Str.{bytes_eq}
 use denote.Ref.{Bor}
@@ -58,7 +59,8 @@ without_entry (e ∷ es) name = if bytes_eq name e.key then es else e ∷ withou
 
 -- a baggage may not take an entry: its name is empty, or too many entries or bytes would stand then
 abbrev pub BreaksLimit : PlainBaggage → PlainBaggageEntry → Type 0
-BreaksLimit es new = (new.key ≡ []) ⊎ (64 < length (with_entry es new)) ⊎ (8192 < baggage_bytes (with_entry es new))
+BreaksLimit es new =
+    (new.key ≡ []) ⊎ (64 < length (with_entry es new)) ⊎ (8192 < baggage_bytes (with_entry es new))
 
 -- no entry has this name
 abbrev pub IsFreeName : List ℕ → PlainBaggage → Type 0

@@ -1,7 +1,10 @@
 -- The text form of a trace state (W3C Trace Context, section 3.3): members `key=value` between commas. This reading is
 -- lenient: keys of every vendor form are one form, any number of members is taken, and a key may stand twice.
-use Rattle.std.specs.Prelude.{◌≡◌, ℕ, ◌-◌, Bool, true, false, not, ◌&&◌, ◌||◌, List, [], ◌∷◌, ◌++◌, Option, Some, None, map, length, reverse, slice_index, slice_get, nat_le, nat_lt, ◌==◌, IsTrue, if◌then◌else◌}
-use Rattle.std.specs.List.{AllByRecursion, AllZip, before_first, after_first, position_or_len, filter, join_with_byte, list_all, slice_split}
+use Rattle.std.specs.Prelude.{◌≡◌, ℕ, ◌-◌, Bool, true, false, not, ◌&&◌, ◌||◌, List, [], ◌∷◌, ◌++◌}
+use Rattle.std.specs.Prelude.{Option, Some, None, map, length, reverse, slice_index, slice_get}
+use Rattle.std.specs.Prelude.{nat_le, nat_lt, ◌==◌, IsTrue, if◌then◌else◌}
+use Rattle.std.specs.List.{AllByRecursion, AllZip, before_first, after_first, position_or_len, filter}
+use Rattle.std.specs.List.{join_with_byte, list_all, slice_split}
 use Rattle.opentelemetry.specs.declared.trace.trace_state.TraceStateError.{TraceStateError}
 use Rattle.opentelemetry.specs.declared.trace.trace_state.TraceStateError.TheVariants as faults
 use Rattle.std.specs.Option.{option_map_or}
@@ -17,7 +20,8 @@ is_key_byte b = is_key_start b || (b == 95 || (b == 45 || (b == 42 || (b == 47 |
 
 -- a key of 1 to 256 bytes: each is a key's byte, and the first one that a key may begin with
 abbrev pub is_key : List ℕ → Bool
-is_key bs = nat_le 1 (length bs) && (nat_le (length bs) 256 && (is_key_start (slice_index bs 0) && list_all is_key_byte bs))
+is_key bs = nat_le 1 (length bs) && (nat_le (length bs) 256
+    && (is_key_start (slice_index bs 0) && list_all is_key_byte bs))
 
 -- a byte of a value: printable ASCII without comma and equals sign
 abbrev pub is_value_byte : ℕ → Bool
@@ -87,7 +91,8 @@ pair_of member = (before_first is_equals member, after_first is_equals member)
 
 -- what is wrong with a member
 abbrev pub member_fault : List ℕ → Option TraceStateError
-member_fault member = if position_or_len is_equals member == length member then Some faults.List else pair_fault (pair_of member)
+member_fault member =
+    if position_or_len is_equals member == length member then Some faults.List else pair_fault (pair_of member)
 
 -- the first of two faults
 abbrev pub first_of_two : Option TraceStateError → Option TraceStateError → Option TraceStateError

@@ -1,7 +1,8 @@
 //! Names with values that an application hands on from process to process (W3C Baggage). A baggage keeps its entries
 //! in order of insertion, at most 64 of them and at most 8192 bytes of names, values and metadata together.
 
-ghost use Rattle.std.specs.Prelude.{◌≡◌, [], ◌↔◌, length, IsTrue, IfNone, None, OnOk, OnErr, IfOk, IsErrOf, string_bytes};
+ghost use Rattle.std.specs.Prelude.{◌≡◌, [], ◌↔◌, length, IsTrue, IfNone, None, OnOk, OnErr, IfOk};
+ghost use Rattle.std.specs.Prelude.{IsErrOf, string_bytes};
 ghost use Rattle.std.specs.Option.{option_map, option_copied};
 ghost use Rattle.opentelemetry.specs.Baggage.{entry_at, entry_of, found_at, handed_out, with_entry, without_entry};
 ghost use Rattle.opentelemetry.specs.Baggage.{BreaksLimit, IsWithinLimits, HasDistinctNames, kept_entries};
@@ -319,7 +320,8 @@ fn insert_in(
 ) -> Result<Option<(String, BaggageMetadata)>, BaggageError>
     ensures ok { OnOk result (kept_entries entries.new
         ≡ with_entry (kept_entries entries.old) (entry_of (string_bytes name) (string_bytes value) metadata)) }
-    ensures replaced { IfOk result (λ old. handed_out old ≡ found_at (kept_entries entries.old) (string_bytes name)) }
+    ensures replaced { IfOk result (λ old.
+        handed_out old ≡ found_at (kept_entries entries.old) (string_bytes name)) }
     ensures limit { IsErrOf result BaggageError.Limit
         ↔ BreaksLimit (kept_entries entries.old) (entry_of (string_bytes name) (string_bytes value) metadata) }
     ensures memory { IsErrOf result BaggageError.Memory

@@ -16,7 +16,7 @@ use std::marker::Model;
 use std::sync::Arc;
 
 /// The name of an attribute.
-#[derive(Clone, Debug, Drop)]
+#[derive(Debug, Drop)]
 pub struct Key(String);
 
 impl Model for Key {
@@ -38,6 +38,16 @@ impl Key {
         ensures { result.now ≡ self.now }
     {
         self.0.as_str()
+    }
+}
+
+impl Clone for Key {
+    ghost use Rattle.std.specs.Prelude.{◌≡◌};
+
+    ghost is_clone = { λ key copy. copy ≡ key };
+
+    fn clone(&self) -> Result<Key, AllocError> {
+        Ok(Key(self.0.clone()?))
     }
 }
 
@@ -143,7 +153,8 @@ impl PartialEq for Array {
 
     ghost eq = { on plain_array same_value };
 
-    ghost laws = { partial_equiv_from_equiv (on_equiv plain_array (equivalence_from_decides same_value same_value_decides)) };
+    ghost laws = { partial_equiv_from_equiv
+        (on_equiv plain_array (equivalence_from_decides same_value same_value_decides)) };
 
     fn eq(&self, other: &Array) -> bool
         ensures value { result ≡ same_value (plain_array self.now) (plain_array other.now) }
@@ -203,7 +214,8 @@ impl PartialEq for Value {
 
     ghost eq = { on plain_value same_value };
 
-    ghost laws = { partial_equiv_from_equiv (on_equiv plain_value (equivalence_from_decides same_value same_value_decides)) };
+    ghost laws = { partial_equiv_from_equiv
+        (on_equiv plain_value (equivalence_from_decides same_value same_value_decides)) };
 
     fn eq(&self, other: &Value) -> bool
         ensures value { result ≡ same_value (plain_value self.now) (plain_value other.now) }
@@ -253,7 +265,8 @@ impl KeyValue {
 
 impl PartialEq for KeyValue {
     ghost use Rattle.std.specs.Prelude.{◌≡◌, ◌↔◌, IsTrue};
-    ghost use Rattle.opentelemetry.specs.Same.{same_attribute, same_attribute_decides, partial_equivalence_from_decides};
+    ghost use Rattle.opentelemetry.specs.Same.{same_attribute, same_attribute_decides};
+    ghost use Rattle.opentelemetry.specs.Same.{partial_equivalence_from_decides};
 
     ghost eq = { same_attribute };
 
@@ -289,7 +302,12 @@ impl Model for ScopeParts {
 
     ghost Value = { PlainScope };
 
-    ghost view = { λ a. record { name = string_bytes a.name; version = option_map string_bytes a.version; schema_url = option_map string_bytes a.schema_url; attributes = a.attributes.items } };
+    ghost view = { λ scope. record {
+      name = string_bytes scope.name;
+      version = option_map string_bytes scope.version;
+      schema_url = option_map string_bytes scope.schema_url;
+      attributes = scope.attributes.items;
+    } };
 }
 
 impl PartialEq for ScopeParts {

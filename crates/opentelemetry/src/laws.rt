@@ -18,7 +18,8 @@ use crate::trace::TraceState;
 pub fn statuses_rise()
     ensures unset_below_error { (description : List ℕ) → status_cmp unset (error description) ≡ Less }
     ensures error_below_ok { (description : List ℕ) → status_cmp (error description) ok ≡ Less }
-    ensures errors { (these those : List ℕ) → status_cmp (error these) (error those) ≡ slice_cmp nat_cmp these those }
+    ensures errors { (these those : List ℕ)
+        → status_cmp (error these) (error those) ≡ slice_cmp nat_cmp these those }
 {}
 
 /// The header of pairs of a key and a value reads back as them, in order and each with its value.

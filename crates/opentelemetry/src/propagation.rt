@@ -49,9 +49,7 @@ pub trait Extractor {
 /// Writes what of a context travels into a carrier, and reads it from one.
 pub trait TextMapPropagator {
     /// An answer of `inject_context`: the context, what the carrier had, the answer, and what the carrier has then.
-    ghost inject_gives: {
-        Self → PlainContext → Texts → Result (Unit {0}) AllocError → Texts → Type 0
-    } = { λ _ _ _ _ _. Unit {0} };
+    ghost inject_gives: { Self → PlainContext → Texts → Result (Unit {0}) AllocError → Texts → Type 0 } = { λ _ _ _ _ _. Unit {0} };
 
     ghost extract_gives: { Self → PlainContext → Texts → PlainContext → Type 0 } = { λ _ _ _ _. Unit {0} };
 

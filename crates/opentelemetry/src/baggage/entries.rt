@@ -1,7 +1,7 @@
 //! The entries of a baggage in a map that keeps their order, and the number of bytes that they count for.
 
-ghost use Rattle.std.specs.Prelude.{◌≡◌, [], ◌+◌, ◌-◌, ◌^◌, ◌≤◌, ◌↔◌, min, length, OnOk, OnErr, IfOk, IfSome, IsNone};
-ghost use Rattle.std.specs.Prelude.{string_bytes, Some, None};
+ghost use Rattle.std.specs.Prelude.{◌≡◌, [], ◌+◌, ◌-◌, ◌^◌, ◌≤◌, ◌↔◌, min, length};
+ghost use Rattle.std.specs.Prelude.{OnOk, OnErr, IfOk, IfSome, IsNone, string_bytes, Some, None};
 ghost use Rattle.std.specs.Option.{option_map};
 ghost use Rattle.opentelemetry.specs.Baggage.{entry_bytes, baggage_bytes, entry_at, entry_of, found_at, found_bytes};
 ghost use Rattle.opentelemetry.specs.Baggage.{handed_out, with_entry, without_entry, plain_entries, BreaksLimit};
@@ -204,9 +204,7 @@ fn remove_in(
 }
 
 /// Makes room for the first entries, where there are none.
-fn reserve_first(
-    map: &mut IndexMap<String, (String, BaggageMetadata)>,
-) -> Result<(), AllocError>
+fn reserve_first(map: &mut IndexMap<String, (String, BaggageMetadata)>) -> Result<(), AllocError>
     ensures same { map.new.entries ≡ map.old.entries }
     ensures err { OnErr result (map.old.entries ≡ []) }
 {
@@ -225,7 +223,8 @@ fn put_in(
 ) -> Result<Option<(String, BaggageMetadata)>, AllocError>
     ensures ok { OnOk result (plain_entries map.new.entries
         ≡ with_entry (plain_entries map.old.entries) (entry_of (string_bytes name) (string_bytes value) metadata)) }
-    ensures replaced { IfOk result (λ old. handed_out old ≡ found_at (plain_entries map.old.entries) (string_bytes name)) }
+    ensures replaced { IfOk result (λ old.
+        handed_out old ≡ found_at (plain_entries map.old.entries) (string_bytes name)) }
     ensures err { OnErr result (plain_entries map.new.entries ≡ plain_entries map.old.entries) }
     ensures memory { OnErr result (entry_at (plain_entries map.old.entries) (string_bytes name) ≡ None) }
 {

@@ -21,13 +21,23 @@ impl Model for Event {
 
     ghost Value = { PlainEvent };
 
-    ghost view = { λ a. record { name = string_bytes a.name; timestamp = a.timestamp.0; attributes = a.attributes.items; dropped_attributes_count = a.dropped_attributes_count } };
+    ghost view = { λ event. record {
+      name = string_bytes event.name;
+      timestamp = event.timestamp.0;
+      attributes = event.attributes.items;
+      dropped_attributes_count = event.dropped_attributes_count;
+    } };
 }
 
 impl Event {
     /// `dropped` says how many attributes the caller left out already.
     pub fn new(name: String, timestamp: Moment, attributes: Vec<KeyValue>, dropped: u32) -> Event
-        ensures { result ≡ record { name = string_bytes name; timestamp = timestamp.0; attributes = attributes.items; dropped_attributes_count = dropped } }
+        ensures { result ≡ record {
+          name = string_bytes name;
+          timestamp = timestamp.0;
+          attributes = attributes.items;
+          dropped_attributes_count = dropped;
+        } }
     {
         Event {
             name,

@@ -20,13 +20,21 @@ impl Model for Link {
 
     ghost Value = { PlainLink };
 
-    ghost view = { λ a. record { span_context = a.span_context; attributes = a.attributes.items; dropped_attributes_count = a.dropped_attributes_count } };
+    ghost view = { λ link. record {
+      span_context = link.span_context;
+      attributes = link.attributes.items;
+      dropped_attributes_count = link.dropped_attributes_count;
+    } };
 }
 
 impl Link {
     /// `dropped` says how many attributes the caller left out already.
     pub fn new(span_context: SpanContext, attributes: Vec<KeyValue>, dropped: u32) -> Link
-        ensures { result ≡ record { span_context = span_context; attributes = attributes.items; dropped_attributes_count = dropped } }
+        ensures { result ≡ record {
+          span_context = span_context;
+          attributes = attributes.items;
+          dropped_attributes_count = dropped;
+        } }
     {
         Link {
             span_context,

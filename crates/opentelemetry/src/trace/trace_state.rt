@@ -1,11 +1,11 @@
 //! The vendor data that travels with a span context (W3C Trace Context, section 3.3): pairs of a key and a value, in
 //! order. Clones share one copy.
 
-ghost use Rattle.std.specs.Prelude.{◌≡◌, ◌≢◌, ℕ, List, [], ◌∷◌, map, string_bytes, option_map, MatchOption, MatchResult};
-ghost use Rattle.std.specs.Prelude.{IfOk, IfErr, OnErr, IsOk, IsTrue, Err, if◌then◌else◌};
+ghost use Rattle.std.specs.Prelude.{◌≡◌, ◌≢◌, ℕ, List, [], ◌∷◌, map, string_bytes, option_map};
+ghost use Rattle.std.specs.Prelude.{MatchOption, MatchResult, IfOk, IfErr, OnErr, IsOk, IsTrue, Err, if◌then◌else◌};
 ghost use Rattle.opentelemetry.specs.PlainValues.{plain_pair};
-ghost use Rattle.opentelemetry.specs.Tracestate.{ArePairs, IsTracestate, first_fault, first_pair_fault, is_key, members};
-ghost use Rattle.opentelemetry.specs.Tracestate.{pair_fault, tracestate_text, value_of_key, without_key};
+ghost use Rattle.opentelemetry.specs.Tracestate.{ArePairs, IsTracestate, first_fault, first_pair_fault, is_key};
+ghost use Rattle.opentelemetry.specs.Tracestate.{members, pair_fault, tracestate_text, value_of_key, without_key};
 
 mod grammar;
 mod pairs;
@@ -21,11 +21,11 @@ use thiserror::Error;
 /// named, and of a bad pair the key.
 #[derive(Clone, Copy, Debug, PartialEq, Eq, Error)]
 pub enum TraceStateError {
-    #[error("a key of a trace state has 1 to 256 bytes of a-z, 0-9, `_`, `-`, `*`, `/` and `@`, first a letter or a digit")]
+    #[error("a key has 1 to 256 bytes of a-z, 0-9, `_`, `-`, `*`, `/` and `@`, the first a letter or a digit")]
     Key,
-    #[error("a value of a trace state has at most 256 printable bytes without comma and equals sign, the last no space")]
+    #[error("a value has at most 256 bytes of printable ASCII but comma and equals sign, the last no space")]
     Value,
-    #[error("a member of a trace state is a key, an equals sign and a value")]
+    #[error("a member is a key, an equals sign and a value")]
     List,
     #[error("no memory for a trace state")]
     Memory,

@@ -1,7 +1,8 @@
 //! The text form of a trace state (W3C Trace Context, section 3.3): which keys and values are well formed, and what
 //! stands between the commas of a text. None of these calls takes memory.
 
-ghost use Rattle.std.specs.Prelude.{◌≡◌, ◌<◌, [], ◌∷◌, List, Some, None, length, reverse, ◌==◌, MatchOption, IfSome};
+ghost use Rattle.std.specs.Prelude.{◌≡◌, ◌<◌, [], ◌∷◌, List, Some, None, length, reverse, ◌==◌};
+ghost use Rattle.std.specs.Prelude.{MatchOption, IfSome};
 ghost use Rattle.std.specs.List.{filter, list_all, position_or_len, slice_split};
 ghost use Rattle.opentelemetry.specs.Tracestate.{is_key_start, is_key_byte, is_key, is_value_byte, is_value};
 ghost use Rattle.opentelemetry.specs.Tracestate.{ends_with_space, trim_front, trimmed, is_equals, pair_of, pair_fault};

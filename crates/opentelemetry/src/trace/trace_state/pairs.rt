@@ -1,11 +1,13 @@
 //! Lists of pairs: read from a text, tested, copied without a key, and written as a header.
 
-ghost use Rattle.std.specs.Prelude.{◌≡◌, ◌≢◌, ◌-◌, ◌^◌, min, ◌∷◌, ◌++◌, [], Some, None, length, map, string_bytes, IfOk, OnOk, OnErr, option_map};
+ghost use Rattle.std.specs.Prelude.{◌≡◌, ◌≢◌, ◌-◌, ◌^◌, min, ◌∷◌, ◌++◌, [], Some, None, length, map};
+ghost use Rattle.std.specs.Prelude.{string_bytes, IfOk, OnOk, OnErr, option_map};
 ghost use Rattle.std.specs.List.{filter};
 ghost use Rattle.opentelemetry.specs.PlainValues.{plain_pair};
 ghost use Rattle.opentelemetry.specs.Text.{Appends};
-ghost use Rattle.opentelemetry.specs.Tracestate.{first_fault, first_pair_fault, is_some_text, members, next_member_text};
-ghost use Rattle.opentelemetry.specs.Tracestate.{pair_of, tracestate_text, value_of_key, without_key};
+ghost use Rattle.opentelemetry.specs.Tracestate.{first_fault, first_pair_fault, is_some_text, members};
+ghost use Rattle.opentelemetry.specs.Tracestate.{next_member_text, pair_of, tracestate_text, value_of_key};
+ghost use Rattle.opentelemetry.specs.Tracestate.{without_key};
 
 use super::TraceStateError;
 use super::grammar::{cut_at_comma, pair_fault, split_member, trim_blanks};
@@ -121,7 +123,8 @@ pub fn without_key(
     pairs: &[(String, String)],
     key: &str,
 ) -> Result<Vec<(String, String)>, AllocError>
-    ensures ok { IfOk result (λ others. map plain_pair others.items ≡ without_key key.now (map plain_pair pairs.now)) }
+    ensures ok { IfOk result (λ others.
+        map plain_pair others.items ≡ without_key key.now (map plain_pair pairs.now)) }
     ensures err { OnErr result (without_key key.now (map plain_pair pairs.now) ≢ []) }
 {
     let mut others = Vec::new(alloc);
