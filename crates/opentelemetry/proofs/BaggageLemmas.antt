@@ -135,7 +135,7 @@ pub IsWithinLimits-with_entry : (es : PlainBaggage) (new : PlainBaggageEntry) �
 IsWithinLimits-with_entry es new allowed named =
     let few : 64 < length (with_entry es new) → ⊥ = λ h. allowed (inr (inl h)) in
     let small : 8192 < baggage_bytes (with_entry es new) → ⊥ = λ h. allowed (inr (inr h)) in
-    record { few = omega arith; small = omega arith; named = HasNames-with_entry es new (λ h. allowed (inl h)) named }
+    record { few = omega arith; small = omega arith; have_names = HasNames-with_entry es new (λ h. allowed (inl h)) named }
 
 -- what is left when an entry was taken out is within the limits
 pub IsWithinLimits-without_entry : (es : PlainBaggage) (name : List ℕ) → IsWithinLimits es → IsWithinLimits (without_entry es name)
@@ -144,7 +144,7 @@ IsWithinLimits-without_entry es name within =
     let smaller = baggage_bytes-without_entry es name in
     let few = within.few in
     let small = within.small in
-    record { few = omega arith; small = omega arith; named = HasNames-without_entry es name within.named }
+    record { few = omega arith; small = omega arith; have_names = HasNames-without_entry es name within.have_names }
 
 free_name : {Y Z : Type 0} (k : String Y) (es : List (String Y × (String Z × List ℕ))) → AllByRecursion (λ y. string_eq k y ≡ false) (keys_of es) → IsFreeName (string_bytes k) (plain_entries es)
 free_name k [] h = tt

@@ -1,6 +1,6 @@
 -- A baggage: names with values and metadata, in order of insertion (W3C Baggage, section 3.3.1).
-use Rattle.std.specs.Prelude.{◌≡◌, ◌≢◌, ℕ, ◌+◌, ◌<◌, ◌≤◌, ◌⊎◌, List, [], ◌∷◌, Option, None, Some}
-use Rattle.std.specs.Prelude.{map, length, find, sum_by, if◌then◌else◌, string_bytes, String}
+use Rattle.std.specs.Prelude.{◌≡◌, ◌≢◌, ℕ, ◌+◌, ◌<◌, ◌≤◌, ◌⊎◌, List, [], ◌∷◌}
+use Rattle.std.specs.Prelude.{Option, None, Some, map, length, find, sum_by, if◌then◌else◌, string_bytes, String}
 use Rattle.std.specs.Option.{option_map, option_map_or}
 use Rattle.std.specs.Str.{bytes_eq}
 use denote.Ref.{Bor}
@@ -81,7 +81,7 @@ HasNames (e ∷ es) = (e.key ≢ []) × HasNames es
 pub record IsWithinLimits (es : PlainBaggage) : Type 0 where
   pub few : length es ≤ 64
   pub small : baggage_bytes es ≤ 8192
-  pub named : HasNames es
+  pub have_names : HasNames es
 
 -- an entry of a map, without where it lies
 abbrev pub plain_entry : {Y Z : Type 0} → String Y × (String Z × List ℕ) → PlainBaggageEntry
@@ -92,9 +92,9 @@ abbrev pub plain_entries : {Y Z : Type 0} → List (String Y × (String Z × Lis
 plain_entries es = map (λ e. plain_entry e) es
 
 -- the entries that are kept; none where nothing is
-abbrev pub kept_entries : Option PlainBaggage → PlainBaggage
-kept_entries None = []
-kept_entries (Some entries) = entries
+abbrev pub entries_or_none : Option PlainBaggage → PlainBaggage
+entries_or_none None = []
+entries_or_none (Some entries) = entries
 
 -- what an iterator over a baggage gives, without where it lies
 abbrev pub plain_item : Bor (List ℕ) × (Bor (List ℕ) × Bor (List ℕ)) → PlainBaggageEntry

@@ -1,7 +1,7 @@
 -- The text form of a trace state (W3C Trace Context, section 3.3): members `key=value` between commas. This reading is
 -- lenient: keys of every vendor form are one form, any number of members is taken, and a key may stand twice.
-use Rattle.std.specs.Prelude.{◌≡◌, ℕ, ◌-◌, Bool, true, false, not, ◌&&◌, ◌||◌, List, [], ◌∷◌, ◌++◌}
-use Rattle.std.specs.Prelude.{Option, Some, None, map, length, reverse, slice_index, slice_get}
+use Rattle.std.specs.Prelude.{◌≡◌, ℕ, ◌-◌, Bool, true, false, not, ◌&&◌, ◌||◌, List, [], ◌∷◌}
+use Rattle.std.specs.Prelude.{◌++◌, Option, Some, None, map, length, reverse, slice_index, slice_get}
 use Rattle.std.specs.Prelude.{nat_le, nat_lt, ◌==◌, IsTrue, if◌then◌else◌}
 use Rattle.std.specs.List.{AllByRecursion, AllZip, before_first, after_first, position_or_len, filter}
 use Rattle.std.specs.List.{join_with_byte, list_all, slice_split}

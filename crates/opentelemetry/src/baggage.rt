@@ -5,7 +5,7 @@ ghost use Rattle.std.specs.Prelude.{◌≡◌, [], ◌↔◌, length, IsTrue, If
 ghost use Rattle.std.specs.Prelude.{IsErrOf, string_bytes};
 ghost use Rattle.std.specs.Option.{option_map, option_copied};
 ghost use Rattle.opentelemetry.specs.Baggage.{entry_at, entry_of, found_at, handed_out, with_entry, without_entry};
-ghost use Rattle.opentelemetry.specs.Baggage.{BreaksLimit, IsWithinLimits, HasDistinctNames, kept_entries};
+ghost use Rattle.opentelemetry.specs.Baggage.{BreaksLimit, IsWithinLimits, HasDistinctNames, entries_or_none};
 
 pub(crate) mod entries;
 pub mod iter;
@@ -157,11 +157,11 @@ pub struct Baggage {
 }
 
 impl Model for Baggage {
-    ghost use Rattle.opentelemetry.specs.Baggage.{PlainBaggage, kept_entries};
+    ghost use Rattle.opentelemetry.specs.Baggage.{PlainBaggage, entries_or_none};
 
     ghost Value = { PlainBaggage };
 
-    ghost view = { λ baggage. kept_entries baggage.entries };
+    ghost view = { λ baggage. entries_or_none baggage.entries };
 }
 
 impl Baggage {
@@ -318,15 +318,15 @@ fn insert_in(
     value: String,
     metadata: BaggageMetadata,
 ) -> Result<Option<(String, BaggageMetadata)>, BaggageError>
-    ensures ok { OnOk result (kept_entries entries.new
-        ≡ with_entry (kept_entries entries.old) (entry_of (string_bytes name) (string_bytes value) metadata)) }
+    ensures ok { OnOk result (entries_or_none entries.new
+        ≡ with_entry (entries_or_none entries.old) (entry_of (string_bytes name) (string_bytes value) metadata)) }
     ensures replaced { IfOk result (λ old.
-        handed_out old ≡ found_at (kept_entries entries.old) (string_bytes name)) }
+        handed_out old ≡ found_at (entries_or_none entries.old) (string_bytes name)) }
     ensures limit { IsErrOf result BaggageError.Limit
-        ↔ BreaksLimit (kept_entries entries.old) (entry_of (string_bytes name) (string_bytes value) metadata) }
+        ↔ BreaksLimit (entries_or_none entries.old) (entry_of (string_bytes name) (string_bytes value) metadata) }
     ensures memory { IsErrOf result BaggageError.Memory
-        → entry_at (kept_entries entries.old) (string_bytes name) ≡ None }
-    ensures err { OnErr result (kept_entries entries.new ≡ kept_entries entries.old) }
+        → entry_at (entries_or_none entries.old) (string_bytes name) ≡ None }
+    ensures err { OnErr result (entries_or_none entries.new ≡ entries_or_none entries.old) }
 {
     match entries {
         Some(kept) => insert_into(kept, name, value, metadata),
@@ -362,8 +362,8 @@ fn insert_into(
 
 /// As `Baggage::remove`.
 fn remove_in(entries: &mut Option<Entries>, name: &str) -> Option<(String, BaggageMetadata)>
-    ensures left { kept_entries entries.new ≡ without_entry (kept_entries entries.old) name.now }
-    ensures removed { handed_out result ≡ found_at (kept_entries entries.old) name.now }
+    ensures left { entries_or_none entries.new ≡ without_entry (entries_or_none entries.old) name.now }
+    ensures removed { handed_out result ≡ found_at (entries_or_none entries.old) name.now }
 {
     match entries {
         Some(kept) => kept.remove(name),

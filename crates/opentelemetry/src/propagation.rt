@@ -2,11 +2,10 @@
 //! back (OpenTelemetry specification, "Propagators API"). A carrier is a finite map from names to texts, as the
 //! headers of an HTTP request are. Names that differ in ASCII case alone may be one name or two, as the carrier has it.
 
-ghost use Rattle.std.specs.Prelude.{◌≡◌, ℕ, List, Result, OnOk, OnErr, IfOk, IsSome, All, map, string_bytes};
+ghost use Rattle.std.specs.Prelude.{◌≡◌, ℕ, List, OnOk, OnErr, IfOk, IsSome, All, map, string_bytes};
 ghost use Rattle.std.specs.Option.{option_copied};
 ghost use Rattle.std.specs.Iterator.{YieldsFirstBy, item_count};
-ghost use Rattle.std.specs.declared.alloc.AllocError.{AllocError};
-ghost use Rattle.opentelemetry.specs.Carrier.{Texts, SetsText, SameTexts, HasName};
+ghost use Rattle.opentelemetry.specs.Carrier.{Texts, Injection, SetsText, SameTexts, HasName};
 ghost use Rattle.opentelemetry.specs.Plain.{PlainContext};
 
 pub mod map_carrier;
@@ -49,7 +48,7 @@ pub trait Extractor {
 /// Writes what of a context travels into a carrier, and reads it from one.
 pub trait TextMapPropagator {
     /// An answer of `inject_context`: the context, what the carrier had, the answer, and what the carrier has then.
-    ghost inject_gives: { Self → PlainContext → Texts → Result (Unit {0}) AllocError → Texts → Type 0 } = { λ _ _ _ _ _. Unit {0} };
+    ghost inject_gives: { Self → Injection } = { λ _ _ _ _ _. Unit {0} };
 
     ghost extract_gives: { Self → PlainContext → Texts → PlainContext → Type 0 } = { λ _ _ _ _. Unit {0} };
 

@@ -2,7 +2,8 @@
 //! order. Clones share one copy.
 
 ghost use Rattle.std.specs.Prelude.{◌≡◌, ◌≢◌, ℕ, List, [], ◌∷◌, map, string_bytes, option_map};
-ghost use Rattle.std.specs.Prelude.{MatchOption, MatchResult, IfOk, IfErr, OnErr, IsOk, IsTrue, Err, if◌then◌else◌};
+ghost use Rattle.std.specs.Prelude.{MatchOption, MatchResult, IfOk, IfErr, OnErr, IsOk, IsTrue, Err};
+ghost use Rattle.std.specs.Prelude.{if◌then◌else◌};
 ghost use Rattle.opentelemetry.specs.PlainValues.{plain_pair};
 ghost use Rattle.opentelemetry.specs.Tracestate.{ArePairs, IsTracestate, first_fault, first_pair_fault, is_key};
 ghost use Rattle.opentelemetry.specs.Tracestate.{members, pair_fault, tracestate_text, value_of_key, without_key};
@@ -218,8 +219,8 @@ impl Eq for TraceState {
 
 #[cfg(test)]
 mod tests {
-    use super::{TraceState, TraceStateError};
-    use std::alloc::Global;
+    use super::{Arc, TraceState, TraceStateError};
+    use std::alloc::{AllocError, Global};
     use std::test::Fail;
 
     fn text(alloc: Global, text: &str) -> Result<String, Fail> {
@@ -286,6 +287,66 @@ mod tests {
             TraceState::from_key_value(rt.alloc(), bad).err(),
             Some(TraceStateError::Value)
         );
+        Ok(())
+    }
+
+    /// The text of so many members, from `k0=v` on.
+    fn members(alloc: Global, count: u32) -> Result<String, AllocError> {
+        let mut header = String::from_str(alloc, "k0=v")?;
+        for number in 1..count {
+            header.push_str(format!(in alloc; ",k{number}=v")?.as_str())?;
+        }
+        Ok(header)
+    }
+
+    #[test]
+    fn takes_any_number_of_members(rt: HostRuntime) -> Result<(), Fail> {
+        let header = members(rt.alloc(), 33)?;
+        let state = TraceState::from_str(rt.alloc(), header.as_str())?;
+        assert_eq!(rt; state.get("k32"), Some("v"));
+        assert_eq!(rt; state.header(rt.alloc())?.as_str(), header.as_str());
+        Ok(())
+    }
+
+    #[test]
+    fn an_empty_key_is_refused(rt: HostRuntime) -> Result<(), Fail> {
+        let state = TraceState::new();
+        assert_eq!(rt; state.get(""), None);
+        let nameless = state.insert(rt.alloc(), text(rt.alloc(), "")?, text(rt.alloc(), "4")?);
+        assert_eq!(rt; nameless.err(), Some(TraceStateError::Key));
+        Ok(())
+    }
+
+    #[test]
+    fn clones_share_their_pairs(rt: HostRuntime) -> Result<(), Fail> {
+        let state = TraceState::from_str(rt.alloc(), "a=1")?;
+        let copy = state.clone()?;
+        let pairs = copy.pairs.as_ref().ok_or("the shared pairs")?;
+        assert_eq!(rt; Arc::strong_count(pairs), 2);
+        assert_eq!(rt; state.get("a"), Some("1"));
+        Ok(())
+    }
+
+    #[test]
+    fn errors_say_what_is_wrong(rt: HostRuntime) -> Result<(), Fail> {
+        let cases = [
+            (
+                TraceStateError::Key,
+                "a key has 1 to 256 bytes of a-z, 0-9, `_`, `-`, `*`, `/` and `@`, the first a letter or a digit",
+            ),
+            (
+                TraceStateError::Value,
+                "a value has at most 256 bytes of printable ASCII but comma and equals sign, the last no space",
+            ),
+            (
+                TraceStateError::List,
+                "a member is a key, an equals sign and a value",
+            ),
+            (TraceStateError::Memory, "no memory for a trace state"),
+        ];
+        for (error, shown) in cases {
+            assert_eq!(rt; error.to_string(rt.alloc())?.as_str(), shown);
+        }
         Ok(())
     }
 

@@ -1,7 +1,7 @@
 //! Lists of pairs: read from a text, tested, copied without a key, and written as a header.
 
-ghost use Rattle.std.specs.Prelude.{◌≡◌, ◌≢◌, ◌-◌, ◌^◌, min, ◌∷◌, ◌++◌, [], Some, None, length, map};
-ghost use Rattle.std.specs.Prelude.{string_bytes, IfOk, OnOk, OnErr, option_map};
+ghost use Rattle.std.specs.Prelude.{◌≡◌, ◌≢◌, ◌-◌, ◌^◌, min, ◌∷◌, ◌++◌, [], Some, None};
+ghost use Rattle.std.specs.Prelude.{length, map, string_bytes, IfOk, OnOk, OnErr, option_map};
 ghost use Rattle.std.specs.List.{filter};
 ghost use Rattle.opentelemetry.specs.PlainValues.{plain_pair};
 ghost use Rattle.opentelemetry.specs.Text.{Appends};
