@@ -1,5 +1,5 @@
 -- The entries of a baggage, and the map that keeps them.
-use Rattle.std.proofs.Common.{◌≡◌, ◌≢◌, ℕ, ◌+◌, ◌<◌, ◌≤◌, inl, inr, Bool, true, false, cond, List, [], ◌∷◌, length, string_bytes, String, Option, Some, None, is_some, unwrap_or, refl, sym, ◌∙◌, ap, arith, true≢false}
+use Rattle.std.proofs.Common.{◌≡◌, ◌≢◌, ℕ, ◌+◌, ◌-◌, ◌<◌, ◌≤◌, ◌⊎◌, inl, inr, Bool, true, false, cond, List, [], ◌∷◌, length, string_bytes, String, Option, Some, None, is_some, unwrap_or, refl, sym, ◌∙◌, ap, arith, true≢false}
 use Rattle.std.specs.Option.{option_map, option_map_or}
 use Rattle.std.specs.Str.{bytes_eq}
 use Rattle.std.specs.String.{string_eq}
@@ -9,7 +9,7 @@ use Rattle.std.proofs.lemmas.Map.Keys.{IsDistinct-head, IsDistinct-tail}
 use Rattle.std.proofs.lemmas.List.Sums.{sum_by-cons}
 use Rattle.std.proofs.lemmas.Slice.Eq.{bytes_eq-Decides}
 use Rattle.indexmap.specs.IndexMap.{insert_entry}
-use Rattle.opentelemetry.specs.Baggage.{PlainBaggageEntry, PlainBaggage, value_and_metadata, entry_bytes, baggage_bytes, entry_at, with_entry, without_entry, plain_entry, plain_entries, HasNames, IsFreeName, HasDistinctNames, BreaksLimit, IsWithinLimits}
+use Rattle.opentelemetry.specs.Baggage.{PlainBaggageEntry, PlainBaggage, value_and_metadata, found_at, found_bytes, entry_bytes, baggage_bytes, entry_at, with_entry, without_entry, plain_entry, plain_entries, HasNames, IsFreeName, HasDistinctNames, BreaksLimit, IsWithinLimits}
 
 same_name : (a b : List ℕ) → bytes_eq a b ≡ true → b ≡ a
 same_name a b h = sym ((bytes_eq-Decides a b).0 h)
@@ -35,7 +35,7 @@ plain-remove_entry [] name = refl
 plain-remove_entry (e ∷ es) name = elim (bytes_eq name (string_bytes e.0)) as (λ b. plain_entries (cond b es (e ∷ remove_entry (λ k. bytes_eq name (string_bytes k)) es)) ≡ cond b (plain_entries es) (plain_entry e ∷ without_entry (plain_entries es) name)) [ true ↦ refl | false ↦ ap (λ (rest : PlainBaggage). plain_entry e ∷ rest) (plain-remove_entry es name) ]
 
 -- the bytes under a name, by its value and metadata
-entry_at-bytes : (es : PlainBaggage) (name : List ℕ) → option_map entry_bytes (entry_at es name) ≡ option_map (λ (p : List ℕ × List ℕ). length name + length p.0 + length p.1) (option_map value_and_metadata (entry_at es name))
+pub entry_at-bytes : (es : PlainBaggage) (name : List ℕ) → option_map entry_bytes (entry_at es name) ≡ option_map (λ (p : List ℕ × List ℕ). length name + length p.0 + length p.1) (option_map value_and_metadata (entry_at es name))
 entry_at-bytes [] name = refl
 entry_at-bytes (e ∷ es) name = by (bytes_eq name e.key) refl (entry_at-bytes es name)
   where
@@ -135,7 +135,7 @@ pub IsWithinLimits-with_entry : (es : PlainBaggage) (new : PlainBaggageEntry) �
 IsWithinLimits-with_entry es new allowed named =
     let few : 64 < length (with_entry es new) → ⊥ = λ h. allowed (inr (inl h)) in
     let small : 8192 < baggage_bytes (with_entry es new) → ⊥ = λ h. allowed (inr (inr h)) in
-    record { few = omega arith; small = omega arith; named = HasNames-with_entry es new (λ h. allowed (inl h)) named }
+    record { few = omega arith; small = omega arith; have_names = HasNames-with_entry es new (λ h. allowed (inl h)) named }
 
 -- what is left when an entry was taken out is within the limits
 pub IsWithinLimits-without_entry : (es : PlainBaggage) (name : List ℕ) → IsWithinLimits es → IsWithinLimits (without_entry es name)
@@ -144,7 +144,7 @@ IsWithinLimits-without_entry es name within =
     let smaller = baggage_bytes-without_entry es name in
     let few = within.few in
     let small = within.small in
-    record { few = omega arith; small = omega arith; named = HasNames-without_entry es name within.named }
+    record { few = omega arith; small = omega arith; have_names = HasNames-without_entry es name within.have_names }
 
 free_name : {Y Z : Type 0} (k : String Y) (es : List (String Y × (String Z × List ℕ))) → AllByRecursion (λ y. string_eq k y ≡ false) (keys_of es) → IsFreeName (string_bytes k) (plain_entries es)
 free_name k [] h = tt
@@ -164,3 +164,56 @@ copies_plain [] [] h = refl
 copies_plain [] (f ∷ fs) h = absurd h
 copies_plain (e ∷ es) [] h = absurd h
 copies_plain (e ∷ es) (f ∷ fs) h = let first = copy_plain e f h.0 in let others = copies_plain es fs h.1 in cc
+
+-- where the map has no value, there is no entry
+pub no_entry_at : {Y Z : Type 0} (es : List (String Y × (String Z × List ℕ))) (name : List ℕ) → lookup (λ k. bytes_eq name (string_bytes k)) es ≡ None → entry_at (plain_entries es) name ≡ None
+no_entry_at {Y} {Z} es name h = none_from (entry_at (plain_entries es) name) (is_some-entry_at es name ∙ ap (λ (o : Option (String Z × List ℕ)). is_some o) h)
+  where
+    none_from : {A : Type 0} (o : Option A) → is_some o ≡ false → o ≡ None
+    none_from None e = refl
+    none_from (Some x) e = absurd cc
+
+-- the bytes under a name, by what was found there
+pub found_bytes-entry_at : (es : PlainBaggage) (name : List ℕ) → found_bytes name (found_at es name) ≡ option_map_or entry_bytes (entry_at es name) 0
+found_bytes-entry_at es name =
+    sym (unwrap_or-mapped (λ (p : List ℕ × List ℕ). length name + length p.0 + length p.1) (found_at es name))
+    ∙ sym (ap (λ o. unwrap_or o 0) (entry_at-bytes es name)) ∙ unwrap_or-mapped entry_bytes (entry_at es name)
+
+is_some-mapped : {A X : Type 0} (f : A → X) (o : Option A) → is_some (option_map f o) ≡ is_some o
+is_some-mapped f None = refl
+is_some-mapped f (Some x) = refl
+
+module _ (es : PlainBaggage) (new : PlainBaggageEntry) where
+  -- a new name breaks the limit of a full baggage
+  pub full_breaks : is_some (option_map entry_bytes (entry_at es new.key)) ≡ false → 64 ≤ length es → BreaksLimit es new
+  full_breaks absent full =
+      let count = length-with_entry es new in
+      let one : cond {A = ℕ} (is_some (entry_at es new.key)) 0 1 ≡ 1 = ap (λ b. cond b 0 1) (sym (is_some-mapped entry_bytes (entry_at es new.key)) ∙ absent) in
+      inr (inl (omega arith))
+
+  -- a name that stands there breaks no limit of entries, nor does a new one where there is room
+  pub few_keeps : length es ≤ 64 → (is_some (option_map entry_bytes (entry_at es new.key)) ≡ true) ⊎ (length es < 64) → length (with_entry es new) ≤ 64
+  few_keeps few (inl there) =
+      let count = length-with_entry es new in
+      let none : cond {A = ℕ} (is_some (entry_at es new.key)) 0 1 ≡ 0 = ap (λ b. cond b 0 1) (sym (is_some-mapped entry_bytes (entry_at es new.key)) ∙ there) in
+      omega arith
+  few_keeps few (inr room) = by (is_some (entry_at es new.key)) (length-with_entry es new)
+    where
+      by : (b : Bool) → length (with_entry es new) ≡ length es + cond b 0 1 → length (with_entry es new) ≤ 64
+      by true count = omega arith
+      by false count = omega arith
+
+  -- the bytes after an entry was put, from those that it replaces
+  pub bytes_with_entry : (bytes replaced : ℕ) → bytes ≡ baggage_bytes es → replaced ≡ unwrap_or (option_map entry_bytes (entry_at es new.key)) 0
+      → (replaced ≤ bytes) × (baggage_bytes (with_entry es new) ≡ bytes - replaced + entry_bytes new)
+  bytes_with_entry bytes replaced counted is =
+      let under : replaced ≡ option_map_or entry_bytes (entry_at es new.key) 0 = is ∙ unwrap_or-mapped entry_bytes (entry_at es new.key) in
+      let le = bytes_at-le es new.key in
+      let all = baggage_bytes-with_entry es new in
+      (omega arith, omega arith)
+
+  -- an entry with a name that leaves the baggage small and few breaks no limit
+  pub breaks_none : new.key ≢ [] → length (with_entry es new) ≤ 64 → baggage_bytes (with_entry es new) ≤ 8192 → ¬ (BreaksLimit es new)
+  breaks_none some few small (inl none) = some none
+  breaks_none some few small (inr (inl many)) = omega arith
+  breaks_none some few small (inr (inr large)) = omega arith

@@ -10,7 +10,7 @@ use denote.Ref.{Bor}
 use Rattle.opentelemetry.specs.Tracestate.{is_blank, trim_front}
 
 -- a byte that is neither a space nor a tab
-no_blank : (b : ℕ) → b ≢ 32 → b ≢ 9 → is_blank b ≡ false
+pub no_blank : (b : ℕ) → b ≢ 32 → b ≢ 9 → is_blank b ≡ false
 no_blank b space tab = ap (λ t. t || eqb b 9) (ne_eqb b 32 space) ∙ ne_eqb b 9 tab
 
 -- a text that begins with neither stays as it is
@@ -25,7 +25,7 @@ first_tab bs None space h = stays bs space h
 first_tab bs (Some x) space h = (ap trim_front h, omega (arith, ap length h))
 
 -- a text that ends with neither a space nor a tab, turned round
-ends_stay : (bs : List ℕ) → ((front : List ℕ) → bs ≢ front ++ 32 ∷ []) → ((front : List ℕ) → bs ≢ front ++ 9 ∷ []) → trim_front (reverse bs) ≡ reverse bs
+pub ends_stay : (bs : List ℕ) → ((front : List ℕ) → bs ≢ front ++ 32 ∷ []) → ((front : List ℕ) → bs ≢ front ++ 9 ∷ []) → trim_front (reverse bs) ≡ reverse bs
 ends_stay bs space tab =
     stays (reverse bs)
     (λ rest e. space (reverse rest) (sym (reverse-reverse bs) ∙ ap reverse e ∙ reverse-append (32 ∷ []) rest))

@@ -5,7 +5,9 @@ pub mod HexRead
 pub mod HexText
 pub mod Joins
 pub mod Pieces
+pub mod PiecesLeft
 pub mod PairLists
 pub mod Tracestates
+pub mod WellFormed
 pub mod StatusLaws
 pub mod TextMapLemmas

@@ -1,6 +1,6 @@
 -- Walking over a list of pairs.
-use Rattle.std.proofs.Common.{◌≡◌, ℕ, ◌+◌, ◌<◌, cond, List, [], ◌∷◌, ◌++◌, length, take, drop, get_or, map, Some, sym, ap, ◌∙◌}
-use Rattle.std.proofs.lemmas.List.{take_more, drop_more, map-append}
+use Rattle.std.proofs.Common.{◌≡◌, ℕ, ◌+◌, ◌<◌, not, cond, List, [], ◌∷◌, ◌++◌, length, take, drop, get_or, map, Some, sym, ap, ◌∙◌}
+use Rattle.std.proofs.lemmas.List.{take-append-drop, take_more, drop_more, map-append}
 use Rattle.std.proofs.lemmas.List.Elements.{filter-append}
 use Rattle.opentelemetry.specs.Same.{same_text}
 use Rattle.opentelemetry.specs.Tracestate.{first_of_two, first_pair_fault, pair_fault, value_of_key, without_key}
@@ -22,3 +22,11 @@ module _ {X : Type 0} (t : X → List ℕ × List ℕ) (xs : List X) (i : ℕ) (
   without_step key =
       sym (ap (λ l. without_key key (map t l)) (take_more xs i x inside ∙ ap (λ y. take i xs ++ y ∷ []) (sym is))
       ∙ ap (λ l. without_key key l) (map-append t (take i xs) (x ∷ [])) ∙ filter-append _ (map t (take i xs)) (t x ∷ []))
+
+  -- the pairs that stay are those before the next one, that one unless it has the key, and those behind it
+  pub without_around : (key : List ℕ) → without_key key (map t xs) ≡ without_key key (map t (take i xs)) ++ (without_key key (t x ∷ []) ++ without_key key (map t (drop (i + 1) xs)))
+  without_around key =
+      ap (λ l. without_key key (map t l)) (sym (take-append-drop i xs) ∙ ap (λ l. take i xs ++ l) next_is)
+      ∙ ap (λ l. without_key key l) (map-append t (take i xs) (x ∷ drop (i + 1) xs))
+      ∙ filter-append _ (map t (take i xs)) (t x ∷ map t (drop (i + 1) xs))
+      ∙ ap (λ l. without_key key (map t (take i xs)) ++ l) (filter-append (λ pair. not (same_text pair.0 key)) (t x ∷ []) (map t (drop (i + 1) xs)))

@@ -1,5 +1,5 @@
 -- A map from names to texts, seen as a finite map of bytes.
-use Rattle.std.proofs.Common.{◌≡◌, ℕ, Bool, true, false, cond, List, [], ◌∷◌, ◌++◌, map, length, string_bytes, String, Option, Some, None, IsSome, refl, sym, ◌∙◌, ap, subst, arith, All, append-nil}
+use Rattle.std.proofs.Common.{◌≡◌, ℕ, Bool, true, false, cond, List, [], ◌∷◌, ◌++◌, map, length, string_bytes, String, Option, Some, None, IsSome, ◌⊎◌, inl, inr, refl, sym, ◌∙◌, ap, subst, arith, All, append-nil}
 use Rattle.std.specs.Option.{option_map}
 use Rattle.std.specs.Ordering.{nat_cmp, is_eq, match_ordering}
 use Rattle.std.specs.declared.cmp.Ordering.{Ordering}
@@ -17,7 +17,7 @@ use Rattle.std.specs.Str.{bytes_eq, str_to_ascii_lowercase}
 use Rattle.std.proofs.lemmas.Map.Text.{btree_map_updates_text, is_eq-slice_cmp}
 use Rattle.std.proofs.lemmas.Str.Ascii.{lowercase-lowercase}
 use Rattle.std.proofs.lemmas.List.Elements.{All-from_recursion, recursion_from_All}
-use Rattle.opentelemetry.specs.Carrier.{SetsText}
+use Rattle.opentelemetry.specs.Carrier.{SetsText, HasName}
 use Rattle.opentelemetry.specs.TextMap.{TextMap, text_entries, text_map, texts_of, IsLowerName, AllLowerNames, first_text}
 
 option_map-cond : {A B : Type 0} (f : A → B) (b : Bool) (x : A) (o : Option A) → option_map f (cond b (Some x) o) ≡ cond b (Some (f x)) (option_map f o)
@@ -164,3 +164,20 @@ AllLowerNames-copied [] [] h low = tt
 AllLowerNames-copied [] (f ∷ fs) h low = absurd h
 AllLowerNames-copied (e ∷ es) [] h low = absurd h
 AllLowerNames-copied (e ∷ es) (f ∷ fs) h low = (subst IsLowerName (sym h.0.0) low.0, AllLowerNames-copied es fs h.1 low.1)
+
+found_name : (name : List ℕ) (es : List (List ℕ × List ℕ)) → IsSome (find (slice_cmp nat_cmp) (str_to_ascii_lowercase name) es) → HasName name (map (λ e. e.0) es)
+found_name name [] h = absurd cc
+found_name name (e ∷ es) h = by (slice_cmp nat_cmp (str_to_ascii_lowercase name) e.0) refl h (found_name name es)
+  where
+    by : (r : Ordering) → slice_cmp nat_cmp (str_to_ascii_lowercase name) e.0 ≡ r → IsSome (cond (is_eq r) (Some e.1) (find (slice_cmp nat_cmp) (str_to_ascii_lowercase name) es))
+        → (IsSome (find (slice_cmp nat_cmp) (str_to_ascii_lowercase name) es) → HasName name (map (λ x. x.0) es))
+        → (str_to_ascii_lowercase e.0 ≡ str_to_ascii_lowercase name) ⊎ HasName name (map (λ x. x.0) es)
+    by Less is there rest = inr (rest there)
+    by Equal is there rest = inl (ap str_to_ascii_lowercase (sym (slice_cmp-IsAntisymmetric nat_cmp-IsAntisymmetric _ _ is)) ∙ IsLowerName-lowercase name)
+    by Greater is there rest = inr (rest there)
+
+-- a name that a carrier reads is one of its keys
+pub keys_complete : (m : TextMap) (name : List ℕ) → IsSome (texts_of m name) → HasName name (fin.keys m)
+keys_complete m name h =
+    let P : Option (List ℕ) → Type 0 = λ o. IsSome o in
+    found_name name (fin.entries m) (subst P (fin.get-entries m (str_to_ascii_lowercase name)) h)

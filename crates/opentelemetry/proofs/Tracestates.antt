@@ -9,15 +9,15 @@ use Rattle.std.proofs.lemmas.Bool.{false≢true}
 use Rattle.opentelemetry.specs.declared.trace.trace_state.TraceStateError.TheVariants as faults
 use borrow.Author.Tests.{eqb-true, eq-eqb, ne_eqb}
 use Rattle.opentelemetry.specs.declared.trace.trace_state.TraceStateError.{TraceStateError}
-use Rattle.opentelemetry.specs.Tracestate.{SpellsPair, first_fault, is_equals, is_key, is_key_byte, is_key_start, is_value, first_of_two, member_fault, pair_fault, pair_of}
+use Rattle.opentelemetry.specs.Tracestate.{SpellsPair, first_fault, is_equals, is_key, is_key_byte, is_key_start, is_value, is_value_byte, ends_with_space, first_of_two, member_fault, pair_fault, pair_of}
 use Rattle.opentelemetry.proofs.Pieces.{none_of_two}
 
-both_true : (a b : Bool) → (a && b) ≡ true → (a ≡ true) × (b ≡ true)
+pub both_true : (a b : Bool) → (a && b) ≡ true → (a ≡ true) × (b ≡ true)
 both_true true b h = (refl, h)
 both_true false b h = absurd cc
 
 -- a pair without fault has a key and a value
-sound_pair : (k v : Bool) (e f : TraceStateError) → cond k (cond v None (Some e)) (Some f) ≡ None → (k ≡ true) × (v ≡ true)
+pub sound_pair : (k v : Bool) (e f : TraceStateError) → cond k (cond v None (Some e)) (Some f) ≡ None → (k ≡ true) × (v ≡ true)
 sound_pair true true e f h = (refl, refl)
 sound_pair true false e f h = absurd cc
 sound_pair false v e f h = absurd cc
@@ -51,11 +51,34 @@ spells m h =
 no_equals : (k : List ℕ) (j : ℕ) → list_all is_key_byte k ≡ true → j < length k → is_equals (get_or k j 0) ≡ false
 no_equals k j good inside = ne_eqb (get_or k j 0) 61 (λ e. false≢true (sym (list_all_at is_key_byte k j 0 inside (ap is_key_byte e)) ∙ good))
 
-key_bytes : (k : List ℕ) → is_key k ≡ true → list_all is_key_byte k ≡ true
-key_bytes k h =
-    (both_true (is_key_start (slice_index k 0)) (list_all is_key_byte k)
+-- what is said of a key's first byte and of all its bytes
+key_parts : (k : List ℕ) → is_key k ≡ true → (is_key_start (slice_index k 0) ≡ true) × (list_all is_key_byte k ≡ true)
+key_parts k h =
+    both_true (is_key_start (slice_index k 0)) (list_all is_key_byte k)
     (both_true (nat_le (length k) 256) (is_key_start (slice_index k 0) && list_all is_key_byte k)
-    (both_true (nat_le 1 (length k)) (nat_le (length k) 256 && (is_key_start (slice_index k 0) && list_all is_key_byte k)) h).1).1).1
+    (both_true (nat_le 1 (length k)) (nat_le (length k) 256 && (is_key_start (slice_index k 0) && list_all is_key_byte k)) h).1).1
+
+pub key_start : (k : List ℕ) → is_key k ≡ true → is_key_start (slice_index k 0) ≡ true
+key_start k h = (key_parts k h).0
+
+pub key_bytes : (k : List ℕ) → is_key k ≡ true → list_all is_key_byte k ≡ true
+key_bytes k h = (key_parts k h).1
+
+-- what is said of a value's bytes and of its last one
+value_parts : (v : List ℕ) → is_value v ≡ true → (list_all is_value_byte v ≡ true) × (not (ends_with_space v) ≡ true)
+value_parts v h =
+    both_true (list_all is_value_byte v) (not (ends_with_space v))
+    (both_true (nat_le (length v) 256) (list_all is_value_byte v && not (ends_with_space v)) h).1
+
+pub value_bytes : (v : List ℕ) → is_value v ≡ true → list_all is_value_byte v ≡ true
+value_bytes v h = (value_parts v h).0
+
+turned : (b : Bool) → not b ≡ true → b ≡ false
+turned true h = absurd cc
+turned false h = refl
+
+pub value_end : (v : List ℕ) → is_value v ≡ true → ends_with_space v ≡ false
+value_end v h = turned (ends_with_space v) (value_parts v h).1
 
 -- the first equals sign behind a key is the one that follows it
 first_equals : (k v : List ℕ) → is_key k ≡ true → position_or_len is_equals (k ++ 61 ∷ v) ≡ length k

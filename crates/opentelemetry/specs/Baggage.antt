@@ -1,5 +1,7 @@
 -- A baggage: names with values and metadata, in order of insertion (W3C Baggage, section 3.3.1).
-use Rattle.std.specs.Prelude.{◌≡◌, ◌≢◌, ℕ, ◌+◌, ◌<◌, ◌≤◌, ◌⊎◌, List, [], ◌∷◌, Option, None, Some, map, length, find, sum_by, if◌then◌else◌, string_bytes, String}
+use Rattle.std.specs.Prelude.{◌≡◌, ◌≢◌, ℕ, ◌+◌, ◌<◌, ◌≤◌, ◌⊎◌, List, [], ◌∷◌}
+use Rattle.std.specs.Prelude.{Option, None, Some, map, length, find, sum_by, if◌then◌else◌, string_bytes, String}
+use Rattle.std.specs.Option.{option_map, option_map_or}
 use Rattle.std.specs.Str.{bytes_eq}
 use denote.Ref.{Bor}
 
@@ -17,6 +19,10 @@ PlainBaggage = List PlainBaggageEntry
 abbrev pub value_and_metadata : PlainBaggageEntry → List ℕ × List ℕ
 value_and_metadata e = (e.value, e.metadata)
 
+-- the entry of a name, a value and metadata
+abbrev pub entry_of : List ℕ → List ℕ → List ℕ → PlainBaggageEntry
+entry_of name value metadata = record { key = name; value = value; metadata = metadata }
+
 -- the bytes that an entry counts for: those of its name, value and metadata
 abbrev pub entry_bytes : PlainBaggageEntry → ℕ
 entry_bytes e = length e.key + length e.value + length e.metadata
@@ -28,6 +34,18 @@ baggage_bytes es = sum_by entry_bytes es
 -- the entry under a name
 abbrev pub entry_at : PlainBaggage → List ℕ → Option PlainBaggageEntry
 entry_at es name = find (λ e. bytes_eq name e.key) es
+
+-- the value and the metadata that stand under a name
+abbrev pub found_at : PlainBaggage → List ℕ → Option (List ℕ × List ℕ)
+found_at es name = option_map value_and_metadata (entry_at es name)
+
+-- the bytes that what was found under a name counts for with its name; none where nothing was found
+abbrev pub found_bytes : List ℕ → Option (List ℕ × List ℕ) → ℕ
+found_bytes name found = option_map_or (λ pair. length name + length pair.0 + length pair.1) found 0
+
+-- a value and metadata that were handed out, without where they lie
+abbrev pub handed_out : {Y : Type 0} → Option (String Y × List ℕ) → Option (List ℕ × List ℕ)
+handed_out given = option_map (λ pair. (string_bytes pair.0, pair.1)) given
 
 -- the baggage with an entry: in the place of the one of its name, else last
 abbrev pub with_entry : PlainBaggage → PlainBaggageEntry → PlainBaggage
@@ -41,7 +59,8 @@ without_entry (e ∷ es) name = if bytes_eq name e.key then es else e ∷ withou
 
 -- a baggage may not take an entry: its name is empty, or too many entries or bytes would stand then
 abbrev pub BreaksLimit : PlainBaggage → PlainBaggageEntry → Type 0
-BreaksLimit es new = (new.key ≡ []) ⊎ (64 < length (with_entry es new)) ⊎ (8192 < baggage_bytes (with_entry es new))
+BreaksLimit es new =
+    (new.key ≡ []) ⊎ (64 < length (with_entry es new)) ⊎ (8192 < baggage_bytes (with_entry es new))
 
 -- no entry has this name
 abbrev pub IsFreeName : List ℕ → PlainBaggage → Type 0
@@ -62,7 +81,7 @@ HasNames (e ∷ es) = (e.key ≢ []) × HasNames es
 pub record IsWithinLimits (es : PlainBaggage) : Type 0 where
   pub few : length es ≤ 64
   pub small : baggage_bytes es ≤ 8192
-  pub named : HasNames es
+  pub have_names : HasNames es
 
 -- an entry of a map, without where it lies
 abbrev pub plain_entry : {Y Z : Type 0} → String Y × (String Z × List ℕ) → PlainBaggageEntry
@@ -73,9 +92,9 @@ abbrev pub plain_entries : {Y Z : Type 0} → List (String Y × (String Z × Lis
 plain_entries es = map (λ e. plain_entry e) es
 
 -- the entries that are kept; none where nothing is
-abbrev pub kept_entries : Option PlainBaggage → PlainBaggage
-kept_entries None = []
-kept_entries (Some entries) = entries
+abbrev pub entries_or_none : Option PlainBaggage → PlainBaggage
+entries_or_none None = []
+entries_or_none (Some entries) = entries
 
 -- what an iterator over a baggage gives, without where it lies
 abbrev pub plain_item : Bor (List ℕ) × (Bor (List ℕ) × Bor (List ℕ)) → PlainBaggageEntry

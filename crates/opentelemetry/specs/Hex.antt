@@ -1,6 +1,7 @@
 -- Numbers as lower-case hexadecimal text, stated by division by sixteen.
 use Rattle.std.specs.List.{All}
-use Rattle.std.specs.Prelude.{◌≡◌, ◌≤◌, ◌⊎◌, length, ℕ, zero, suc, ◌+◌, ◌/◌, ◌%◌, List, [], ◌∷◌, ◌++◌, if◌then◌else◌, nat_lt}
+use Rattle.std.specs.Prelude.{◌≡◌, ◌≤◌, ◌⊎◌, length, ℕ, zero, suc, ◌+◌, ◌/◌, ◌%◌, List}
+use Rattle.std.specs.Prelude.{[], ◌∷◌, ◌++◌, if◌then◌else◌, nat_lt}
 
 -- the lower-case digit of a number below sixteen
 abbrev pub hex_digit : ℕ → ℕ

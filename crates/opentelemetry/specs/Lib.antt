@@ -9,6 +9,7 @@ pub mod PlainValues
 pub mod Same
 pub mod SameBuilder
 pub mod SameParts
+pub mod Text
 pub mod TextMap
 pub mod Tracestate
 pub mod ValueText

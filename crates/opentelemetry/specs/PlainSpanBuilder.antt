@@ -1,5 +1,5 @@
 -- What contracts see of a span's builder. The kind is the enum itself, which lies nowhere in memory.
-use Rattle.std.specs.Prelude.{ℕ, List, Option}
+use Rattle.std.specs.Prelude.{ℕ, List, Option, None}
 use Rattle.opentelemetry.specs.Plain.{PlainKeyValue, PlainEvent, PlainLink}
 use Rattle.opentelemetry.specs.declared.trace.span_kind.SpanKind.{SpanKind}
 
@@ -11,3 +11,14 @@ pub record PlainSpanBuilder : Type 0 where
   pub attributes : Option (List PlainKeyValue)
   pub events : Option (List PlainEvent)
   pub links : Option (List PlainLink)
+
+-- a name and nothing else
+abbrev pub named_builder : List ℕ → PlainSpanBuilder
+named_builder name = record {
+  name = name;
+  span_kind = None;
+  start_time = None;
+  attributes = None;
+  events = None;
+  links = None;
+}

@@ -1,16 +1,20 @@
 -- Whether two plain values are the same, part by part. Each test is true exactly at equal values, so it is an
 -- equivalence.
-use Rattle.std.specs.Prelude.{◌≡◌, ℕ, Bool, true, false, ◌&&◌, List, [], ◌∷◌, map, nat_eq, refl, ◌==◌}
+use Rattle.std.specs.Prelude.{◌≡◌, ℕ, Bool, true, false, ◌&&◌, List, [], ◌∷◌, map, nat_eq, refl}
+use Rattle.std.specs.Prelude.{◌==◌}
 use Rattle.std.specs.Bool.{Decides, beq}
 use Rattle.std.specs.Cmp.{IsEquivalence, IsPartialEquivalence, partial_equiv_from_equiv}
 use Rattle.std.specs.Cmp.Lexicographic.{pointwise, pointwise_decides, bytes_decides}
 use Rattle.std.specs.Ordering.{int_eq}
 use Rattle.std.proofs.Common.{ap, sym}
-use Rattle.std.proofs.lemmas.Bool.Decides.{same_from_decides, Decides-eqb, Decides-int_eq, Decides-like, Decides-and, Decides-at}
-use Rattle.opentelemetry.specs.Plain.{PlainValue, boolean, integer, text, booleans, integers, texts, PlainKeyValue, PlainSpanContext, PlainStatus, unset, error, ok}
+use Rattle.std.proofs.lemmas.Bool.Decides.{same_from_decides, Decides-eqb, Decides-int_eq}
+use Rattle.std.proofs.lemmas.Bool.Decides.{Decides-like, Decides-and, Decides-at}
+use Rattle.opentelemetry.specs.Plain.{PlainValue, boolean, integer, text, booleans, integers, texts}
+use Rattle.opentelemetry.specs.Plain.{PlainKeyValue, PlainSpanContext, PlainStatus, unset, error, ok}
 
 -- a test that is true exactly at equal values is an equivalence
-pub equivalence_from_decides : {K : Type 0} (E : K → K → Bool) → ((x y : K) → Decides (E x y) (x ≡ y)) → IsEquivalence E
+pub equivalence_from_decides : {K : Type 0} (E : K → K → Bool)
+    → ((x y : K) → Decides (E x y) (x ≡ y)) → IsEquivalence E
 equivalence_from_decides E d = record {
   refl = λ x. (d x x).1 refl;
   symm = λ x y. same_from_decides (E x y) (E y x) (d x y) (Decides-like (E y x) sym sym (d y x));
@@ -18,11 +22,13 @@ equivalence_from_decides E d = record {
 }
 
 -- the same for the weaker law
-pub partial_equivalence_from_decides : {K : Type 0} (E : K → K → Bool) → ((x y : K) → Decides (E x y) (x ≡ y)) → IsPartialEquivalence E
+pub partial_equivalence_from_decides : {K : Type 0} (E : K → K → Bool)
+    → ((x y : K) → Decides (E x y) (x ≡ y)) → IsPartialEquivalence E
 partial_equivalence_from_decides E d = partial_equiv_from_equiv (equivalence_from_decides E d)
 
 -- two lists are compared by what h makes of their elements
-pub pointwise_map : {A B : Type 0} (h : A → B) (E : B → B → Bool) (xs ys : List A) → pointwise E (map h xs) (map h ys) ≡ pointwise (λ a b. E (h a) (h b)) xs ys
+pub pointwise_map : {A B : Type 0} (h : A → B) (E : B → B → Bool) (xs ys : List A)
+    → pointwise E (map h xs) (map h ys) ≡ pointwise (λ a b. E (h a) (h b)) xs ys
 pointwise_map h E [] [] = refl
 pointwise_map h E [] (y ∷ ys) = refl
 pointwise_map h E (x ∷ xs) [] = refl
@@ -55,9 +61,12 @@ pub same_value_decides : (a b : PlainValue) → Decides (same_value a b) (a ≡ 
 same_value_decides (boolean a) (boolean b) = Decides-like (beq a b) (ap boolean) (λ e. cc) (same_truth_decides a b)
 same_value_decides (integer a) (integer b) = Decides-like (int_eq a b) (ap integer) (λ e. cc) (Decides-int_eq a b)
 same_value_decides (text a) (text b) = Decides-like (same_text a b) (ap text) (λ e. cc) (same_text_decides a b)
-same_value_decides (booleans a) (booleans b) = Decides-like (pointwise beq a b) (ap booleans) (λ e. cc) (pointwise_decides same_truth_decides a b)
-same_value_decides (integers a) (integers b) = Decides-like (pointwise int_eq a b) (ap integers) (λ e. cc) (pointwise_decides Decides-int_eq a b)
-same_value_decides (texts a) (texts b) = Decides-like (pointwise same_text a b) (ap texts) (λ e. cc) (pointwise_decides same_text_decides a b)
+same_value_decides (booleans a) (booleans b) =
+    Decides-like (pointwise beq a b) (ap booleans) (λ e. cc) (pointwise_decides same_truth_decides a b)
+same_value_decides (integers a) (integers b) =
+    Decides-like (pointwise int_eq a b) (ap integers) (λ e. cc) (pointwise_decides Decides-int_eq a b)
+same_value_decides (texts a) (texts b) =
+    Decides-like (pointwise same_text a b) (ap texts) (λ e. cc) (pointwise_decides same_text_decides a b)
 same_value_decides _ _ = (λ h. cc, λ e. cc)
 
 -- a test that answered as same_value does tells whether the values are the same
@@ -73,7 +82,7 @@ same_attribute_decides a b =
     Decides-like (same_attribute a b)
     (λ e. λ i. record { key = e.0 i; value = e.1 i })
     (λ e. (ap (λ x. x.key) e, ap (λ x. x.value) e))
-    (Decides-and (same_text a.key b.key) (same_value a.value b.value) (same_text_decides a.key b.key) (same_value_decides a.value b.value))
+    (Decides-and _ _ (same_text_decides a.key b.key) (same_value_decides a.value b.value))
 
 -- whether two pairs of texts are the same
 abbrev pub same_pair : List ℕ × List ℕ → List ℕ × List ℕ → Bool
@@ -101,9 +110,20 @@ same_span_context a b = (a.trace_id == b.trace_id) && ((a.span_id == b.span_id) 
 pub same_span_context_decides : (a b : PlainSpanContext) → Decides (same_span_context a b) (a ≡ b)
 same_span_context_decides a b =
     Decides-like (same_span_context a b)
-    (λ e. λ i. record { trace_id = e.0 i; span_id = e.1.0 i; trace_flags = e.1.1.0 i; is_remote = e.1.1.1.0 i; trace_state = e.1.1.1.1 i })
-    (λ e. (ap (λ x. x.trace_id) e, (ap (λ x. x.span_id) e, (ap (λ x. x.trace_flags) e, (ap (λ x. x.is_remote) e, ap (λ x. x.trace_state) e)))))
-    (Decides-and _ _ (Decides-eqb a.trace_id b.trace_id) (Decides-and _ _ (Decides-eqb a.span_id b.span_id) (Decides-and _ _ (Decides-eqb a.trace_flags b.trace_flags)
+    (λ e. λ i. record {
+      trace_id = e.0 i;
+      span_id = e.1.0 i;
+      trace_flags = e.1.1.0 i;
+      is_remote = e.1.1.1.0 i;
+      trace_state = e.1.1.1.1 i;
+    })
+    (λ e. (
+      ap (λ x. x.trace_id) e,
+      (ap (λ x. x.span_id) e, (ap (λ x. x.trace_flags) e, (ap (λ x. x.is_remote) e, ap (λ x. x.trace_state) e))),
+    ))
+    (Decides-and _ _ (Decides-eqb a.trace_id b.trace_id)
+    (Decides-and _ _ (Decides-eqb a.span_id b.span_id)
+    (Decides-and _ _ (Decides-eqb a.trace_flags b.trace_flags)
     (Decides-and _ _ (same_truth_decides a.is_remote b.is_remote) (same_pairs_decides a.trace_state b.trace_state)))))
 
 -- whether two statuses are the same
@@ -122,7 +142,8 @@ same_status_decides _ _ = (λ h. cc, λ e. cc)
 pub same_status_tells : (r : Bool) (a b : PlainStatus) → r ≡ same_status a b → Decides r (a ≡ b)
 same_status_tells r a b e = Decides-at r (same_status a b) e (same_status_decides a b)
 
-pub same_span_context_tells : (r : Bool) (a b : PlainSpanContext) → r ≡ same_span_context a b → Decides r (a ≡ b)
+pub same_span_context_tells : (r : Bool) (a b : PlainSpanContext)
+    → r ≡ same_span_context a b → Decides r (a ≡ b)
 same_span_context_tells r a b e = Decides-at r (same_span_context a b) e (same_span_context_decides a b)
 
 pub same_attribute_tells : (r : Bool) (a b : PlainKeyValue) → r ≡ same_attribute a b → Decides r (a ≡ b)

@@ -7,7 +7,8 @@ use Rattle.std.proofs.Common.{ap}
 use Rattle.std.proofs.lemmas.Bool.Decides.{Decides-eqb, Decides-like, Decides-and, Decides-at}
 use Rattle.opentelemetry.specs.Baggage.{PlainBaggage, PlainBaggageEntry}
 use Rattle.opentelemetry.specs.Plain.{PlainKeyValue, PlainEvent, PlainLink, PlainScope}
-use Rattle.opentelemetry.specs.Same.{same_text, same_text_decides, same_attribute, same_attribute_decides, same_span_context, same_span_context_decides}
+use Rattle.opentelemetry.specs.Same.{same_text, same_text_decides, same_attribute, same_attribute_decides}
+use Rattle.opentelemetry.specs.Same.{same_span_context, same_span_context_decides}
 
 -- whether two lists of attributes are the same
 abbrev pub same_attributes : List PlainKeyValue → List PlainKeyValue → Bool
@@ -16,7 +17,8 @@ same_attributes = pointwise same_attribute
 pub same_attributes_decides : (a b : List PlainKeyValue) → Decides (same_attributes a b) (a ≡ b)
 same_attributes_decides = pointwise_decides same_attribute_decides
 
-pub option_eq_decides : {X : Type 0} {E : X → X → Bool} → ((x y : X) → Decides (E x y) (x ≡ y)) → (a b : Option X) → Decides (option_eq E a b) (a ≡ b)
+pub option_eq_decides : {X : Type 0} {E : X → X → Bool} → ((x y : X) → Decides (E x y) (x ≡ y))
+    → (a b : Option X) → Decides (option_eq E a b) (a ≡ b)
 option_eq_decides d None None = (λ _. refl, λ _. refl)
 option_eq_decides d None (Some y) = (λ h. cc, λ e. cc)
 option_eq_decides d (Some x) None = (λ h. cc, λ e. cc)
@@ -24,22 +26,34 @@ option_eq_decides {E = E} d (Some x) (Some y) = Decides-like (E x y) (ap (λ v. 
 
 -- whether two events are the same
 abbrev pub same_event : PlainEvent → PlainEvent → Bool
-same_event a b = same_text a.name b.name && ((a.timestamp == b.timestamp) && (same_attributes a.attributes b.attributes && (a.dropped_attributes_count == b.dropped_attributes_count)))
+same_event a b = same_text a.name b.name && ((a.timestamp == b.timestamp)
+    && (same_attributes a.attributes b.attributes && (a.dropped_attributes_count == b.dropped_attributes_count)))
 
 pub same_event_decides : (a b : PlainEvent) → Decides (same_event a b) (a ≡ b)
 same_event_decides a b =
     Decides-like (same_event a b)
-    (λ e. λ i. record { name = e.0 i; timestamp = e.1.0 i; attributes = e.1.1.0 i; dropped_attributes_count = e.1.1.1 i })
-    (λ e. (ap (λ x. x.name) e, (ap (λ x. x.timestamp) e, (ap (λ x. x.attributes) e, ap (λ x. x.dropped_attributes_count) e))))
-    (Decides-and _ _ (same_text_decides a.name b.name) (Decides-and _ _ (Decides-eqb a.timestamp b.timestamp)
-    (Decides-and _ _ (same_attributes_decides a.attributes b.attributes) (Decides-eqb a.dropped_attributes_count b.dropped_attributes_count))))
+    (λ e. λ i. record {
+      name = e.0 i;
+      timestamp = e.1.0 i;
+      attributes = e.1.1.0 i;
+      dropped_attributes_count = e.1.1.1 i;
+    })
+    (λ e. (
+      ap (λ x. x.name) e,
+      (ap (λ x. x.timestamp) e, (ap (λ x. x.attributes) e, ap (λ x. x.dropped_attributes_count) e)),
+    ))
+    (Decides-and _ _ (same_text_decides a.name b.name)
+    (Decides-and _ _ (Decides-eqb a.timestamp b.timestamp)
+    (Decides-and _ _ (same_attributes_decides a.attributes b.attributes)
+    (Decides-eqb a.dropped_attributes_count b.dropped_attributes_count))))
 
 pub same_event_tells : (r : Bool) (a b : PlainEvent) → r ≡ same_event a b → Decides r (a ≡ b)
 same_event_tells r a b e = Decides-at r (same_event a b) e (same_event_decides a b)
 
 -- whether two links are the same
 abbrev pub same_link : PlainLink → PlainLink → Bool
-same_link a b = same_span_context a.span_context b.span_context && (same_attributes a.attributes b.attributes && (a.dropped_attributes_count == b.dropped_attributes_count))
+same_link a b = same_span_context a.span_context b.span_context
+    && (same_attributes a.attributes b.attributes && (a.dropped_attributes_count == b.dropped_attributes_count))
 
 pub same_link_decides : (a b : PlainLink) → Decides (same_link a b) (a ≡ b)
 same_link_decides a b =
@@ -47,22 +61,26 @@ same_link_decides a b =
     (λ e. λ i. record { span_context = e.0 i; attributes = e.1.0 i; dropped_attributes_count = e.1.1 i })
     (λ e. (ap (λ x. x.span_context) e, (ap (λ x. x.attributes) e, ap (λ x. x.dropped_attributes_count) e)))
     (Decides-and _ _ (same_span_context_decides a.span_context b.span_context)
-    (Decides-and _ _ (same_attributes_decides a.attributes b.attributes) (Decides-eqb a.dropped_attributes_count b.dropped_attributes_count)))
+    (Decides-and _ _ (same_attributes_decides a.attributes b.attributes)
+    (Decides-eqb a.dropped_attributes_count b.dropped_attributes_count)))
 
 pub same_link_tells : (r : Bool) (a b : PlainLink) → r ≡ same_link a b → Decides r (a ≡ b)
 same_link_tells r a b e = Decides-at r (same_link a b) e (same_link_decides a b)
 
 -- whether two scopes are the same
 abbrev pub same_scope : PlainScope → PlainScope → Bool
-same_scope a b = same_text a.name b.name && (option_eq same_text a.version b.version && (option_eq same_text a.schema_url b.schema_url && same_attributes a.attributes b.attributes))
+same_scope a b = same_text a.name b.name && (option_eq same_text a.version b.version
+    && (option_eq same_text a.schema_url b.schema_url && same_attributes a.attributes b.attributes))
 
 pub same_scope_decides : (a b : PlainScope) → Decides (same_scope a b) (a ≡ b)
 same_scope_decides a b =
     Decides-like (same_scope a b)
     (λ e. λ i. record { name = e.0 i; version = e.1.0 i; schema_url = e.1.1.0 i; attributes = e.1.1.1 i })
     (λ e. (ap (λ x. x.name) e, (ap (λ x. x.version) e, (ap (λ x. x.schema_url) e, ap (λ x. x.attributes) e))))
-    (Decides-and _ _ (same_text_decides a.name b.name) (Decides-and _ _ (option_eq_decides same_text_decides a.version b.version)
-    (Decides-and _ _ (option_eq_decides same_text_decides a.schema_url b.schema_url) (same_attributes_decides a.attributes b.attributes))))
+    (Decides-and _ _ (same_text_decides a.name b.name)
+    (Decides-and _ _ (option_eq_decides same_text_decides a.version b.version)
+    (Decides-and _ _ (option_eq_decides same_text_decides a.schema_url b.schema_url)
+    (same_attributes_decides a.attributes b.attributes))))
 
 pub same_scope_tells : (r : Bool) (a b : PlainScope) → r ≡ same_scope a b → Decides r (a ≡ b)
 same_scope_tells r a b e = Decides-at r (same_scope a b) e (same_scope_decides a b)
@@ -76,7 +94,8 @@ same_entry_decides a b =
     Decides-like (same_entry a b)
     (λ e. λ i. record { key = e.0 i; value = e.1.0 i; metadata = e.1.1 i })
     (λ e. (ap (λ x. x.key) e, (ap (λ x. x.value) e, ap (λ x. x.metadata) e)))
-    (Decides-and _ _ (same_text_decides a.key b.key) (Decides-and _ _ (same_text_decides a.value b.value) (same_text_decides a.metadata b.metadata)))
+    (Decides-and _ _ (same_text_decides a.key b.key)
+    (Decides-and _ _ (same_text_decides a.value b.value) (same_text_decides a.metadata b.metadata)))
 
 pub same_entry_tells : (r : Bool) (a b : PlainBaggageEntry) → r ≡ same_entry a b → Decides r (a ≡ b)
 same_entry_tells r a b e = Decides-at r (same_entry a b) e (same_entry_decides a b)

@@ -1,5 +1,6 @@
 -- A map whose names and texts are strings, seen as a finite map from bytes to bytes.
-use Rattle.std.specs.Prelude.{◌≡◌, ℕ, List, [], ◌∷◌, map, Option, Some, None, if◌then◌else◌, string_bytes, String}
+use Rattle.std.specs.Prelude.{◌≡◌, ℕ, List, [], ◌∷◌, map, Option, Some, None, if◌then◌else◌}
+use Rattle.std.specs.Prelude.{string_bytes, String}
 use Rattle.std.specs.Ordering.{nat_cmp}
 use Rattle.std.specs.Cmp.Lexicographic.{slice_cmp}
 use Rattle.std.specs.FinMap.{FinMap, from_entries, get}
@@ -35,4 +36,5 @@ AllLowerNames (e ∷ es) = IsLowerName (string_bytes e.0) × AllLowerNames es
 -- the text of the first name that differs from this one in ASCII case at most
 abbrev pub first_text : {Y Z : Type 0} → List ℕ → List (String Y × String Z) → Option (List ℕ)
 first_text name [] = None
-first_text name (e ∷ es) = if str_eq_ignore_ascii_case (string_bytes e.0) name then Some (string_bytes e.1) else first_text name es
+first_text name (e ∷ es) =
+    if str_eq_ignore_ascii_case (string_bytes e.0) name then Some (string_bytes e.1) else first_text name es

@@ -1,9 +1,11 @@
 //! Names with values that an application hands on from process to process (W3C Baggage). A baggage keeps its entries
 //! in order of insertion, at most 64 of them and at most 8192 bytes of names, values and metadata together.
 
-ghost use Rattle.std.specs.Prelude.{◌≡◌, [], ◌↔◌, length, IsTrue, IfNone, OnOk, OnErr, IfOk, IsErrOf, string_bytes};
+ghost use Rattle.std.specs.Prelude.{◌≡◌, [], ◌↔◌, length, IsTrue, IfNone, None, OnOk, OnErr, IfOk};
+ghost use Rattle.std.specs.Prelude.{IsErrOf, string_bytes};
 ghost use Rattle.std.specs.Option.{option_map, option_copied};
-ghost use Rattle.opentelemetry.specs.Baggage.{value_and_metadata, entry_at, with_entry, without_entry, BreaksLimit, IsWithinLimits, HasDistinctNames, kept_entries};
+ghost use Rattle.opentelemetry.specs.Baggage.{entry_at, entry_of, found_at, handed_out, with_entry, without_entry};
+ghost use Rattle.opentelemetry.specs.Baggage.{BreaksLimit, IsWithinLimits, HasDistinctNames, entries_or_none};
 
 pub(crate) mod entries;
 pub mod iter;
@@ -96,7 +98,7 @@ impl Eq for BaggageMetadata {
 }
 
 /// One entry of a baggage.
-#[derive(Debug, Drop)]
+#[derive(Clone, Debug, Drop)]
 pub struct KeyValueMetadata {
     pub key: String,
     pub value: String,
@@ -121,20 +123,6 @@ impl KeyValueMetadata {
             value,
             metadata,
         }
-    }
-}
-
-impl Clone for KeyValueMetadata {
-    ghost use Rattle.std.specs.Prelude.{◌≡◌};
-
-    ghost is_clone = { λ entry copy. copy ≡ entry };
-
-    fn clone(&self) -> Result<KeyValueMetadata, AllocError> {
-        Ok(KeyValueMetadata {
-            key: self.key.clone()?,
-            value: self.value.clone()?,
-            metadata: self.metadata.clone()?,
-        })
     }
 }
 
@@ -163,17 +151,17 @@ impl Eq for KeyValueMetadata {
 }
 
 /// Entries in order of insertion, within the limits.
-#[derive(Debug, Drop)]
+#[derive(Clone, Debug, Drop)]
 pub struct Baggage {
     entries: Option<Entries>,
 }
 
 impl Model for Baggage {
-    ghost use Rattle.opentelemetry.specs.Baggage.{PlainBaggage, kept_entries};
+    ghost use Rattle.opentelemetry.specs.Baggage.{PlainBaggage, entries_or_none};
 
     ghost Value = { PlainBaggage };
 
-    ghost view = { λ baggage. kept_entries baggage.entries };
+    ghost view = { λ baggage. entries_or_none baggage.entries };
 }
 
 impl Baggage {
@@ -203,15 +191,18 @@ impl Baggage {
         }
     }
 
-    /// Puts a name with its value and no metadata, and gives back what it replaced.
+    /// Puts a name with its value and no metadata, and gives back what it replaced. Only a new name takes memory.
     pub fn insert(
         &mut self,
         name: String,
         value: String,
     ) -> Result<Option<(String, BaggageMetadata)>, BaggageError>
-        ensures ok { OnOk result (self.new ≡ with_entry self.old (record { key = string_bytes name; value = string_bytes value; metadata = [] })) }
-        ensures replaced { IfOk result (λ old. option_map (λ pair. (string_bytes pair.0, pair.1)) old ≡ option_map value_and_metadata (entry_at self.old (string_bytes name))) }
-        ensures limit { IsErrOf result BaggageError.Limit ↔ BreaksLimit self.old (record { key = string_bytes name; value = string_bytes value; metadata = [] }) }
+        ensures ok { OnOk result
+            (self.new ≡ with_entry self.old (entry_of (string_bytes name) (string_bytes value) [])) }
+        ensures replaced { IfOk result (λ old. handed_out old ≡ found_at self.old (string_bytes name)) }
+        ensures limit { IsErrOf result BaggageError.Limit
+            ↔ BreaksLimit self.old (entry_of (string_bytes name) (string_bytes value) []) }
+        ensures memory { IsErrOf result BaggageError.Memory → entry_at self.old (string_bytes name) ≡ None }
         ensures err { OnErr result (self.new ≡ self.old) }
     {
         let none = String::new(*name.allocator());
@@ -219,16 +210,19 @@ impl Baggage {
     }
 
     /// Puts a name with its value and metadata: in the place of the entry of that name, else last. Gives back what it
-    /// replaced. `Limit` where a limit does not allow the entry, and only else `Memory`.
+    /// replaced. `Limit` where a limit does not allow the entry, and only else `Memory`. Only a new name takes memory.
     pub fn insert_with_metadata(
         &mut self,
         name: String,
         value: String,
         metadata: BaggageMetadata,
     ) -> Result<Option<(String, BaggageMetadata)>, BaggageError>
-        ensures ok { OnOk result (self.new ≡ with_entry self.old (record { key = string_bytes name; value = string_bytes value; metadata = metadata })) }
-        ensures replaced { IfOk result (λ old. option_map (λ pair. (string_bytes pair.0, pair.1)) old ≡ option_map value_and_metadata (entry_at self.old (string_bytes name))) }
-        ensures limit { IsErrOf result BaggageError.Limit ↔ BreaksLimit self.old (record { key = string_bytes name; value = string_bytes value; metadata = metadata }) }
+        ensures ok { OnOk result
+            (self.new ≡ with_entry self.old (entry_of (string_bytes name) (string_bytes value) metadata)) }
+        ensures replaced { IfOk result (λ old. handed_out old ≡ found_at self.old (string_bytes name)) }
+        ensures limit { IsErrOf result BaggageError.Limit
+            ↔ BreaksLimit self.old (entry_of (string_bytes name) (string_bytes value) metadata) }
+        ensures memory { IsErrOf result BaggageError.Memory → entry_at self.old (string_bytes name) ≡ None }
         ensures err { OnErr result (self.new ≡ self.old) }
     {
         insert_in(&mut self.entries, name, value, metadata)
@@ -244,7 +238,7 @@ impl Baggage {
     }
 
     pub fn get_with_metadata(&self, name: &str) -> Option<(&str, &BaggageMetadata)>
-        ensures { option_map (λ pair. (pair.0.now, pair.1.now)) result ≡ option_map value_and_metadata (entry_at self.now name.now) }
+        ensures { option_map (λ pair. (pair.0.now, pair.1.now)) result ≡ found_at self.now name.now }
     {
         match &self.entries {
             Some(entries) => entries.get(name),
@@ -255,7 +249,7 @@ impl Baggage {
     /// Takes out the entry of a name. The others keep their order.
     pub fn remove(&mut self, name: &str) -> Option<(String, BaggageMetadata)>
         ensures left { self.new ≡ without_entry self.old name.now }
-        ensures removed { option_map (λ pair. (string_bytes pair.0, pair.1)) result ≡ option_map value_and_metadata (entry_at self.old name.now) }
+        ensures removed { handed_out result ≡ found_at self.old name.now }
     {
         remove_in(&mut self.entries, name)
     }
@@ -285,18 +279,6 @@ impl Baggage {
         ensures { IsTrue result ↔ (self.now ≡ []) }
     {
         self.len() == 0
-    }
-}
-
-impl Clone for Baggage {
-    ghost use Rattle.std.specs.Prelude.{◌≡◌};
-
-    ghost is_clone = { λ baggage copy. copy ≡ baggage };
-
-    fn clone(&self) -> Result<Baggage, AllocError> {
-        Ok(Baggage {
-            entries: self.entries.clone()?,
-        })
     }
 }
 
@@ -336,10 +318,15 @@ fn insert_in(
     value: String,
     metadata: BaggageMetadata,
 ) -> Result<Option<(String, BaggageMetadata)>, BaggageError>
-    ensures ok { OnOk result (kept_entries entries.new ≡ with_entry (kept_entries entries.old) (record { key = string_bytes name; value = string_bytes value; metadata = metadata })) }
-    ensures replaced { IfOk result (λ old. option_map (λ pair. (string_bytes pair.0, pair.1)) old ≡ option_map value_and_metadata (entry_at (kept_entries entries.old) (string_bytes name))) }
-    ensures limit { IsErrOf result BaggageError.Limit ↔ BreaksLimit (kept_entries entries.old) (record { key = string_bytes name; value = string_bytes value; metadata = metadata }) }
-    ensures err { OnErr result (kept_entries entries.new ≡ kept_entries entries.old) }
+    ensures ok { OnOk result (entries_or_none entries.new
+        ≡ with_entry (entries_or_none entries.old) (entry_of (string_bytes name) (string_bytes value) metadata)) }
+    ensures replaced { IfOk result (λ old.
+        handed_out old ≡ found_at (entries_or_none entries.old) (string_bytes name)) }
+    ensures limit { IsErrOf result BaggageError.Limit
+        ↔ BreaksLimit (entries_or_none entries.old) (entry_of (string_bytes name) (string_bytes value) metadata) }
+    ensures memory { IsErrOf result BaggageError.Memory
+        → entry_at (entries_or_none entries.old) (string_bytes name) ≡ None }
+    ensures err { OnErr result (entries_or_none entries.new ≡ entries_or_none entries.old) }
 {
     match entries {
         Some(kept) => insert_into(kept, name, value, metadata),
@@ -358,9 +345,12 @@ fn insert_into(
     value: String,
     metadata: BaggageMetadata,
 ) -> Result<Option<(String, BaggageMetadata)>, BaggageError>
-    ensures ok { OnOk result (entries.new ≡ with_entry entries.old (record { key = string_bytes name; value = string_bytes value; metadata = metadata })) }
-    ensures replaced { IfOk result (λ old. option_map (λ pair. (string_bytes pair.0, pair.1)) old ≡ option_map value_and_metadata (entry_at entries.old (string_bytes name))) }
-    ensures limit { IsErrOf result BaggageError.Limit ↔ BreaksLimit entries.old (record { key = string_bytes name; value = string_bytes value; metadata = metadata }) }
+    ensures ok { OnOk result
+        (entries.new ≡ with_entry entries.old (entry_of (string_bytes name) (string_bytes value) metadata)) }
+    ensures replaced { IfOk result (λ old. handed_out old ≡ found_at entries.old (string_bytes name)) }
+    ensures limit { IsErrOf result BaggageError.Limit
+        ↔ BreaksLimit entries.old (entry_of (string_bytes name) (string_bytes value) metadata) }
+    ensures memory { IsErrOf result BaggageError.Memory → entry_at entries.old (string_bytes name) ≡ None }
     ensures err { OnErr result (entries.new ≡ entries.old) }
 {
     let Some(after) = entries.bytes_after(&name, &value, &metadata) else {
@@ -372,8 +362,8 @@ fn insert_into(
 
 /// As `Baggage::remove`.
 fn remove_in(entries: &mut Option<Entries>, name: &str) -> Option<(String, BaggageMetadata)>
-    ensures left { kept_entries entries.new ≡ without_entry (kept_entries entries.old) name.now }
-    ensures removed { option_map (λ pair. (string_bytes pair.0, pair.1)) result ≡ option_map value_and_metadata (entry_at (kept_entries entries.old) name.now) }
+    ensures left { entries_or_none entries.new ≡ without_entry (entries_or_none entries.old) name.now }
+    ensures removed { handed_out result ≡ found_at (entries_or_none entries.old) name.now }
 {
     match entries {
         Some(kept) => kept.remove(name),

@@ -153,7 +153,8 @@ impl PartialEq for Array {
 
     ghost eq = { on plain_array same_value };
 
-    ghost laws = { partial_equiv_from_equiv (on_equiv plain_array (equivalence_from_decides same_value same_value_decides)) };
+    ghost laws = { partial_equiv_from_equiv
+        (on_equiv plain_array (equivalence_from_decides same_value same_value_decides)) };
 
     fn eq(&self, other: &Array) -> bool
         ensures value { result ≡ same_value (plain_array self.now) (plain_array other.now) }
@@ -187,9 +188,11 @@ pub enum Value {
 
 impl Clone for Value {
     ghost use Rattle.std.specs.Prelude.{◌≡◌};
-    ghost use Rattle.opentelemetry.specs.PlainValues.{plain_value};
+    ghost use Rattle.opentelemetry.specs.PlainValues.{plain_value, IsScalar};
 
     ghost is_clone = { λ value copy. plain_value copy ≡ plain_value value };
+
+    ghost is_infallible = { λ value. IsScalar (plain_value value) };
 
     fn clone(&self) -> Result<Value, AllocError> {
         match self {
@@ -211,7 +214,8 @@ impl PartialEq for Value {
 
     ghost eq = { on plain_value same_value };
 
-    ghost laws = { partial_equiv_from_equiv (on_equiv plain_value (equivalence_from_decides same_value same_value_decides)) };
+    ghost laws = { partial_equiv_from_equiv
+        (on_equiv plain_value (equivalence_from_decides same_value same_value_decides)) };
 
     fn eq(&self, other: &Value) -> bool
         ensures value { result ≡ same_value (plain_value self.now) (plain_value other.now) }
@@ -236,7 +240,7 @@ impl Eq for Value {
 }
 
 /// An attribute.
-#[derive(Debug, Drop)]
+#[derive(Clone, Debug, Drop)]
 pub struct KeyValue {
     pub key: Key,
     pub value: Value,
@@ -259,22 +263,10 @@ impl KeyValue {
     }
 }
 
-impl Clone for KeyValue {
-    ghost use Rattle.std.specs.Prelude.{◌≡◌};
-
-    ghost is_clone = { λ attribute copy. copy ≡ attribute };
-
-    fn clone(&self) -> Result<KeyValue, AllocError> {
-        Ok(KeyValue {
-            key: self.key.clone()?,
-            value: self.value.clone()?,
-        })
-    }
-}
-
 impl PartialEq for KeyValue {
     ghost use Rattle.std.specs.Prelude.{◌≡◌, ◌↔◌, IsTrue};
-    ghost use Rattle.opentelemetry.specs.Same.{same_attribute, same_attribute_decides, partial_equivalence_from_decides};
+    ghost use Rattle.opentelemetry.specs.Same.{same_attribute, same_attribute_decides};
+    ghost use Rattle.opentelemetry.specs.Same.{partial_equivalence_from_decides};
 
     ghost eq = { same_attribute };
 
@@ -310,7 +302,12 @@ impl Model for ScopeParts {
 
     ghost Value = { PlainScope };
 
-    ghost view = { λ a. record { name = string_bytes a.name; version = option_map string_bytes a.version; schema_url = option_map string_bytes a.schema_url; attributes = a.attributes.items } };
+    ghost view = { λ scope. record {
+      name = string_bytes scope.name;
+      version = option_map string_bytes scope.version;
+      schema_url = option_map string_bytes scope.schema_url;
+      attributes = scope.attributes.items;
+    } };
 }
 
 impl PartialEq for ScopeParts {

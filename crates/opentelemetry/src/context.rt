@@ -30,9 +30,14 @@ impl Model for Context {
 
     ghost Value = { PlainContext };
 
-    ghost view = { λ cx. record { span_context = active_span_context cx.has_active_span cx.span_context; baggage = shared_baggage cx.baggage; telemetry_suppressed = cx.telemetry_suppressed } };
+    ghost view = { λ cx. record {
+      span_context = active_span_context cx.has_active_span cx.span_context;
+      baggage = shared_baggage cx.baggage;
+      telemetry_suppressed = cx.telemetry_suppressed;
+    } };
 
-    ghost invariant = { λ cx. (cx.no_baggage ≡ []) × (cx.has_active_span ≡ false → cx.span_context ≡ empty_span_context) };
+    ghost invariant = { λ cx. (cx.no_baggage ≡ [])
+        × (cx.has_active_span ≡ false → cx.span_context ≡ empty_span_context) };
 }
 
 impl Context {

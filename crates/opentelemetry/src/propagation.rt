@@ -2,11 +2,10 @@
 //! back (OpenTelemetry specification, "Propagators API"). A carrier is a finite map from names to texts, as the
 //! headers of an HTTP request are. Names that differ in ASCII case alone may be one name or two, as the carrier has it.
 
-ghost use Rattle.std.specs.Prelude.{◌≡◌, ℕ, List, Result, OnOk, OnErr, IfOk, IsSome, All, map, string_bytes};
+ghost use Rattle.std.specs.Prelude.{◌≡◌, ℕ, List, OnOk, OnErr, IfOk, IsSome, All, map, string_bytes};
 ghost use Rattle.std.specs.Option.{option_copied};
 ghost use Rattle.std.specs.Iterator.{YieldsFirstBy, item_count};
-ghost use Rattle.std.specs.declared.alloc.AllocError.{AllocError};
-ghost use Rattle.opentelemetry.specs.Carrier.{Texts, SetsText, SameTexts};
+ghost use Rattle.opentelemetry.specs.Carrier.{Texts, Injection, SetsText, SameTexts, HasName};
 ghost use Rattle.opentelemetry.specs.Plain.{PlainContext};
 
 pub mod map_carrier;
@@ -39,16 +38,17 @@ pub trait Extractor {
     fn get(&self, key: &str) -> Option<&str>
         ensures { option_copied result ≡ reads self.now key.now };
 
-    /// The names, each with a text.
+    /// The names, each with a text. A name that can be read is one of them, in the same case or another.
     fn keys(&self, alloc: Global) -> Result<Vec<&str>, AllocError>
         ensures named { IfOk result (λ keys. map (λ key. key.now) keys.items ≡ names self.now) }
-        ensures read { IfOk result (λ keys. All (λ key. IsSome (reads self.now key.now)) keys.items) };
+        ensures read { IfOk result (λ keys. All (λ key. IsSome (reads self.now key.now)) keys.items) }
+        ensures complete { (name : List ℕ) → IsSome (reads self.now name) → HasName name (names self.now) };
 }
 
 /// Writes what of a context travels into a carrier, and reads it from one.
 pub trait TextMapPropagator {
     /// An answer of `inject_context`: the context, what the carrier had, the answer, and what the carrier has then.
-    ghost inject_gives: { Self → PlainContext → Texts → Result (Unit {0}) AllocError → Texts → Type 0 } = { λ _ _ _ _ _. Unit {0} };
+    ghost inject_gives: { Self → Injection } = { λ _ _ _ _ _. Unit {0} };
 
     ghost extract_gives: { Self → PlainContext → Texts → PlainContext → Type 0 } = { λ _ _ _ _. Unit {0} };
 
@@ -72,7 +72,7 @@ pub trait TextMapPropagator {
 }
 
 /// The names of a propagator's fields, in turn.
-#[derive(Debug, Drop)]
+#[derive(Clone, Debug, Drop)]
 pub struct FieldIter {
     names: &'static [&'static str],
     given: usize,
@@ -93,19 +93,6 @@ impl FieldIter {
         ensures { result ≡ map (λ name. name.now) names.now }
     {
         FieldIter { names, given: 0 }
-    }
-}
-
-impl Clone for FieldIter {
-    ghost use Rattle.std.specs.Prelude.{◌≡◌};
-
-    ghost is_clone = { λ fields copy. copy ≡ fields };
-
-    fn clone(&self) -> Result<FieldIter, AllocError> {
-        Ok(FieldIter {
-            names: self.names,
-            given: self.given,
-        })
     }
 }
 

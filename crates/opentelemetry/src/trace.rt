@@ -8,6 +8,7 @@ pub mod span_kind;
 pub mod status;
 pub mod trace_state;
 
+pub use crate::trace_context::{SpanId, TraceFlags, TraceId};
 pub use event::Event;
 pub use link::Link;
 pub use span_builder::SpanBuilder;

@@ -1,7 +1,8 @@
 //! The ids of traces and spans, and the flags that travel with them (W3C Trace Context, section 2.2.2). Each is a
 //! number to contracts; an id is invalid exactly where it is zero.
 
-ghost use Rattle.std.specs.Prelude.{◌≡◌, ℕ, ◌+◌, ◌*◌, ◌/◌, ◌%◌, ◌^◌, ◌<◌, ◌≤◌, ◌↔◌, if◌then◌else◌, IfSome, IfOk, IsSome, IsOk, IsTrue, Ok};
+ghost use Rattle.std.specs.Prelude.{◌≡◌, ℕ, ◌+◌, ◌*◌, ◌/◌, ◌%◌, ◌^◌, ◌<◌, ◌≤◌};
+ghost use Rattle.std.specs.Prelude.{◌↔◌, if◌then◌else◌, IfSome, IfOk, IsSome, IsOk, IsTrue, Ok};
 ghost use Rattle.std.specs.Int.{w64, w128, to_be_bytes};
 ghost use Rattle.opentelemetry.specs.Hex.{hex_digit, hex_text, IsHexDigit, IsHexText};
 
@@ -293,6 +294,8 @@ mod tests {
                 .as_str(),
             "01"
         );
+        assert_eq!(rt; TraceFlags::SAMPLED.to_u8(), 1);
+        assert_eq!(rt; TraceFlags::default().to_u8(), 0);
         assert!(rt; !TraceFlags::default().is_sampled());
         Ok(())
     }

@@ -1,8 +1,11 @@
 //! The entries of a baggage in a map that keeps their order, and the number of bytes that they count for.
 
-ghost use Rattle.std.specs.Prelude.{◌≡◌, [], ℕ, List, ◌+◌, ◌-◌, ◌^◌, ◌<◌, ◌≤◌, ◌↔◌, min, length, OnOk, OnErr, IfOk, IfSome, IsNone, string_bytes, Some, None};
+ghost use Rattle.std.specs.Prelude.{◌≡◌, [], ◌+◌, ◌-◌, ◌^◌, ◌≤◌, ◌↔◌, min, length};
+ghost use Rattle.std.specs.Prelude.{OnOk, OnErr, IfOk, IfSome, IsNone, string_bytes, Some, None};
 ghost use Rattle.std.specs.Option.{option_map};
-ghost use Rattle.opentelemetry.specs.Baggage.{value_and_metadata, entry_bytes, baggage_bytes, entry_at, with_entry, without_entry, plain_entries, BreaksLimit, IsWithinLimits, HasDistinctNames};
+ghost use Rattle.opentelemetry.specs.Baggage.{entry_bytes, baggage_bytes, entry_at, entry_of, found_at, found_bytes};
+ghost use Rattle.opentelemetry.specs.Baggage.{handed_out, with_entry, without_entry, plain_entries, BreaksLimit};
+ghost use Rattle.opentelemetry.specs.Baggage.{IsWithinLimits, HasDistinctNames};
 ghost use Rattle.opentelemetry.specs.SameParts.{same_baggage};
 
 use super::BaggageMetadata;
@@ -13,6 +16,9 @@ use std::marker::Model;
 const MAX_ENTRIES: usize = 64;
 
 const MAX_BYTES: usize = 8192;
+
+/// How many entries the first one takes room for, so that a baggage of a few grows once.
+const FIRST_ROOM: usize = 8;
 
 /// Entries within the limits, by name.
 #[derive(Debug, Drop)]
@@ -30,7 +36,8 @@ impl Model for Entries {
 
     ghost view = { λ a. plain_entries a.map.entries };
 
-    ghost invariant = { λ a. (a.bytes ≡ baggage_bytes (plain_entries a.map.entries)) × IsWithinLimits (plain_entries a.map.entries) };
+    ghost invariant = { λ a. (a.bytes ≡ baggage_bytes (plain_entries a.map.entries))
+        × IsWithinLimits (plain_entries a.map.entries) };
 }
 
 impl Entries {
@@ -55,14 +62,15 @@ impl Entries {
         value: &str,
         metadata: &BaggageMetadata,
     ) -> Option<usize>
-        ensures refused { IsNone result ↔ BreaksLimit self.now (record { key = name.now; value = value.now; metadata = metadata.now }) }
-        ensures allowed { IfSome result (λ after. after ≡ baggage_bytes (with_entry self.now (record { key = name.now; value = value.now; metadata = metadata.now }))) }
+        ensures refused { IsNone result ↔ BreaksLimit self.now (entry_of name.now value.now metadata.now) }
+        ensures allowed { IfSome result (λ after. after
+            ≡ baggage_bytes (with_entry self.now (entry_of name.now value.now metadata.now))) }
     {
         allowed_bytes(&self.map, self.bytes, name, value, metadata)
     }
 
     /// Puts an entry in the place of the one of its name, else last, and gives back what it replaced. `after` is what
-    /// `bytes_after` says of it.
+    /// `bytes_after` says of it. Only a new name takes memory.
     pub(crate) fn put(
         &mut self,
         after: usize,
@@ -70,11 +78,14 @@ impl Entries {
         value: String,
         metadata: BaggageMetadata,
     ) -> Result<Option<(String, BaggageMetadata)>, AllocError>
-        requires allowed { ¬ (BreaksLimit self.old (record { key = string_bytes name; value = string_bytes value; metadata = metadata })) }
-        requires counted { after ≡ baggage_bytes (with_entry self.old (record { key = string_bytes name; value = string_bytes value; metadata = metadata })) }
-        ensures ok { OnOk result (self.new ≡ with_entry self.old (record { key = string_bytes name; value = string_bytes value; metadata = metadata })) }
-        ensures replaced { IfOk result (λ old. option_map (λ pair. (string_bytes pair.0, pair.1)) old ≡ option_map value_and_metadata (entry_at self.old (string_bytes name))) }
+        requires allowed { ¬ (BreaksLimit self.old (entry_of (string_bytes name) (string_bytes value) metadata)) }
+        requires counted { after
+            ≡ baggage_bytes (with_entry self.old (entry_of (string_bytes name) (string_bytes value) metadata)) }
+        ensures ok { OnOk result
+            (self.new ≡ with_entry self.old (entry_of (string_bytes name) (string_bytes value) metadata)) }
+        ensures replaced { IfOk result (λ old. handed_out old ≡ found_at self.old (string_bytes name)) }
         ensures err { OnErr result (self.new ≡ self.old) }
+        ensures memory { OnErr result (entry_at self.old (string_bytes name) ≡ None) }
     {
         let replaced = put_in(&mut self.map, name, value, metadata)?;
         self.bytes = after;
@@ -84,16 +95,15 @@ impl Entries {
     /// Takes out the entry of a name. The others keep their order.
     pub(crate) fn remove(&mut self, name: &str) -> Option<(String, BaggageMetadata)>
         ensures left { self.new ≡ without_entry self.old name.now }
-        ensures removed { option_map (λ pair. (string_bytes pair.0, pair.1)) result ≡ option_map value_and_metadata (entry_at self.old name.now) }
+        ensures removed { handed_out result ≡ found_at self.old name.now }
     {
-        let counted = bytes_at(&self.map, name).unwrap_or(0);
         let removed = remove_in(&mut self.map, name);
-        self.bytes -= counted;
+        self.bytes -= removed_bytes(name, &removed);
         removed
     }
 
     pub(crate) fn get(&self, name: &str) -> Option<(&str, &BaggageMetadata)>
-        ensures { option_map (λ pair. (pair.0.now, pair.1.now)) result ≡ option_map value_and_metadata (entry_at self.now name.now) }
+        ensures { option_map (λ pair. (pair.0.now, pair.1.now)) result ≡ found_at self.now name.now }
     {
         get_in(&self.map, name)
     }
@@ -174,7 +184,8 @@ fn get_in<'a>(
     map: &'a IndexMap<String, (String, BaggageMetadata)>,
     name: &str,
 ) -> Option<(&'a str, &'a BaggageMetadata)>
-    ensures { option_map (λ pair. (pair.0.now, pair.1.now)) result ≡ option_map value_and_metadata (entry_at (plain_entries map.now.entries) name.now) }
+    ensures { option_map (λ pair. (pair.0.now, pair.1.now)) result
+        ≡ found_at (plain_entries map.now.entries) name.now }
 {
     match map.get(name) {
         Some(kept) => Some((kept.0.as_str(), &kept.1)),
@@ -187,22 +198,37 @@ fn remove_in(
     name: &str,
 ) -> Option<(String, BaggageMetadata)>
     ensures left { plain_entries map.new.entries ≡ without_entry (plain_entries map.old.entries) name.now }
-    ensures removed { option_map (λ pair. (string_bytes pair.0, pair.1)) result ≡ option_map value_and_metadata (entry_at (plain_entries map.old.entries) name.now) }
+    ensures removed { handed_out result ≡ found_at (plain_entries map.old.entries) name.now }
 {
     map.shift_remove(name)
 }
 
-/// Puts an entry in the place of the one of its name, else last.
+/// Makes room for the first entries, where there are none.
+fn reserve_first(map: &mut IndexMap<String, (String, BaggageMetadata)>) -> Result<(), AllocError>
+    ensures same { map.new.entries ≡ map.old.entries }
+    ensures err { OnErr result (map.old.entries ≡ []) }
+{
+    if map.is_empty() {
+        map.reserve(FIRST_ROOM)?;
+    }
+    Ok(())
+}
+
+/// Puts an entry in the place of the one of its name, else last. Only a new name takes memory.
 fn put_in(
     map: &mut IndexMap<String, (String, BaggageMetadata)>,
     name: String,
     value: String,
     metadata: BaggageMetadata,
 ) -> Result<Option<(String, BaggageMetadata)>, AllocError>
-    ensures ok { OnOk result (plain_entries map.new.entries ≡ with_entry (plain_entries map.old.entries) (record { key = string_bytes name; value = string_bytes value; metadata = metadata })) }
-    ensures replaced { IfOk result (λ old. option_map (λ pair. (string_bytes pair.0, pair.1)) old ≡ option_map value_and_metadata (entry_at (plain_entries map.old.entries) (string_bytes name))) }
+    ensures ok { OnOk result (plain_entries map.new.entries
+        ≡ with_entry (plain_entries map.old.entries) (entry_of (string_bytes name) (string_bytes value) metadata)) }
+    ensures replaced { IfOk result (λ old.
+        handed_out old ≡ found_at (plain_entries map.old.entries) (string_bytes name)) }
     ensures err { OnErr result (plain_entries map.new.entries ≡ plain_entries map.old.entries) }
+    ensures memory { OnErr result (entry_at (plain_entries map.old.entries) (string_bytes name) ≡ None) }
 {
+    reserve_first(map)?;
     match map.insert(name, (value, metadata)) {
         Ok(old) => Ok(old),
         Err(_) => Err(AllocError),
@@ -220,30 +246,28 @@ fn bytes_at(map: &IndexMap<String, (String, BaggageMetadata)>, name: &str) -> Op
     }
 }
 
-/// How many entries stand after one was put.
-fn count_with(map: &IndexMap<String, (String, BaggageMetadata)>, name: &str) -> usize
-    ensures { (value metadata : List ℕ) → result ≡ length (with_entry (plain_entries map.now.entries) (record { key = name.now; value = value; metadata = metadata })) }
+/// The bytes that a removed entry counted for; none where there was none.
+fn removed_bytes(name: &str, removed: &Option<(String, BaggageMetadata)>) -> usize
+    requires { found_bytes name.now (handed_out removed.now) ≤ 8192 }
+    ensures { result ≡ found_bytes name.now (handed_out removed.now) }
 {
-    if map.contains_key(name) {
-        map.len()
-    } else {
-        map.len() + 1
+    match removed {
+        Some((value, metadata)) => name.len() + value.len() + metadata.as_str().len(),
+        None => 0,
     }
 }
 
-/// How many bytes stand after an entry was put, where these stand before.
+/// The bytes that stand after an entry was put in the place of one of `replaced` bytes, or of none.
 fn bytes_with(
-    map: &IndexMap<String, (String, BaggageMetadata)>,
     bytes: usize,
+    replaced: usize,
     name: &str,
     value: &str,
     metadata: &BaggageMetadata,
 ) -> usize
-    requires counted { bytes ≡ baggage_bytes (plain_entries map.now.entries) }
-    requires small { bytes ≤ 8192 }
-    ensures { result ≡ min (baggage_bytes (with_entry (plain_entries map.now.entries) (record { key = name.now; value = value.now; metadata = metadata.now }))) (2 ^ 64 - 1) }
+    requires { replaced ≤ bytes }
+    ensures { result ≡ min (bytes - replaced + entry_bytes (entry_of name.now value.now metadata.now)) (2 ^ 64 - 1) }
 {
-    let replaced = bytes_at(map, name).unwrap_or(0);
     let added = name
         .len()
         .saturating_add(value.len())
@@ -260,17 +284,20 @@ fn allowed_bytes(
     metadata: &BaggageMetadata,
 ) -> Option<usize>
     requires counted { bytes ≡ baggage_bytes (plain_entries map.now.entries) }
-    requires small { bytes ≤ 8192 }
-    ensures refused { IsNone result ↔ BreaksLimit (plain_entries map.now.entries) (record { key = name.now; value = value.now; metadata = metadata.now }) }
-    ensures allowed { IfSome result (λ after. after ≡ baggage_bytes (with_entry (plain_entries map.now.entries) (record { key = name.now; value = value.now; metadata = metadata.now }))) }
+    requires within { IsWithinLimits (plain_entries map.now.entries) }
+    ensures refused { IsNone result
+        ↔ BreaksLimit (plain_entries map.now.entries) (entry_of name.now value.now metadata.now) }
+    ensures allowed { IfSome result (λ after. after
+        ≡ baggage_bytes (with_entry (plain_entries map.now.entries) (entry_of name.now value.now metadata.now))) }
 {
     if name.is_empty() {
         return None;
     }
-    if count_with(map, name) > MAX_ENTRIES {
+    let replaced = bytes_at(map, name);
+    if replaced.is_none() && map.len() >= MAX_ENTRIES {
         return None;
     }
-    let after = bytes_with(map, bytes, name, value, metadata);
+    let after = bytes_with(bytes, replaced.unwrap_or(0), name, value, metadata);
     if after > MAX_BYTES {
         return None;
     }

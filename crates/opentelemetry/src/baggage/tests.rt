@@ -38,6 +38,7 @@ fn full(alloc: Global) -> Result<Baggage, AllocError> {
 fn a_65th_name_breaks_the_limit(rt: HostRuntime) -> Result<(), Fail> {
     let mut baggage = full(rt.alloc())?;
     assert_eq!(rt; baggage.len(), 64);
+    assert_eq!(rt; baggage.get("name32"), Some("vvv"));
     assert!(rt; !takes(&mut baggage, rt.alloc(), "name64", 1)?);
     assert_eq!(rt; baggage.get("name64"), None);
     Ok(())
@@ -67,6 +68,21 @@ fn an_entry_within_the_limits_is_taken(rt: HostRuntime) -> Result<(), Fail> {
         let mut baggage = Baggage::new(rt.alloc());
         let was_taken = takes(&mut baggage, rt.alloc(), name, count)?;
         assert_eq!(rt; was_taken, taken, "{case}");
+    }
+    Ok(())
+}
+
+#[test]
+fn errors_say_what_went_wrong(rt: HostRuntime) -> Result<(), Fail> {
+    let cases = [
+        (
+            BaggageError::Limit,
+            "the baggage's limits do not allow this entry",
+        ),
+        (BaggageError::Memory, "no memory for a baggage entry"),
+    ];
+    for (error, shown) in cases {
+        assert_eq!(rt; error.to_string(rt.alloc())?.as_str(), shown);
     }
     Ok(())
 }

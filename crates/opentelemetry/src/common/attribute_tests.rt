@@ -1,6 +1,6 @@
 //! Tests of keys and attributes: their copies, their order and their hash.
 
-use super::{Array, Key, KeyValue, Value};
+use super::{Arc, Array, InstrumentationScope, Key, KeyValue, Value};
 use std::alloc::Global;
 use std::hash::{DefaultHasher, Hash, Hasher};
 use std::test::Fail;
@@ -32,6 +32,16 @@ fn keys_stand_by_their_bytes(rt: HostRuntime) -> Result<(), Fail> {
         assert!(rt; copy == *lower);
         assert_eq!(rt; hash_of(&copy), hash_of(lower));
     }
+    Ok(())
+}
+
+#[test]
+fn clones_of_a_scope_share_its_parts(rt: HostRuntime) -> Result<(), Fail> {
+    let name = String::from_str(rt.alloc(), "lib")?;
+    let scope = InstrumentationScope::builder(rt.alloc(), name).build()?;
+    let copy = scope.clone()?;
+    assert_eq!(rt; Arc::strong_count(&copy.parts), 2);
+    assert!(rt; copy == scope);
     Ok(())
 }
 

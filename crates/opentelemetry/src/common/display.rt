@@ -62,7 +62,8 @@ fn write_at<T: ListItem, W: fmt::Write>(
     item: &T,
     f: &mut fmt::Formatter<W>,
 ) -> fmt::Result
-    ensures { WritesOnOk W.write_str_gives f.old result (if nat_lt 0 index then 44 ∷ T.item_text item.now else T.item_text item.now) f.new }
+    ensures { WritesOnOk W.write_str_gives f.old result
+        (if nat_lt 0 index then 44 ∷ T.item_text item.now else T.item_text item.now) f.new }
 {
     if index > 0 {
         f.write_str(",")?;

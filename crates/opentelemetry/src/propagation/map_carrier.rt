@@ -56,7 +56,8 @@ impl Injector for MapCarrier {
     fn set(&mut self, key: &str, value: String) -> Result<(), AllocError>
         ensures ok { OnOk result (SetsText (texts_of self.old) (texts_of self.new) key.now (string_bytes value)) }
         ensures err { OnErr result (SameTexts (texts_of self.old) (texts_of self.new)) }
-        ensures inserted { OnOk result (self.new ≡ fin.insert self.old (str_to_ascii_lowercase key.now) (string_bytes value)) }
+        ensures inserted { OnOk result
+            (self.new ≡ fin.insert self.old (str_to_ascii_lowercase key.now) (string_bytes value)) }
         ensures unchanged { OnErr result (self.new ≡ self.old) }
     {
         let name = key.to_ascii_lowercase(self.alloc)?;
@@ -108,7 +109,8 @@ fn copy_of(texts: &BTreeMap<String, String>) -> Result<BTreeMap<String, String>,
 /// The names, in the order of their bytes.
 fn names_of(alloc: Global, texts: &BTreeMap<String, String>) -> Result<Vec<&str>, AllocError>
     ensures named { IfOk result (λ names. map (λ name. name.now) names.items ≡ fin.keys (text_map texts.now)) }
-    ensures read { AllLowerNames texts.now.entries → IfOk result (λ names. All (λ name. IsSome (texts_of (text_map texts.now) name.now)) names.items) }
+    ensures read { AllLowerNames texts.now.entries → IfOk result (λ names.
+        All (λ name. IsSome (texts_of (text_map texts.now) name.now)) names.items) }
 {
     let mut names = Vec::new(alloc);
     for name in texts.keys() {

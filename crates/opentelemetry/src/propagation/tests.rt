@@ -15,7 +15,9 @@ impl TextMapPropagator for Greeting {
     ghost use Rattle.std.specs.Prelude.{◌≡◌, ◌∷◌, [], Some, OnOk, OnErr, codes};
     ghost use Rattle.opentelemetry.specs.Carrier.{SetsText, SameTexts};
 
-    ghost inject_gives = { λ _ _ old result new. OnOk result (SetsText old new (codes "Greeting") (codes "hello")) × OnErr result (SameTexts old new) };
+    ghost inject_gives = { λ _ _ old result new.
+        OnOk result (SetsText old new (codes "Greeting") (codes "hello"))
+        × OnErr result (SameTexts old new) };
 
     ghost field_names = { λ _. codes "Greeting" ∷ [] };
 

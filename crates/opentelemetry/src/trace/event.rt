@@ -7,7 +7,7 @@ use std::alloc::AllocError;
 use std::marker::Model;
 
 /// A name, a moment, and attributes.
-#[derive(Debug, Drop)]
+#[derive(Clone, Debug, Drop)]
 pub struct Event {
     pub name: String,
     pub timestamp: Moment,
@@ -21,13 +21,23 @@ impl Model for Event {
 
     ghost Value = { PlainEvent };
 
-    ghost view = { λ a. record { name = string_bytes a.name; timestamp = a.timestamp.0; attributes = a.attributes.items; dropped_attributes_count = a.dropped_attributes_count } };
+    ghost view = { λ event. record {
+      name = string_bytes event.name;
+      timestamp = event.timestamp.0;
+      attributes = event.attributes.items;
+      dropped_attributes_count = event.dropped_attributes_count;
+    } };
 }
 
 impl Event {
     /// `dropped` says how many attributes the caller left out already.
     pub fn new(name: String, timestamp: Moment, attributes: Vec<KeyValue>, dropped: u32) -> Event
-        ensures { result ≡ record { name = string_bytes name; timestamp = timestamp.0; attributes = attributes.items; dropped_attributes_count = dropped } }
+        ensures { result ≡ record {
+          name = string_bytes name;
+          timestamp = timestamp.0;
+          attributes = attributes.items;
+          dropped_attributes_count = dropped;
+        } }
     {
         Event {
             name,
@@ -35,21 +45,6 @@ impl Event {
             attributes,
             dropped_attributes_count: dropped,
         }
-    }
-}
-
-impl Clone for Event {
-    ghost use Rattle.std.specs.Prelude.{◌≡◌};
-
-    ghost is_clone = { λ event copy. copy ≡ event };
-
-    fn clone(&self) -> Result<Event, AllocError> {
-        Ok(Event {
-            name: self.name.clone()?,
-            timestamp: self.timestamp,
-            attributes: self.attributes.clone()?,
-            dropped_attributes_count: self.dropped_attributes_count,
-        })
     }
 }
 

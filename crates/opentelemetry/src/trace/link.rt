@@ -8,7 +8,7 @@ use std::alloc::AllocError;
 use std::marker::Model;
 
 /// A span context, and attributes of the relation.
-#[derive(Debug, Drop)]
+#[derive(Clone, Debug, Drop)]
 pub struct Link {
     pub span_context: SpanContext,
     pub attributes: Vec<KeyValue>,
@@ -20,33 +20,27 @@ impl Model for Link {
 
     ghost Value = { PlainLink };
 
-    ghost view = { λ a. record { span_context = a.span_context; attributes = a.attributes.items; dropped_attributes_count = a.dropped_attributes_count } };
+    ghost view = { λ link. record {
+      span_context = link.span_context;
+      attributes = link.attributes.items;
+      dropped_attributes_count = link.dropped_attributes_count;
+    } };
 }
 
 impl Link {
     /// `dropped` says how many attributes the caller left out already.
     pub fn new(span_context: SpanContext, attributes: Vec<KeyValue>, dropped: u32) -> Link
-        ensures { result ≡ record { span_context = span_context; attributes = attributes.items; dropped_attributes_count = dropped } }
+        ensures { result ≡ record {
+          span_context = span_context;
+          attributes = attributes.items;
+          dropped_attributes_count = dropped;
+        } }
     {
         Link {
             span_context,
             attributes,
             dropped_attributes_count: dropped,
         }
-    }
-}
-
-impl Clone for Link {
-    ghost use Rattle.std.specs.Prelude.{◌≡◌};
-
-    ghost is_clone = { λ link copy. copy ≡ link };
-
-    fn clone(&self) -> Result<Link, AllocError> {
-        Ok(Link {
-            span_context: self.span_context.clone()?,
-            attributes: self.attributes.clone()?,
-            dropped_attributes_count: self.dropped_attributes_count,
-        })
     }
 }
 

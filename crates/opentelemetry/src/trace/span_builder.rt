@@ -1,7 +1,8 @@
 //! What a span is to start with: handed to a tracer, which asks its sampler and starts the span.
 
-ghost use Rattle.std.specs.Prelude.{◌≡◌, None, Some, string_bytes};
+ghost use Rattle.std.specs.Prelude.{◌≡◌, Some, string_bytes};
 ghost use Rattle.std.specs.Option.{option_eq};
+ghost use Rattle.opentelemetry.specs.PlainSpanBuilder.{named_builder};
 ghost use Rattle.opentelemetry.specs.SameBuilder.{same_kind, kind_place};
 
 #[cfg(test)]
@@ -13,7 +14,7 @@ use std::alloc::AllocError;
 use std::marker::Model;
 
 /// A span's name, and what else the caller knows of it before it starts. What is `None` is left to the tracer.
-#[derive(Debug, Drop)]
+#[derive(Clone, Debug, Drop)]
 pub struct SpanBuilder {
     pub name: String,
     pub span_kind: Option<SpanKind>,
@@ -31,13 +32,20 @@ impl Model for SpanBuilder {
     ghost use Rattle.std.specs.Prelude.{string_bytes};
     ghost use Rattle.std.specs.Option.{option_map};
 
-    ghost view = { λ a. record { name = string_bytes a.name; span_kind = a.span_kind; start_time = option_map (λ m. m.0) a.start_time; attributes = option_map (λ v. v.items) a.attributes; events = option_map (λ v. v.items) a.events; links = option_map (λ v. v.items) a.links } };
+    ghost view = { λ builder. record {
+      name = string_bytes builder.name;
+      span_kind = builder.span_kind;
+      start_time = option_map (λ moment. moment.0) builder.start_time;
+      attributes = option_map (λ attributes. attributes.items) builder.attributes;
+      events = option_map (λ events. events.items) builder.events;
+      links = option_map (λ links. links.items) builder.links;
+    } };
 }
 
 impl SpanBuilder {
     /// A builder with a name and nothing else.
     pub fn from_name(name: String) -> SpanBuilder
-        ensures { result ≡ record { name = string_bytes name; span_kind = None; start_time = None; attributes = None; events = None; links = None } }
+        ensures { result ≡ named_builder (string_bytes name) }
     {
         SpanBuilder {
             name,
@@ -82,23 +90,6 @@ impl SpanBuilder {
     {
         self.links = Some(links);
         self
-    }
-}
-
-impl Clone for SpanBuilder {
-    ghost use Rattle.std.specs.Prelude.{◌≡◌};
-
-    ghost is_clone = { λ builder copy. copy ≡ builder };
-
-    fn clone(&self) -> Result<SpanBuilder, AllocError> {
-        Ok(SpanBuilder {
-            name: self.name.clone()?,
-            span_kind: self.span_kind,
-            start_time: self.start_time,
-            attributes: self.attributes.clone()?,
-            events: self.events.clone()?,
-            links: self.links.clone()?,
-        })
     }
 }
 

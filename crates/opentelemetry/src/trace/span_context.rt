@@ -1,6 +1,7 @@
 //! The part of a span that travels: its ids, its flags and its trace state (W3C Trace Context, section 2).
 
-ghost use Rattle.std.specs.Prelude.{◌≡◌, ◌<◌, ◌%◌, ◌↔◌, [], false, IsTrue};
+ghost use Rattle.std.specs.Prelude.{◌≡◌, ◌<◌, ◌%◌, ◌↔◌, IsTrue};
+ghost use Rattle.opentelemetry.specs.PlainContexts.{empty_span_context};
 
 use super::TraceState;
 use crate::{SpanId, TraceFlags, TraceId};
@@ -8,7 +9,7 @@ use std::alloc::AllocError;
 use std::marker::Model;
 
 /// The identity of a span, and what travels with it to other processes.
-#[derive(Debug, Drop)]
+#[derive(Clone, Debug, Drop)]
 pub struct SpanContext {
     trace_id: TraceId,
     span_id: SpanId,
@@ -22,7 +23,13 @@ impl Model for SpanContext {
 
     ghost Value = { PlainSpanContext };
 
-    ghost view = { λ a. record { trace_id = a.trace_id; span_id = a.span_id; trace_flags = a.trace_flags; is_remote = a.is_remote; trace_state = a.trace_state } };
+    ghost view = { λ context. record {
+      trace_id = context.trace_id;
+      span_id = context.span_id;
+      trace_flags = context.trace_flags;
+      is_remote = context.is_remote;
+      trace_state = context.trace_state;
+    } };
 }
 
 impl SpanContext {
@@ -33,7 +40,13 @@ impl SpanContext {
         is_remote: bool,
         trace_state: TraceState,
     ) -> SpanContext
-        ensures { result ≡ record { trace_id = trace_id; span_id = span_id; trace_flags = trace_flags; is_remote = is_remote; trace_state = trace_state } }
+        ensures { result ≡ record {
+          trace_id = trace_id;
+          span_id = span_id;
+          trace_flags = trace_flags;
+          is_remote = is_remote;
+          trace_state = trace_state;
+        } }
     {
         SpanContext {
             trace_id,
@@ -46,7 +59,7 @@ impl SpanContext {
 
     /// The context of no span: both ids are invalid.
     pub fn empty_context() -> SpanContext
-        ensures { result ≡ record { trace_id = 0; span_id = 0; trace_flags = 0; is_remote = false; trace_state = [] } }
+        ensures { result ≡ empty_span_context }
     {
         SpanContext {
             trace_id: TraceId::INVALID,
@@ -103,25 +116,10 @@ impl SpanContext {
     }
 }
 
-impl Clone for SpanContext {
-    ghost use Rattle.std.specs.Prelude.{◌≡◌};
-
-    ghost is_clone = { λ context copy. copy ≡ context };
-
-    fn clone(&self) -> Result<SpanContext, AllocError> {
-        Ok(SpanContext {
-            trace_id: self.trace_id,
-            span_id: self.span_id,
-            trace_flags: self.trace_flags,
-            is_remote: self.is_remote,
-            trace_state: self.trace_state.clone()?,
-        })
-    }
-}
-
 impl PartialEq for SpanContext {
     ghost use Rattle.std.specs.Prelude.{◌≡◌, ◌↔◌, IsTrue};
-    ghost use Rattle.opentelemetry.specs.Same.{same_span_context, same_span_context_decides, partial_equivalence_from_decides};
+    ghost use Rattle.opentelemetry.specs.Same.{same_span_context, same_span_context_decides};
+    ghost use Rattle.opentelemetry.specs.Same.{partial_equivalence_from_decides};
 
     ghost eq = { same_span_context };
 

@@ -13,9 +13,11 @@ pub enum Status {
 
 impl Clone for Status {
     ghost use Rattle.std.specs.Prelude.{◌≡◌};
-    ghost use Rattle.opentelemetry.specs.PlainValues.{plain_status};
+    ghost use Rattle.opentelemetry.specs.PlainValues.{plain_status, IsBare};
 
     ghost is_clone = { λ status copy. plain_status copy ≡ plain_status status };
+
+    ghost is_infallible = { λ status. IsBare (plain_status status) };
 
     fn clone(&self) -> Result<Status, AllocError> {
         match self {
@@ -38,7 +40,8 @@ impl PartialEq for Status {
 
     ghost eq = { on plain_status same_status };
 
-    ghost laws = { partial_equiv_from_equiv (on_equiv plain_status (equivalence_from_decides same_status same_status_decides)) };
+    ghost laws = { partial_equiv_from_equiv
+        (on_equiv plain_status (equivalence_from_decides same_status same_status_decides)) };
 
     fn eq(&self, other: &Status) -> bool
         ensures value { result ≡ same_status (plain_status self.now) (plain_status other.now) }
@@ -102,7 +105,11 @@ impl PartialOrd for Status {
 
     ghost partial_cmp = { λ x y. Some (status_cmp (plain_status x) (plain_status y)) };
 
-    ghost laws = { partial_order_from_agreeing_total (on plain_status status_cmp) (on_total plain_status status_cmp_total) (λ x y. refl) (λ x y. status_ties (plain_status x) (plain_status y)) };
+    ghost laws = { partial_order_from_agreeing_total
+        (on plain_status status_cmp)
+        (on_total plain_status status_cmp_total)
+        (λ x y. refl)
+        (λ x y. status_ties (plain_status x) (plain_status y)) };
 
     fn partial_cmp(&self, other: &Status) -> Option<Ordering> {
         Some(self.cmp(other))

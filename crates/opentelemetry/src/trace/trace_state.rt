@@ -1,15 +1,18 @@
 //! The vendor data that travels with a span context (W3C Trace Context, section 3.3): pairs of a key and a value, in
 //! order. Clones share one copy.
 
-ghost use Rattle.std.specs.Prelude.{◌≡◌, ℕ, List, [], ◌∷◌, map, string_bytes, option_map, MatchOption, MatchResult, IfOk, IfErr, IsOk, IsTrue, Err, if◌then◌else◌};
+ghost use Rattle.std.specs.Prelude.{◌≡◌, ◌≢◌, ℕ, List, [], ◌∷◌, map, string_bytes, option_map};
+ghost use Rattle.std.specs.Prelude.{MatchOption, MatchResult, IfOk, IfErr, OnErr, IsOk, IsTrue, Err};
+ghost use Rattle.std.specs.Prelude.{if◌then◌else◌};
 ghost use Rattle.opentelemetry.specs.PlainValues.{plain_pair};
-ghost use Rattle.opentelemetry.specs.Tracestate.{IsTracestate, first_fault, first_pair_fault, is_key, members, pair_fault, tracestate_text, value_of_key, without_key};
+ghost use Rattle.opentelemetry.specs.Tracestate.{ArePairs, IsTracestate, first_fault, first_pair_fault, is_key};
+ghost use Rattle.opentelemetry.specs.Tracestate.{members, pair_fault, tracestate_text, value_of_key, without_key};
 
 mod grammar;
 mod pairs;
 
 use grammar::{is_key, pair_fault, text_fault};
-use pairs::{first_pair_fault, header, read_members, value_of_key, without_key};
+use pairs::{first_pair_fault, header, read_members, value_of_key, with_pair, without_key};
 use std::alloc::{AllocError, Global};
 use std::marker::Model;
 use std::sync::Arc;
@@ -19,11 +22,11 @@ use thiserror::Error;
 /// named, and of a bad pair the key.
 #[derive(Clone, Copy, Debug, PartialEq, Eq, Error)]
 pub enum TraceStateError {
-    #[error("a key of a trace state has 1 to 256 bytes of a-z, 0-9, `_`, `-`, `*`, `/` and `@`, first a letter or a digit")]
+    #[error("a key has 1 to 256 bytes of a-z, 0-9, `_`, `-`, `*`, `/` and `@`, the first a letter or a digit")]
     Key,
-    #[error("a value of a trace state has at most 256 printable bytes without comma and equals sign, the last no space")]
+    #[error("a value has at most 256 bytes of printable ASCII but comma and equals sign, the last no space")]
     Value,
-    #[error("a member of a trace state is a key, an equals sign and a value")]
+    #[error("a member is a key, an equals sign and a value")]
     List,
     #[error("no memory for a trace state")]
     Memory,
@@ -49,10 +52,13 @@ pub struct TraceState {
 impl Model for TraceState {
     ghost use Rattle.std.specs.Prelude.{ℕ, List};
     ghost use Rattle.opentelemetry.specs.PlainValues.{shared_pairs};
+    ghost use Rattle.opentelemetry.specs.Tracestate.{ArePairs};
 
     ghost Value = { List (List ℕ × List ℕ) };
 
     ghost view = { λ state. shared_pairs state.pairs };
+
+    ghost invariant = { λ state. ArePairs (shared_pairs state.pairs) };
 }
 
 impl TraceState {
@@ -64,11 +70,16 @@ impl TraceState {
     }
 
     /// Reads the text of a header. Spaces and tabs around a member are left out, and so are empty members; a key may
-    /// stand twice. A text with a bad member is refused for the first one, whether memory is there or not.
+    /// stand twice. A text with a bad member is refused for the first one, whether memory is there or not. A text
+    /// without members takes no memory.
     pub fn from_str(alloc: Global, text: &str) -> Result<TraceState, TraceStateError>
         ensures value { IfOk result (λ state. IsTracestate text.now state) }
-        ensures only { (pairs : List (List ℕ × List ℕ)) → IsTracestate text.now pairs → MatchResult result (λ state. state ≡ pairs) (λ fault. fault ≡ TraceStateError.Memory) }
-        ensures fault { MatchOption (first_fault (members text.now)) (IfErr result (λ fault. fault ≡ TraceStateError.Memory)) (λ fault. result ≡ Err fault) }
+        ensures only { (pairs : List (List ℕ × List ℕ)) → IsTracestate text.now pairs
+            → MatchResult result (λ state. state ≡ pairs) (λ fault. fault ≡ TraceStateError.Memory) }
+        ensures fault { MatchOption (first_fault (members text.now))
+            (IfErr result (λ fault. fault ≡ TraceStateError.Memory))
+            (λ fault. result ≡ Err fault) }
+        ensures free { members text.now ≡ [] → IsOk result }
     {
         if let Some(fault) = text_fault(text) {
             return Err(fault);
@@ -77,13 +88,17 @@ impl TraceState {
         Ok(shared(alloc, pairs)?)
     }
 
-    /// Takes pairs as they come; a key may stand twice. The first bad pair is named, its key before its value.
+    /// Takes pairs as they come; a key may stand twice. The first bad pair is named, its key before its value. No pairs
+    /// take no memory.
     pub fn from_key_value(
         alloc: Global,
         pairs: Vec<(String, String)>,
     ) -> Result<TraceState, TraceStateError>
         ensures value { IfOk result (λ state. state ≡ map plain_pair pairs.items) }
-        ensures fault { MatchOption (first_pair_fault (map plain_pair pairs.items)) (IfErr result (λ fault. fault ≡ TraceStateError.Memory)) (λ fault. result ≡ Err fault) }
+        ensures fault { MatchOption (first_pair_fault (map plain_pair pairs.items))
+            (IfErr result (λ fault. fault ≡ TraceStateError.Memory))
+            (λ fault. result ≡ Err fault) }
+        ensures free { map plain_pair pairs.items ≡ [] → IsOk result }
     {
         if let Some(fault) = first_pair_fault(pairs.as_slice()) {
             return Err(fault);
@@ -105,20 +120,26 @@ impl TraceState {
         key: String,
         value: String,
     ) -> Result<TraceState, TraceStateError>
-        ensures value { IfOk result (λ state. state ≡ (string_bytes key, string_bytes value) ∷ without_key (string_bytes key) self.now) }
-        ensures fault { MatchOption (pair_fault (string_bytes key, string_bytes value)) (IfErr result (λ fault. fault ≡ TraceStateError.Memory)) (λ fault. result ≡ Err fault) }
+        ensures value { IfOk result (λ state. state
+            ≡ (string_bytes key, string_bytes value) ∷ without_key (string_bytes key) self.now) }
+        ensures fault { MatchOption (pair_fault (string_bytes key, string_bytes value))
+            (IfErr result (λ fault. fault ≡ TraceStateError.Memory))
+            (λ fault. result ≡ Err fault) }
     {
         if let Some(fault) = pair_fault(key.as_str(), value.as_str()) {
             return Err(fault);
         }
-        Ok(self.with_pair(alloc, key, value)?)
+        let pairs = with_pair(alloc, self.entries(), key, value)?;
+        Ok(shared(alloc, pairs)?)
     }
 
-    /// A copy without the pairs of the key, which has to be a key.
+    /// A copy without the pairs of the key, which has to be a key. Where no pair is left, this takes no memory.
     pub fn delete(&self, alloc: Global, key: &str) -> Result<TraceState, TraceStateError>
         ensures value { IfOk result (λ state. state ≡ without_key key.now self.now) }
-        ensures fault { IfErr result (λ fault. fault ≡ (if is_key key.now then TraceStateError.Memory else TraceStateError.Key)) }
+        ensures fault { IfErr result (λ fault. fault
+            ≡ (if is_key key.now then TraceStateError.Memory else TraceStateError.Key)) }
         ensures key { IsOk result → IsTrue (is_key key.now) }
+        ensures free { IsTrue (is_key key.now) → without_key key.now self.now ≡ [] → IsOk result }
     {
         if !is_key(key) {
             return Err(TraceStateError::Key);
@@ -127,24 +148,19 @@ impl TraceState {
         Ok(shared(alloc, pairs)?)
     }
 
-    /// The text of the header: the members `key=value`, joined by commas.
+    /// The text of the header: the members `key=value`, joined by commas. The empty one takes no memory.
     pub fn header(&self, alloc: Global) -> Result<String, AllocError>
-        ensures { IfOk result (λ text. string_bytes text ≡ tracestate_text self.now) }
+        ensures ok { IfOk result (λ text. string_bytes text ≡ tracestate_text self.now) }
+        ensures reads_back { IsTracestate (tracestate_text self.now) self.now }
+        ensures free { self.now ≡ [] → IsOk result }
     {
         header(alloc, self.entries())
     }
 
-    fn with_pair(&self, alloc: Global, key: String, value: String) -> Result<TraceState, AllocError>
-        ensures { IfOk result (λ state. state ≡ (string_bytes key, string_bytes value) ∷ without_key (string_bytes key) self.now) }
-    {
-        let mut pairs = without_key(alloc, self.entries(), key.as_str())?;
-        pairs.insert(0, (key, value))?;
-        shared(alloc, pairs)
-    }
-
     // The pairs, where they lie.
-    fn entries(&self) -> &[(String, String)]
-        ensures { map (λ p. (string_bytes p.0, string_bytes p.1)) result.now ≡ self.now }
+    pub(crate) fn entries(&self) -> &[(String, String)]
+        ensures value { map (λ p. (string_bytes p.0, string_bytes p.1)) result.now ≡ self.now }
+        ensures pairs { ArePairs self.now }
     {
         match &self.pairs {
             Some(pairs) => pairs.as_slice(),
@@ -155,7 +171,9 @@ impl TraceState {
 
 // A trace state whose clones will share these pairs.
 fn shared(alloc: Global, pairs: Vec<(String, String)>) -> Result<TraceState, AllocError>
-    ensures { IfOk result (λ state. state ≡ map plain_pair pairs.items) }
+    requires { ArePairs (map plain_pair pairs.items) }
+    ensures ok { IfOk result (λ state. state ≡ map plain_pair pairs.items) }
+    ensures err { OnErr result (map plain_pair pairs.items ≢ []) }
 {
     if pairs.is_empty() {
         return Ok(TraceState::new());
@@ -208,8 +226,8 @@ impl Eq for TraceState {
 
 #[cfg(test)]
 mod tests {
-    use super::{TraceState, TraceStateError};
-    use std::alloc::Global;
+    use super::{Arc, TraceState, TraceStateError};
+    use std::alloc::{AllocError, Global};
     use std::test::Fail;
 
     fn text(alloc: Global, text: &str) -> Result<String, Fail> {
@@ -276,6 +294,66 @@ mod tests {
             TraceState::from_key_value(rt.alloc(), bad).err(),
             Some(TraceStateError::Value)
         );
+        Ok(())
+    }
+
+    /// The text of so many members, from `k0=v` on.
+    fn members(alloc: Global, count: u32) -> Result<String, AllocError> {
+        let mut header = String::from_str(alloc, "k0=v")?;
+        for number in 1..count {
+            header.push_str(format!(in alloc; ",k{number}=v")?.as_str())?;
+        }
+        Ok(header)
+    }
+
+    #[test]
+    fn takes_any_number_of_members(rt: HostRuntime) -> Result<(), Fail> {
+        let header = members(rt.alloc(), 33)?;
+        let state = TraceState::from_str(rt.alloc(), header.as_str())?;
+        assert_eq!(rt; state.get("k32"), Some("v"));
+        assert_eq!(rt; state.header(rt.alloc())?.as_str(), header.as_str());
+        Ok(())
+    }
+
+    #[test]
+    fn an_empty_key_is_refused(rt: HostRuntime) -> Result<(), Fail> {
+        let state = TraceState::new();
+        assert_eq!(rt; state.get(""), None);
+        let nameless = state.insert(rt.alloc(), text(rt.alloc(), "")?, text(rt.alloc(), "4")?);
+        assert_eq!(rt; nameless.err(), Some(TraceStateError::Key));
+        Ok(())
+    }
+
+    #[test]
+    fn clones_share_their_pairs(rt: HostRuntime) -> Result<(), Fail> {
+        let state = TraceState::from_str(rt.alloc(), "a=1")?;
+        let copy = state.clone()?;
+        let pairs = copy.pairs.as_ref().ok_or("the shared pairs")?;
+        assert_eq!(rt; Arc::strong_count(pairs), 2);
+        assert_eq!(rt; state.get("a"), Some("1"));
+        Ok(())
+    }
+
+    #[test]
+    fn errors_say_what_is_wrong(rt: HostRuntime) -> Result<(), Fail> {
+        let cases = [
+            (
+                TraceStateError::Key,
+                "a key has 1 to 256 bytes of a-z, 0-9, `_`, `-`, `*`, `/` and `@`, the first a letter or a digit",
+            ),
+            (
+                TraceStateError::Value,
+                "a value has at most 256 bytes of printable ASCII but comma and equals sign, the last no space",
+            ),
+            (
+                TraceStateError::List,
+                "a member is a key, an equals sign and a value",
+            ),
+            (TraceStateError::Memory, "no memory for a trace state"),
+        ];
+        for (error, shown) in cases {
+            assert_eq!(rt; error.to_string(rt.alloc())?.as_str(), shown);
+        }
         Ok(())
     }
 

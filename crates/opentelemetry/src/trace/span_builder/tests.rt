@@ -22,6 +22,7 @@ fn a_copy_of_a_builder_has_what_was_set(rt: HostRuntime) -> Result<(), Fail> {
     assert_eq!(rt; copy.span_kind, Some(SpanKind::Client));
     assert_eq!(rt; copy.start_time, Some(Moment(9)));
     assert_eq!(rt; copy.attributes.ok_or("attributes")?.len(), 1);
+    assert_eq!(rt; SpanKind::default(), SpanKind::Internal);
     Ok(())
 }
 

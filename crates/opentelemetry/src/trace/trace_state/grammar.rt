@@ -1,9 +1,12 @@
 //! The text form of a trace state (W3C Trace Context, section 3.3): which keys and values are well formed, and what
 //! stands between the commas of a text. None of these calls takes memory.
 
-ghost use Rattle.std.specs.Prelude.{◌≡◌, ◌<◌, ◌∷◌, List, Some, None, length, reverse, slice_index, ◌-◌, ◌==◌, MatchOption, IfSome};
-ghost use Rattle.std.specs.List.{list_all, position_or_len, slice_split};
-ghost use Rattle.opentelemetry.specs.Tracestate.{is_key_start, is_key_byte, is_key, is_value_byte, is_value, trim_front, trimmed, is_equals, pair_of, pair_fault, piece_fault, pieces_left, first_fault, members};
+ghost use Rattle.std.specs.Prelude.{◌≡◌, ◌<◌, [], ◌∷◌, List, Some, None, length, reverse, ◌==◌};
+ghost use Rattle.std.specs.Prelude.{MatchOption, IfSome};
+ghost use Rattle.std.specs.List.{filter, list_all, position_or_len, slice_split};
+ghost use Rattle.opentelemetry.specs.Tracestate.{is_key_start, is_key_byte, is_key, is_value_byte, is_value};
+ghost use Rattle.opentelemetry.specs.Tracestate.{ends_with_space, trim_front, trimmed, is_equals, pair_of, pair_fault};
+ghost use Rattle.opentelemetry.specs.Tracestate.{first_fault, is_some_text, members};
 
 use super::TraceStateError;
 
@@ -54,12 +57,12 @@ fn are_value_bytes(bytes: &[u8]) -> bool
 }
 
 fn ends_with_space(bytes: &[u8]) -> bool
-    ensures { result ≡ (slice_index bytes.now (length bytes.now - 1) == 32) }
+    ensures { result ≡ ends_with_space bytes.now }
 {
-    if bytes.is_empty() {
-        return false;
+    match bytes.last() {
+        Some(last) => *last == b' ',
+        None => false,
     }
-    bytes[bytes.len() - 1] == b' '
 }
 
 // Whether a text is a value: at most 256 bytes, no space at the end.
@@ -85,14 +88,17 @@ pub fn pair_fault(key: &str, value: &str) -> Option<TraceStateError>
 
 // The key and the value of a member, cut at its first equals sign.
 pub fn split_member(member: &str) -> Option<(&str, &str)>
-    ensures { MatchOption result (position_or_len is_equals member.now ≡ length member.now) (λ pair. (position_or_len is_equals member.now < length member.now) × ((pair.0.now, pair.1.now) ≡ pair_of member.now)) }
+    ensures { MatchOption result
+        (position_or_len is_equals member.now ≡ length member.now)
+        (λ pair. (position_or_len is_equals member.now < length member.now)
+        × ((pair.0.now, pair.1.now) ≡ pair_of member.now)) }
 {
     member.split_once('=')
 }
 
 // What is wrong with a trimmed piece; nothing where it is empty.
 fn piece_fault(piece: &str) -> Option<TraceStateError>
-    ensures { result ≡ piece_fault piece.now }
+    ensures { result ≡ first_fault (filter is_some_text (piece.now ∷ [])) }
 {
     if piece.is_empty() {
         return None;
@@ -104,7 +110,9 @@ fn piece_fault(piece: &str) -> Option<TraceStateError>
 }
 
 fn without_first_blank(text: &str) -> Option<&str>
-    ensures { MatchOption result (trim_front text.now ≡ text.now) (λ rest. (trim_front text.now ≡ trim_front rest.now) × (length rest.now < length text.now)) }
+    ensures { MatchOption result
+        (trim_front text.now ≡ text.now)
+        (λ rest. (trim_front text.now ≡ trim_front rest.now) × (length rest.now < length text.now)) }
 {
     match text.strip_prefix(' ') {
         Some(rest) => Some(rest),
@@ -113,7 +121,10 @@ fn without_first_blank(text: &str) -> Option<&str>
 }
 
 fn without_last_blank(text: &str) -> Option<&str>
-    ensures { MatchOption result (trim_front (reverse text.now) ≡ reverse text.now) (λ rest. (trim_front (reverse text.now) ≡ trim_front (reverse rest.now)) × (length rest.now < length text.now)) }
+    ensures { MatchOption result
+        (trim_front (reverse text.now) ≡ reverse text.now)
+        (λ rest. (trim_front (reverse text.now) ≡ trim_front (reverse rest.now))
+        × (length rest.now < length text.now)) }
 {
     match text.strip_suffix(' ') {
         Some(rest) => Some(rest),
@@ -138,7 +149,9 @@ pub fn trim_blanks(text: &str) -> &str
 
 // What stands before the first comma, and what stands behind it, where there is one.
 pub fn cut_at_comma(text: &str) -> (&str, Option<&str>)
-    ensures pieces { slice_split (λ b. b == 44) text.now ≡ result.0.now ∷ pieces_left result.1 }
+    ensures pieces { MatchOption result.1
+        (slice_split (λ b. b == 44) text.now ≡ result.0.now ∷ [])
+        (λ rest. slice_split (λ b. b == 44) text.now ≡ result.0.now ∷ slice_split (λ b. b == 44) rest.now) }
     ensures shorter { IfSome result.1 (λ rest. length rest.now < length text.now) }
 {
     match text.split_once(',') {

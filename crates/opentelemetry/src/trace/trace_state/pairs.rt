@@ -1,9 +1,13 @@
 //! Lists of pairs: read from a text, tested, copied without a key, and written as a header.
 
-ghost use Rattle.std.specs.Prelude.{◌≡◌, ◌∷◌, ◌++◌, [], Some, None, map, string_bytes, IfOk, OnOk, if◌then◌else◌, nat_lt, option_map};
+ghost use Rattle.std.specs.Prelude.{◌≡◌, ◌≢◌, ◌-◌, ◌^◌, min, ◌∷◌, ◌++◌, [], Some, None};
+ghost use Rattle.std.specs.Prelude.{length, map, string_bytes, IfOk, OnOk, OnErr, option_map};
 ghost use Rattle.std.specs.List.{filter};
 ghost use Rattle.opentelemetry.specs.PlainValues.{plain_pair};
-ghost use Rattle.opentelemetry.specs.Tracestate.{first_fault, first_pair_fault, is_some_text, members, member_text, pair_of, piece_fault, tracestate_text, value_of_key, without_key};
+ghost use Rattle.opentelemetry.specs.Text.{Appends};
+ghost use Rattle.opentelemetry.specs.Tracestate.{first_fault, first_pair_fault, is_some_text, members};
+ghost use Rattle.opentelemetry.specs.Tracestate.{next_member_text, pair_of, tracestate_text, value_of_key};
+ghost use Rattle.opentelemetry.specs.Tracestate.{without_key};
 
 use super::TraceStateError;
 use super::grammar::{cut_at_comma, pair_fault, split_member, trim_blanks};
@@ -42,14 +46,16 @@ fn copied_pair(alloc: Global, key: &str, value: &str) -> Result<(String, String)
     ))
 }
 
-// Puts the pair of a trimmed piece behind the others; an empty piece has none.
+// Puts the pair of a trimmed piece behind the others; an empty piece has none, and takes no memory.
 fn push_piece(
     pairs: &mut Vec<(String, String)>,
     alloc: Global,
     piece: &str,
 ) -> Result<(), AllocError>
-    requires { piece_fault piece.now ≡ None }
-    ensures { OnOk result (map plain_pair pairs.new.items ≡ map plain_pair pairs.old.items ++ map pair_of (filter is_some_text (piece.now ∷ []))) }
+    requires { first_fault (filter is_some_text (piece.now ∷ [])) ≡ None }
+    ensures ok { OnOk result (map plain_pair pairs.new.items
+        ≡ map plain_pair pairs.old.items ++ map pair_of (filter is_some_text (piece.now ∷ []))) }
+    ensures err { OnErr result (piece.now ≢ []) }
 {
     match split_member(piece) {
         Some((key, value)) => {
@@ -60,10 +66,11 @@ fn push_piece(
     }
 }
 
-// The pairs of a text without fault.
+// The pairs of a text without fault. A text without members takes no memory.
 pub fn read_members(alloc: Global, text: &str) -> Result<Vec<(String, String)>, AllocError>
     requires { first_fault (members text.now) ≡ None }
-    ensures { IfOk result (λ pairs. map plain_pair pairs.items ≡ map pair_of (members text.now)) }
+    ensures ok { IfOk result (λ pairs. map plain_pair pairs.items ≡ map pair_of (members text.now)) }
+    ensures err { OnErr result (members text.now ≢ []) }
 {
     let mut pairs = Vec::new(alloc);
     let mut rest = Some(text);
@@ -75,14 +82,16 @@ pub fn read_members(alloc: Global, text: &str) -> Result<Vec<(String, String)>, 
     Ok(pairs)
 }
 
-// Puts a copy of a pair behind the others, unless it has the key.
+// Puts a copy of a pair behind the others, unless it has the key, which takes no memory.
 fn push_unless_key(
     pairs: &mut Vec<(String, String)>,
     alloc: Global,
     pair: &(String, String),
     key: &str,
 ) -> Result<(), AllocError>
-    ensures { OnOk result (map plain_pair pairs.new.items ≡ map plain_pair pairs.old.items ++ without_key key.now (plain_pair pair.now ∷ [])) }
+    ensures ok { OnOk result (map plain_pair pairs.new.items
+        ≡ map plain_pair pairs.old.items ++ without_key key.now (plain_pair pair.now ∷ [])) }
+    ensures err { OnErr result (without_key key.now (plain_pair pair.now ∷ []) ≢ []) }
 {
     if pair.0.as_str() == key {
         return Ok(());
@@ -91,24 +100,81 @@ fn push_unless_key(
     Ok(())
 }
 
-// Copies of the pairs that have another key.
+// Puts copies of the pairs that have another key behind those of a list.
+fn push_others(
+    list: &mut Vec<(String, String)>,
+    alloc: Global,
+    pairs: &[(String, String)],
+    key: &str,
+) -> Result<(), AllocError>
+    ensures ok { OnOk result (map plain_pair list.new.items
+        ≡ map plain_pair list.old.items ++ without_key key.now (map plain_pair pairs.now)) }
+    ensures err { OnErr result (without_key key.now (map plain_pair pairs.now) ≢ []) }
+{
+    'pairs: for pair in pairs {
+        push_unless_key(list, alloc, pair, key)?;
+    }
+    Ok(())
+}
+
+// Copies of the pairs that have another key. Where there are none, this takes no memory.
 pub fn without_key(
     alloc: Global,
     pairs: &[(String, String)],
     key: &str,
 ) -> Result<Vec<(String, String)>, AllocError>
-    ensures { IfOk result (λ kept. map plain_pair kept.items ≡ without_key key.now (map plain_pair pairs.now)) }
+    ensures ok { IfOk result (λ others.
+        map plain_pair others.items ≡ without_key key.now (map plain_pair pairs.now)) }
+    ensures err { OnErr result (without_key key.now (map plain_pair pairs.now) ≢ []) }
 {
-    let mut kept = Vec::new(alloc);
-    'pairs: for pair in pairs {
-        push_unless_key(&mut kept, alloc, pair, key)?;
+    let mut others = Vec::new(alloc);
+    push_others(&mut others, alloc, pairs, key)?;
+    Ok(others)
+}
+
+// The new pair, and behind it copies of the pairs that have another key.
+pub fn with_pair(
+    alloc: Global,
+    pairs: &[(String, String)],
+    key: String,
+    value: String,
+) -> Result<Vec<(String, String)>, AllocError>
+    ensures { IfOk result (λ all. map plain_pair all.items
+        ≡ (string_bytes key, string_bytes value) ∷ without_key (string_bytes key) (map plain_pair pairs.now)) }
+{
+    let mut all = Vec::with_capacity(alloc, pairs.len().saturating_add(1))?;
+    // An empty pair holds the first place until the others have been compared with the key.
+    all.push((String::new(alloc), String::new(alloc)))?;
+    push_others(&mut all, alloc, pairs, key.as_str())?;
+    all[0] = (key, value);
+    Ok(all)
+}
+
+// How long a member is, with the comma in front where others stand before it.
+fn next_member_len(index: usize, pair: &(String, String)) -> usize
+    ensures { result ≡ min (length (next_member_text index (plain_pair pair.now))) (2 ^ 64 - 1) }
+{
+    let member = pair.0.len().saturating_add(1).saturating_add(pair.1.len());
+    if index > 0 {
+        return member.saturating_add(1);
     }
-    Ok(kept)
+    member
+}
+
+// How long the header of the pairs is.
+fn header_len(pairs: &[(String, String)]) -> usize
+    ensures { result ≡ min (length (tracestate_text (map plain_pair pairs.now))) (2 ^ 64 - 1) }
+{
+    let mut len: usize = 0;
+    'pairs: for (i, pair) in pairs.iter().enumerate() {
+        len = len.saturating_add(next_member_len(i, pair));
+    }
+    len
 }
 
 // Writes a member, behind a comma where others stand before it.
 fn push_member(text: &mut String, index: usize, pair: &(String, String)) -> Result<(), AllocError>
-    ensures { OnOk result (string_bytes text.new ≡ string_bytes text.old ++ (if nat_lt 0 index then 44 ∷ member_text (plain_pair pair.now) else member_text (plain_pair pair.now))) }
+    ensures { OnOk result (Appends text.old (next_member_text index (plain_pair pair.now)) text.new) }
 {
     if index > 0 {
         text.push_str(",")?;
@@ -118,11 +184,12 @@ fn push_member(text: &mut String, index: usize, pair: &(String, String)) -> Resu
     text.push_str(pair.1.as_str())
 }
 
-// The members of the pairs, joined by commas.
+// The members of the pairs, joined by commas. Room for all is taken at once, and none where there are no pairs.
 pub fn header(alloc: Global, pairs: &[(String, String)]) -> Result<String, AllocError>
-    ensures { IfOk result (λ text. string_bytes text ≡ tracestate_text (map plain_pair pairs.now)) }
+    ensures ok { IfOk result (λ text. string_bytes text ≡ tracestate_text (map plain_pair pairs.now)) }
+    ensures err { OnErr result (map plain_pair pairs.now ≢ []) }
 {
-    let mut text = String::new(alloc);
+    let mut text = String::with_capacity(alloc, header_len(pairs))?;
     'pairs: for (i, pair) in pairs.iter().enumerate() {
         push_member(&mut text, i, pair)?;
     }

@@ -6,4 +6,4 @@ use Rattle.opentelemetry.proofs.baggage.entries.Entries.put.Goals as goal
 pub invariant_of-self-2 : goal.invariant_of-self-2
 invariant_of-self-2 c =
     rw (c.in_ok-replaced.ensures.ok, c.self.view_is)
-    (c.requires.counted, IsWithinLimits-with_entry c.args.self.now _ c.requires.allowed (subst HasNames c.self.view_is c.self.invariant.1.named))
+    (c.requires.counted, IsWithinLimits-with_entry c.args.self.now _ c.requires.allowed (subst HasNames c.self.view_is c.self.invariant.1.have_names))

@@ -1,6 +1,6 @@
 use Rattle.std.proofs.Common.{◌≡◌}
-use Rattle.opentelemetry.specs.Tracestate.{members, members_left, first_fault}
-use Rattle.opentelemetry.proofs.Pieces.{IsTextLeft, rest_len}
+use Rattle.opentelemetry.specs.Tracestate.{members, first_fault}
+use Rattle.opentelemetry.proofs.PiecesLeft.{members_left, IsTextLeft, rest_len}
 use Rattle.opentelemetry.proofs.trace.trace_state.grammar.text_fault.Given as goal
 
 abbrev pub invariant-pieces : goal.invariant-pieces

@@ -13,7 +13,7 @@ pairs-preserved c =
     ∙ ap (λ t. t ++ joined_text 44 c.pairs.i (member_text (plain_pair c.index-pairs-i.result))) c.pairs.invariant
     ∙ join_more 44 (λ pair. member_text (plain_pair pair)) c.args.pairs.now c.pairs.i c.index-pairs-i.result c.pairs-test.true c.index-pairs-i.is
 
-pub returns : goal.returns
-returns c =
+pub returns-clause-ok : goal.returns-clause-ok
+returns-clause-ok c =
     c.pairs.invariant ∙ ap (λ l. join_with_byte 44 (map (λ pair. member_text (plain_pair pair)) l)) (take_all c.pairs.i c.args.pairs.now c.pairs-test.false)
     ∙ ap (λ l. join_with_byte 44 l) (sym (map-map member_text plain_pair c.args.pairs.now))

@@ -1,7 +1,7 @@
 use Rattle.std.proofs.Common.{◌≡◌, ◌++◌, map, None}
 use Rattle.opentelemetry.specs.PlainValues.{plain_pair}
-use Rattle.opentelemetry.specs.Tracestate.{first_fault, members, members_left, pair_of}
-use Rattle.opentelemetry.proofs.Pieces.{IsTextLeft, rest_len}
+use Rattle.opentelemetry.specs.Tracestate.{first_fault, members, pair_of}
+use Rattle.opentelemetry.proofs.PiecesLeft.{members_left, IsTextLeft, rest_len}
 use Rattle.opentelemetry.proofs.trace.trace_state.pairs.read_members.Given as goal
 
 abbrev pub invariant-pieces : goal.invariant-pieces

@@ -1,0 +1,13 @@
+use Rattle.std.proofs.Common.{◌≡◌, ◌∷◌, ◌∙◌, ℕ, List, None, sym, ap, subst, string_bytes}
+use Rattle.opentelemetry.specs.Tracestate.{ArePairs, pair_fault, without_key}
+use Rattle.opentelemetry.proofs.WellFormed.{faultless_pair, other_pairs}
+use Rattle.opentelemetry.proofs.trace.trace_state.TraceState.insert.Goals as goal
+
+pub shared-requires : goal.shared-requires
+shared-requires c =
+    let key : List ℕ = string_bytes c.args.key in
+    let value : List ℕ = string_bytes c.args.value in
+    let texts : (c.as_str.result.now, c.as_str-2.result.now) ≡ (key, value) = λ j. (c.as_str.ensures.value j, c.as_str-2.ensures.value j) in
+    let none : pair_fault (key, value) ≡ None = sym (ap pair_fault texts) ∙ sym c.pair_fault.ensures ∙ c.in_default.is in
+    subst ArePairs (sym (c.in_ok-pairs.ensures ∙ ap (λ l. (key, value) ∷ without_key key l) c.entries.ensures.value))
+    (faultless_pair (key, value) none, other_pairs key c.args.self.now c.entries.ensures.pairs)
