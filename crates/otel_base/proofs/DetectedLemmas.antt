@@ -7,8 +7,8 @@ use Rattle.std.specs.Cmp.Lexicographic.{nat_list_cmp_total}
 use Rattle.std.specs.FinMap as fin
 use Rattle.std.specs.FinMap.{get-insert, slice_cmp-IsAntisymmetric, nat_cmp-IsAntisymmetric}
 use Rattle.opentelemetry.specs.Plain.{PlainValue, PlainKeyValue, text}
-use Rattle.otel_base.specs.Resource.{Attributes, PlainResource, non_empty, union, of_attributes, attributes_of, service_name_key}
-use Rattle.otel_base.specs.DetectedResource.{PlainResourceStrings, ReadsAs, IsEnvResource, IsDetected, named, name_over, name_of_service, unknown_service, telemetry_pairs}
+use Rattle.otel_base.specs.Resource.{Attributes, PlainResource, named, non_empty, union, of_attributes, attributes_of, service_name_key}
+use Rattle.otel_base.specs.DetectedResource.{PlainResourceStrings, ReadsAs, IsEnvResource, IsDetected, name_over, name_of_service, unknown_service, telemetry_pairs}
 use Rattle.otel_base.proofs.AttributeLemmas.{key_cmp, same_attributes, get-union, union-empty, union_assoc}
 use Rattle.otel_base.proofs.AttributesStringLemmas.{string_reads_some}
 

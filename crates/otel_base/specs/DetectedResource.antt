@@ -5,7 +5,8 @@ use Rattle.std.specs.Option.{option_map, option_or}
 use Rattle.std.specs.FinMap.{get}
 use Rattle.opentelemetry.specs.Plain.{PlainValue, text, PlainKeyValue}
 use Rattle.otel_base.specs.AttributesString.{IsAttributesString}
-use Rattle.otel_base.specs.Resource.{PlainResource, non_empty, of_attributes, attributes_of, all_attributes, service_name_key}
+use Rattle.otel_base.specs.Resource.{PlainResource, non_empty, pair_of, named, service_name_key}
+use Rattle.otel_base.specs.Resource.{of_attributes, attributes_of, all_attributes}
 
 -- the strings that may be handed in
 pub record PlainResourceStrings : Type 0 where
@@ -44,14 +45,6 @@ name_of_service own found program =
 abbrev pub name_over : PlainResourceStrings → PlainResource → PlainValue
 name_over strings env =
     name_of_service strings.service_name (get env.attributes service_name_key) strings.program_name
-
--- one attribute
-abbrev pub pair_of : List ℕ → PlainValue → PlainKeyValue
-pair_of key value = record { key = key; value = value }
-
--- the name of the service alone
-abbrev pub named : PlainValue → PlainResource
-named name = of_attributes (attributes_of (pair_of service_name_key name ∷ []))
 
 -- the name of the service, looked for in the strings
 abbrev pub IsSdkResource : PlainResourceStrings → PlainResource → Type 0

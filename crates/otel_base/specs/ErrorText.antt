@@ -1,10 +1,12 @@
 -- What the errors of the SDK print.
-use Rattle.std.specs.Prelude.{ℕ, zero, suc, ◌+◌, ◌/◌, ◌%◌, ◌^◌, ◌==◌, nat_le, if◌then◌else◌, List, [], ◌∷◌, ◌++◌, string_bytes, codes}
+use Rattle.std.specs.Prelude.{ℕ, zero, suc, ◌+◌, ◌/◌, ◌%◌, ◌^◌, ◌==◌, nat_le, if◌then◌else◌}
+use Rattle.std.specs.Prelude.{List, [], ◌∷◌, ◌++◌, string_bytes, codes}
 use Rattle.std.specs.Fmt.{decimal}
 use Rattle.std.specs.Duration.{as_nanos}
 use Rattle.std.specs.declared.time.Duration.{Duration}
 use Rattle.otel_base.specs.declared.error.OTelSdkError.{OTelSdkError}
-use Rattle.otel_base.specs.declared.error.OTelSdkError.TheVariants.{AlreadyShutdown, Timeout, InternalFailure, OutOfMemory}
+use Rattle.otel_base.specs.declared.error.OTelSdkError.TheVariants.{AlreadyShutdown, Timeout}
+use Rattle.otel_base.specs.declared.error.OTelSdkError.TheVariants.{InternalFailure, OutOfMemory}
 use Rattle.otel_base.specs.declared.error.DurationUnit.{DurationUnit}
 use Rattle.otel_base.specs.declared.error.DurationUnit.TheVariants.{Seconds, Milliseconds, Microseconds, Nanoseconds}
 

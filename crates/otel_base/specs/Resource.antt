@@ -1,6 +1,7 @@
 -- Who produces telemetry, and how two descriptions become one (OpenTelemetry specification, "Resource SDK", "Merge").
 use Rattle.std.proofs.Common.{inl, inr, refl}
-use Rattle.std.specs.Prelude.{◌≡◌, ℕ, ℤ, Bool, ◌⊎◌, List, [], ◌∷◌, ◌++◌, map, reverse, Option, Some, None, if◌then◌else◌, codes}
+use Rattle.std.specs.Prelude.{◌≡◌, ℕ, ℤ, Bool, ◌⊎◌, Option, Some, None, if◌then◌else◌, codes}
+use Rattle.std.specs.Prelude.{List, [], ◌∷◌, ◌++◌, map, reverse}
 use Rattle.std.specs.Coded.{Coded, code_by, coded_ℕ, coded_ℤ, coded_bool, coded_list, coded×, coded⊎}
 use Rattle.std.specs.Borrow.{Bor}
 use Rattle.std.specs.Ordering.{nat_cmp}
@@ -68,6 +69,14 @@ of_pairs pairs schema = record { attributes = attributes_of pairs; schema_url = 
 -- the key of the name of a service (OpenTelemetry semantic conventions, "Service")
 abbrev pub service_name_key : List ℕ
 service_name_key = codes "service.name"
+
+-- one attribute
+abbrev pub pair_of : List ℕ → PlainValue → PlainKeyValue
+pair_of key value = record { key = key; value = value }
+
+-- a resource that says the name of the service and nothing else
+abbrev pub named : PlainValue → PlainResource
+named name = of_attributes (attributes_of (pair_of service_name_key name ∷ []))
 
 -- the attributes of several resources, of which a later one wins
 abbrev pub all_attributes : List PlainResource → Attributes

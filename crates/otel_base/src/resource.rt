@@ -47,7 +47,10 @@ impl Model for ResourceParts {
 
     ghost coded = { resource_code };
 
-    ghost view = { λ parts. record { attributes = by_key parts.attributes; schema_url = string_bytes parts.schema_url } };
+    ghost view = { λ parts. record {
+      attributes = by_key parts.attributes;
+      schema_url = string_bytes parts.schema_url;
+    } };
 }
 
 /// A description of who produces telemetry. Clones share one copy, so that a clone is a count.
@@ -338,8 +341,7 @@ impl ResourceBuilder {
 
     /// Merges the attribute `service.name` over the builder's.
     pub fn with_service_name(self, name: Value) -> Result<ResourceBuilder, AllocError>
-        ensures { IfOk result (λ built.
-            built ≡ meaning.with_pairs self (record { key = meaning.service_name_key; value = plain_value name } ∷ [])) }
+        ensures { IfOk result (λ built. built ≡ meaning.merge self (meaning.named (plain_value name))) }
     {
         let key = Key::new(String::from_str(self.alloc, SERVICE_NAME)?);
         self.with_attribute(KeyValue::new(key, name))
@@ -367,17 +369,25 @@ impl ResourceBuilder {
         ResourceBuilder::of_parts(alloc, parts)
     }
 
-    /// Merges the attributes of the detected resource over the builder's. Its schema is lost.
+    /// Merges the attributes of the detected resource over the builder's. Its schema is lost. Where the
+    /// detector needs no memory and sees no attribute, none is needed here.
     pub fn with_detector(
         self,
         detector: Box<dyn ResourceDetector>,
     ) -> Result<ResourceBuilder, AllocError>
-        ensures { IfOk result (λ built. (seen : PlainResource)
+        ensures ok { IfOk result (λ built. (seen : PlainResource)
             × ⟦<Box<dyn ResourceDetector> as ResourceDetector>⟧.detects detector seen
             × (built ≡ meaning.merge self (meaning.of_attributes seen.attributes))) }
+        ensures free { ⟦<Box<dyn ResourceDetector> as ResourceDetector>⟧.is_infallible detector
+            → ((seen : PlainResource) → ⟦<Box<dyn ResourceDetector> as ResourceDetector>⟧.detects detector seen
+            → seen.attributes ≡ fin.empty)
+            → IsOk result }
     {
-        let ResourceBuilder { resource, alloc } = self;
         let seen = detector.detect()?;
+        if seen.is_empty() {
+            return Ok(self);
+        }
+        let ResourceBuilder { resource, alloc } = self;
         let parts = resource.into_parts(alloc)?.with_attributes_of(alloc, seen)?;
         ResourceBuilder::of_parts(alloc, parts)
     }

@@ -10,7 +10,8 @@ ghost use Rattle.opentelemetry.specs.PlainValues.{plain_value};
 ghost use Rattle.otel_base.specs.AttributesString.{IsMember, IsAttributesString};
 ghost use Rattle.otel_base.specs.DetectedResource as detected;
 ghost use Rattle.otel_base.specs.DetectedResource.{ReadsAs, GivesNoAttribute};
-ghost use Rattle.otel_base.specs.Resource.{PlainResource, non_empty, by_key, union, attributes_of, of_attributes, service_name_key};
+ghost use Rattle.otel_base.specs.Resource.{PlainResource, non_empty, service_name_key};
+ghost use Rattle.otel_base.specs.Resource.{by_key, union, attributes_of, of_attributes};
 
 use super::attributes::{put, put_text};
 use super::telemetry::put_telemetry;
@@ -19,6 +20,9 @@ use opentelemetry::{Key, Value};
 use std::alloc::{AllocError, Global};
 use std::collections::BTreeMap;
 use std::marker::Model;
+
+// Stands in front of the name of a program, where nobody named its service.
+const UNKNOWN_SERVICE_OF: &str = "unknown_service:";
 
 /// The strings from which a resource is found out. An absent string is one that nobody set.
 #[derive(Clone, Debug, Default, Drop)]
@@ -82,7 +86,7 @@ impl ResourceDetector for EnvResourceDetector {
         match &self.attributes {
             Some(text) => {
                 let alloc = *text.allocator();
-                let attributes = put_read(BTreeMap::new(alloc), alloc, text.as_str())?;
+                let attributes = put_members(BTreeMap::new(alloc), alloc, text.as_str())?;
                 Resource::of_attributes(alloc, attributes)
             }
             None => Ok(Resource::empty()),
@@ -200,7 +204,8 @@ fn unknown_service(alloc: Global, program_name: &Option<String>) -> Result<Value
 {
     match program_name {
         Some(program) => {
-            let mut name = String::from_str(alloc, "unknown_service:")?;
+            let mut name = String::with_capacity(alloc, UNKNOWN_SERVICE_OF.len() + program.len())?;
+            name.push_str(UNKNOWN_SERVICE_OF)?;
             name.push_str(program.as_str())?;
             Ok(Value::String(name))
         }
@@ -218,13 +223,13 @@ fn put_string(
         × (by_key all ≡ union (by_key attributes) (attributes_of pairs))) }
 {
     match given {
-        Some(text) => put_read(attributes, alloc, text.as_str()),
+        Some(text) => put_members(attributes, alloc, text.as_str()),
         None => Ok(attributes),
     }
 }
 
 // The pairs of an attributes string over the attributes, member by member.
-fn put_read(
+fn put_members(
     mut attributes: BTreeMap<Key, Value>,
     alloc: Global,
     text: &str,

@@ -3,7 +3,7 @@ use denote.Shadow.{shadow}
 use denote.Text.{Utf8}
 use Rattle.otel_base.specs.Resource.{by_key}
 use Rattle.otel_base.proofs.AttributesStringLemmas.{ReadSoFar}
-use Rattle.otel_base.proofs.resource.env.put_read.Given as goal
+use Rattle.otel_base.proofs.resource.env.put_members.Given as goal
 
 abbrev pub invariant-members : goal.invariant-members
 invariant-members l = shadow (Utf8 l.rest) × ReadSoFar l.fn.text l.rest (by_key l.fn.attributes) (by_key l.attributes)

@@ -3,7 +3,7 @@ use Rattle.std.proofs.lemmas.Str.Pattern.{split_parts}
 use Rattle.otel_base.specs.Resource.{by_key}
 use Rattle.otel_base.proofs.AttributeLemmas.{union-empty}
 use Rattle.otel_base.proofs.AttributesStringLemmas.{has_no_from_places, member_read, last_read, member_refused, last_refused}
-use Rattle.otel_base.proofs.resource.env.put_read.Goals as goal
+use Rattle.otel_base.proofs.resource.env.put_members.Goals as goal
 
 pub members-init : goal.members-init
 members-init c = (
