@@ -281,6 +281,27 @@ fn no_string_gives_no_attributes(rt: HostRuntime) -> Result<(), Fail> {
     Ok(())
 }
 
+// Each `unwrap` is proved: there is no answer but Ok.
+#[test]
+fn what_grows_nothing_is_never_refused(rt: HostRuntime) -> Result<(), Fail> {
+    let alloc = rt.alloc();
+    let unset = ResourceStrings::default();
+    let env = EnvResourceDetector::new(&unset).unwrap();
+    assert!(rt; env.detect().unwrap().is_empty());
+    let _sdk = SdkProvidedResourceDetector::new(alloc, &unset).unwrap();
+    let nothing = Resource::builder_empty(alloc).build();
+    assert!(rt; nothing.clone().unwrap() == nothing);
+    let built = Resource::builder(alloc, &unset)?
+        .with_attributes(Vec::new(alloc))
+        .unwrap()
+        .with_schema_url(Vec::new(alloc), String::new(alloc))
+        .unwrap()
+        .with_detectors(&[])
+        .unwrap();
+    assert_eq!(rt; built.build().len(), 4);
+    Ok(())
+}
+
 #[test]
 fn attributes_merge_to_the_right(rt: HostRuntime) -> Result<(), Fail> {
     let alloc = rt.alloc();
