@@ -1,6 +1,9 @@
 -- Finite maps of attributes, by what they answer at a key.
-use Rattle.std.proofs.Common.{◌≡◌, ℕ, Bool, true, false, cond, T, ◌&&◌, List, [], ◌∷◌, ◌++◌, map, reverse, length, Option, Some, None, Result, Ok, Err, IfOk, refl, sym, ap, subst, ◌∙◌, arith}
+use Rattle.std.proofs.Common.{◌≡◌, ◌≢◌, AllPairs, ℕ, Bool, true, false, cond, T, ◌&&◌, List, [], ◌∷◌, ◌++◌, map, reverse, length, Option, Some, None, Result, Ok, Err, IfOk, refl, sym, ap, subst, ◌∙◌, arith}
 use Rattle.std.proofs.lemmas.List.{map-append, length-map, reverse-append}
+use Rattle.std.proofs.lemmas.Map.Keys.{IsDistinct-from_sorted}
+use Rattle.std.proofs.lemmas.Map.Made.{AllPairs-from_IsDistinct}
+use Rattle.std.specs.Bool.{Decides}
 use Rattle.std.specs.Ordering.{nat_cmp, is_eq, is_lt, eq_by_cmp}
 use Rattle.std.specs.declared.cmp.Ordering.{Ordering}
 use Rattle.std.specs.declared.cmp.Ordering.TheVariants.{Less, Equal, Greater}
@@ -20,7 +23,7 @@ use Rattle.opentelemetry.specs.Plain.{PlainValue, PlainKeyValue}
 use Rattle.opentelemetry.specs.PlainValues.{plain_value}
 use Rattle.opentelemetry.specs.Same.{same_text_decides}
 use Rattle.opentelemetry.specs.declared.common.Value.{Value}
-use Rattle.otel_base.specs.Resource.{Attributes, PlainResource, empty_resource, union, merged_schema, merge, attributes_of, of_attributes, all_attributes, by_key}
+use Rattle.otel_base.specs.Resource.{Attributes, PlainResource, empty_resource, non_empty, union, merged_schema, merge, with_pairs, attributes_of, of_attributes, all_attributes, by_key}
 
 both_true : (a b : Bool) → T a → T b → T (a && b)
 both_true true b p q = q
@@ -99,6 +102,18 @@ pub attributes_of-push : (pairs : List PlainKeyValue) (a : PlainKeyValue) → at
 attributes_of-push pairs a =
     let pair : PlainKeyValue → List ℕ × PlainValue = λ b. (b.key, b.value) in
     ap (λ (es : List (List ℕ × PlainValue)). from_entries {R = key_cmp} es) (ap reverse (map-append pair pairs (a ∷ [])) ∙ reverse-append (map pair pairs) (pair a ∷ []))
+
+-- one list behind another
+pub attributes_of-append : (xs ys : List PlainKeyValue) → attributes_of (xs ++ ys) ≡ union (attributes_of xs) (attributes_of ys)
+attributes_of-append xs ys =
+    let pair : PlainKeyValue → List ℕ × PlainValue = λ b. (b.key, b.value) in
+    let left : List (List ℕ × PlainValue) = reverse (map pair xs) in
+    let right : List (List ℕ × PlainValue) = reverse (map pair ys) in
+    ap (λ (es : List (List ℕ × PlainValue)). from_entries {R = key_cmp} es)
+    (ap reverse (map-append pair xs ys) ∙ reverse-append (map pair xs) (map pair ys))
+    ∙ same_attributes _ _ (λ q. get-from_entries nat_list_cmp_total (right ++ left) q ∙ find_append q right left
+    ∙ (λ i. option_or (sym (get-from_entries nat_list_cmp_total right q) i) (sym (get-from_entries nat_list_cmp_total left q) i))
+    ∙ sym (get-union (attributes_of xs) (attributes_of ys) q))
 
 -- one more resource at the end
 pub all_attributes-push : (rs : List PlainResource) (r : PlainResource) → all_attributes (rs ++ r ∷ []) ≡ union (all_attributes rs) r.attributes
@@ -194,7 +209,7 @@ pub plain_copied : (o : Option (Bor Value)) → option_map (λ v. plain_value v.
 plain_copied None = refl
 plain_copied (Some v) = refl
 
-nothing_in : {X : Type 0} (xs : List X) → length xs ≡ 0 → xs ≡ []
+pub nothing_in : {X : Type 0} (xs : List X) → length xs ≡ 0 → xs ≡ []
 nothing_in [] h = refl
 nothing_in (x ∷ xs) h = absurd (omega arith)
 
@@ -227,32 +242,42 @@ unfolding plain_entries
 by_key-clone m n h = ap (λ (es : List (List ℕ × PlainValue)). from_entries {R = key_cmp} es) (plain_entries-clone m.entries n.entries h)
 
 -- two resources with equal parts
-pub same_resource : (a b : Attributes) (s t : Option (List ℕ)) → a ≡ b → s ≡ t
+pub same_resource : (a b : Attributes) (s t : List ℕ) → a ≡ b → s ≡ t
     → ◌≡◌ {A = PlainResource} (record { attributes = a; schema_url = s }) (record { attributes = b; schema_url = t })
 same_resource a b s t e f = λ i. record { attributes = e i; schema_url = f i }
 
-pub merged_schema-none : (s : Option (List ℕ)) → merged_schema s None ≡ s
-merged_schema-none None = refl
-merged_schema-none (Some t) = refl
-
--- attributes merged over a schema alone
-pub under_schema : (a : Attributes) (s : Option (List ℕ)) → merge (record { attributes = fin.empty; schema_url = s }) (of_attributes a) ≡ record { attributes = a; schema_url = s }
-under_schema a s = same_resource _ _ _ _ (union-empty_left a) (merged_schema-none s)
+pub merged_schema-none : (s : List ℕ) → merged_schema s [] ≡ s
+merged_schema-none [] = refl
+merged_schema-none (b ∷ bs) = refl
 
 -- attributes over attributes are merged at once
 pub merge_attributes-merge : (r : PlainResource) (a b : Attributes) → merge (merge r (of_attributes a)) (of_attributes b) ≡ merge r (of_attributes (union a b))
 merge_attributes-merge r a b =
-    same_resource _ _ _ _ (union_assoc r.attributes a b) (merged_schema-none (merged_schema r.schema_url None))
+    same_resource _ _ _ _ (union_assoc r.attributes a b) (merged_schema-none (merged_schema r.schema_url []))
 
 -- nothing merged over a resource
 pub merge-nothing : (r : PlainResource) → merge r (of_attributes fin.empty) ≡ r
 merge-nothing r = same_resource _ _ _ _ (union-empty r.attributes) (merged_schema-none r.schema_url)
+
+pub merge-nothing_left : (r : PlainResource) → merge empty_resource r ≡ r
+merge-nothing_left r = same_resource _ _ _ _ (union-empty_left r.attributes) refl
 
 pub all_zip_push : {A B : Type 0} (R : A → B → Type 0) (xs : List A) (ys : List B) (x : A) (y : B) → AllZip R xs ys → R x y → AllZip R (xs ++ x ∷ []) (ys ++ y ∷ [])
 all_zip_push R [] [] x y h r = (r, tt)
 all_zip_push R [] (b ∷ ys) x y h r = absurd h
 all_zip_push R (a ∷ xs) [] x y h r = absurd h
 all_zip_push R (a ∷ xs) (b ∷ ys) x y h r = (h.0, all_zip_push R xs ys x y h.1 r)
+
+pub all_zip_nothing : {A B : Type 0} (R : A → B → Type 0) (xs : List A) → xs ≡ [] → AllZip R xs []
+all_zip_nothing R [] e = tt
+all_zip_nothing R (x ∷ xs) e = cc
+
+-- one attribute merged over a resource
+pub with_pairs-one : (r : PlainResource) (a : PlainKeyValue)
+    → record { attributes = fin.insert r.attributes a.key a.value; schema_url = r.schema_url } ≡ with_pairs r (a ∷ [])
+with_pairs-one r a =
+    same_resource _ _ _ _ (put_pair r.attributes r.attributes _ [] a refl (sym (union-empty r.attributes)))
+    (sym (merged_schema-none r.schema_url))
 
 -- what was built holds what the detector saw
 pub built_as_seen : {E : Type 0} (detects : PlainResource → Type 0) (self parts : PlainResource) (r : Result PlainResource E) (seen : PlainResource)
@@ -265,6 +290,35 @@ built_as_seen detects self parts (Err x) seen saw e h = tt
 pub merge_nothing-attributes : (a : Attributes) → merge empty_resource (of_attributes a) ≡ of_attributes a
 merge_nothing-attributes a = same_resource _ _ _ _ (union-empty_left a) refl
 
-pub merged_schema-same : (s : Option (List ℕ)) → merged_schema s s ≡ s
-merged_schema-same None = refl
-merged_schema-same (Some t) = rw ((same_text_decides t t).1 refl) refl
+pub merged_schema-same : (s : List ℕ) → merged_schema s s ≡ s
+merged_schema-same [] = refl
+merged_schema-same (b ∷ bs) = rw ((same_text_decides (b ∷ bs) (b ∷ bs)).1 refl) refl
+
+pub not_empty : (t : List ℕ) → non_empty t ≢ Some []
+not_empty [] e = cc
+not_empty (b ∷ bs) e = cc
+
+below_keys : {X : Type 0} (k : List ℕ) (es : List (List ℕ × X)) → T (below_all key_cmp k es) → AllByRecursion (λ y. key_cmp k y ≡ Less) (map (λ e. e.0) es)
+below_keys k [] h = tt
+below_keys k (e ∷ es) h = (less_from _ (first_true _ _ h), below_keys k es (second_true _ _ h))
+
+rising_keys : {X : Type 0} (es : List (List ℕ × X)) → T (is_sorted key_cmp es) → IsStrictlySortedBy key_cmp (map (λ e. e.0) es)
+unfolding IsStrictlySortedBy
+rising_keys [] h = tt
+rising_keys (e ∷ es) h = (below_keys e.0 es (first_true _ _ h), rising_keys es (second_true _ _ h))
+
+tied : (r : Ordering) → is_eq r ≡ true → r ≡ Equal
+tied Less h = cc
+tied Equal h = refl
+tied Greater h = cc
+
+same_keys : (a b : List ℕ) → Decides (eq_by_cmp key_cmp a b) (a ≡ b)
+same_keys a b = (
+  λ h. slice_cmp-IsAntisymmetric nat_cmp-IsAntisymmetric a b (tied _ h),
+  λ e. subst (λ k. eq_by_cmp key_cmp a k ≡ true) e ((eq_by_cmp_equiv nat_list_cmp_total).refl a),
+)
+
+-- no two keys of a map are equal
+pub distinct_keys : (m : Attributes) → AllPairs (λ x y. x ≢ y) (fin.keys m)
+distinct_keys m =
+    AllPairs-from_IsDistinct same_keys (fin.keys m) (IsDistinct-from_sorted key_cmp (fin.keys m) (rising_keys (fin.entries m) (entries_sorted m)))

@@ -1,8 +1,11 @@
--- The attributes string, a member at a time; and that each text reads one way only.
-use Rattle.std.proofs.Common.{◌≡◌, ◌≢◌, inl, inr, ℕ, suc, ◌+◌, ◌<◌, List, [], ◌∷◌, ◌++◌, length, get_or, Option, Some, None, cond, eqb, eq-eqb, ne_eqb, refl, sym, ap, subst, ◌∙◌, arith, append-nil, length-append}
+-- The attributes string, a member at a time; and that each text reads in one way, and in one way only.
+use Rattle.std.proofs.Common.{◌≡◌, ◌≢◌, ◌⊎◌, inl, inr, ℕ, zero, suc, ◌+◌, ◌<◌, true, false, List, [], ◌∷◌, ◌++◌, length, get_or, Option, Some, None, cond, eqb, eq-eqb, ne_eqb, refl, sym, ap, subst, ◌∙◌, arith, append-nil, append_assoc, length-append}
+use Rattle.std.proofs.lemmas.Bool.{eqb-true}
 use Rattle.std.specs.List.{slice_split, onto_first}
 use Rattle.opentelemetry.specs.Plain.{PlainKeyValue}
+use Rattle.otel_base.specs.Resource.{Attributes, union, attributes_of}
 use Rattle.otel_base.specs.AttributesString.{HasNo, IsMember, IsCut, AreRead, IsAttributesString, comma, equals_sign, trimmed_pair}
+use Rattle.otel_base.proofs.AttributeLemmas.{union_assoc, attributes_of-append}
 
 -- no place holds the byte
 pub has_no_from_places : (c : ℕ) (bs : List ℕ) → ((i : ℕ) → i < length bs → get_or bs i 0 ≢ c) → HasNo c bs
@@ -97,3 +100,94 @@ string_reads given (member ∷ more) pairs (free, inr (rest, is, cut)) (first, o
 pub string_reads_once : (given : List ℕ) (pairs others : List PlainKeyValue) → IsAttributesString given pairs → IsAttributesString given others → pairs ≡ others
 string_reads_once given pairs others (members, cut, read) (members', cut', read') =
     string_reads given members pairs cut read ∙ sym (string_reads given members' others cut' read')
+
+-- a byte stands nowhere in a text, or first behind some bytes without it
+Cut : ℕ → List ℕ → Type 0
+Cut c bs = HasNo c bs ⊎ ((before : List ℕ) × (behind : List ℕ) × (bs ≡ before ++ c ∷ behind) × HasNo c before)
+
+cut_behind : (c b : ℕ) (bs : List ℕ) → b ≢ c → Cut c bs → Cut c (b ∷ bs)
+unfolding Cut
+cut_behind c b bs other (inl free) = inl (other, free)
+cut_behind c b bs other (inr (before, behind, is, free)) = inr (b ∷ before, behind, ap (λ t. b ∷ t) is, (other, free))
+
+cut_at : (c : ℕ) (bs : List ℕ) → Cut c bs
+unfolding Cut
+cut_at c [] = inl tt
+cut_at c (b ∷ bs) = elim (eqb b c) as (λ r. eqb b c ≡ r → Cut c (b ∷ bs)) [
+  | true ↦ λ same. inr ([], bs, ap (λ x. x ∷ bs) (eqb-true b c same), tt)
+  | false ↦ λ other. cut_behind c b bs (λ same. absurd (true_is_not_false (sym (eq-eqb b c same) ∙ other))) (cut_at c bs)
+] refl
+  where
+    true_is_not_false : true ≡ false → ⊥
+    true_is_not_false e = cc
+
+some_member : (member : List ℕ) → Cut equals_sign member → (pairs : List PlainKeyValue) × IsMember member pairs
+unfolding Cut
+some_member member (inl free) = ([], inl (free, refl))
+some_member member (inr (key, value, is, free)) = (trimmed_pair key value ∷ [], inr (key, value, is, free, refl))
+
+some_rest : (n : ℕ) (given : List ℕ) → length given < suc n → ((rest : List ℕ) → length rest < n → (pairs : List PlainKeyValue) × IsAttributesString rest pairs)
+    → Cut comma given → (pairs : List PlainKeyValue) × IsAttributesString given pairs
+unfolding Cut
+some_rest n given short others (inl free) =
+    let (first, is) = some_member given (cut_at equals_sign given) in (first, string_last given first free is)
+some_rest n given short others (inr (member, rest, is, free)) =
+    let (first, reads) = some_member member (cut_at equals_sign member) in
+    let less = shorter_rest given member rest is in
+    let (more, read) = others rest (omega arith) in
+    (first ++ more, string_more given member rest first more is free reads read)
+
+some_reading : (n : ℕ) (given : List ℕ) → length given < n → (pairs : List PlainKeyValue) × IsAttributesString given pairs
+some_reading zero given short = absurd (omega arith)
+some_reading (suc n) given short = some_rest n given short (some_reading n) (cut_at comma given)
+
+-- a text reads in some way
+pub string_reads_some : (given : List ℕ) → (pairs : List PlainKeyValue) × IsAttributesString given pairs
+string_reads_some given = some_reading (suc (length given)) given (omega arith)
+
+-- a text is read up to a rest: what was found is put over the attributes, and whatever completes the rest completes it
+pub record ReadSoFar (given rest : List ℕ) (base now : Attributes) : Type 0 where
+  pub found : List PlainKeyValue
+  pub put : now ≡ union base (attributes_of found)
+  pub completes : (others : List PlainKeyValue) → IsAttributesString rest others → IsAttributesString given (found ++ others)
+
+next_put : (base now next : Attributes) (found more : List PlainKeyValue) → now ≡ union base (attributes_of found) → next ≡ union now (attributes_of more)
+    → next ≡ union base (attributes_of (found ++ more))
+next_put base now next found more so_far put =
+    put ∙ ap (λ m. union m (attributes_of more)) so_far ∙ union_assoc base (attributes_of found) (attributes_of more)
+    ∙ ap (union base) (sym (attributes_of-append found more))
+
+-- one member more is read
+pub member_read : (given rest member more : List ℕ) (base now next : Attributes) (first : List PlainKeyValue) → ReadSoFar given rest base now
+    → rest ≡ member ++ comma ∷ more → HasNo comma member → IsMember member first → next ≡ union now (attributes_of first) → ReadSoFar given more base next
+member_read given rest member more base now next first s is free reads put = record {
+  found = s.found ++ first;
+  put = next_put base now next s.found first s.put put;
+  completes = λ others read. subst (λ (ps : List PlainKeyValue). IsAttributesString given ps) (sym (append_assoc s.found first others))
+      (s.completes (first ++ others) (string_more rest member more first others is free reads read));
+}
+
+-- the last member is read
+pub last_read : (given rest : List ℕ) (base now next : Attributes) (first : List PlainKeyValue) → ReadSoFar given rest base now
+    → HasNo comma rest → IsMember rest first → next ≡ union now (attributes_of first)
+    → (pairs : List PlainKeyValue) × IsAttributesString given pairs × (next ≡ union base (attributes_of pairs))
+last_read given rest base now next first s free reads put =
+    (s.found ++ first, s.completes first (string_last rest first free reads), next_put base now next s.found first s.put put)
+
+something_in : (found others : List PlainKeyValue) (p : PlainKeyValue) → [] ≡ found ++ (p ∷ others) → ⊥
+something_in [] others p e = cc
+something_in (q ∷ found) others p e = cc
+
+-- a text with a pair in it does not read as nothing
+pub member_refused : (given rest member more : List ℕ) (base now : Attributes) (p : PlainKeyValue) → ReadSoFar given rest base now
+    → rest ≡ member ++ comma ∷ more → HasNo comma member → IsMember member (p ∷ []) → IsAttributesString given [] → ⊥
+member_refused given rest member more base now p s is free reads none =
+    let (others, read) = string_reads_some more in
+    something_in s.found others p
+    (string_reads_once given [] (s.found ++ (p ∷ others)) none (s.completes (p ∷ others) (string_more rest member more (p ∷ []) others is free reads read)))
+
+pub last_refused : (given rest : List ℕ) (base now : Attributes) (p : PlainKeyValue) → ReadSoFar given rest base now
+    → HasNo comma rest → IsMember rest (p ∷ []) → IsAttributesString given [] → ⊥
+last_refused given rest base now p s free reads none =
+    something_in s.found [] p
+    (string_reads_once given [] (s.found ++ (p ∷ [])) none (s.completes (p ∷ []) (string_last rest (p ∷ []) free reads)))

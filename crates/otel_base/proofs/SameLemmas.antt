@@ -1,5 +1,5 @@
 -- Resources that say the same.
-use Rattle.std.proofs.Common.{◌≡◌, ℕ, Bool, ◌&&◌, List, None, sym, ap, ◌∙◌, eqb}
+use Rattle.std.proofs.Common.{◌≡◌, ℕ, Bool, ◌&&◌, List, [], sym, ap, ◌∙◌, eqb}
 use Rattle.std.proofs.lemmas.Bool.{eq-eqb, eqb-true}
 use Rattle.std.proofs.lemmas.Bool.Decides.{same_from_decides, Decides-at}
 use Rattle.std.specs.Bool.{Decides}
@@ -30,7 +30,7 @@ pub compared : (r : Bool) (a b x y : PlainResource) → a ≡ x → b ≡ y → 
 compared r a b x y e f d = same_from_decides r (same_description a b) d (same_description_decides a b) ∙ (λ i. same_description (e i) (f i))
 
 -- a resource without schema says nothing where it has no attributes
-pub nothing_said : (r : PlainResource) (n : ℕ) → n ≡ fin.len r.attributes → r.schema_url ≡ None → Decides (eqb n 0) (r ≡ empty_resource)
+pub nothing_said : (r : PlainResource) (n : ℕ) → n ≡ fin.len r.attributes → r.schema_url ≡ [] → Decides (eqb n 0) (r ≡ empty_resource)
 nothing_said r n e none = (
   λ h. λ i. record { attributes = fin.empty_of_len r.attributes (sym e ∙ eqb-true n 0 h) i; schema_url = none i },
   λ h. eq-eqb n 0 (e ∙ ap (λ (x : PlainResource). fin.len x.attributes) h ∙ fin.len-empty key_cmp PlainValue),

@@ -1,22 +1,24 @@
 -- What the errors of the SDK print.
-use Rattle.std.specs.Prelude.{ℕ, zero, suc, ◌+◌, ◌/◌, ◌%◌, ◌^◌, ◌==◌, nat_le, if◌then◌else◌, List, [], ◌∷◌, ◌++◌, string_bytes, codes}
+use Rattle.std.specs.Prelude.{ℕ, zero, suc, ◌+◌, ◌/◌, ◌%◌, ◌^◌, ◌==◌, nat_le, if◌then◌else◌}
+use Rattle.std.specs.Prelude.{List, [], ◌∷◌, ◌++◌, string_bytes, codes}
 use Rattle.std.specs.Fmt.{decimal}
 use Rattle.std.specs.Duration.{as_nanos}
 use Rattle.std.specs.declared.time.Duration.{Duration}
 use Rattle.otel_base.specs.declared.error.OTelSdkError.{OTelSdkError}
-use Rattle.otel_base.specs.declared.error.OTelSdkError.TheVariants.{AlreadyShutdown, Timeout, InternalFailure, OutOfMemory}
-use Rattle.otel_base.specs.declared.error.Unit.{Unit}
-use Rattle.otel_base.specs.declared.error.Unit.TheVariants.{Seconds, Milliseconds, Microseconds, Nanoseconds}
+use Rattle.otel_base.specs.declared.error.OTelSdkError.TheVariants.{AlreadyShutdown, Timeout}
+use Rattle.otel_base.specs.declared.error.OTelSdkError.TheVariants.{InternalFailure, OutOfMemory}
+use Rattle.otel_base.specs.declared.error.DurationUnit.{DurationUnit}
+use Rattle.otel_base.specs.declared.error.DurationUnit.TheVariants.{Seconds, Milliseconds, Microseconds, Nanoseconds}
 
 -- a unit is this power of ten in nanoseconds, and so its fraction has as many places
-abbrev pub places : Unit → ℕ
+abbrev pub places : DurationUnit → ℕ
 places Seconds = 9
 places Milliseconds = 6
 places Microseconds = 3
 places Nanoseconds = 0
 
 -- `s`, `ms`, `µs` in UTF-8, `ns`
-abbrev pub symbol : Unit → List ℕ
+abbrev pub symbol : DurationUnit → List ℕ
 symbol Seconds = 115 ∷ []
 symbol Milliseconds = 109 ∷ 115 ∷ []
 symbol Microseconds = 194 ∷ 181 ∷ 115 ∷ []
@@ -42,12 +44,15 @@ unfoldable pub fraction_text : ℕ → ℕ → List ℕ
 fraction_text k remainder = if remainder == 0 then [] else 46 ∷ without_trailing_zeros (padded_digits k remainder)
 
 -- n nanoseconds in a unit: the whole part, its fraction and the unit's symbol
-abbrev pub in_unit : Unit → ℕ → List ℕ
+abbrev pub in_unit : DurationUnit → ℕ → List ℕ
 in_unit unit n = decimal (n / 10 ^ places unit) ++ (fraction_text (places unit) (n % 10 ^ places unit) ++ symbol unit)
 
 -- the largest unit of which n nanoseconds hold a whole one; nanoseconds where they are none
-abbrev pub largest_unit : ℕ → Unit
-largest_unit n = if nat_le (10 ^ 9) n then Seconds else (if nat_le (10 ^ 6) n then Milliseconds else (if nat_le (10 ^ 3) n then Microseconds else Nanoseconds))
+abbrev pub largest_unit : ℕ → DurationUnit
+largest_unit n =
+    if nat_le (10 ^ 9) n then Seconds
+    else (if nat_le (10 ^ 6) n then Milliseconds
+    else (if nat_le (10 ^ 3) n then Microseconds else Nanoseconds))
 
 -- a duration in its largest unit
 abbrev pub duration_text : Duration → List ℕ

@@ -1,7 +1,8 @@
 -- Who produces telemetry, and how two descriptions become one (OpenTelemetry specification, "Resource SDK", "Merge").
 use Rattle.std.proofs.Common.{inl, inr, refl}
-use Rattle.std.specs.Prelude.{◌≡◌, ◌≢◌, ℕ, ℤ, Bool, ◌⊎◌, List, [], ◌∷◌, ◌++◌, map, reverse, Option, Some, None, if◌then◌else◌, codes}
-use Rattle.std.specs.Coded.{Coded, code_by, coded_ℕ, coded_ℤ, coded_bool, coded_list, coded_option, coded×, coded⊎}
+use Rattle.std.specs.Prelude.{◌≡◌, ℕ, ℤ, Bool, ◌⊎◌, Option, Some, None, if◌then◌else◌, codes}
+use Rattle.std.specs.Prelude.{List, [], ◌∷◌, ◌++◌, map, reverse}
+use Rattle.std.specs.Coded.{Coded, code_by, coded_ℕ, coded_ℤ, coded_bool, coded_list, coded×, coded⊎}
 use Rattle.std.specs.Borrow.{Bor}
 use Rattle.std.specs.Ordering.{nat_cmp}
 use Rattle.std.specs.Cmp.Lexicographic.{slice_cmp}
@@ -18,33 +19,29 @@ use Rattle.opentelemetry.specs.declared.common.Value.{Value}
 abbrev pub Attributes : Type 0
 Attributes = FinMap (slice_cmp nat_cmp) PlainValue
 
--- attributes, and the schema that they follow, if one is known
+-- attributes, and the text of the schema that they follow, which is empty where no schema is known
 pub record PlainResource : Type 0 where
   pub attributes : Attributes
-  pub schema_url : Option (List ℕ)
+  pub schema_url : List ℕ
 
 -- the resource that says nothing
 abbrev pub empty_resource : PlainResource
-empty_resource = record { attributes = empty; schema_url = None }
+empty_resource = record { attributes = empty; schema_url = [] }
 
--- a schema is known where its text is not empty
-abbrev pub schema_of : List ℕ → Option (List ℕ)
-schema_of [] = None
-schema_of (b ∷ bs) = Some (b ∷ bs)
-
--- no schema is the empty text
-abbrev pub IsKnownSchema : Option (List ℕ) → Type 0
-IsKnownSchema schema = schema ≢ Some []
+-- a text, if it is not empty
+abbrev pub non_empty : List ℕ → Option (List ℕ)
+non_empty [] = None
+non_empty (b ∷ bs) = Some (b ∷ bs)
 
 -- the attributes of both; where both have a key, the right one's value
 abbrev pub union : Attributes → Attributes → Attributes
 union left right = from_entries (entries right ++ entries left)
 
--- one absent schema gives the other, equal ones stay, and different ones give none
-abbrev pub merged_schema : Option (List ℕ) → Option (List ℕ) → Option (List ℕ)
-merged_schema None right = right
-merged_schema (Some left) None = Some left
-merged_schema (Some left) (Some right) = if bytes_eq left right then Some left else None
+-- one empty schema gives the other, equal ones stay, and different ones give the empty one
+abbrev pub merged_schema : List ℕ → List ℕ → List ℕ
+merged_schema [] right = right
+merged_schema (b ∷ bs) [] = b ∷ bs
+merged_schema (b ∷ bs) (c ∷ cs) = if bytes_eq (b ∷ bs) (c ∷ cs) then b ∷ bs else []
 
 -- the right resource over the left one
 abbrev pub merge : PlainResource → PlainResource → PlainResource
@@ -59,11 +56,27 @@ attributes_of pairs = from_entries (reverse (map (λ a. (a.key, a.value)) pairs)
 
 -- attributes that follow no known schema
 abbrev pub of_attributes : Attributes → PlainResource
-of_attributes given = record { attributes = given; schema_url = None }
+of_attributes given = record { attributes = given; schema_url = [] }
+
+-- a list of attributes over a resource
+abbrev pub with_pairs : PlainResource → List PlainKeyValue → PlainResource
+with_pairs resource pairs = merge resource (of_attributes (attributes_of pairs))
+
+-- a list of attributes that follow a schema
+abbrev pub of_pairs : List PlainKeyValue → List ℕ → PlainResource
+of_pairs pairs schema = record { attributes = attributes_of pairs; schema_url = schema }
 
 -- the key of the name of a service (OpenTelemetry semantic conventions, "Service")
 abbrev pub service_name_key : List ℕ
 service_name_key = codes "service.name"
+
+-- one attribute
+abbrev pub pair_of : List ℕ → PlainValue → PlainKeyValue
+pair_of key value = record { key = key; value = value }
+
+-- a resource that says the name of the service and nothing else
+abbrev pub named : PlainValue → PlainResource
+named name = of_attributes (attributes_of (pair_of service_name_key name ∷ []))
 
 -- the attributes of several resources, of which a later one wins
 abbrev pub all_attributes : List PlainResource → Attributes
@@ -79,6 +92,13 @@ abbrev pub shared_resource : {Z : Type 0} → Option (Arc PlainResource Z) → P
 shared_resource None = empty_resource
 shared_resource (Some shared) = arc_value shared
 
+-- a copy of this grows nothing: there is no value, or it is a truth or a number
+abbrev pub NeedsNoMemory : Option PlainValue → Type 0
+NeedsNoMemory None = Unit {0}
+NeedsNoMemory (Some (boolean b)) = Unit {0}
+NeedsNoMemory (Some (integer n)) = Unit {0}
+NeedsNoMemory (Some v) = ⊥
+
 -- a pair that is pointed to, without where it lies
 abbrev pub shown_pair : Bor (List ℕ) × Bor Value → List ℕ × PlainValue
 shown_pair p = (p.0.now, plain_value p.1.now)
@@ -89,7 +109,11 @@ pairs_left None = []
 pairs_left (Some pairs) = map (λ e. (e.0, plain_value e.1)) pairs
 
 -- the kinds of a value, one beside the other
-abbrev pub kind_of : PlainValue → Bool ⊎ (ℤ ⊎ (List ℕ ⊎ (List Bool ⊎ (List ℤ ⊎ List (List ℕ)))))
+abbrev pub Kinds : Type 0
+Kinds = Bool ⊎ (ℤ ⊎ (List ℕ ⊎ (List Bool ⊎ (List ℤ ⊎ List (List ℕ)))))
+
+-- a value as one of its kind
+abbrev pub kind_of : PlainValue → Kinds
 kind_of (boolean b) = inl b
 kind_of (integer n) = inr (inl n)
 kind_of (text t) = inr (inr (inl t))
@@ -98,7 +122,7 @@ kind_of (integers ns) = inr (inr (inr (inr (inl ns))))
 kind_of (texts ts) = inr (inr (inr (inr (inr ts))))
 
 -- the value of a kind
-abbrev pub of_kind : Bool ⊎ (ℤ ⊎ (List ℕ ⊎ (List Bool ⊎ (List ℤ ⊎ List (List ℕ))))) → PlainValue
+abbrev pub of_kind : Kinds → PlainValue
 of_kind (inl b) = boolean b
 of_kind (inr (inl n)) = integer n
 of_kind (inr (inr (inl t))) = text t
@@ -114,13 +138,18 @@ of_kind-kind_of (booleans bs) = refl
 of_kind-kind_of (integers ns) = refl
 of_kind-kind_of (texts ts) = refl
 
+-- how the kinds are stored
+abbrev pub kinds_code : Coded Kinds
+kinds_code =
+    coded⊎ coded_bool (coded⊎ coded_ℤ (coded⊎ (coded_list coded_ℕ)
+    (coded⊎ (coded_list coded_bool) (coded⊎ (coded_list coded_ℤ) (coded_list (coded_list coded_ℕ))))))
+
 -- how a value is stored
 abbrev pub value_code : Coded PlainValue
-value_code = code_by (Bool ⊎ (ℤ ⊎ (List ℕ ⊎ (List Bool ⊎ (List ℤ ⊎ List (List ℕ))))))
-    (coded⊎ coded_bool (coded⊎ coded_ℤ (coded⊎ (coded_list coded_ℕ) (coded⊎ (coded_list coded_bool) (coded⊎ (coded_list coded_ℤ) (coded_list (coded_list coded_ℕ)))))))
-    kind_of of_kind of_kind-kind_of
+value_code = code_by Kinds kinds_code kind_of of_kind of_kind-kind_of
 
 -- how a resource is stored
 abbrev pub resource_code : Coded PlainResource
-resource_code = code_by (Attributes × Option (List ℕ)) (coded× (code (coded_list coded_ℕ) value_code) (coded_option (coded_list coded_ℕ)))
+resource_code =
+    code_by (Attributes × List ℕ) (coded× (code (coded_list coded_ℕ) value_code) (coded_list coded_ℕ))
     (λ r. (r.attributes, r.schema_url)) (λ p. record { attributes = p.0; schema_url = p.1 }) (λ _. refl)

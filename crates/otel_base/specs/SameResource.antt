@@ -1,6 +1,6 @@
 -- Whether two resources say the same. The test is true exactly at equal ones.
-use Rattle.std.specs.Prelude.{◌≡◌, ℕ, Bool, true, false, ◌&&◌, List, Option, Some, None}
-use Rattle.std.proofs.Common.{refl, ap}
+use Rattle.std.specs.Prelude.{◌≡◌, ℕ, Bool, ◌&&◌, List}
+use Rattle.std.proofs.Common.{ap}
 use Rattle.std.proofs.lemmas.Bool.Decides.{Decides-and, Decides-like}
 use Rattle.std.specs.Bool.{Decides}
 use Rattle.std.specs.Cmp.Lexicographic.{pointwise, pointwise_decides}
@@ -13,34 +13,26 @@ use Rattle.otel_base.specs.Resource.{Attributes, PlainResource}
 abbrev pub same_entry : List ℕ × PlainValue → List ℕ × PlainValue → Bool
 same_entry p q = same_text p.0 q.0 && same_value p.1 q.1
 
--- whether both have the same schema, or none has one
-abbrev pub same_schema : Option (List ℕ) → Option (List ℕ) → Bool
-same_schema None None = true
-same_schema (Some s) (Some t) = same_text s t
-same_schema _ _ = false
-
 -- whether two resources have the same attributes and the same schema
 abbrev pub same_description : PlainResource → PlainResource → Bool
-same_description a b = pointwise same_entry (entries a.attributes) (entries b.attributes) && same_schema a.schema_url b.schema_url
+same_description a b =
+    pointwise same_entry (entries a.attributes) (entries b.attributes) && same_text a.schema_url b.schema_url
 
 pub same_entry_decides : (p q : List ℕ × PlainValue) → Decides (same_entry p q) (p ≡ q)
 same_entry_decides p q =
     Decides-like (same_entry p q) (λ e. λ i. (e.0 i, e.1 i)) (λ e. (ap (λ x. x.0) e, ap (λ x. x.1) e))
     (Decides-and (same_text p.0 q.0) (same_value p.1 q.1) (same_text_decides p.0 q.0) (same_value_decides p.1 q.1))
 
-pub same_schema_decides : (s t : Option (List ℕ)) → Decides (same_schema s t) (s ≡ t)
-same_schema_decides None None = (λ _. refl, λ _. refl)
-same_schema_decides (Some s) (Some t) = Decides-like (same_text s t) (ap Some) (λ e. cc) (same_text_decides s t)
-same_schema_decides None (Some t) = (λ h. cc, λ e. cc)
-same_schema_decides (Some s) None = (λ h. cc, λ e. cc)
-
-pub same_attributes_decides : (a b : Attributes) → Decides (pointwise same_entry (entries a) (entries b)) (a ≡ b)
+pub same_attributes_decides : (a b : Attributes)
+    → Decides (pointwise same_entry (entries a) (entries b)) (a ≡ b)
 same_attributes_decides a b =
-    Decides-like (pointwise same_entry (entries a) (entries b)) (same_entries_map a b) (ap (λ (m : Attributes). entries m))
-    (pointwise_decides same_entry_decides (entries a) (entries b))
+    Decides-like (pointwise same_entry (entries a) (entries b)) (same_entries_map a b)
+    (ap (λ (m : Attributes). entries m)) (pointwise_decides same_entry_decides (entries a) (entries b))
 
 pub same_description_decides : (a b : PlainResource) → Decides (same_description a b) (a ≡ b)
 same_description_decides a b =
-    Decides-like (same_description a b) (λ e. λ i. record { attributes = e.0 i; schema_url = e.1 i }) (λ e. (ap (λ x. x.attributes) e, ap (λ x. x.schema_url) e))
-    (Decides-and (pointwise same_entry (entries a.attributes) (entries b.attributes)) (same_schema a.schema_url b.schema_url)
-    (same_attributes_decides a.attributes b.attributes) (same_schema_decides a.schema_url b.schema_url))
+    Decides-like (same_description a b) (λ e. λ i. record { attributes = e.0 i; schema_url = e.1 i })
+    (λ e. (ap (λ x. x.attributes) e, ap (λ x. x.schema_url) e))
+    (Decides-and (pointwise same_entry (entries a.attributes) (entries b.attributes))
+    (same_text a.schema_url b.schema_url)
+    (same_attributes_decides a.attributes b.attributes) (same_text_decides a.schema_url b.schema_url))

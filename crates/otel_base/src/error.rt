@@ -3,7 +3,7 @@
 
 ghost use Rattle.std.specs.Prelude.{◌≡◌, ◌+◌, ◌<◌, ◌^◌, [], ◌∷◌, ◌++◌};
 ghost use Rattle.std.specs.Fmt.{WritesOnOk, decimal};
-ghost use Rattle.otel_base.specs.ErrorText as text;
+ghost use Rattle.otel_base.specs.ErrorText as printed;
 
 use std::error::Error;
 use std::fmt;
@@ -66,53 +66,53 @@ impl fmt::Display for OTelSdkError {
 
 /// What a duration is counted in when it is printed.
 #[derive(Clone, Copy)]
-enum Unit {
+enum DurationUnit {
     Seconds,
     Milliseconds,
     Microseconds,
     Nanoseconds,
 }
 
-impl Unit {
+impl DurationUnit {
     fn symbol(self) -> &'static str
-        ensures { result.now ≡ text.symbol self }
+        ensures { result.now ≡ printed.symbol self }
     {
         match self {
-            Unit::Seconds => "s",
-            Unit::Milliseconds => "ms",
-            Unit::Microseconds => "µs",
-            Unit::Nanoseconds => "ns",
+            DurationUnit::Seconds => "s",
+            DurationUnit::Milliseconds => "ms",
+            DurationUnit::Microseconds => "µs",
+            DurationUnit::Nanoseconds => "ns",
         }
     }
 
     fn nanos(self) -> u32
-        ensures { result ≡ 10 ^ text.places self }
+        ensures { result ≡ 10 ^ printed.places self }
     {
         match self {
-            Unit::Seconds => 1_000_000_000,
-            Unit::Milliseconds => 1_000_000,
-            Unit::Microseconds => 1_000,
-            Unit::Nanoseconds => 1,
+            DurationUnit::Seconds => 1_000_000_000,
+            DurationUnit::Milliseconds => 1_000_000,
+            DurationUnit::Microseconds => 1_000,
+            DurationUnit::Nanoseconds => 1,
         }
     }
 }
 
 // Writes the duration in the largest unit of which it holds a whole one, as `Debug` of `Duration` does.
 fn write_duration<W: fmt::Write>(f: &mut fmt::Formatter<W>, duration: Duration) -> fmt::Result
-    ensures { WritesOnOk W.write_str_gives f.old result (text.duration_text duration) f.new }
+    ensures { WritesOnOk W.write_str_gives f.old result (printed.duration_text duration) f.new }
 {
     let seconds = duration.as_secs();
     let nanos = duration.subsec_nanos();
     if seconds > 0 {
-        write_in_unit(f, seconds, nanos, Unit::Seconds)
+        write_in_unit(f, seconds, nanos, DurationUnit::Seconds)
     } else if nanos >= 1_000_000 {
         let whole = u64::from(nanos / 1_000_000);
-        write_in_unit(f, whole, nanos % 1_000_000, Unit::Milliseconds)
+        write_in_unit(f, whole, nanos % 1_000_000, DurationUnit::Milliseconds)
     } else if nanos >= 1_000 {
         let whole = u64::from(nanos / 1_000);
-        write_in_unit(f, whole, nanos % 1_000, Unit::Microseconds)
+        write_in_unit(f, whole, nanos % 1_000, DurationUnit::Microseconds)
     } else {
-        write_in_unit(f, u64::from(nanos), 0, Unit::Nanoseconds)
+        write_in_unit(f, u64::from(nanos), 0, DurationUnit::Nanoseconds)
     }
 }
 
@@ -120,10 +120,11 @@ fn write_in_unit<W: fmt::Write>(
     f: &mut fmt::Formatter<W>,
     whole: u64,
     remainder: u32,
-    unit: Unit,
+    unit: DurationUnit,
 ) -> fmt::Result
-    requires { remainder < 10 ^ text.places unit }
-    ensures { WritesOnOk W.write_str_gives f.old result (decimal whole ++ (text.fraction_text (text.places unit) remainder ++ text.symbol unit)) f.new }
+    requires { remainder < 10 ^ printed.places unit }
+    ensures { WritesOnOk W.write_str_gives f.old result
+        (decimal whole ++ (printed.fraction_text (printed.places unit) remainder ++ printed.symbol unit)) f.new }
 {
     write!(f, "{whole}")?;
     write_fraction(f, remainder, unit)?;
@@ -134,10 +135,10 @@ fn write_in_unit<W: fmt::Write>(
 fn write_fraction<W: fmt::Write>(
     f: &mut fmt::Formatter<W>,
     remainder: u32,
-    unit: Unit,
+    unit: DurationUnit,
 ) -> fmt::Result
-    requires { remainder < 10 ^ text.places unit }
-    ensures { WritesOnOk W.write_str_gives f.old result (text.fraction_text (text.places unit) remainder) f.new }
+    requires { remainder < 10 ^ printed.places unit }
+    ensures { WritesOnOk W.write_str_gives f.old result (printed.fraction_text (printed.places unit) remainder) f.new }
 {
     if remainder == 0 {
         return Ok(());

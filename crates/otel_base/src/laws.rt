@@ -1,12 +1,22 @@
-//! The laws of merging resources and of reading attributes strings, over the definitions alone. Each function does
-//! nothing; its contract is the law, for all values.
+//! The laws of resources, of merging them and of reading attributes strings, over the definitions alone. Each function
+//! does nothing; its contract is the law, for all values.
 
-ghost use Rattle.std.specs.Prelude.{◌≡◌, ℕ, List};
+ghost use Rattle.std.specs.Prelude.{◌≡◌, ◌≢◌, Some, ℕ, List, [], AllPairs};
 ghost use Rattle.std.specs.Option.{option_or};
-ghost use Rattle.std.specs.FinMap.{get};
+ghost use Rattle.std.specs.FinMap.{get, keys};
 ghost use Rattle.opentelemetry.specs.Plain.{PlainKeyValue};
 ghost use Rattle.otel_base.specs.AttributesString.{IsAttributesString};
-ghost use Rattle.otel_base.specs.Resource.{PlainResource, empty_resource, merge};
+ghost use Rattle.otel_base.specs.Resource.{PlainResource, empty_resource, non_empty, merge};
+
+/// No two attributes of a resource have one key.
+pub fn keys_are_distinct()
+    ensures { (r : PlainResource) → AllPairs (λ x y. x ≢ y) (keys r.attributes) }
+{}
+
+/// A schema that is known is not the empty text.
+pub fn a_known_schema_is_not_empty()
+    ensures { (r : PlainResource) → non_empty r.schema_url ≢ Some [] }
+{}
 
 /// The empty resource without schema, merged with a resource on either side, gives that resource.
 pub fn merge_has_an_identity()
@@ -26,10 +36,13 @@ pub fn merged_attributes_are_associative()
 
 /// A merged resource has at each key what the right one has there, and where that has nothing, what the left one has.
 pub fn the_right_one_wins()
-    ensures { (left right : PlainResource) (key : List ℕ) → get (merge left right).attributes key ≡ option_or (get right.attributes key) (get left.attributes key) }
+    ensures { (left right : PlainResource) (key : List ℕ)
+        → get (merge left right).attributes key ≡ option_or (get right.attributes key) (get left.attributes key) }
 {}
 
-/// An attributes string reads in one way only.
+/// An attributes string reads in one way, and in one way only.
 pub fn attributes_strings_read_once()
-    ensures { (given : List ℕ) (pairs others : List PlainKeyValue) → IsAttributesString given pairs → IsAttributesString given others → pairs ≡ others }
+    ensures some { (given : List ℕ) → (pairs : List PlainKeyValue) × IsAttributesString given pairs }
+    ensures once { (given : List ℕ) (pairs others : List PlainKeyValue)
+        → IsAttributesString given pairs → IsAttributesString given others → pairs ≡ others }
 {}

@@ -5,3 +5,5 @@ pub mod error;
 pub mod laws;
 pub mod resource;
 pub mod trace;
+
+pub use resource::Resource;

@@ -2,21 +2,23 @@
 //! (OpenTelemetry specification, "Resource SDK"). A resource never changes; a builder merges descriptions into one.
 //! Where two of them have a key, the one merged last has the word.
 
-ghost use Rattle.std.specs.Prelude.{◌≡◌, ◌≢◌, ◌↔◌, ℕ, List, [], ◌∷◌, map, IfOk, IfSome, OnOk, OnErr, IsTrue, string_bytes};
+ghost use Rattle.std.specs.Prelude.{◌≡◌, ◌≢◌, ◌↔◌, List, [], ◌∷◌, map, IfOk, IfSome, IsOk, IsTrue, string_bytes};
 ghost use Rattle.std.specs.Option.{option_map};
 ghost use Rattle.std.specs.FinMap as fin;
 ghost use Rattle.otel_base.specs.Resource as meaning;
-ghost use Rattle.otel_base.specs.Resource.{PlainResource, by_key, union};
+ghost use Rattle.otel_base.specs.Resource.{PlainResource, NeedsNoMemory, by_key};
 ghost use Rattle.otel_base.specs.DetectedResource.{IsDetected};
 ghost use Rattle.std.specs.List.{AllZip};
 ghost use Rattle.opentelemetry.specs.PlainValues.{plain_value};
 
+use attributes::{put, put_all, put_pairs, same_attributes};
 use opentelemetry::{Key, KeyValue, Value};
 use std::alloc::{AllocError, Global};
 use std::collections::{BTreeMap, btree_map};
 use std::marker::Model;
 use std::sync::Arc;
 
+mod attributes;
 mod detector;
 mod env;
 mod telemetry;
@@ -33,21 +35,22 @@ const SERVICE_NAME: &str = "service.name";
 #[derive(Debug, Drop)]
 struct ResourceParts {
     attributes: BTreeMap<Key, Value>,
-    schema_url: Option<String>,
+    // Empty: no schema is known.
+    schema_url: String,
 }
 
 impl Model for ResourceParts {
-    ghost use Rattle.otel_base.specs.Resource.{PlainResource, IsKnownSchema, resource_code, by_key};
+    ghost use Rattle.otel_base.specs.Resource.{PlainResource, resource_code, by_key};
     ghost use Rattle.std.specs.Prelude.{string_bytes};
-    ghost use Rattle.std.specs.Option.{option_map};
 
     ghost Value = { PlainResource };
 
     ghost coded = { resource_code };
 
-    ghost view = { λ parts. record { attributes = by_key parts.attributes; schema_url = option_map string_bytes parts.schema_url } };
-
-    ghost invariant = { λ parts. IsKnownSchema (option_map string_bytes parts.schema_url) };
+    ghost view = { λ parts. record {
+      attributes = by_key parts.attributes;
+      schema_url = string_bytes parts.schema_url;
+    } };
 }
 
 /// A description of who produces telemetry. Clones share one copy, so that a clone is a count.
@@ -80,16 +83,8 @@ impl Resource {
     pub fn builder(alloc: Global, strings: &ResourceStrings) -> Result<ResourceBuilder, AllocError>
         ensures { IfOk result (λ built. IsDetected strings.now built) }
     {
-        let sdk = SdkProvidedResourceDetector::new(alloc, strings)?.detect()?;
-        let telemetry = TelemetryResourceDetector::new(alloc).detect()?;
-        let env = EnvResourceDetector::new(strings)?.detect()?;
-        let parts = Resource::empty()
-            .into_parts(alloc)?
-            .with_attributes_of(&sdk)?;
-        let parts = parts
-            .with_attributes_of(&telemetry)?
-            .with_attributes_of(&env)?;
-        ResourceBuilder::of_parts(alloc, parts)
+        let attributes = env::detected_attributes(alloc, strings)?;
+        ResourceBuilder::of_parts(alloc, ResourceParts::of_attributes(alloc, attributes))
     }
 
     /// Begins with a resource that says nothing.
@@ -104,11 +99,15 @@ impl Resource {
 
     /// The schema that the attributes follow, if one is known.
     pub fn schema_url(&self) -> Option<&str>
-        ensures text { option_map (λ s. s.now) result ≡ self.now.schema_url }
+        ensures text { option_map (λ s. s.now) result ≡ meaning.non_empty self.now.schema_url }
         ensures known { IfSome result (λ s. s.now ≢ []) }
     {
         let parts: &ResourceParts = self.parts.as_ref()?;
-        parts.schema_url.as_deref()
+        if parts.schema_url.is_empty() {
+            None
+        } else {
+            Some(parts.schema_url.as_str())
+        }
     }
 
     /// How many attributes there are.
@@ -139,11 +138,14 @@ impl Resource {
         }
     }
 
-    /// A copy of the key's value.
+    /// A copy of the key's value. An absent one, a truth and a number need no memory.
     pub fn get(&self, key: &Key) -> Result<Option<Value>, AllocError>
-        ensures { IfOk result (λ found. option_map plain_value found ≡ fin.get self.now.attributes key.now) }
+        ensures value { IfOk result (λ found. option_map plain_value found ≡ fin.get self.now.attributes key.now) }
+        ensures free { NeedsNoMemory (fin.get self.now.attributes key.now) → IsOk result }
     {
         match self.get_ref(key) {
+            Some(Value::Bool(truth)) => Ok(Some(Value::Bool(*truth))),
+            Some(Value::I64(number)) => Ok(Some(Value::I64(*number))),
             Some(value) => Ok(Some(value.clone()?)),
             None => Ok(None),
         }
@@ -162,15 +164,18 @@ impl Resource {
 
 impl Clone for Resource {
     ghost use Rattle.std.specs.Prelude.{◌≡◌};
+    ghost use Rattle.otel_base.specs.Resource.{empty_resource};
 
     ghost is_clone = { λ resource copy. copy ≡ resource };
 
+    ghost is_infallible = { λ resource. resource ≡ empty_resource };
+
     fn clone(&self) -> Result<Resource, AllocError> {
         match &self.parts {
-            Some(shared) => Ok(Resource {
+            Some(shared) if !shared.says_nothing() => Ok(Resource {
                 parts: Some(shared.clone()?),
             }),
-            None => Ok(Resource::empty()),
+            _ => Ok(Resource::empty()),
         }
     }
 }
@@ -214,7 +219,7 @@ impl ResourceParts {
     fn says_nothing(&self) -> bool
         ensures { IsTrue result ↔ (self.now ≡ meaning.empty_resource) }
     {
-        self.schema_url.is_none() && self.len() == 0
+        self.schema_url.is_empty() && self.len() == 0
     }
 
     fn len(&self) -> usize
@@ -312,8 +317,12 @@ impl Model for ResourceBuilder {
 impl ResourceBuilder {
     /// Merges attributes over the builder's. Of a key that stands twice among them the last value counts.
     pub fn with_attributes(self, attributes: Vec<KeyValue>) -> Result<ResourceBuilder, AllocError>
-        ensures { IfOk result (λ built. built ≡ meaning.merge self (meaning.of_attributes (meaning.attributes_of attributes.items))) }
+        ensures ok { IfOk result (λ built. built ≡ meaning.with_pairs self attributes.items) }
+        ensures free { attributes.items ≡ [] → IsOk result }
     {
+        if attributes.is_empty() {
+            return Ok(self);
+        }
         let ResourceBuilder { resource, alloc } = self;
         let parts = resource.into_parts(alloc)?.with_pairs(attributes)?;
         ResourceBuilder::of_parts(alloc, parts)
@@ -321,16 +330,18 @@ impl ResourceBuilder {
 
     /// Merges one attribute over the builder's.
     pub fn with_attribute(self, attribute: KeyValue) -> Result<ResourceBuilder, AllocError>
-        ensures { IfOk result (λ built. built ≡ meaning.merge self (meaning.of_attributes (meaning.attributes_of (attribute ∷ [])))) }
+        ensures { IfOk result (λ built. built ≡ meaning.with_pairs self (attribute ∷ [])) }
     {
-        let mut attributes = Vec::new(self.alloc);
-        attributes.push(attribute)?;
-        self.with_attributes(attributes)
+        let ResourceBuilder { resource, alloc } = self;
+        let KeyValue { key, value } = attribute;
+        let mut parts = resource.into_parts(alloc)?;
+        put(&mut parts.attributes, key, value)?;
+        ResourceBuilder::of_parts(alloc, parts)
     }
 
     /// Merges the attribute `service.name` over the builder's.
     pub fn with_service_name(self, name: Value) -> Result<ResourceBuilder, AllocError>
-        ensures { IfOk result (λ built. built ≡ meaning.merge self (meaning.of_attributes (meaning.attributes_of (record { key = meaning.service_name_key; value = plain_value name } ∷ [])))) }
+        ensures { IfOk result (λ built. built ≡ meaning.merge self (meaning.named (plain_value name))) }
     {
         let key = Key::new(String::from_str(self.alloc, SERVICE_NAME)?);
         self.with_attribute(KeyValue::new(key, name))
@@ -342,24 +353,42 @@ impl ResourceBuilder {
         attributes: Vec<KeyValue>,
         schema_url: String,
     ) -> Result<ResourceBuilder, AllocError>
-        ensures { IfOk result (λ built. built ≡ meaning.merge (record { attributes = meaning.attributes_of attributes.items; schema_url = meaning.schema_of (string_bytes schema_url) }) self) }
+        ensures ok { IfOk result (λ built.
+            built ≡ meaning.merge (meaning.of_pairs attributes.items (string_bytes schema_url)) self) }
+        ensures free { attributes.items ≡ [] → string_bytes schema_url ≡ [] → IsOk result }
     {
+        if attributes.is_empty() && schema_url.is_empty() {
+            return Ok(self);
+        }
         let ResourceBuilder { resource, alloc } = self;
-        let given = ResourceParts::of_schema(alloc, schema_url).with_pairs(attributes)?;
-        let parts = given.merge(alloc, &resource)?;
+        let given = ResourceParts {
+            attributes: put_pairs(BTreeMap::new(alloc), attributes)?,
+            schema_url,
+        };
+        let parts = given.merge(alloc, resource.into_parts(alloc)?)?;
         ResourceBuilder::of_parts(alloc, parts)
     }
 
-    /// Merges the attributes of the detected resource over the builder's. Its schema is lost.
+    /// Merges the attributes of the detected resource over the builder's. Its schema is lost. Where the
+    /// detector needs no memory and sees no attribute, none is needed here.
     pub fn with_detector(
         self,
         detector: Box<dyn ResourceDetector>,
     ) -> Result<ResourceBuilder, AllocError>
-        ensures { IfOk result (λ built. (seen : PlainResource) × ⟦<Box<dyn ResourceDetector> as ResourceDetector>⟧.detects detector seen × (built ≡ meaning.merge self (meaning.of_attributes seen.attributes))) }
+        ensures ok { IfOk result (λ built. (seen : PlainResource)
+            × ⟦<Box<dyn ResourceDetector> as ResourceDetector>⟧.detects detector seen
+            × (built ≡ meaning.merge self (meaning.of_attributes seen.attributes))) }
+        ensures free { ⟦<Box<dyn ResourceDetector> as ResourceDetector>⟧.is_infallible detector
+            → ((seen : PlainResource) → ⟦<Box<dyn ResourceDetector> as ResourceDetector>⟧.detects detector seen
+            → seen.attributes ≡ fin.empty)
+            → IsOk result }
     {
-        let ResourceBuilder { resource, alloc } = self;
         let seen = detector.detect()?;
-        let parts = resource.into_parts(alloc)?.with_attributes_of(&seen)?;
+        if seen.is_empty() {
+            return Ok(self);
+        }
+        let ResourceBuilder { resource, alloc } = self;
+        let parts = resource.into_parts(alloc)?.with_attributes_of(alloc, seen)?;
         ResourceBuilder::of_parts(alloc, parts)
     }
 
@@ -369,10 +398,16 @@ impl ResourceBuilder {
         self,
         detectors: &[Box<dyn ResourceDetector>],
     ) -> Result<ResourceBuilder, AllocError>
-        ensures { IfOk result (λ built. (seen : List PlainResource) × AllZip ⟦<Box<dyn ResourceDetector> as ResourceDetector>⟧.detects detectors.now seen × (built ≡ meaning.merge self (meaning.of_attributes (meaning.all_attributes seen)))) }
+        ensures ok { IfOk result (λ built. (seen : List PlainResource)
+            × AllZip ⟦<Box<dyn ResourceDetector> as ResourceDetector>⟧.detects detectors.now seen
+            × (built ≡ meaning.merge self (meaning.of_attributes (meaning.all_attributes seen)))) }
+        ensures free { detectors.now ≡ [] → IsOk result }
     {
+        if detectors.is_empty() {
+            return Ok(self);
+        }
         let ResourceBuilder { resource, alloc } = self;
-        let parts = with_detected(resource.into_parts(alloc)?, detectors)?;
+        let parts = with_detected(alloc, resource.into_parts(alloc)?, detectors)?;
         ResourceBuilder::of_parts(alloc, parts)
     }
 
@@ -386,24 +421,43 @@ impl ResourceBuilder {
     fn of_parts(alloc: Global, parts: ResourceParts) -> Result<ResourceBuilder, AllocError>
         ensures { IfOk result (λ built. built ≡ parts) }
     {
-        let resource = Resource {
-            parts: Some(Arc::new(alloc, parts)?),
-        };
+        let resource = Resource::of_parts(alloc, parts)?;
         Ok(ResourceBuilder { resource, alloc })
     }
 }
 
 impl Resource {
-    // What it says, as a value of its own.
+    // One that says nothing needs no memory.
+    fn of_parts(alloc: Global, parts: ResourceParts) -> Result<Resource, AllocError>
+        ensures ok { IfOk result (λ resource. resource ≡ parts) }
+        ensures free { parts ≡ meaning.empty_resource → IsOk result }
+    {
+        if parts.says_nothing() {
+            return Ok(Resource::empty());
+        }
+        Ok(Resource {
+            parts: Some(Arc::new(alloc, parts)?),
+        })
+    }
+
+    // A resource with these attributes and no schema.
+    fn of_attributes(
+        alloc: Global,
+        attributes: BTreeMap<Key, Value>,
+    ) -> Result<Resource, AllocError>
+        ensures ok { IfOk result (λ resource. resource ≡ meaning.of_attributes (by_key attributes)) }
+        ensures free { by_key attributes ≡ fin.empty → IsOk result }
+    {
+        Resource::of_parts(alloc, ResourceParts::of_attributes(alloc, attributes))
+    }
+
+    // What it says, as a value of its own: moved where nobody shares it, and else copied.
     fn into_parts(self, alloc: Global) -> Result<ResourceParts, AllocError>
         ensures { IfOk result (λ parts. parts ≡ self) }
     {
         match self.parts {
             Some(shared) => Arc::unwrap_or_clone(shared),
-            None => Ok(ResourceParts {
-                attributes: BTreeMap::new(alloc),
-                schema_url: None,
-            }),
+            None => Ok(ResourceParts::of_attributes(alloc, BTreeMap::new(alloc))),
         }
     }
 }
@@ -416,150 +470,77 @@ impl Clone for ResourceParts {
     fn clone(&self) -> Result<ResourceParts, AllocError> {
         Ok(ResourceParts {
             attributes: self.attributes.clone()?,
-            schema_url: copy_of(&self.schema_url)?,
+            schema_url: self.schema_url.clone()?,
         })
     }
 }
 
 impl ResourceParts {
-    fn of_schema(alloc: Global, schema_url: String) -> ResourceParts
-        ensures { result ≡ record { attributes = fin.empty; schema_url = meaning.schema_of (string_bytes schema_url) } }
+    fn of_attributes(alloc: Global, attributes: BTreeMap<Key, Value>) -> ResourceParts
+        ensures { result ≡ meaning.of_attributes (by_key attributes) }
     {
         ResourceParts {
-            attributes: BTreeMap::new(alloc),
-            schema_url: known_schema(schema_url),
+            attributes,
+            schema_url: String::new(alloc),
         }
     }
 
     // Merges the pairs over these.
     fn with_pairs(self, pairs: Vec<KeyValue>) -> Result<ResourceParts, AllocError>
-        ensures { IfOk result (λ parts. parts ≡ meaning.merge self (meaning.of_attributes (meaning.attributes_of pairs.items))) }
+        ensures { IfOk result (λ parts. parts ≡ meaning.with_pairs self pairs.items) }
     {
-        let ResourceParts {
-            attributes,
-            schema_url,
-        } = self;
-        let attributes = put_all(attributes, pairs)?;
         Ok(ResourceParts {
-            attributes,
-            schema_url,
+            attributes: put_pairs(self.attributes, pairs)?,
+            schema_url: self.schema_url,
         })
     }
 
     // Merges the attributes of a resource over these; its schema is lost.
-    fn with_attributes_of(self, resource: &Resource) -> Result<ResourceParts, AllocError>
-        ensures { IfOk result (λ parts. parts ≡ meaning.merge self (meaning.of_attributes resource.now.attributes)) }
+    fn with_attributes_of(self, alloc: Global, seen: Resource) -> Result<ResourceParts, AllocError>
+        ensures { IfOk result (λ parts. parts ≡ meaning.merge self (meaning.of_attributes seen.attributes)) }
     {
-        let ResourceParts {
-            attributes,
-            schema_url,
-        } = self;
-        let attributes = put_copies(attributes, resource)?;
+        let seen = seen.into_parts(alloc)?;
         Ok(ResourceParts {
-            attributes,
-            schema_url,
+            attributes: put_all(self.attributes, seen.attributes)?,
+            schema_url: self.schema_url,
         })
     }
 
-    // Merges the resource over these.
-    fn merge(self, alloc: Global, right: &Resource) -> Result<ResourceParts, AllocError>
-        ensures { IfOk result (λ parts. parts ≡ meaning.merge self right.now) }
+    // Merges the right parts over these.
+    fn merge(self, alloc: Global, right: ResourceParts) -> Result<ResourceParts, AllocError>
+        ensures { IfOk result (λ parts. parts ≡ meaning.merge self right) }
     {
-        let ResourceParts {
-            attributes,
-            schema_url,
-        } = self;
-        let attributes = put_copies(attributes, right)?;
-        let schema_url = merged_schema(alloc, schema_url, right.schema_url())?;
         Ok(ResourceParts {
-            attributes,
-            schema_url,
+            attributes: put_all(self.attributes, right.attributes)?,
+            schema_url: merged_schema(alloc, self.schema_url, right.schema_url),
         })
     }
 }
 
 fn with_detected<D: ResourceDetector>(
+    alloc: Global,
     mut parts: ResourceParts,
     detectors: &[D],
 ) -> Result<ResourceParts, AllocError>
-    ensures { IfOk result (λ all. (seen : List PlainResource) × AllZip D.detects detectors.now seen × (all ≡ meaning.merge parts (meaning.of_attributes (meaning.all_attributes seen)))) }
+    ensures { IfOk result (λ all. (seen : List PlainResource) × AllZip D.detects detectors.now seen
+        × (all ≡ meaning.merge parts (meaning.of_attributes (meaning.all_attributes seen)))) }
 {
     for detector in detectors {
         let seen = detector.detect()?;
-        parts = parts.with_attributes_of(&seen)?;
+        parts = parts.with_attributes_of(alloc, seen)?;
     }
     Ok(parts)
 }
 
-fn same_attributes(these: &BTreeMap<Key, Value>, those: &BTreeMap<Key, Value>) -> bool
-    ensures { IsTrue result ↔ (by_key these.now ≡ by_key those.now) }
+// One empty schema gives the other, equal ones stay, and different ones give the empty one.
+fn merged_schema(alloc: Global, left: String, right: String) -> String
+    ensures { string_bytes result ≡ meaning.merged_schema (string_bytes left) (string_bytes right) }
 {
-    these.len() == those.len() && these == those
-}
-
-fn copy_of(text: &Option<String>) -> Result<Option<String>, AllocError>
-    ensures { IfOk result (λ copy. option_map string_bytes copy ≡ option_map string_bytes text.now) }
-{
-    match text {
-        Some(text) => Ok(Some(text.clone()?)),
-        None => Ok(None),
+    if left.is_empty() {
+        right
+    } else if right.is_empty() || left == right {
+        left
+    } else {
+        String::new(alloc)
     }
-}
-
-fn known_schema(text: String) -> Option<String>
-    ensures { option_map string_bytes result ≡ meaning.schema_of (string_bytes text) }
-{
-    if text.is_empty() { None } else { Some(text) }
-}
-
-// One absent schema gives the other, equal ones stay, and different ones give none.
-fn merged_schema(
-    alloc: Global,
-    left: Option<String>,
-    right: Option<&str>,
-) -> Result<Option<String>, AllocError>
-    ensures { IfOk result (λ merged. option_map string_bytes merged ≡ meaning.merged_schema (option_map string_bytes left) (option_map (λ s. s.now) right.entry)) }
-{
-    let Some(right) = right else {
-        return Ok(left);
-    };
-    match left {
-        None => Ok(Some(String::from_str(alloc, right)?)),
-        Some(left) if left.as_str() == right => Ok(Some(left)),
-        Some(_) => Ok(None),
-    }
-}
-
-fn put_all(
-    mut attributes: BTreeMap<Key, Value>,
-    pairs: Vec<KeyValue>,
-) -> Result<BTreeMap<Key, Value>, AllocError>
-    ensures { IfOk result (λ all. by_key all ≡ union (by_key attributes) (meaning.attributes_of pairs.items)) }
-{
-    for pair in pairs {
-        let KeyValue { key, value } = pair;
-        put(&mut attributes, key, value)?;
-    }
-    Ok(attributes)
-}
-
-fn put_copies(
-    mut attributes: BTreeMap<Key, Value>,
-    resource: &Resource,
-) -> Result<BTreeMap<Key, Value>, AllocError>
-    ensures { IfOk result (λ all. by_key all ≡ union (by_key attributes) resource.now.attributes) }
-{
-    for (key, value) in resource {
-        put(&mut attributes, key.clone()?, value.clone()?)?;
-    }
-    Ok(attributes)
-}
-
-// One attribute more, or another value for its key.
-fn put(attributes: &mut BTreeMap<Key, Value>, key: Key, value: Value) -> Result<(), AllocError>
-    ensures ok { OnOk result (by_key attributes.new ≡ fin.insert (by_key attributes.old) key (plain_value value)) }
-    ensures err { OnErr result (by_key attributes.new ≡ by_key attributes.old) }
-{
-    attributes.insert(key, value)?;
-    Ok(())
 }

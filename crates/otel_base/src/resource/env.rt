@@ -2,20 +2,30 @@
 //! (OpenTelemetry specification, "Specifying resource information via an environment variable" and
 //! "SDK-provided resource attributes").
 
-ghost use Rattle.std.specs.Prelude.{◌≡◌, ◌++◌, None, ℕ, List, IfOk, OnOk, OnErr, string_bytes};
+ghost use Rattle.std.specs.Prelude.{◌≡◌, None, [], ◌∷◌, List, IfOk, OnOk, OnErr, IsOk, option_and_then, string_bytes};
 ghost use Rattle.std.specs.Option.{option_map};
+ghost use Rattle.std.specs.FinMap as fin;
 ghost use Rattle.opentelemetry.specs.Plain.{PlainKeyValue};
 ghost use Rattle.opentelemetry.specs.PlainValues.{plain_value};
 ghost use Rattle.otel_base.specs.AttributesString.{IsMember, IsAttributesString};
 ghost use Rattle.otel_base.specs.DetectedResource as detected;
+ghost use Rattle.otel_base.specs.DetectedResource.{ReadsAs, GivesNoAttribute};
+ghost use Rattle.otel_base.specs.Resource.{PlainResource, non_empty, service_name_key};
+ghost use Rattle.otel_base.specs.Resource.{by_key, union, attributes_of, of_attributes};
 
-use super::{Resource, ResourceDetector, SERVICE_NAME, copy_of};
-use opentelemetry::{Key, KeyValue, Value};
+use super::attributes::{put, put_text};
+use super::telemetry::put_telemetry;
+use super::{Resource, ResourceDetector, SERVICE_NAME};
+use opentelemetry::{Key, Value};
 use std::alloc::{AllocError, Global};
+use std::collections::BTreeMap;
 use std::marker::Model;
 
+// Stands in front of the name of a program, where nobody named its service.
+const UNKNOWN_SERVICE_OF: &str = "unknown_service:";
+
 /// The strings from which a resource is found out. An absent string is one that nobody set.
-#[derive(Debug, Default, Drop)]
+#[derive(Clone, Debug, Default, Drop)]
 pub struct ResourceStrings {
     /// Attributes as `key=value,key=value`, usually of `OTEL_RESOURCE_ATTRIBUTES`.
     pub attributes: Option<String>,
@@ -32,21 +42,11 @@ impl Model for ResourceStrings {
 
     ghost Value = { PlainResourceStrings };
 
-    ghost view = { λ s. record { attributes = option_map string_bytes s.attributes; service_name = option_map string_bytes s.service_name; program_name = option_map string_bytes s.program_name } };
-}
-
-impl Clone for ResourceStrings {
-    ghost use Rattle.std.specs.Prelude.{◌≡◌};
-
-    ghost is_clone = { λ strings copy. copy ≡ strings };
-
-    fn clone(&self) -> Result<ResourceStrings, AllocError> {
-        Ok(ResourceStrings {
-            attributes: copy_of(&self.attributes)?,
-            service_name: copy_of(&self.service_name)?,
-            program_name: copy_of(&self.program_name)?,
-        })
-    }
+    ghost view = { λ s. record {
+      attributes = option_map string_bytes s.attributes;
+      service_name = option_map string_bytes s.service_name;
+      program_name = option_map string_bytes s.program_name;
+    } };
 }
 
 /// Reads the attributes string.
@@ -66,26 +66,28 @@ impl Model for EnvResourceDetector {
 
 impl EnvResourceDetector {
     pub fn new(strings: &ResourceStrings) -> Result<EnvResourceDetector, AllocError>
-        ensures { IfOk result (λ detector. detector ≡ strings.now.attributes) }
+        ensures ok { IfOk result (λ detector. detector ≡ strings.now.attributes) }
+        ensures free { strings.now.attributes ≡ None → IsOk result }
     {
         Ok(EnvResourceDetector {
-            attributes: copy_of(&strings.attributes)?,
+            attributes: strings.attributes.clone()?,
         })
     }
 }
 
 impl ResourceDetector for EnvResourceDetector {
-    ghost use Rattle.otel_base.specs.DetectedResource.{IsEnvResource};
+    ghost use Rattle.otel_base.specs.DetectedResource.{IsEnvResource, GivesNoAttribute};
 
     ghost detects = { IsEnvResource };
+
+    ghost is_infallible = { GivesNoAttribute };
 
     fn detect(&self) -> Result<Resource, AllocError> {
         match &self.attributes {
             Some(text) => {
                 let alloc = *text.allocator();
-                let pairs = read_attributes(alloc, text.as_str())?;
-                let read = Resource::builder_empty(alloc).with_attributes(pairs)?;
-                Ok(read.build())
+                let attributes = put_members(BTreeMap::new(alloc), alloc, text.as_str())?;
+                Resource::of_attributes(alloc, attributes)
             }
             None => Ok(Resource::empty()),
         }
@@ -113,7 +115,8 @@ impl SdkProvidedResourceDetector {
         alloc: Global,
         strings: &ResourceStrings,
     ) -> Result<SdkProvidedResourceDetector, AllocError>
-        ensures { IfOk result (λ detector. detector ≡ strings.now) }
+        ensures ok { IfOk result (λ detector. detector ≡ strings.now) }
+        ensures free { strings.now ≡ detected.no_strings → IsOk result }
     {
         Ok(SdkProvidedResourceDetector {
             strings: strings.clone()?,
@@ -128,47 +131,81 @@ impl ResourceDetector for SdkProvidedResourceDetector {
     ghost detects = { IsSdkResource };
 
     fn detect(&self) -> Result<Resource, AllocError> {
-        let env = EnvResourceDetector::new(&self.strings)?.detect()?;
-        let key = Key::new(String::from_str(self.alloc, SERVICE_NAME)?);
-        let found = env.get(&key)?;
-        let name = service_name(self.alloc, &self.strings, found)?;
+        let name = service_name(self.alloc, &self.strings)?;
         let named = Resource::builder_empty(self.alloc).with_service_name(name)?;
         Ok(named.build())
     }
 }
 
-fn service_name(
+// The name of the service, this SDK and the pairs of the attributes string, later ones winning: a name that the string
+// gives comes over the one that is put first, and so the string is read once.
+pub(super) fn detected_attributes(
     alloc: Global,
     strings: &ResourceStrings,
-    found: Option<Value>,
-) -> Result<Value, AllocError>
-    ensures { IfOk result (λ name. plain_value name ≡ detected.service_name strings.now.service_name (option_map plain_value found) strings.now.program_name) }
+) -> Result<BTreeMap<Key, Value>, AllocError>
+    ensures { IfOk result (λ all. detected.IsDetected strings.now (of_attributes (by_key all))) }
 {
-    match &strings.service_name {
-        Some(name) if !name.is_empty() => Ok(Value::String(name.clone()?)),
-        _ => named_or_unknown(alloc, found, &strings.program_name),
+    let mut attributes = BTreeMap::new(alloc);
+    let key = Key::new(String::from_str(alloc, SERVICE_NAME)?);
+    let name = name_besides_attributes(alloc, strings)?;
+    put(&mut attributes, key, name)?;
+    put_telemetry(&mut attributes, alloc)?;
+    put_string(attributes, alloc, &strings.attributes)
+}
+
+// The attributes string is read only where the service's own string does not name it.
+fn service_name(alloc: Global, strings: &ResourceStrings) -> Result<Value, AllocError>
+    ensures { IfOk result (λ name. (env : PlainResource) × detected.IsEnvResource strings.now.attributes env
+        × (plain_value name ≡ detected.name_over strings.now env)) }
+{
+    match own_name(strings) {
+        Some(name) => Ok(Value::String(String::from_str(alloc, name)?)),
+        None => match name_in(alloc, &strings.attributes)? {
+            Some(name) => Ok(name),
+            None => unknown_service(alloc, &strings.program_name),
+        },
     }
 }
 
-fn named_or_unknown(
-    alloc: Global,
-    found: Option<Value>,
-    program_name: &Option<String>,
-) -> Result<Value, AllocError>
-    ensures { IfOk result (λ name. plain_value name ≡ detected.named_or_unknown (option_map plain_value found) (option_map string_bytes program_name.now)) }
+// The name of the service where the attributes have none.
+fn name_besides_attributes(alloc: Global, strings: &ResourceStrings) -> Result<Value, AllocError>
+    ensures { IfOk result (λ name.
+        plain_value name ≡ detected.name_of_service strings.now.service_name None strings.now.program_name) }
 {
-    match found {
-        Some(name) => Ok(name),
-        None => unknown_service(alloc, program_name),
+    match own_name(strings) {
+        Some(name) => Ok(Value::String(String::from_str(alloc, name)?)),
+        None => unknown_service(alloc, &strings.program_name),
     }
+}
+
+// The service's own string, if it is set and not empty.
+fn own_name(strings: &ResourceStrings) -> Option<&str>
+    ensures { option_map (λ s. s.now) result ≡ option_and_then non_empty strings.now.service_name }
+{
+    match &strings.service_name {
+        Some(name) if !name.is_empty() => Some(name.as_str()),
+        _ => None,
+    }
+}
+
+// The name of the service that the attributes string has.
+fn name_in(alloc: Global, given: &Option<String>) -> Result<Option<Value>, AllocError>
+    ensures { IfOk result (λ found. (pairs : List PlainKeyValue) × ReadsAs (option_map string_bytes given.now) pairs
+        × (option_map plain_value found ≡ fin.get (attributes_of pairs) service_name_key)) }
+{
+    let mut attributes = put_string(BTreeMap::new(alloc), alloc, given)?;
+    let key = Key::new(String::from_str(alloc, SERVICE_NAME)?);
+    Ok(attributes.remove(&key))
 }
 
 fn unknown_service(alloc: Global, program_name: &Option<String>) -> Result<Value, AllocError>
-    ensures { IfOk result (λ name. plain_value name ≡ detected.unknown_service (option_map string_bytes program_name.now)) }
+    ensures { IfOk result (λ name.
+        plain_value name ≡ detected.unknown_service (option_map string_bytes program_name.now)) }
 {
     match program_name {
         Some(program) => {
-            let mut name = String::from_str(alloc, "unknown_service:")?;
+            let mut name = String::with_capacity(alloc, UNKNOWN_SERVICE_OF.len() + program.len())?;
+            name.push_str(UNKNOWN_SERVICE_OF)?;
             name.push_str(program.as_str())?;
             Ok(Value::String(name))
         }
@@ -176,29 +213,51 @@ fn unknown_service(alloc: Global, program_name: &Option<String>) -> Result<Value
     }
 }
 
-// The pairs of an attributes string, member by member.
-fn read_attributes(alloc: Global, text: &str) -> Result<Vec<KeyValue>, AllocError>
-    ensures { IfOk result (λ pairs. IsAttributesString text.now pairs.items) }
+// The pairs of an attributes string, if there is one, over the attributes.
+fn put_string(
+    attributes: BTreeMap<Key, Value>,
+    alloc: Global,
+    given: &Option<String>,
+) -> Result<BTreeMap<Key, Value>, AllocError>
+    ensures { IfOk result (λ all. (pairs : List PlainKeyValue) × ReadsAs (option_map string_bytes given.now) pairs
+        × (by_key all ≡ union (by_key attributes) (attributes_of pairs))) }
 {
-    let mut pairs = Vec::new(alloc);
-    let mut rest = text;
-    'members: while let Some((member, more)) = rest.split_once(',') {
-        push_member(alloc, member, &mut pairs)?;
-        rest = more;
+    match given {
+        Some(text) => put_members(attributes, alloc, text.as_str()),
+        None => Ok(attributes),
     }
-    push_member(alloc, rest, &mut pairs)?;
-    Ok(pairs)
 }
 
-fn push_member(alloc: Global, member: &str, pairs: &mut Vec<KeyValue>) -> Result<(), AllocError>
-    ensures ok { OnOk result ((found : List PlainKeyValue) × IsMember member.now found × (pairs.new.items ≡ pairs.old.items ++ found)) }
-    ensures err { OnErr result (pairs.new.items ≡ pairs.old.items) }
+// The pairs of an attributes string over the attributes, member by member.
+fn put_members(
+    mut attributes: BTreeMap<Key, Value>,
+    alloc: Global,
+    text: &str,
+) -> Result<BTreeMap<Key, Value>, AllocError>
+    ensures ok { IfOk result (λ all. (pairs : List PlainKeyValue) × IsAttributesString text.now pairs
+        × (by_key all ≡ union (by_key attributes) (attributes_of pairs))) }
+    ensures free { IsAttributesString text.now [] → IsOk result }
 {
-    let Some((key, value)) = member.split_once('=') else {
-        return Ok(());
-    };
-    let key = Key::new(String::from_str(alloc, key.trim())?);
-    let value = Value::String(String::from_str(alloc, value.trim())?);
-    pairs.push(KeyValue::new(key, value))?;
-    Ok(())
+    let mut rest = text;
+    'members: while let Some((member, more)) = rest.split_once(',') {
+        put_member(&mut attributes, alloc, member)?;
+        rest = more;
+    }
+    put_member(&mut attributes, alloc, rest)?;
+    Ok(attributes)
+}
+
+fn put_member(
+    attributes: &mut BTreeMap<Key, Value>,
+    alloc: Global,
+    member: &str,
+) -> Result<(), AllocError>
+    ensures ok { OnOk result ((found : List PlainKeyValue) × IsMember member.now found
+        × (by_key attributes.new ≡ union (by_key attributes.old) (attributes_of found))) }
+    ensures err { OnErr result ((pair : PlainKeyValue) × IsMember member.now (pair ∷ [])) }
+{
+    match member.split_once('=') {
+        Some((key, value)) => put_text(attributes, alloc, key.trim(), value.trim()),
+        None => Ok(()),
+    }
 }

@@ -1,12 +1,14 @@
 //! The detector of this SDK itself (OpenTelemetry semantic conventions, "Telemetry SDK").
 
-ghost use Rattle.std.specs.Prelude.{◌≡◌, IfOk};
-ghost use Rattle.opentelemetry.specs.Plain.{text};
-ghost use Rattle.otel_base.specs.DetectedResource.{pair_of, telemetry_pairs};
+ghost use Rattle.std.specs.Prelude.{◌≡◌, OnOk};
+ghost use Rattle.otel_base.specs.Resource.{by_key, union, attributes_of};
+ghost use Rattle.otel_base.specs.DetectedResource.{telemetry_pairs};
 
+use super::attributes::put_text;
 use super::{Resource, ResourceDetector};
-use opentelemetry::{Key, KeyValue, Value};
+use opentelemetry::{Key, Value};
 use std::alloc::{AllocError, Global};
+use std::collections::BTreeMap;
 
 /// Says which SDK makes the telemetry: its name, its language and its version.
 #[derive(Debug, Drop)]
@@ -27,26 +29,21 @@ impl ResourceDetector for TelemetryResourceDetector {
     ghost detects = { λ _ resource. resource ≡ telemetry_resource };
 
     fn detect(&self) -> Result<Resource, AllocError> {
-        let pairs = sdk_pairs(self.alloc)?;
-        let told = Resource::builder_empty(self.alloc).with_attributes(pairs)?;
-        Ok(told.build())
+        let mut attributes = BTreeMap::new(self.alloc);
+        put_telemetry(&mut attributes, self.alloc)?;
+        Resource::of_attributes(self.alloc, attributes)
     }
 }
 
-fn sdk_pairs(alloc: Global) -> Result<Vec<KeyValue>, AllocError>
-    ensures { IfOk result (λ pairs. pairs.items ≡ telemetry_pairs) }
+// Puts this SDK's name, language and version over the attributes.
+pub(super) fn put_telemetry(
+    attributes: &mut BTreeMap<Key, Value>,
+    alloc: Global,
+) -> Result<(), AllocError>
+    ensures { OnOk result (by_key attributes.new ≡ union (by_key attributes.old) (attributes_of telemetry_pairs)) }
 {
-    let mut pairs = Vec::new(alloc);
-    pairs.push(text_pair(alloc, "telemetry.sdk.name", "opentelemetry")?)?;
-    pairs.push(text_pair(alloc, "telemetry.sdk.language", "rust")?)?;
-    pairs.push(text_pair(alloc, "telemetry.sdk.version", "0.33.0")?)?;
-    Ok(pairs)
-}
-
-pub(super) fn text_pair(alloc: Global, key: &str, value: &str) -> Result<KeyValue, AllocError>
-    ensures { IfOk result (λ pair. pair ≡ pair_of key.now (text value.now)) }
-{
-    let key = Key::new(String::from_str(alloc, key)?);
-    let value = Value::String(String::from_str(alloc, value)?);
-    Ok(KeyValue::new(key, value))
+    put_text(attributes, alloc, "telemetry.sdk.name", "opentelemetry")?;
+    put_text(attributes, alloc, "telemetry.sdk.language", "rust")?;
+    put_text(attributes, alloc, "telemetry.sdk.version", "0.33.0")?;
+    Ok(())
 }

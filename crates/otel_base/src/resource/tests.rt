@@ -1,12 +1,18 @@
 //! Tables of resources. Expected texts show each pair as `key=value;`, in the order of the keys, and then the schema.
 
-use super::telemetry::text_pair;
 use super::*;
+use opentelemetry::Array;
 use std::test::Fail;
 
 const SCHEMA_A: &str = "http://schema/a";
 
 const SCHEMA_B: &str = "http://schema/b";
+
+fn text_pair(alloc: Global, key: &str, value: &str) -> Result<KeyValue, AllocError> {
+    let key = Key::new(String::from_str(alloc, key)?);
+    let value = Value::String(String::from_str(alloc, value)?);
+    Ok(KeyValue::new(key, value))
+}
 
 fn text_pairs(alloc: Global, given: &[(&str, &str)]) -> Result<Vec<KeyValue>, AllocError> {
     let mut pairs = Vec::new(alloc);
@@ -115,6 +121,7 @@ fn builder_over_given(alloc: Global, schema: &str) -> Result<String, AllocError>
 }
 
 fn merged_over(alloc: Global, left: Resource, right: &Resource) -> Result<Resource, AllocError> {
+    let right = right.clone()?.into_parts(alloc)?;
     let parts = left.into_parts(alloc)?.merge(alloc, right)?;
     Ok(ResourceBuilder::of_parts(alloc, parts)?.build())
 }
@@ -195,6 +202,60 @@ fn equals_one(alloc: Global, given: &[(&str, &str)], schema: &str) -> Result<boo
     Ok(of_schema(alloc, SCHEMA_A)? == other)
 }
 
+// The key of an attribute out of many.
+fn numbered(alloc: Global, number: u8) -> Result<Key, AllocError> {
+    let mut key = String::from_str(alloc, "key")?;
+    key.push(char::from(b'0' + number / 10 % 10))?;
+    key.push(char::from(b'0' + number % 10))?;
+    Ok(Key::new(key))
+}
+
+fn many_pairs(alloc: Global, count: u8) -> Result<Vec<KeyValue>, AllocError> {
+    let mut pairs = Vec::new(alloc);
+    for number in 0..count {
+        let value = Value::I64(i64::from(number));
+        pairs.push(KeyValue::new(numbered(alloc, number)?, value))?;
+    }
+    Ok(pairs)
+}
+
+fn one_by_one(alloc: Global, count: u8) -> Result<Resource, AllocError> {
+    let mut builder = Resource::builder_empty(alloc);
+    for pair in many_pairs(alloc, count)? {
+        builder = builder.with_attribute(pair)?;
+    }
+    Ok(builder.build())
+}
+
+// As many members of an attributes string.
+fn many_members(alloc: Global, count: u8) -> Result<String, AllocError> {
+    let mut text = String::new(alloc);
+    for number in 0..count {
+        text.push_str(numbered(alloc, number)?.as_str())?;
+        text.push_str("=value,")?;
+    }
+    Ok(text)
+}
+
+fn of_kinds(alloc: Global) -> Result<Resource, AllocError> {
+    let mut pairs = Vec::new(alloc);
+    let truth = Key::new(String::from_str(alloc, "truth")?);
+    pairs.push(KeyValue::new(truth, Value::Bool(true)))?;
+    let list = Key::new(String::from_str(alloc, "list")?);
+    let numbers = [1, 2].to_vec(alloc)?;
+    pairs.push(KeyValue::new(list, Value::Array(Array::I64(numbers))))?;
+    pairs.push(text_pair(alloc, "", "")?)?;
+    Ok(
+        Resource::builder_empty(alloc)
+            .with_attributes(pairs)?
+            .build(),
+    )
+}
+
+fn value_of(alloc: Global, resource: &Resource, key: &str) -> Result<Option<Value>, AllocError> {
+    resource.get(&Key::new(String::from_str(alloc, key)?))
+}
+
 #[test]
 fn attributes_strings_are_read_member_by_member(rt: HostRuntime) -> Result<(), Fail> {
     let alloc = rt.alloc();
@@ -217,6 +278,27 @@ fn attributes_strings_are_read_member_by_member(rt: HostRuntime) -> Result<(), F
 fn no_string_gives_no_attributes(rt: HostRuntime) -> Result<(), Fail> {
     let read = EnvResourceDetector::default().detect()?;
     assert!(rt; read.is_empty());
+    Ok(())
+}
+
+// Each `unwrap` is proved: there is no answer but Ok.
+#[test]
+fn what_grows_nothing_is_never_refused(rt: HostRuntime) -> Result<(), Fail> {
+    let alloc = rt.alloc();
+    let unset = ResourceStrings::default();
+    let env = EnvResourceDetector::new(&unset).unwrap();
+    assert!(rt; env.detect().unwrap().is_empty());
+    let _sdk = SdkProvidedResourceDetector::new(alloc, &unset).unwrap();
+    let nothing = Resource::builder_empty(alloc).build();
+    assert!(rt; nothing.clone().unwrap() == nothing);
+    let built = Resource::builder(alloc, &unset)?
+        .with_attributes(Vec::new(alloc))
+        .unwrap()
+        .with_schema_url(Vec::new(alloc), String::new(alloc))
+        .unwrap()
+        .with_detectors(&[])
+        .unwrap();
+    assert_eq!(rt; built.build().len(), 4);
     Ok(())
 }
 
@@ -371,6 +453,38 @@ fn a_resource_gives_back_its_values(rt: HostRuntime) -> Result<(), Fail> {
     for row in &[("k", "a"), ("m", "c"), ("l", "nothing")] {
         assert_eq!(rt; got(alloc, &resource, row.0)?.as_str(), row.1);
     }
+    Ok(())
+}
+
+#[test]
+fn values_of_each_kind_are_given_back(rt: HostRuntime) -> Result<(), Fail> {
+    let alloc = rt.alloc();
+    let resource = of_kinds(alloc)?;
+    let list = Value::Array(Array::I64([1, 2].to_vec(alloc)?));
+    let empty = Value::String(String::new(alloc));
+    assert!(rt; value_of(alloc, &resource, "truth")? == Some(Value::Bool(true)));
+    assert!(rt; value_of(alloc, &resource, "list")? == Some(list));
+    assert!(rt; value_of(alloc, &resource, "")? == Some(empty));
+    assert!(rt; value_of(alloc, &resource, "absent")? == None);
+    Ok(())
+}
+
+#[test]
+fn many_attributes_are_kept(rt: HostRuntime) -> Result<(), Fail> {
+    let alloc = rt.alloc();
+    let at_once = Resource::builder_empty(alloc)
+        .with_attributes(many_pairs(alloc, 33)?)?
+        .build();
+    assert!(rt; at_once == one_by_one(alloc, 33)?);
+    assert_eq!(rt; at_once.len(), 33);
+    assert!(rt; value_of(alloc, &at_once, "key32")? == Some(Value::I64(32)));
+    let strings = strings_of(alloc, None, Some(many_members(alloc, 33)?.as_str()), None)?;
+    assert_eq!(rt;
+        Resource::builder(alloc, &strings.clone()?)?.build().len(),
+        37
+    );
+    assert_eq!(rt; EnvResourceDetector::new(&strings)?.detect()?.len(), 33);
+    assert_eq!(rt; TelemetryResourceDetector::new(alloc).detect()?.len(), 3);
     Ok(())
 }
 

@@ -2,7 +2,7 @@ use Rattle.std.proofs.Math.Nat.{mod-lt}
 use Rattle.std.proofs.Common.{◌≡◌, ◌+◌, ◌/◌, [], ◌∷◌, ◌++◌, refl, sym, ap, ◌∙◌, append-nil, rules, arith, ne_eqb}
 use Rattle.std.proofs.Output.{has_written_append, has_written_of_eq}
 use Rattle.std.proofs.lemmas.Grind.{common_steps}
-use Rattle.otel_base.specs.ErrorText as text
+use Rattle.otel_base.specs.ErrorText as printed
 use Rattle.otel_base.specs.ErrorText.{fraction_text}
 use Rattle.otel_base.proofs.FractionLemmas.{next_place, digit_written, significant, significant-zero}
 use Rattle.otel_base.proofs.error.write_fraction.Goals as goal
@@ -40,7 +40,7 @@ unfolding fraction_text
 returns g c plain ok =
     let (k, _, _, done, whole, wrote) = c.digits.invariant in
     let nothing_left : c.digits.left ≡ 0 = omega (arith, c.digits-test.false) in
-    let all : done ≡ significant (text.places c.args.unit) c.args.remainder =
+    let all : done ≡ significant (printed.places c.args.unit) c.args.remainder =
     sym (append-nil done) ∙ ap (λ t. done ++ t) (sym (significant-zero k) ∙ ap (significant k) (sym nothing_left)) ∙ whole in
     let dot = c.in_ok-write_str.ensures.writes plain refl in
     rw (ne_eqb _ _ c.if-remainder-eq0.false) (has_written_of_eq _ _ _ _ _ (ap (λ t. 46 ∷ t) all) (has_written_append _ _ _ _ _ _ dot (wrote dot.plain)))

@@ -18,7 +18,7 @@ loop-detector-preserved g c =
     let found = c.in_ok-seen.seen in (
       seen ++ found ∷ [],
       subst (λ ds. AllZip g.D.ResourceDetector.detects ds (seen ++ found ∷ [])) (sym more)
-          (all_zip_push g.D.ResourceDetector.detects _ _ _ _ zipped c.in_ok-seen.ensures),
+          (all_zip_push g.D.ResourceDetector.detects _ _ _ _ zipped c.in_ok-seen.ensures.ok),
       c.in_ok-parts.ensures ∙ ap (λ (r : PlainResource). merge r (of_attributes found.attributes)) so_far
           ∙ merge_attributes-merge c.args.parts (all_attributes seen) found.attributes
           ∙ ap (λ a. merge c.args.parts (of_attributes a)) (sym (all_attributes-push seen found)),

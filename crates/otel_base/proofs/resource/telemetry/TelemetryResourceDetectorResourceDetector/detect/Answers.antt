@@ -1,11 +1,12 @@
-use Rattle.std.proofs.Common.{ap, ◌∙◌, List}
-use Rattle.opentelemetry.specs.Plain.{PlainKeyValue}
-use Rattle.otel_base.specs.Resource.{PlainResource, merge, attributes_of, of_attributes}
-use Rattle.otel_base.proofs.AttributeLemmas.{merge_nothing-attributes}
+use Rattle.std.proofs.Common.{ap, ◌∙◌}
+use Rattle.std.proofs.lemmas.Result.{IfOk-weaker}
+use Rattle.otel_base.specs.Resource.{Attributes, union, of_attributes, attributes_of}
+use Rattle.otel_base.specs.DetectedResource.{telemetry_pairs}
+use Rattle.otel_base.proofs.AttributeLemmas.{by_key-empty, union-empty_left}
 use Rattle.otel_base.proofs.resource.telemetry.TelemetryResourceDetectorResourceDetector.detect.Goals as goal
 
-pub returns : goal.returns
-returns c =
-    let pairs = c.in_ok-pairs.pairs.items in
-    c.build.ensures ∙ c.in_ok-told.ensures ∙ ap (λ (r : PlainResource). merge r (of_attributes (attributes_of pairs))) c.builder_empty.ensures
-    ∙ merge_nothing-attributes (attributes_of pairs) ∙ ap (λ (ps : List PlainKeyValue). of_attributes (attributes_of ps)) c.in_ok-pairs.ensures
+pub returns-clause-ok : goal.returns-clause-ok
+returns-clause-ok c =
+    let told = attributes_of telemetry_pairs in
+    let all = c.in_ok-put_telemetry.ensures ∙ ap (λ (m : Attributes). union m told) (by_key-empty c.new-attributes.result c.new-attributes.ensures.empty) ∙ union-empty_left told in
+    IfOk-weaker c.of_attributes.result _ _ (λ resource is. is ∙ ap (λ (m : Attributes). of_attributes m) all) c.of_attributes.ensures.ok

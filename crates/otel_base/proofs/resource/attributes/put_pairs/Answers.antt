@@ -3,7 +3,7 @@ use Rattle.opentelemetry.specs.Plain.{PlainKeyValue}
 use Rattle.opentelemetry.specs.PlainValues.{plain_value}
 use Rattle.otel_base.specs.Resource.{by_key, union, attributes_of}
 use Rattle.otel_base.proofs.AttributeLemmas.{union-empty, put_pair}
-use Rattle.otel_base.proofs.resource.put_all.Goals as goal
+use Rattle.otel_base.proofs.resource.attributes.put_pairs.Goals as goal
 
 pub loop-pair-init : goal.loop-pair-init
 loop-pair-init c = sym (union-empty (by_key c.args.attributes))
