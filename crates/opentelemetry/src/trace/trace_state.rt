@@ -184,15 +184,14 @@ fn shared(alloc: Global, pairs: Vec<(String, String)>) -> Result<TraceState, All
 }
 
 impl Clone for TraceState {
-    ghost use Rattle.std.specs.Prelude.{◌≡◌};
+    ghost use Rattle.std.specs.Prelude.{◌≡◌, []};
 
     ghost is_clone = { λ state copy. copy ≡ state };
 
+    ghost is_infallible = { λ state. state ≡ [] };
+
     /// A clone of the empty trace state takes no memory.
-    fn clone(&self) -> Result<TraceState, AllocError>
-        ensures clone { IfOk result (λ copy. copy ≡ self.now) }
-        ensures free { self.now ≡ [] → IsOk result }
-    {
+    fn clone(&self) -> Result<TraceState, AllocError> {
         match &self.pairs {
             Some(pairs) if !pairs.is_empty() => Ok(TraceState {
                 pairs: Some(pairs.clone()?),
