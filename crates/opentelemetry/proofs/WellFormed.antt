@@ -1,5 +1,5 @@
 -- Pairs of a key and a value: which lists have no others, and that their header reads back as them.
-use Rattle.std.proofs.Common.{◌≡◌, ◌≢◌, ℕ, zero, suc, ◌+◌, ◌-◌, ◌<◌, Bool, true, false, not, cond, eqb, List, [], ◌∷◌, ◌++◌, length, map, reverse, Option, Some, None, refl, sym, ap, ◌∙◌, subst, arith}
+use Rattle.std.proofs.Common.{◌≡◌, ◌≢◌, ℕ, zero, suc, ◌-◌, ◌<◌, Bool, true, false, not, cond, eqb, List, [], ◌∷◌, ◌++◌, length, map, reverse, Option, Some, None, refl, sym, ap, ◌∙◌, subst, arith}
 use Rattle.std.specs.List.{All, AllByRecursion, AllZip, filter, list_all, slice_get, slice_index_or, slice_split}
 use Rattle.std.specs.Option.{option_map_or}
 use Rattle.std.proofs.lemmas.Bool.{false≢true}
@@ -8,7 +8,7 @@ use Rattle.std.proofs.lemmas.List.Splits.{slice_split_none, slice_split_at}
 use borrow.Author.Tests.{ne_eqb}
 use Rattle.opentelemetry.specs.declared.trace.trace_state.TraceStateError.TheVariants as faults
 use Rattle.opentelemetry.specs.Same.{same_text}
-use Rattle.opentelemetry.specs.Tracestate.{ArePairs, IsPair, IsTracestate, SpellsPair, ends_with_space, first_of_two, first_pair_fault, is_blank, is_key, is_key_byte, is_key_start, is_some_text, is_value, is_value_byte, last_byte, member_text, members, pair_fault, tracestate_text, trim_front, trimmed, without_key}
+use Rattle.opentelemetry.specs.Tracestate.{ArePairs, IsPair, IsTracestate, SpellsPair, first_pair_fault, is_blank, is_key, is_key_byte, is_key_start, is_some_text, is_value, is_value_byte, last_byte, member_text, members, pair_fault, tracestate_text, trim_front, trimmed, without_key}
 use Rattle.opentelemetry.proofs.Blanks.{ends_stay, no_blank}
 use Rattle.opentelemetry.proofs.Pieces.{none_of_two}
 use Rattle.opentelemetry.proofs.Tracestates.{both_true, key_bytes, key_start, value_bytes, value_end, sound_pair}

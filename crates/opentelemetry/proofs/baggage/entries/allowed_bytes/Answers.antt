@@ -1,6 +1,6 @@
-use Rattle.std.proofs.Common.{◌≡◌, ◌≢◌, ◌+◌, ◌-◌, ◌<◌, ◌≤◌, ◌⊎◌, [], eqb, inl, inr, true, false, is_some, length, unwrap_or, refl, ap, sym, ◌∙◌, arith, true≢false}
+use Rattle.std.proofs.Common.{◌≡◌, ◌≢◌, ◌<◌, ◌≤◌, ◌⊎◌, [], eqb, inl, inr, true, false, is_some, length, unwrap_or, refl, ap, sym, ◌∙◌, arith, true≢false}
 use Rattle.std.specs.Option.{option_map}
-use Rattle.opentelemetry.specs.Baggage.{entry_bytes, entry_of, baggage_bytes, entry_at, with_entry, plain_entries, BreaksLimit}
+use Rattle.opentelemetry.specs.Baggage.{entry_bytes, entry_of, baggage_bytes, entry_at, with_entry, plain_entries}
 use Rattle.opentelemetry.proofs.BaggageLemmas.{breaks_none, full_breaks, few_keeps, bytes_with_entry, length-plain_entries}
 use Rattle.opentelemetry.proofs.baggage.entries.allowed_bytes.Goals as goal
 use Rattle.opentelemetry.proofs.baggage.entries.allowed_bytes.Goals.{else-is_none-via-then-is_none+else-len-ge-MAX_ENTRIES, else-is_none-via-else-is_none}

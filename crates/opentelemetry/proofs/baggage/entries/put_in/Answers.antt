@@ -1,4 +1,4 @@
-use Rattle.std.proofs.Common.{◌≡◌, ℕ, List, [], String, Global, None, string_bytes, sym, ap, ◌∙◌, subst}
+use Rattle.std.proofs.Common.{ℕ, List, String, Global, string_bytes, sym, ap, ◌∙◌}
 use Rattle.std.specs.Option.{option_map}
 use Rattle.std.proofs.lemmas.Result.{err_from_is_err_and}
 use Rattle.opentelemetry.specs.Baggage.{plain_entries, entry_at, entry_of, found_at, with_entry}

@@ -1,4 +1,4 @@
-use Rattle.std.proofs.Common.{◌≡◌, ◌∙◌, sym, ap, None, Some, subst, map}
+use Rattle.std.proofs.Common.{◌≡◌, ◌∙◌, sym, None, Some, subst, map}
 use Rattle.std.specs.List.{AllZip}
 use Rattle.opentelemetry.specs.Tracestate.{ArePairs, SpellsPair, first_fault, members, pair_of}
 use Rattle.opentelemetry.proofs.Tracestates.{spells_members, spells_only}

@@ -1,7 +1,6 @@
-use Rattle.std.proofs.Common.{◌∷◌, [], map, sym, ◌∙◌, take, drop, ◌+◌}
+use Rattle.std.proofs.Common.{sym, ◌∙◌}
 use Rattle.std.proofs.lemmas.Result.{err_from_is_err_and}
 use Rattle.opentelemetry.specs.PlainValues.{plain_pair}
-use Rattle.opentelemetry.specs.Tracestate.{without_key}
 use Rattle.opentelemetry.proofs.PairLists.{without_around}
 use Rattle.opentelemetry.proofs.Pieces.{middle_empty}
 use Rattle.opentelemetry.proofs.trace.trace_state.pairs.push_others.Goals as goal
