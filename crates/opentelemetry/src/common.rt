@@ -240,7 +240,7 @@ impl Eq for Value {
 }
 
 /// An attribute.
-#[derive(Clone, Debug, Drop)]
+#[derive(Debug, Drop)]
 pub struct KeyValue {
     pub key: Key,
     pub value: Value,
@@ -260,6 +260,19 @@ impl KeyValue {
         ensures { result ≡ record { key = key; value = plain_value value } }
     {
         KeyValue { key, value }
+    }
+}
+
+impl Clone for KeyValue {
+    ghost use Rattle.std.specs.Prelude.{◌≡◌};
+
+    ghost is_clone = { λ attribute copy. copy ≡ attribute };
+
+    fn clone(&self) -> Result<KeyValue, AllocError> {
+        Ok(KeyValue {
+            key: self.key.clone()?,
+            value: self.value.clone()?,
+        })
     }
 }
 

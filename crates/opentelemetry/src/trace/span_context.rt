@@ -9,7 +9,7 @@ use std::alloc::AllocError;
 use std::marker::Model;
 
 /// The identity of a span, and what travels with it to other processes.
-#[derive(Clone, Debug, Drop)]
+#[derive(Debug, Drop)]
 pub struct SpanContext {
     trace_id: TraceId,
     span_id: SpanId,
@@ -113,6 +113,22 @@ impl SpanContext {
         ensures { IsTrue result ↔ ((0 < self.now.trace_id) × (0 < self.now.span_id)) }
     {
         self.trace_id != TraceId::INVALID && self.span_id != SpanId::INVALID
+    }
+}
+
+impl Clone for SpanContext {
+    ghost use Rattle.std.specs.Prelude.{◌≡◌};
+
+    ghost is_clone = { λ context copy. copy ≡ context };
+
+    fn clone(&self) -> Result<SpanContext, AllocError> {
+        Ok(SpanContext {
+            trace_id: self.trace_id,
+            span_id: self.span_id,
+            trace_flags: self.trace_flags,
+            is_remote: self.is_remote,
+            trace_state: self.trace_state.clone()?,
+        })
     }
 }
 

@@ -3,11 +3,11 @@
 ghost use Rattle.std.specs.Prelude.{◌≡◌, []};
 
 use opentelemetry::trace::Event;
-use std::alloc::Global;
+use std::alloc::{AllocError, Global};
 use std::marker::Model;
 
 /// Events in the order in which they were added; those over the span's limit are only counted.
-#[derive(Clone, Debug, Drop)]
+#[derive(Debug, Drop)]
 pub struct SpanEvents {
     pub events: Vec<Event>,
     pub dropped_count: u32,
@@ -37,6 +37,19 @@ impl SpanEvents {
         ensures { result.now ≡ self.now.events }
     {
         self.events.as_slice()
+    }
+}
+
+impl Clone for SpanEvents {
+    ghost use Rattle.std.specs.Prelude.{◌≡◌};
+
+    ghost is_clone = { λ events copy. copy ≡ events };
+
+    fn clone(&self) -> Result<SpanEvents, AllocError> {
+        Ok(SpanEvents {
+            events: self.events.clone()?,
+            dropped_count: self.dropped_count,
+        })
     }
 }
 

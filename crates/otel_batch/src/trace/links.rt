@@ -3,11 +3,11 @@
 ghost use Rattle.std.specs.Prelude.{◌≡◌, []};
 
 use opentelemetry::trace::Link;
-use std::alloc::Global;
+use std::alloc::{AllocError, Global};
 use std::marker::Model;
 
 /// Links in the order in which they were added; those over the span's limit are only counted.
-#[derive(Clone, Debug, Drop)]
+#[derive(Debug, Drop)]
 pub struct SpanLinks {
     pub links: Vec<Link>,
     pub dropped_count: u32,
@@ -37,6 +37,19 @@ impl SpanLinks {
         ensures { result.now ≡ self.now.links }
     {
         self.links.as_slice()
+    }
+}
+
+impl Clone for SpanLinks {
+    ghost use Rattle.std.specs.Prelude.{◌≡◌};
+
+    ghost is_clone = { λ links copy. copy ≡ links };
+
+    fn clone(&self) -> Result<SpanLinks, AllocError> {
+        Ok(SpanLinks {
+            links: self.links.clone()?,
+            dropped_count: self.dropped_count,
+        })
     }
 }
 

@@ -3,10 +3,11 @@
 use crate::trace::{SpanEvents, SpanLinks};
 use opentelemetry::trace::{SpanContext, SpanKind, Status};
 use opentelemetry::{InstrumentationScope, KeyValue, Moment, SpanId};
+use std::alloc::AllocError;
 use std::marker::Model;
 
 /// All that was recorded of one span.
-#[derive(Clone, Debug, Drop)]
+#[derive(Debug, Drop)]
 pub struct SpanData {
     pub span_context: SpanContext,
     /// Zero where the span has no parent.
@@ -47,6 +48,30 @@ impl Model for SpanData {
       status = plain_status a.status;
       instrumentation_scope = a.instrumentation_scope;
     } };
+}
+
+impl Clone for SpanData {
+    ghost use Rattle.std.specs.Prelude.{◌≡◌};
+
+    ghost is_clone = { λ span copy. copy ≡ span };
+
+    fn clone(&self) -> Result<SpanData, AllocError> {
+        Ok(SpanData {
+            span_context: self.span_context.clone()?,
+            parent_span_id: self.parent_span_id,
+            parent_span_is_remote: self.parent_span_is_remote,
+            span_kind: self.span_kind,
+            name: self.name.clone()?,
+            start_time: self.start_time,
+            end_time: self.end_time,
+            attributes: self.attributes.clone()?,
+            dropped_attributes_count: self.dropped_attributes_count,
+            events: self.events.clone()?,
+            links: self.links.clone()?,
+            status: self.status.clone()?,
+            instrumentation_scope: self.instrumentation_scope.clone()?,
+        })
+    }
 }
 
 impl SpanData {
