@@ -1,5 +1,5 @@
-//! The texts of replies. Each reply's text is put together in a `String` of its own, which a refusal for memory leaves
-//! unfinished, and is then written whole by `write_text` or not at all.
+//! The texts of replies. Each reply's text is put together in a `String`, which a refusal for memory leaves unfinished,
+//! and is then written whole by `write_text` or not at all.
 
 ghost use Rattle.std.specs.Prelude.{◌≡◌, ◌++◌, ◌∷◌, [], IfOk, OnOk, OnErr, string_bytes};
 ghost use Rattle.std.specs.List.{flat_map};
@@ -224,14 +224,17 @@ fn push_answer(text: &mut String, answer: Answer) -> Result<(), AllocError>
     }
 }
 
-/// The lines of a reply: those of the exported spans, and the answer's.
-fn text_of(alloc: Global, exported: &[Vec<SpanData>], answer: Answer) -> Result<String, AllocError>
-    ensures { IfOk result (λ text. string_bytes text ≡ span_lines (flat_map (λ batch. batch.items) exported.now) ++ answer_line answer) }
+/// Puts the lines of a reply into a text in place of what it held: those of the exported spans, and the answer's.
+fn put_reply(
+    text: &mut String,
+    exported: &[Vec<SpanData>],
+    answer: Answer,
+) -> Result<(), AllocError>
+    ensures { OnOk result (string_bytes text.new ≡ span_lines (flat_map (λ batch. batch.items) exported.now) ++ answer_line answer) }
 {
-    let mut text = String::new(alloc);
-    push_batches(&mut text, exported)?;
-    push_answer(&mut text, answer)?;
-    Ok(text)
+    text.clear();
+    push_batches(text, exported)?;
+    push_answer(text, answer)
 }
 
 /// Writes the lines of exported batches, or nothing where memory runs out.
@@ -248,17 +251,19 @@ pub fn write_batches(
     write_text(out, text.as_str())
 }
 
-/// Writes a whole reply, or nothing where memory runs out: the spans are read where the exporter keeps them.
+/// Writes a whole reply, or nothing where memory runs out: the spans are read where the exporter keeps them. The text is
+/// put together in `text`, whose room serves one reply after another.
 pub fn write_reply(
-    alloc: Global,
+    text: &mut String,
     out: &mut Vec<u8>,
     exported: &[Vec<SpanData>],
     answer: Answer,
 ) -> Result<(), AllocError>
-    ensures ok { OnOk result (out.new.items ≡ out.old.items ++ (span_lines (flat_map (λ batch. batch.items) exported.now) ++ answer_line answer)) }
+    ensures ok { OnOk result (out.new.items
+        ≡ out.old.items ++ (span_lines (flat_map (λ batch. batch.items) exported.now) ++ answer_line answer)) }
     ensures err { OnErr result (out.new.items ≡ out.old.items) }
 {
-    let text = text_of(alloc, exported, answer)?;
+    put_reply(text, exported, answer)?;
     write_text(out, text.as_str())
 }
 
@@ -404,6 +409,7 @@ ended
             trace_flags: TraceFlags::new(0),
         };
         let mut out = Vec::new(rt.alloc());
+        let mut text = String::new(rt.alloc());
         for answer in [
             Answer::Started(span),
             Answer::Dropped(nobody),
@@ -412,10 +418,10 @@ ended
             Answer::NoSuchSpan,
             Answer::SpanExists,
         ] {
-            write_reply(rt.alloc(), &mut out, &[], answer)?;
+            write_reply(&mut text, &mut out, &[], answer)?;
         }
         let exported = batches(rt.alloc())?;
-        write_reply(rt.alloc(), &mut out, &exported, Answer::Ended(0))?;
+        write_reply(&mut text, &mut out, &exported, Answer::Ended(0))?;
         assert_eq!(rt; out.as_slice(), LINES.as_bytes());
         Ok(())
     }

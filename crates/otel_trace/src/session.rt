@@ -197,16 +197,22 @@ impl<P: KeepsBatches, S: ShouldSample, G: IdGenerator> Session<P, S, G> {
             self.old commands.items output.old.items output.new.items self.new) }
     {
         let mut queue = VecDeque::from_vec(commands);
+        let mut text = String::new(self.alloc);
         while let Some(command) = queue.pop_front() {
             let answer = self.answer(command)?;
-            self.write_unrefused(answer, output)?;
+            self.write_unrefused(answer, &mut text, output)?;
             self.mark_shown();
         }
         Ok(())
     }
 
-    /// Writes a reply whose answer counts no refusal, or nothing.
-    fn write_unrefused(&self, answer: Answer, output: &mut Vec<u8>) -> Result<(), AllocError>
+    /// Writes a reply whose answer counts no refusal, or nothing. `text` is room for it.
+    fn write_unrefused(
+        &self,
+        answer: Answer,
+        text: &mut String,
+        output: &mut Vec<u8>,
+    ) -> Result<(), AllocError>
         ensures ok { OnOk result ((counts_refusals answer ≡ false)
             × (output.new.items ≡ output.old.items ++ (span_lines (unshown P.KeepsBatches.own self.now) ++ answer_line answer))) }
         ensures err { OnErr result (output.new.items ≡ output.old.items) }
@@ -214,7 +220,7 @@ impl<P: KeepsBatches, S: ShouldSample, G: IdGenerator> Session<P, S, G> {
         if answer.counts_refusals() {
             return Err(AllocError);
         }
-        write_reply(self.alloc, output, self.unshown(), answer)
+        write_reply(text, output, self.unshown(), answer)
     }
 
     /// Carries one command out. It is also an error where the first processor's exporter lost the batch of an ended span.
