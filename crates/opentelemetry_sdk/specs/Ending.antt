@@ -10,7 +10,8 @@ use Rattle.opentelemetry_sdk.specs.declared.trace.span_processor.SpanProcessor.{
 
 module _ {P : Type 0} (calls : Ghosts P) where
   -- a processor that was given a span answers as its call can, and tells it
-  pub record TakesAndTells (span : PlainSpanData) (old : P) (answer : Result (Unit {0}) AllocError) (new : P) : Type 0 where
+  pub record TakesAndTells (span : PlainSpanData) (old : P) (answer : Result (Unit {0}) AllocError)
+      (new : P) : Type 0 where
     pub gives : calls.end_gives old span answer new
     pub told : TakesSpan (calls.told old) span answer (calls.told new)
 

@@ -57,7 +57,8 @@ HandsOver true before span (Err _) after = HearsNothing before after
 HandsOver false before span answer after = HearsNothing before after
 
 -- an ended span was given to a processor: it is due where it is sampled and the processor open
-pub record TakesSpan {T E : Type 0} (before : ProcessorTelling) (span : PlainSpanData) (answer : Result T E) (after : ProcessorTelling) : Type 0 where
+pub record TakesSpan {T E : Type 0} (before : ProcessorTelling) (span : PlainSpanData) (answer : Result T E)
+    (after : ProcessorTelling) : Type 0 where
   pub spans : Tells before.spans (span ∷ []) after.spans
   pub handed : HandsOver (before.is_open && is_sampled span) before span answer after
   pub is_open : after.is_open ≡ before.is_open

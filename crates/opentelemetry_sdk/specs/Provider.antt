@@ -33,7 +33,8 @@ module _ {P : Type 0} (calls : Ghosts P) where
 
   -- what a first shutdown does: the provider is shut, each processor was asked with this timeout, and the answer is Ok
   -- exactly where none failed
-  pub record ShutsDown {S G : Type 0} (old : ProviderState P S G) (timeout : ℕ) (answer : Result (Unit {0}) OTelSdkError) (new : ProviderState P S G) : Type 0 where
+  pub record ShutsDown {S G : Type 0} (old : ProviderState P S G) (timeout : ℕ)
+      (answer : Result (Unit {0}) OTelSdkError) (new : ProviderState P S G) : Type 0 where
     pub failed : ℕ
     pub asked : AskedAll (ShutsProcessor timeout) old.processors new.processors failed
     pub ok : IsOk answer ↔ (failed ≡ 0)

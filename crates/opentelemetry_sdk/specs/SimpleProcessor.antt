@@ -28,7 +28,8 @@ module _ {E : Type 0} (calls : Ghosts E) where
 
   -- an end whose span is due is one export; where there is no memory for the batch nothing is exported. Any other end
   -- leaves the exporter as it was
-  abbrev pub ExportsIf : Bool → SimpleProcessor E → PlainSpanData → Result (Unit {0}) AllocError → SimpleProcessor E → Type 0
+  abbrev pub ExportsIf : Bool → SimpleProcessor E → PlainSpanData → Result (Unit {0}) AllocError → SimpleProcessor E
+      → Type 0
   ExportsIf is_due old span taken new = MatchBool is_due
       (MatchResult taken (λ _. ExportsOne old span new) (λ _. new ≡ old))
       ((taken ≡ Ok tt) × (new ≡ old))
@@ -38,13 +39,15 @@ module _ {E : Type 0} (calls : Ghosts E) where
   SimpleEnds old span = ExportsIf (not old.is_shut && is_sampled span) old span
 
   -- a shutdown: its exporter was asked with this timeout, and gave the answer
-  pub record SimpleShuts (old : SimpleProcessor E) (timeout : ℕ) (answer : Result (Unit {0}) OTelSdkError) (new : SimpleProcessor E) : Type 0 where
+  pub record SimpleShuts (old : SimpleProcessor E) (timeout : ℕ) (answer : Result (Unit {0}) OTelSdkError)
+      (new : SimpleProcessor E) : Type 0 where
     pub gives : RestsOr (λ x given y. calls.shutdown_gives x timeout given y) old.exporter answer new.exporter
     pub told : calls.told new.exporter ≡ calls.told old.exporter
     pub rest : new ≡ record old { exporter = new.exporter; is_shut = true }
 
   -- a resource that was handed on to its exporter
-  pub record HandsResource (old : SimpleProcessor E) (resource : PlainResource) (answer : Result (Unit {0}) AllocError) (new : SimpleProcessor E) : Type 0 where
+  pub record HandsResource (old : SimpleProcessor E) (resource : PlainResource)
+      (answer : Result (Unit {0}) AllocError) (new : SimpleProcessor E) : Type 0 where
     pub gives : StaysOr (λ x y. calls.resource_gives x resource y) old.exporter new.exporter
     pub told : calls.told new.exporter ≡ calls.told old.exporter
     pub ok : answer ≡ Ok tt

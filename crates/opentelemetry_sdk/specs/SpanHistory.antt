@@ -52,7 +52,11 @@ pub record PlainSpan : Type 0 where
 
 -- the recording span of a start and edits; until its end it ends when it started
 abbrev pub recording : SpanStart → List Edit → PlainSpan
-recording start edits = record { span_context = start.span_context; limits = start.limits; recorded = Some (data_of start edits start.start_time) }
+recording start edits = record {
+  span_context = start.span_context;
+  limits = start.limits;
+  recorded = Some (data_of start edits start.start_time);
+}
 
 -- a span that does not record: it never did, or it has ended
 abbrev pub not_recording : PlainSpanContext → SpanLimits → PlainSpan
@@ -70,7 +74,8 @@ left_out_with limit xs n = if nat_lt (length xs) limit then n else min (n + 1) (
 abbrev pub edited_data : SpanLimits → Edit → PlainSpanData → PlainSpanData
 edited_data limits (set_attribute attribute) recorded = record recorded {
   attributes = kept_with limits.max_attributes_per_span recorded.attributes attribute;
-  dropped_attributes_count = left_out_with limits.max_attributes_per_span recorded.attributes recorded.dropped_attributes_count;
+  dropped_attributes_count =
+      left_out_with limits.max_attributes_per_span recorded.attributes recorded.dropped_attributes_count;
 }
 
 -- nothing happens where nothing is recorded

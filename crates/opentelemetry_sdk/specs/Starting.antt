@@ -79,7 +79,8 @@ module _ {P S G : Type 0} (sampler : sampling.Ghosts S) (ids : drawing.Ghosts G)
     pub span_id : ℕ
     pub draws : DrawsIds ids old.id_generator trace_id span_id new.id_generator
     pub needs : sampler.is_infallible old.sampler (root_question trace_id name)
-        → (answer : PlainSamplingResult) × sampler.gives old.sampler (root_question trace_id name) answer × (answer.trace_state ≢ [])
+        → (answer : PlainSamplingResult) × sampler.gives old.sampler (root_question trace_id name) answer
+        × (answer.trace_state ≢ [])
     pub rest : new ≡ record old { id_generator = new.id_generator }
 
   -- a start that found no memory: nothing happened, or ids were drawn
@@ -92,7 +93,8 @@ module _ {P : Type 0} (calls : Ghosts P) where
   PassesThrough cx old [] [] new = new ≡ old
   PassesThrough cx old [] (q ∷ qs) new = ⊥
   PassesThrough cx old (p ∷ ps) [] new = ⊥
-  PassesThrough cx old (p ∷ ps) (q ∷ qs) new = (middle : PlainSpan) × calls.start_gives p old cx middle q × PassesThrough cx middle ps qs new
+  PassesThrough cx old (p ∷ ps) (q ∷ qs) new =
+      (middle : PlainSpan) × calls.start_gives p old cx middle q × PassesThrough cx middle ps qs new
 
   -- a span that records: each processor may edit it in its turn
   pub record Records (start : SpanStart) (old new : List P) (history : SpanHistory) : Type 0 where
@@ -108,13 +110,15 @@ module _ {P : Type 0} (calls : Ghosts P) where
 
 module _ {P S G : Type 0} (calls : Ghosts P) (sampler : sampling.Ghosts S) (ids : drawing.Ghosts G) where
   -- at an open provider: ids are drawn, the sampler is asked, and a span that records passes through the processors
-  pub record StartsOpen (old : ProviderState P S G) (scope : PlainScope) (name : List ℕ) (now : ℕ) (history : SpanHistory) (new : ProviderState P S G) : Type 0 where
+  pub record StartsOpen (old : ProviderState P S G) (scope : PlainScope) (name : List ℕ) (now : ℕ)
+      (history : SpanHistory) (new : ProviderState P S G) : Type 0 where
     pub trace_id : ℕ
     pub span_id : ℕ
     pub answer : PlainSamplingResult
     pub draws : DrawsIds ids old.id_generator trace_id span_id new.id_generator
     pub asks : sampler.gives old.sampler (root_question trace_id name) answer
-    pub decided : Decided calls answer.decision (root_start scope name now old.span_limits (root_span_context trace_id span_id answer) answer.attributes)
+    pub decided : Decided calls answer.decision
+        (root_start scope name now old.span_limits (root_span_context trace_id span_id answer) answer.attributes)
         old.processors new.processors history
     pub rest : new ≡ record old { processors = new.processors; id_generator = new.id_generator }
 

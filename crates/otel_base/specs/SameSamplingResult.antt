@@ -33,7 +33,8 @@ same_answer_decides a b =
     (λ e. λ i. record { decision = e.0 i; attributes = e.1.0 i; trace_state = e.1.1 i })
     (λ e. (ap (λ x. x.decision) e, (ap (λ x. x.attributes) e, ap (λ x. x.trace_state) e)))
     (Decides-and _ _ (same_decision_decides a.decision b.decision)
-    (Decides-and _ _ (same_attributes_decides a.attributes b.attributes) (same_pairs_decides a.trace_state b.trace_state)))
+    (Decides-and _ _ (same_attributes_decides a.attributes b.attributes)
+    (same_pairs_decides a.trace_state b.trace_state)))
 
 pub same_answer_tells : (r : Bool) (a b : PlainSamplingResult) → r ≡ same_answer a b → Decides r (a ≡ b)
 same_answer_tells r a b e = Decides-at r (same_answer a b) e (same_answer_decides a b)

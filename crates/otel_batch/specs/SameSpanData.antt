@@ -18,7 +18,8 @@ same_span_events_decides a b =
     Decides-like (same_span_events a b)
     (λ e. λ i. record { events = e.0 i; dropped_count = e.1 i })
     (λ e. (ap (λ x. x.events) e, ap (λ x. x.dropped_count) e))
-    (Decides-and _ _ (pointwise_decides same_event_decides a.events b.events) (Decides-eqb a.dropped_count b.dropped_count))
+    (Decides-and _ _ (pointwise_decides same_event_decides a.events b.events)
+    (Decides-eqb a.dropped_count b.dropped_count))
 
 pub same_span_events_tells : (r : Bool) (a b : PlainSpanEvents) → r ≡ same_span_events a b → Decides r (a ≡ b)
 same_span_events_tells r a b e = Decides-at r (same_span_events a b) e (same_span_events_decides a b)
@@ -32,7 +33,8 @@ same_span_links_decides a b =
     Decides-like (same_span_links a b)
     (λ e. λ i. record { links = e.0 i; dropped_count = e.1 i })
     (λ e. (ap (λ x. x.links) e, ap (λ x. x.dropped_count) e))
-    (Decides-and _ _ (pointwise_decides same_link_decides a.links b.links) (Decides-eqb a.dropped_count b.dropped_count))
+    (Decides-and _ _ (pointwise_decides same_link_decides a.links b.links)
+    (Decides-eqb a.dropped_count b.dropped_count))
 
 pub same_span_links_tells : (r : Bool) (a b : PlainSpanLinks) → r ≡ same_span_links a b → Decides r (a ≡ b)
 same_span_links_tells r a b e = Decides-at r (same_span_links a b) e (same_span_links_decides a b)

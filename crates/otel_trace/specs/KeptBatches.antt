@@ -24,10 +24,13 @@ abbrev pub Appends : {X : Type 0} → List X → List X → Type 0
 Appends {X} old new = (more : List X) × (new ≡ old ++ more)
 
 -- a call of a processor that starts or ends a span takes back no batch, and only an end may lose one
-pub record OnlyAppends {P : Type 0} (calls : Ghosts P) (kept : P → List (List PlainSpanData)) (lost : P → ℕ) : Type 0 where
-  pub starts : (p : P) (span : PlainSpan) (cx : PlainContext) (edited : PlainSpan) (q : P) → calls.start_gives p span cx edited q
+pub record OnlyAppends {P : Type 0} (calls : Ghosts P) (kept : P → List (List PlainSpanData))
+    (lost : P → ℕ) : Type 0 where
+  pub starts : (p : P) (span : PlainSpan) (cx : PlainContext) (edited : PlainSpan) (q : P)
+      → calls.start_gives p span cx edited q
       → Appends (kept p) (kept q) × (lost q ≡ lost p)
-  pub ends : (p : P) (span : PlainSpanData) (answer : Result (Unit {0}) AllocError) (q : P) → calls.end_gives p span answer q → Appends (kept p) (kept q)
+  pub ends : (p : P) (span : PlainSpanData) (answer : Result (Unit {0}) AllocError) (q : P)
+      → calls.end_gives p span answer q → Appends (kept p) (kept q)
 
 -- the batches that an exporter keeps, and how many it lost; none where it is not the one in memory
 abbrev pub exporter_keeps : {C : Type 0} → ExporterOf StoredBatches C → List (List PlainSpanData)
@@ -39,7 +42,8 @@ exporter_loses (exporters.Memory memory) = memory.lost
 exporter_loses (exporters.Custom _) = 0
 
 -- the same of the exporter of a processor; none where the processor is of the caller's own
-abbrev pub processor_keeps : {S D : Type 0} → (S → List (List PlainSpanData)) → ProcessorOf S D → List (List PlainSpanData)
+abbrev pub processor_keeps : {S D : Type 0} → (S → List (List PlainSpanData)) → ProcessorOf S D
+    → List (List PlainSpanData)
 processor_keeps keeps (kinds.Simple simple) = keeps simple
 processor_keeps keeps (kinds.Custom _) = []
 
@@ -51,13 +55,17 @@ nothing_more : {X Y : Type 0} (f : X → List Y) (x y : X) → y ≡ x → Appen
 nothing_more f x y e = ([], ap f e ∙ sym (append-nil (f x)))
 
 -- an export into memory
-memory_appends : (old : StoredBatches) (batch : List PlainSpanData) (answer : Result (Unit {0}) OTelSdkError) (new : StoredBatches) → StoresBatch old batch answer new → Appends old.batches new.batches
+memory_appends : (old : StoredBatches) (batch : List PlainSpanData) (answer : Result (Unit {0}) OTelSdkError)
+    (new : StoredBatches) → StoresBatch old batch answer new → Appends old.batches new.batches
 memory_appends old batch (Ok _) new h = (batch ∷ [], ap (λ (s : StoredBatches). s.batches) h)
 memory_appends old batch (Err _) new h = ([], ap (λ (s : StoredBatches). s.batches) h.1 ∙ sym (append-nil old.batches))
 
 -- an export of an exporter of either kind
-pub exporter_appends : {C : Type 0} (exports : C → List PlainSpanData → Result (Unit {0}) OTelSdkError → C → Type 0) (old : ExporterOf StoredBatches C) (batch : List PlainSpanData) (answer : Result (Unit {0}) OTelSdkError) (new : ExporterOf StoredBatches C)
-    → ExporterGives (λ m n. StoresBatch m batch answer n) (λ c d. exports c batch answer d) old new → Appends (exporter_keeps old) (exporter_keeps new)
+pub exporter_appends : {C : Type 0} (exports : C → List PlainSpanData → Result (Unit {0}) OTelSdkError → C → Type 0)
+    (old : ExporterOf StoredBatches C) (batch : List PlainSpanData) (answer : Result (Unit {0}) OTelSdkError)
+    (new : ExporterOf StoredBatches C)
+    → ExporterGives (λ m n. StoresBatch m batch answer n) (λ c d. exports c batch answer d) old new
+    → Appends (exporter_keeps old) (exporter_keeps new)
 exporter_appends exports (exporters.Memory m) batch answer (exporters.Memory n) h = memory_appends m batch answer n h
 exporter_appends exports (exporters.Memory m) batch answer (exporters.Custom d) h = absurd h
 exporter_appends exports (exporters.Custom c) batch answer (exporters.Memory n) h = absurd h
@@ -65,26 +73,39 @@ exporter_appends exports (exporters.Custom c) batch answer (exporters.Custom d) 
 
 -- an end at a simple processor
 appends_if : {E : Type 0} (keeps : E → List (List PlainSpanData)) (calls : exporting.Ghosts E)
-    → ((old : E) (batch : List PlainSpanData) (answer : Result (Unit {0}) OTelSdkError) (new : E) → calls.export_gives old batch answer new → Appends (keeps old) (keeps new))
-    → (is_due : Bool) (old : SimpleProcessor E) (span : PlainSpanData) (taken : Result (Unit {0}) AllocError) (new : SimpleProcessor E)
+    → ((old : E) (batch : List PlainSpanData) (answer : Result (Unit {0}) OTelSdkError) (new : E)
+    → calls.export_gives old batch answer new → Appends (keeps old) (keeps new))
+    → (is_due : Bool) (old : SimpleProcessor E) (span : PlainSpanData) (taken : Result (Unit {0}) AllocError)
+    (new : SimpleProcessor E)
     → ExportsIf calls is_due old span taken new → Appends (keeps old.exporter) (keeps new.exporter)
-appends_if keeps calls appends true old span (Ok _) new h = appends old.exporter (span ∷ []) h.answer new.exporter h.gives
-appends_if {E} keeps calls appends true old span (Err _) new h = nothing_more (λ (p : SimpleProcessor E). keeps p.exporter) old new h
-appends_if {E} keeps calls appends false old span taken new h = nothing_more (λ (p : SimpleProcessor E). keeps p.exporter) old new h.1
+appends_if keeps calls appends true old span (Ok _) new h =
+    appends old.exporter (span ∷ []) h.answer new.exporter h.gives
+appends_if {E} keeps calls appends true old span (Err _) new h =
+    nothing_more (λ (p : SimpleProcessor E). keeps p.exporter) old new h
+appends_if {E} keeps calls appends false old span taken new h =
+    nothing_more (λ (p : SimpleProcessor E). keeps p.exporter) old new h.1
 
 pub simple_appends : {E : Type 0} (keeps : E → List (List PlainSpanData)) (calls : exporting.Ghosts E)
-    → ((old : E) (batch : List PlainSpanData) (answer : Result (Unit {0}) OTelSdkError) (new : E) → calls.export_gives old batch answer new → Appends (keeps old) (keeps new))
+    → ((old : E) (batch : List PlainSpanData) (answer : Result (Unit {0}) OTelSdkError) (new : E)
+    → calls.export_gives old batch answer new → Appends (keeps old) (keeps new))
     → (old : SimpleProcessor E) (span : PlainSpanData) (taken : Result (Unit {0}) AllocError) (new : SimpleProcessor E)
     → SimpleEnds calls old span taken new → Appends (keeps old.exporter) (keeps new.exporter)
-simple_appends keeps calls appends old span taken new h = appends_if keeps calls appends (not old.is_shut && is_sampled span) old span taken new h
+simple_appends keeps calls appends old span taken new h =
+    appends_if keeps calls appends (not old.is_shut && is_sampled span) old span taken new h
 
 -- a call that leaves a simple processor as it was keeps what is kept and loses nothing
-pub simple_stays : {E : Type 0} {B : Type 0} (keeps : E → List (List PlainSpanData)) (loses : E → ℕ) (old new : SimpleProcessor E)
+pub simple_stays : {E : Type 0} {B : Type 0} (keeps : E → List (List PlainSpanData)) (loses : E → ℕ)
+    (old new : SimpleProcessor E)
     → (new ≡ old) × B → Appends (keeps old.exporter) (keeps new.exporter) × (loses new.exporter ≡ loses old.exporter)
-simple_stays {E} keeps loses old new h = (nothing_more (λ (p : SimpleProcessor E). keeps p.exporter) old new h.0, ap (λ (p : SimpleProcessor E). loses p.exporter) h.0)
+simple_stays {E} keeps loses old new h = (
+  nothing_more (λ (p : SimpleProcessor E). keeps p.exporter) old new h.0,
+  ap
+      (λ (p : SimpleProcessor E). loses p.exporter) h.0,
+)
 
 -- a call of a processor of either kind
-pub processor_appends : {S D : Type 0} (keeps : S → List (List PlainSpanData)) (simple : S → S → Type 0) (custom : D → D → Type 0)
+pub processor_appends : {S D : Type 0} (keeps : S → List (List PlainSpanData)) (simple : S → S → Type 0)
+    (custom : D → D → Type 0)
     → ((a b : S) → simple a b → Appends (keeps a) (keeps b)) → (old new : ProcessorOf S D)
     → ProcessorGives simple custom old new → Appends (processor_keeps keeps old) (processor_keeps keeps new)
 processor_appends keeps simple custom appends (kinds.Simple a) (kinds.Simple b) h = appends a b h
@@ -93,9 +114,11 @@ processor_appends keeps simple custom appends (kinds.Custom c) (kinds.Simple b) 
 processor_appends keeps simple custom appends (kinds.Custom c) (kinds.Custom d) h = ([], refl)
 
 -- the same where none is lost either
-pub processor_stays : {S D : Type 0} (keeps : S → List (List PlainSpanData)) (loses : S → ℕ) (simple : S → S → Type 0) (custom : D → D → Type 0)
+pub processor_stays : {S D : Type 0} (keeps : S → List (List PlainSpanData)) (loses : S → ℕ) (simple : S → S → Type 0)
+    (custom : D → D → Type 0)
     → ((a b : S) → simple a b → Appends (keeps a) (keeps b) × (loses b ≡ loses a)) → (old new : ProcessorOf S D)
-    → ProcessorGives simple custom old new → Appends (processor_keeps keeps old) (processor_keeps keeps new) × (processor_loses loses new ≡ processor_loses loses old)
+    → ProcessorGives simple custom old new → Appends (processor_keeps keeps old) (processor_keeps keeps new)
+    × (processor_loses loses new ≡ processor_loses loses old)
 processor_stays keeps loses simple custom stays (kinds.Simple a) (kinds.Simple b) h = stays a b h
 processor_stays keeps loses simple custom stays (kinds.Simple a) (kinds.Custom d) h = absurd h
 processor_stays keeps loses simple custom stays (kinds.Custom c) (kinds.Simple b) h = absurd h

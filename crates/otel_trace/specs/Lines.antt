@@ -26,11 +26,13 @@ abbrev pub AreFields : List ℕ → PlainCommand → Type 0
 AreFields rest (start span name moment) = IsField span × IsField name
     × ((digits : List ℕ) × IsMoment digits moment × (rest ≡ span ++ 32 ∷ (name ++ 32 ∷ digits)))
 AreFields rest (attr span key value) = IsField span × IsField key × (rest ≡ span ++ 32 ∷ (key ++ 32 ∷ value))
-AreFields rest (end span moment) = IsField span × ((digits : List ℕ) × IsMoment digits moment × (rest ≡ span ++ 32 ∷ digits))
+AreFields rest (end span moment) =
+    IsField span × ((digits : List ℕ) × IsMoment digits moment × (rest ≡ span ++ 32 ∷ digits))
 
 -- a line reads as a command: it is text, and is the command's word, a space and the command's fields
 abbrev pub Reads : List ℕ → PlainCommand → Type 0
-Reads line command = IsUtf8 line × ((fields : List ℕ) × (line ≡ word_of command ++ 32 ∷ fields) × AreFields fields command)
+Reads line command =
+    IsUtf8 line × ((fields : List ℕ) × (line ≡ word_of command ++ 32 ∷ fields) × AreFields fields command)
 
 -- a bad line: not empty, and it reads as no command
 abbrev pub IsBad : List ℕ → Type 0
@@ -71,4 +73,5 @@ LineGives line (Some command) = Reads line (plain_command command)
 -- what is found behind a word: a command of that word whose fields stand there, and none only where there are no such fields
 abbrev pub FieldsGive : List ℕ → List ℕ → Option Command → Type 0
 FieldsGive word fields None = (command : PlainCommand) → word_of command ≡ word → AreFields fields command → ⊥
-FieldsGive word fields (Some command) = (word_of (plain_command command) ≡ word) × AreFields fields (plain_command command)
+FieldsGive word fields (Some command) =
+    (word_of (plain_command command) ≡ word) × AreFields fields (plain_command command)

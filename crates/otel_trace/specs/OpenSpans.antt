@@ -46,11 +46,18 @@ SameSpans old new = (q : List ℕ) → named new q ≡ named old q
 
 -- who a span is
 abbrev pub identity_of : PlainSpan → SpanIdentity
-identity_of span = record { trace_id = span.span_context.trace_id; span_id = span.span_context.span_id; trace_flags = span.span_context.trace_flags }
+identity_of span =
+    record {
+      trace_id = span.span_context.trace_id;
+      span_id = span.span_context.span_id;
+      trace_flags =
+          span.span_context.trace_flags;
+    }
 
 -- what is said of a start, by the span that it made
 abbrev pub start_answer : PlainSpan → Answer
-start_answer span = if is_some span.recorded then answers.Started (identity_of span) else answers.Dropped (identity_of span)
+start_answer span =
+    if is_some span.recorded then answers.Started (identity_of span) else answers.Dropped (identity_of span)
 
 -- what is said of an edit of a span
 abbrev pub edit_answer : PlainSpan → Answer
@@ -71,7 +78,8 @@ EditsNamed old name edit (Some span) answer new = (answer ≡ edit_answer span) 
 
 module _ {P S G : Type 0} (calls : Ghosts P) (sampler : sampling.Ghosts S) (ids : drawing.Ghosts G) where
   -- a new name is given the span that a start makes
-  pub record PutsStarted (p : ProviderState P S G) (scope : PlainScope) (old : NamedSpans) (name called : List ℕ) (moment : ℕ)
+  pub record PutsStarted (p : ProviderState P S G) (scope : PlainScope) (old : NamedSpans) (name called : List ℕ)
+      (moment : ℕ)
       (answer : Answer) (q : ProviderState P S G) (new : NamedSpans) : Type 0 where
     pub history : SpanHistory
     pub starts : Starts calls sampler ids p scope called moment history q
@@ -79,14 +87,18 @@ module _ {P S G : Type 0} (calls : Ghosts P) (sampler : sampling.Ghosts S) (ids 
     pub put : PutsSpan old name (span_of history) new
 
   -- a start under a name: nothing where the name is taken
-  abbrev pub StartsNamed : ProviderState P S G → PlainScope → NamedSpans → List ℕ → List ℕ → ℕ → Option PlainSpan → Answer → ProviderState P S G → NamedSpans → Type 0
-  StartsNamed p scope old name called moment (Some _) answer q new = (answer ≡ answers.SpanExists) × (q ≡ p) × SameSpans old new
+  abbrev pub StartsNamed : ProviderState P S G → PlainScope → NamedSpans → List ℕ → List ℕ → ℕ → Option PlainSpan
+      → Answer → ProviderState P S G → NamedSpans → Type 0
+  StartsNamed p scope old name called moment (Some _) answer q new =
+      (answer ≡ answers.SpanExists) × (q ≡ p) × SameSpans old new
   StartsNamed p scope old name called moment None answer q new = PutsStarted p scope old name called moment answer q new
 
   -- what a start may do to a provider, also where it found no memory: nothing, or ids are drawn, or all that the start of a
   -- span does
   abbrev pub MayStart : ProviderState P S G → PlainScope → List ℕ → ℕ → ProviderState P S G → Type 0
-  MayStart p scope called moment q = MayDraw sampler ids p called q ⊎ ((history : SpanHistory) × Starts calls sampler ids p scope called moment history q)
+  MayStart p scope called moment q =
+      MayDraw sampler ids p called q
+      ⊎ ((history : SpanHistory) × Starts calls sampler ids p scope called moment history q)
 
 module _ {P S G : Type 0} (calls : Ghosts P) where
   -- the end of a span: what it delivers, and to whom
@@ -99,7 +111,8 @@ module _ {P S G : Type 0} (calls : Ghosts P) where
     pub rest : q ≡ record p { processors = q.processors }
 
   -- the end of the span of a name
-  abbrev pub EndsNamed : ProviderState P S G → NamedSpans → List ℕ → ℕ → Option PlainSpan → Answer → ProviderState P S G → NamedSpans → Type 0
+  abbrev pub EndsNamed : ProviderState P S G → NamedSpans → List ℕ → ℕ → Option PlainSpan → Answer
+      → ProviderState P S G → NamedSpans → Type 0
   EndsNamed p old name moment None answer q new = (answer ≡ answers.NoSuchSpan) × (q ≡ p) × SameSpans old new
   EndsNamed p old name moment (Some span) answer q new = EndsSpan p old name moment span answer q new
 

@@ -45,10 +45,18 @@ MemoryProcessor C D = ProcessorOf (SimpleProcessor (ExporterOf StoredBatches C))
 -- each into memory as it ends
 abbrev pub provider_of_seed : {C D E : Type 0} → ℕ → ProviderState (MemoryProcessor C D) (SamplerOf E) (List ℕ)
 provider_of_seed seed = record {
-  processors = kinds.Simple (record { exporter = exporters.Memory (record { batches = []; lost = 0 }); is_shut = false }) ∷ [];
+  processors =
+      kinds.Simple (record { exporter = exporters.Memory (record { batches = []; lost = 0 }); is_shut = false }) ∷ [];
   sampler = AlwaysOn;
   id_generator = of_seed (splitmix_seed 32 seed);
-  span_limits = record { max_events_per_span = 128; max_attributes_per_span = 128; max_links_per_span = 128; max_attributes_per_event = 128; max_attributes_per_link = 128 };
+  span_limits =
+      record {
+        max_events_per_span = 128;
+        max_attributes_per_span = 128;
+        max_links_per_span = 128;
+        max_attributes_per_event = 128;
+        max_attributes_per_link = 128;
+      };
   is_shut = false;
 }
 
@@ -59,7 +67,8 @@ memory_batches = record {
   lost = processor_loses (λ simple. exporter_loses simple.exporter);
 }
 
-module _ {P S G : Type 0} (calls : Ghosts P) (keeps : kept.Ghosts P) (sampler : sampling.Ghosts S) (ids : drawing.Ghosts G) where
+module _ {P S G : Type 0} (calls : Ghosts P) (keeps : kept.Ghosts P) (sampler : sampling.Ghosts S)
+    (ids : drawing.Ghosts G) where
   -- a session under a provider: it has no spans, and shows no batch from before it
   abbrev pub session_under : ProviderState P S G → SessionState P S G
   session_under provider = record {
@@ -71,14 +80,17 @@ module _ {P S G : Type 0} (calls : Ghosts P) (keeps : kept.Ghosts P) (sampler : 
 
   -- what a session writes for an input, whole or up to its first bad line, and when it closes
   abbrev pub SessionWrites : ProviderState P S G → List ℕ → Option ℕ → List ℕ → Type 0
-  SessionWrites provider input bad_line text = Finishes calls keeps sampler ids (session_under provider) input bad_line text
+  SessionWrites provider input bad_line text =
+      Finishes calls keeps sampler ids (session_under provider) input bad_line text
 
   -- that was appended to the output, and nothing else
   abbrev pub WritesText : ProviderState P S G → List ℕ → Option ℕ → Option (List ℕ) → Option (List ℕ) → Type 0
-  WritesText provider input bad_line before after = (text : List ℕ) × SessionWrites provider input bad_line text × Appends before after text
+  WritesText provider input bad_line before after =
+      (text : List ℕ) × SessionWrites provider input bad_line text × Appends before after text
 
 -- the same of the program's provider
-abbrev pub TracesSeed : {C D E : Type 0} → Ghosts (MemoryProcessor C D) → sampling.Ghosts (SamplerOf E) → drawing.Ghosts (List ℕ)
+abbrev pub TracesSeed : {C D E : Type 0} → Ghosts (MemoryProcessor C D) → sampling.Ghosts (SamplerOf E)
+    → drawing.Ghosts (List ℕ)
     → ℕ → List ℕ → Option ℕ → Option (List ℕ) → Option (List ℕ) → Type 0
 TracesSeed calls sampler ids seed input bad_line before after =
     WritesText calls memory_batches sampler ids (provider_of_seed seed) input bad_line before after

@@ -47,16 +47,20 @@ events_text events = spaced (codes "events" ∷ listed event_text events.events 
 
 -- which span it is, what it is called, when it ran and how it went; the parent's id is zero where there is no parent
 abbrev pub identity_text : PlainSpanData → List ℕ
-identity_text span = spaced (codes "span" ∷ hex_text 32 span.span_context.trace_id ∷ hex_text 16 span.span_context.span_id ∷ hex_text 16 span.parent_span_id ∷ hex_text 2 span.span_context.trace_flags
+identity_text span =
+    spaced (codes "span" ∷ hex_text 32 span.span_context.trace_id ∷ hex_text 16 span.span_context.span_id ∷ hex_text
+    16 span.parent_span_id ∷ hex_text 2 span.span_context.trace_flags
     ∷ decimal span.start_time ∷ decimal span.end_time ∷ span.name ∷ status_text span.status ∷ [])
 
 -- the attributes of a span that were kept, and how many were not
 abbrev pub attributes_text : PlainSpanData → List ℕ
-attributes_text span = spaced (codes "attrs" ∷ listed attribute_text span.attributes ∷ decimal span.dropped_attributes_count ∷ [])
+attributes_text span =
+    spaced (codes "attrs" ∷ listed attribute_text span.attributes ∷ decimal span.dropped_attributes_count ∷ [])
 
 -- the line of an exported span
 abbrev pub span_line : PlainSpanData → List ℕ
-span_line span = line (spaced (identity_text span ∷ attributes_text span ∷ events_text span.events ∷ links_text span.links ∷ []))
+span_line span =
+    line (spaced (identity_text span ∷ attributes_text span ∷ events_text span.events ∷ links_text span.links ∷ []))
 
 -- the lines of exported spans
 abbrev pub span_lines : List PlainSpanData → List ℕ
@@ -64,7 +68,8 @@ span_lines = flat_map span_line
 
 -- who a span is, in the form of a traceparent header (W3C Trace Context, section 3.2), with all its flags
 abbrev pub context_text : ℕ → ℕ → ℕ → List ℕ
-context_text trace_id span_id trace_flags = codes "00-" ++ (hex_text 32 trace_id ++ 45 ∷ (hex_text 16 span_id ++ 45 ∷ hex_text 2 trace_flags))
+context_text trace_id span_id trace_flags =
+    codes "00-" ++ (hex_text 32 trace_id ++ 45 ∷ (hex_text 16 span_id ++ 45 ∷ hex_text 2 trace_flags))
 
 -- what answers a start whose span records
 abbrev pub started_line : ℕ → ℕ → ℕ → List ℕ

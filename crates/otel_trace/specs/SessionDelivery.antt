@@ -49,22 +49,26 @@ pub record Course (P S G : Type 0) : Type 0 where
   pub histories : Histories
 
 -- a command that is answered and changes nothing
-pub record OnlyAnswers {P S G : Type 0} (said : Answer) (old : Course P S G) (answer : Answer) (ds : List Delivery) (new : Course P S G) : Type 0 where
+pub record OnlyAnswers {P S G : Type 0} (said : Answer) (old : Course P S G) (answer : Answer) (ds : List Delivery)
+    (new : Course P S G) : Type 0 where
   pub says : answer ≡ said
   pub delivers : ds ≡ []
   pub rest : new ≡ old
 
 -- one more edit at the end of a history
-pub record AddsEdit {P S G : Type 0} (old : Course P S G) (name : List ℕ) (from : SpanStart) (edits : List Edit) (answer : Answer) (ds : List Delivery) (new : Course P S G) : Type 0 where
+pub record AddsEdit {P S G : Type 0} (old : Course P S G) (name : List ℕ) (from : SpanStart) (edits : List Edit)
+    (answer : Answer) (ds : List Delivery) (new : Course P S G) : Type 0 where
   pub says : answer ≡ answers.Ok
   pub delivers : ds ≡ []
   pub rest : new ≡ record old { histories = with_history old.histories name (begun from edits) }
 
 -- an edit of the span of a name: it reaches a history that is not over
-abbrev pub EditDemands : {P S G : Type 0} → Course P S G → List ℕ → Edit → Option SpanHistory → Answer → List Delivery → Course P S G → Type 0
+abbrev pub EditDemands : {P S G : Type 0} → Course P S G → List ℕ → Edit → Option SpanHistory → Answer → List Delivery
+    → Course P S G → Type 0
 EditDemands old name edit None answer ds new = OnlyAnswers answers.NoSuchSpan old answer ds new
 EditDemands old name edit (Some (over context limits)) answer ds new = OnlyAnswers answers.Ignored old answer ds new
-EditDemands old name edit (Some (begun from edits)) answer ds new = AddsEdit old name from (edits ++ edit ∷ []) answer ds new
+EditDemands old name edit (Some (begun from edits)) answer ds new =
+    AddsEdit old name from (edits ++ edit ∷ []) answer ds new
 
 -- the batches that the first of these processors keeps
 abbrev pub batches_of_first : {P : Type 0} → kept.Ghosts P → List P → List (List PlainSpanData)
@@ -96,7 +100,8 @@ or_no_memory (Err error) = Err error
 
 module _ {P S G : Type 0} (calls : Ghosts P) (sampler : sampling.Ghosts S) (ids : drawing.Ghosts G) where
   -- a new name is given what the start of a span makes
-  pub record BeginsSpan (scope : PlainScope) (old : Course P S G) (name called : List ℕ) (moment : ℕ) (answer : Answer) (ds : List Delivery) (new : Course P S G) : Type 0 where
+  pub record BeginsSpan (scope : PlainScope) (old : Course P S G) (name called : List ℕ) (moment : ℕ)
+      (answer : Answer) (ds : List Delivery) (new : Course P S G) : Type 0 where
     pub history : SpanHistory
     pub starts : Starts calls sampler ids old.provider scope called moment history new.provider
     pub says : answer ≡ start_answer (span_of history)
@@ -104,12 +109,14 @@ module _ {P S G : Type 0} (calls : Ghosts P) (sampler : sampling.Ghosts S) (ids 
     pub histories : new.histories ≡ with_history old.histories name history
 
   -- a start: a name is taken once
-  abbrev pub StartDemands : PlainScope → Course P S G → List ℕ → List ℕ → ℕ → Option SpanHistory → Answer → List Delivery → Course P S G → Type 0
+  abbrev pub StartDemands : PlainScope → Course P S G → List ℕ → List ℕ → ℕ → Option SpanHistory → Answer
+      → List Delivery → Course P S G → Type 0
   StartDemands scope old name called moment (Some _) answer ds new = OnlyAnswers answers.SpanExists old answer ds new
   StartDemands scope old name called moment None answer ds new = BeginsSpan scope old name called moment answer ds new
 
   -- a history is over, and its data is delivered, unless the provider is shut
-  pub record EndsHistory (old : Course P S G) (name : List ℕ) (from : SpanStart) (span : PlainSpanData) (answer : Answer) (ds : List Delivery) (new : Course P S G) : Type 0 where
+  pub record EndsHistory (old : Course P S G) (name : List ℕ) (from : SpanStart) (span : PlainSpanData)
+      (answer : Answer) (ds : List Delivery) (new : Course P S G) : Type 0 where
     pub refused : ℕ
     pub delivered : Delivers calls old.provider.is_shut span old.provider.processors new.provider.processors refused
     pub says : answer ≡ answers.Ended refused
@@ -118,31 +125,38 @@ module _ {P S G : Type 0} (calls : Ghosts P) (sampler : sampling.Ghosts S) (ids 
     pub histories : new.histories ≡ with_history old.histories name (over from.span_context from.limits)
 
   -- the end of the span of a name
-  abbrev pub EndDemands : Course P S G → List ℕ → ℕ → Option SpanHistory → Answer → List Delivery → Course P S G → Type 0
+  abbrev pub EndDemands : Course P S G → List ℕ → ℕ → Option SpanHistory → Answer → List Delivery → Course P S G
+      → Type 0
   EndDemands old name moment None answer ds new = OnlyAnswers answers.NoSuchSpan old answer ds new
   EndDemands old name moment (Some (over context limits)) answer ds new = OnlyAnswers answers.Ignored old answer ds new
-  EndDemands old name moment (Some (begun from edits)) answer ds new = EndsHistory old name from (data_of from edits moment) answer ds new
+  EndDemands old name moment (Some (begun from edits)) answer ds new =
+      EndsHistory old name from (data_of from edits moment) answer ds new
 
   -- what one command demands: its answer, what is delivered, and where the session then stands
   abbrev pub Demands : PlainScope → Course P S G → PlainCommand → Answer → List Delivery → Course P S G → Type 0
-  Demands scope old (start span name moment) answer ds new = StartDemands scope old span name moment (old.histories span) answer ds new
+  Demands scope old (start span name moment) answer ds new =
+      StartDemands scope old span name moment (old.histories span) answer ds new
   Demands scope old (attr span key value) answer ds new =
       EditDemands old span (set_attribute (record { key = key; value = text value })) (old.histories span) answer ds new
   Demands scope old (end span moment) answer ds new = EndDemands old span moment (old.histories span) answer ds new
 
   -- one command was carried out on the spans of a session, as it demands of the histories that they had, and each
   -- processor follows what was delivered
-  pub record DemandsOne (scope : PlainScope) (p : ProviderState P S G) (histories : Histories) (command : PlainCommand) (answer : Answer)
+  pub record DemandsOne (scope : PlainScope) (p : ProviderState P S G) (histories : Histories)
+      (command : PlainCommand) (answer : Answer)
       (q : ProviderState P S G) (new : NamedSpans) : Type 0 where
     pub deliveries : List Delivery
     pub after : Histories
-    pub demands : Demands scope (record { provider = p; histories = histories }) command answer deliveries (record { provider = q; histories = after })
+    pub demands : Demands scope (record { provider = p; histories = histories }) command answer deliveries
+        (record { provider = q; histories = after })
     pub describes : Describe after new
     pub follows : EachFollows calls deliveries p.processors q.processors
 
   -- the same, whatever histories the spans had
-  abbrev pub CarriesOutOne : PlainScope → ProviderState P S G → NamedSpans → PlainCommand → Answer → ProviderState P S G → NamedSpans → Type 0
-  CarriesOutOne scope p old command answer q new = (histories : Histories) → Describe histories old → DemandsOne scope p histories command answer q new
+  abbrev pub CarriesOutOne : PlainScope → ProviderState P S G → NamedSpans → PlainCommand → Answer
+      → ProviderState P S G → NamedSpans → Type 0
+  CarriesOutOne scope p old command answer q new =
+      (histories : Histories) → Describe histories old → DemandsOne scope p histories command answer q new
 
   -- what a command that is refused may do to the provider: nothing, but that a start may have made a span that found no
   -- place: then ids were drawn and each processor was told of the start
@@ -152,19 +166,23 @@ module _ {P S G : Type 0} (calls : Ghosts P) (sampler : sampling.Ghosts S) (ids 
   MayAsk scope p (end span moment) q = q ≡ p
 
   -- a command was not carried out: each name has the span that it had, and each processor tells what it told
-  pub record RefusesOne (scope : PlainScope) (p : ProviderState P S G) (old : NamedSpans) (command : PlainCommand) (q : ProviderState P S G) (new : NamedSpans) : Type 0 where
+  pub record RefusesOne (scope : PlainScope) (p : ProviderState P S G) (old : NamedSpans) (command : PlainCommand)
+      (q : ProviderState P S G) (new : NamedSpans) : Type 0 where
     pub spans : SameSpans old new
     pub asks : MayAsk scope p command q
     pub told : map calls.told q.processors ≡ map calls.told p.processors
 
   -- a command was carried out or not, and has no reply
-  abbrev pub MayCarryOut : PlainScope → ProviderState P S G → NamedSpans → PlainCommand → ProviderState P S G → NamedSpans → Type 0
-  MayCarryOut scope p old command q new = RefusesOne scope p old command q new ⊎ ((answer : Answer) × CarriesOutOne scope p old command answer q new)
+  abbrev pub MayCarryOut : PlainScope → ProviderState P S G → NamedSpans → PlainCommand → ProviderState P S G
+      → NamedSpans → Type 0
+  MayCarryOut scope p old command q new =
+      RefusesOne scope p old command q new ⊎ ((answer : Answer) × CarriesOutOne scope p old command answer q new)
 
 module _ {P S G : Type 0} (calls : Ghosts P) where
   -- the shutdown of a session's provider with a timeout: where it was shut nothing happens
   abbrev pub ShutsIfOpen : ProviderState P S G → ℕ → Result (Unit {0}) OTelSdkError → ProviderState P S G → Type 0
-  ShutsIfOpen old timeout answer new = MatchBool old.is_shut ((answer ≡ Ok tt) × (new ≡ old)) (ShutsDown calls old timeout answer new)
+  ShutsIfOpen old timeout answer new =
+      MatchBool old.is_shut ((answer ≡ Ok tt) × (new ≡ old)) (ShutsDown calls old timeout answer new)
 
 module _ {P S G : Type 0} (keeps : kept.Ghosts P) where
   -- the batches that the first processor of a session keeps, and how many it lost
@@ -193,41 +211,51 @@ module _ {P S G : Type 0} (keeps : kept.Ghosts P) where
   abbrev pub LosesNone : SessionState P S G → SessionState P S G → Type 0
   LosesNone old new = session_losses new ≡ session_losses old
 
-module _ {P S G : Type 0} (calls : Ghosts P) (keeps : kept.Ghosts P) (sampler : sampling.Ghosts S) (ids : drawing.Ghosts G) where
+module _ {P S G : Type 0} (calls : Ghosts P) (keeps : kept.Ghosts P) (sampler : sampling.Ghosts S)
+    (ids : drawing.Ghosts G) where
   -- one command with its reply: its answer is as demanded, it shows the spans of the batches that the first processor's
   -- exporter took since the reply before, and that exporter lost none
-  pub record Replies (scope : PlainScope) (old : Course P S G) (shown : ℕ) (command : PlainCommand) (reply : PlainReply) (ds : List Delivery) (new : Course P S G) : Type 0 where
+  pub record Replies (scope : PlainScope) (old : Course P S G) (shown : ℕ) (command : PlainCommand)
+      (reply : PlainReply) (ds : List Delivery) (new : Course P S G) : Type 0 where
     pub demands : Demands calls sampler ids scope old command reply.answer ds new
     pub shows : reply.exported ≡ spans_in (drop shown (batches_of_first keeps new.provider.processors))
     pub loses_none : losses_of_first keeps new.provider.processors ≡ losses_of_first keeps old.provider.processors
 
   -- commands one after another, each with its reply, which begins behind the batches that were shown before it: the
   -- deliveries join
-  abbrev pub DemandAll : PlainScope → Course P S G → ℕ → List PlainCommand → List PlainReply → List Delivery → Course P S G → ℕ → Type 0
+  abbrev pub DemandAll : PlainScope → Course P S G → ℕ → List PlainCommand → List PlainReply → List Delivery
+      → Course P S G → ℕ → Type 0
   DemandAll scope old before [] [] ds new shown = (ds ≡ []) × (new ≡ old) × (shown ≡ before)
   DemandAll scope old before [] (reply ∷ replies) ds new shown = ⊥
   DemandAll scope old before (command ∷ commands) [] ds new shown = ⊥
-  DemandAll scope old before (command ∷ commands) (reply ∷ replies) ds new shown = (middle : Course P S G) × (first : List Delivery) × (rest : List Delivery)
+  DemandAll scope old before (command ∷ commands) (reply ∷ replies) ds new shown =
+      (middle : Course P S G) × (first : List Delivery) × (rest : List Delivery)
       × Replies scope old before command reply first middle
-      × DemandAll scope middle (length (batches_of_first keeps middle.provider.processors)) commands replies rest new shown
+      × DemandAll scope middle (length (batches_of_first keeps middle.provider.processors)) commands replies rest new
+      shown
       × (ds ≡ first ++ rest)
 
   -- what commands demand of the histories that the spans of a session had; each processor follows all that was delivered,
   -- in order
-  pub record Demanded (old : SessionState P S G) (histories : Histories) (commands : List PlainCommand) (replies : List PlainReply) (new : SessionState P S G) : Type 0 where
+  pub record Demanded (old : SessionState P S G) (histories : Histories) (commands : List PlainCommand)
+      (replies : List PlainReply) (new : SessionState P S G) : Type 0 where
     pub deliveries : List Delivery
     pub after : Histories
-    pub demands : DemandAll old.scope (course_of old histories) old.shown commands replies deliveries (course_of new after) new.shown
+    pub demands : DemandAll old.scope (course_of old histories) old.shown commands replies deliveries
+        (course_of new after) new.shown
     pub describes : Describe after new.spans
     pub follows : EachFollows calls deliveries old.provider.processors new.provider.processors
 
   -- commands were carried out, each with its reply, whatever histories the spans had
-  pub record CarriesOut (old : SessionState P S G) (commands : List Command) (replies : List PlainReply) (new : SessionState P S G) : Type 0 where
+  pub record CarriesOut (old : SessionState P S G) (commands : List Command) (replies : List PlainReply)
+      (new : SessionState P S G) : Type 0 where
     pub scope : new.scope ≡ old.scope
-    pub demanded : (histories : Histories) → Describe histories old.spans → Demanded old histories (plain_commands commands) replies new
+    pub demanded : (histories : Histories) → Describe histories old.spans
+        → Demanded old histories (plain_commands commands) replies new
 
   -- all commands were carried out, each with its reply, and the replies show all spans that were exported meanwhile
-  pub record RunsAll (old : SessionState P S G) (commands : List Command) (before now : List PlainReply) (new : SessionState P S G) : Type 0 where
+  pub record RunsAll (old : SessionState P S G) (commands : List Command) (before now : List PlainReply)
+      (new : SessionState P S G) : Type 0 where
     pub replies : List PlainReply
     pub appended : now ≡ before ++ replies
     pub carried : CarriesOut old commands replies new
@@ -237,12 +265,14 @@ module _ {P S G : Type 0} (calls : Ghosts P) (keeps : kept.Ghosts P) (sampler : 
 
   -- a command found no memory: it was carried out or not, it has no reply, and what it exported is left to show
   pub record Refuses (old : SessionState P S G) (command : Command) (new : SessionState P S G) : Type 0 where
-    pub asked : MayCarryOut calls sampler ids old.scope old.provider old.spans (plain_command command) new.provider new.spans
+    pub asked : MayCarryOut calls sampler ids old.scope old.provider old.spans
+        (plain_command command) new.provider new.spans
     pub rest : new ≡ record old { provider = new.provider; spans = new.spans }
     pub keeps_batches : Appends (session_batches keeps old) (session_batches keeps new)
 
   -- a beginning of the commands was carried out, each with its reply, and the one behind it was refused
-  pub record RunsBeginning (old : SessionState P S G) (commands : List Command) (before now : List PlainReply) (new : SessionState P S G) : Type 0 where
+  pub record RunsBeginning (old : SessionState P S G) (commands : List Command) (before now : List PlainReply)
+      (new : SessionState P S G) : Type 0 where
     pub done : List Command
     pub refused : Command
     pub left : List Command
@@ -252,13 +282,15 @@ module _ {P S G : Type 0} (calls : Ghosts P) (keeps : kept.Ghosts P) (sampler : 
     pub refuses : Refuses middle refused new
 
   -- the same where the replies were written: none counts a refusal
-  pub record WritesAll (old : SessionState P S G) (commands : List Command) (before now : List ℕ) (new : SessionState P S G) : Type 0 where
+  pub record WritesAll (old : SessionState P S G) (commands : List Command) (before now : List ℕ)
+      (new : SessionState P S G) : Type 0 where
     pub replies : List PlainReply
     pub written : now ≡ before ++ replies_text replies
     pub none_refused : NoneRefused replies
     pub ran : RunsAll old commands [] replies new
 
-  pub record WritesBeginning (old : SessionState P S G) (commands : List Command) (before now : List ℕ) (new : SessionState P S G) : Type 0 where
+  pub record WritesBeginning (old : SessionState P S G) (commands : List Command) (before now : List ℕ)
+      (new : SessionState P S G) : Type 0 where
     pub replies : List PlainReply
     pub written : now ≡ before ++ replies_text replies
     pub none_refused : NoneRefused replies
@@ -266,31 +298,37 @@ module _ {P S G : Type 0} (calls : Ghosts P) (keeps : kept.Ghosts P) (sampler : 
 
   -- a text was fed whole: its lines up to the first bad one spell the commands that were carried out
   abbrev pub FeedsUpTo : SessionState P S G → List ℕ → Option ℕ → List ℕ → List ℕ → SessionState P S G → Type 0
-  FeedsUpTo old bytes bad_line before now new = (commands : List Command) × TextSpells bytes (plain_commands commands) bad_line
+  FeedsUpTo old bytes bad_line before now new =
+      (commands : List Command) × TextSpells bytes (plain_commands commands) bad_line
       × WritesAll old commands before now new
 
   -- memory ran out: nothing was carried out, or a beginning of the commands that the text spells
   abbrev pub FeedsBeginning : SessionState P S G → List ℕ → List ℕ → List ℕ → SessionState P S G → Type 0
   FeedsBeginning old bytes before now new = ((now ≡ before) × (new ≡ old))
-      ⊎ ((commands : List Command) × (bad_line : Option ℕ) × TextSpells bytes (plain_commands commands) bad_line × WritesBeginning old commands before now new)
+      ⊎ ((commands : List Command) × (bad_line : Option ℕ) × TextSpells bytes (plain_commands commands) bad_line
+      × WritesBeginning old commands before now new)
 
   -- what feeding a text does, by its answer
-  abbrev pub Feeds : {T : Type 0} → SessionState P S G → List ℕ → List ℕ → Result T FeedError → List ℕ → SessionState P S G → Type 0
+  abbrev pub Feeds : {T : Type 0} → SessionState P S G → List ℕ → List ℕ → Result T FeedError → List ℕ
+      → SessionState P S G → Type 0
   Feeds old bytes before (Ok _) now new = FeedsUpTo old bytes None before now new
   Feeds old bytes before (Err (feeds.Line n)) now new = FeedsUpTo old bytes (Some n) before now new
   Feeds old bytes before (Err feeds.Memory) now new = FeedsBeginning old bytes before now new
 
   -- the lines of the spans that no reply has shown are appended, those exported by the shutdown among them; where there is
   -- no memory for them, none is
-  pub record Closes (session : SessionState P S G) (before : List ℕ) (answer : Result (Unit {0}) OTelSdkError) (now : List ℕ) : Type 0 where
+  pub record Closes (session : SessionState P S G) (before : List ℕ) (answer : Result (Unit {0}) OTelSdkError)
+      (now : List ℕ) : Type 0 where
     pub provider : ProviderState P S G
     pub shutdown : Result (Unit {0}) OTelSdkError
     pub shuts : ShutsIfOpen calls session.provider 5_000_000_000 shutdown provider
-    pub writes : ((answer ≡ shutdown) × (now ≡ before ++ span_lines (unshown keeps (record session { provider = provider }))))
+    pub writes : ((answer ≡ shutdown)
+        × (now ≡ before ++ span_lines (unshown keeps (record session { provider = provider }))))
         ⊎ ((answer ≡ or_no_memory shutdown) × (now ≡ before))
 
   -- a text was fed to a session, whole or up to its first bad line, and the session closed well
-  pub record Finishes (session : SessionState P S G) (bytes : List ℕ) (bad_line : Option ℕ) (now : List ℕ) : Type 0 where
+  pub record Finishes (session : SessionState P S G) (bytes : List ℕ) (bad_line : Option ℕ)
+      (now : List ℕ) : Type 0 where
     pub written : List ℕ
     pub after : SessionState P S G
     pub feeds : FeedsUpTo session bytes bad_line [] written after

@@ -42,7 +42,8 @@ impl<C: SpanExporter, D: SpanProcessor> KeepsBatches
           (λ a b h. simple_stays exporter_keeps exporter_loses a b h) p q given;
       ends = λ p span answer q given.
           processor_appends (λ simple. exporter_keeps simple.exporter) _ _ (λ a b h. simple_appends exporter_keeps
-          ⟦<ExporterOf<InMemorySpanExporter, C> as SpanExporter>⟧ (exporter_appends C.export_gives) a span answer b h) p q given;
+          ⟦<ExporterOf<InMemorySpanExporter, C> as SpanExporter>⟧ (exporter_appends C.export_gives) a span answer b h)
+          p q given;
     } };
 
     fn batches(&self) -> &[Vec<SpanData>] {

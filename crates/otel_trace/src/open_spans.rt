@@ -58,10 +58,12 @@ impl OpenSpans {
         called: String,
         now: Moment,
     ) -> Result<Answer, AllocError>
-        ensures ok { IfOk result (λ answer. StartsNamed P.SpanProcessor S.ShouldSample G.IdGenerator provider.old tracer.now self.old (string_bytes name)
+        ensures ok { IfOk result (λ answer. StartsNamed P.SpanProcessor S.ShouldSample G.IdGenerator provider.old
+            tracer.now self.old (string_bytes name)
             (string_bytes called) now.0 (named self.old (string_bytes name)) answer provider.new self.new) }
         ensures told { map P.told provider.new.processors ≡ map P.told provider.old.processors }
-        ensures asks { MayStart P.SpanProcessor S.ShouldSample G.IdGenerator provider.old tracer.now (string_bytes called) now.0 provider.new }
+        ensures asks { MayStart P.SpanProcessor S.ShouldSample G.IdGenerator provider.old tracer.now
+            (string_bytes called) now.0 provider.new }
         ensures err { OnErr result (SameSpans self.old self.new) }
     {
         if self.contains(name.as_str()) {
@@ -90,7 +92,8 @@ impl OpenSpans {
 
     /// Edits the span of a name.
     pub(crate) fn edit(&mut self, name: &str, edit: SpanEdit) -> Result<Answer, AllocError>
-        ensures ok { IfOk result (λ answer. EditsNamed self.old name.now (plain_edit edit) (named self.old name.now) answer self.new) }
+        ensures ok { IfOk result (λ answer. EditsNamed self.old name.now (plain_edit edit)
+            (named self.old name.now) answer self.new) }
         ensures err { OnErr result (SameSpans self.old self.new) }
     {
         edit_in(&mut self.spans, name, edit)
@@ -120,7 +123,8 @@ impl OpenSpans {
 
 fn put_in(spans: &mut BTreeMap<String, Span>, name: String, span: Span) -> Result<(), AllocError>
     requires { named (by_name spans.old.entries) (string_bytes name) ≡ None }
-    ensures ok { OnOk result (PutsSpan (by_name spans.old.entries) (string_bytes name) span (by_name spans.new.entries)) }
+    ensures ok { OnOk result (PutsSpan (by_name spans.old.entries) (string_bytes name) span
+        (by_name spans.new.entries)) }
     ensures err { OnErr result (SameSpans (by_name spans.old.entries) (by_name spans.new.entries)) }
 {
     match spans.insert(name, span) {
@@ -200,10 +204,12 @@ fn end_in<P: SpanProcessor, S: Drop, G: Drop>(
     provider: &mut ProviderOf<P, S, G>,
     moment: Moment,
 ) -> Result<Answer, AllocError>
-    ensures ok { IfOk result (λ answer. EndsNamed P.SpanProcessor provider.old (by_name spans.old.entries) name.now moment.0
+    ensures ok { IfOk result (λ answer. EndsNamed P.SpanProcessor provider.old
+        (by_name spans.old.entries) name.now moment.0
         (named (by_name spans.old.entries) name.now) answer provider.new (by_name spans.new.entries)) }
     ensures asks { MayDeliver P.SpanProcessor provider.old.processors provider.new.processors }
-    ensures err { OnErr result (SameSpans (by_name spans.old.entries) (by_name spans.new.entries) × (provider.new ≡ provider.old)) }
+    ensures err { OnErr result
+        (SameSpans (by_name spans.old.entries) (by_name spans.new.entries) × (provider.new ≡ provider.old)) }
 {
     let Some(span) = spans.get_mut(name) else {
         return Ok(Answer::NoSuchSpan);

@@ -97,7 +97,8 @@ pub fn run_program<R: Read, W: Write, F: Write>(
         × TracesSeed ⟦<TraceProcessor as SpanProcessor>⟧ ⟦<TraceSampler as ShouldSample>⟧
         ⟦<RandomIdGenerator as IdGenerator>⟧ seed bytes None (W.contents output.old) (W.contents output.new)
         × (faults.new ≡ faults.old) }
-    ensures bad_line { (seed : ℕ) → AsksFor (map string_bytes words.now) seed → result ≡ 2 → (bytes : List ℕ) × (line : ℕ)
+    ensures bad_line { (seed : ℕ) → AsksFor (map string_bytes words.now) seed → result ≡ 2 → (bytes : List ℕ)
+        × (line : ℕ)
         × ReadsWhole (R.remaining input.old) (R.remaining input.new) bytes
         × TracesSeed ⟦<TraceProcessor as SpanProcessor>⟧ ⟦<TraceSampler as ShouldSample>⟧
         ⟦<RandomIdGenerator as IdGenerator>⟧ seed bytes (Some line) (W.contents output.old) (W.contents output.new)

@@ -3,6 +3,7 @@
 
 ghost use Rattle.std.specs.Prelude.{◌≡◌, ◌++◌, ◌∷◌, [], IfOk, OnOk, OnErr, string_bytes};
 ghost use Rattle.std.specs.List.{flat_map};
+ghost use Rattle.opentelemetry.specs.Text.{Appends};
 ghost use Rattle.opentelemetry.specs.PlainValues.{plain_status};
 ghost use Rattle.otel_trace.specs.AnswerText.{answer_line};
 ghost use Rattle.otel_trace.specs.ReplyText.{listed, spaced, comma_before, status_text, attribute_text, attributes_text, event_text, events_text, links_text, identity_text, span_line, span_lines, context_text, started_line, dropped_line};
@@ -16,7 +17,7 @@ use std::fmt::Write;
 
 /// `unset`, `ok`, or `error` and the description in parentheses.
 fn push_status(text: &mut String, status: &Status) -> Result<(), AllocError>
-    ensures { OnOk result (string_bytes text.new ≡ string_bytes text.old ++ status_text (plain_status status.now)) }
+    ensures { OnOk result (Appends text.old (status_text (plain_status status.now)) text.new) }
 {
     match status {
         Status::Unset => text.push_str("unset"),
@@ -27,7 +28,7 @@ fn push_status(text: &mut String, status: &Status) -> Result<(), AllocError>
 
 /// The event's name, `@` and its moment.
 fn push_event(text: &mut String, event: &Event) -> Result<(), AllocError>
-    ensures { OnOk result (string_bytes text.new ≡ string_bytes text.old ++ event_text event.now) }
+    ensures { OnOk result (Appends text.old (event_text event.now) text.new) }
 {
     let name = event.name.as_str();
     let moment = event.timestamp.0;
@@ -36,14 +37,14 @@ fn push_event(text: &mut String, event: &Event) -> Result<(), AllocError>
 
 /// A comma before each item but the first.
 fn push_comma(text: &mut String, i: usize) -> Result<(), AllocError>
-    ensures { OnOk result (string_bytes text.new ≡ string_bytes text.old ++ comma_before i) }
+    ensures { OnOk result (Appends text.old (comma_before i) text.new) }
 {
     if i == 0 { Ok(()) } else { text.push(',') }
 }
 
 /// The attribute's key, `=` and its value.
 fn push_attribute(text: &mut String, attribute: &KeyValue) -> Result<(), AllocError>
-    ensures { OnOk result (string_bytes text.new ≡ string_bytes text.old ++ attribute_text attribute.now) }
+    ensures { OnOk result (Appends text.old (attribute_text attribute.now) text.new) }
 {
     let key = attribute.key.as_str();
     let value = &attribute.value;
@@ -52,7 +53,7 @@ fn push_attribute(text: &mut String, attribute: &KeyValue) -> Result<(), AllocEr
 
 /// The attributes in brackets.
 fn push_attribute_list(text: &mut String, attributes: &[KeyValue]) -> Result<(), AllocError>
-    ensures { OnOk result (string_bytes text.new ≡ string_bytes text.old ++ listed attribute_text attributes.now) }
+    ensures { OnOk result (Appends text.old (listed attribute_text attributes.now) text.new) }
 {
     text.push('[')?;
     for (i, attribute) in attributes.iter().enumerate() {
@@ -65,7 +66,7 @@ fn push_attribute_list(text: &mut String, attributes: &[KeyValue]) -> Result<(),
 /// The attributes that were kept, and how many were not.
 #[tactic(auto, using(std::proofs::lemmas::List::append_assoc))]
 fn push_attributes(text: &mut String, span: &SpanData) -> Result<(), AllocError>
-    ensures { OnOk result (string_bytes text.new ≡ string_bytes text.old ++ attributes_text span.now) }
+    ensures { OnOk result (Appends text.old (attributes_text span.now) text.new) }
 {
     let dropped = span.dropped_attributes_count;
     text.push_str("attrs ")?;
@@ -75,7 +76,7 @@ fn push_attributes(text: &mut String, span: &SpanData) -> Result<(), AllocError>
 
 /// The events in brackets.
 fn push_event_list(text: &mut String, events: &[Event]) -> Result<(), AllocError>
-    ensures { OnOk result (string_bytes text.new ≡ string_bytes text.old ++ listed event_text events.now) }
+    ensures { OnOk result (Appends text.old (listed event_text events.now) text.new) }
 {
     text.push('[')?;
     for (i, event) in events.iter().enumerate() {
@@ -88,7 +89,7 @@ fn push_event_list(text: &mut String, events: &[Event]) -> Result<(), AllocError
 /// The events that were kept, and how many were not.
 #[tactic(auto, using(std::proofs::lemmas::List::append_assoc))]
 fn push_events(text: &mut String, events: &SpanEvents) -> Result<(), AllocError>
-    ensures { OnOk result (string_bytes text.new ≡ string_bytes text.old ++ events_text events.now) }
+    ensures { OnOk result (Appends text.old (events_text events.now) text.new) }
 {
     let dropped = events.dropped_count;
     text.push_str("events ")?;
@@ -98,7 +99,7 @@ fn push_events(text: &mut String, events: &SpanEvents) -> Result<(), AllocError>
 
 /// How many links were kept, and how many were not.
 fn push_links(text: &mut String, links: &SpanLinks) -> Result<(), AllocError>
-    ensures { OnOk result (string_bytes text.new ≡ string_bytes text.old ++ links_text links.now) }
+    ensures { OnOk result (Appends text.old (links_text links.now) text.new) }
 {
     let kept = links.links.len();
     let dropped = links.dropped_count;
@@ -108,7 +109,8 @@ fn push_links(text: &mut String, links: &SpanLinks) -> Result<(), AllocError>
 /// The events and links of a span.
 #[tactic(auto, using(std::proofs::lemmas::List::append_assoc))]
 fn push_events_and_links(text: &mut String, span: &SpanData) -> Result<(), AllocError>
-    ensures { OnOk result (string_bytes text.new ≡ string_bytes text.old ++ spaced (events_text span.now.events ∷ links_text span.now.links ∷ [])) }
+    ensures { OnOk result (Appends text.old
+        (spaced (events_text span.now.events ∷ links_text span.now.links ∷ [])) text.new) }
 {
     push_events(text, &span.events)?;
     text.push(' ')?;
@@ -118,7 +120,7 @@ fn push_events_and_links(text: &mut String, span: &SpanData) -> Result<(), Alloc
 /// Which span it is, what it is called, when it ran and how it went.
 #[tactic(auto, using(std::proofs::lemmas::List::append_assoc))]
 fn push_identity(text: &mut String, span: &SpanData) -> Result<(), AllocError>
-    ensures { OnOk result (string_bytes text.new ≡ string_bytes text.old ++ identity_text span.now) }
+    ensures { OnOk result (Appends text.old (identity_text span.now) text.new) }
 {
     let trace_id = span.span_context.trace_id();
     let span_id = span.span_context.span_id();
@@ -137,7 +139,7 @@ fn push_identity(text: &mut String, span: &SpanData) -> Result<(), AllocError>
 /// The line of one exported span.
 #[tactic(auto, using(std::proofs::lemmas::List::append_assoc))]
 fn push_span(text: &mut String, span: &SpanData) -> Result<(), AllocError>
-    ensures { OnOk result (string_bytes text.new ≡ string_bytes text.old ++ span_line span.now) }
+    ensures { OnOk result (Appends text.old (span_line span.now) text.new) }
 {
     push_identity(text, span)?;
     text.push(' ')?;
@@ -149,7 +151,7 @@ fn push_span(text: &mut String, span: &SpanData) -> Result<(), AllocError>
 
 /// The lines of the spans of a batch, in order.
 fn push_spans(text: &mut String, spans: &[SpanData]) -> Result<(), AllocError>
-    ensures { OnOk result (string_bytes text.new ≡ string_bytes text.old ++ span_lines spans.now) }
+    ensures { OnOk result (Appends text.old (span_lines spans.now) text.new) }
 {
     for span in spans {
         push_span(text, span)?;
@@ -159,7 +161,7 @@ fn push_spans(text: &mut String, spans: &[SpanData]) -> Result<(), AllocError>
 
 /// The lines of the spans of batches, in order.
 fn push_batches(text: &mut String, batches: &[Vec<SpanData>]) -> Result<(), AllocError>
-    ensures { OnOk result (string_bytes text.new ≡ string_bytes text.old ++ span_lines (flat_map (λ batch. batch.items) batches.now)) }
+    ensures { OnOk result (Appends text.old (span_lines (flat_map (λ batch. batch.items) batches.now)) text.new) }
 {
     for batch in batches {
         push_spans(text, batch)?;
@@ -174,7 +176,7 @@ fn push_context(
     span_id: SpanId,
     trace_flags: TraceFlags,
 ) -> Result<(), AllocError>
-    ensures { OnOk result (string_bytes text.new ≡ string_bytes text.old ++ context_text trace_id span_id trace_flags) }
+    ensures { OnOk result (Appends text.old (context_text trace_id span_id trace_flags) text.new) }
 {
     write!(text, "00-{trace_id}-{span_id}-{trace_flags}")
 }
@@ -187,7 +189,7 @@ fn push_started(
     span_id: SpanId,
     trace_flags: TraceFlags,
 ) -> Result<(), AllocError>
-    ensures { OnOk result (string_bytes text.new ≡ string_bytes text.old ++ started_line trace_id span_id trace_flags) }
+    ensures { OnOk result (Appends text.old (started_line trace_id span_id trace_flags) text.new) }
 {
     text.push_str("started ")?;
     push_context(text, trace_id, span_id, trace_flags)?;
@@ -202,7 +204,7 @@ fn push_dropped(
     span_id: SpanId,
     trace_flags: TraceFlags,
 ) -> Result<(), AllocError>
-    ensures { OnOk result (string_bytes text.new ≡ string_bytes text.old ++ dropped_line trace_id span_id trace_flags) }
+    ensures { OnOk result (Appends text.old (dropped_line trace_id span_id trace_flags) text.new) }
 {
     text.push_str("dropped ")?;
     push_context(text, trace_id, span_id, trace_flags)?;
@@ -211,7 +213,7 @@ fn push_dropped(
 
 /// The line of an answer.
 fn push_answer(text: &mut String, answer: Answer) -> Result<(), AllocError>
-    ensures { OnOk result (string_bytes text.new ≡ string_bytes text.old ++ answer_line answer) }
+    ensures { OnOk result (Appends text.old (answer_line answer) text.new) }
 {
     match answer {
         Answer::Started(span) => push_started(text, span.trace_id, span.span_id, span.trace_flags),
@@ -230,7 +232,8 @@ fn put_reply(
     exported: &[Vec<SpanData>],
     answer: Answer,
 ) -> Result<(), AllocError>
-    ensures { OnOk result (string_bytes text.new ≡ span_lines (flat_map (λ batch. batch.items) exported.now) ++ answer_line answer) }
+    ensures { OnOk result (string_bytes text.new
+        ≡ span_lines (flat_map (λ batch. batch.items) exported.now) ++ answer_line answer) }
 {
     text.clear();
     push_batches(text, exported)?;
@@ -243,7 +246,8 @@ pub fn write_batches(
     out: &mut Vec<u8>,
     exported: &[Vec<SpanData>],
 ) -> Result<(), AllocError>
-    ensures ok { OnOk result (out.new.items ≡ out.old.items ++ span_lines (flat_map (λ batch. batch.items) exported.now)) }
+    ensures ok { OnOk result (out.new.items
+        ≡ out.old.items ++ span_lines (flat_map (λ batch. batch.items) exported.now)) }
     ensures err { OnErr result (out.new.items ≡ out.old.items) }
 {
     let mut text = String::new(alloc);

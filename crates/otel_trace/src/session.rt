@@ -149,7 +149,8 @@ impl<P: KeepsBatches, S: ShouldSample, G: IdGenerator> Session<P, S, G> {
     /// a beginning of the commands, and at most one more command was carried out. What that one exported is left for the
     /// next reply.
     pub fn feed(&mut self, text: &[u8], output: &mut Vec<u8>) -> Result<(), FeedError>
-        ensures { Feeds P.SpanProcessor P.KeepsBatches.own S.ShouldSample G.IdGenerator self.old text.now output.old.items result output.new.items self.new }
+        ensures { Feeds P.SpanProcessor P.KeepsBatches.own S.ShouldSample G.IdGenerator self.old text.now
+            output.old.items result output.new.items self.new }
     {
         let Ok(script) = parse(self.alloc, text) else {
             return Err(FeedError::Memory);
@@ -167,7 +168,8 @@ impl<P: KeepsBatches, S: ShouldSample, G: IdGenerator> Session<P, S, G> {
     /// that no reply has shown are appended. The answer is that of the shutdown, or `OutOfMemory` where that is Ok and the
     /// lines found no memory.
     pub fn close(self, output: &mut Vec<u8>) -> OTelSdkResult
-        ensures { Closes P.SpanProcessor P.KeepsBatches.own S.ShouldSample G.IdGenerator self output.old.items result output.new.items }
+        ensures { Closes P.SpanProcessor P.KeepsBatches.own S.ShouldSample G.IdGenerator self output.old.items result
+            output.new.items }
     {
         let Session {
             mut provider,
@@ -214,7 +216,8 @@ impl<P: KeepsBatches, S: ShouldSample, G: IdGenerator> Session<P, S, G> {
         output: &mut Vec<u8>,
     ) -> Result<(), AllocError>
         ensures ok { OnOk result ((counts_refusals answer ≡ false)
-            × (output.new.items ≡ output.old.items ++ (span_lines (unshown P.KeepsBatches.own self.now) ++ answer_line answer))) }
+            × (output.new.items ≡ output.old.items ++
+            (span_lines (unshown P.KeepsBatches.own self.now) ++ answer_line answer))) }
         ensures err { OnErr result (output.new.items ≡ output.old.items) }
     {
         if answer.counts_refusals() {
@@ -226,12 +229,15 @@ impl<P: KeepsBatches, S: ShouldSample, G: IdGenerator> Session<P, S, G> {
     /// Carries one command out. It is also an error where the first processor's exporter lost the batch of an ended span.
     /// On an error the command was carried out or not, and what it exported is left for the next reply.
     fn answer(&mut self, command: Command) -> Result<Answer, AllocError>
-        ensures ok { IfOk result (λ answer. CarriesOutOne P.SpanProcessor S.ShouldSample G.IdGenerator self.old.scope self.old.provider self.old.spans
+        ensures ok { IfOk result (λ answer. CarriesOutOne P.SpanProcessor S.ShouldSample G.IdGenerator self.old.scope
+            self.old.provider self.old.spans
             (plain_command command) answer self.new.provider self.new.spans × LosesNone P.KeepsBatches.own self.old self.new) }
-        ensures err { OnErr result (MayCarryOut P.SpanProcessor S.ShouldSample G.IdGenerator self.old.scope self.old.provider self.old.spans
+        ensures err { OnErr result
+            (MayCarryOut P.SpanProcessor S.ShouldSample G.IdGenerator self.old.scope self.old.provider self.old.spans
             (plain_command command) self.new.provider self.new.spans) }
         ensures rest { self.new ≡ record self.old { provider = self.new.provider; spans = self.new.spans } }
-        ensures keeps { Appends (session_batches P.KeepsBatches.own self.old) (session_batches P.KeepsBatches.own self.new) }
+        ensures keeps { Appends (session_batches P.KeepsBatches.own self.old)
+            (session_batches P.KeepsBatches.own self.new) }
     {
         let ends_span = command.ends_span();
         let lost = self.lost_batches();
@@ -244,12 +250,15 @@ impl<P: KeepsBatches, S: ShouldSample, G: IdGenerator> Session<P, S, G> {
 
     /// Carries one command out; a lost batch is no error.
     fn carry_out(&mut self, command: Command) -> Result<Answer, AllocError>
-        ensures ok { IfOk result (λ answer. CarriesOutOne P.SpanProcessor S.ShouldSample G.IdGenerator self.old.scope self.old.provider self.old.spans
+        ensures ok { IfOk result (λ answer. CarriesOutOne P.SpanProcessor S.ShouldSample G.IdGenerator self.old.scope
+            self.old.provider self.old.spans
             (plain_command command) answer self.new.provider self.new.spans) }
-        ensures err { OnErr result (RefusesOne P.SpanProcessor S.ShouldSample G.IdGenerator self.old.scope self.old.provider self.old.spans
+        ensures err { OnErr result
+            (RefusesOne P.SpanProcessor S.ShouldSample G.IdGenerator self.old.scope self.old.provider self.old.spans
             (plain_command command) self.new.provider self.new.spans) }
         ensures rest { self.new ≡ record self.old { provider = self.new.provider; spans = self.new.spans } }
-        ensures keeps { Appends (session_batches P.KeepsBatches.own self.old) (session_batches P.KeepsBatches.own self.new) }
+        ensures keeps { Appends (session_batches P.KeepsBatches.own self.old)
+            (session_batches P.KeepsBatches.own self.new) }
         ensures loses { IsFalse (is_end (plain_command command)) → LosesNone P.KeepsBatches.own self.old self.new }
     {
         carry_out(&self.tracer, &mut self.provider, &mut self.spans, command)
@@ -334,14 +343,17 @@ fn carry_out<P: KeepsBatches, S: ShouldSample, G: IdGenerator>(
     spans: &mut OpenSpans,
     command: Command,
 ) -> Result<Answer, AllocError>
-    ensures ok { IfOk result (λ answer. CarriesOutOne P.SpanProcessor S.ShouldSample G.IdGenerator tracer.now provider.old spans.old
+    ensures ok { IfOk result (λ answer. CarriesOutOne P.SpanProcessor S.ShouldSample G.IdGenerator tracer.now
+        provider.old spans.old
         (plain_command command) answer provider.new spans.new) }
-    ensures err { OnErr result (RefusesOne P.SpanProcessor S.ShouldSample G.IdGenerator tracer.now provider.old spans.old
+    ensures err { OnErr result
+        (RefusesOne P.SpanProcessor S.ShouldSample G.IdGenerator tracer.now provider.old spans.old
         (plain_command command) provider.new spans.new) }
     ensures keeps { Appends (batches_of_first P.KeepsBatches.own provider.old.processors)
         (batches_of_first P.KeepsBatches.own provider.new.processors) }
     ensures loses { IsFalse (is_end (plain_command command))
-        → losses_of_first P.KeepsBatches.own provider.new.processors ≡ losses_of_first P.KeepsBatches.own provider.old.processors }
+        → losses_of_first P.KeepsBatches.own provider.new.processors
+        ≡ losses_of_first P.KeepsBatches.own provider.old.processors }
 {
     match command {
         Command::Start { span, name, moment } => spans.start(span, tracer, provider, name, moment),

@@ -33,7 +33,8 @@ impl<S: SpanProcessor, C: SpanProcessor> SpanProcessor for ProcessorOf<S, C> {
 
     ghost flush_gives = { λ p r q. ProcessorGives (λ a b. S.flush_gives a r b) (λ c d. C.flush_gives c r d) p q };
 
-    ghost shutdown_gives = { λ p timeout r q. ProcessorGives (λ a b. S.shutdown_gives a timeout r b) (λ c d. C.shutdown_gives c timeout r d) p q };
+    ghost shutdown_gives = { λ p timeout r q. ProcessorGives (λ a b. S.shutdown_gives a timeout r b)
+        (λ c d. C.shutdown_gives c timeout r d) p q };
 
     ghost resource_gives = { λ p resource r q. ProcessorGives
         (λ a b. RestsOr (λ x answer y. S.resource_gives x resource answer y) a r b)

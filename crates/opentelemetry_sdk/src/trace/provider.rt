@@ -161,7 +161,8 @@ impl<P: SpanProcessor, S: Drop, G: Drop> ProviderOf<P, S, G> {
     /// A span has ended: each processor gets its copy, the last one the original. The answer is how many refused.
     pub(crate) fn end_each(&mut self, copies: Vec<SpanData>, original: SpanData) -> usize
         requires { copies.items ≡ replicate (length self.old.processors - 1) original }
-        ensures asked { AskedAll (TakesAndTells P.SpanProcessor original) self.old.processors self.new.processors result }
+        ensures asked { AskedAll (TakesAndTells P.SpanProcessor original) self.old.processors self.new.processors
+            result }
         ensures rest { self.new ≡ record self.old { processors = self.new.processors } }
     {
         end_each(&mut self.processors, copies, original)
@@ -171,7 +172,8 @@ impl<P: SpanProcessor, S: Drop, G: Drop> ProviderOf<P, S, G> {
     /// none; failures of processors are an `InternalFailure` that counts them.
     pub fn shutdown_with_timeout(&mut self, timeout: Duration) -> OTelSdkResult
         ensures again { OnTrue self.old.is_shut (IsErrOf result OTelSdkError.AlreadyShutdown × (self.new ≡ self.old)) }
-        ensures first { OnFalse self.old.is_shut (ShutsDown P.SpanProcessor self.old (as_nanos timeout) result self.new) }
+        ensures first { OnFalse self.old.is_shut
+            (ShutsDown P.SpanProcessor self.old (as_nanos timeout) result self.new) }
     {
         if self.is_shut {
             return Err(OTelSdkError::AlreadyShutdown);

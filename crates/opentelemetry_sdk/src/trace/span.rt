@@ -84,7 +84,8 @@ impl Span {
         ensures err { OnErr result (self.new ≡ self.old) }
         ensures edits { history.IsEdited self.old self.new }
         ensures free { IsNone self.old.recorded → IsOk result }
-        ensures full { IfSome self.old.recorded (λ recorded. self.old.limits.max_attributes_per_span ≤ length recorded.attributes → IsOk result) }
+        ensures full { IfSome self.old.recorded
+            (λ recorded. self.old.limits.max_attributes_per_span ≤ length recorded.attributes → IsOk result) }
     {
         add_attribute(&mut self.data, self.span_limits, attribute)
     }
@@ -113,7 +114,8 @@ impl Span {
         provider: &mut ProviderOf<P, S, G>,
         timestamp: Moment,
     ) -> Result<usize, AllocError>
-        ensures ok { IfOk result (λ refused. DeliversIf P.SpanProcessor provider.old.is_shut timestamp.0 self.old.recorded
+        ensures ok { IfOk result (λ refused. DeliversIf P.SpanProcessor provider.old.is_shut timestamp.0
+            self.old.recorded
             provider.old.processors provider.new.processors refused) }
         ensures told { IfOk result (λ refused. EachFollows P.SpanProcessor
             (deliveries provider.old.is_shut timestamp.0 self.old.recorded refused)
@@ -175,7 +177,8 @@ fn push_attribute(
     limits: SpanLimits,
     attribute: KeyValue,
 ) -> Result<(), AllocError>
-    ensures ok { OnOk result (recorded.new ≡ history.edited_data limits (history.set_attribute attribute) recorded.old) }
+    ensures ok { OnOk result (recorded.new
+        ≡ history.edited_data limits (history.set_attribute attribute) recorded.old) }
     ensures err { OnErr result (recorded.new ≡ recorded.old) }
     ensures full { limits.max_attributes_per_span ≤ length recorded.old.attributes → IsOk result }
 {

@@ -61,7 +61,8 @@ impl SdkTracer {
           processors = provider.new.processors;
           id_generator = provider.new.id_generator;
         } }
-        ensures err { OnErr result (MayDraw S.ShouldSample G.IdGenerator provider.old (string_bytes name) provider.new) }
+        ensures err { OnErr result
+            (MayDraw S.ShouldSample G.IdGenerator provider.old (string_bytes name) provider.new) }
         ensures shut { IsTrue provider.old.is_shut → IsOk result }
     {
         let span_limits = provider.span_limits();
@@ -166,7 +167,8 @@ fn root_data(
     now: Moment,
     span_limits: SpanLimits,
 ) -> SpanData
-    ensures { result ≡ data_of (root_start scope (string_bytes name) now.0 span_limits span_context attributes.items) [] now.0 }
+    ensures { result ≡ data_of
+        (root_start scope (string_bytes name) now.0 span_limits span_context attributes.items) [] now.0 }
 {
     let dropped = cut(&mut attributes, span_limits.max_attributes_per_span);
     SpanData {
