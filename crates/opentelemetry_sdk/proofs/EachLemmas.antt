@@ -6,7 +6,7 @@ use Rattle.std.proofs.Math.Seq.{take-append_seam}
 use Rattle.std.proofs.lemmas.List.{take_all, take_more, take_more_set, drop-set-lt, get_or-drop, drop-drop, length-drop, length-set}
 use Rattle.std.proofs.lemmas.Slice.{drop-append-drop}
 use Rattle.opentelemetry.specs.Plain.{PlainContext}
-use Rattle.opentelemetry_sdk.specs.Each.{Each, AskedAll, errors}
+use Rattle.opentelemetry_sdk.specs.Each.{Each, AskedAll, error_count}
 use Rattle.opentelemetry_sdk.specs.SpanHistory.{PlainSpan}
 use Rattle.opentelemetry_sdk.specs.Starting.{PassesThrough}
 use Rattle.opentelemetry_sdk.specs.declared.trace.span_processor.SpanProcessor.{Ghosts}
@@ -26,16 +26,16 @@ with_answer (Ok _) n = n
 with_answer (Err _) n = n + 1
 
 -- one more answer
-errors-push : {T E : Type 0} (rs : List (Result T E)) (r : Result T E) → errors (rs ++ r ∷ []) ≡ with_answer r (errors rs)
-errors-push [] (Ok _) = refl
-errors-push [] (Err _) = refl
-errors-push (Ok _ ∷ rs) r = errors-push rs r
-errors-push (Err _ ∷ rs) (Ok a) = ap (λ n. n + 1) (errors-push rs (Ok a))
-errors-push (Err _ ∷ rs) (Err a) = ap (λ n. n + 1) (errors-push rs (Err a))
+error_count-push : {T E : Type 0} (rs : List (Result T E)) (r : Result T E) → error_count (rs ++ r ∷ []) ≡ with_answer r (error_count rs)
+error_count-push [] (Ok _) = refl
+error_count-push [] (Err _) = refl
+error_count-push (Ok _ ∷ rs) r = error_count-push rs r
+error_count-push (Err _ ∷ rs) (Ok a) = ap (λ n. n + 1) (error_count-push rs (Ok a))
+error_count-push (Err _ ∷ rs) (Err a) = ap (λ n. n + 1) (error_count-push rs (Err a))
 
 -- one more was asked
 pub asked_push : {P T E : Type 0} (G : P → Result T E → P → Type 0) (ps qs : List P) (n : ℕ) (p : P) (r : Result T E) (q : P) → AskedAll G ps qs n → G p r q → AskedAll G (ps ++ p ∷ []) (qs ++ q ∷ []) (with_answer r n)
-asked_push G ps qs n p r q (rs, counted, each) h = (rs ++ r ∷ [], errors-push rs r ∙ ap (with_answer r) counted, Each-push G ps rs qs each h)
+asked_push G ps qs n p r q (rs, counted, each) h = (rs ++ r ∷ [], error_count-push rs r ∙ ap (with_answer r) counted, Each-push G ps rs qs each h)
 
 -- the processor that comes next is as it was
 at_front : {P : Type 0} (init now : List P) (i : ℕ) (d : P) → drop i now ≡ drop i init → get_or now i d ≡ get_or init i d

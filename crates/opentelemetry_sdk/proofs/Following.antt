@@ -9,7 +9,7 @@ use Rattle.std.specs.declared.alloc.AllocError.{AllocError}
 use Rattle.opentelemetry_sdk.specs.ProcessorTelling.{ProcessorTelling, CountsUp, TakesSpan, TakesNothing, HandsOver, HearsNothing, is_sampled}
 use Rattle.opentelemetry_sdk.specs.Deliveries.{Delivery, Follows, EachFollows, Reaches, ReachesFirst, spans_of}
 use Rattle.opentelemetry_sdk.specs.declared.trace.span_processor.SpanProcessor.{Ghosts}
-use Rattle.opentelemetry_sdk.specs.Each.{Each, AskedAll, errors}
+use Rattle.opentelemetry_sdk.specs.Each.{Each, AskedAll, error_count}
 use Rattle.opentelemetry_sdk.specs.Ending.{TakesAndTells, DeliversIf, deliveries}
 use Rattle.opentelemetry_sdk.specs.Provider.{ProviderState, ShutsDown, ShutsProcessor}
 use Rattle.opentelemetry_sdk.specs.SpanHistory.{ended_at}
@@ -284,23 +284,23 @@ EachFollows-shut calls old timeout answer new h =
     old.processors new.processors h.failed h.asked
 
 -- the errors among more answers are no fewer
-counted_first : {T E : Type 0} (r : Result T E) (rs : List (Result T E)) (n : ℕ) → errors (r ∷ rs) ≤ n → IsCounted r n
+counted_first : {T E : Type 0} (r : Result T E) (rs : List (Result T E)) (n : ℕ) → error_count (r ∷ rs) ≤ n → IsCounted r n
 counted_first (Ok _) rs n h = tt
 counted_first (Err _) rs n h = omega arith
 
-errors-rest : {T E : Type 0} (r : Result T E) (rs : List (Result T E)) (n : ℕ) → errors (r ∷ rs) ≤ n → errors rs ≤ n
-errors-rest (Ok _) rs n h = h
-errors-rest (Err _) rs n h = omega arith
+error_count-rest : {T E : Type 0} (r : Result T E) (rs : List (Result T E)) (n : ℕ) → error_count (r ∷ rs) ≤ n → error_count rs ≤ n
+error_count-rest (Ok _) rs n h = h
+error_count-rest (Err _) rs n h = omega arith
 
 each_follows : {P : Type 0} (calls : Ghosts P) (span : PlainSpanData) (n : ℕ) (ps : List P) (rs : List (Result (Unit {0}) AllocError)) (qs : List P)
-    → errors rs ≤ n → Each (TakesAndTells calls span) ps rs qs → EachFollows calls (record { span = span; refused = n } ∷ []) ps qs
+    → error_count rs ≤ n → Each (TakesAndTells calls span) ps rs qs → EachFollows calls (record { span = span; refused = n } ∷ []) ps qs
 each_follows calls span n [] [] [] m h = tt
 each_follows calls span n [] [] (q ∷ qs) m h = absurd h
 each_follows calls span n [] (r ∷ rs) qs m h = absurd h
 each_follows calls span n (p ∷ ps) [] qs m h = absurd h
 each_follows calls span n (p ∷ ps) (r ∷ rs) [] m h = absurd h
 each_follows calls span n (p ∷ ps) (r ∷ rs) (q ∷ qs) m h =
-    (follows_one (calls.told p) span r n (calls.told q) h.0.told (counted_first r rs n m), each_follows calls span n ps rs qs (errors-rest r rs n m) h.1)
+    (follows_one (calls.told p) span r n (calls.told q) h.0.told (counted_first r rs n m), each_follows calls span n ps rs qs (error_count-rest r rs n m) h.1)
 
 -- the processors of a provider follow what an end delivers
 pub delivered_follows : {P : Type 0} (calls : Ghosts P) (shut : Bool) (moment : ℕ) (recorded : Option PlainSpanData) (ps qs : List P) (n : ℕ)

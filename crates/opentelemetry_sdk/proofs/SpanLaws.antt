@@ -5,11 +5,11 @@ use Rattle.std.proofs.lemmas.Bool.Decides.{nat_tests}
 use Rattle.std.proofs.lemmas.List.{length-take-le, take-append-le, take_all}
 use Rattle.opentelemetry.specs.Plain.{PlainKeyValue, PlainSpanContext}
 use Rattle.otel_base.specs.declared.trace.span_limit.SpanLimits.{SpanLimits}
-use Rattle.otel_batch.specs.PlainSpanData.{PlainSpanData, kept, left_out}
-use Rattle.opentelemetry_sdk.specs.SpanHistory.{PlainSpan, SpanStart, Edit, set_attribute, attributes_set, data_of, recording, kept_with, left_out_with, edited, edited_if, after, IsEdited}
+use Rattle.otel_batch.specs.PlainSpanData.{PlainSpanData, cut_at, left_out}
+use Rattle.opentelemetry_sdk.specs.SpanHistory.{PlainSpan, SpanStart, Edit, set_attribute, attributes_set, data_of, recording, grown_within, left_out_with, edited, edited_if, after, IsEdited}
 
 -- below the limit
-short : {X : Type 0} (limit : ℕ) (xs : List X) (x : X) → length xs < limit → (kept_with limit (kept limit xs) x ≡ kept limit (xs ++ x ∷ [])) × (left_out_with limit (kept limit xs) (left_out limit xs) ≡ left_out limit (xs ++ x ∷ []))
+short : {X : Type 0} (limit : ℕ) (xs : List X) (x : X) → length xs < limit → (grown_within limit (cut_at limit xs) x ≡ cut_at limit (xs ++ x ∷ [])) × (left_out_with limit (cut_at limit xs) (left_out limit xs) ≡ left_out limit (xs ++ x ∷ []))
 short limit xs x h =
     let same : take limit xs ≡ xs = take_all limit xs (omega arith) in
     let all : take limit (xs ++ x ∷ []) ≡ xs ++ x ∷ [] = take_all limit (xs ++ x ∷ []) (omega (arith, length-append xs (x ∷ []))) in
@@ -17,19 +17,19 @@ short limit xs x h =
     (rw (all, same, below) refl, rw (same, below, length-append) (omega arith))
 
 -- at the limit
-long : {X : Type 0} (limit : ℕ) (xs : List X) (x : X) → limit ≤ length xs → (kept_with limit (kept limit xs) x ≡ kept limit (xs ++ x ∷ [])) × (left_out_with limit (kept limit xs) (left_out limit xs) ≡ left_out limit (xs ++ x ∷ []))
+long : {X : Type 0} (limit : ℕ) (xs : List X) (x : X) → limit ≤ length xs → (grown_within limit (cut_at limit xs) x ≡ cut_at limit (xs ++ x ∷ [])) × (left_out_with limit (cut_at limit xs) (left_out limit xs) ≡ left_out limit (xs ++ x ∷ []))
 long limit xs x h =
     let size : length (take limit xs) ≡ limit = length-take-le limit xs h in
     let above : nat_lt limit limit ≡ false = grind (arith, nat_tests) in
     (rw (size, above, take-append-le) refl, rw (size, above, length-append) (omega arith))
 
 -- cutting as it goes keeps what cutting once keeps
-pub kept_with-kept : {X : Type 0} (limit : ℕ) (xs : List X) (x : X) → kept_with limit (kept limit xs) x ≡ kept limit (xs ++ x ∷ [])
-kept_with-kept limit xs x = elim (dec_lt (length xs) limit) [ Prim.yes h ↦ (short limit xs x h).0 | Prim.no h ↦ (long limit xs x (omega arith)).0 ]
+pub grown_within-cut_at : {X : Type 0} (limit : ℕ) (xs : List X) (x : X) → grown_within limit (cut_at limit xs) x ≡ cut_at limit (xs ++ x ∷ [])
+grown_within-cut_at limit xs x = elim (dec_lt (length xs) limit) [ Prim.yes h ↦ (short limit xs x h).0 | Prim.no h ↦ (long limit xs x (omega arith)).0 ]
 
 -- and counts what cutting once counts
-pub left_out_with-kept : {X : Type 0} (limit : ℕ) (xs : List X) (x : X) → left_out_with limit (kept limit xs) (left_out limit xs) ≡ left_out limit (xs ++ x ∷ [])
-left_out_with-kept limit xs x = elim (dec_lt (length xs) limit) [ Prim.yes h ↦ (short limit xs x h).1 | Prim.no h ↦ (long limit xs x (omega arith)).1 ]
+pub left_out_with-cut_at : {X : Type 0} (limit : ℕ) (xs : List X) (x : X) → left_out_with limit (cut_at limit xs) (left_out limit xs) ≡ left_out limit (xs ++ x ∷ [])
+left_out_with-cut_at limit xs x = elim (dec_lt (length xs) limit) [ Prim.yes h ↦ (short limit xs x h).1 | Prim.no h ↦ (long limit xs x (omega arith)).1 ]
 
 attributes_set-append : (edits more : List Edit) → attributes_set (edits ++ more) ≡ attributes_set edits ++ attributes_set more
 attributes_set-append [] more = refl
@@ -55,7 +55,7 @@ edited-recording start edits (set_attribute attribute) =
     let grown : whole ++ attribute ∷ [] ≡ start.attributes ++ attributes_set (edits ++ set_attribute attribute ∷ []) =
     append_assoc start.attributes (attributes_set edits) (attribute ∷ [])
     ∙ ap (λ (l : List PlainKeyValue). start.attributes ++ l) (sym (attributes_set-append edits (set_attribute attribute ∷ []))) in
-    made_same start (kept_with-kept limit whole attribute ∙ ap (kept limit) grown) (left_out_with-kept limit whole attribute ∙ ap (left_out limit) grown)
+    made_same start (grown_within-cut_at limit whole attribute ∙ ap (cut_at limit) grown) (left_out_with-cut_at limit whole attribute ∙ ap (left_out limit) grown)
 
 -- more edits of a span are those edits at the end of its history
 pub after-recording : (start : SpanStart) (edits more : List Edit) → after more (recording start edits) ≡ recording start (edits ++ more)

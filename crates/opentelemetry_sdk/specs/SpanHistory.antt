@@ -3,7 +3,7 @@ use Rattle.std.specs.Prelude.{◌≡◌, ℕ, ◌+◌, ◌-◌, ◌^◌, Bool, L
 use Rattle.opentelemetry.specs.Plain.{PlainKeyValue, PlainSpanContext, PlainScope, unset}
 use Rattle.opentelemetry.specs.declared.trace.span_kind.SpanKind.{SpanKind}
 use Rattle.otel_base.specs.declared.trace.span_limit.SpanLimits.{SpanLimits}
-use Rattle.otel_batch.specs.PlainSpanData.{PlainSpanData, kept, left_out}
+use Rattle.otel_batch.specs.PlainSpanData.{PlainSpanData, cut_at, left_out}
 
 -- how a span started; the attributes are those that it was given at once
 pub record SpanStart : Type 0 where
@@ -36,7 +36,7 @@ data_of start edits moment = record {
   name = start.name;
   start_time = start.start_time;
   end_time = moment;
-  attributes = kept start.limits.max_attributes_per_span (start.attributes ++ attributes_set edits);
+  attributes = cut_at start.limits.max_attributes_per_span (start.attributes ++ attributes_set edits);
   dropped_attributes_count = left_out start.limits.max_attributes_per_span (start.attributes ++ attributes_set edits);
   events = record { events = []; dropped_count = 0 };
   links = record { links = []; dropped_count = 0 };
@@ -63,8 +63,8 @@ abbrev pub not_recording : PlainSpanContext → SpanLimits → PlainSpan
 not_recording context limits = record { span_context = context; limits = limits; recorded = None }
 
 -- a list under a limit with one item more
-abbrev pub kept_with : {X : Type 0} → ℕ → List X → X → List X
-kept_with limit xs x = if nat_lt (length xs) limit then xs ++ x ∷ [] else xs
+abbrev pub grown_within : {X : Type 0} → ℕ → List X → X → List X
+grown_within limit xs x = if nat_lt (length xs) limit then xs ++ x ∷ [] else xs
 
 -- how many the limit has left out then
 abbrev pub left_out_with : {X : Type 0} → ℕ → List X → ℕ → ℕ
@@ -73,7 +73,7 @@ left_out_with limit xs n = if nat_lt (length xs) limit then n else min (n + 1) (
 -- the data after one edit: over the limit the new item is only counted
 abbrev pub edited_data : SpanLimits → Edit → PlainSpanData → PlainSpanData
 edited_data limits (set_attribute attribute) recorded = record recorded {
-  attributes = kept_with limits.max_attributes_per_span recorded.attributes attribute;
+  attributes = grown_within limits.max_attributes_per_span recorded.attributes attribute;
   dropped_attributes_count =
       left_out_with limits.max_attributes_per_span recorded.attributes recorded.dropped_attributes_count;
 }

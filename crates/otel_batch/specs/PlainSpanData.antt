@@ -30,8 +30,8 @@ pub record PlainSpanData : Type 0 where
   pub instrumentation_scope : PlainScope
 
 -- a whole list cut at a limit: its first items
-abbrev pub kept : {X : Type 0} → ℕ → List X → List X
-kept limit xs = take limit xs
+abbrev pub cut_at : {X : Type 0} → ℕ → List X → List X
+cut_at limit xs = take limit xs
 
 -- and how many others there are, at most the greatest u32
 abbrev pub left_out : {X : Type 0} → ℕ → List X → ℕ

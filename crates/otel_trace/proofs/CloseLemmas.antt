@@ -8,12 +8,12 @@ use Rattle.otel_batch.specs.PlainSpanData.{PlainSpanData}
 use Rattle.opentelemetry_sdk.specs.ProcessorTelling.{ProcessorTelling}
 use Rattle.opentelemetry_sdk.specs.Provider.{ProviderState}
 use Rattle.opentelemetry_sdk.specs.declared.trace.span_processor.SpanProcessor.{Ghosts}
-use Rattle.otel_trace.specs.declared.exported.KeepsBatches as kept
+use Rattle.otel_trace.specs.declared.exported.KeepsBatches as keeping
 use Rattle.otel_trace.specs.ReplyText.{span_lines}
 use Rattle.opentelemetry_sdk.specs.ProcessorTelling.{spans_in}
 use Rattle.otel_trace.specs.SessionDelivery.{SessionState, Closes, ShutsIfOpen, batches_of_first, or_no_memory}
 
-pub closes : {P S G : Type 0} (calls : Ghosts P) (batches : kept.Ghosts P) (sampler : sampling.Ghosts S) (ids : drawing.Ghosts G) (session : SessionState P S G) (provider : ProviderState P S G)
+pub closes : {P S G : Type 0} (calls : Ghosts P) (batches : keeping.Ghosts P) (sampler : sampling.Ghosts S) (ids : drawing.Ghosts G) (session : SessionState P S G) (provider : ProviderState P S G)
     (shutdown : Result (Unit {0}) OTelSdkError) (written : Result (Unit {0}) AllocError) (answer : Result (Unit {0}) OTelSdkError) (before now : List ℕ)
     → ShutsIfOpen calls session.provider 5_000_000_000 shutdown provider
     → OnOk written (now ≡ before ++ span_lines (spans_in (drop session.shown (batches_of_first batches provider.processors)))) → OnErr written (now ≡ before)

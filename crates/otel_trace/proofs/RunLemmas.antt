@@ -8,7 +8,7 @@ use Rattle.otel_base.specs.declared.trace.id_generator.IdGenerator as drawing
 use Rattle.opentelemetry_sdk.specs.Deliveries.{Delivery}
 use Rattle.opentelemetry_sdk.specs.declared.trace.span_processor.SpanProcessor.{Ghosts}
 use Rattle.opentelemetry_sdk.proofs.Following.{EachFollows-same, EachFollows-append}
-use Rattle.otel_trace.specs.declared.exported.KeepsBatches as kept
+use Rattle.otel_trace.specs.declared.exported.KeepsBatches as keeping
 use Rattle.otel_trace.specs.KeptBatches.{Appends}
 use Rattle.otel_trace.specs.Commands.{PlainCommand, plain_command, plain_commands}
 use Rattle.otel_trace.specs.PlainReply.{PlainReply}
@@ -17,7 +17,7 @@ use Rattle.otel_trace.specs.SessionDelivery.{Histories, Describe, Course, course
 use Rattle.otel_trace.specs.declared.command.Command.{Command}
 use Rattle.otel_trace.proofs.ShownLemmas.{shows_nothing, shows_no_more, shows_reply, none_left}
 
-module _ {P S G : Type 0} (calls : Ghosts P) (keeps : kept.Ghosts P) (sampler : sampling.Ghosts S) (ids : drawing.Ghosts G) where
+module _ {P S G : Type 0} (calls : Ghosts P) (keeps : keeping.Ghosts P) (sampler : sampling.Ghosts S) (ids : drawing.Ghosts G) where
   -- one more command
   DemandAll-push : (scope : PlainScope) (old middle new : Course P S G) (before shown : ℕ) (commands : List PlainCommand) (replies : List PlainReply) (ds d : List Delivery) (command : PlainCommand) (reply : PlainReply)
       → DemandAll calls keeps sampler ids scope old before commands replies ds middle shown → Replies calls keeps sampler ids scope middle shown command reply d new

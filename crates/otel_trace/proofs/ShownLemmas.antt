@@ -15,7 +15,7 @@ use Rattle.opentelemetry_sdk.specs.Provider.{ProviderState}
 use Rattle.opentelemetry_sdk.specs.Starting.{PassesThrough, Decided, StartsOpen, root_cx}
 use Rattle.opentelemetry_sdk.specs.Ending.{TakesAndTells}
 use Rattle.opentelemetry_sdk.specs.SpanHistory.{PlainSpan, SpanStart, SpanHistory, over}
-use Rattle.otel_trace.specs.declared.exported.KeepsBatches as kept
+use Rattle.otel_trace.specs.declared.exported.KeepsBatches as keeping
 use Rattle.std.specs.declared.alloc.AllocError.{AllocError}
 use Rattle.opentelemetry.specs.PlainContexts.{empty_span_context}
 use Rattle.otel_trace.specs.KeptBatches.{Appends, OnlyAppends}
@@ -42,11 +42,11 @@ none_shown : (batches : Batches) (n : ℕ) → n ≤ length batches → [] ≡ s
 none_shown batches n h = ap spans_in (sym (drop_of_length-le (take n batches) (subst (λ (m : ℕ). m ≤ n) (sym (length-take-le n batches h)) (omega arith))))
 
 -- no reply
-pub shows_nothing : {P S G : Type 0} (keeps : kept.Ghosts P) (session : SessionState P S G) → Shows keeps session [] session
+pub shows_nothing : {P S G : Type 0} (keeps : keeping.Ghosts P) (session : SessionState P S G) → Shows keeps session [] session
 shows_nothing keeps session = (appends_none _ _ refl, λ within. (omega arith, within, none_shown (session_batches keeps session) session.shown within))
 
 -- batches came, and no reply
-pub shows_no_more : {P S G : Type 0} (keeps : kept.Ghosts P) (old middle new : SessionState P S G) (replies : List PlainReply)
+pub shows_no_more : {P S G : Type 0} (keeps : keeping.Ghosts P) (old middle new : SessionState P S G) (replies : List PlainReply)
     → Shows keeps old replies middle → Appends (session_batches keeps middle) (session_batches keeps new) → new.shown ≡ middle.shown
     → Shows keeps old replies new
 shows_no_more keeps old middle new replies h k e = (
@@ -68,7 +68,7 @@ split_drop batches a b h k =
     ∙ ap (drop a) (take-append-drop b batches)
 
 -- a reply that shows what was left to show
-pub shows_reply : {P S G : Type 0} (keeps : kept.Ghosts P) (old middle new : SessionState P S G) (replies : List PlainReply) (reply : PlainReply)
+pub shows_reply : {P S G : Type 0} (keeps : keeping.Ghosts P) (old middle new : SessionState P S G) (replies : List PlainReply) (reply : PlainReply)
     → Shows keeps old replies middle → reply.exported ≡ unshown keeps middle → new ≡ record middle { shown = length (session_batches keeps middle) }
     → Shows keeps old (replies ++ reply ∷ []) new
 shows_reply {P} {S} {G} keeps old middle new replies reply h e n =
@@ -87,17 +87,17 @@ shows_reply {P} {S} {G} keeps old middle new replies reply h e n =
           ),
     )
 
-pub none_left : {P S G : Type 0} (keeps : kept.Ghosts P) (middle new : SessionState P S G) (replies : List PlainReply) → new ≡ record middle { shown = length (session_batches keeps middle) } → NoneLeft keeps replies new
+pub none_left : {P S G : Type 0} (keeps : keeping.Ghosts P) (middle new : SessionState P S G) (replies : List PlainReply) → new ≡ record middle { shown = length (session_batches keeps middle) } → NoneLeft keeps replies new
 none_left {P} {S} {G} keeps middle new replies e = subst (λ (s : SessionState P S G). NoneLeft keeps replies s) (sym e) (inr refl)
 
 -- batches are kept behind those that were kept, and none was lost
-abbrev pub LosesNothing : {P : Type 0} → kept.Ghosts P → List P → List P → Type 0
+abbrev pub LosesNothing : {P : Type 0} → keeping.Ghosts P → List P → List P → Type 0
 LosesNothing keeps old new = Appends (batches_of_first keeps old) (batches_of_first keeps new) × (losses_of_first keeps new ≡ losses_of_first keeps old)
 
-pub loses_nothing : {P : Type 0} (keeps : kept.Ghosts P) (old new : List P) → new ≡ old → LosesNothing keeps old new
+pub loses_nothing : {P : Type 0} (keeps : keeping.Ghosts P) (old new : List P) → new ≡ old → LosesNothing keeps old new
 loses_nothing keeps old new e = (appends_none _ _ (ap (batches_of_first keeps) e), ap (losses_of_first keeps) e)
 
-module _ {P : Type 0} (calls : Ghosts P) (keeps : kept.Ghosts P) (law : OnlyAppends calls keeps.kept keeps.lost) where
+module _ {P : Type 0} (calls : Ghosts P) (keeps : keeping.Ghosts P) (law : OnlyAppends calls keeps.kept keeps.lost) where
   -- what the first processor keeps where each took part in a start
   passed_keeps : (cx : PlainContext) (s t : PlainSpan) (ps qs : List P) → PassesThrough calls cx s ps qs t → LosesNothing keeps ps qs
   passed_keeps cx s t [] [] h = loses_nothing keeps [] [] refl
@@ -125,7 +125,7 @@ module _ {P : Type 0} (calls : Ghosts P) (keeps : kept.Ghosts P) (law : OnlyAppe
   may_deliver_keeps ps qs (inl e) = appends_none _ _ (ap (batches_of_first keeps) e)
   may_deliver_keeps ps qs (inr h) = asked_keeps h.0 ps qs h.2.0 h.2.2
 
-module _ {P S G : Type 0} (calls : Ghosts P) (keeps : kept.Ghosts P) (law : OnlyAppends calls keeps.kept keeps.lost) (sampler : sampling.Ghosts S) (ids : drawing.Ghosts G) where
+module _ {P S G : Type 0} (calls : Ghosts P) (keeps : keeping.Ghosts P) (law : OnlyAppends calls keeps.kept keeps.lost) (sampler : sampling.Ghosts S) (ids : drawing.Ghosts G) where
   -- a provider that stays as it was, but for its generator
   stays_keeps : (old new : ProviderState P S G) (g : G) → new ≡ record old { id_generator = g } → LosesNothing keeps old.processors new.processors
   stays_keeps old new g e = loses_nothing keeps old.processors new.processors (ap (λ (r : ProviderState P S G). r.processors) e)

@@ -1,6 +1,6 @@
 -- What the program does with its arguments and its three streams. Of the bytes of a stream it speaks where the stream
 -- tells them.
-use Rattle.std.specs.Prelude.{◌≡◌, ℕ, Bool, false, List, [], ◌∷◌, ◌++◌, length, Option, Some, None, IfSome, codes}
+use Rattle.std.specs.Prelude.{◌≡◌, ℕ, false, List, [], ◌∷◌, ◌++◌, length, Option, IfSome, codes}
 use Rattle.std.specs.Fmt.{decimal}
 use Rattle.std.specs.Io.KnownBytes.{Appends, IsAtEnd}
 use Rattle.rand_xoshiro.specs.SplitMix64.{splitmix_seed}
@@ -16,7 +16,7 @@ use Rattle.opentelemetry_sdk.specs.SimpleProcessor.{SimpleProcessor}
 use Rattle.opentelemetry_sdk.specs.declared.trace.processor.ProcessorOf.{ProcessorOf}
 use Rattle.opentelemetry_sdk.specs.declared.trace.processor.ProcessorOf.TheVariants as kinds
 use Rattle.opentelemetry_sdk.specs.declared.trace.span_processor.SpanProcessor.{Ghosts}
-use Rattle.otel_trace.specs.declared.exported.KeepsBatches as kept
+use Rattle.otel_trace.specs.declared.exported.KeepsBatches as keeping
 use Rattle.otel_trace.specs.KeptBatches.{exporter_keeps, exporter_loses, processor_keeps, processor_loses}
 use Rattle.otel_trace.specs.Lines.{IsMoment}
 use Rattle.otel_trace.specs.SessionDelivery.{SessionState, Finishes, batches_of_first}
@@ -45,56 +45,56 @@ MemoryProcessor C D = ProcessorOf (SimpleProcessor (ExporterOf StoredBatches C))
 -- each into memory as it ends
 abbrev pub provider_of_seed : {C D E : Type 0} → ℕ → ProviderState (MemoryProcessor C D) (SamplerOf E) (List ℕ)
 provider_of_seed seed = record {
-  processors =
-      kinds.Simple (record { exporter = exporters.Memory (record { batches = []; lost = 0 }); is_shut = false }) ∷ [];
+  processors = kinds.Simple (record { exporter = exporters.Memory (record { batches = []; lost = 0 }); is_shut = false }) ∷ [];
   sampler = AlwaysOn;
   id_generator = of_seed (splitmix_seed 32 seed);
-  span_limits =
-      record {
-        max_events_per_span = 128;
-        max_attributes_per_span = 128;
-        max_links_per_span = 128;
-        max_attributes_per_event = 128;
-        max_attributes_per_link = 128;
-      };
+  span_limits = record {
+    max_events_per_span = 128;
+    max_attributes_per_span = 128;
+    max_links_per_span = 128;
+    max_attributes_per_event = 128;
+    max_attributes_per_link = 128;
+  };
   is_shut = false;
 }
 
 -- what a processor in the place of that one keeps: the batches of its exporter in memory
-abbrev pub memory_batches : {C D : Type 0} → kept.Ghosts (MemoryProcessor C D)
+abbrev pub memory_batches : {C D : Type 0} → keeping.Ghosts (MemoryProcessor C D)
 memory_batches = record {
   kept = processor_keeps (λ simple. exporter_keeps simple.exporter);
   lost = processor_loses (λ simple. exporter_loses simple.exporter);
 }
 
-module _ {P S G : Type 0} (calls : Ghosts P) (keeps : kept.Ghosts P) (sampler : sampling.Ghosts S)
-    (ids : drawing.Ghosts G) where
-  -- a session under a provider: it has no spans, and shows no batch from before it
-  abbrev pub session_under : ProviderState P S G → SessionState P S G
-  session_under provider = record {
-    provider = provider;
-    scope = scope_named (codes "otel_trace");
-    spans = [];
-    shown = length (batches_of_first keeps provider.processors);
-  }
-
-  -- what a session writes for an input, whole or up to its first bad line, and when it closes
-  abbrev pub SessionWrites : ProviderState P S G → List ℕ → Option ℕ → List ℕ → Type 0
-  SessionWrites provider input bad_line text =
-      Finishes calls keeps sampler ids (session_under provider) input bad_line text
-
-  -- that was appended to the output, and nothing else
-  abbrev pub WritesText : ProviderState P S G → List ℕ → Option ℕ → Option (List ℕ) → Option (List ℕ) → Type 0
-  WritesText provider input bad_line before after =
-      (text : List ℕ) × SessionWrites provider input bad_line text × Appends before after text
-
--- the same of the program's provider
-abbrev pub TracesSeed : {C D E : Type 0} → Ghosts (MemoryProcessor C D) → sampling.Ghosts (SamplerOf E)
-    → drawing.Ghosts (List ℕ)
-    → ℕ → List ℕ → Option ℕ → Option (List ℕ) → Option (List ℕ) → Type 0
-TracesSeed calls sampler ids seed input bad_line before after =
-    WritesText calls memory_batches sampler ids (provider_of_seed seed) input bad_line before after
-
--- the whole of a stream's bytes, and then the stream is at its end
+-- the whole of a stream's bytes, behind which the stream is at its end
 abbrev pub ReadsWhole : Option (List ℕ) → Option (List ℕ) → List ℕ → Type 0
 ReadsWhole before after bytes = IfSome before (λ all. bytes ≡ all) × IsAtEnd after
+
+-- a session under a provider: it has no spans, and shows no batch from before it
+abbrev pub session_under : {P S G : Type 0} → keeping.Ghosts P → ProviderState P S G → SessionState P S G
+session_under keeps provider = record {
+  provider = provider;
+  scope = scope_named (codes "otel_trace");
+  spans = [];
+  shown = length (batches_of_first keeps provider.processors);
+}
+
+module _ {P S G : Type 0} (calls : Ghosts P) (keeps : keeping.Ghosts P) (sampler : sampling.Ghosts S)
+    (ids : drawing.Ghosts G) where
+  -- a writer was given what a session under a provider writes for an input, whole or up to its first bad line, and
+  -- when it closes, and nothing else
+  abbrev pub WritesText : ProviderState P S G → List ℕ → Option ℕ → Option (List ℕ) → Option (List ℕ) → Type 0
+  WritesText provider input bad_line before after = (text : List ℕ)
+      × Finishes calls keeps sampler ids (session_under keeps provider) input bad_line text × Appends before after text
+
+  -- the whole input was read, and the output was given what a session under a provider writes for it
+  abbrev pub TracesWhole : ProviderState P S G → Option (List ℕ) → Option (List ℕ) → Option ℕ
+      → Option (List ℕ) → Option (List ℕ) → Type 0
+  TracesWhole provider input input_after bad_line output output_after = (bytes : List ℕ)
+      × ReadsWhole input input_after bytes × WritesText provider bytes bad_line output output_after
+
+-- the same under the provider of a seed
+abbrev pub TracesSeed : {C D E : Type 0} → Ghosts (MemoryProcessor C D) → sampling.Ghosts (SamplerOf E)
+    → drawing.Ghosts (List ℕ) → ℕ → Option (List ℕ) → Option (List ℕ) → Option ℕ
+    → Option (List ℕ) → Option (List ℕ) → Type 0
+TracesSeed calls sampler ids seed input input_after bad_line output output_after =
+    TracesWhole calls memory_batches sampler ids (provider_of_seed seed) input input_after bad_line output output_after

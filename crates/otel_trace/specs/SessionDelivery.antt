@@ -17,7 +17,7 @@ use Rattle.opentelemetry_sdk.specs.Provider.{ProviderState, ShutsDown}
 use Rattle.opentelemetry_sdk.specs.Starting.{Starts}
 use Rattle.opentelemetry_sdk.specs.Ending.{Delivers, end_delivers}
 use Rattle.opentelemetry_sdk.specs.declared.trace.span_processor.SpanProcessor.{Ghosts}
-use Rattle.otel_trace.specs.declared.exported.KeepsBatches as kept
+use Rattle.otel_trace.specs.declared.exported.KeepsBatches as keeping
 use Rattle.otel_trace.specs.Commands.{PlainCommand, start, attr, end, plain_command, plain_commands}
 use Rattle.otel_trace.specs.KeptBatches.{Appends}
 use Rattle.otel_trace.specs.OpenSpans.{NamedSpans, SameSpans, MayStart, named, is_name, start_answer}
@@ -71,11 +71,11 @@ EditDemands old name edit (Some (begun from edits)) answer ds new =
     AddsEdit old name from (edits ++ edit ∷ []) answer ds new
 
 -- the batches that the first of these processors keeps
-abbrev pub batches_of_first : {P : Type 0} → kept.Ghosts P → List P → List (List PlainSpanData)
+abbrev pub batches_of_first : {P : Type 0} → keeping.Ghosts P → List P → List (List PlainSpanData)
 batches_of_first keeps processors = option_map_or keeps.kept (slice_get processors 0) []
 
 -- how many batches the first of these processors lost for want of memory
-abbrev pub losses_of_first : {P : Type 0} → kept.Ghosts P → List P → ℕ
+abbrev pub losses_of_first : {P : Type 0} → keeping.Ghosts P → List P → ℕ
 losses_of_first keeps processors = option_map_or keeps.lost (slice_get processors 0) 0
 
 -- the spans that replies show
@@ -184,7 +184,7 @@ module _ {P S G : Type 0} (calls : Ghosts P) where
   ShutsIfOpen old timeout answer new =
       MatchBool old.is_shut ((answer ≡ Ok tt) × (new ≡ old)) (ShutsDown calls old timeout answer new)
 
-module _ {P S G : Type 0} (keeps : kept.Ghosts P) where
+module _ {P S G : Type 0} (keeps : keeping.Ghosts P) where
   -- the batches that the first processor of a session keeps, and how many it lost
   abbrev pub session_batches : SessionState P S G → List (List PlainSpanData)
   session_batches session = batches_of_first keeps session.provider.processors
@@ -211,7 +211,7 @@ module _ {P S G : Type 0} (keeps : kept.Ghosts P) where
   abbrev pub LosesNone : SessionState P S G → SessionState P S G → Type 0
   LosesNone old new = session_losses new ≡ session_losses old
 
-module _ {P S G : Type 0} (calls : Ghosts P) (keeps : kept.Ghosts P) (sampler : sampling.Ghosts S)
+module _ {P S G : Type 0} (calls : Ghosts P) (keeps : keeping.Ghosts P) (sampler : sampling.Ghosts S)
     (ids : drawing.Ghosts G) where
   -- one command with its reply: its answer is as demanded, it shows the spans of the batches that the first processor's
   -- exporter took since the reply before, and that exporter lost none

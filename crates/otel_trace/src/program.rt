@@ -3,8 +3,8 @@
 
 ghost use Rattle.std.specs.Prelude.{◌≡◌, ◌≢◌, ◌⊎◌, ◌≤◌, ℕ, List, Some, None, IfOk, IfSome, OnOk, MatchOption, false, true, map, string_bytes};
 ghost use Rattle.std.specs.Io.KnownBytes.{Appends, IsAtEnd};
-ghost use Rattle.otel_trace.specs.Program.{AsksFor, AsksForNothing, ReadsWhole, SessionWrites, TracesSeed, WritesText, bad_line_text, provider_of_seed, usage_text};
 ghost use Rattle.otel_trace.specs.SessionDelivery.{Finishes};
+ghost use Rattle.otel_trace.specs.Program.{AsksFor, AsksForNothing, TracesSeed, TracesWhole, WritesText, bad_line_text, provider_of_seed, session_under, usage_text};
 
 use crate::exported::KeepsBatches;
 use crate::lines::number_of;
@@ -31,16 +31,16 @@ const FAILED: u8 = 1;
 /// The exit status of a bad line or of wrong arguments.
 const REFUSED: u8 = 2;
 
-/// What the program's provider holds. It has no processor and no exporter of another's own, so that any type may stand for
-/// theirs.
-type TraceProcessor = ProcessorOf<
+/// What the program's provider holds. It has no processor and no exporter of another's own, so that any type may stand
+/// for theirs.
+pub type TraceProcessor = ProcessorOf<
     SimpleSpanProcessor<ExporterOf<InMemorySpanExporter, InMemorySpanExporter>>,
     SimpleSpanProcessor<InMemorySpanExporter>,
 >;
 
 /// A sampler of another's own, of which the program has none.
 #[derive(Drop)]
-enum NoSampler {}
+pub enum NoSampler {}
 
 impl ShouldSample for NoSampler {
     fn should_sample(
@@ -57,7 +57,7 @@ impl ShouldSample for NoSampler {
 }
 
 /// What the program's provider asks about each span.
-type TraceSampler = SamplerOf<NoSampler>;
+pub type TraceSampler = SamplerOf<NoSampler>;
 
 /// The program's provider.
 type TraceProvider = ProviderOf<TraceProcessor, TraceSampler, RandomIdGenerator>;
@@ -75,8 +75,8 @@ struct Outcome {
 
 /// Runs the program over any reader and writers, and answers its exit status: 0 at the end of the input; 2 for a bad
 /// line or wrong arguments; 1 where reading, writing or the closing fails or memory is missing, also where 2 would be
-/// due. `words` are the arguments without the program's name; wrong ones are found before anything is read. What status
-/// 1 leaves on the output and the faults is left open.
+/// due. `words` are the arguments without the program's name; wrong ones are found before anything is read. How far a
+/// run of status 1 came is left open.
 pub fn run_program<R: Read, W: Write, F: Write>(
     alloc: Global,
     words: &[String],
@@ -87,32 +87,45 @@ pub fn run_program<R: Read, W: Write, F: Write>(
     ensures status { result ≤ 2 }
 
     // Wrong arguments.
-    ensures unread { AsksForNothing (map string_bytes words.now) → (input.new ≡ input.old) × (output.new ≡ output.old) }
-    ensures usage { AsksForNothing (map string_bytes words.now) → (result ≢ 0)
-        × (result ≡ 2 → Appends (F.contents faults.old) (F.contents faults.new) usage_text) }
+    ensures unread { AsksForNothing (map string_bytes words.now) →
+        (input.new ≡ input.old) × (output.new ≡ output.old) }
+    ensures usage { AsksForNothing (map string_bytes words.now) →
+        (result ≢ 0) × (result ≡ 2 → Appends (F.contents faults.old) (F.contents faults.new) usage_text) }
 
     // One session over the whole input.
-    ensures done { (seed : ℕ) → AsksFor (map string_bytes words.now) seed → result ≡ 0 → (bytes : List ℕ)
-        × ReadsWhole (R.remaining input.old) (R.remaining input.new) bytes
-        × TracesSeed ⟦<TraceProcessor as SpanProcessor>⟧ ⟦<TraceSampler as ShouldSample>⟧
-        ⟦<RandomIdGenerator as IdGenerator>⟧ seed bytes None (W.contents output.old) (W.contents output.new)
+    ensures done { (seed : ℕ) → AsksFor (map string_bytes words.now) seed → result ≡ 0 →
+        TracesSeed ⟦<TraceProcessor as SpanProcessor>⟧ ⟦<TraceSampler as ShouldSample>⟧
+        ⟦<RandomIdGenerator as IdGenerator>⟧ seed (R.remaining input.old) (R.remaining input.new)
+        None (W.contents output.old) (W.contents output.new)
         × (faults.new ≡ faults.old) }
-    ensures bad_line { (seed : ℕ) → AsksFor (map string_bytes words.now) seed → result ≡ 2 → (bytes : List ℕ)
-        × (line : ℕ)
-        × ReadsWhole (R.remaining input.old) (R.remaining input.new) bytes
+    ensures bad_line { (seed : ℕ) → AsksFor (map string_bytes words.now) seed → result ≡ 2 → (line : ℕ)
         × TracesSeed ⟦<TraceProcessor as SpanProcessor>⟧ ⟦<TraceSampler as ShouldSample>⟧
-        ⟦<RandomIdGenerator as IdGenerator>⟧ seed bytes (Some line) (W.contents output.old) (W.contents output.new)
+        ⟦<RandomIdGenerator as IdGenerator>⟧ seed (R.remaining input.old) (R.remaining input.new)
+        (Some line) (W.contents output.old) (W.contents output.new)
         × Appends (F.contents faults.old) (F.contents faults.new) (bad_line_text line) }
 {
-    match seed_of(words) {
-        Some(seed) => trace_input(alloc, seed, input, output, faults),
+    match provider_for(alloc, words) {
         None => refuse(faults, USAGE),
+        Some(Ok(provider)) => trace_input(alloc, provider, input, output, faults),
+        Some(Err(_)) => FAILED,
     }
+}
+
+/// The provider that the arguments ask for, or that there is no memory for it; none where they ask for nothing.
+fn provider_for(alloc: Global, words: &[String]) -> Option<Result<TraceProvider, AllocError>>
+    ensures { MatchOption result
+        (AsksForNothing (map string_bytes words.now))
+        (λ made. (seed : ℕ) × AsksFor (map string_bytes words.now) seed
+        × IfOk made (λ provider. provider ≡ provider_of_seed seed)) }
+{
+    let seed = seed_of(words)?;
+    Some(provider_of(alloc, seed))
 }
 
 /// The seed of `trace SEED simple`; none where the words are others.
 fn seed_of(words: &[String]) -> Option<u64>
-    ensures { MatchOption result (AsksForNothing (map string_bytes words.now))
+    ensures { MatchOption result
+        (AsksForNothing (map string_bytes words.now))
         (λ seed. AsksFor (map string_bytes words.now) seed) }
 {
     match words {
@@ -123,34 +136,30 @@ fn seed_of(words: &[String]) -> Option<u64>
     }
 }
 
-/// Answers the whole input by one session of a seed.
-fn trace_input<R: Read, W: Write, F: Write>(
+/// Answers the whole input by one session under a provider.
+fn trace_input<P: KeepsBatches, S: ShouldSample, G: IdGenerator, R: Read, W: Write, F: Write>(
     alloc: Global,
-    seed: u64,
+    provider: ProviderOf<P, S, G>,
     input: &mut R,
     output: &mut W,
     faults: &mut F,
 ) -> u8
     ensures status { result ≤ 2 }
-    ensures done { result ≡ 0 → (bytes : List ℕ)
-        × ReadsWhole (R.remaining input.old) (R.remaining input.new) bytes
-        × TracesSeed ⟦<TraceProcessor as SpanProcessor>⟧ ⟦<TraceSampler as ShouldSample>⟧
-        ⟦<RandomIdGenerator as IdGenerator>⟧ seed bytes None (W.contents output.old) (W.contents output.new)
+    ensures done { result ≡ 0 →
+        TracesWhole P.SpanProcessor P.KeepsBatches.own S.ShouldSample G.IdGenerator provider (R.remaining input.old) (R.remaining input.new)
+        None (W.contents output.old) (W.contents output.new)
         × (faults.new ≡ faults.old) }
-    ensures bad_line { result ≡ 2 → (bytes : List ℕ) × (line : ℕ)
-        × ReadsWhole (R.remaining input.old) (R.remaining input.new) bytes
-        × TracesSeed ⟦<TraceProcessor as SpanProcessor>⟧ ⟦<TraceSampler as ShouldSample>⟧
-        ⟦<RandomIdGenerator as IdGenerator>⟧ seed bytes (Some line) (W.contents output.old) (W.contents output.new)
+    ensures bad_line { result ≡ 2 → (line : ℕ)
+        × TracesWhole P.SpanProcessor P.KeepsBatches.own S.ShouldSample G.IdGenerator provider (R.remaining input.old) (R.remaining input.new)
+        (Some line) (W.contents output.old) (W.contents output.new)
         × Appends (F.contents faults.old) (F.contents faults.new) (bad_line_text line) }
 {
     let mut bytes = Vec::new(alloc);
     if input.read_to_end(&mut bytes).is_err() {
+        let _ = provider.close();
         return FAILED;
     }
-    match provider_of(alloc, seed) {
-        Ok(provider) => answer(alloc, provider, &bytes, output, faults),
-        Err(_) => FAILED,
-    }
+    answer(alloc, provider, &bytes, output, faults)
 }
 
 /// Answers an input by one session under a provider.
@@ -163,12 +172,12 @@ fn answer<P: KeepsBatches, S: ShouldSample, G: IdGenerator, W: Write, F: Write>(
 ) -> u8
     ensures status { result ≤ 2 }
     ensures done { result ≡ 0 →
-        WritesText P.SpanProcessor P.KeepsBatches.own S.ShouldSample G.IdGenerator provider
-        input.now None (W.contents output.old) (W.contents output.new)
+        WritesText P.SpanProcessor P.KeepsBatches.own S.ShouldSample G.IdGenerator provider input.now
+        None (W.contents output.old) (W.contents output.new)
         × (faults.new ≡ faults.old) }
     ensures bad_line { result ≡ 2 → (line : ℕ)
-        × WritesText P.SpanProcessor P.KeepsBatches.own S.ShouldSample G.IdGenerator provider
-        input.now (Some line) (W.contents output.old) (W.contents output.new)
+        × WritesText P.SpanProcessor P.KeepsBatches.own S.ShouldSample G.IdGenerator provider input.now
+        (Some line) (W.contents output.old) (W.contents output.new)
         × Appends (F.contents faults.old) (F.contents faults.new) (bad_line_text line) }
 {
     let outcome = trace(alloc, provider, input);
@@ -219,7 +228,8 @@ fn trace<P: KeepsBatches, S: ShouldSample, G: IdGenerator>(
     input: &[u8],
 ) -> Outcome
     ensures { result.has_failed ≡ false →
-        SessionWrites P.SpanProcessor P.KeepsBatches.own S.ShouldSample G.IdGenerator provider input.now result.bad_line result.text.items }
+        Finishes P.SpanProcessor P.KeepsBatches.own S.ShouldSample G.IdGenerator (session_under P.KeepsBatches.own provider)
+        input.now result.bad_line result.text.items }
 {
     match Session::new(alloc, provider) {
         Ok(session) => finish(alloc, session, input),
@@ -247,8 +257,8 @@ fn finish<P: KeepsBatches, S: ShouldSample, G: IdGenerator>(
     mut session: Session<P, S, G>,
     input: &[u8],
 ) -> Outcome
-    ensures { result.has_failed ≡ false → Finishes P.SpanProcessor P.KeepsBatches.own S.ShouldSample G.IdGenerator
-        session input.now result.bad_line result.text.items }
+    ensures { result.has_failed ≡ false →
+        Finishes P.SpanProcessor P.KeepsBatches.own S.ShouldSample G.IdGenerator session input.now result.bad_line result.text.items }
 {
     let mut text = Vec::new(alloc);
     let fed = session.feed(input, &mut text);

@@ -1,7 +1,7 @@
 //! The tracer of a library: it starts spans under the library's scope (OpenTelemetry specification, "Tracer").
 
 ghost use Rattle.std.specs.Prelude.{◌≡◌, [], map, IfOk, IsNone, IsSome, IsOk, IsTrue, OnErr, string_bytes};
-ghost use Rattle.otel_batch.specs.PlainSpanData.{kept, left_out};
+ghost use Rattle.otel_batch.specs.PlainSpanData.{cut_at, left_out};
 ghost use Rattle.opentelemetry_sdk.specs.Starting.{
   MayDraw,
   PassesThrough,
@@ -190,7 +190,7 @@ fn root_data(
 
 /// Cuts a list at a limit. The answer is how many items were left out, at most the greatest `u32`.
 fn cut(attributes: &mut Vec<KeyValue>, limit: u32) -> u32
-    ensures kept { attributes.new.items ≡ kept limit attributes.old.items }
+    ensures kept { attributes.new.items ≡ cut_at limit attributes.old.items }
     ensures left_out { result ≡ left_out limit attributes.old.items }
 {
     let left_out = attributes.len().saturating_sub(limit as usize);
