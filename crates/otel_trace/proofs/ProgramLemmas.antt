@@ -1,5 +1,5 @@
 -- What the arguments of the program ask for, and what it does with its streams.
-use Rattle.std.proofs.Common.{◌≡◌, ℕ, ◌<◌, ◌≤◌, ◌++◌, List, [], ◌∷◌, map, length, Option, Some, None, IfSome, MatchOption, codes, ◌∙◌, sym, ap, subst, arith}
+use Rattle.std.proofs.Common.{◌≡◌, ℕ, ◌<◌, ◌≤◌, ◌++◌, List, [], ◌∷◌, map, length, Option, Some, None, IfSome, IfOk, Result, Ok, MatchOption, codes, ◌∙◌, sym, ap, subst, arith}
 use Rattle.std.proofs.Math.ListN.{get_or}
 use Rattle.std.specs.Str.Parse.{digits_value}
 use Rattle.otel_batch.specs.StoredBatches.{StoredBatches}
@@ -9,12 +9,7 @@ use Rattle.opentelemetry_sdk.specs.SimpleProcessor.{SimpleProcessor}
 use Rattle.opentelemetry_sdk.specs.declared.trace.processor.ProcessorOf.{ProcessorOf}
 use Rattle.opentelemetry_sdk.specs.declared.trace.span_processor.SpanProcessor.{Ghosts}
 use Rattle.otel_trace.specs.Lines.{IsMoment}
-use Rattle.otel_trace.specs.Program.{AsksFor, AsksForNothing, TracesSeed, WritesText, memory_batches, provider_of_seed}
-
--- words ask for one seed
-pub asks_once : (words : List (List ℕ)) (seed other : ℕ) → AsksFor words seed → AsksFor words other → seed ≡ other
-asks_once words seed other (digits, is, e) (more, js, f) =
-    let same : digits ≡ more = cc in is.1 ∙ ap (λ d. digits_value 10 d) same ∙ sym js.1
+use Rattle.otel_trace.specs.Program.{AsksFor, AsksForNothing, TracesSeed, TracesWhole, memory_batches, provider_of_seed}
 
 -- three words ask for what the second one writes
 pub three_ask : (words : List (List ℕ)) (digits : List ℕ) (found : Option ℕ) → words ≡ codes "trace" ∷ digits ∷ codes "simple" ∷ []
@@ -39,9 +34,21 @@ pub whole_read : (stream : Option (List ℕ)) (before now bytes : List ℕ) → 
 whole_read None before now bytes e f h = tt
 whole_read (Some all) before now bytes e f h = f ∙ h ∙ ap (λ b. b ++ all) e
 
--- the provider of a session, by its seed
-pub traces_seed : {C D : Type 0} (calls : Ghosts (ProcessorOf (SimpleProcessor (ExporterOf StoredBatches C)) D))
-    (provider : ProviderState (ProcessorOf (SimpleProcessor (ExporterOf StoredBatches C)) D)) (seed : ℕ) (input : List ℕ) (bad_line : Option ℕ)
-    (before after : Option (List ℕ)) → provider ≡ provider_of_seed seed
-    → WritesText calls memory_batches provider input bad_line before after → TracesSeed calls seed input bad_line before after
-traces_seed calls provider seed input bad_line before after e h = subst (λ p. WritesText calls memory_batches p input bad_line before after) e h
+-- words ask for one seed
+asks_once : (words : List (List ℕ)) (seed other : ℕ) → AsksFor words seed → AsksFor words other → seed ≡ other
+asks_once words seed other (digits, is, e) (more, js, f) =
+    let same : digits ≡ more = cc in is.1 ∙ ap (λ d. digits_value 10 d) same ∙ sym js.1
+
+-- what holds of a value that was found, of the one that it is
+pub found : {T E : Type 0} (P : T → Type 0) (made : Result T E) (value : T) → made ≡ Ok value → IfOk made P → P value
+found P made value e h = subst (λ m. IfOk m P) e h
+
+-- what is traced under the provider of the seed that words ask for, is under that of any seed that they ask for
+pub traces_seed : {C D : Type 0} (calls : Ghosts (ProcessorOf (SimpleProcessor (ExporterOf StoredBatches C)) D)) (words : List (List ℕ)) (seed other : ℕ)
+    (provider : ProviderState (ProcessorOf (SimpleProcessor (ExporterOf StoredBatches C)) D)) (input input_after : Option (List ℕ)) (bad_line : Option ℕ)
+    (output output_after : Option (List ℕ)) → AsksFor words seed → AsksFor words other → provider ≡ provider_of_seed other
+    → TracesWhole calls memory_batches provider input input_after bad_line output output_after
+    → TracesSeed calls seed input input_after bad_line output output_after
+traces_seed calls words seed other provider input input_after bad_line output output_after asks more e h =
+    subst (λ (n : ℕ). TracesSeed calls n input input_after bad_line output output_after) (asks_once words other seed more asks)
+    (subst (λ p. TracesWhole calls memory_batches p input input_after bad_line output output_after) e h)

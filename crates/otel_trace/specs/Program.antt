@@ -63,19 +63,26 @@ session_under batches provider = record {
 }
 
 -- what a session writes for an input, whole or up to its first bad line, and when it closes
-abbrev pub SessionWrites : {P : Type 0} → Ghosts P → kept.Ghosts P → ProviderState P → List ℕ → Option ℕ → List ℕ → Type 0
-SessionWrites calls batches provider input bad_line text = Finishes calls batches (session_under batches provider) input bad_line text
+abbrev pub SessionWrites : {P : Type 0} → Ghosts P → kept.Ghosts P → SessionState P → List ℕ → Option ℕ → List ℕ → Type 0
+SessionWrites calls batches session input bad_line text = Finishes calls batches session input bad_line text
 
--- that was appended to the output, and nothing else
+-- a writer was given what a session under a provider writes for an input, and nothing else
 abbrev pub WritesText : {P : Type 0} → Ghosts P → kept.Ghosts P → ProviderState P → List ℕ → Option ℕ → Option (List ℕ) → Option (List ℕ) → Type 0
 WritesText calls batches provider input bad_line before after = (text : List ℕ)
-    × SessionWrites calls batches provider input bad_line text × Appends before after text
+    × SessionWrites calls batches (session_under batches provider) input bad_line text × Appends before after text
 
--- the same of the program's provider
-abbrev pub TracesSeed : {C D : Type 0} → Ghosts (ProcessorOf (SimpleProcessor (ExporterOf StoredBatches C)) D)
-    → ℕ → List ℕ → Option ℕ → Option (List ℕ) → Option (List ℕ) → Type 0
-TracesSeed calls seed input bad_line before after = WritesText calls memory_batches (provider_of_seed seed) input bad_line before after
-
--- the whole of a stream's bytes, and then the stream is at its end
+-- the whole of a stream's bytes, behind which the stream is at its end
 abbrev pub ReadsWhole : Option (List ℕ) → Option (List ℕ) → List ℕ → Type 0
 ReadsWhole before after bytes = IfSome before (λ all. bytes ≡ all) × IsAtEnd after
+
+-- the whole input was read, and the output was given what a session under a provider writes for it
+abbrev pub TracesWhole : {P : Type 0} → Ghosts P → kept.Ghosts P → ProviderState P
+    → Option (List ℕ) → Option (List ℕ) → Option ℕ → Option (List ℕ) → Option (List ℕ) → Type 0
+TracesWhole calls batches provider input input_after bad_line output output_after = (bytes : List ℕ)
+    × ReadsWhole input input_after bytes × WritesText calls batches provider bytes bad_line output output_after
+
+-- the same under the provider of a seed
+abbrev pub TracesSeed : {C D : Type 0} → Ghosts (ProcessorOf (SimpleProcessor (ExporterOf StoredBatches C)) D)
+    → ℕ → Option (List ℕ) → Option (List ℕ) → Option ℕ → Option (List ℕ) → Option (List ℕ) → Type 0
+TracesSeed calls seed input input_after bad_line output output_after =
+    TracesWhole calls memory_batches (provider_of_seed seed) input input_after bad_line output output_after

@@ -3,8 +3,7 @@
 
 ghost use Rattle.std.specs.Prelude.{◌≡◌, ◌≢◌, ◌⊎◌, ◌≤◌, ℕ, List, Some, None, IfOk, IfSome, OnOk, MatchOption, false, true, map, string_bytes};
 ghost use Rattle.std.specs.Io.KnownBytes.{Appends, IsAtEnd};
-ghost use Rattle.otel_trace.specs.Program.{AsksFor, AsksForNothing, ReadsWhole, SessionWrites, TracesSeed, WritesText, bad_line_text, provider_of_seed, usage_text};
-ghost use Rattle.otel_trace.specs.SessionDelivery.{Finishes};
+ghost use Rattle.otel_trace.specs.Program.{AsksFor, AsksForNothing, ReadsWhole, SessionWrites, TracesSeed, TracesWhole, WritesText, bad_line_text, provider_of_seed, session_under, usage_text};
 
 use crate::exported::KeepsBatches;
 use crate::lines::number_of;
@@ -27,9 +26,9 @@ const FAILED: u8 = 1;
 /// The exit status of a bad line or of wrong arguments.
 const REFUSED: u8 = 2;
 
-/// What the program's provider holds. It has no processor and no exporter of another's own, so that any type may stand for
-/// theirs.
-type TraceProcessor = ProcessorOf<
+/// What the program's provider holds. It has no processor and no exporter of another's own, so that any type may stand
+/// for theirs.
+pub type TraceProcessor = ProcessorOf<
     SimpleSpanProcessor<ExporterOf<InMemorySpanExporter, InMemorySpanExporter>>,
     SimpleSpanProcessor<InMemorySpanExporter>,
 >;
@@ -47,8 +46,8 @@ struct Outcome {
 
 /// Runs the program over any reader and writers, and answers its exit status: 0 at the end of the input; 2 for a bad
 /// line or wrong arguments; 1 where reading, writing or the closing fails or memory is missing, also where 2 would be
-/// due. `words` are the arguments without the program's name; wrong ones are found before anything is read. What status
-/// 1 leaves on the output and the faults is left open.
+/// due. `words` are the arguments without the program's name; wrong ones are found before anything is read. How far a
+/// run of status 1 came is left open.
 pub fn run_program<R: Read, W: Write, F: Write>(
     alloc: Global,
     words: &[String],
@@ -59,29 +58,47 @@ pub fn run_program<R: Read, W: Write, F: Write>(
     ensures status { result ≤ 2 }
 
     // Wrong arguments.
-    ensures unread { AsksForNothing (map string_bytes words.now) → (input.new ≡ input.old) × (output.new ≡ output.old) }
-    ensures usage { AsksForNothing (map string_bytes words.now) → (result ≢ 0)
-        × (result ≡ 2 → Appends (F.contents faults.old) (F.contents faults.new) usage_text) }
+    ensures unread { AsksForNothing (map string_bytes words.now) →
+        (input.new ≡ input.old) × (output.new ≡ output.old) }
+    ensures usage { AsksForNothing (map string_bytes words.now) →
+        (result ≢ 0) × (result ≡ 2 → Appends (F.contents faults.old) (F.contents faults.new) usage_text) }
 
     // One session over the whole input.
-    ensures done { (seed : ℕ) → AsksFor (map string_bytes words.now) seed → result ≡ 0 → (bytes : List ℕ)
-        × ReadsWhole (R.remaining input.old) (R.remaining input.new) bytes
-        × TracesSeed ⟦<TraceProcessor as SpanProcessor>⟧ seed bytes None (W.contents output.old) (W.contents output.new)
+    ensures done { (seed : ℕ) → AsksFor (map string_bytes words.now) seed → result ≡ 0 →
+        TracesSeed ⟦<TraceProcessor as SpanProcessor>⟧ seed (R.remaining input.old) (R.remaining input.new)
+        None (W.contents output.old) (W.contents output.new)
         × (faults.new ≡ faults.old) }
-    ensures bad_line { (seed : ℕ) → AsksFor (map string_bytes words.now) seed → result ≡ 2 → (bytes : List ℕ) × (line : ℕ)
-        × ReadsWhole (R.remaining input.old) (R.remaining input.new) bytes
-        × TracesSeed ⟦<TraceProcessor as SpanProcessor>⟧ seed bytes (Some line) (W.contents output.old) (W.contents output.new)
+    ensures bad_line { (seed : ℕ) → AsksFor (map string_bytes words.now) seed → result ≡ 2 → (line : ℕ)
+        × TracesSeed ⟦<TraceProcessor as SpanProcessor>⟧ seed (R.remaining input.old) (R.remaining input.new)
+        (Some line) (W.contents output.old) (W.contents output.new)
         × Appends (F.contents faults.old) (F.contents faults.new) (bad_line_text line) }
 {
-    match seed_of(words) {
-        Some(seed) => trace_input(alloc, seed, input, output, faults),
+    match provider_for(alloc, words) {
         None => refuse(faults, USAGE),
+        Some(Ok(provider)) => trace_input(alloc, provider, input, output, faults),
+        Some(Err(_)) => FAILED,
     }
+}
+
+/// The provider that the arguments ask for, or that there is no memory for it; none where they ask for nothing.
+fn provider_for(
+    alloc: Global,
+    words: &[String],
+) -> Option<Result<ProviderOf<TraceProcessor>, AllocError>>
+    ensures { MatchOption result
+        (AsksForNothing (map string_bytes words.now))
+        (λ made. (seed : ℕ) × AsksFor (map string_bytes words.now) seed
+        × IfOk made (λ provider. provider ≡ provider_of_seed seed)) }
+{
+    let seed = seed_of(words)?;
+    Some(provider_of(alloc, seed))
 }
 
 /// The seed of `trace SEED simple`; none where the words are others.
 fn seed_of(words: &[String]) -> Option<u64>
-    ensures { MatchOption result (AsksForNothing (map string_bytes words.now)) (λ seed. AsksFor (map string_bytes words.now) seed) }
+    ensures { MatchOption result
+        (AsksForNothing (map string_bytes words.now))
+        (λ seed. AsksFor (map string_bytes words.now) seed) }
 {
     match words {
         [mode, seed, kind] if mode.as_str() == "trace" && kind.as_str() == "simple" => number_of(
@@ -91,32 +108,30 @@ fn seed_of(words: &[String]) -> Option<u64>
     }
 }
 
-/// Answers the whole input by one session of a seed.
-fn trace_input<R: Read, W: Write, F: Write>(
+/// Answers the whole input by one session under a provider.
+fn trace_input<P: KeepsBatches, R: Read, W: Write, F: Write>(
     alloc: Global,
-    seed: u64,
+    provider: ProviderOf<P>,
     input: &mut R,
     output: &mut W,
     faults: &mut F,
 ) -> u8
     ensures status { result ≤ 2 }
-    ensures done { result ≡ 0 → (bytes : List ℕ)
-        × ReadsWhole (R.remaining input.old) (R.remaining input.new) bytes
-        × TracesSeed ⟦<TraceProcessor as SpanProcessor>⟧ seed bytes None (W.contents output.old) (W.contents output.new)
+    ensures done { result ≡ 0 →
+        TracesWhole P.SpanProcessor P.KeepsBatches.own provider (R.remaining input.old) (R.remaining input.new)
+        None (W.contents output.old) (W.contents output.new)
         × (faults.new ≡ faults.old) }
-    ensures bad_line { result ≡ 2 → (bytes : List ℕ) × (line : ℕ)
-        × ReadsWhole (R.remaining input.old) (R.remaining input.new) bytes
-        × TracesSeed ⟦<TraceProcessor as SpanProcessor>⟧ seed bytes (Some line) (W.contents output.old) (W.contents output.new)
+    ensures bad_line { result ≡ 2 → (line : ℕ)
+        × TracesWhole P.SpanProcessor P.KeepsBatches.own provider (R.remaining input.old) (R.remaining input.new)
+        (Some line) (W.contents output.old) (W.contents output.new)
         × Appends (F.contents faults.old) (F.contents faults.new) (bad_line_text line) }
 {
     let mut bytes = Vec::new(alloc);
     if input.read_to_end(&mut bytes).is_err() {
+        let _ = provider.close();
         return FAILED;
     }
-    match provider_of(alloc, seed) {
-        Ok(provider) => answer(alloc, provider, &bytes, output, faults),
-        Err(_) => FAILED,
-    }
+    answer(alloc, provider, &bytes, output, faults)
 }
 
 /// Answers an input by one session under a provider.
@@ -129,12 +144,12 @@ fn answer<P: KeepsBatches, W: Write, F: Write>(
 ) -> u8
     ensures status { result ≤ 2 }
     ensures done { result ≡ 0 →
-        WritesText P.SpanProcessor P.KeepsBatches.own provider
-        input.now None (W.contents output.old) (W.contents output.new)
+        WritesText P.SpanProcessor P.KeepsBatches.own provider input.now
+        None (W.contents output.old) (W.contents output.new)
         × (faults.new ≡ faults.old) }
     ensures bad_line { result ≡ 2 → (line : ℕ)
-        × WritesText P.SpanProcessor P.KeepsBatches.own provider
-        input.now (Some line) (W.contents output.old) (W.contents output.new)
+        × WritesText P.SpanProcessor P.KeepsBatches.own provider input.now
+        (Some line) (W.contents output.old) (W.contents output.new)
         × Appends (F.contents faults.old) (F.contents faults.new) (bad_line_text line) }
 {
     let outcome = trace(alloc, provider, input);
@@ -181,7 +196,8 @@ fn name_bad_line<F: Write>(alloc: Global, line: u64, faults: &mut F) -> u8
 /// One session under a provider.
 fn trace<P: KeepsBatches>(alloc: Global, provider: ProviderOf<P>, input: &[u8]) -> Outcome
     ensures { result.has_failed ≡ false →
-        SessionWrites P.SpanProcessor P.KeepsBatches.own provider input.now result.bad_line result.text.items }
+        SessionWrites P.SpanProcessor P.KeepsBatches.own (session_under P.KeepsBatches.own provider)
+        input.now result.bad_line result.text.items }
 {
     match Session::new(alloc, provider) {
         Ok(session) => finish(alloc, session, input),
@@ -205,7 +221,8 @@ fn failed(alloc: Global) -> Outcome
 
 /// Feeds the whole input to a session and closes it.
 fn finish<P: KeepsBatches>(alloc: Global, mut session: Session<P>, input: &[u8]) -> Outcome
-    ensures { result.has_failed ≡ false → Finishes P.SpanProcessor P.KeepsBatches.own session input.now result.bad_line result.text.items }
+    ensures { result.has_failed ≡ false →
+        SessionWrites P.SpanProcessor P.KeepsBatches.own session input.now result.bad_line result.text.items }
 {
     let mut text = Vec::new(alloc);
     let fed = session.feed(input, &mut text);

@@ -78,107 +78,176 @@ fn words_of(alloc: Global, words: &[&str]) -> Result<Vec<String>, AllocError> {
     Ok(owned)
 }
 
-/// Asserts what the program makes of an input, and that it left so many bytes of it.
+/// What must come of a run of the program.
+#[derive(Drop)]
+struct Want<'a> {
+    status: u8,
+    output: &'a str,
+    faults: &'a str,
+    /// How many bytes of the input are left.
+    unread: usize,
+}
+
+/// Asserts what the program makes of an input.
 fn assert_runs(
     rt: &impl Abort,
     alloc: Global,
     name: &str,
     words: &[&str],
     mut input: &[u8],
-    want: (u8, &str, &str, usize),
+    want: &Want,
 ) -> Result<(), AllocError> {
     let words = words_of(alloc, words)?;
     let mut output = Vec::new(alloc);
     let mut faults = Vec::new(alloc);
     let status = run_program(alloc, &words, &mut input, &mut output, &mut faults);
-    assert_eq!(rt; output.as_slice(), want.1.as_bytes(), "{name}");
-    assert_eq!(rt; faults.as_slice(), want.2.as_bytes(), "{name}");
-    assert_eq!(rt; status, want.0, "{name}");
-    assert_eq!(rt; input.len(), want.3, "{name}");
+    assert_eq!(rt; output.as_slice(), want.output.as_bytes(), "{name}");
+    assert_eq!(rt; faults.as_slice(), want.faults.as_bytes(), "{name}");
+    assert_eq!(rt; status, want.status, "{name}");
+    assert_eq!(rt; input.len(), want.unread, "{name}");
     Ok(())
 }
 
+/// An input of a session, and what must come of it.
+#[derive(Drop)]
+struct Case {
+    name: &'static str,
+    input: &'static [u8],
+    status: u8,
+    output: &'static str,
+    faults: &'static str,
+}
+
+const CASES: [Case; 11] = [
+    Case {
+        name: "an empty input",
+        input: b"",
+        status: 0,
+        output: "",
+        faults: "",
+    },
+    Case {
+        name: "an end after the end",
+        input: b"start s GET 1000\nattr s http.method GET\nend s 2000\nend s 3000\n",
+        status: 0,
+        output: ENDED_TWICE,
+        faults: "",
+    },
+    Case {
+        name: "an unknown span",
+        input: b"end x 5\n",
+        status: 0,
+        output: UNKNOWN,
+        faults: "",
+    },
+    Case {
+        name: "a span that stays open",
+        input: b"start s a 1\n",
+        status: 0,
+        output: STARTED,
+        faults: "",
+    },
+    Case {
+        name: "a last line without its end",
+        input: b"end x 5",
+        status: 0,
+        output: UNKNOWN,
+        faults: "",
+    },
+    Case {
+        name: "empty lines",
+        input: b"\n\r\n\nend x 5\n\n",
+        status: 0,
+        output: UNKNOWN,
+        faults: "",
+    },
+    Case {
+        name: "carriage returns",
+        input: b"start s GET 1000\r\nend s 2000\r\n",
+        status: 0,
+        output: ENDED,
+        faults: "",
+    },
+    Case {
+        name: "a bad line in the middle",
+        input: b"end x 5\nstop\nstart s a 1\n",
+        status: 2,
+        output: UNKNOWN,
+        faults: "line 2: cannot read\n",
+    },
+    Case {
+        name: "a bad line behind empty ones, which are counted",
+        input: b"\nend x 5\n\r\n\nstop\n",
+        status: 2,
+        output: UNKNOWN,
+        faults: "line 5: cannot read\n",
+    },
+    Case {
+        name: "a carriage return at the end of the input stays",
+        input: b"end x 5\nend x 5\r",
+        status: 2,
+        output: UNKNOWN,
+        faults: "line 2: cannot read\n",
+    },
+    Case {
+        name: "one of two carriage returns stays",
+        input: b"end x 5\r\r\n",
+        status: 2,
+        output: "",
+        faults: "line 1: cannot read\n",
+    },
+];
+
 #[test]
-fn each_line_is_answered(rt: HostRuntime) -> Result<(), Fail> {
-    let cases: [(&str, &[u8], &str); 7] = [
-        ("an empty input", b"", ""),
-        (
-            "an end after the end",
-            b"start s GET 1000\nattr s http.method GET\nend s 2000\nend s 3000\n",
-            ENDED_TWICE,
-        ),
-        ("an unknown span", b"end x 5\n", UNKNOWN),
-        ("a span that stays open", b"start s a 1\n", STARTED),
-        ("a last line without its end", b"end x 5", UNKNOWN),
-        ("empty lines", b"\n\r\n\nend x 5\n\n", UNKNOWN),
-        (
-            "carriage returns",
-            b"start s GET 1000\r\nend s 2000\r\n",
-            ENDED,
-        ),
-    ];
-    for (name, input, output) in cases {
-        assert_runs(&rt, rt.alloc(), name, SIMPLE, input, (0, output, "", 0))?;
+fn each_line_is_answered_up_to_a_bad_one(rt: HostRuntime) -> Result<(), Fail> {
+    for case in &CASES {
+        let want = Want {
+            status: case.status,
+            output: case.output,
+            faults: case.faults,
+            unread: 0,
+        };
+        assert_runs(&rt, rt.alloc(), case.name, SIMPLE, case.input, &want)?;
     }
     Ok(())
 }
 
 #[test]
-fn the_first_bad_line_is_named(rt: HostRuntime) -> Result<(), Fail> {
-    let cases: [(&str, &[u8], &str, &str); 4] = [
-        (
-            "a bad line in the middle",
-            b"end x 5\nstop\nstart s a 1\n",
-            UNKNOWN,
-            "line 2: cannot read\n",
-        ),
-        (
-            "empty lines are counted",
-            b"\nend x 5\n\r\n\nstop\n",
-            UNKNOWN,
-            "line 5: cannot read\n",
-        ),
-        (
-            "a carriage return at the end of the input stays",
-            b"end x 5\nend x 5\r",
-            UNKNOWN,
-            "line 2: cannot read\n",
-        ),
-        (
-            "one of two carriage returns stays",
-            b"end x 5\r\r\n",
-            "",
-            "line 1: cannot read\n",
-        ),
-    ];
-    for (name, input, output, faults) in cases {
-        assert_runs(&rt, rt.alloc(), name, SIMPLE, input, (2, output, faults, 0))?;
-    }
+fn a_bad_line_is_named_as_its_error_prints(rt: HostRuntime) -> Result<(), Fail> {
+    let printed = format!(in rt.alloc(); "{}\n", FeedError::Line(2))?;
+    assert_eq!(rt; printed.as_str(), "line 2: cannot read\n");
     Ok(())
 }
 
 #[test]
 fn wrong_arguments_are_refused_before_the_input(rt: HostRuntime) -> Result<(), Fail> {
-    let usage = "usage: otel_trace trace SEED simple | trace SEED batch Q B | steps Q B P\n";
-    let cases: [(&str, &[&str]); 8] = [
+    let want = Want {
+        status: 2,
+        output: "",
+        faults: "usage: otel_trace trace SEED simple | trace SEED batch Q B | steps Q B P\n",
+        unread: 8,
+    };
+    let cases: [(&str, &[&str]); 11] = [
         ("a batch processor", &["trace", "0", "batch", "3", "2"]),
         ("the steps of a machine", &["steps", "3", "2", "1"]),
         ("no argument", &[]),
         ("a mode alone", &["trace"]),
         ("a seed that is no number", &["trace", "x", "simple"]),
+        ("a seed with a sign", &["trace", "+1", "simple"]),
+        (
+            "a seed past 64 bits",
+            &["trace", "18446744073709551616", "simple"],
+        ),
+        (
+            "the program's name before them",
+            &["otel_trace", "trace", "0", "simple"],
+        ),
         ("an unknown processor", &["trace", "0", "other"]),
         ("an unknown mode", &["other", "0", "simple"]),
         ("an argument too many", &["trace", "0", "simple", "1"]),
     ];
     for (name, words) in cases {
-        assert_runs(
-            &rt,
-            rt.alloc(),
-            name,
-            words,
-            b"end x 5\n",
-            (2, "", usage, 8),
-        )?;
+        assert_runs(&rt, rt.alloc(), name, words, b"end x 5\n", &want)?;
     }
     Ok(())
 }
@@ -212,14 +281,19 @@ fn all_but_one_kept(alloc: Global) -> Result<String, AllocError> {
 fn attributes_past_the_limit_are_counted(rt: HostRuntime) -> Result<(), Fail> {
     let input = many_attributes(rt.alloc(), 129)?;
     let output = all_but_one_kept(rt.alloc())?;
-    let want = (0, output.as_str(), "", 0);
+    let want = Want {
+        status: 0,
+        output: output.as_str(),
+        faults: "",
+        unread: 0,
+    };
     assert_runs(
         &rt,
         rt.alloc(),
         "129 attributes",
         SIMPLE,
         input.as_bytes(),
-        want,
+        &want,
     )?;
     Ok(())
 }
