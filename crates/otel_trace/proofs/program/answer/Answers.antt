@@ -1,4 +1,4 @@
-use Rattle.std.proofs.Common.{◌≡◌, ℕ, Option, Some, rules, arith, subst}
+use Rattle.std.proofs.Common.{ℕ, Option, rules, arith, subst}
 use Rattle.otel_trace.specs.Program.{SessionWrites, session_under}
 use Rattle.otel_trace.proofs.program.answer.Goals as goal
 use Rattle.otel_trace.proofs.program.answer.Goals.{in-None, in-Some}
