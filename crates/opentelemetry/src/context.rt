@@ -13,7 +13,7 @@ use std::alloc::AllocError;
 use std::marker::Model;
 use std::sync::Arc;
 
-/// An execution context, handed in wherever a span starts.
+/// An execution context: what is known where a span starts.
 #[derive(Debug, Drop)]
 pub struct Context {
     span_context: SpanContext,

@@ -2,7 +2,6 @@
 use Rattle.std.proofs.Common.{◌≡◌, ℕ, List, [], ◌∷◌, ◌++◌, refl, sym, ◌∙◌, ap, subst, append_assoc, append-nil, length, drop, inl}
 use Rattle.std.proofs.lemmas.List.{map-append}
 use Rattle.opentelemetry.specs.Plain.{PlainScope}
-use Rattle.otel_batch.specs.PlainSpanData.{PlainSpanData}
 use Rattle.otel_base.specs.declared.trace.sampler.ShouldSample as sampling
 use Rattle.otel_base.specs.declared.trace.id_generator.IdGenerator as drawing
 use Rattle.opentelemetry_sdk.specs.Deliveries.{Delivery}
@@ -13,7 +12,7 @@ use Rattle.otel_trace.specs.KeptBatches.{Appends}
 use Rattle.otel_trace.specs.Commands.{PlainCommand, plain_command, plain_commands}
 use Rattle.otel_trace.specs.PlainReply.{PlainReply}
 use Rattle.opentelemetry_sdk.specs.ProcessorTelling.{spans_in}
-use Rattle.otel_trace.specs.SessionDelivery.{Histories, Describe, Course, course_of, Demands, Replies, DemandAll, Demanded, SessionState, CarriesOutOne, session_batches, session_losses, batches_of_first, unshown, CarriesOut, Shows, NoneLeft, LosesNone, RunsAll, Refuses, RunsBeginning}
+use Rattle.otel_trace.specs.SessionDelivery.{Histories, Course, course_of, Demands, Replies, DemandAll, Demanded, SessionState, CarriesOutOne, session_batches, session_losses, batches_of_first, unshown, CarriesOut, Shows, NoneLeft, LosesNone, RunsAll, Refuses, RunsBeginning}
 use Rattle.otel_trace.specs.declared.command.Command.{Command}
 use Rattle.otel_trace.proofs.ShownLemmas.{shows_nothing, shows_no_more, shows_reply, none_left}
 

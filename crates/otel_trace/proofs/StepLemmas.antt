@@ -1,8 +1,8 @@
 -- What one command does to the spans of a session is what it demands of their histories.
-use Rattle.std.proofs.Common.{◌≡◌, ℕ, Bool, true, false, if◌then◌else◌, List, [], ◌∷◌, ◌++◌, map, Option, Some, None, refl, sym, ◌∙◌, ap, subst}
+use Rattle.std.proofs.Common.{◌≡◌, ℕ, Bool, true, false, if◌then◌else◌, List, [], ◌∷◌, ◌++◌, map, Option, Some, None, refl, ◌∙◌, ap, subst}
 use Rattle.std.specs.Option.{option_map}
 use Rattle.opentelemetry.specs.Plain.{PlainScope, text}
-use Rattle.opentelemetry_sdk.specs.SpanHistory.{PlainSpan, SpanHistory, begun, over, Edit, set_attribute, not_recording, recording, data_of, span_of}
+use Rattle.opentelemetry_sdk.specs.SpanHistory.{PlainSpan, SpanHistory, begun, over, Edit, set_attribute, not_recording, data_of, span_of}
 use Rattle.otel_base.specs.declared.trace.sampler.ShouldSample as sampling
 use Rattle.otel_base.specs.declared.trace.id_generator.IdGenerator as drawing
 use Rattle.opentelemetry_sdk.specs.Provider.{ProviderState}

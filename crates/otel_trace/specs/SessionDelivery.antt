@@ -1,7 +1,7 @@
 -- What the commands of a session demand of its provider and its exporters. It speaks of each span as its history, a start
 -- and the edits since, and of what an end delivers as the data of that history: whole lists, each cut once. No history is
 -- stored.
-use Rattle.std.specs.Prelude.{◌≡◌, ℕ, true, false, List, [], ◌∷◌, ◌++◌, Option, Some, None, map, take, drop, slice_get, Result, Ok, Err, MatchBool, if◌then◌else◌, ◌⊎◌, ◌≤◌, length}
+use Rattle.std.specs.Prelude.{◌≡◌, ℕ, List, [], ◌∷◌, ◌++◌, Option, Some, None, map, take, drop, slice_get, Result, Ok, Err, MatchBool, if◌then◌else◌, ◌⊎◌, ◌≤◌, length}
 use Rattle.std.specs.List.{flat_map}
 use Rattle.std.specs.Option.{option_map, option_map_or}
 use Rattle.opentelemetry.specs.Plain.{PlainScope, text}
@@ -158,8 +158,8 @@ module _ {P S G : Type 0} (calls : Ghosts P) (sampler : sampling.Ghosts S) (ids 
   CarriesOutOne scope p old command answer q new =
       (histories : Histories) → Describe histories old → DemandsOne scope p histories command answer q new
 
-  -- what a command that is refused may do to the provider: nothing, but that a start may have made a span that found no
-  -- place: then ids were drawn and each processor was told of the start
+  -- what a command that is refused may do to the provider: nothing, but that a start may have drawn ids, or done all that
+  -- the start of a span does, where the span then found no place
   abbrev pub MayAsk : PlainScope → ProviderState P S G → PlainCommand → ProviderState P S G → Type 0
   MayAsk scope p (start span name moment) q = MayStart calls sampler ids p scope name moment q
   MayAsk scope p (attr span key value) q = q ≡ p

@@ -48,8 +48,8 @@ impl OpenSpans {
         }
     }
 
-    /// Starts a span under a name. Where there is no memory for the name, the span that was started is abandoned: ids were
-    /// drawn and each processor was told of the start, and nothing was delivered.
+    /// Starts a span under a name. Where there is no memory for the name, the span that was started is abandoned: the
+    /// provider did what it does at any start, and nothing was delivered.
     pub(crate) fn start<P: SpanProcessor, S: ShouldSample, G: IdGenerator>(
         &mut self,
         name: String,

@@ -1,4 +1,4 @@
-//! What a span is to start with: handed to a tracer, which asks its sampler and starts the span.
+//! What a span is to start with.
 
 ghost use Rattle.std.specs.Prelude.{◌≡◌, Some, string_bytes};
 ghost use Rattle.std.specs.Option.{option_eq};

@@ -43,7 +43,7 @@ impl From<AllocError> for TraceStateError {
     }
 }
 
-/// A list of pairs, the newest first.
+/// A list of pairs in the order of their header; `insert` puts a new one in front.
 #[derive(Debug, Drop)]
 pub struct TraceState {
     pairs: Option<Arc<Vec<(String, String)>>>,

@@ -79,7 +79,7 @@ impl<P, S, G> ProviderOf<P, S, G> {
         &self.processors
     }
 
-    /// A tracer for the library of this name. Its scope takes memory once, so that no start does.
+    /// A tracer for the library of this name. Its scope takes memory once, and each start shares it.
     pub fn tracer(&self, name: String) -> Result<SdkTracer, AllocError>
         ensures { IfOk result (λ tracer. tracer ≡ scope_named (string_bytes name)) }
     {

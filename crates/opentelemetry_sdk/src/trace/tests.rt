@@ -80,7 +80,10 @@ impl SpanProcessor for Writer<'_> {
 }
 
 /// An open provider over three processors that share a board.
-fn three_writers(alloc: Global, board: &Cell<u64>) -> Result<ProviderOf<Writer<'_>>, AllocError> {
+fn three_writers(
+    alloc: Global,
+    board: &Cell<u64>,
+) -> Result<ProviderOf<Writer<'_>, Sampler, RandomIdGenerator>, AllocError> {
     let mut writers = Vec::new(alloc);
     for digit in 1..4 {
         writers.push(Writer {

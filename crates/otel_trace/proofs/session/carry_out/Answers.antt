@@ -1,11 +1,9 @@
-use Rattle.std.proofs.Common.{◌≡◌, true, IsFalse, refl, subst, sym, ap, inl, map, rules, string_bytes, ◌∙◌, List, ℕ}
-use Rattle.opentelemetry.specs.Plain.{PlainKeyValue}
-use Rattle.opentelemetry_sdk.specs.SpanHistory.{Edit, set_attribute}
-use Rattle.otel_trace.specs.Commands.{plain_command, is_end, start, attr, end}
+use Rattle.std.proofs.Common.{◌≡◌, true, IsFalse, refl, subst, sym, ap, map, rules, string_bytes, List, ℕ}
+use Rattle.opentelemetry_sdk.specs.SpanHistory.{Edit}
+use Rattle.otel_trace.specs.Commands.{plain_command, is_end}
 use Rattle.otel_trace.specs.OpenSpans.{EditsNamed, EndsNamed, named, plain_edit}
 use Rattle.otel_trace.specs.SessionDelivery.{CarriesOutOne, RefusesOne, batches_of_first}
 use Rattle.otel_trace.specs.declared.command.Command.{Command}
-use Rattle.otel_trace.specs.declared.reply.Answer.{Answer}
 use Rattle.otel_trace.proofs.Clauses.{if_ok_map, on_err_map}
 use Rattle.otel_trace.proofs.StepLemmas.{carries_start, carries_edit, carries_end}
 use Rattle.otel_trace.proofs.ShownLemmas.{appends_none, may_start_keeps, may_deliver_keeps}

@@ -1,4 +1,4 @@
-use Rattle.std.proofs.Common.{refl, sym, ◌∙◌, ap, subst, string_bytes, is_some, ℕ, List, Option, None, inl, inr}
+use Rattle.std.proofs.Common.{refl, sym, ◌∙◌, ap, subst, string_bytes, is_some, ℕ, List, Option, inl, inr}
 use Rattle.opentelemetry_sdk.specs.SpanHistory.{PlainSpan}
 use Rattle.otel_trace.specs.OpenSpans.{PutsSpan, StartsNamed, named, start_answer}
 use Rattle.otel_trace.proofs.NamedLemmas.{starts_taken, none_from_test}

@@ -1,5 +1,5 @@
 use Rattle.std.proofs.Common.{subst}
-use Rattle.otel_batch.proofs.Behind.{behind, same_behind}
+use Rattle.otel_base.proofs.Behind.{behind, same_behind}
 use Rattle.opentelemetry_sdk.specs.ProcessorTelling.{ProcessorTelling, TakesSpan}
 use Rattle.opentelemetry_sdk.proofs.trace.span_processor.BoxDynSpanProcessorSpanProcessor.on_end.Goals as goal
 

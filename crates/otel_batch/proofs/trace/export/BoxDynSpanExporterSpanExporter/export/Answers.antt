@@ -1,7 +1,7 @@
 use Rattle.std.proofs.Common.{[], ◌∷◌, subst, Option, List}
 use Rattle.otel_batch.specs.PlainSpanData.{PlainSpanData}
 use Rattle.otel_batch.specs.Telling.{Tells}
-use Rattle.otel_batch.proofs.Behind.{behind, same_behind}
+use Rattle.otel_base.proofs.Behind.{behind, same_behind}
 use Rattle.otel_batch.proofs.trace.export.BoxDynSpanExporterSpanExporter.export.Goals as goal
 
 pub returns-clause-told : goal.returns-clause-told

@@ -1,7 +1,7 @@
 use Rattle.std.proofs.Common.{◌∙◌, inr}
 use Rattle.std.specs.Duration.{as_nanos}
 use Rattle.otel_batch.specs.RestsOr.{RestsOr}
-use Rattle.otel_batch.proofs.Behind.{behind, same_behind}
+use Rattle.otel_base.proofs.Behind.{behind, same_behind}
 use Rattle.otel_batch.proofs.trace.export.BoxDynSpanExporterSpanExporter.shutdown_with_timeout.Goals as goal
 
 pub returns-clause-told : goal.returns-clause-told
