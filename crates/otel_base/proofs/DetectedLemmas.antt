@@ -7,7 +7,7 @@ use Rattle.std.specs.Cmp.Lexicographic.{nat_list_cmp_total}
 use Rattle.std.specs.FinMap as fin
 use Rattle.std.specs.FinMap.{get-insert, slice_cmp-IsAntisymmetric, nat_cmp-IsAntisymmetric}
 use Rattle.opentelemetry.specs.Plain.{PlainValue, PlainKeyValue, text}
-use Rattle.otel_base.specs.Resource.{Attributes, PlainResource, named, non_empty, union, of_attributes, attributes_of, service_name_key}
+use Rattle.otel_base.specs.Resource.{Attributes, PlainResource, service_named, non_empty, union, of_attributes, attributes_of, service_name_key}
 use Rattle.otel_base.specs.DetectedResource.{PlainResourceStrings, ReadsAs, IsEnvResource, IsDetected, name_over, name_of_service, unknown_service, telemetry_pairs}
 use Rattle.otel_base.proofs.AttributeLemmas.{key_cmp, same_attributes, get-union, union-empty, union_assoc}
 use Rattle.otel_base.proofs.AttributesStringLemmas.{string_reads_some}
@@ -18,7 +18,7 @@ some_env given = let (pairs, reads) = string_reads_some (unwrap_or given []) in 
 
 -- the name of the service and nothing else
 abbrev name_alone : PlainValue → Attributes
-name_alone v = (named v).attributes
+name_alone v = (service_named v).attributes
 
 nothing : Attributes
 nothing = fin.empty
@@ -79,7 +79,7 @@ put_as_detected strings none first second third name pairs empty named_first is 
     let joined = union_assoc (name_alone (over_env (fin.get env service_name_key))) telemetry env
     ∙ ap (λ (m : Attributes). union (name_alone (over_env (fin.get env service_name_key))) (union telemetry m)) (sym (union-empty env)) in
     let read : IsEnvResource strings.attributes (of_attributes env) = (pairs, reads, refl) in (
-      named (over_env (fin.get env service_name_key)),
+      service_named (over_env (fin.get env service_name_key)),
       of_attributes env,
       (of_attributes env, read, refl),
       read,

@@ -5,7 +5,7 @@ use Rattle.std.specs.Option.{option_map, option_or}
 use Rattle.std.specs.FinMap.{get}
 use Rattle.opentelemetry.specs.Plain.{PlainValue, text, PlainKeyValue}
 use Rattle.otel_base.specs.AttributesString.{IsAttributesString}
-use Rattle.otel_base.specs.Resource.{PlainResource, non_empty, pair_of, named, service_name_key}
+use Rattle.otel_base.specs.Resource.{PlainResource, non_empty, pair_of, service_named, service_name_key}
 use Rattle.otel_base.specs.Resource.{of_attributes, attributes_of, all_attributes}
 
 -- the strings that may be handed in
@@ -49,7 +49,7 @@ name_over strings env =
 -- the name of the service, looked for in the strings
 abbrev pub IsSdkResource : PlainResourceStrings → PlainResource → Type 0
 IsSdkResource strings resource =
-    (env : PlainResource) × IsEnvResource strings.attributes env × (resource ≡ named (name_over strings env))
+    (env : PlainResource) × IsEnvResource strings.attributes env × (resource ≡ service_named (name_over strings env))
 
 -- this SDK's name, language and version
 abbrev pub telemetry_pairs : List PlainKeyValue

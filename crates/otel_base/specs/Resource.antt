@@ -75,8 +75,8 @@ abbrev pub pair_of : List ℕ → PlainValue → PlainKeyValue
 pair_of key value = record { key = key; value = value }
 
 -- a resource that says the name of the service and nothing else
-abbrev pub named : PlainValue → PlainResource
-named name = of_attributes (attributes_of (pair_of service_name_key name ∷ []))
+abbrev pub service_named : PlainValue → PlainResource
+service_named name = of_attributes (attributes_of (pair_of service_name_key name ∷ []))
 
 -- the attributes of several resources, of which a later one wins
 abbrev pub all_attributes : List PlainResource → Attributes

@@ -341,7 +341,7 @@ impl ResourceBuilder {
 
     /// Merges the attribute `service.name` over the builder's.
     pub fn with_service_name(self, name: Value) -> Result<ResourceBuilder, AllocError>
-        ensures { IfOk result (λ built. built ≡ meaning.merge self (meaning.named (plain_value name))) }
+        ensures { IfOk result (λ built. built ≡ meaning.merge self (meaning.service_named (plain_value name))) }
     {
         let key = Key::new(String::from_str(self.alloc, SERVICE_NAME)?);
         self.with_attribute(KeyValue::new(key, name))

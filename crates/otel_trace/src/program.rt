@@ -146,11 +146,13 @@ fn trace_input<P: KeepsBatches, S: ShouldSample, G: IdGenerator, R: Read, W: Wri
 ) -> u8
     ensures status { result ≤ 2 }
     ensures done { result ≡ 0 →
-        TracesWhole P.SpanProcessor P.KeepsBatches.own S.ShouldSample G.IdGenerator provider (R.remaining input.old) (R.remaining input.new)
+        TracesWhole P.SpanProcessor P.KeepsBatches.own S.ShouldSample G.IdGenerator provider
+        (R.remaining input.old) (R.remaining input.new)
         None (W.contents output.old) (W.contents output.new)
         × (faults.new ≡ faults.old) }
     ensures bad_line { result ≡ 2 → (line : ℕ)
-        × TracesWhole P.SpanProcessor P.KeepsBatches.own S.ShouldSample G.IdGenerator provider (R.remaining input.old) (R.remaining input.new)
+        × TracesWhole P.SpanProcessor P.KeepsBatches.own S.ShouldSample G.IdGenerator provider
+        (R.remaining input.old) (R.remaining input.new)
         (Some line) (W.contents output.old) (W.contents output.new)
         × Appends (F.contents faults.old) (F.contents faults.new) (bad_line_text line) }
 {
@@ -228,7 +230,8 @@ fn trace<P: KeepsBatches, S: ShouldSample, G: IdGenerator>(
     input: &[u8],
 ) -> Outcome
     ensures { result.has_failed ≡ false →
-        Finishes P.SpanProcessor P.KeepsBatches.own S.ShouldSample G.IdGenerator (session_under P.KeepsBatches.own provider)
+        Finishes P.SpanProcessor P.KeepsBatches.own S.ShouldSample G.IdGenerator
+        (session_under P.KeepsBatches.own provider)
         input.now result.bad_line result.text.items }
 {
     match Session::new(alloc, provider) {
@@ -258,7 +261,8 @@ fn finish<P: KeepsBatches, S: ShouldSample, G: IdGenerator>(
     input: &[u8],
 ) -> Outcome
     ensures { result.has_failed ≡ false →
-        Finishes P.SpanProcessor P.KeepsBatches.own S.ShouldSample G.IdGenerator session input.now result.bad_line result.text.items }
+        Finishes P.SpanProcessor P.KeepsBatches.own S.ShouldSample G.IdGenerator
+        session input.now result.bad_line result.text.items }
 {
     let mut text = Vec::new(alloc);
     let fed = session.feed(input, &mut text);

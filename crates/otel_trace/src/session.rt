@@ -231,7 +231,8 @@ impl<P: KeepsBatches, S: ShouldSample, G: IdGenerator> Session<P, S, G> {
     fn answer(&mut self, command: Command) -> Result<Answer, AllocError>
         ensures ok { IfOk result (λ answer. CarriesOutOne P.SpanProcessor S.ShouldSample G.IdGenerator self.old.scope
             self.old.provider self.old.spans
-            (plain_command command) answer self.new.provider self.new.spans × LosesNone P.KeepsBatches.own self.old self.new) }
+            (plain_command command) answer self.new.provider self.new.spans
+            × LosesNone P.KeepsBatches.own self.old self.new) }
         ensures err { OnErr result
             (MayCarryOut P.SpanProcessor S.ShouldSample G.IdGenerator self.old.scope self.old.provider self.old.spans
             (plain_command command) self.new.provider self.new.spans) }

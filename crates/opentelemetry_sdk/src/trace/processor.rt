@@ -27,9 +27,11 @@ impl<S: SpanProcessor, C: SpanProcessor> SpanProcessor for ProcessorOf<S, C> {
 
     ghost told = { λ p. elim p [ kinds.Simple s ↦ S.told s | kinds.Custom c ↦ C.told c ] };
 
-    ghost start_gives = { λ p s cx t q. ProcessorGives (λ a b. S.start_gives a s cx t b) (λ c d. C.start_gives c s cx t d) p q };
+    ghost start_gives = { λ p s cx t q. ProcessorGives (λ a b. S.start_gives a s cx t b)
+        (λ c d. C.start_gives c s cx t d) p q };
 
-    ghost end_gives = { λ p span r q. ProcessorGives (λ a b. S.end_gives a span r b) (λ c d. C.end_gives c span r d) p q };
+    ghost end_gives = { λ p span r q. ProcessorGives (λ a b. S.end_gives a span r b)
+        (λ c d. C.end_gives c span r d) p q };
 
     ghost flush_gives = { λ p r q. ProcessorGives (λ a b. S.flush_gives a r b) (λ c d. C.flush_gives c r d) p q };
 

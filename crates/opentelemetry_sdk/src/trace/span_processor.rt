@@ -101,13 +101,17 @@ impl SpanProcessor for Box<dyn SpanProcessor> {
 
     ghost told = { λ b. (SpanProcessor-box b).told b.value };
 
-    ghost start_gives = { λ b s cx t c. (v : _) × (c ≡ record b { value = v }) × (SpanProcessor-box b).start_gives b.value s cx t v };
+    ghost start_gives = { λ b s cx t c. (v : _) × (c ≡ record b { value = v })
+        × (SpanProcessor-box b).start_gives b.value s cx t v };
 
-    ghost end_gives = { λ b d r c. (v : _) × (c ≡ record b { value = v }) × (SpanProcessor-box b).end_gives b.value d r v };
+    ghost end_gives = { λ b d r c. (v : _) × (c ≡ record b { value = v })
+        × (SpanProcessor-box b).end_gives b.value d r v };
 
-    ghost flush_gives = { λ b r c. (v : _) × (c ≡ record b { value = v }) × (SpanProcessor-box b).flush_gives b.value r v };
+    ghost flush_gives = { λ b r c. (v : _) × (c ≡ record b { value = v })
+        × (SpanProcessor-box b).flush_gives b.value r v };
 
-    ghost shutdown_gives = { λ b t r c. (v : _) × (c ≡ record b { value = v }) × (SpanProcessor-box b).shutdown_gives b.value t r v };
+    ghost shutdown_gives = { λ b t r c. (v : _) × (c ≡ record b { value = v })
+        × (SpanProcessor-box b).shutdown_gives b.value t r v };
 
     ghost resource_gives = { λ b s r c. (v : _) × (c ≡ record b { value = v })
         × RestsOr (λ x a y. (SpanProcessor-box b).resource_gives x s a y) b.value r v };

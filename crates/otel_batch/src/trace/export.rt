@@ -80,7 +80,8 @@ impl SpanExporter for Box<dyn SpanExporter> {
 
     ghost told = { λ b. (SpanExporter-box b).told b.value };
 
-    ghost export_gives = { λ b batch r c. (v : _) × (c ≡ record b { value = v }) × (SpanExporter-box b).export_gives b.value batch r v };
+    ghost export_gives = { λ b batch r c. (v : _) × (c ≡ record b { value = v })
+        × (SpanExporter-box b).export_gives b.value batch r v };
 
     ghost shutdown_gives = { λ b t r c. (v : _) × (c ≡ record b { value = v })
         × RestsOr (λ x a y. (SpanExporter-box b).shutdown_gives x t a y) b.value r v };

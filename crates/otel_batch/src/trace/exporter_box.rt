@@ -25,7 +25,8 @@ impl<M: SpanExporter, C: SpanExporter> SpanExporter for ExporterOf<M, C> {
 
     ghost told = { λ e. elim e [ kinds.Memory m ↦ M.told m | kinds.Custom c ↦ C.told c ] };
 
-    ghost export_gives = { λ e batch r f. ExporterGives (λ m n. M.export_gives m batch r n) (λ c d. C.export_gives c batch r d) e f };
+    ghost export_gives = { λ e batch r f. ExporterGives (λ m n. M.export_gives m batch r n)
+        (λ c d. C.export_gives c batch r d) e f };
 
     ghost shutdown_gives = { λ e t r f. ExporterGives
         (λ m n. RestsOr (λ x a y. M.shutdown_gives x t a y) m r n)

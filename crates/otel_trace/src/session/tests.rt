@@ -118,19 +118,27 @@ fn provider_with<P: SpanProcessor>(processors: Vec<P>) -> ProviderOf<P, Sampler,
     )
 }
 
+/// A session over a provider; where there is no memory for it, the provider is closed.
+fn session_over<P: KeepsBatches>(
+    alloc: Global,
+    provider: ProviderOf<P, Sampler, IdSource>,
+) -> Result<Session<P, Sampler, IdSource>, AllocError> {
+    match Session::new(alloc, provider) {
+        Ok(session) => Ok(session),
+        Err((provider, error)) => {
+            let _ = provider.close();
+            Err(error)
+        }
+    }
+}
+
 /// What a session over this provider answers where it is closed at once.
 fn closed(
     alloc: Global,
     provider: SdkTracerProvider,
     output: &mut Vec<u8>,
 ) -> Result<OTelSdkResult, AllocError> {
-    match Session::new(alloc, provider) {
-        Ok(session) => Ok(session.close(output)),
-        Err((provider, error)) => {
-            let _ = provider.close();
-            Err(error)
-        }
-    }
+    Ok(session_over(alloc, provider)?.close(output))
 }
 
 #[test]
@@ -170,19 +178,12 @@ fn refused(
     output: &mut Vec<u8>,
 ) -> Result<(Result<(), AllocError>, [Result<(), FeedError>; 2]), AllocError> {
     let refusing = Processor::Custom(Box::new(alloc, Refusing)?);
-    match Session::new(alloc, provider_of(alloc, refusing)?) {
-        Ok(mut session) => {
-            let run = session.run(commands, replies);
-            let [first, second] = texts;
-            let fed = [session.feed(first, output), session.feed(second, output)];
-            let _ = session.close(output);
-            Ok((run, fed))
-        }
-        Err((provider, error)) => {
-            let _ = provider.close();
-            Err(error)
-        }
-    }
+    let mut session = session_over(alloc, provider_of(alloc, refusing)?)?;
+    let run = session.run(commands, replies);
+    let [first, second] = texts;
+    let fed = [session.feed(first, output), session.feed(second, output)];
+    let _ = session.close(output);
+    Ok((run, fed))
 }
 
 /// Two spans are started, and the second is ended.
@@ -222,19 +223,12 @@ fn a_lost_batch_stops_a_run(rt: HostRuntime) -> Result<(), Fail> {
     let commands = two_started_and_one_ended(rt.alloc())?;
     let provider = provider_of(rt.alloc(), Losing { lost: 0 })?;
     let mut replies = Vec::new(rt.alloc());
-    match Session::new(rt.alloc(), provider) {
-        Ok(mut session) => {
-            let run = session.run(commands, &mut replies);
-            let _ = session.close(&mut Vec::new(rt.alloc()));
-            assert_eq!(rt; run, Err(AllocError));
-            assert_eq!(rt; replies.len(), 2);
-            Ok(())
-        }
-        Err((provider, error)) => {
-            let _ = provider.close();
-            Err(error.into())
-        }
-    }
+    let mut session = session_over(rt.alloc(), provider)?;
+    let run = session.run(commands, &mut replies);
+    let _ = session.close(&mut Vec::new(rt.alloc()));
+    assert_eq!(rt; run, Err(AllocError));
+    assert_eq!(rt; replies.len(), 2);
+    Ok(())
 }
 
 /// A provider that has delivered a span.
@@ -266,21 +260,14 @@ fn a_session_shows_no_span_from_before_it(rt: HostRuntime) -> Result<(), Fail> {
         .first()
         .map_or(0, |first| first.batches().len());
     let mut output = Vec::new(rt.alloc());
-    match Session::new(rt.alloc(), provider) {
-        Ok(mut session) => {
-            let fed = session.feed(b"end x 5\n", &mut output);
-            let closed = session.close(&mut output);
-            assert_eq!(rt; kept, 1);
-            assert_eq!(rt; fed, Ok(()));
-            assert!(rt; closed.is_ok());
-            assert_eq!(rt; output.as_slice(), "no such span\n".as_bytes());
-            Ok(())
-        }
-        Err((provider, error)) => {
-            let _ = provider.close();
-            Err(error.into())
-        }
-    }
+    let mut session = session_over(rt.alloc(), provider)?;
+    let fed = session.feed(b"end x 5\n", &mut output);
+    let closed = session.close(&mut output);
+    assert_eq!(rt; kept, 1);
+    assert_eq!(rt; fed, Ok(()));
+    assert!(rt; closed.is_ok());
+    assert_eq!(rt; output.as_slice(), "no such span\n".as_bytes());
+    Ok(())
 }
 
 /// A processor that refuses each span, and fails to shut down.
@@ -315,22 +302,15 @@ fn half_failing_provider(alloc: Global) -> Result<SdkTracerProvider, AllocError>
 #[test]
 fn closing_shows_the_rest_where_the_shutdown_fails(rt: HostRuntime) -> Result<(), Fail> {
     let mut output = Vec::new(rt.alloc());
-    match Session::new(rt.alloc(), half_failing_provider(rt.alloc())?) {
-        Ok(mut session) => {
-            let fed = session.feed(b"start s a 1\nend s 2\n", &mut output);
-            let before = output.len();
-            let closed = session.close(&mut output);
-            assert_eq!(rt; fed, Err(FeedError::Memory));
-            assert!(rt; matches!(closed, Err(OTelSdkError::InternalFailure(_))));
-            assert!(rt; before < output.len());
-            assert_eq!(rt; &output[before..], SPAN_S);
-            Ok(())
-        }
-        Err((provider, error)) => {
-            let _ = provider.close();
-            Err(error.into())
-        }
-    }
+    let mut session = session_over(rt.alloc(), half_failing_provider(rt.alloc())?)?;
+    let fed = session.feed(b"start s a 1\nend s 2\n", &mut output);
+    let before = output.len();
+    let closed = session.close(&mut output);
+    assert_eq!(rt; fed, Err(FeedError::Memory));
+    assert!(rt; matches!(closed, Err(OTelSdkError::InternalFailure(_))));
+    assert!(rt; before < output.len());
+    assert_eq!(rt; &output[before..], SPAN_S);
+    Ok(())
 }
 
 /// The line of a span `a` from 1 to 2 that is the first of seed 0.
@@ -347,21 +327,14 @@ fn shown_by_each_reply(alloc: Global) -> Result<Vec<usize>, AllocError> {
     let mut replies = Vec::new(alloc);
     let mut counts = Vec::new(alloc);
     let memory = ExporterBox::Memory(InMemorySpanExporter::new(alloc));
-    match Session::new(alloc, provider_over(alloc, memory)?) {
-        Ok(mut session) => {
-            let run = session.run(commands, &mut replies);
-            let _ = session.close(&mut Vec::new(alloc));
-            run?;
-            for reply in &replies {
-                counts.push(reply.exported.len())?;
-            }
-            Ok(counts)
-        }
-        Err((provider, error)) => {
-            let _ = provider.close();
-            Err(error)
-        }
+    let mut session = session_over(alloc, provider_over(alloc, memory)?)?;
+    let run = session.run(commands, &mut replies);
+    let _ = session.close(&mut Vec::new(alloc));
+    run?;
+    for reply in &replies {
+        counts.push(reply.exported.len())?;
     }
+    Ok(counts)
 }
 
 #[test]

@@ -1,6 +1,6 @@
 use Rattle.std.proofs.Common.{ap, subst, ◌∙◌}
 use Rattle.opentelemetry.specs.PlainValues.{plain_value}
-use Rattle.otel_base.specs.Resource.{PlainResource, merge, named}
+use Rattle.otel_base.specs.Resource.{PlainResource, merge, service_named}
 use Rattle.otel_base.specs.DetectedResource.{PlainResourceStrings, IsSdkResource}
 use Rattle.otel_base.proofs.AttributeLemmas.{merge_nothing-attributes}
 use Rattle.otel_base.proofs.resource.env.SdkProvidedResourceDetectorResourceDetector.detect.Goals as goal
@@ -11,7 +11,7 @@ returns-clause-ok c =
     let told : IsSdkResource c.self.inside.strings c.build.result = (
       env,
       read,
-      c.build.ensures ∙ c.in_ok-named.ensures ∙ ap (λ (r : PlainResource). merge r (named (plain_value c.in_ok-name.name))) c.builder_empty.ensures
-          ∙ merge_nothing-attributes (named (plain_value c.in_ok-name.name)).attributes ∙ ap named name,
+      c.build.ensures ∙ c.in_ok-named.ensures ∙ ap (λ (r : PlainResource). merge r (service_named (plain_value c.in_ok-name.name))) c.builder_empty.ensures
+          ∙ merge_nothing-attributes (service_named (plain_value c.in_ok-name.name)).attributes ∙ ap service_named name,
     ) in
     subst (λ (s : PlainResourceStrings). IsSdkResource s c.build.result) c.self.view_is told
