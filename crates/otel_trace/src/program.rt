@@ -9,11 +9,12 @@ ghost use Rattle.otel_trace.specs.Program.{AsksFor, AsksForNothing, TracesSeed, 
 use crate::exported::KeepsBatches;
 use crate::lines::number_of;
 use crate::session::{FeedError, Session};
-use opentelemetry::trace::{Link, SpanKind};
+use opentelemetry::trace::{Link, SpanKind, TraceState};
 use opentelemetry::{Context, KeyValue, TraceId};
 use opentelemetry_sdk::trace::{ProcessorOf, ProviderOf, SimpleSpanProcessor, SpanProcessor};
 use otel_base::trace::{
-    IdGenerator, RandomIdGenerator, SamplerOf, SamplingResult, ShouldSample, SpanLimits,
+    IdGenerator, RandomIdGenerator, SamplerOf, SamplingDecision, SamplingResult, ShouldSample,
+    SpanLimits,
 };
 use otel_batch::trace::{ExporterOf, InMemorySpanExporter};
 use std::alloc::{AllocError, Global};
@@ -38,9 +39,9 @@ pub type TraceProcessor = ProcessorOf<
     SimpleSpanProcessor<InMemorySpanExporter>,
 >;
 
-/// A sampler of another's own, of which the program has none.
+/// What stands for a sampler of another's own, of which the program has none: it drops every span.
 #[derive(Drop)]
-pub enum NoSampler {}
+pub struct NoSampler;
 
 impl ShouldSample for NoSampler {
     fn should_sample(
@@ -52,7 +53,11 @@ impl ShouldSample for NoSampler {
         _attributes: &[KeyValue],
         _links: &[Link],
     ) -> Result<SamplingResult, AllocError> {
-        match *self {}
+        Ok(SamplingResult {
+            decision: SamplingDecision::Drop,
+            attributes: None,
+            trace_state: TraceState::new(),
+        })
     }
 }
 
