@@ -52,7 +52,8 @@ pub trait SpanProcessor: Drop {
 
     /// What it does with the resource, where it does anything: the processor before it, the resource, the answer, and
     /// the processor after it.
-    ghost resource_gives: { Self → PlainResource → Result (Unit {0}) AllocError → Self → Type 0 } = { λ _ _ _ _. Unit {0} };
+    ghost resource_gives: { Self → PlainResource → Result (Unit {0}) AllocError
+        → Self → Type 0 } = { λ _ _ _ _. Unit {0} };
 
     /// A span starts. The processor may edit it and cannot replace it.
     fn on_start(&mut self, span: &mut Span, cx: &Context)

@@ -22,7 +22,8 @@ pub trait SpanExporter: Drop {
     ghost told: { Self → Option (List (List PlainSpanData)) };
 
     /// What a call of `export` does: the exporter before it, the batch, the answer, and the exporter after it.
-    ghost export_gives: { Self → List PlainSpanData → Result (Unit {0}) OTelSdkError → Self → Type 0 } = { λ _ _ _ _. Unit {0} };
+    ghost export_gives: { Self → List PlainSpanData → Result (Unit {0}) OTelSdkError
+        → Self → Type 0 } = { λ _ _ _ _. Unit {0} };
 
     /// What a shutdown does, where it does anything: the exporter before it, the timeout in nanoseconds, the answer,
     /// and the exporter after it.
