@@ -38,7 +38,7 @@ pub asked_push : {P T E : Type 0} (G : P → Result T E → P → Type 0) (ps qs
 asked_push G ps qs n p r q (rs, counted, each) h = (rs ++ r ∷ [], error_count-push rs r ∙ ap (with_answer r) counted, Each-push G ps rs qs each h)
 
 -- the processor that comes next is as it was
-at_front : {P : Type 0} (init now : List P) (i : ℕ) (d : P) → drop i now ≡ drop i init → get_or now i d ≡ get_or init i d
+pub at_front : {P : Type 0} (init now : List P) (i : ℕ) (d : P) → drop i now ≡ drop i init → get_or now i d ≡ get_or init i d
 at_front init now i d h = sym (rw add-zero at (get_or-drop i now 0 d)) ∙ ap (λ xs. get_or xs 0 d) h ∙ (rw add-zero at (get_or-drop i init 0 d))
 
 asked_more : {P T E : Type 0} (G : P → Result T E → P → Type 0) (init now : List P) (i n : ℕ) (d q : P) (r : Result T E)

@@ -1,4 +1,5 @@
 pub mod Clauses
+pub mod Cutting
 pub mod EachLemmas
 pub mod SpanLaws
 pub mod Starting

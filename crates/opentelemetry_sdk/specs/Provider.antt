@@ -31,6 +31,22 @@ module _ {P : Type 0} (calls : Ghosts P) where
     pub gives : calls.shutdown_gives old timeout answer new
     pub told : TakesNothing (calls.told old) (calls.told new)
 
+  -- a processor that was asked to flush answers as its call can, is told no span, and stays open or shut
+  pub record FlushesProcessor (old : P) (answer : Result (Unit {0}) OTelSdkError) (new : P) : Type 0 where
+    pub gives : calls.flush_gives old answer new
+    pub told : TakesNothing (calls.told old) (calls.told new)
+    pub is_open : (calls.told new).is_open ≡ (calls.told old).is_open
+
+  -- what a flush does, whether the provider is shut or not: each processor was asked, and the answer is Ok exactly where
+  -- none failed
+  pub record Flushes {S G : Type 0} (old : ProviderState P S G) (answer : Result (Unit {0}) OTelSdkError)
+      (new : ProviderState P S G) : Type 0 where
+    pub failed : ℕ
+    pub asked : AskedAll FlushesProcessor old.processors new.processors failed
+    pub ok : IsOk answer ↔ (failed ≡ 0)
+    pub err : IfErr answer IsInternalFailure
+    pub rest : new ≡ record old { processors = new.processors }
+
   -- what a first shutdown does: the provider is shut, each processor was asked with this timeout, and the answer is Ok
   -- exactly where none failed
   pub record ShutsDown {S G : Type 0} (old : ProviderState P S G) (timeout : ℕ)

@@ -8,7 +8,7 @@ ghost use Rattle.std.specs.Duration.{as_nanos};
 ghost use Rattle.otel_batch.specs.PlainSpanData.{PlainSpanData};
 ghost use Rattle.opentelemetry_sdk.specs.Each.{AskedAll};
 ghost use Rattle.opentelemetry_sdk.specs.Ending.{TakesAndTells};
-ghost use Rattle.opentelemetry_sdk.specs.Provider.{IsInternalFailure, ShutsDown, ShutsProcessor, scope_named};
+ghost use Rattle.opentelemetry_sdk.specs.Provider.{Flushes, FlushesProcessor, IsInternalFailure, ShutsDown, ShutsProcessor, scope_named};
 ghost use Rattle.opentelemetry_sdk.specs.Starting.{DrawsIds, PassesThrough};
 ghost use Rattle.opentelemetry_sdk.specs.SpanHistory.{IsEdited, ended_at};
 
@@ -136,13 +136,18 @@ impl<P, S, G> ProviderOf<P, S, G> {
 }
 
 impl<P, S, G: IdGenerator> ProviderOf<P, S, G> {
-    /// The ids of a new root span. The span id is drawn before the trace id.
-    pub(crate) fn draw_ids(&mut self) -> (TraceId, SpanId)
-        ensures draws { DrawsIds G.IdGenerator self.old.id_generator result.0 result.1 self.new.id_generator }
+    /// The ids of a new span in a context. The span id is drawn first; a trace id is drawn only where no span is active.
+    pub(crate) fn draw_ids(&mut self, cx: &Context) -> (TraceId, SpanId)
+        ensures draws { DrawsIds G.IdGenerator cx.now.span_context self.old.id_generator result.0 result.1
+            self.new.id_generator }
         ensures rest { self.new ≡ record self.old { id_generator = self.new.id_generator } }
     {
         let span_id = self.id_generator.new_span_id();
-        let trace_id = self.id_generator.new_trace_id();
+        let trace_id = if cx.has_active_span() {
+            cx.span_context().trace_id()
+        } else {
+            self.id_generator.new_trace_id()
+        };
         (trace_id, span_id)
     }
 }
@@ -168,6 +173,15 @@ impl<P: SpanProcessor, S: Drop, G: Drop> ProviderOf<P, S, G> {
         end_each(&mut self.processors, copies, original)
     }
 
+    /// Asks every processor in order to export what waits, also after one failed, and also where the provider is shut.
+    /// Failures of processors are an `InternalFailure` that counts them (OpenTelemetry specification, "ForceFlush").
+    pub fn force_flush(&mut self) -> OTelSdkResult
+        ensures { Flushes P.SpanProcessor self.old result self.new }
+    {
+        let failed = flush_each(&mut self.processors);
+        failure_answer(self.allocator(), "errs", failed)
+    }
+
     /// Shuts every processor down in order, also after one failed. A second shutdown answers `AlreadyShutdown` and asks
     /// none; failures of processors are an `InternalFailure` that counts them.
     pub fn shutdown_with_timeout(&mut self, timeout: Duration) -> OTelSdkResult
@@ -180,7 +194,7 @@ impl<P: SpanProcessor, S: Drop, G: Drop> ProviderOf<P, S, G> {
         }
         self.is_shut = true;
         let failed = shutdown_each(&mut self.processors, timeout);
-        shutdown_answer(self.allocator(), failed)
+        failure_answer(self.allocator(), "Shutdown errors", failed)
     }
 
     /// The same with 5 seconds.
@@ -216,15 +230,15 @@ impl<P: SpanProcessor, S: Drop, G: Drop> ProviderOf<P, S, G> {
     }
 }
 
-/// What a shutdown answers where so many processors failed. The reason stays empty where there is no memory for it.
-fn shutdown_answer(alloc: Global, failed: usize) -> OTelSdkResult
+/// What is answered where so many processors failed. The reason stays empty where there is no memory for it.
+fn failure_answer(alloc: Global, what: &str, failed: usize) -> OTelSdkResult
     ensures ok { IsOk result ↔ (failed ≡ 0) }
     ensures err { IfErr result IsInternalFailure }
 {
     if failed == 0 {
         return Ok(());
     }
-    let reason = match format!(in alloc; "Shutdown errors: {failed}") {
+    let reason = match format!(in alloc; "{what}: {failed}") {
         Ok(reason) => reason,
         Err(_) => String::new(alloc),
     };
@@ -292,6 +306,19 @@ fn end_copies<P: SpanProcessor>(processors: &mut [P], mut copies: Vec<SpanData>)
         }
     }
     refused
+}
+
+/// Each is asked to flush, also after one failed. The answer is how many failed.
+fn flush_each<P: SpanProcessor>(processors: &mut [P]) -> usize
+    ensures { AskedAll (FlushesProcessor P.SpanProcessor) processors.old processors.new result }
+{
+    let mut failed = 0;
+    for processor in processors.iter_mut() {
+        if processor.force_flush().is_err() {
+            failed += 1;
+        }
+    }
+    failed
 }
 
 /// Each is shut down, also after one failed. The answer is how many failed.

@@ -1,20 +1,26 @@
 //! A span: one operation within a trace. It records until its end; its end delivers what it recorded to the processors
 //! of its provider. A span must be spent, so that none is forgotten.
 
-ghost use Rattle.std.specs.Prelude.{◌≡◌, ◌≤◌, length, OnOk, OnErr, IfOk, IfSome, IsOk, IsNone, IsTrue, Some, is_some, option_copied};
+ghost use Rattle.std.specs.Prelude.{◌≡◌, ◌≤◌, [], length, List, OnOk, OnErr, IfErr, IfOk, IfSome, IsOk, IsNone, IsTrue, Some, is_some, option_copied, string_bytes};
+ghost use Rattle.std.specs.List.Sorted.{IsPermutation};
+ghost use Rattle.opentelemetry.specs.Order.{greatest_status};
+ghost use Rattle.opentelemetry.specs.Plain.{PlainStatus, unset};
+ghost use Rattle.opentelemetry.specs.PlainValues.{plain_status};
 ghost use Rattle.opentelemetry_sdk.specs.Deliveries.{EachFollows};
 ghost use Rattle.opentelemetry_sdk.specs.Ending.{DeliversIf, deliveries};
+ghost use Rattle.opentelemetry_sdk.specs.SpanEdits.{plain_edit};
 ghost use Rattle.opentelemetry_sdk.specs.SpanHistory as history;
 
-use crate::trace::{ProviderOf, SpanProcessor};
-use opentelemetry::trace::SpanContext;
+use crate::trace::{ProviderOf, SpanEdit, SpanProcessor};
+use opentelemetry::trace::{Event, Link, SpanContext, Status};
 use opentelemetry::{KeyValue, Moment};
 use otel_base::trace::SpanLimits;
 use otel_batch::trace::SpanData;
 use std::alloc::AllocError;
 use std::marker::Model;
 
-/// A span that somebody holds. End it with `end_with_timestamp`, and spend it with `abandon`.
+/// A span that somebody holds. `finish` ends and spends it; `end_with_timestamp` ends it and leaves it to be asked who it
+/// was; `abandon` spends it without delivering anything.
 pub struct Span {
     span_context: SpanContext,
     data: Option<SpanData>,
@@ -77,8 +83,21 @@ impl Span {
         self.data = None;
     }
 
-    /// Adds an attribute; over the limit it is only counted, which takes no memory. Nothing happens where the span is not
-    /// recording (OpenTelemetry specification, "Set Attributes").
+    /// Makes an edit. Nothing happens where the span is not recording.
+    pub fn edit(&mut self, edit: SpanEdit) -> Result<(), AllocError>
+        ensures ok { OnOk result (self.new ≡ history.edited (plain_edit edit) self.old) }
+        ensures err { OnErr result (self.new ≡ self.old) }
+        ensures edits { history.IsEdited self.old self.new }
+        ensures free { IsNone self.old.recorded → IsOk result }
+        ensures full { IfSome self.old.recorded
+            (λ recorded. history.KeepsNoMore self.old.limits (plain_edit edit) recorded → IsOk result) }
+    {
+        edit.apply_if(&mut self.data, self.span_limits)
+    }
+
+    /// Sets an attribute behind those that are there, also where its key is among them. Over the limit it is only counted,
+    /// which takes no memory. Nothing happens where the span is not recording (OpenTelemetry specification, "Set
+    /// Attributes").
     pub fn set_attribute(&mut self, attribute: KeyValue) -> Result<(), AllocError>
         ensures ok { OnOk result (self.new ≡ history.edited (history.set_attribute attribute) self.old) }
         ensures err { OnErr result (self.new ≡ self.old) }
@@ -87,7 +106,96 @@ impl Span {
         ensures full { IfSome self.old.recorded
             (λ recorded. self.old.limits.max_attributes_per_span ≤ length recorded.attributes → IsOk result) }
     {
-        add_attribute(&mut self.data, self.span_limits, attribute)
+        self.edit(SpanEdit::SetAttribute(attribute))
+    }
+
+    /// Adds an event that happened at this moment. Its attributes are cut at their own limit; over the limit of events it
+    /// is only counted (OpenTelemetry specification, "Add Events").
+    pub fn add_event_with_timestamp(
+        &mut self,
+        name: String,
+        timestamp: Moment,
+        attributes: Vec<KeyValue>,
+    ) -> Result<(), AllocError>
+        ensures ok { OnOk result (self.new ≡ history.edited (history.add_event (record {
+          name = string_bytes name;
+          timestamp = timestamp.0;
+          attributes = attributes.items;
+          dropped_attributes_count = 0;
+        })) self.old) }
+        ensures err { OnErr result (self.new ≡ self.old) }
+        ensures edits { history.IsEdited self.old self.new }
+        ensures free { IsNone self.old.recorded → IsOk result }
+        ensures full { IfSome self.old.recorded
+            (λ recorded. self.old.limits.max_events_per_span ≤ length recorded.events.events → IsOk result) }
+    {
+        self.edit(SpanEdit::AddEvent(Event::new(name, timestamp, attributes, 0)))
+    }
+
+    /// Points to another span. The attributes of the link are cut at their own limit; over the limit of links it is only
+    /// counted (OpenTelemetry specification, "Add Link").
+    pub fn add_link(
+        &mut self,
+        span_context: SpanContext,
+        attributes: Vec<KeyValue>,
+    ) -> Result<(), AllocError>
+        ensures ok { OnOk result (self.new ≡ history.edited (history.add_link (record {
+          span_context = span_context;
+          attributes = attributes.items;
+          dropped_attributes_count = 0;
+        })) self.old) }
+        ensures err { OnErr result (self.new ≡ self.old) }
+        ensures edits { history.IsEdited self.old self.new }
+        ensures free { IsNone self.old.recorded → IsOk result }
+        ensures full { IfSome self.old.recorded
+            (λ recorded. self.old.limits.max_links_per_span ≤ length recorded.links.links → IsOk result) }
+    {
+        self.edit(SpanEdit::AddLink(Link::new(span_context, attributes, 0)))
+    }
+
+    /// Says how the operation went; the greatest status stays, in whatever order they come. It takes no memory
+    /// (OpenTelemetry specification, "Set Status").
+    pub fn set_status(&mut self, status: Status) -> Result<(), AllocError>
+        ensures ok { OnOk result (self.new ≡ history.edited (history.set_status (plain_status status)) self.old) }
+        ensures err { OnErr result (self.new ≡ self.old) }
+        ensures edits { history.IsEdited self.old self.new }
+        ensures free { IsOk result }
+    {
+        self.edit(SpanEdit::SetStatus(status))
+    }
+
+    /// Gives the span another name in place of the one that it has. It takes no memory (OpenTelemetry specification,
+    /// "UpdateName").
+    pub fn update_name(&mut self, name: String) -> Result<(), AllocError>
+        ensures ok { OnOk result (self.new ≡ history.edited (history.update_name (string_bytes name)) self.old) }
+        ensures err { OnErr result (self.new ≡ self.old) }
+        ensures edits { history.IsEdited self.old self.new }
+        ensures free { IsOk result }
+    {
+        self.edit(SpanEdit::UpdateName(name))
+    }
+
+    /// What would be exported if the span ended when it started: a copy of what it has recorded; none where it is not
+    /// recording.
+    pub fn exported_data(&self) -> Result<Option<SpanData>, AllocError>
+        ensures now { IfOk result (λ found. found ≡ self.now.recorded) }
+        ensures free { IsNone self.now.recorded → IsOk result }
+
+        // Whole lists, each cut once, whatever order the edits came in.
+        ensures whole { (start : history.SpanStart) (edits : List history.Edit)
+            → self.now ≡ history.after edits (history.recording start [])
+            → IfOk result (λ found. found ≡ Some (history.data_of start edits start.start_time)) }
+
+        // The status is the same for every order in which statuses were set.
+        ensures any_order { (start : history.SpanStart) (edits : List history.Edit) (statuses : List PlainStatus)
+            → self.now ≡ history.after edits (history.recording start [])
+            → IsPermutation (history.statuses_set edits) statuses
+            → IfOk result (λ found. IfSome found (λ span. span.status ≡ greatest_status unset statuses)) }
+    {
+        match self.recorded() {
+            Some(recorded) => Ok(Some(recorded.clone()?)),
+            None => Ok(None),
+        }
     }
 
     /// What is recorded so far.
@@ -122,6 +230,10 @@ impl Span {
             provider.old.processors provider.new.processors) }
         ensures rest { provider.new ≡ record provider.old { processors = provider.new.processors } }
         ensures ended { OnOk result (self.new ≡ history.ended self.old) }
+
+        // No edit reaches it any more.
+        ensures over { OnOk result ((edits : List history.Edit) → history.after edits self.new ≡ self.new) }
+
         ensures err { OnErr result ((self.new ≡ self.old) × (provider.new ≡ provider.old)) }
         ensures not_recording { IsNone self.old.recorded → IsOk result }
 
@@ -146,6 +258,35 @@ impl Span {
         Ok(provider.end_each(copies, recorded))
     }
 
+    /// Ends the span as `end_with_timestamp` does, and spends it. Where there is no memory for the copies it comes back as
+    /// it was, and no processor has been given anything.
+    pub fn finish<P: SpanProcessor, S: Drop, G: Drop>(
+        mut self,
+        provider: &mut ProviderOf<P, S, G>,
+        timestamp: Moment,
+    ) -> Result<usize, (Span, AllocError)>
+        ensures ok { IfOk result (λ refused. DeliversIf P.SpanProcessor provider.old.is_shut timestamp.0
+            self.recorded
+            provider.old.processors provider.new.processors refused) }
+        ensures told { IfOk result (λ refused. EachFollows P.SpanProcessor
+            (deliveries provider.old.is_shut timestamp.0 self.recorded refused)
+            provider.old.processors provider.new.processors) }
+        ensures rest { provider.new ≡ record provider.old { processors = provider.new.processors } }
+        ensures err { IfErr result (λ back. (back.0 ≡ self) × (provider.new ≡ provider.old)) }
+        ensures not_recording { IsNone self.recorded → IsOk result }
+        ensures silent { IsNone self.recorded → provider.new ≡ provider.old }
+        ensures shut { IsTrue provider.old.is_shut → IsOk result }
+        ensures one { length provider.old.processors ≤ 1 → IsOk result }
+    {
+        match self.end_with_timestamp(provider, timestamp) {
+            Ok(refused) => {
+                self.abandon();
+                Ok(refused)
+            }
+            Err(error) => Err((self, error)),
+        }
+    }
+
     /// Spends the span; nothing is delivered.
     pub fn abandon(self) {
         let Span {
@@ -154,38 +295,4 @@ impl Span {
             span_limits: _,
         } = self;
     }
-}
-
-fn add_attribute(
-    recorded: &mut Option<SpanData>,
-    limits: SpanLimits,
-    attribute: KeyValue,
-) -> Result<(), AllocError>
-    ensures ok { OnOk result (recorded.new ≡ history.edited_if limits (history.set_attribute attribute) recorded.old) }
-    ensures err { OnErr result (recorded.new ≡ recorded.old) }
-    ensures free { IsNone recorded.old → IsOk result }
-    ensures full { IfSome recorded.old (λ kept. limits.max_attributes_per_span ≤ length kept.attributes → IsOk result) }
-{
-    match recorded {
-        Some(recorded) => push_attribute(recorded, limits, attribute),
-        None => Ok(()),
-    }
-}
-
-fn push_attribute(
-    recorded: &mut SpanData,
-    limits: SpanLimits,
-    attribute: KeyValue,
-) -> Result<(), AllocError>
-    ensures ok { OnOk result (recorded.new
-        ≡ history.edited_data limits (history.set_attribute attribute) recorded.old) }
-    ensures err { OnErr result (recorded.new ≡ recorded.old) }
-    ensures full { limits.max_attributes_per_span ≤ length recorded.old.attributes → IsOk result }
-{
-    if recorded.attributes.len() < limits.max_attributes_per_span as usize {
-        recorded.attributes.push(attribute)?;
-    } else {
-        recorded.dropped_attributes_count = recorded.dropped_attributes_count.saturating_add(1);
-    }
-    Ok(())
 }

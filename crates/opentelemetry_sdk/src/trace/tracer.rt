@@ -1,25 +1,26 @@
 //! The tracer of a library: it starts spans under the library's scope (OpenTelemetry specification, "Tracer").
 
-ghost use Rattle.std.specs.Prelude.{◌≡◌, [], map, IfOk, IsNone, IsSome, IsOk, IsTrue, OnErr, string_bytes};
-ghost use Rattle.otel_batch.specs.PlainSpanData.{cut_at, left_out};
+ghost use Rattle.std.specs.Prelude.{◌≡◌, ◌||◌, [], map, IfOk, IsOk, IsTrue, OnErr, string_bytes, unwrap_or};
+ghost use Rattle.std.specs.Option.{option_map};
+ghost use Rattle.opentelemetry.specs.PlainSpanBuilder.{named_builder};
+ghost use Rattle.otel_base.specs.Sampling.{added_attributes};
 ghost use Rattle.opentelemetry_sdk.specs.Starting.{
-  MayDraw,
-  PassesThrough,
+  Drops,
+  OnlyDraws,
   Starts,
-  new_span,
   root_cx,
-  root_flags,
-  root_question,
-  root_span_context,
-  root_start,
+  start_flags,
+  start_of,
+  start_question,
 };
-ghost use Rattle.opentelemetry_sdk.specs.SpanHistory.{IsEdited, SpanHistory, data_of, span_of};
+ghost use Rattle.opentelemetry_sdk.specs.SpanHistory.{SpanHistory, recording, span_of};
 
+use super::limits::{attributes_within, events_within, links_within};
 use crate::trace::{ProviderOf, Span, SpanProcessor};
-use opentelemetry::trace::{SpanContext, SpanKind, Status};
-use opentelemetry::{Context, InstrumentationScope, KeyValue, Moment, SpanId, TraceFlags, TraceId};
+use opentelemetry::trace::{SpanBuilder, SpanContext, SpanKind, Status};
+use opentelemetry::{Context, InstrumentationScope, KeyValue, Moment, TraceFlags, TraceId};
 use otel_base::trace::{IdGenerator, SamplingDecision, SamplingResult, ShouldSample, SpanLimits};
-use otel_batch::trace::{SpanData, SpanEvents, SpanLinks};
+use otel_batch::trace::SpanData;
 use std::alloc::{AllocError, Global};
 use std::marker::Model;
 
@@ -27,26 +28,41 @@ use std::marker::Model;
 #[derive(Debug, Drop)]
 pub struct SdkTracer {
     scope: InstrumentationScope,
+    /// The context in which no span is active.
+    root: Context,
 }
 
 impl Model for SdkTracer {
+    ghost use Rattle.std.specs.Prelude.{◌≡◌};
     ghost use Rattle.opentelemetry.specs.Plain.{PlainScope};
+    ghost use Rattle.opentelemetry_sdk.specs.Starting.{root_cx};
 
     ghost Value = { PlainScope };
 
     ghost view = { λ tracer. tracer.scope };
+
+    ghost invariant = { λ tracer. tracer.root ≡ root_cx };
 }
 
 impl SdkTracer {
     pub(crate) fn new(scope: InstrumentationScope) -> SdkTracer
         ensures { result ≡ scope }
     {
-        SdkTracer { scope }
+        SdkTracer {
+            scope,
+            root: Context::new(),
+        }
     }
 
-    /// Starts a root span at this moment: in a context where no span is active and nothing is suppressed. The provider
-    /// decides alone: where it is shut the span does not record and has the empty context. Else its sampler is asked, and
-    /// each processor is told of a span that records. On an error no processor was asked, but ids may have been drawn.
+    /// A builder of a span of this name, to be filled and handed to `build_with_context`.
+    pub fn span_builder(&self, name: String) -> SpanBuilder
+        ensures { result ≡ named_builder (string_bytes name) }
+    {
+        SpanBuilder::from_name(name)
+    }
+
+    /// Starts a root span at this moment: in a context where no span is active and nothing is suppressed. All else is as
+    /// with `build_with_context`.
     pub fn start<P: SpanProcessor, S: ShouldSample, G: IdGenerator>(
         &self,
         name: String,
@@ -55,162 +71,211 @@ impl SdkTracer {
     ) -> Result<Span, AllocError>
         ensures ok { IfOk result (λ span. (history : SpanHistory) × (span ≡ span_of history)
             × Starts P.SpanProcessor S.ShouldSample G.IdGenerator
-            provider.old self.now (string_bytes name) now.0 history provider.new) }
+            provider.old self.now (named_builder (string_bytes name)) root_cx now.0 history provider.new) }
         ensures told { map P.told provider.new.processors ≡ map P.told provider.old.processors }
         ensures rest { provider.new ≡ record provider.old {
           processors = provider.new.processors;
           id_generator = provider.new.id_generator;
         } }
         ensures err { OnErr result
-            (MayDraw S.ShouldSample G.IdGenerator provider.old (string_bytes name) provider.new) }
+            (OnlyDraws S.ShouldSample G.IdGenerator provider.old (named_builder (string_bytes name)) root_cx provider.new) }
         ensures shut { IsTrue provider.old.is_shut → IsOk result }
+
+        // A span that is dropped takes no memory.
+        ensures dropped { Drops S.ShouldSample provider.old (named_builder (string_bytes name)) root_cx → IsOk result }
+    {
+        self.build_with_context(self.span_builder(name), &self.root, provider, now)
+    }
+
+    /// Starts a span of this name in a context, as `build_with_context` does.
+    pub fn start_with_context<P: SpanProcessor, S: ShouldSample, G: IdGenerator>(
+        &self,
+        name: String,
+        cx: &Context,
+        provider: &mut ProviderOf<P, S, G>,
+        now: Moment,
+    ) -> Result<Span, AllocError>
+        ensures ok { IfOk result (λ span. (history : SpanHistory) × (span ≡ span_of history)
+            × Starts P.SpanProcessor S.ShouldSample G.IdGenerator
+            provider.old self.now (named_builder (string_bytes name)) cx.now now.0 history provider.new) }
+        ensures told { map P.told provider.new.processors ≡ map P.told provider.old.processors }
+        ensures rest { provider.new ≡ record provider.old {
+          processors = provider.new.processors;
+          id_generator = provider.new.id_generator;
+        } }
+        ensures err { OnErr result
+            (OnlyDraws S.ShouldSample G.IdGenerator provider.old (named_builder (string_bytes name)) cx.now provider.new) }
+        ensures shut { IsTrue (provider.old.is_shut || cx.now.telemetry_suppressed) → IsOk result }
+
+        // A span that is dropped takes no memory.
+        ensures dropped { Drops S.ShouldSample provider.old (named_builder (string_bytes name)) cx.now → IsOk result }
+    {
+        self.build_with_context(self.span_builder(name), cx, provider, now)
+    }
+
+    /// Starts a span in a context, as a child of the one that is active there. The provider decides alone: where it is
+    /// shut, or telemetry is suppressed in the context, the span does not record and has the empty span context. Else its
+    /// sampler is asked, and each processor is told of a span that records. What the builder leaves open the tracer fills
+    /// in: the kind is internal, and the span starts now (nanoseconds since 1970). Lists are cut at the provider's limits.
+    /// On an error no processor was asked, but ids may have been drawn (OpenTelemetry specification, "Span Creation").
+    pub fn build_with_context<P: SpanProcessor, S: ShouldSample, G: IdGenerator>(
+        &self,
+        builder: SpanBuilder,
+        cx: &Context,
+        provider: &mut ProviderOf<P, S, G>,
+        now: Moment,
+    ) -> Result<Span, AllocError>
+        ensures ok { IfOk result (λ span. (history : SpanHistory) × (span ≡ span_of history)
+            × Starts P.SpanProcessor S.ShouldSample G.IdGenerator
+            provider.old self.now builder cx.now now.0 history provider.new) }
+        ensures told { map P.told provider.new.processors ≡ map P.told provider.old.processors }
+        ensures rest { provider.new ≡ record provider.old {
+          processors = provider.new.processors;
+          id_generator = provider.new.id_generator;
+        } }
+        ensures err { OnErr result
+            (OnlyDraws S.ShouldSample G.IdGenerator provider.old builder cx.now provider.new) }
+        ensures shut { IsTrue (provider.old.is_shut || cx.now.telemetry_suppressed) → IsOk result }
+
+        // A span that is dropped takes no memory.
+        ensures dropped { Drops S.ShouldSample provider.old builder cx.now → IsOk result }
     {
         let span_limits = provider.span_limits();
-        if provider.is_shut() {
+        if starts_nothing(provider, cx) {
             return Ok(Span::not_recording(SpanContext::empty_context(), span_limits));
         }
-        let scope = self.scope.clone()?;
-        let (trace_id, span_id) = provider.draw_ids();
-        let answer = ask(provider.sampler(), trace_id, name.as_str())?;
+        let (trace_id, span_id) = provider.draw_ids(cx);
+        let SamplingResult {
+            decision,
+            attributes,
+            trace_state,
+        } = ask(provider.sampler(), cx, trace_id, &builder)?;
+        let parent = cx.span_context();
+        let flags = start_flags(parent, decision);
+        let span_context = SpanContext::new(trace_id, span_id, flags, false, trace_state);
+        if let SamplingDecision::Drop = decision {
+            return Ok(Span::not_recording(span_context, span_limits));
+        }
         let alloc = provider.allocator();
         let mut span = begin(
             alloc,
-            answer,
-            trace_id,
-            span_id,
-            scope,
-            name,
+            &self.scope,
+            builder,
+            parent,
+            attributes,
+            span_context,
             now,
             span_limits,
         )?;
-        tell_each(provider, &mut span);
+        provider.start_each(&mut span, cx);
         Ok(span)
     }
 }
 
-/// What the sampler answers to a root span with nothing but a name.
+impl Clone for SdkTracer {
+    ghost use Rattle.std.specs.Prelude.{◌≡◌};
+
+    ghost is_clone = { λ tracer copy. copy ≡ tracer };
+
+    /// Both share the scope.
+    fn clone(&self) -> Result<SdkTracer, AllocError> {
+        Ok(SdkTracer::new(self.scope.clone()?))
+    }
+}
+
+/// Whether a start makes a span that records nothing, and asks nobody.
+fn starts_nothing<P, S, G>(provider: &ProviderOf<P, S, G>, cx: &Context) -> bool
+    ensures { result ≡ (provider.now.is_shut || cx.now.telemetry_suppressed) }
+{
+    provider.is_shut() || cx.is_telemetry_suppressed()
+}
+
+/// What the sampler answers to a span that is to start in a context.
 fn ask<S: ShouldSample>(
     sampler: &S,
+    cx: &Context,
     trace_id: TraceId,
-    name: &str,
+    builder: &SpanBuilder,
 ) -> Result<SamplingResult, AllocError>
-    ensures gives { IfOk result (S.gives sampler.now (root_question trace_id name.now)) }
-    ensures free { S.is_infallible sampler.now (root_question trace_id name.now) → IsOk result }
+    ensures gives { IfOk result (S.gives sampler.now (start_question cx.now trace_id builder.now)) }
+    ensures free { S.is_infallible sampler.now (start_question cx.now trace_id builder.now) → IsOk result }
 {
     sampler.should_sample(
-        Some(&Context::new()),
+        Some(cx),
         trace_id,
-        name,
-        &SpanKind::Internal,
-        &[],
-        &[],
+        builder.name.as_str(),
+        &builder.span_kind.unwrap_or(SpanKind::Internal),
+        items_of(&builder.attributes),
+        items_of(&builder.links),
     )
 }
 
-/// The root span of these ids, as the sampler answered.
+/// The items of a list, where there is one.
+fn items_of<T>(list: &Option<Vec<T>>) -> &[T]
+    ensures { result.now ≡ unwrap_or (option_map (λ items. items.items) list.now) [] }
+{
+    match list {
+        Some(items) => items,
+        None => &[],
+    }
+}
+
+/// The flags of a new span by the sampler's decision.
+fn start_flags(parent: &SpanContext, decision: SamplingDecision) -> TraceFlags
+    ensures { result ≡ start_flags parent.now decision }
+{
+    match decision {
+        SamplingDecision::Drop => TraceFlags::default(),
+        SamplingDecision::RecordOnly => parent.trace_flags().with_sampled(false),
+        SamplingDecision::RecordAndSample => parent.trace_flags().with_sampled(true),
+    }
+}
+
+/// The span that records what its builder, the sampler and the tracer give it.
 fn begin(
     alloc: Global,
-    answer: SamplingResult,
-    trace_id: TraceId,
-    span_id: SpanId,
-    scope: InstrumentationScope,
-    name: String,
+    scope: &InstrumentationScope,
+    builder: SpanBuilder,
+    parent: &SpanContext,
+    added: Option<Vec<KeyValue>>,
+    span_context: SpanContext,
     now: Moment,
     span_limits: SpanLimits,
 ) -> Result<Span, AllocError>
-    ensures span { IfOk result (λ span. span ≡ new_span answer.decision (root_start scope (string_bytes name) now.0
-        span_limits (root_span_context trace_id span_id answer) answer.attributes)) }
-    ensures free { answer.trace_state ≡ [] → IsOk result }
+    ensures { IfOk result (λ span. span ≡ recording
+        (start_of scope.now builder parent.now now.0 span_limits span_context (added_attributes added)) []) }
 {
-    let SamplingResult {
-        decision,
+    let SpanBuilder {
+        name,
+        span_kind,
+        start_time,
         attributes,
-        trace_state,
-    } = answer;
-    let flags = root_flags(decision);
-    if let SamplingDecision::Drop = decision {
-        let span_context = SpanContext::new(trace_id, span_id, flags, false, trace_state);
-        return Ok(Span::not_recording(span_context, span_limits));
-    }
-    let span_context = SpanContext::new(trace_id, span_id, flags, false, trace_state.clone()?);
-    let recorded_context = SpanContext::new(trace_id, span_id, flags, false, trace_state);
-    let attributes = attributes.unwrap_or(Vec::new(alloc));
-    let recorded = root_data(
+        events,
+        links,
+    } = builder;
+    let (attributes, dropped_attributes_count) = attributes_within(
         alloc,
-        recorded_context,
         attributes,
-        scope,
+        added,
+        span_limits.max_attributes_per_span,
+    )?;
+    let instrumentation_scope = scope.clone()?;
+    let recorded_context = span_context.clone()?;
+    let start_time = start_time.unwrap_or(now);
+    let recorded = SpanData {
+        span_context: recorded_context,
+        parent_span_id: parent.span_id(),
+        parent_span_is_remote: parent.is_valid() && parent.is_remote(),
+        span_kind: span_kind.unwrap_or(SpanKind::Internal),
         name,
-        now,
-        span_limits,
-    );
-    Ok(Span::recording(span_context, recorded, span_limits))
-}
-
-/// The flags of a root span by the sampler's decision.
-fn root_flags(decision: SamplingDecision) -> TraceFlags
-    ensures { result ≡ root_flags decision }
-{
-    match decision {
-        SamplingDecision::RecordAndSample => TraceFlags::SAMPLED,
-        SamplingDecision::Drop | SamplingDecision::RecordOnly => TraceFlags::default(),
-    }
-}
-
-/// What a root span has recorded at its start: the first of the attributes, as many as the limit allows.
-fn root_data(
-    alloc: Global,
-    span_context: SpanContext,
-    mut attributes: Vec<KeyValue>,
-    scope: InstrumentationScope,
-    name: String,
-    now: Moment,
-    span_limits: SpanLimits,
-) -> SpanData
-    ensures { result ≡ data_of
-        (root_start scope (string_bytes name) now.0 span_limits span_context attributes.items) [] now.0 }
-{
-    let dropped = cut(&mut attributes, span_limits.max_attributes_per_span);
-    SpanData {
-        span_context,
-        parent_span_id: SpanId::INVALID,
-        parent_span_is_remote: false,
-        span_kind: SpanKind::Internal,
-        name,
-        start_time: now,
-        end_time: now,
+        start_time,
+        end_time: start_time,
         attributes,
-        dropped_attributes_count: dropped,
-        events: SpanEvents::new(alloc),
-        links: SpanLinks::new(alloc),
+        dropped_attributes_count,
+        events: events_within(alloc, events, span_limits),
+        links: links_within(alloc, links, span_limits),
         status: Status::Unset,
-        instrumentation_scope: scope,
-    }
-}
-
-/// Cuts a list at a limit. The answer is how many items were left out, at most the greatest `u32`.
-fn cut(attributes: &mut Vec<KeyValue>, limit: u32) -> u32
-    ensures kept { attributes.new.items ≡ cut_at limit attributes.old.items }
-    ensures left_out { result ≡ left_out limit attributes.old.items }
-{
-    let left_out = attributes.len().saturating_sub(limit as usize);
-    attributes.truncate(limit as usize);
-    u32::try_from(left_out).unwrap_or(u32::MAX)
-}
-
-/// Each processor of the provider is told of a root span that records.
-fn tell_each<P: SpanProcessor, S: Drop, G: Drop>(
-    provider: &mut ProviderOf<P, S, G>,
-    span: &mut Span,
-)
-    ensures edits { IsEdited span.old span.new }
-    ensures told { map P.told provider.new.processors ≡ map P.told provider.old.processors }
-    ensures recording { IsSome span.old.recorded
-        → PassesThrough P.SpanProcessor root_cx span.old provider.old.processors provider.new.processors span.new }
-    ensures dropped { IsNone span.old.recorded → (span.new ≡ span.old) × (provider.new ≡ provider.old) }
-    ensures rest { provider.new ≡ record provider.old { processors = provider.new.processors } }
-{
-    if span.is_recording() {
-        provider.start_each(span, &Context::new());
-    }
+        instrumentation_scope,
+    };
+    Ok(Span::recording(span_context, recorded, span_limits))
 }

@@ -1,5 +1,6 @@
 use Rattle.std.proofs.Common.{rules}
 use Rattle.opentelemetry_sdk.proofs.Following.{delivered_follows}
+use Rattle.opentelemetry_sdk.proofs.SpanLaws.{over_stays}
 use Rattle.opentelemetry_sdk.proofs.trace.span.Span.end_with_timestamp.Goals as goal
 
 pub returns-in_default-clause-told : goal.returns-in_default-clause-told
@@ -10,3 +11,12 @@ returns-then-is_shut-clause-told g c = delivered_follows g.P.SpanProcessor c.arg
 
 pub returns-clause-told : goal.returns-clause-told
 returns-clause-told g c = delivered_follows g.P.SpanProcessor c.args.provider.now.is_shut c.args.timestamp.0 c.args.self.now.recorded c.args.provider.now.processors c.end_each.new.self.processors c.end_each.result (search rules)
+
+pub returns-in_default-clause-over : goal.returns-in_default-clause-over
+returns-in_default-clause-over g c = λ edits. over_stays edits c.args.self.now c.args.self.now (search rules)
+
+pub returns-then-is_shut-clause-over : goal.returns-then-is_shut-clause-over
+returns-then-is_shut-clause-over g c = λ edits. over_stays edits c.args.self.now c.stop.new.self (search rules)
+
+pub returns-clause-over : goal.returns-clause-over
+returns-clause-over g c = λ edits. over_stays edits c.args.self.now c.take_recorded.new.self (search rules)
