@@ -275,14 +275,6 @@ pub EachFollows-asked : {P T E : Type 0} (calls : Ghosts P) (G : P → Result T 
     → (ps qs : List P) (n : ℕ) → AskedAll G ps qs n → EachFollows calls [] ps qs
 EachFollows-asked calls G takes ps qs n h = each_takes_nothing calls G takes ps h.0 qs h.2
 
--- the processors of a provider that was shut down follow no delivery
-pub EachFollows-shut : {P S G : Type 0} (calls : Ghosts P)
-    (old : ProviderState P S G) (timeout : ℕ) (answer : Result (Unit {0}) OTelSdkError) (new : ProviderState P S G)
-    → ShutsDown calls old timeout answer new → EachFollows calls [] old.processors new.processors
-EachFollows-shut calls old timeout answer new h =
-    EachFollows-asked calls (ShutsProcessor calls timeout) (λ p r q asked. asked.told)
-    old.processors new.processors h.failed h.asked
-
 -- the errors among more answers are no fewer
 counted_first : {T E : Type 0} (r : Result T E) (rs : List (Result T E)) (n : ℕ) → error_count (r ∷ rs) ≤ n → IsCounted r n
 counted_first (Ok _) rs n h = tt

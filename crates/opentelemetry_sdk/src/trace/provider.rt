@@ -2,10 +2,11 @@
 //! and shuts the processors down (OpenTelemetry specification, "Tracer Provider"). It is handed in wherever a span
 //! starts or ends, and must be spent by `close`.
 
-ghost use Rattle.std.specs.Prelude.{◌≡◌, ◌-◌, ◌≤◌, ◌↔◌, length, map, replicate, vec_len, false, true, Ok, IfErr, IfOk, IsOk, IsErrOf, string_bytes};
+ghost use Rattle.std.specs.Prelude.{◌≡◌, ◌-◌, ◌≤◌, ◌↔◌, [], length, map, replicate, vec_len, false, true, Ok, IfErr, IfOk, IsOk, IsErrOf, string_bytes};
 ghost use Rattle.std.specs.Bool.{OnTrue, OnFalse};
 ghost use Rattle.std.specs.Duration.{as_nanos};
 ghost use Rattle.otel_batch.specs.PlainSpanData.{PlainSpanData};
+ghost use Rattle.opentelemetry_sdk.specs.Deliveries.{EachFollows};
 ghost use Rattle.opentelemetry_sdk.specs.Each.{AskedAll};
 ghost use Rattle.opentelemetry_sdk.specs.Ending.{TakesAndTells};
 ghost use Rattle.opentelemetry_sdk.specs.Provider.{Flushes, FlushesProcessor, IsInternalFailure, ShutsDown, ShutsProcessor, scope_named};
@@ -176,7 +177,10 @@ impl<P: SpanProcessor, S: Drop, G: Drop> ProviderOf<P, S, G> {
     /// Asks every processor in order to export what waits, also after one failed, and also where the provider is shut.
     /// Failures of processors are an `InternalFailure` that counts them (OpenTelemetry specification, "ForceFlush").
     pub fn force_flush(&mut self) -> OTelSdkResult
-        ensures { Flushes P.SpanProcessor self.old result self.new }
+        ensures flushes { Flushes P.SpanProcessor self.old result self.new }
+
+        // No span is delivered.
+        ensures told { EachFollows P.SpanProcessor [] self.old.processors self.new.processors }
     {
         let failed = flush_each(&mut self.processors);
         failure_answer(self.allocator(), "errs", failed)
@@ -188,6 +192,9 @@ impl<P: SpanProcessor, S: Drop, G: Drop> ProviderOf<P, S, G> {
         ensures again { OnTrue self.old.is_shut (IsErrOf result OTelSdkError.AlreadyShutdown × (self.new ≡ self.old)) }
         ensures first { OnFalse self.old.is_shut
             (ShutsDown P.SpanProcessor self.old (as_nanos timeout) result self.new) }
+
+        // No span is delivered.
+        ensures told { EachFollows P.SpanProcessor [] self.old.processors self.new.processors }
     {
         if self.is_shut {
             return Err(OTelSdkError::AlreadyShutdown);
@@ -201,6 +208,7 @@ impl<P: SpanProcessor, S: Drop, G: Drop> ProviderOf<P, S, G> {
     pub fn shutdown(&mut self) -> OTelSdkResult
         ensures again { OnTrue self.old.is_shut (IsErrOf result OTelSdkError.AlreadyShutdown × (self.new ≡ self.old)) }
         ensures first { OnFalse self.old.is_shut (ShutsDown P.SpanProcessor self.old 5_000_000_000 result self.new) }
+        ensures told { EachFollows P.SpanProcessor [] self.old.processors self.new.processors }
     {
         self.shutdown_with_timeout(Duration::from_secs(5))
     }
