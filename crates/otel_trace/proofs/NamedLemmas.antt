@@ -10,7 +10,7 @@ use Rattle.std.specs.BTreeMap.{BTreeMap, is_at, get_by_text, UpdatesBy}
 use Rattle.std.specs.Map.{lookup}
 use Rattle.std.specs.String.{string_cmp}
 use Rattle.std.proofs.lemmas.Map.Text.{btree_map_updates_text, is_eq-slice_cmp}
-use Rattle.opentelemetry.specs.Plain.{PlainScope}
+use Rattle.opentelemetry.specs.Plain.{PlainContext, PlainScope}
 use Rattle.otel_base.specs.declared.trace.sampler.ShouldSample as sampling
 use Rattle.otel_base.specs.declared.trace.id_generator.IdGenerator as drawing
 use Rattle.opentelemetry_sdk.specs.Provider.{ProviderState}
@@ -53,10 +53,10 @@ pub same_entries : {Y : Type 0} (old new : List (String Y × PlainSpan)) → new
 same_entries {Y} old new h = λ q. ap (λ (entries : List (String Y × PlainSpan)). named (by_name entries) q) h
 
 -- a name that is taken
-pub starts_taken : {P S G : Type 0} (calls : Ghosts P) (sampler : sampling.Ghosts S) (ids : drawing.Ghosts G) (p : ProviderState P S G) (scope : PlainScope) (old : NamedSpans) (name called : List ℕ) (now : ℕ) (found : Option PlainSpan)
-    → is_some found ≡ true → StartsNamed calls sampler ids p scope old name called now found answers.SpanExists p old
-starts_taken calls sampler ids p scope old name called now None h = cc
-starts_taken calls sampler ids p scope old name called now (Some span) h = (refl, refl, λ q. refl)
+pub starts_taken : {P S G : Type 0} (calls : Ghosts P) (sampler : sampling.Ghosts S) (ids : drawing.Ghosts G) (p : ProviderState P S G) (scope : PlainScope) (old : NamedSpans) (name : List ℕ) (cx : PlainContext) (called : List ℕ) (now : ℕ) (found : Option PlainSpan)
+    → is_some found ≡ true → StartsNamed calls sampler ids p scope old name cx called now found answers.SpanExists p old
+starts_taken calls sampler ids p scope old name cx called now None h = cc
+starts_taken calls sampler ids p scope old name cx called now (Some span) h = (refl, refl, λ q. refl)
 
 pub none_from_test : {X : Type 0} (o : Option X) (b : Bool) → b ≡ is_some o → b ≡ false → o ≡ None
 none_from_test None b e h = refl

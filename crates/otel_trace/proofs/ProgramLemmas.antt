@@ -8,7 +8,7 @@ use Rattle.otel_base.specs.declared.trace.id_generator.IdGenerator as drawing
 use Rattle.opentelemetry_sdk.specs.Provider.{ProviderState}
 use Rattle.opentelemetry_sdk.specs.declared.trace.span_processor.SpanProcessor.{Ghosts}
 use Rattle.otel_trace.specs.Lines.{IsMoment}
-use Rattle.otel_trace.specs.Program.{AsksFor, AsksForNothing, MemoryProcessor, TracesSeed, TracesWhole, memory_batches, provider_of_seed}
+use Rattle.otel_trace.specs.Program.{AsksFor, AsksForNothing, MemoryProcessor, TracesSeed, TracesWhole, IsProviderOfSeed, memory_batches}
 
 -- three words ask for what the second one writes
 pub three_ask : (words : List (List ℕ)) (digits : List ℕ) (found : Option ℕ) → words ≡ codes "trace" ∷ digits ∷ codes "simple" ∷ []
@@ -45,9 +45,8 @@ found P made value e h = subst (λ m. IfOk m P) e h
 -- what is traced under the provider of the seed that words ask for, is under that of any seed that they ask for
 pub traces_seed : {C D E : Type 0} (calls : Ghosts (MemoryProcessor C D)) (sampler : sampling.Ghosts (SamplerOf E)) (ids : drawing.Ghosts (List ℕ)) (words : List (List ℕ)) (seed other : ℕ)
     (provider : ProviderState (MemoryProcessor C D) (SamplerOf E) (List ℕ)) (input input_after : Option (List ℕ)) (bad_line : Option ℕ)
-    (output output_after : Option (List ℕ)) → AsksFor words seed → AsksFor words other → provider ≡ provider_of_seed other
+    (output output_after : Option (List ℕ)) → AsksFor words seed → AsksFor words other → IsProviderOfSeed other provider
     → TracesWhole calls memory_batches sampler ids provider input input_after bad_line output output_after
     → TracesSeed calls sampler ids seed input input_after bad_line output output_after
-traces_seed calls sampler ids words seed other provider input input_after bad_line output output_after asks more e h =
-    subst (λ (n : ℕ). TracesSeed calls sampler ids n input input_after bad_line output output_after) (asks_once words other seed more asks)
-    (subst (λ p. TracesWhole calls memory_batches sampler ids p input input_after bad_line output output_after) e h)
+traces_seed calls sampler ids words seed other provider input input_after bad_line output output_after asks more is h =
+    subst (λ (n : ℕ). TracesSeed calls sampler ids n input input_after bad_line output output_after) (asks_once words other seed more asks) (provider, is, h)

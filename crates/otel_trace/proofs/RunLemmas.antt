@@ -1,5 +1,5 @@
 -- What commands one after another demand.
-use Rattle.std.proofs.Common.{◌≡◌, ℕ, List, [], ◌∷◌, ◌++◌, refl, sym, ◌∙◌, ap, subst, append_assoc, append-nil, length, drop, inl}
+use Rattle.std.proofs.Common.{◌≡◌, ℕ, IsFalse, List, [], ◌∷◌, ◌++◌, refl, sym, ◌∙◌, ap, subst, append_assoc, append-nil, length, drop, inl}
 use Rattle.std.proofs.lemmas.List.{map-append}
 use Rattle.opentelemetry.specs.Plain.{PlainScope}
 use Rattle.otel_base.specs.declared.trace.sampler.ShouldSample as sampling
@@ -9,10 +9,10 @@ use Rattle.opentelemetry_sdk.specs.declared.trace.span_processor.SpanProcessor.{
 use Rattle.opentelemetry_sdk.proofs.Following.{EachFollows-same, EachFollows-append}
 use Rattle.otel_trace.specs.declared.exported.KeepsBatches as keeping
 use Rattle.otel_trace.specs.KeptBatches.{Appends}
-use Rattle.otel_trace.specs.Commands.{PlainCommand, plain_command, plain_commands}
+use Rattle.otel_trace.specs.Commands.{PlainCommand, may_lose, plain_command, plain_commands}
 use Rattle.otel_trace.specs.PlainReply.{PlainReply}
 use Rattle.opentelemetry_sdk.specs.ProcessorTelling.{spans_in}
-use Rattle.otel_trace.specs.SessionDelivery.{Histories, Course, course_of, Demands, Replies, DemandAll, Demanded, SessionState, CarriesOutOne, session_batches, session_losses, batches_of_first, unshown, CarriesOut, Shows, NoneLeft, LosesNone, RunsAll, Refuses, RunsBeginning}
+use Rattle.otel_trace.specs.SessionDelivery.{Histories, Course, course_of, Demands, Replies, DemandAll, Demanded, SessionState, CarriesOutOne, session_batches, batches_of_first, unshown, CarriesOut, Shows, NoneLeft, LosesNone, RunsAll, Refuses, RunsBeginning}
 use Rattle.otel_trace.specs.declared.command.Command.{Command}
 use Rattle.otel_trace.proofs.ShownLemmas.{shows_nothing, shows_no_more, shows_reply, none_left}
 
@@ -57,7 +57,7 @@ module _ {P S G : Type 0} (calls : Ghosts P) (keeps : keeping.Ghosts P) (sampler
   pub record Answers (old : SessionState P S G) (command : Command) (reply : PlainReply) (new : SessionState P S G) : Type 0 where
     pub carried : CarriesOutOne calls sampler ids old.scope old.provider old.spans (plain_command command) reply.answer new.provider new.spans
     pub shows : reply.exported ≡ unshown keeps new
-    pub loses_none : LosesNone keeps old new
+    pub loses_none : IsFalse (may_lose (plain_command command)) → LosesNone keeps old new
     pub rest : new ≡ record old { provider = new.provider; spans = new.spans }
     pub appends : Appends (session_batches keeps old) (session_batches keeps new)
 
@@ -101,7 +101,6 @@ module _ {P S G : Type 0} (calls : Ghosts P) (keeps : keeping.Ghosts P) (sampler
     pub carried : CarriesOut calls keeps sampler ids old done replies new
     pub shown : Shows keeps old replies new
     pub none_left : NoneLeft keeps replies new
-    pub none_lost : LosesNone keeps old new
 
   -- none of them
   pub ran_nothing : (session : SessionState P S G) (commands left : List Command) → left ≡ commands → Ran session commands left [] session
@@ -111,7 +110,6 @@ module _ {P S G : Type 0} (calls : Ghosts P) (keeps : keeping.Ghosts P) (sampler
     carried = carries_nothing session;
     shown = shows_nothing keeps session;
     none_left = inl refl;
-    none_lost = refl;
   }
 
   -- all of them
@@ -125,7 +123,6 @@ module _ {P S G : Type 0} (calls : Ghosts P) (keeps : keeping.Ghosts P) (sampler
         carried = subst (λ (l : List Command). CarriesOut calls keeps sampler ids old l replies new) (sym whole) ran.carried;
         shown = ran.shown;
         none_left = ran.none_left;
-        none_lost = ran.none_lost;
       }
 
   -- one more, with its reply, which marks what it shows
@@ -141,7 +138,6 @@ module _ {P S G : Type 0} (calls : Ghosts P) (keeps : keeping.Ghosts P) (sampler
             (carries_more old middle answered ran.done replies command reply ran.carried answers);
         shown = shows_reply keeps old answered new replies reply shown answers.shows e;
         none_left = none_left keeps answered new (replies ++ reply ∷ []) e;
-        none_lost = ap (session_losses keeps) e ∙ answers.loses_none ∙ ran.none_lost;
       }
 
   -- one more, which was refused
@@ -160,7 +156,6 @@ module _ {P S G : Type 0} (calls : Ghosts P) (keeps : keeping.Ghosts P) (sampler
       carried = ran.carried;
       shown = ran.shown;
       none_left = ran.none_left;
-      none_lost = ran.none_lost;
     };
     refuses = refuses;
   }

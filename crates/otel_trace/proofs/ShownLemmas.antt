@@ -1,5 +1,5 @@
 -- The spans that replies show: those of the batches behind the ones that were shown before.
-use Rattle.std.proofs.Common.{◌≡◌, ◌≤◌, ℕ, List, [], ◌∷◌, ◌++◌, Result, Bool, true, false, MatchBool, length, take, drop, refl, sym, ◌∙◌, ap, subst, append_assoc, append-nil, arith, take_all, length-append, length-take-le, take-append-drop, drop_of_length-le, inl, inr}
+use Rattle.std.proofs.Common.{◌≡◌, ◌≤◌, ℕ, List, [], ◌∷◌, ◌++◌, Result, Option, Some, None, Bool, true, false, ◌||◌, MatchBool, length, take, drop, refl, sym, ◌∙◌, ap, subst, append_assoc, append-nil, arith, take_all, length-append, length-take-le, take-append-drop, drop_of_length-le, inl, inr}
 use Rattle.std.proofs.lemmas.List.{take-append-le, drop-append-le}
 use Rattle.std.proofs.lemmas.List.Concat.{flat_map-append}
 use Rattle.otel_batch.specs.PlainSpanData.{PlainSpanData}
@@ -11,15 +11,20 @@ use Rattle.otel_base.specs.declared.trace.sampler.SamplingDecision.{SamplingDeci
 use Rattle.otel_base.specs.declared.trace.sampler.SamplingDecision.TheVariants as decisions
 use Rattle.otel_base.specs.declared.trace.sampler.ShouldSample as sampling
 use Rattle.otel_base.specs.declared.trace.id_generator.IdGenerator as drawing
-use Rattle.opentelemetry_sdk.specs.Provider.{ProviderState}
-use Rattle.opentelemetry_sdk.specs.Starting.{PassesThrough, Decided, StartsOpen, root_cx}
+use Rattle.opentelemetry_sdk.specs.Provider.{Flushes, FlushesProcessor, ProviderState, ShutsDown, ShutsProcessor}
+use Rattle.std.specs.Bool.{OnTrue, OnFalse}
+use Rattle.std.specs.Result.{IsErrOf}
+use Rattle.opentelemetry_sdk.specs.Starting.{PassesThrough, Decided, StartsOpen}
+use Rattle.opentelemetry.specs.PlainSpanBuilder.{PlainSpanBuilder, named_builder}
+use Rattle.otel_base.specs.declared.error.OTelSdkError.{OTelSdkError}
+use Rattle.otel_base.specs.declared.error.OTelSdkError.TheVariants as errors
 use Rattle.opentelemetry_sdk.specs.Ending.{TakesAndTells}
 use Rattle.opentelemetry_sdk.specs.SpanHistory.{PlainSpan, SpanStart, SpanHistory, over}
 use Rattle.otel_trace.specs.declared.exported.KeepsBatches as keeping
 use Rattle.std.specs.declared.alloc.AllocError.{AllocError}
 use Rattle.opentelemetry.specs.PlainContexts.{empty_span_context}
 use Rattle.otel_trace.specs.KeptBatches.{Appends, OnlyAppends}
-use Rattle.otel_trace.specs.OpenSpans.{MayStart, MayDeliver}
+use Rattle.otel_trace.specs.OpenSpans.{MayStart, ChildMayStart, MayDeliver, child_cx}
 use Rattle.otel_trace.specs.PlainReply.{PlainReply}
 use Rattle.opentelemetry_sdk.specs.ProcessorTelling.{spans_in}
 use Rattle.otel_trace.specs.SessionDelivery.{SessionState, Shows, NoneLeft, session_batches, batches_of_first, losses_of_first, exported_in, unshown}
@@ -106,10 +111,10 @@ module _ {P : Type 0} (calls : Ghosts P) (keeps : keeping.Ghosts P) (law : OnlyA
   passed_keeps cx s t (p ∷ ps) (q ∷ qs) h = law.starts p s cx h.0 q h.1
 
   -- the same where the sampler decided
-  decided_keeps : (decision : SamplingDecision) (start : SpanStart) (ps qs : List P) (history : SpanHistory) → Decided calls decision start ps qs history → LosesNothing keeps ps qs
-  decided_keeps decisions.Drop start ps qs history h = loses_nothing keeps ps qs h.1
-  decided_keeps decisions.RecordOnly start ps qs history h = passed_keeps root_cx _ _ ps qs h.passes
-  decided_keeps decisions.RecordAndSample start ps qs history h = passed_keeps root_cx _ _ ps qs h.passes
+  decided_keeps : (decision : SamplingDecision) (cx : PlainContext) (start : SpanStart) (ps qs : List P) (history : SpanHistory) → Decided calls decision cx start ps qs history → LosesNothing keeps ps qs
+  decided_keeps decisions.Drop cx start ps qs history h = loses_nothing keeps ps qs h.1
+  decided_keeps decisions.RecordOnly cx start ps qs history h = passed_keeps cx _ _ ps qs h.passes
+  decided_keeps decisions.RecordAndSample cx start ps qs history h = passed_keeps cx _ _ ps qs h.passes
 
   -- what it keeps where each may have been given an ended span
   asked_keeps : (span : PlainSpanData) (ps qs : List P) (rs : List (Result (Unit {0}) AllocError)) → Each (TakesAndTells calls span) ps rs qs
@@ -130,14 +135,49 @@ module _ {P S G : Type 0} (calls : Ghosts P) (keeps : keeping.Ghosts P) (law : O
   stays_keeps : (old new : ProviderState P S G) (g : G) → new ≡ record old { id_generator = g } → LosesNothing keeps old.processors new.processors
   stays_keeps old new g e = loses_nothing keeps old.processors new.processors (ap (λ (r : ProviderState P S G). r.processors) e)
 
-  started_keeps : (is_shut : Bool) (old new : ProviderState P S G) (scope : PlainScope) (called : List ℕ) (now : ℕ) (history : SpanHistory)
-      → MatchBool is_shut ((history ≡ over empty_span_context old.span_limits) × (new ≡ old)) (StartsOpen calls sampler ids old scope called now history new)
+  started_keeps : (starts_nothing : Bool) (old new : ProviderState P S G) (scope : PlainScope) (builder : PlainSpanBuilder) (cx : PlainContext) (now : ℕ) (history : SpanHistory)
+      → MatchBool starts_nothing ((history ≡ over empty_span_context old.span_limits) × (new ≡ old)) (StartsOpen calls sampler ids old scope builder cx now history new)
       → LosesNothing keeps old.processors new.processors
-  started_keeps true old new scope called now history h = stays_keeps old new old.id_generator h.1
-  started_keeps false old new scope called now history h = decided_keeps calls keeps law h.answer.decision _ old.processors new.processors history h.decided
+  started_keeps true old new scope builder cx now history h = stays_keeps old new old.id_generator h.1
+  started_keeps false old new scope builder cx now history h = decided_keeps calls keeps law h.answer.decision cx _ old.processors new.processors history h.decided
 
-  pub may_start_keeps : (old new : ProviderState P S G) (scope : PlainScope) (called : List ℕ) (now : ℕ)
-      → MayStart calls sampler ids old scope called now new → LosesNothing keeps old.processors new.processors
-  may_start_keeps old new scope called now (inl (inl e)) = stays_keeps old new old.id_generator e
-  may_start_keeps old new scope called now (inl (inr h)) = stays_keeps old new new.id_generator h.rest
-  may_start_keeps old new scope called now (inr h) = started_keeps old.is_shut old new scope called now h.0 h.1
+  pub may_start_keeps : (old new : ProviderState P S G) (scope : PlainScope) (cx : PlainContext) (called : List ℕ) (now : ℕ)
+      → MayStart calls sampler ids old scope cx called now new → LosesNothing keeps old.processors new.processors
+  may_start_keeps old new scope cx called now (inl e) = stays_keeps old new old.id_generator e
+  may_start_keeps old new scope cx called now (inr (inl h)) = stays_keeps old new new.id_generator h.rest
+  may_start_keeps old new scope cx called now (inr (inr h)) = started_keeps (old.is_shut || cx.telemetry_suppressed) old new scope (named_builder called) cx now h.0 h.1
+
+  pub child_may_start_keeps : (old new : ProviderState P S G) (scope : PlainScope) (parent : Option PlainSpan) (called : List ℕ) (now : ℕ)
+      → ChildMayStart calls sampler ids old scope parent called now new → LosesNothing keeps old.processors new.processors
+  child_may_start_keeps old new scope None called now e = stays_keeps old new old.id_generator e
+  child_may_start_keeps old new scope (Some parent) called now h = may_start_keeps old new scope (child_cx parent.span_context) called now h
+
+module _ {P : Type 0} (calls : Ghosts P) (keeps : keeping.Ghosts P) (law : OnlyAppends calls keeps.kept keeps.lost) where
+  first_flushed : (ps qs : List P) (rs : List (Result (Unit {0}) OTelSdkError)) → Each (FlushesProcessor calls) ps rs qs → Appends (batches_of_first keeps ps) (batches_of_first keeps qs)
+  first_flushed [] [] [] h = ([], refl)
+  first_flushed [] (q ∷ qs) [] h = absurd h
+  first_flushed [] qs (r ∷ rs) h = absurd h
+  first_flushed (p ∷ ps) qs [] h = absurd h
+  first_flushed (p ∷ ps) [] (r ∷ rs) h = absurd h
+  first_flushed (p ∷ ps) (q ∷ qs) (r ∷ rs) h = law.flushes p r q h.0.gives
+
+  first_shut : (timeout : ℕ) (ps qs : List P) (rs : List (Result (Unit {0}) OTelSdkError)) → Each (ShutsProcessor calls timeout) ps rs qs → Appends (batches_of_first keeps ps) (batches_of_first keeps qs)
+  first_shut timeout [] [] [] h = ([], refl)
+  first_shut timeout [] (q ∷ qs) [] h = absurd h
+  first_shut timeout [] qs (r ∷ rs) h = absurd h
+  first_shut timeout (p ∷ ps) qs [] h = absurd h
+  first_shut timeout (p ∷ ps) [] (r ∷ rs) h = absurd h
+  first_shut timeout (p ∷ ps) (q ∷ qs) (r ∷ rs) h = law.shuts p timeout r q h.0.gives
+
+  -- what the first processor keeps where each was asked to flush
+  pub flush_keeps : {S G : Type 0} (old new : ProviderState P S G) (said : Result (Unit {0}) OTelSdkError) → Flushes calls old said new → Appends (batches_of_first keeps old.processors) (batches_of_first keeps new.processors)
+  flush_keeps old new said h = first_flushed old.processors new.processors h.asked.0 h.asked.2
+
+  -- and where the provider was asked to shut down
+  pub shutdown_keeps : {S G : Type 0} (old new : ProviderState P S G) (timeout : ℕ) (said : Result (Unit {0}) OTelSdkError) → OnTrue old.is_shut (IsErrOf said errors.AlreadyShutdown × (new ≡ old)) → OnFalse old.is_shut (ShutsDown calls old timeout said new)
+      → Appends (batches_of_first keeps old.processors) (batches_of_first keeps new.processors)
+  shutdown_keeps {S} {G} old new timeout said again first = by old.is_shut again first
+    where
+      by : (b : Bool) → OnTrue b (IsErrOf said errors.AlreadyShutdown × (new ≡ old)) → OnFalse b (ShutsDown calls old timeout said new) → Appends (batches_of_first keeps old.processors) (batches_of_first keeps new.processors)
+      by true again first = appends_none _ _ (ap (λ (p : ProviderState P S G). batches_of_first keeps p.processors) again.1)
+      by false again first = first_shut timeout old.processors new.processors first.asked.0 first.asked.2

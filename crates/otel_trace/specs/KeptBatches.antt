@@ -1,12 +1,13 @@
--- The batches that the in-memory exporter of a processor keeps, and how many it lost. A call of a processor that starts or
--- ends a span only adds batches behind those that are kept.
-use Rattle.std.specs.Prelude.{◌≡◌, ◌++◌, ◌&&◌, not, ℕ, List, [], ◌∷◌, Bool, true, false, Result, Ok, Err, refl}
+-- The batches that the in-memory exporter of a processor keeps, and how many it lost. A call of a processor only adds
+-- batches behind those that are kept.
+use Rattle.std.specs.Prelude.{◌≡◌, ◌++◌, ◌&&◌, not, ℕ, List, [], ◌∷◌, ◌⊎◌, Bool, true, false, Result, Ok, Err, refl}
 use Rattle.std.specs.declared.alloc.AllocError.{AllocError}
-use Rattle.std.proofs.Common.{ap, sym, ◌∙◌, append-nil}
+use Rattle.std.proofs.Common.{ap, sym, ◌∙◌, append-nil, inl, inr}
 use Rattle.opentelemetry.specs.Plain.{PlainContext}
 use Rattle.otel_base.specs.declared.error.OTelSdkError.{OTelSdkError}
 use Rattle.otel_batch.specs.ExporterKinds.{ExporterGives}
 use Rattle.otel_batch.specs.PlainSpanData.{PlainSpanData}
+use Rattle.otel_batch.specs.RestsOr.{RestsOr}
 use Rattle.otel_batch.specs.StoredBatches.{StoredBatches, StoresBatch}
 use Rattle.otel_batch.specs.declared.trace.exporter_box.ExporterOf.{ExporterOf}
 use Rattle.otel_batch.specs.declared.trace.exporter_box.ExporterOf.TheVariants as exporters
@@ -23,7 +24,7 @@ use Rattle.opentelemetry_sdk.specs.declared.trace.processor.ProcessorOf.TheVaria
 abbrev pub Appends : {X : Type 0} → List X → List X → Type 0
 Appends {X} old new = (more : List X) × (new ≡ old ++ more)
 
--- a call of a processor that starts or ends a span takes back no batch, and only an end may lose one
+-- a call of a processor takes back no batch, and a start loses none
 pub record OnlyAppends {P : Type 0} (calls : Ghosts P) (kept : P → List (List PlainSpanData))
     (lost : P → ℕ) : Type 0 where
   pub starts : (p : P) (span : PlainSpan) (cx : PlainContext) (edited : PlainSpan) (q : P)
@@ -31,6 +32,10 @@ pub record OnlyAppends {P : Type 0} (calls : Ghosts P) (kept : P → List (List 
       → Appends (kept p) (kept q) × (lost q ≡ lost p)
   pub ends : (p : P) (span : PlainSpanData) (answer : Result (Unit {0}) AllocError) (q : P)
       → calls.end_gives p span answer q → Appends (kept p) (kept q)
+  pub flushes : (p : P) (answer : Result (Unit {0}) OTelSdkError) (q : P)
+      → calls.flush_gives p answer q → Appends (kept p) (kept q)
+  pub shuts : (p : P) (timeout : ℕ) (answer : Result (Unit {0}) OTelSdkError) (q : P)
+      → calls.shutdown_gives p timeout answer q → Appends (kept p) (kept q)
 
 -- the batches that an exporter keeps, and how many it lost; none where it is not the one in memory
 abbrev pub exporter_keeps : {C : Type 0} → ExporterOf StoredBatches C → List (List PlainSpanData)
@@ -123,3 +128,32 @@ processor_stays keeps loses simple custom stays (kinds.Simple a) (kinds.Simple b
 processor_stays keeps loses simple custom stays (kinds.Simple a) (kinds.Custom d) h = absurd h
 processor_stays keeps loses simple custom stays (kinds.Custom c) (kinds.Simple b) h = absurd h
 processor_stays keeps loses simple custom stays (kinds.Custom c) (kinds.Custom d) h = (([], refl), refl)
+
+-- a call that leaves what it may keep as it was
+rests : (old : StoredBatches) (answer : Result (Unit {0}) OTelSdkError) (new : StoredBatches)
+    → RestsOr (λ m r n. (r ≡ Ok tt) × (n ≡ m)) old answer new → Appends old.batches new.batches
+rests old answer new (inl h) = nothing_more (λ (s : StoredBatches). s.batches) old new h.1
+rests old answer new (inr h) = nothing_more (λ (s : StoredBatches). s.batches) old new h.1
+
+-- a shutdown of an exporter of either kind
+kinds_shut : {C : Type 0} (custom : C → Result (Unit {0}) OTelSdkError → C → Type 0)
+    (old : ExporterOf StoredBatches C) (answer : Result (Unit {0}) OTelSdkError) (new : ExporterOf StoredBatches C)
+    → ExporterGives (λ m n. RestsOr (λ a r b. (r ≡ Ok tt) × (b ≡ a)) m answer n) (λ c d. custom c answer d) old new
+    → Appends (exporter_keeps old) (exporter_keeps new)
+kinds_shut custom (exporters.Memory m) answer (exporters.Memory n) h = rests m answer n h
+kinds_shut custom (exporters.Memory m) answer (exporters.Custom d) h = absurd h
+kinds_shut custom (exporters.Custom c) answer (exporters.Memory n) h = absurd h
+kinds_shut custom (exporters.Custom c) answer (exporters.Custom d) h = ([], refl)
+
+pub exporter_shuts : {C : Type 0} (custom : C → Result (Unit {0}) OTelSdkError → C → Type 0)
+    (old : ExporterOf StoredBatches C) (answer : Result (Unit {0}) OTelSdkError) (new : ExporterOf StoredBatches C)
+    → RestsOr (λ x given y. ExporterGives
+    (λ m n. RestsOr (λ a r b. (r ≡ Ok tt) × (b ≡ a)) m given n) (λ c d. custom c given d) x y) old answer new
+    → Appends (exporter_keeps old) (exporter_keeps new)
+exporter_shuts custom old answer new (inl h) = nothing_more exporter_keeps old new h.1
+exporter_shuts custom old answer new (inr h) = kinds_shut custom old answer new h
+
+-- a flush of a simple processor, which does nothing
+pub simple_flushes : {E : Type 0} {B : Type 0} (keeps : E → List (List PlainSpanData)) (old new : SimpleProcessor E)
+    → B × (new ≡ old) → Appends (keeps old.exporter) (keeps new.exporter)
+simple_flushes {E} keeps old new h = nothing_more (λ (p : SimpleProcessor E). keeps p.exporter) old new h.1

@@ -3,18 +3,17 @@ use Rattle.std.specs.Prelude.{◌≡◌, ℕ, Bool, List, [], ◌∷◌, Option,
 use Rattle.std.specs.Ordering.{nat_cmp}
 use Rattle.std.specs.Cmp.Lexicographic.{slice_cmp}
 use Rattle.std.specs.BTreeMap.{is_at}
-use Rattle.opentelemetry.specs.Plain.{PlainScope}
+use Rattle.opentelemetry.specs.Plain.{PlainContext, PlainScope, PlainSpanContext}
+use Rattle.opentelemetry.specs.PlainSpanBuilder.{named_builder}
 use Rattle.otel_base.specs.declared.trace.sampler.ShouldSample as sampling
 use Rattle.otel_base.specs.declared.trace.id_generator.IdGenerator as drawing
 use Rattle.otel_batch.specs.PlainSpanData.{PlainSpanData}
-use Rattle.opentelemetry_sdk.specs.SpanHistory.{PlainSpan, SpanHistory, span_of, Edit, set_attribute, edited, ended}
+use Rattle.opentelemetry_sdk.specs.SpanHistory.{PlainSpan, SpanHistory, span_of, Edit, edited, ended}
 use Rattle.opentelemetry_sdk.specs.Each.{AskedAll}
 use Rattle.opentelemetry_sdk.specs.Provider.{ProviderState}
-use Rattle.opentelemetry_sdk.specs.Starting.{MayDraw, Starts}
+use Rattle.opentelemetry_sdk.specs.Starting.{OnlyDraws, Starts, root_cx}
 use Rattle.opentelemetry_sdk.specs.Ending.{TakesAndTells, DeliversIf}
 use Rattle.opentelemetry_sdk.specs.declared.trace.span_processor.SpanProcessor.{Ghosts}
-use Rattle.otel_trace.specs.declared.command.SpanEdit.{SpanEdit}
-use Rattle.otel_trace.specs.declared.command.SpanEdit.TheVariants as span_edits
 use Rattle.otel_trace.specs.declared.reply.Answer.{Answer}
 use Rattle.otel_trace.specs.declared.reply.Answer.TheVariants as answers
 use Rattle.otel_trace.specs.declared.reply.SpanIdentity.{SpanIdentity}
@@ -67,38 +66,54 @@ edit_answer span = if is_some span.recorded then answers.Ok else answers.Ignored
 abbrev pub end_answer : PlainSpan → ℕ → Answer
 end_answer span refused = if is_some span.recorded then answers.Ended refused else answers.Ignored
 
--- an edit without where its texts lie
-abbrev pub plain_edit : SpanEdit → Edit
-plain_edit (span_edits.SetAttribute attribute) = set_attribute attribute
-
 -- an edit of the span of a name
 abbrev pub EditsNamed : NamedSpans → List ℕ → Edit → Option PlainSpan → Answer → NamedSpans → Type 0
 EditsNamed old name edit None answer new = (answer ≡ answers.NoSuchSpan) × SameSpans old new
 EditsNamed old name edit (Some span) answer new = (answer ≡ edit_answer span) × PutsSpan old name (edited edit span) new
 
+-- the context in which the span of this span context is active, and nothing else is handed on
+abbrev pub child_cx : PlainSpanContext → PlainContext
+child_cx parent = record root_cx { span_context = Some parent }
+
 module _ {P S G : Type 0} (calls : Ghosts P) (sampler : sampling.Ghosts S) (ids : drawing.Ghosts G) where
-  -- a new name is given the span that a start makes
-  pub record PutsStarted (p : ProviderState P S G) (scope : PlainScope) (old : NamedSpans) (name called : List ℕ)
-      (moment : ℕ)
+  -- a new name is given the span that a start in a context makes
+  pub record PutsStarted (p : ProviderState P S G) (scope : PlainScope) (old : NamedSpans) (name : List ℕ)
+      (cx : PlainContext) (called : List ℕ) (moment : ℕ)
       (answer : Answer) (q : ProviderState P S G) (new : NamedSpans) : Type 0 where
     pub history : SpanHistory
-    pub starts : Starts calls sampler ids p scope called moment history q
+    pub starts : Starts calls sampler ids p scope (named_builder called) cx moment history q
     pub says : answer ≡ start_answer (span_of history)
     pub put : PutsSpan old name (span_of history) new
 
   -- a start under a name: nothing where the name is taken
-  abbrev pub StartsNamed : ProviderState P S G → PlainScope → NamedSpans → List ℕ → List ℕ → ℕ → Option PlainSpan
-      → Answer → ProviderState P S G → NamedSpans → Type 0
-  StartsNamed p scope old name called moment (Some _) answer q new =
+  abbrev pub StartsNamed : ProviderState P S G → PlainScope → NamedSpans → List ℕ → PlainContext → List ℕ → ℕ
+      → Option PlainSpan → Answer → ProviderState P S G → NamedSpans → Type 0
+  StartsNamed p scope old name cx called moment (Some _) answer q new =
       (answer ≡ answers.SpanExists) × (q ≡ p) × SameSpans old new
-  StartsNamed p scope old name called moment None answer q new = PutsStarted p scope old name called moment answer q new
+  StartsNamed p scope old name cx called moment None answer q new =
+      PutsStarted p scope old name cx called moment answer q new
 
-  -- what a start may do to a provider, also where it found no memory: nothing, or ids are drawn, or all that the start of a
-  -- span does
-  abbrev pub MayStart : ProviderState P S G → PlainScope → List ℕ → ℕ → ProviderState P S G → Type 0
-  MayStart p scope called moment q =
-      MayDraw sampler ids p called q
-      ⊎ ((history : SpanHistory) × Starts calls sampler ids p scope called moment history q)
+  -- the same as a child of the span of another name: nothing where no start made that
+  abbrev pub ChildStartsNamed : ProviderState P S G → PlainScope → NamedSpans → List ℕ → Option PlainSpan → List ℕ → ℕ
+      → Answer → ProviderState P S G → NamedSpans → Type 0
+  ChildStartsNamed p scope old name None called moment answer q new =
+      (answer ≡ answers.NoSuchSpan) × (q ≡ p) × SameSpans old new
+  ChildStartsNamed p scope old name (Some parent) called moment answer q new =
+      StartsNamed p scope old name (child_cx parent.span_context) called moment (named old name) answer q new
+
+module _ {P S G : Type 0} (calls : Ghosts P) (sampler : sampling.Ghosts S) (ids : drawing.Ghosts G) where
+  -- what a start in a context may do to a provider, also where it found no memory: nothing, or ids are drawn, or all that
+  -- the start of a span does
+  abbrev pub MayStart : ProviderState P S G → PlainScope → PlainContext → List ℕ → ℕ → ProviderState P S G → Type 0
+  MayStart p scope cx called moment q =
+      (q ≡ p) ⊎ (OnlyDraws sampler ids p (named_builder called) cx q
+      ⊎ ((history : SpanHistory) × Starts calls sampler ids p scope (named_builder called) cx moment history q))
+
+  -- the same as a child of the span of a name
+  abbrev pub ChildMayStart : ProviderState P S G → PlainScope → Option PlainSpan → List ℕ → ℕ → ProviderState P S G
+      → Type 0
+  ChildMayStart p scope None called moment q = q ≡ p
+  ChildMayStart p scope (Some parent) called moment q = MayStart p scope (child_cx parent.span_context) called moment q
 
 module _ {P S G : Type 0} (calls : Ghosts P) where
   -- the end of a span: what it delivers, and to whom

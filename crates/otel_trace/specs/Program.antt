@@ -5,7 +5,8 @@ use Rattle.std.specs.Fmt.{decimal}
 use Rattle.std.specs.Io.KnownBytes.{Appends, IsAtEnd}
 use Rattle.rand_xoshiro.specs.SplitMix64.{splitmix_seed}
 use Rattle.rand_xoshiro.specs.Xoshiro256.{of_seed}
-use Rattle.otel_base.specs.declared.trace.sampler.SamplerOf.{SamplerOf, AlwaysOn}
+use Rattle.otel_base.specs.Sampler.{plan, always_on, parent_based}
+use Rattle.otel_base.specs.declared.trace.sampler.SamplerOf.{SamplerOf}
 use Rattle.otel_base.specs.declared.trace.sampler.ShouldSample as sampling
 use Rattle.otel_base.specs.declared.trace.id_generator.IdGenerator as drawing
 use Rattle.otel_batch.specs.StoredBatches.{StoredBatches}
@@ -41,22 +42,24 @@ bad_line_text line = codes "line " ++ (decimal line ++ (codes ": cannot read" ++
 abbrev pub MemoryProcessor : Type 0 → Type 0 → Type 0
 MemoryProcessor C D = ProcessorOf (SimpleProcessor (ExporterOf StoredBatches C)) D
 
--- the provider of a seed: it samples every span, each within the limits that nobody chose, and its one processor exports
--- each into memory as it ends
-abbrev pub provider_of_seed : {C D E : Type 0} → ℕ → ProviderState (MemoryProcessor C D) (SamplerOf E) (List ℕ)
-provider_of_seed seed = record {
-  processors = kinds.Simple (record { exporter = exporters.Memory (record { batches = []; lost = 0 }); is_shut = false }) ∷ [];
-  sampler = AlwaysOn;
-  id_generator = of_seed (splitmix_seed 32 seed);
-  span_limits = record {
+-- the provider of a seed: a root is sampled, and a child as its parent is; each span is kept within the limits that nobody
+-- chose, and the one processor exports each into memory as it ends
+pub record IsProviderOfSeed {C D E : Type 0} (seed : ℕ)
+    (provider : ProviderState (MemoryProcessor C D) (SamplerOf E) (List ℕ)) : Type 0 where
+  pub processors : provider.processors ≡ kinds.Simple (record {
+    exporter = exporters.Memory (record { batches = []; lost = 0 });
+    is_shut = false;
+  }) ∷ []
+  pub sampler : plan provider.sampler ≡ parent_based always_on
+  pub id_generator : provider.id_generator ≡ of_seed (splitmix_seed 32 seed)
+  pub span_limits : provider.span_limits ≡ record {
     max_events_per_span = 128;
     max_attributes_per_span = 128;
     max_links_per_span = 128;
     max_attributes_per_event = 128;
     max_attributes_per_link = 128;
-  };
-  is_shut = false;
-}
+  }
+  pub is_open : provider.is_shut ≡ false
 
 -- what a processor in the place of that one keeps: the batches of its exporter in memory
 abbrev pub memory_batches : {C D : Type 0} → keeping.Ghosts (MemoryProcessor C D)
@@ -96,5 +99,6 @@ module _ {P S G : Type 0} (calls : Ghosts P) (keeps : keeping.Ghosts P) (sampler
 abbrev pub TracesSeed : {C D E : Type 0} → Ghosts (MemoryProcessor C D) → sampling.Ghosts (SamplerOf E)
     → drawing.Ghosts (List ℕ) → ℕ → Option (List ℕ) → Option (List ℕ) → Option ℕ
     → Option (List ℕ) → Option (List ℕ) → Type 0
-TracesSeed calls sampler ids seed input input_after bad_line output output_after =
-    TracesWhole calls memory_batches sampler ids (provider_of_seed seed) input input_after bad_line output output_after
+TracesSeed {C} {D} {E} calls sampler ids seed input input_after bad_line output output_after =
+    (provider : ProviderState (MemoryProcessor C D) (SamplerOf E) (List ℕ)) × IsProviderOfSeed seed provider
+    × TracesWhole calls memory_batches sampler ids provider input input_after bad_line output output_after

@@ -1,26 +1,27 @@
 -- What the commands of a session demand of its provider and its exporters. It speaks of each span as its history, a start
 -- and the edits since, and of what an end delivers as the data of that history: whole lists, each cut once. No history is
 -- stored.
-use Rattle.std.specs.Prelude.{◌≡◌, ℕ, List, [], ◌∷◌, ◌++◌, Option, Some, None, map, take, drop, slice_get, Result, Ok, Err, MatchBool, if◌then◌else◌, ◌⊎◌, ◌≤◌, length}
+use Rattle.std.specs.Prelude.{◌≡◌, ℕ, List, [], ◌∷◌, ◌++◌, Option, Some, None, map, take, drop, slice_get, IsFalse, Result, Ok, Err, MatchBool, if◌then◌else◌, ◌⊎◌, ◌≤◌, length}
 use Rattle.std.specs.List.{flat_map}
 use Rattle.std.specs.Option.{option_map, option_map_or}
-use Rattle.opentelemetry.specs.Plain.{PlainScope, text}
+use Rattle.opentelemetry.specs.Plain.{PlainContext, PlainScope, text}
+use Rattle.opentelemetry.specs.PlainSpanBuilder.{named_builder}
 use Rattle.otel_base.specs.declared.error.OTelSdkError.{OTelSdkError}
 use Rattle.otel_base.specs.declared.error.OTelSdkError.TheVariants as errors
 use Rattle.otel_base.specs.declared.trace.sampler.ShouldSample as sampling
 use Rattle.otel_base.specs.declared.trace.id_generator.IdGenerator as drawing
 use Rattle.otel_batch.specs.PlainSpanData.{PlainSpanData}
-use Rattle.opentelemetry_sdk.specs.SpanHistory.{SpanHistory, begun, over, SpanStart, Edit, set_attribute, data_of, span_of}
+use Rattle.opentelemetry_sdk.specs.SpanHistory.{SpanHistory, begun, over, SpanStart, Edit, set_attribute, add_event, set_status, data_of, span_of}
 use Rattle.opentelemetry_sdk.specs.ProcessorTelling.{spans_in}
 use Rattle.opentelemetry_sdk.specs.Deliveries.{Delivery, EachFollows}
-use Rattle.opentelemetry_sdk.specs.Provider.{ProviderState, ShutsDown}
-use Rattle.opentelemetry_sdk.specs.Starting.{Starts}
+use Rattle.opentelemetry_sdk.specs.Provider.{Flushes, ProviderState, ShutsDown}
+use Rattle.opentelemetry_sdk.specs.Starting.{Starts, root_cx}
 use Rattle.opentelemetry_sdk.specs.Ending.{Delivers, end_delivers}
 use Rattle.opentelemetry_sdk.specs.declared.trace.span_processor.SpanProcessor.{Ghosts}
 use Rattle.otel_trace.specs.declared.exported.KeepsBatches as keeping
-use Rattle.otel_trace.specs.Commands.{PlainCommand, start, attr, end, plain_command, plain_commands}
+use Rattle.otel_trace.specs.Commands.{PlainCommand, start, child, attr, event, status, end, flush, shutdown, may_lose, plain_command, plain_commands}
 use Rattle.otel_trace.specs.KeptBatches.{Appends}
-use Rattle.otel_trace.specs.OpenSpans.{NamedSpans, SameSpans, MayStart, named, is_name, start_answer}
+use Rattle.otel_trace.specs.OpenSpans.{NamedSpans, SameSpans, MayStart, ChildMayStart, child_cx, named, is_name, start_answer}
 use Rattle.otel_trace.specs.AnswerText.{replies_text}
 use Rattle.otel_trace.specs.Lines.{TextSpells}
 use Rattle.otel_trace.specs.PlainReply.{PlainReply, NoneRefused}
@@ -98,21 +99,64 @@ abbrev pub or_no_memory : Result (Unit {0}) OTelSdkError → Result (Unit {0}) O
 or_no_memory (Ok _) = Err errors.OutOfMemory
 or_no_memory (Err error) = Err error
 
+-- what is said of a call of the provider
+abbrev pub call_answer : Result (Unit {0}) OTelSdkError → Answer
+call_answer (Ok _) = answers.Ok
+call_answer (Err error) = answers.Failed error
+
+-- an event without attributes
+abbrev pub bare_event : List ℕ → ℕ → Edit
+bare_event name moment =
+    add_event (record { name = name; timestamp = moment; attributes = []; dropped_attributes_count = 0 })
+
+module _ {P S G : Type 0} (calls : Ghosts P) where
+  -- a shutdown with a timeout, as it is asked for: a second one is an error and changes nothing
+  abbrev pub Shuts : ProviderState P S G → ℕ → Result (Unit {0}) OTelSdkError → ProviderState P S G → Type 0
+  Shuts old timeout answer new = MatchBool old.is_shut
+      ((answer ≡ Err errors.AlreadyShutdown) × (new ≡ old))
+      (ShutsDown calls old timeout answer new)
+
+  -- the provider was asked to flush
+  pub record AsksFlush (old : Course P S G) (answer : Answer) (ds : List Delivery) (new : Course P S G) : Type 0 where
+    pub said : Result (Unit {0}) OTelSdkError
+    pub flushes : Flushes calls old.provider said new.provider
+    pub says : answer ≡ call_answer said
+    pub delivers : ds ≡ []
+    pub histories : new.histories ≡ old.histories
+
+  -- the provider was asked to shut down, with 5 seconds
+  pub record AsksShutdown (old : Course P S G) (answer : Answer) (ds : List Delivery) (new : Course P S G) : Type 0 where
+    pub said : Result (Unit {0}) OTelSdkError
+    pub shuts : Shuts old.provider 5_000_000_000 said new.provider
+    pub says : answer ≡ call_answer said
+    pub delivers : ds ≡ []
+    pub histories : new.histories ≡ old.histories
+
 module _ {P S G : Type 0} (calls : Ghosts P) (sampler : sampling.Ghosts S) (ids : drawing.Ghosts G) where
-  -- a new name is given what the start of a span makes
-  pub record BeginsSpan (scope : PlainScope) (old : Course P S G) (name called : List ℕ) (moment : ℕ)
-      (answer : Answer) (ds : List Delivery) (new : Course P S G) : Type 0 where
+  -- a new name is given what the start of a span in a context makes
+  pub record BeginsSpan (scope : PlainScope) (old : Course P S G) (name : List ℕ) (cx : PlainContext) (called : List ℕ)
+      (moment : ℕ) (answer : Answer) (ds : List Delivery) (new : Course P S G) : Type 0 where
     pub history : SpanHistory
-    pub starts : Starts calls sampler ids old.provider scope called moment history new.provider
+    pub starts : Starts calls sampler ids old.provider scope (named_builder called) cx moment history new.provider
     pub says : answer ≡ start_answer (span_of history)
     pub delivers : ds ≡ []
     pub histories : new.histories ≡ with_history old.histories name history
 
-  -- a start: a name is taken once
-  abbrev pub StartDemands : PlainScope → Course P S G → List ℕ → List ℕ → ℕ → Option SpanHistory → Answer
+  -- a start in a context: a name is taken once
+  abbrev pub StartDemands : PlainScope → Course P S G → List ℕ → PlainContext → List ℕ → ℕ → Option SpanHistory → Answer
       → List Delivery → Course P S G → Type 0
-  StartDemands scope old name called moment (Some _) answer ds new = OnlyAnswers answers.SpanExists old answer ds new
-  StartDemands scope old name called moment None answer ds new = BeginsSpan scope old name called moment answer ds new
+  StartDemands scope old name cx called moment (Some _) answer ds new =
+      OnlyAnswers answers.SpanExists old answer ds new
+  StartDemands scope old name cx called moment None answer ds new =
+      BeginsSpan scope old name cx called moment answer ds new
+
+  -- a start as a child of the span of another name: in a context where that is active
+  abbrev pub ChildDemands : PlainScope → Course P S G → List ℕ → Option SpanHistory → List ℕ → ℕ → Answer
+      → List Delivery → Course P S G → Type 0
+  ChildDemands scope old name None called moment answer ds new = OnlyAnswers answers.NoSuchSpan old answer ds new
+  ChildDemands scope old name (Some parent) called moment answer ds new =
+      StartDemands scope old name (child_cx (span_of parent).span_context) called moment (old.histories name) answer ds
+      new
 
   -- a history is over, and its data is delivered, unless the provider is shut
   pub record EndsHistory (old : Course P S G) (name : List ℕ) (from : SpanStart) (span : PlainSpanData)
@@ -135,10 +179,18 @@ module _ {P S G : Type 0} (calls : Ghosts P) (sampler : sampling.Ghosts S) (ids 
   -- what one command demands: its answer, what is delivered, and where the session then stands
   abbrev pub Demands : PlainScope → Course P S G → PlainCommand → Answer → List Delivery → Course P S G → Type 0
   Demands scope old (start span name moment) answer ds new =
-      StartDemands scope old span name moment (old.histories span) answer ds new
+      StartDemands scope old span root_cx name moment (old.histories span) answer ds new
+  Demands scope old (child span parent name moment) answer ds new =
+      ChildDemands scope old span (old.histories parent) name moment answer ds new
   Demands scope old (attr span key value) answer ds new =
       EditDemands old span (set_attribute (record { key = key; value = text value })) (old.histories span) answer ds new
+  Demands scope old (event span name moment) answer ds new =
+      EditDemands old span (bare_event name moment) (old.histories span) answer ds new
+  Demands scope old (status span how) answer ds new =
+      EditDemands old span (set_status how) (old.histories span) answer ds new
   Demands scope old (end span moment) answer ds new = EndDemands old span moment (old.histories span) answer ds new
+  Demands scope old flush answer ds new = AsksFlush calls old answer ds new
+  Demands scope old shutdown answer ds new = AsksShutdown calls old answer ds new
 
   -- one command was carried out on the spans of a session, as it demands of the histories that they had, and each
   -- processor follows what was delivered
@@ -159,17 +211,23 @@ module _ {P S G : Type 0} (calls : Ghosts P) (sampler : sampling.Ghosts S) (ids 
       (histories : Histories) → Describe histories old → DemandsOne scope p histories command answer q new
 
   -- what a command that is refused may do to the provider: nothing, but that a start may have drawn ids, or done all that
-  -- the start of a span does, where the span then found no place
-  abbrev pub MayAsk : PlainScope → ProviderState P S G → PlainCommand → ProviderState P S G → Type 0
-  MayAsk scope p (start span name moment) q = MayStart calls sampler ids p scope name moment q
-  MayAsk scope p (attr span key value) q = q ≡ p
-  MayAsk scope p (end span moment) q = q ≡ p
+  -- the start of a span does, where the span then found no place. The provider's own calls are not refused
+  abbrev pub MayAsk : PlainScope → ProviderState P S G → NamedSpans → PlainCommand → ProviderState P S G → Type 0
+  MayAsk scope p spans (start span name moment) q = MayStart calls sampler ids p scope root_cx name moment q
+  MayAsk scope p spans (child span parent name moment) q =
+      ChildMayStart calls sampler ids p scope (named spans parent) name moment q
+  MayAsk scope p spans (attr span key value) q = q ≡ p
+  MayAsk scope p spans (event span name moment) q = q ≡ p
+  MayAsk scope p spans (status span how) q = q ≡ p
+  MayAsk scope p spans (end span moment) q = q ≡ p
+  MayAsk scope p spans flush q = ⊥
+  MayAsk scope p spans shutdown q = ⊥
 
   -- a command was not carried out: each name has the span that it had, and each processor tells what it told
   pub record RefusesOne (scope : PlainScope) (p : ProviderState P S G) (old : NamedSpans) (command : PlainCommand)
       (q : ProviderState P S G) (new : NamedSpans) : Type 0 where
     pub spans : SameSpans old new
-    pub asks : MayAsk scope p command q
+    pub asks : MayAsk scope p old command q
     pub told : map calls.told q.processors ≡ map calls.told p.processors
 
   -- a command was carried out or not, and has no reply
@@ -214,12 +272,13 @@ module _ {P S G : Type 0} (keeps : keeping.Ghosts P) where
 module _ {P S G : Type 0} (calls : Ghosts P) (keeps : keeping.Ghosts P) (sampler : sampling.Ghosts S)
     (ids : drawing.Ghosts G) where
   -- one command with its reply: its answer is as demanded, it shows the spans of the batches that the first processor's
-  -- exporter took since the reply before, and that exporter lost none
+  -- exporter took since the reply before, and that exporter lost none, unless it was flushed or shut down
   pub record Replies (scope : PlainScope) (old : Course P S G) (shown : ℕ) (command : PlainCommand)
       (reply : PlainReply) (ds : List Delivery) (new : Course P S G) : Type 0 where
     pub demands : Demands calls sampler ids scope old command reply.answer ds new
     pub shows : reply.exported ≡ spans_in (drop shown (batches_of_first keeps new.provider.processors))
-    pub loses_none : losses_of_first keeps new.provider.processors ≡ losses_of_first keeps old.provider.processors
+    pub loses_none : IsFalse (may_lose command)
+        → losses_of_first keeps new.provider.processors ≡ losses_of_first keeps old.provider.processors
 
   -- commands one after another, each with its reply, which begins behind the batches that were shown before it: the
   -- deliveries join
@@ -261,7 +320,6 @@ module _ {P S G : Type 0} (calls : Ghosts P) (keeps : keeping.Ghosts P) (sampler
     pub carried : CarriesOut old commands replies new
     pub shown : Shows keeps old replies new
     pub none_left : NoneLeft keeps replies new
-    pub none_lost : LosesNone keeps old new
 
   -- a command found no memory: it was carried out or not, it has no reply, and what it exported is left to show
   pub record Refuses (old : SessionState P S G) (command : Command) (new : SessionState P S G) : Type 0 where

@@ -9,7 +9,7 @@ use opentelemetry_sdk::trace::{ProcessorOf, SimpleSpanProcessor, SpanProcessor};
 use otel_batch::trace::{ExporterOf, InMemorySpanExporter, SpanData, SpanExporter};
 use std::alloc::{AllocError, Global};
 
-/// A processor whose exporter may keep its batches. Where a span starts or ends, batches may only come behind those that are
+/// A processor whose exporter may keep its batches. Whatever it is asked, batches may only come behind those that are
 /// kept.
 pub trait KeepsBatches: SpanProcessor {
     /// The batches that are kept; none where the exporter keeps none.
@@ -24,13 +24,14 @@ pub trait KeepsBatches: SpanProcessor {
     fn lost_batches(&self) -> u64
         ensures { result ≡ lost self.now };
 
-    /// A start or an end of a span takes back no batch, and only an end may lose one.
+    /// A call takes back no batch, and a start of a span loses none.
     ghost appends: { OnlyAppends Self.SpanProcessor kept lost };
 }
 
 impl<C: SpanExporter, D: SpanProcessor> KeepsBatches
     for ProcessorOf<SimpleSpanProcessor<ExporterOf<InMemorySpanExporter, C>>, D> {
-    ghost use Rattle.otel_trace.specs.KeptBatches.{exporter_keeps, exporter_loses, exporter_appends, processor_keeps, processor_loses, processor_appends, processor_stays, simple_appends, simple_stays};
+    ghost use Rattle.otel_trace.specs.KeptBatches.{exporter_keeps, exporter_loses, exporter_appends, processor_keeps, processor_loses, processor_appends, processor_stays, simple_appends, simple_flushes, simple_stays, exporter_shuts};
+    ghost use Rattle.otel_batch.specs.RestsOr.{RestsOr};
 
     ghost kept = { processor_keeps (λ simple. exporter_keeps simple.exporter) };
 
@@ -44,6 +45,13 @@ impl<C: SpanExporter, D: SpanProcessor> KeepsBatches
           processor_appends (λ simple. exporter_keeps simple.exporter) _ _ (λ a b h. simple_appends exporter_keeps
           ⟦<ExporterOf<InMemorySpanExporter, C> as SpanExporter>⟧ (exporter_appends C.export_gives) a span answer b h)
           p q given;
+      flushes = λ p answer q given.
+          processor_appends (λ simple. exporter_keeps simple.exporter) _ _
+          (λ a b h. simple_flushes exporter_keeps a b h) p q given;
+      shuts = λ p timeout answer q given.
+          processor_appends (λ simple. exporter_keeps simple.exporter) _ _
+          (λ a b h. exporter_shuts (λ c r d. RestsOr (λ x y z. C.shutdown_gives x timeout y z) c r d)
+          a.exporter answer b.exporter h.gives) p q given;
     } };
 
     fn batches(&self) -> &[Vec<SpanData>] {

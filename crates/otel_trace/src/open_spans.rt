@@ -1,8 +1,12 @@
 //! The spans of a session by name. They must be spent: each is abandoned when the session closes.
 
 ghost use Rattle.std.specs.Prelude.{◌≡◌, [], None, IfOk, OnOk, OnErr, is_some, string_bytes, map, if◌then◌else◌};
-ghost use Rattle.opentelemetry_sdk.specs.SpanHistory.{edited};
+ghost use Rattle.std.specs.Option.{option_map};
+ghost use Rattle.opentelemetry_sdk.specs.SpanEdits.{plain_edit};
+ghost use Rattle.opentelemetry_sdk.specs.Starting.{root_cx};
 ghost use Rattle.otel_trace.specs.OpenSpans.{
+  ChildMayStart,
+  ChildStartsNamed,
   EditsNamed,
   EndsNamed,
   MayDeliver,
@@ -11,16 +15,15 @@ ghost use Rattle.otel_trace.specs.OpenSpans.{
   SameSpans,
   StartsNamed,
   by_name,
+  child_cx,
   identity_of,
   named,
-  plain_edit,
   start_answer,
 };
 
-use crate::command::SpanEdit;
 use crate::reply::{Answer, SpanIdentity};
-use opentelemetry::Moment;
-use opentelemetry_sdk::trace::{ProviderOf, SdkTracer, Span, SpanProcessor};
+use opentelemetry::{Context, Moment};
+use opentelemetry_sdk::trace::{ProviderOf, SdkTracer, Span, SpanEdit, SpanProcessor};
 use otel_base::trace::{IdGenerator, ShouldSample};
 use std::alloc::{AllocError, Global};
 use std::collections::BTreeMap;
@@ -48,8 +51,8 @@ impl OpenSpans {
         }
     }
 
-    /// Starts a span under a name. Where there is no memory for the name, the span that was started is abandoned: the
-    /// provider did what it does at any start, and nothing was delivered.
+    /// Starts a span under a name, where no other is active. Where there is no memory for the name, the span that was
+    /// started is abandoned: the provider did what it does at any start, and nothing was delivered.
     pub(crate) fn start<P: SpanProcessor, S: ShouldSample, G: IdGenerator>(
         &mut self,
         name: String,
@@ -59,20 +62,77 @@ impl OpenSpans {
         now: Moment,
     ) -> Result<Answer, AllocError>
         ensures ok { IfOk result (λ answer. StartsNamed P.SpanProcessor S.ShouldSample G.IdGenerator provider.old
-            tracer.now self.old (string_bytes name)
+            tracer.now self.old (string_bytes name) root_cx
             (string_bytes called) now.0 (named self.old (string_bytes name)) answer provider.new self.new) }
         ensures told { map P.told provider.new.processors ≡ map P.told provider.old.processors }
-        ensures asks { MayStart P.SpanProcessor S.ShouldSample G.IdGenerator provider.old tracer.now
+        ensures asks { MayStart P.SpanProcessor S.ShouldSample G.IdGenerator provider.old tracer.now root_cx
+            (string_bytes called) now.0 provider.new }
+        ensures err { OnErr result (SameSpans self.old self.new) }
+    {
+        self.start_in(name, &Context::new(), tracer, provider, called, now)
+    }
+
+    /// Starts a span under a name, as a child of the span of another name.
+    pub(crate) fn start_child<P: SpanProcessor, S: ShouldSample, G: IdGenerator>(
+        &mut self,
+        name: String,
+        parent: &str,
+        tracer: &SdkTracer,
+        provider: &mut ProviderOf<P, S, G>,
+        called: String,
+        now: Moment,
+    ) -> Result<Answer, AllocError>
+        ensures ok { IfOk result (λ answer. ChildStartsNamed P.SpanProcessor S.ShouldSample G.IdGenerator provider.old
+            tracer.now self.old (string_bytes name) (named self.old parent.now)
+            (string_bytes called) now.0 answer provider.new self.new) }
+        ensures told { map P.told provider.new.processors ≡ map P.told provider.old.processors }
+        ensures asks { ChildMayStart P.SpanProcessor S.ShouldSample G.IdGenerator provider.old tracer.now
+            (named self.old parent.now) (string_bytes called) now.0 provider.new }
+        ensures err { OnErr result (SameSpans self.old self.new) }
+    {
+        let Some(cx) = self.context_of(parent)? else {
+            return Ok(Answer::NoSuchSpan);
+        };
+        self.start_in(name, &cx, tracer, provider, called, now)
+    }
+
+    /// The same in a context.
+    fn start_in<P: SpanProcessor, S: ShouldSample, G: IdGenerator>(
+        &mut self,
+        name: String,
+        cx: &Context,
+        tracer: &SdkTracer,
+        provider: &mut ProviderOf<P, S, G>,
+        called: String,
+        now: Moment,
+    ) -> Result<Answer, AllocError>
+        ensures ok { IfOk result (λ answer. StartsNamed P.SpanProcessor S.ShouldSample G.IdGenerator provider.old
+            tracer.now self.old (string_bytes name) cx.now
+            (string_bytes called) now.0 (named self.old (string_bytes name)) answer provider.new self.new) }
+        ensures told { map P.told provider.new.processors ≡ map P.told provider.old.processors }
+        ensures asks { MayStart P.SpanProcessor S.ShouldSample G.IdGenerator provider.old tracer.now cx.now
             (string_bytes called) now.0 provider.new }
         ensures err { OnErr result (SameSpans self.old self.new) }
     {
         if self.contains(name.as_str()) {
             return Ok(Answer::SpanExists);
         }
-        let span = tracer.start(called, provider, now)?;
+        let span = tracer.start_with_context(called, cx, provider, now)?;
         let answer = answer_to_start(&span);
         self.put(name, span)?;
         Ok(answer)
+    }
+
+    /// The context in which the span of a name is active.
+    fn context_of(&self, name: &str) -> Result<Option<Context>, AllocError>
+        ensures { IfOk result (λ cx. cx
+            ≡ option_map (λ span. child_cx span.span_context) (named self.now name.now)) }
+    {
+        let Some(span) = self.spans.get(name) else {
+            return Ok(None);
+        };
+        let cx = Context::new().with_span_context(span.span_context().clone()?)?;
+        Ok(Some(cx))
     }
 
     fn contains(&self, name: &str) -> bool
@@ -173,7 +233,7 @@ fn edit_in(
         return Ok(Answer::NoSuchSpan);
     };
     let is_recording = span.is_recording();
-    edit_span(span, edit)?;
+    span.edit(edit)?;
     Ok(answer_to_edit(is_recording))
 }
 
@@ -185,16 +245,6 @@ fn answer_to_edit(is_recording: bool) -> Answer
         Answer::Ok
     } else {
         Answer::Ignored
-    }
-}
-
-/// Makes one edit of a span.
-fn edit_span(span: &mut Span, edit: SpanEdit) -> Result<(), AllocError>
-    ensures ok { OnOk result (span.new ≡ edited (plain_edit edit) span.old) }
-    ensures err { OnErr result (span.new ≡ span.old) }
-{
-    match edit {
-        SpanEdit::SetAttribute(attribute) => span.set_attribute(attribute),
     }
 }
 

@@ -4,7 +4,7 @@
 ghost use Rattle.std.specs.Prelude.{◌≡◌, ◌≢◌, ◌⊎◌, ◌≤◌, ℕ, List, Some, None, IfOk, IfSome, OnOk, MatchOption, false, true, map, string_bytes};
 ghost use Rattle.std.specs.Io.KnownBytes.{Appends, IsAtEnd};
 ghost use Rattle.otel_trace.specs.SessionDelivery.{Finishes};
-ghost use Rattle.otel_trace.specs.Program.{AsksFor, AsksForNothing, TracesSeed, TracesWhole, WritesText, bad_line_text, provider_of_seed, session_under, usage_text};
+ghost use Rattle.otel_trace.specs.Program.{AsksFor, AsksForNothing, TracesSeed, TracesWhole, WritesText, IsProviderOfSeed, bad_line_text, session_under, usage_text};
 
 use crate::exported::KeepsBatches;
 use crate::lines::number_of;
@@ -121,7 +121,7 @@ fn provider_for(alloc: Global, words: &[String]) -> Option<Result<TraceProvider,
     ensures { MatchOption result
         (AsksForNothing (map string_bytes words.now))
         (λ made. (seed : ℕ) × AsksFor (map string_bytes words.now) seed
-        × IfOk made (λ provider. provider ≡ provider_of_seed seed)) }
+        × IfOk made (IsProviderOfSeed seed)) }
 {
     let seed = seed_of(words)?;
     Some(provider_of(alloc, seed))
@@ -291,16 +291,16 @@ fn finish<P: KeepsBatches, S: ShouldSample, G: IdGenerator>(
     }
 }
 
-/// A provider that samples every span and exports it at once into memory.
+/// A provider that samples each root, and each child as its parent is, and exports spans at once into memory.
 fn provider_of(alloc: Global, seed: u64) -> Result<TraceProvider, AllocError>
-    ensures { IfOk result (λ provider. provider ≡ provider_of_seed seed) }
+    ensures { IfOk result (IsProviderOfSeed seed) }
 {
     let exporter = ExporterOf::Memory(InMemorySpanExporter::new(alloc));
     let mut processors = Vec::new(alloc);
     processors.push(ProcessorOf::Simple(SimpleSpanProcessor::new(alloc, exporter)))?;
     Ok(ProviderOf::from_parts(
         processors,
-        SamplerOf::AlwaysOn,
+        SamplerOf::ParentBased(Box::new(alloc, SamplerOf::AlwaysOn)?),
         RandomIdGenerator::new(seed),
         SpanLimits::default(),
     ))

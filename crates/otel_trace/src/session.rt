@@ -6,11 +6,11 @@ ghost use Rattle.std.specs.List.{flat_map};
 ghost use Rattle.opentelemetry.specs.Plain.{text};
 ghost use Rattle.opentelemetry_sdk.specs.ProcessorTelling.{spans_in};
 ghost use Rattle.opentelemetry_sdk.specs.Provider.{scope_named};
+ghost use Rattle.opentelemetry_sdk.specs.SpanEdits.{plain_edit};
 ghost use Rattle.opentelemetry_sdk.specs.SpanHistory.{set_attribute};
-ghost use Rattle.otel_trace.specs.Commands.{is_end, plain_command};
+ghost use Rattle.otel_trace.specs.Commands.{is_end, may_lose, plain_command};
 ghost use Rattle.otel_trace.specs.AnswerText.{answer_line};
 ghost use Rattle.otel_trace.specs.KeptBatches.{Appends};
-ghost use Rattle.otel_trace.specs.OpenSpans.{plain_edit};
 ghost use Rattle.otel_trace.specs.PlainReply.{counts_refusals};
 ghost use Rattle.otel_trace.specs.ReplyText.{span_lines};
 ghost use Rattle.otel_trace.specs.SessionDelivery.{
@@ -25,7 +25,9 @@ ghost use Rattle.otel_trace.specs.SessionDelivery.{
   ShutsIfOpen,
   WritesAll,
   WritesBeginning,
+  bare_event,
   batches_of_first,
+  call_answer,
   losses_of_first,
   or_no_memory,
   session_batches,
@@ -33,14 +35,15 @@ ghost use Rattle.otel_trace.specs.SessionDelivery.{
   unshown,
 };
 
-use crate::command::{Command, SpanEdit};
+use crate::command::Command;
 use crate::exported::{KeepsBatches, batches_since, copies_of};
 use crate::lines::parse;
 use crate::open_spans::OpenSpans;
 use crate::reply::{Answer, Reply};
 use crate::reply_text::{write_batches, write_reply};
-use opentelemetry::{Key, KeyValue, Value};
-use opentelemetry_sdk::trace::{ProviderOf, SdkTracer, SpanProcessor};
+use opentelemetry::trace::Event;
+use opentelemetry::{Key, KeyValue, Moment, Value};
+use opentelemetry_sdk::trace::{ProviderOf, SdkTracer, SpanEdit, SpanProcessor};
 use otel_base::error::{OTelSdkError, OTelSdkResult};
 use otel_base::trace::{IdGenerator, ShouldSample};
 use otel_batch::trace::SpanData;
@@ -231,8 +234,9 @@ impl<P: KeepsBatches, S: ShouldSample, G: IdGenerator> Session<P, S, G> {
     fn answer(&mut self, command: Command) -> Result<Answer, AllocError>
         ensures ok { IfOk result (λ answer. CarriesOutOne P.SpanProcessor S.ShouldSample G.IdGenerator self.old.scope
             self.old.provider self.old.spans
-            (plain_command command) answer self.new.provider self.new.spans
-            × LosesNone P.KeepsBatches.own self.old self.new) }
+            (plain_command command) answer self.new.provider self.new.spans) }
+        ensures loses_none { OnOk result (IsFalse (may_lose (plain_command command))
+            → LosesNone P.KeepsBatches.own self.old self.new) }
         ensures err { OnErr result
             (MayCarryOut P.SpanProcessor S.ShouldSample G.IdGenerator self.old.scope self.old.provider self.old.spans
             (plain_command command) self.new.provider self.new.spans) }
@@ -260,9 +264,16 @@ impl<P: KeepsBatches, S: ShouldSample, G: IdGenerator> Session<P, S, G> {
         ensures rest { self.new ≡ record self.old { provider = self.new.provider; spans = self.new.spans } }
         ensures keeps { Appends (session_batches P.KeepsBatches.own self.old)
             (session_batches P.KeepsBatches.own self.new) }
-        ensures loses { IsFalse (is_end (plain_command command)) → LosesNone P.KeepsBatches.own self.old self.new }
+        ensures loses { IsFalse (is_end (plain_command command)) → IsFalse (may_lose (plain_command command))
+            → LosesNone P.KeepsBatches.own self.old self.new }
     {
-        carry_out(&self.tracer, &mut self.provider, &mut self.spans, command)
+        carry_out(
+            self.alloc,
+            &self.tracer,
+            &mut self.provider,
+            &mut self.spans,
+            command,
+        )
     }
 
     /// The batches that the first processor's exporter keeps and no reply has shown.
@@ -339,6 +350,7 @@ fn unshown_by_first<P: KeepsBatches>(processors: &[P], shown: usize) -> &[Vec<Sp
 
 /// The same on the parts of a session.
 fn carry_out<P: KeepsBatches, S: ShouldSample, G: IdGenerator>(
+    alloc: Global,
     tracer: &SdkTracer,
     provider: &mut ProviderOf<P, S, G>,
     spans: &mut OpenSpans,
@@ -352,15 +364,44 @@ fn carry_out<P: KeepsBatches, S: ShouldSample, G: IdGenerator>(
         (plain_command command) provider.new spans.new) }
     ensures keeps { Appends (batches_of_first P.KeepsBatches.own provider.old.processors)
         (batches_of_first P.KeepsBatches.own provider.new.processors) }
-    ensures loses { IsFalse (is_end (plain_command command))
+    ensures loses { IsFalse (is_end (plain_command command)) → IsFalse (may_lose (plain_command command))
         → losses_of_first P.KeepsBatches.own provider.new.processors
         ≡ losses_of_first P.KeepsBatches.own provider.old.processors }
 {
     match command {
         Command::Start { span, name, moment } => spans.start(span, tracer, provider, name, moment),
+        Command::Child {
+            span,
+            parent,
+            name,
+            moment,
+        } => spans.start_child(span, parent.as_str(), tracer, provider, name, moment),
         Command::Attr { span, key, value } => spans.edit(span.as_str(), text_attribute(key, value)),
+        Command::Event { span, name, moment } => {
+            spans.edit(span.as_str(), event_without_attributes(alloc, name, moment))
+        }
+        Command::Status { span, status } => spans.edit(span.as_str(), SpanEdit::SetStatus(status)),
         Command::End { span, moment } => spans.end(span.as_str(), provider, moment),
+        Command::Flush => Ok(answer_to_call(provider.force_flush())),
+        Command::Shutdown => Ok(answer_to_call(provider.shutdown())),
     }
+}
+
+/// What is said of a call of the provider.
+fn answer_to_call(said: OTelSdkResult) -> Answer
+    ensures { result ≡ call_answer said }
+{
+    match said {
+        Ok(()) => Answer::Ok,
+        Err(error) => Answer::Failed(error),
+    }
+}
+
+/// The edit that adds an event without attributes.
+fn event_without_attributes(alloc: Global, name: String, moment: Moment) -> SpanEdit
+    ensures { plain_edit result ≡ bare_event (string_bytes name) moment.0 }
+{
+    SpanEdit::AddEvent(Event::new(name, moment, Vec::new(alloc), 0))
 }
 
 /// The edit that sets an attribute whose value is a text.

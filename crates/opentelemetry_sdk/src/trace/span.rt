@@ -296,3 +296,6 @@ impl Span {
         } = self;
     }
 }
+
+#[cfg(test)]
+mod tests;

@@ -1,6 +1,6 @@
 use Rattle.std.proofs.Common.{◌≡◌, Some, None, rules}
 use Rattle.otel_trace.proofs.ProgramLemmas.{found, traces_seed}
-use Rattle.otel_trace.specs.Program.{provider_of_seed}
+use Rattle.otel_trace.specs.Program.{IsProviderOfSeed}
 use Rattle.otel_trace.proofs.program.run_program.Goals as goal
 
 pub returns-in-None-clause-bad_line : goal.returns-in-None-clause-bad_line
@@ -14,13 +14,13 @@ returns-in-Some-Ok-clause-usage g c = λ nothing. absurd (nothing c.in-Some-Ok.e
 
 pub returns-in-Some-Ok-clause-done : goal.returns-in-Some-Ok-clause-done
 returns-in-Some-Ok-clause-done g c = λ seed asks e. (
-  traces_seed _ _ _ _ seed c.in-Some-Ok.ensures.0 c.in-Some-Ok.provider _ _ None _ _ asks c.in-Some-Ok.ensures.1 (found (λ p. p ≡ provider_of_seed c.in-Some-Ok.ensures.0) c.in-Some-Ok.field-0 c.in-Some-Ok.provider (search rules) c.in-Some-Ok.ensures.2) (c.trace_input.ensures.done e).0,
+  traces_seed _ _ _ _ seed c.in-Some-Ok.ensures.0 c.in-Some-Ok.provider _ _ None _ _ asks c.in-Some-Ok.ensures.1 (found (IsProviderOfSeed c.in-Some-Ok.ensures.0) c.in-Some-Ok.field-0 c.in-Some-Ok.provider (search rules) c.in-Some-Ok.ensures.2) (c.trace_input.ensures.done e).0,
   (c.trace_input.ensures.done e).1,
 )
 
 pub returns-in-Some-Ok-clause-bad_line : goal.returns-in-Some-Ok-clause-bad_line
 returns-in-Some-Ok-clause-bad_line g c = λ seed asks e. (
   (c.trace_input.ensures.bad_line e).0,
-  traces_seed _ _ _ _ seed c.in-Some-Ok.ensures.0 c.in-Some-Ok.provider _ _ (Some (c.trace_input.ensures.bad_line e).0) _ _ asks c.in-Some-Ok.ensures.1 (found (λ p. p ≡ provider_of_seed c.in-Some-Ok.ensures.0) c.in-Some-Ok.field-0 c.in-Some-Ok.provider (search rules) c.in-Some-Ok.ensures.2) (c.trace_input.ensures.bad_line e).1,
+  traces_seed _ _ _ _ seed c.in-Some-Ok.ensures.0 c.in-Some-Ok.provider _ _ (Some (c.trace_input.ensures.bad_line e).0) _ _ asks c.in-Some-Ok.ensures.1 (found (IsProviderOfSeed c.in-Some-Ok.ensures.0) c.in-Some-Ok.field-0 c.in-Some-Ok.provider (search rules) c.in-Some-Ok.ensures.2) (c.trace_input.ensures.bad_line e).1,
   (c.trace_input.ensures.bad_line e).2,
 )

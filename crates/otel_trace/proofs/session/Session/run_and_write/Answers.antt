@@ -26,7 +26,7 @@ returns-in_err-write_unrefused-clause-err g c =
       replies = i.0;
       written = c.in_err-write_unrefused.ensures.err ∙ i.1;
       none_refused = i.2;
-      ran = ran_refused g.P.SpanProcessor g.P.KeepsBatches g.S.ShouldSample g.G.IdGenerator c.args.self.now c.loop-command.self c.answer.new.self c.args.commands.items c.loop-command.queue.items c.pop_front.new.self.items i.0 [] i.0 c.in-Some.command c.in-Some.ensures.items i.3 refl (record { asked = inr (c.in_ok-answer.answer, c.in_ok-answer.ensures.ok.0); rest = c.answer.ensures.rest; keeps_batches = c.answer.ensures.keeps });
+      ran = ran_refused g.P.SpanProcessor g.P.KeepsBatches g.S.ShouldSample g.G.IdGenerator c.args.self.now c.loop-command.self c.answer.new.self c.args.commands.items c.loop-command.queue.items c.pop_front.new.self.items i.0 [] i.0 c.in-Some.command c.in-Some.ensures.items i.3 refl (record { asked = inr (c.in_ok-answer.answer, c.in_ok-answer.ensures.ok); rest = c.answer.ensures.rest; keeps_batches = c.answer.ensures.keeps });
     })
 
 pub loop-command-preserved : goal.loop-command-preserved
@@ -38,7 +38,7 @@ loop-command-preserved g c =
       none_refused_more i.0 reply i.2 c.in_ok-write_unrefused.ensures.ok.0,
       ran_more g.P.SpanProcessor g.P.KeepsBatches g.S.ShouldSample g.G.IdGenerator c.args.self.now c.loop-command.self c.answer.new.self c.mark_shown.new.self c.args.commands.items c.loop-command.queue.items c.pop_front.new.self.items i.0 c.in-Some.command reply
           c.in-Some.ensures.items i.3
-          (record { carried = c.in_ok-answer.ensures.ok.0; shows = refl; loses_none = c.in_ok-answer.ensures.ok.1; rest = c.answer.ensures.rest; appends = c.answer.ensures.keeps }) c.mark_shown.ensures,
+          (record { carried = c.in_ok-answer.ensures.ok; shows = refl; loses_none = c.in_ok-answer.ensures.loses_none; rest = c.answer.ensures.rest; appends = c.answer.ensures.keeps }) c.mark_shown.ensures,
     )
 
 pub returns-clause-ok : goal.returns-clause-ok
