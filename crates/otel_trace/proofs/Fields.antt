@@ -32,15 +32,15 @@ no_status text not_ok not_error unset h = h
 no_status text not_ok not_error (error description) h = not_error description h
 no_status text not_ok not_error ok h = not_ok h
 
--- what `error` is followed by is a description
+-- `error` is a field
 pub error_is_field : IsField (codes "error")
 error_is_field = (omega arith, All-from_recursion (λ b. b ≢ 32) (codes "error") (search rules))
 
--- a field with nothing behind it is not one with something behind it
+-- a field that is all of a text is not one that ends at a space
 pub no_last_field : (text last first rest : List ℕ) → IsField last → text ≡ last → text ≡ first ++ 32 ∷ rest → ⊥
 no_last_field text last first rest is e d = no_field last first rest (λ i h. is.1 i 0 h) (sym e ∙ d)
 
--- behind `start` stand the fields of a start alone, and so on
+-- behind `start` stand the fields of no other command than a start; and so on, word by word
 pub only_start : (fields : List ℕ) → ((s n : List ℕ) (m : ℕ) → IsOfForm fields (field s (field n (time m))) → ⊥) → (command : PlainCommand) → HasFields (codes "start") fields (form_of command) → ⊥
 only_start fields none (start s n m) h = none s n m h.1
 only_start fields none _ h = search rules

@@ -33,7 +33,7 @@ pub enum Answer {
     SpanExists,
     /// The span has ended, and so many processors refused it for want of memory.
     Ended(usize),
-    /// A call of the provider failed so.
+    /// The flush or the shutdown of the provider failed.
     Failed(OTelSdkError),
 }
 

@@ -88,7 +88,7 @@ const TEXTS: [(&str, &[u8], usize, Option<u64>); 12] = [
     ),
     (
         "each kind of line",
-        b"start s GET 1000\nchild c s db 1100\nattr c k v\nevent c row 1200\nstatus c error b\nend c 1300\nflush\nshutdown\n",
+        b"start s a 1\nchild c s b 2\nattr c k v\nevent c e 3\nstatus c error x\nend c 4\nflush\nshutdown\n",
         8,
         None,
     ),
