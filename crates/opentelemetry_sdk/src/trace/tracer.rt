@@ -279,3 +279,6 @@ fn begin(
     };
     Ok(Span::recording(span_context, recorded, span_limits))
 }
+
+#[cfg(test)]
+mod tests;
