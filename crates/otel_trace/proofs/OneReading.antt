@@ -1,51 +1,71 @@
 -- A line reads as one command at most, so a text spells one list of commands and has one first bad line or none.
-use Rattle.std.proofs.Common.{◌≡◌, ℕ, List, [], ◌∷◌, ◌++◌, length, suc, Option, Some, None, codes, refl, sym, ap, ◌∙◌, arith}
+use Rattle.std.proofs.Common.{◌≡◌, ℕ, List, [], ◌∷◌, ◌++◌, length, suc, Option, Some, None, refl, sym, ap, ◌∙◌, arith, rules}
 use Rattle.std.specs.Str.Lines.{lines}
 use Rattle.std.specs.Str.Parse.{digits_value}
-use Rattle.otel_trace.specs.Commands.{PlainCommand, start, attr, end}
-use Rattle.otel_trace.specs.Lines.{IsMoment, word_of, AreFields, Reads, IsBad, Spell, TextSpells}
-use Rattle.otel_trace.proofs.Fields.{same_field, word_is_field}
+use Rattle.opentelemetry.specs.Plain.{PlainStatus, unset, error, ok}
+use Rattle.otel_trace.specs.Commands.{PlainCommand, start, child, attr, event, status, end, flush, shutdown}
+use Rattle.otel_trace.specs.Lines.{IsMoment, IsStatus, LineForm, field, last_field, time, outcome, rest_of_line, IsOfForm, form_of, Reads, IsBad, Spell, TextSpells}
+use Rattle.otel_trace.proofs.Fields.{same_field, no_last_field}
 
 -- digits have one moment
 same_moment : (digits others : List ℕ) (moment other : ℕ) → IsMoment digits moment → IsMoment others other → digits ≡ others → moment ≡ other
 same_moment digits others moment other h k e = h.1 ∙ ap (λ ds. digits_value 10 ds) e ∙ sym k.1
 
--- fields of a start are those of no other command
-same_start : (fields s n : List ℕ) (m : ℕ) → AreFields fields (start s n m) → (command : PlainCommand) → word_of command ≡ codes "start" → AreFields fields command → command ≡ start s n m
-same_start fields s n m f (start s' n' m') w g =
-    let first = same_field fields s' (n' ++ 32 ∷ g.2.0) s (n ++ 32 ∷ f.2.0) g.0 f.0 g.2.2 f.2.2 in
-    let second = same_field (n' ++ 32 ∷ g.2.0) n' g.2.0 n f.2.0 g.1 f.1 refl first.1 in
-    let third = same_moment g.2.0 f.2.0 m' m g.2.1 f.2.1 second.1 in
-    cc (first.0, second.0, third)
-same_start fields s n m f _ w g = cc
+-- a text is one status
+same_status : (text : List ℕ) (how other : PlainStatus) → IsStatus text how → IsStatus text other → how ≡ other
+same_status text unset other f g = absurd f
+same_status text how unset f g = absurd g
+same_status text (error description) (error other) f g = cc
+same_status text (error description) ok f g = cc
+same_status text ok (error description) f g = cc
+same_status text ok ok f g = refl
 
--- fields of an attribute are those of no other command
-same_attr : (fields s k v : List ℕ) → AreFields fields (attr s k v) → (command : PlainCommand) → word_of command ≡ codes "attr" → AreFields fields command → command ≡ attr s k v
-same_attr fields s k v f (attr s' k' v') w g =
-    let first = same_field fields s' (k' ++ 32 ∷ v') s (k ++ 32 ∷ v) g.0 f.0 g.2 f.2 in
-    let second = same_field (k' ++ 32 ∷ v') k' v' k v g.1 f.1 refl first.1 in
-    cc (first.0, second.0, second.1)
-same_attr fields s k v f _ w g = cc
+-- two forms agree: field by field, and at their ends where these are of one kind
+abbrev pub Agree : LineForm → LineForm → Type 0
+Agree (field front behind) (field other more) = (front ≡ other) × Agree behind more
+Agree (field front behind) (last_field last) = ⊥
+Agree (last_field last) (field front behind) = ⊥
+Agree (last_field last) (last_field other) = last ≡ other
+Agree (time moment) (time other) = moment ≡ other
+Agree (outcome how) (outcome other) = how ≡ other
+Agree (rest_of_line rest) (rest_of_line other) = rest ≡ other
+Agree _ _ = Unit {0}
 
--- fields of an end are those of no other command
-same_end : (fields s : List ℕ) (m : ℕ) → AreFields fields (end s m) → (command : PlainCommand) → word_of command ≡ codes "end" → AreFields fields command → command ≡ end s m
-same_end fields s m f (end s' m') w g =
-    let first = same_field fields s' g.1.0 s f.1.0 g.0 f.0 g.1.2 f.1.2 in
-    let second = same_moment g.1.0 f.1.0 m' m g.1.1 f.1.1 first.1 in
-    cc (first.0, second)
-same_end fields s m f _ w g = cc
+-- the forms of one text agree
+forms_agree : (text : List ℕ) (form other : LineForm) → IsOfForm text form → IsOfForm text other → Agree form other
+forms_agree text (field front behind) (field other more) f g =
+    let same = same_field text front f.1.0 other g.1.0 f.0 g.0 f.1.1 g.1.1 in
+    (same.0, forms_agree g.1.0 behind more (rw (← same.1) f.1.2) g.1.2)
+forms_agree text (field front behind) (last_field last) f g = no_last_field text last front f.1.0 g.0 g.1 f.1.1
+forms_agree text (last_field last) (field front behind) f g = no_last_field text last front g.1.0 f.0 f.1 g.1.1
+forms_agree text (last_field last) (last_field other) f g = sym f.1 ∙ g.1
+forms_agree text (time moment) (time other) f g = same_moment text text moment other f g refl
+forms_agree text (outcome how) (outcome other) f g = same_status text how other f g
+forms_agree text (rest_of_line rest) (rest_of_line other) f g = sym f ∙ g
+forms_agree text _ _ f g = tt
 
--- behind one word, fields are those of one command
-same_command : (fields : List ℕ) (command other : PlainCommand) → word_of other ≡ word_of command → AreFields fields command → AreFields fields other → other ≡ command
-same_command fields (start s n m) other w f g = same_start fields s n m f other w g
-same_command fields (attr s k v) other w f g = same_attr fields s k v f other w g
-same_command fields (end s m) other w f g = same_end fields s m f other w g
+-- commands whose forms agree are the same
+same_command : (command other : PlainCommand) → Agree (form_of command) (form_of other) → other ≡ command
+same_command (start s n m) (start s' n' m') h = cc
+same_command (start s n m) _ h = search rules
+same_command (child s p n m) (child s' p' n' m') h = cc
+same_command (child s p n m) _ h = search rules
+same_command (attr s k v) (attr s' k' v') h = cc
+same_command (attr s k v) _ h = search rules
+same_command (event s n m) (event s' n' m') h = cc
+same_command (event s n m) _ h = search rules
+same_command (status s how) (status s' how') h = cc
+same_command (status s how) _ h = search rules
+same_command (end s m) (end s' m') h = cc
+same_command (end s m) _ h = search rules
+same_command flush flush h = refl
+same_command flush _ h = search rules
+same_command shutdown shutdown h = refl
+same_command shutdown _ h = search rules
 
 -- a line reads as one command at most
 pub one_command : (line : List ℕ) (command other : PlainCommand) → Reads line command → Reads line other → other ≡ command
-one_command line command other f g =
-    let words = same_field line (word_of other) g.1.0 (word_of command) f.1.0 (word_is_field other) (word_is_field command) g.1.1 f.1.1 in
-    same_command f.1.0 command other words.0 f.1.2 (rw (← words.1) g.1.2)
+one_command line command other f g = same_command command other (forms_agree line (form_of command) (form_of other) f.1 g.1)
 
 -- a bad line begins no lines that spell commands
 bad_head : (line : List ℕ) (more : List (List ℕ)) (commands : List PlainCommand) → Spell (line ∷ more) commands → IsBad line → ⊥

@@ -3,8 +3,11 @@
 use Rattle.std.specs.Prelude.{◌≡◌, ◌≢◌, ℕ, ◌+◌, ◌^◌, ◌<◌, List, [], ◌∷◌, ◌++◌, length, Option, Some, None, All, codes, IsUtf8}
 use Rattle.std.specs.Str.Lines.{lines}
 use Rattle.std.specs.Str.Parse.{IsNumeral, digits_value}
+use Rattle.opentelemetry.specs.declared.trace.status.Status.{Status}
+use Rattle.opentelemetry.specs.Plain.{PlainStatus, unset, error, ok}
+use Rattle.opentelemetry.specs.PlainValues.{plain_status}
 use Rattle.otel_trace.specs.declared.command.Command.{Command}
-use Rattle.otel_trace.specs.Commands.{PlainCommand, start, attr, end, plain_command}
+use Rattle.otel_trace.specs.Commands.{PlainCommand, start, child, attr, event, status, end, flush, shutdown, plain_command}
 
 -- a field is not empty and has no space in it
 abbrev pub IsField : List ℕ → Type 0
@@ -14,25 +17,49 @@ IsField bytes = (0 < length bytes) × All (λ b. b ≢ 32) bytes
 abbrev pub IsMoment : List ℕ → ℕ → Type 0
 IsMoment digits moment = IsNumeral 10 digits × (moment ≡ digits_value 10 digits) × (moment < 2 ^ 64)
 
--- the word that a command's line begins with
-abbrev pub word_of : PlainCommand → List ℕ
-word_of (start span name moment) = codes "start"
-word_of (attr span key value) = codes "attr"
-word_of (end span moment) = codes "end"
+-- a status is `ok`, or `error`, a space and the description, which may be empty; no text is a status that nobody set
+abbrev pub IsStatus : List ℕ → PlainStatus → Type 0
+IsStatus text unset = ⊥
+IsStatus text (error description) = text ≡ codes "error" ++ 32 ∷ description
+IsStatus text ok = text ≡ codes "ok"
 
--- what stands behind the word and its space: fields with a space between each two. The value of an attribute is the
--- rest of the line, whatever it is.
-abbrev pub AreFields : List ℕ → PlainCommand → Type 0
-AreFields rest (start span name moment) = IsField span × IsField name
-    × ((digits : List ℕ) × IsMoment digits moment × (rest ≡ span ++ 32 ∷ (name ++ 32 ∷ digits)))
-AreFields rest (attr span key value) = IsField span × IsField key × (rest ≡ span ++ 32 ∷ (key ++ 32 ∷ value))
-AreFields rest (end span moment) =
-    IsField span × ((digits : List ℕ) × IsMoment digits moment × (rest ≡ span ++ 32 ∷ digits))
+-- the form of a line, from its front to its end
+pub data LineForm : Type 0 where
+  -- a field, a space, and what stands behind it
+  field : List ℕ → LineForm → LineForm
+  -- a field with nothing behind it
+  last_field : List ℕ → LineForm
+  -- a moment
+  time : ℕ → LineForm
+  -- a status
+  outcome : PlainStatus → LineForm
+  -- the rest of the line, whatever it is
+  rest_of_line : List ℕ → LineForm
 
--- a line reads as a command: it is text, and is the command's word, a space and the command's fields
+-- a text is of a form
+abbrev pub IsOfForm : List ℕ → LineForm → Type 0
+IsOfForm text (field front behind) =
+    IsField front × ((rest : List ℕ) × (text ≡ front ++ 32 ∷ rest) × IsOfForm rest behind)
+IsOfForm text (last_field last) = IsField last × (text ≡ last)
+IsOfForm text (time moment) = IsMoment text moment
+IsOfForm text (outcome how) = IsStatus text how
+IsOfForm text (rest_of_line rest) = text ≡ rest
+
+-- the form of a command's line: its word, and what stands behind the word
+abbrev pub form_of : PlainCommand → LineForm
+form_of (start span name moment) = field (codes "start") (field span (field name (time moment)))
+form_of (child span parent name moment) =
+    field (codes "child") (field span (field parent (field name (time moment))))
+form_of (attr span key value) = field (codes "attr") (field span (field key (rest_of_line value)))
+form_of (event span name moment) = field (codes "event") (field span (field name (time moment)))
+form_of (status span how) = field (codes "status") (field span (outcome how))
+form_of (end span moment) = field (codes "end") (field span (time moment))
+form_of flush = last_field (codes "flush")
+form_of shutdown = last_field (codes "shutdown")
+
+-- a line reads as a command: it is text of the command's form
 abbrev pub Reads : List ℕ → PlainCommand → Type 0
-Reads line command =
-    IsUtf8 line × ((fields : List ℕ) × (line ≡ word_of command ++ 32 ∷ fields) × AreFields fields command)
+Reads line command = IsUtf8 line × IsOfForm line (form_of command)
 
 -- a bad line: not empty, and it reads as no command
 abbrev pub IsBad : List ℕ → Type 0
@@ -70,8 +97,22 @@ abbrev pub LineGives : List ℕ → Option Command → Type 0
 LineGives line None = (command : PlainCommand) → Reads line command → ⊥
 LineGives line (Some command) = Reads line (plain_command command)
 
--- what is found behind a word: a command of that word whose fields stand there, and none only where there are no such fields
+-- a form that begins with a word, and these fields are of the form behind its space
+abbrev pub HasFields : List ℕ → List ℕ → LineForm → Type 0
+HasFields word fields (field front behind) = (front ≡ word) × IsOfForm fields behind
+HasFields word fields _ = ⊥
+
+-- what is found behind a word: a command of that word whose fields stand there, and none only where there is none
 abbrev pub FieldsGive : List ℕ → List ℕ → Option Command → Type 0
-FieldsGive word fields None = (command : PlainCommand) → word_of command ≡ word → AreFields fields command → ⊥
-FieldsGive word fields (Some command) =
-    (word_of (plain_command command) ≡ word) × AreFields fields (plain_command command)
+FieldsGive word fields None = (command : PlainCommand) → HasFields word fields (form_of command) → ⊥
+FieldsGive word fields (Some command) = HasFields word fields (form_of (plain_command command))
+
+-- what is found where a word is all of a line: a command of that word alone, and none only where there is none
+abbrev pub WordGives : List ℕ → Option Command → Type 0
+WordGives word None = (command : PlainCommand) → form_of command ≡ last_field word → ⊥
+WordGives word (Some command) = form_of (plain_command command) ≡ last_field word
+
+-- what is found where a status is to stand: the status, and none only where there is none
+abbrev pub StatusGives : List ℕ → Option Status → Type 0
+StatusGives text None = (how : PlainStatus) → IsStatus text how → ⊥
+StatusGives text (Some how) = IsStatus text (plain_status how)

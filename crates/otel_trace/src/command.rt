@@ -3,6 +3,7 @@
 ghost use Rattle.std.specs.Prelude.{◌≡◌};
 ghost use Rattle.otel_trace.specs.Commands.{is_end, plain_command};
 
+use opentelemetry::trace::Status;
 use opentelemetry::{KeyValue, Moment};
 
 /// One request to a session. A span is named by a text of the caller's choice.
@@ -14,17 +15,39 @@ pub enum Command {
         name: String,
         moment: Moment,
     },
+    /// Start a span under a name, as a child of the span of another name.
+    Child {
+        span: String,
+        parent: String,
+        name: String,
+        moment: Moment,
+    },
     /// Set an attribute whose value is a text.
     Attr {
         span: String,
         key: String,
         value: String,
     },
+    /// Add an event without attributes.
+    Event {
+        span: String,
+        name: String,
+        moment: Moment,
+    },
+    /// Set how the operation of a span went. No line asks for `Unset`.
+    Status {
+        span: String,
+        status: Status,
+    },
     /// End a span.
     End {
         span: String,
         moment: Moment,
     },
+    /// Have each processor of the provider hand on what it holds.
+    Flush,
+    /// Shut the provider down.
+    Shutdown,
 }
 
 impl Command {

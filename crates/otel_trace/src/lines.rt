@@ -3,10 +3,22 @@
 ghost use Rattle.std.specs.Prelude.{◌≡◌, ℕ, ◌<◌, List, [], ◌∷◌, ◌++◌, length, Option, None, Some, IfOk, MatchOption, codes, position, ◌==◌};
 ghost use Rattle.std.specs.Str.Lines.{lines as lines_of, strip_carriage_return};
 ghost use Rattle.otel_trace.specs.Commands.{PlainCommand, plain_commands};
-ghost use Rattle.otel_trace.specs.Lines.{IsField, IsMoment, LineGives, FieldsGive, TextSpells};
+ghost use Rattle.otel_trace.specs.Lines.{
+  FieldsGive,
+  IsField,
+  IsMoment,
+  IsOfForm,
+  LineGives,
+  StatusGives,
+  TextSpells,
+  WordGives,
+  field,
+  time,
+};
 
 use crate::command::Command;
 use opentelemetry::Moment;
+use opentelemetry::trace::Status;
 use std::alloc::{AllocError, Global};
 
 /// What a text spells up to its first bad line.
@@ -59,12 +71,37 @@ fn command_of(alloc: Global, line: &[u8]) -> Result<Option<Command>, AllocError>
     let Ok(text) = str::from_utf8(line) else {
         return Ok(None);
     };
-    let Some((word, fields)) = first_field(text) else {
-        return Ok(None);
-    };
+    match first_field(text) {
+        Some((word, fields)) => command_with_fields(alloc, word, fields),
+        None => Ok(command_of_word(text)),
+    }
+}
+
+/// The command of a line that is a word alone.
+fn command_of_word(word: &str) -> Option<Command>
+    ensures { WordGives word.now result }
+{
+    match word {
+        "flush" => Some(Command::Flush),
+        "shutdown" => Some(Command::Shutdown),
+        _ => None,
+    }
+}
+
+/// The command of a word and the fields behind it.
+fn command_with_fields(
+    alloc: Global,
+    word: &str,
+    fields: &str,
+) -> Result<Option<Command>, AllocError>
+    ensures { IfOk result (FieldsGive word.now fields.now) }
+{
     match word {
         "start" => start_of(alloc, fields),
+        "child" => child_of(alloc, fields),
         "attr" => attr_of(alloc, fields),
+        "event" => event_of(alloc, fields),
+        "status" => status_of(alloc, fields),
         "end" => end_of(alloc, fields),
         _ => Ok(None),
     }
@@ -74,17 +111,29 @@ fn command_of(alloc: Global, line: &[u8]) -> Result<Option<Command>, AllocError>
 fn start_of(alloc: Global, fields: &str) -> Result<Option<Command>, AllocError>
     ensures { IfOk result (FieldsGive (codes "start") fields.now) }
 {
-    let Some((span, rest)) = first_field(fields) else {
-        return Ok(None);
-    };
-    let Some((name, digits)) = first_field(rest) else {
-        return Ok(None);
-    };
-    let Some(moment) = moment_of(digits) else {
+    let Some((span, name, moment)) = two_fields_and_moment(fields) else {
         return Ok(None);
     };
     Ok(Some(Command::Start {
         span: String::from_str(alloc, span)?,
+        name: String::from_str(alloc, name)?,
+        moment,
+    }))
+}
+
+/// The fields of `child SPAN PARENT NAME MOMENT`.
+fn child_of(alloc: Global, fields: &str) -> Result<Option<Command>, AllocError>
+    ensures { IfOk result (FieldsGive (codes "child") fields.now) }
+{
+    let Some((span, rest)) = first_field(fields) else {
+        return Ok(None);
+    };
+    let Some((parent, name, moment)) = two_fields_and_moment(rest) else {
+        return Ok(None);
+    };
+    Ok(Some(Command::Child {
+        span: String::from_str(alloc, span)?,
+        parent: String::from_str(alloc, parent)?,
         name: String::from_str(alloc, name)?,
         moment,
     }))
@@ -107,14 +156,41 @@ fn attr_of(alloc: Global, fields: &str) -> Result<Option<Command>, AllocError>
     }))
 }
 
+/// The fields of `event SPAN NAME MOMENT`.
+fn event_of(alloc: Global, fields: &str) -> Result<Option<Command>, AllocError>
+    ensures { IfOk result (FieldsGive (codes "event") fields.now) }
+{
+    let Some((span, name, moment)) = two_fields_and_moment(fields) else {
+        return Ok(None);
+    };
+    Ok(Some(Command::Event {
+        span: String::from_str(alloc, span)?,
+        name: String::from_str(alloc, name)?,
+        moment,
+    }))
+}
+
+/// The fields of `status SPAN STATUS`.
+fn status_of(alloc: Global, fields: &str) -> Result<Option<Command>, AllocError>
+    ensures { IfOk result (FieldsGive (codes "status") fields.now) }
+{
+    let Some((span, rest)) = first_field(fields) else {
+        return Ok(None);
+    };
+    let Some(status) = read_status(alloc, rest)? else {
+        return Ok(None);
+    };
+    Ok(Some(Command::Status {
+        span: String::from_str(alloc, span)?,
+        status,
+    }))
+}
+
 /// The fields of `end SPAN MOMENT`.
 fn end_of(alloc: Global, fields: &str) -> Result<Option<Command>, AllocError>
     ensures { IfOk result (FieldsGive (codes "end") fields.now) }
 {
-    let Some((span, digits)) = first_field(fields) else {
-        return Ok(None);
-    };
-    let Some(moment) = moment_of(digits) else {
+    let Some((span, moment)) = field_and_moment(fields) else {
         return Ok(None);
     };
     Ok(Some(Command::End {
@@ -123,10 +199,50 @@ fn end_of(alloc: Global, fields: &str) -> Result<Option<Command>, AllocError>
     }))
 }
 
+/// Two fields and the moment behind them; none where anything else stands there.
+fn two_fields_and_moment(text: &str) -> Option<(&str, &str, Moment)>
+    ensures { MatchOption result
+        ((first second : List ℕ) (moment : ℕ) → IsOfForm text.now (field first (field second (time moment))) → ⊥)
+        (λ parts. IsOfForm text.now (field parts.0.now (field parts.1.now (time parts.2.0)))) }
+{
+    let (first, rest) = first_field(text)?;
+    let (second, moment) = field_and_moment(rest)?;
+    Some((first, second, moment))
+}
+
+/// A field and the moment behind it; none where anything else stands there.
+fn field_and_moment(text: &str) -> Option<(&str, Moment)>
+    ensures { MatchOption result
+        ((first : List ℕ) (moment : ℕ) → IsOfForm text.now (field first (time moment)) → ⊥)
+        (λ parts. IsOfForm text.now (field parts.0.now (time parts.1.0))) }
+{
+    let (first, digits) = first_field(text)?;
+    let moment = moment_of(digits)?;
+    Some((first, moment))
+}
+
+/// The status that a text spells: `ok`, or `error`, a space and the description, maybe empty or with spaces in it.
+fn read_status(alloc: Global, text: &str) -> Result<Option<Status>, AllocError>
+    ensures { IfOk result (StatusGives text.now) }
+{
+    if text == "ok" {
+        return Ok(Some(Status::Ok));
+    }
+    let Some((word, description)) = first_field(text) else {
+        return Ok(None);
+    };
+    if word != "error" {
+        return Ok(None);
+    }
+    Ok(Some(Status::Error {
+        description: String::from_str(alloc, description)?,
+    }))
+}
+
 /// The first field of a text and what stands behind the space that ends it; none where no field ends in a space.
 fn first_field(text: &str) -> Option<(&str, &str)>
     ensures { MatchOption result
-        ((field rest : List ℕ) → IsField field → text.now ≡ field ++ 32 ∷ rest → ⊥)
+        ((front rest : List ℕ) → IsField front → text.now ≡ front ++ 32 ∷ rest → ⊥)
         (λ parts. IsField parts.0.now × (text.now ≡ parts.0.now ++ 32 ∷ parts.1.now)) }
 {
     let (field, rest) = text.split_once(' ')?;

@@ -2,12 +2,20 @@ use super::*;
 use std::test::Fail;
 
 /// What a line is, its bytes, and whether it reads.
-const LINES: [(&str, &[u8], bool); 27] = [
+const LINES: [(&str, &[u8], bool); 51] = [
     ("a start", b"start s GET 1000", true),
+    ("a child", b"child c s db 1100", true),
     ("an attribute", b"attr s route /home", true),
     ("a value with spaces", b"attr s k  a b ", true),
     ("an empty value", b"attr s k ", true),
+    ("an event", b"event c row 1200", true),
+    ("a status", b"status c ok", true),
+    ("an error", b"status c error b", true),
+    ("an error with spaces", b"status c error  no row ", true),
+    ("an error with an empty text", b"status c error ", true),
     ("an end", b"end s 1300", true),
+    ("a flush", b"flush", true),
+    ("a shutdown", b"shutdown", true),
     ("leading zeros", b"end s 0007", true),
     ("the largest moment", b"end s 18446744073709551615", true),
     (
@@ -31,6 +39,22 @@ const LINES: [(&str, &[u8], bool); 27] = [
     ("an empty key", b"attr s  v", false),
     ("a name with a space", b"start s a b 7", false),
     ("a start with no name", b"start s 7", false),
+    ("a child with no parent", b"child c db 1100", false),
+    ("a child with no moment", b"child c s db", false),
+    ("an event with no moment", b"event s row", false),
+    ("an event at a word", b"event s n x", false),
+    ("an error with no text's space", b"status s error", false),
+    ("a status that no line sets", b"status s unset", false),
+    ("a status and more", b"status s ok ", false),
+    ("a status of another case", b"status s Ok", false),
+    ("an empty status", b"status s ", false),
+    ("no status", b"status s", false),
+    ("a flush and more", b"flush x", false),
+    ("a flush and a space", b"flush ", false),
+    ("a space in front of a flush", b" flush", false),
+    ("a shutdown and more", b"shutdown 7", false),
+    ("a shutdown and a space", b"shutdown ", false),
+    ("an unknown word alone", b"stop", false),
     ("a word of another case", b"End s 7", false),
     ("an unknown word", b"stop s 7", false),
     ("a word alone", b"end", false),
@@ -46,7 +70,7 @@ fn lines_read_or_are_bad(rt: HostRuntime) -> Result<(), Fail> {
 }
 
 /// What a text is, its bytes, how many commands it spells, and its first bad line.
-const TEXTS: [(&str, &[u8], usize, Option<u64>); 10] = [
+const TEXTS: [(&str, &[u8], usize, Option<u64>); 12] = [
     ("nothing", b"", 0, None),
     ("empty lines", b"\n\r\n\n", 0, None),
     ("a last line without its end", b"end s 1\nend s 2", 2, None),
@@ -54,6 +78,18 @@ const TEXTS: [(&str, &[u8], usize, Option<u64>); 10] = [
         "a carriage return before the line feed",
         b"end s 1\r\nend s 2\r\n",
         2,
+        None,
+    ),
+    (
+        "a carriage return behind a word alone",
+        b"flush\r\nshutdown\r\n",
+        2,
+        None,
+    ),
+    (
+        "each kind of line",
+        b"start s a 1\nchild c s b 2\nattr c k v\nevent c e 3\nstatus c error x\nend c 4\nflush\nshutdown\n",
+        8,
         None,
     ),
     (
