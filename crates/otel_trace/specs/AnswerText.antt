@@ -4,7 +4,8 @@ use Rattle.std.specs.List.{flat_map}
 use Rattle.otel_trace.specs.PlainReply.{PlainReply}
 use Rattle.otel_trace.specs.declared.reply.Answer.{Answer}
 use Rattle.otel_trace.specs.declared.reply.Answer.TheVariants as answers
-use Rattle.otel_trace.specs.ReplyText.{span_lines, started_line, dropped_line, ok_line, ignored_line, no_such_span_line, span_exists_line, ended_line}
+use Rattle.otel_base.specs.ErrorText.{error_text}
+use Rattle.otel_trace.specs.ReplyText.{line, span_lines, started_line, dropped_line, ok_line, ignored_line, no_such_span_line, span_exists_line, ended_line}
 
 -- the line of an answer
 abbrev pub answer_line : Answer → List ℕ
@@ -15,6 +16,7 @@ answer_line answers.Ignored = ignored_line
 answer_line answers.NoSuchSpan = no_such_span_line
 answer_line answers.SpanExists = span_exists_line
 answer_line (answers.Ended refused) = ended_line
+answer_line (answers.Failed error) = line (error_text error)
 
 -- the lines of a reply: those of the exported spans, then the answer's
 abbrev pub reply_text : PlainReply → List ℕ

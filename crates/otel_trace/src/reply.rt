@@ -4,6 +4,7 @@ ghost use Rattle.std.specs.Prelude.{◌≡◌};
 ghost use Rattle.otel_trace.specs.PlainReply.{counts_refusals};
 
 use opentelemetry::{SpanId, TraceFlags, TraceId};
+use otel_base::error::OTelSdkError;
 use otel_batch::trace::SpanData;
 use std::marker::Model;
 
@@ -16,7 +17,7 @@ pub struct SpanIdentity {
 }
 
 /// The answer to a command.
-#[derive(Clone, Copy, Debug, PartialEq, Eq)]
+#[derive(Debug, Drop, PartialEq, Eq)]
 pub enum Answer {
     /// The new span is recording.
     Started(SpanIdentity),
@@ -32,6 +33,8 @@ pub enum Answer {
     SpanExists,
     /// The span has ended, and so many processors refused it for want of memory.
     Ended(usize),
+    /// The flush or the shutdown of the provider failed.
+    Failed(OTelSdkError),
 }
 
 impl Answer {

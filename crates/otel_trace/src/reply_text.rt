@@ -223,6 +223,7 @@ fn push_answer(text: &mut String, answer: Answer) -> Result<(), AllocError>
         Answer::NoSuchSpan => text.push_str("no such span\n"),
         Answer::SpanExists => text.push_str("span exists\n"),
         Answer::Ended(_) => text.push_str("ended\n"),
+        Answer::Failed(error) => writeln!(text, "{error}"),
     }
 }
 
@@ -285,6 +286,7 @@ mod tests {
     use crate::reply::SpanIdentity;
     use opentelemetry::trace::{SpanContext, SpanKind, TraceState};
     use opentelemetry::{InstrumentationScope, Key, Moment, Value};
+    use otel_base::error::OTelSdkError;
     use std::test::Fail;
 
     const TRACE: u128 = 0x5c0fdf91ec9a7bfc61da6f3dc380d507;
@@ -384,6 +386,8 @@ ok
 ignored
 no such span
 span exists
+Shutdown already invoked
+Operation failed: errs: 1
 span 5c0fdf91ec9a7bfc61da6f3dc380d507 02eebf8c3bbe5e1a 53175d61490b23df 01 1100 1300 db error(b) attrs [] 0 events [row@1200] 0 links 0 0
 span 5c0fdf91ec9a7bfc61da6f3dc380d507 02eebf8c3bbe5e1a 0000000000000000 01 1000 2000 GET ok attrs [n=-1,http.method=GET] 2 events [a@1,b@2] 3 links 0 4
 ended
@@ -421,6 +425,8 @@ ended
             Answer::Ignored,
             Answer::NoSuchSpan,
             Answer::SpanExists,
+            Answer::Failed(OTelSdkError::AlreadyShutdown),
+            Answer::Failed(OTelSdkError::InternalFailure(String::from_str(rt.alloc(), "errs: 1")?)),
         ] {
             write_reply(&mut text, &mut out, &[], answer)?;
         }
