@@ -18,7 +18,7 @@ use Rattle.opentelemetry_sdk.specs.Starting.{Starts}
 use Rattle.opentelemetry_sdk.specs.Ending.{Delivers, end_delivers}
 use Rattle.opentelemetry_sdk.specs.declared.trace.span_processor.SpanProcessor.{Ghosts}
 use Rattle.otel_trace.specs.declared.exported.KeepsBatches as keeping
-use Rattle.otel_trace.specs.Commands.{PlainCommand, start, attr, end, plain_command, plain_commands}
+use Rattle.otel_trace.specs.Commands.{PlainCommand, start, child, attr, event, status, end, flush, shutdown, plain_command, plain_commands}
 use Rattle.otel_trace.specs.KeptBatches.{Appends}
 use Rattle.otel_trace.specs.OpenSpans.{NamedSpans, SameSpans, MayStart, named, is_name, start_answer}
 use Rattle.otel_trace.specs.AnswerText.{replies_text}
@@ -139,6 +139,12 @@ module _ {P S G : Type 0} (calls : Ghosts P) (sampler : sampling.Ghosts S) (ids 
   Demands scope old (attr span key value) answer ds new =
       EditDemands old span (set_attribute (record { key = key; value = text value })) (old.histories span) answer ds new
   Demands scope old (end span moment) answer ds new = EndDemands old span moment (old.histories span) answer ds new
+  -- lead
+  Demands scope old (child span parent name moment) answer ds new = ⊥
+  Demands scope old (event span name moment) answer ds new = ⊥
+  Demands scope old (status span how) answer ds new = ⊥
+  Demands scope old flush answer ds new = ⊥
+  Demands scope old shutdown answer ds new = ⊥
 
   -- one command was carried out on the spans of a session, as it demands of the histories that they had, and each
   -- processor follows what was delivered
@@ -164,6 +170,12 @@ module _ {P S G : Type 0} (calls : Ghosts P) (sampler : sampling.Ghosts S) (ids 
   MayAsk scope p (start span name moment) q = MayStart calls sampler ids p scope name moment q
   MayAsk scope p (attr span key value) q = q ≡ p
   MayAsk scope p (end span moment) q = q ≡ p
+  -- lead
+  MayAsk scope p (child span parent name moment) q = q ≡ p
+  MayAsk scope p (event span name moment) q = q ≡ p
+  MayAsk scope p (status span how) q = q ≡ p
+  MayAsk scope p flush q = q ≡ p
+  MayAsk scope p shutdown q = q ≡ p
 
   -- a command was not carried out: each name has the span that it had, and each processor tells what it told
   pub record RefusesOne (scope : PlainScope) (p : ProviderState P S G) (old : NamedSpans) (command : PlainCommand)

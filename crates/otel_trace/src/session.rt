@@ -360,6 +360,8 @@ fn carry_out<P: KeepsBatches, S: ShouldSample, G: IdGenerator>(
         Command::Start { span, name, moment } => spans.start(span, tracer, provider, name, moment),
         Command::Attr { span, key, value } => spans.edit(span.as_str(), text_attribute(key, value)),
         Command::End { span, moment } => spans.end(span.as_str(), provider, moment),
+        // lead: not carried out yet
+        _ => Err(AllocError),
     }
 }
 
