@@ -219,7 +219,7 @@ fn finished(alloc: Global, provider: &mut TestProvider) -> Result<usize, AllocEr
 }
 
 fn edit_by_each_call(alloc: Global, span: &mut Span) -> Result<(), AllocError> {
-    span.set_attribute(KeyValue::new(Key::new(String::from_str(alloc, "k")?), Value::I64(3)))?;
+    span.set_attribute(KeyValue::new(Key::from_static_str("k"), Value::I64(3)))?;
     span.add_event_with_timestamp(String::from_str(alloc, "row")?, Moment(8), Vec::new(alloc))?;
     span.add_link(SpanContext::empty_context(), attributes(alloc, b'a', 2)?)?;
     span.set_status(error_of(alloc, "lost")?)?;

@@ -22,7 +22,7 @@ impl Stamping {
     fn stamp(&self, span: &mut Span) -> Result<(), AllocError>
         ensures { IsEdited span.old span.new }
     {
-        let key = Key::new(String::from_str(self.alloc, "stamp")?);
+        let key = Key::from_static_str("stamp");
         span.set_attribute(KeyValue::new(key, Value::Bool(true)))
     }
 }
@@ -134,7 +134,7 @@ fn ended_twice(alloc: Global, provider: &mut TestProvider) -> Result<Ended, Allo
     let tracer = provider.tracer(String::new(alloc))?;
     let mut attributes = Vec::new(alloc);
     attributes.push(KeyValue::new(
-        Key::new(String::from_str(alloc, "given")?),
+        Key::from_static_str("given"),
         Value::Bool(true),
     ))?;
     let builder = tracer
