@@ -4,3 +4,4 @@ pub mod StoredBatches
 pub mod ExporterKinds
 pub mod RestsOr
 pub mod Telling
+pub mod PlainBatchConfig
