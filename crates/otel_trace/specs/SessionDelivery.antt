@@ -10,9 +10,8 @@ use Rattle.otel_base.specs.declared.error.OTelSdkError.{OTelSdkError}
 use Rattle.otel_base.specs.declared.error.OTelSdkError.TheVariants as errors
 use Rattle.otel_base.specs.declared.trace.sampler.ShouldSample as sampling
 use Rattle.otel_base.specs.declared.trace.id_generator.IdGenerator as drawing
-use Rattle.otel_batch.specs.PlainSpanData.{PlainSpanData}
+use Rattle.otel_batch.specs.PlainSpanData.{PlainSpanData, spans_in}
 use Rattle.opentelemetry_sdk.specs.SpanHistory.{SpanHistory, begun, over, SpanStart, Edit, set_attribute, add_event, set_status, data_of, span_of}
-use Rattle.opentelemetry_sdk.specs.ProcessorTelling.{spans_in}
 use Rattle.opentelemetry_sdk.specs.Deliveries.{Delivery, EachFollows}
 use Rattle.opentelemetry_sdk.specs.Provider.{Flushes, ProviderState, ShutsDown}
 use Rattle.opentelemetry_sdk.specs.Starting.{Starts, root_cx}
