@@ -1,6 +1,11 @@
 pub mod AttributeLemmas
 pub mod AttributesStringLemmas
+pub mod BaggageBounds
+pub mod BaggageNames
+pub mod BaggagePieceLemmas
+pub mod BaggageTextLemmas
 pub mod Behind
 pub mod DetectedLemmas
 pub mod FractionLemmas
 pub mod SameLemmas
+pub mod TrimLemmas
