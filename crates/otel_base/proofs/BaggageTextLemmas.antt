@@ -37,7 +37,7 @@ pub not_out_of_memory : (e : DecodeError) (fault : Utf8Error) → e ≡ Utf8 fau
 not_out_of_memory e fault is other = let both : Utf8 fault ≡ OutOfMemory = sym is ∙ other in cc
 
 -- the bytes that a header escapes are those of the set
-needs_escape_is : (b : ℕ) → should_percent_encode ESCAPED b ≡ needs_escape b
+pub needs_escape_is : (b : ℕ) → should_percent_encode ESCAPED b ≡ needs_escape b
 unfolding should_percent_encode
 needs_escape_is b = ⊎_elim (λ low. agree_below_at (should_percent_encode ESCAPED) needs_escape 128 b refl low) (λ high. grind (arith, nat_tests)) (cases_lt b 128)
 

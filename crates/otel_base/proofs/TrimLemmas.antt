@@ -10,7 +10,7 @@ use Rattle.std.proofs.lemmas.Str.{chars-encodes, encodes-chars, scalars-chars}
 abbrev pub trimmed_chars : List ℕ → List ℕ
 trimmed_chars cs = drop_trailing_whitespace (skip_leading_whitespace cs)
 
-second_true : (a b : Bool) → (a && b) ≡ true → b ≡ true
+pub second_true : (a b : Bool) → (a && b) ≡ true → b ≡ true
 second_true true b is = is
 second_true false b is = absurd (cc)
 

@@ -1,6 +1,6 @@
 -- The header of a baggage (W3C Baggage, section 3.3): members `name=value` between commas, each with properties behind
 -- semicolons. Names and values are percent-encoded, and white space around them and around properties says nothing.
-use Rattle.std.specs.Prelude.{◌≡◌, ◌≢◌, ℕ, Bool, not, ◌||◌, ◌==◌, nat_lt, nat_le, List, [], ◌∷◌, ◌++◌}
+use Rattle.std.specs.Prelude.{◌≡◌, ◌≢◌, ◌≤◌, ℕ, Bool, not, ◌||◌, ◌==◌, nat_lt, nat_le, List, [], ◌∷◌, ◌++◌}
 use Rattle.std.specs.Prelude.{Option, None, Some, All, IsUtf8, length, take, map, codes, unwrap_or, if◌then◌else◌}
 use Rattle.std.specs.Prelude.{Result, OnOk, OnErr, IsOk}
 use Rattle.std.specs.List.{filter, filter_map, flat_map, join_with_byte, slice_split}
@@ -133,3 +133,13 @@ pub record IsSaidUnchanged (e : PlainBaggageEntry) : Type 0 where
   pub parts : All (λ part. trim part ≡ part) (pieces_at semicolon e.metadata)
   pub no_comma : HasNo comma e.metadata
   pub no_percent : HasNo percent_sign e.metadata
+
+-- a baggage that a header carries unchanged: not empty, each entry said unchanged, in a header short enough to be read
+pub record IsCarriedUnchanged (es : PlainBaggage) : Type 0 where
+  pub some : es ≢ []
+  pub entries : All IsSaidUnchanged es
+  pub short : length (header_of es) ≤ 8192
+
+-- whatever is extracted from the texts has this baggage
+abbrev pub Carries : Texts → PlainBaggage → Type 0
+Carries texts es = (cx found : PlainContext) → ExtractsBaggage cx texts found → found.baggage ≡ es

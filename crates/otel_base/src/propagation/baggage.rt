@@ -1,16 +1,15 @@
 //! The baggage of a context as the header `baggage` (W3C Baggage). A program hands a `BaggagePropagator` the context and
 //! a carrier on each side of a call: what one side sets, the other reads back, in order.
 
-ghost use Rattle.std.specs.Prelude.{◌≡◌, ◌≢◌, ◌≤◌, [], ◌∷◌, length, OnOk, IfOk, All};
-ghost use Rattle.opentelemetry.specs.Plain.{PlainContext};
-ghost use Rattle.otel_base.specs.BaggageHeader.{baggage_field, header_of, IsSaidUnchanged, InjectsBaggage};
-ghost use Rattle.otel_base.specs.BaggageHeader.{ExtractsBaggage};
+ghost use Rattle.std.specs.Prelude.{OnOk};
+ghost use Rattle.otel_base.specs.BaggageHeader.{Carries, InjectsBaggage, IsCarriedUnchanged};
 
 mod pieces;
 mod read;
 mod write;
 
 use opentelemetry::Context;
+use opentelemetry::laws::baggages_keep_their_limits;
 use opentelemetry::propagation::{Extractor, FieldIter, Injector, TextMapPropagator};
 use std::alloc::{AllocError, Global};
 
@@ -43,15 +42,16 @@ impl TextMapPropagator for BaggagePropagator {
     ghost field_names = { λ _. baggage_field ∷ [] };
 
     /// Sets the header, unless the baggage is empty. The whole text is made before it is set.
-    fn inject_context<I: Injector>(
-        &self,
-        cx: &Context,
-        injector: &mut I,
-    ) -> Result<(), AllocError> {
+    fn inject_context<I: Injector>(&self, cx: &Context, injector: &mut I) -> Result<(), AllocError>
+        ensures injects { InjectsBaggage cx.now (I.texts injector.old) result (I.texts injector.new) }
+        ensures carried { OnOk result
+            (IsCarriedUnchanged cx.now.baggage → Carries (I.texts injector.new) cx.now.baggage) }
+    {
         let baggage = cx.baggage();
         if baggage.is_empty() {
             return Ok(());
         }
+        baggages_keep_their_limits(baggage);
         let header = write::header_of(self.alloc, baggage)?;
         injector.set(BAGGAGE_HEADER, header)
     }
