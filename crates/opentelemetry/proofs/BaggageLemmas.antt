@@ -3,13 +3,14 @@ use Rattle.std.proofs.Common.{◌≡◌, ◌≢◌, ℕ, ◌+◌, ◌-◌, ◌<�
 use Rattle.std.specs.Option.{option_map, option_map_or}
 use Rattle.std.specs.Str.{bytes_eq}
 use Rattle.std.specs.String.{string_eq}
-use Rattle.std.specs.Map.{lookup, remove_entry, keys_of}
+use Rattle.std.specs.Map.{lookup, set_value, remove_entry, keys_of}
 use Rattle.std.specs.List.{AllByRecursion, IsDistinct, AllZip}
+use Rattle.std.proofs.lemmas.Bool.{cases_lt}
 use Rattle.std.proofs.lemmas.Map.Keys.{IsDistinct-head, IsDistinct-tail}
 use Rattle.std.proofs.lemmas.List.Sums.{sum_by-cons}
 use Rattle.std.proofs.lemmas.Slice.Eq.{bytes_eq-Decides}
 use Rattle.indexmap.specs.IndexMap.{insert_entry}
-use Rattle.opentelemetry.specs.Baggage.{PlainBaggageEntry, PlainBaggage, value_and_metadata, found_at, found_bytes, entry_bytes, baggage_bytes, entry_at, with_entry, without_entry, plain_entry, plain_entries, HasNames, IsFreeName, HasDistinctNames, BreaksLimit, IsWithinLimits}
+use Rattle.opentelemetry.specs.Baggage.{PlainBaggageEntry, PlainBaggage, value_and_metadata, found_at, found_bytes, entry_bytes, baggage_bytes, entry_at, with_entry, without_entry, plain_entry, plain_entries, HasNames, IsFreeName, HasDistinctNames, BreaksLimit, IsWithinLimits, entry_of}
 
 same_name : (a b : List ℕ) → bytes_eq a b ≡ true → b ≡ a
 same_name a b h = sym ((bytes_eq-Decides a b).0 h)
@@ -23,6 +24,24 @@ plain-insert_entry {Y} {Z} (e ∷ es) k v = by (bytes_eq (string_bytes k) (strin
         → plain_entries (cond b ((e.0, v) ∷ es) (e ∷ insert_entry string_eq es k v)) ≡ cond b (plain_entry (k, v) ∷ plain_entries es) (plain_entry e ∷ with_entry (plain_entries es) (plain_entry (k, v)))
     by true h rest = let same : string_bytes e.0 ≡ string_bytes k = same_name _ _ h in ap (λ (name : List ℕ). record { key = name; value = string_bytes v.0; metadata = v.1 } ∷ plain_entries es) same
     by false h rest = ap (λ (others : PlainBaggage). plain_entry e ∷ others) rest
+
+-- another value for a name that the map has
+pub plain-set_value : {Y Z : Type 0} (es : List (String Y × (String Z × List ℕ))) (name : List ℕ) (old v : String Z × List ℕ) → lookup (λ k. bytes_eq name (string_bytes k)) es ≡ Some old
+    → plain_entries (set_value (λ k. bytes_eq name (string_bytes k)) es v) ≡ with_entry (plain_entries es) (entry_of name (string_bytes v.0) v.1)
+plain-set_value [] name old v found = absurd cc
+plain-set_value {Y} {Z} (e ∷ es) name old v found = by (bytes_eq name (string_bytes e.0)) refl found (plain-set_value es name old v)
+  where
+    others : List (String Y × (String Z × List ℕ))
+    others = set_value (λ k. bytes_eq name (string_bytes k)) es v
+
+    new : PlainBaggageEntry
+    new = entry_of name (string_bytes v.0) v.1
+
+    by : (b : Bool) → bytes_eq name (string_bytes e.0) ≡ b → cond b (Some e.1) (lookup (λ k. bytes_eq name (string_bytes k)) es) ≡ Some old
+        → (lookup (λ k. bytes_eq name (string_bytes k)) es ≡ Some old → plain_entries others ≡ with_entry (plain_entries es) new)
+        → plain_entries (cond b ((e.0, v) ∷ es) (e ∷ others)) ≡ cond b (new ∷ plain_entries es) (plain_entry e ∷ with_entry (plain_entries es) new)
+    by true h is rest = let same : string_bytes e.0 ≡ name = same_name _ _ h in ap (λ (n : List ℕ). entry_of n (string_bytes v.0) v.1 ∷ plain_entries es) same
+    by false h is rest = ap (λ (all : PlainBaggage). plain_entry e ∷ all) (rest is)
 
 -- the value under a name
 pub lookup_at : {Y Z : Type 0} (es : List (String Y × (String Z × List ℕ))) (name : List ℕ) → option_map value_and_metadata (entry_at (plain_entries es) name) ≡ option_map (λ v. (string_bytes v.0, v.1)) (lookup (λ k. bytes_eq name (string_bytes k)) es)
@@ -47,10 +66,6 @@ entry_at-bytes (e ∷ es) name = by (bytes_eq name e.key) refl (entry_at-bytes e
 -- the bytes under a name, from what the map has there
 pub bytes_at-Some : {Y Z : Type 0} (es : List (String Y × (String Z × List ℕ))) (name : List ℕ) (v : String Z × List ℕ) → lookup (λ k. bytes_eq name (string_bytes k)) es ≡ Some v → option_map entry_bytes (entry_at (plain_entries es) name) ≡ Some (length name + length (string_bytes v.0) + length v.1)
 bytes_at-Some {Y} {Z} es name v h =
-    entry_at-bytes (plain_entries es) name ∙ ap (option_map (λ (p : List ℕ × List ℕ). length name + length p.0 + length p.1)) (lookup_at es name ∙ ap (option_map (λ (w : String Z × List ℕ). (string_bytes w.0, w.1))) h)
-
-pub bytes_at-None : {Y Z : Type 0} (es : List (String Y × (String Z × List ℕ))) (name : List ℕ) → lookup (λ k. bytes_eq name (string_bytes k)) es ≡ None → option_map entry_bytes (entry_at (plain_entries es) name) ≡ None
-bytes_at-None {Y} {Z} es name h =
     entry_at-bytes (plain_entries es) name ∙ ap (option_map (λ (p : List ℕ × List ℕ). length name + length p.0 + length p.1)) (lookup_at es name ∙ ap (option_map (λ (w : String Z × List ℕ). (string_bytes w.0, w.1))) h)
 
 -- no entry counts for more than all do
@@ -106,17 +121,6 @@ HasNames-without_entry (e ∷ es) name all =
     let rest = HasNames-without_entry es name all.1 in
     elim (bytes_eq name e.key) as (λ b. HasNames (cond b es (e ∷ without_entry es name))) [ true ↦ all.1 | false ↦ (all.0, rest) ]
 
-mapped_or : {A : Type 0} (f : A → ℕ) (o : Option A) (n : ℕ) → option_map f o ≡ Some n → option_map_or f o 0 ≡ n
-mapped_or f None n h = cc
-mapped_or f (Some x) n h = cc
-
--- no entry that the map has counts for more than all do
-pub bytes-le : {Y Z : Type 0} (es : List (String Y × (String Z × List ℕ))) (name : List ℕ) (v : String Z × List ℕ) → lookup (λ k. bytes_eq name (string_bytes k)) es ≡ Some v → length name + length (string_bytes v.0) + length v.1 ≤ baggage_bytes (plain_entries es)
-bytes-le es name v h =
-    let is = mapped_or entry_bytes (entry_at (plain_entries es) name) _ (bytes_at-Some es name v h) in
-    let small = bytes_at-le (plain_entries es) name in
-    omega arith
-
 pub unwrap_or-mapped : {A : Type 0} (f : A → ℕ) (o : Option A) → unwrap_or (option_map f o) 0 ≡ option_map_or f o 0
 unwrap_or-mapped f None = refl
 unwrap_or-mapped f (Some x) = refl
@@ -125,10 +129,6 @@ unwrap_or-mapped f (Some x) = refl
 pub is_some-entry_at : {Y Z : Type 0} (es : List (String Y × (String Z × List ℕ))) (name : List ℕ) → is_some (entry_at (plain_entries es) name) ≡ is_some (lookup (λ k. bytes_eq name (string_bytes k)) es)
 is_some-entry_at [] name = refl
 is_some-entry_at (e ∷ es) name = elim (bytes_eq name (string_bytes e.0)) as (λ b. is_some (cond b (Some (plain_entry e)) (entry_at (plain_entries es) name)) ≡ is_some (cond b (Some e.1) (lookup (λ k. bytes_eq name (string_bytes k)) es))) [ true ↦ refl | false ↦ is_some-entry_at es name ]
-
-pub length-plain_entries : {Y Z : Type 0} (es : List (String Y × (String Z × List ℕ))) → length (plain_entries es) ≡ length es
-length-plain_entries [] = refl
-length-plain_entries (e ∷ es) = let rest = length-plain_entries es in omega arith
 
 -- what a baggage may take leaves it within the limits
 pub IsWithinLimits-with_entry : (es : PlainBaggage) (new : PlainBaggageEntry) → ¬ (BreaksLimit es new) → HasNames es → IsWithinLimits (with_entry es new)
@@ -174,23 +174,16 @@ no_entry_at {Y} {Z} es name h = none_from (entry_at (plain_entries es) name) (is
     none_from (Some x) e = absurd cc
 
 -- the bytes under a name, by what was found there
-pub found_bytes-entry_at : (es : PlainBaggage) (name : List ℕ) → found_bytes name (found_at es name) ≡ option_map_or entry_bytes (entry_at es name) 0
+pub found_bytes-entry_at : (es : PlainBaggage) (name : List ℕ) → found_bytes (length name) (found_at es name) ≡ option_map_or entry_bytes (entry_at es name) 0
 found_bytes-entry_at es name =
     sym (unwrap_or-mapped (λ (p : List ℕ × List ℕ). length name + length p.0 + length p.1) (found_at es name))
     ∙ sym (ap (λ o. unwrap_or o 0) (entry_at-bytes es name)) ∙ unwrap_or-mapped entry_bytes (entry_at es name)
 
-is_some-mapped : {A X : Type 0} (f : A → X) (o : Option A) → is_some (option_map f o) ≡ is_some o
+pub is_some-mapped : {A X : Type 0} (f : A → X) (o : Option A) → is_some (option_map f o) ≡ is_some o
 is_some-mapped f None = refl
 is_some-mapped f (Some x) = refl
 
 module _ (es : PlainBaggage) (new : PlainBaggageEntry) where
-  -- a new name breaks the limit of a full baggage
-  pub full_breaks : is_some (option_map entry_bytes (entry_at es new.key)) ≡ false → 64 ≤ length es → BreaksLimit es new
-  full_breaks absent full =
-      let count = length-with_entry es new in
-      let one : cond {A = ℕ} (is_some (entry_at es new.key)) 0 1 ≡ 1 = ap (λ b. cond b 0 1) (sym (is_some-mapped entry_bytes (entry_at es new.key)) ∙ absent) in
-      inr (inl (omega arith))
-
   -- a name that stands there breaks no limit of entries, nor does a new one where there is room
   pub few_keeps : length es ≤ 64 → (is_some (option_map entry_bytes (entry_at es new.key)) ≡ true) ⊎ (length es < 64) → length (with_entry es new) ≤ 64
   few_keeps few (inl there) =
@@ -217,3 +210,37 @@ module _ (es : PlainBaggage) (new : PlainBaggageEntry) where
   breaks_none some few small (inl none) = some none
   breaks_none some few small (inr (inl many)) = omega arith
   breaks_none some few small (inr (inr large)) = omega arith
+
+  -- an entry for which there is room breaks no limit, whatever its name
+  pub room_breaks_none : new.key ≢ [] → length es < 64 → baggage_bytes es + entry_bytes new ≤ 8192 → ¬ (BreaksLimit es new)
+  room_breaks_none some few small =
+      let all = baggage_bytes-with_entry es new in
+      breaks_none some (few_keeps (omega arith) (inr few)) (omega arith)
+
+  -- a new name for which there is no room breaks a limit
+  pub no_room_breaks : entry_at es new.key ≡ None → (length es < 64 → baggage_bytes es + entry_bytes new ≤ 8192 → ⊥) → BreaksLimit es new
+  no_room_breaks absent full =
+      let count : length (with_entry es new) ≡ length es + 1 = length-with_entry es new ∙ ap (λ (o : Option PlainBaggageEntry). length es + cond (is_some o) 0 1) absent in
+      let bytes : baggage_bytes (with_entry es new) + 0 ≡ baggage_bytes es + entry_bytes new = ap (λ (o : Option PlainBaggageEntry). baggage_bytes (with_entry es new) + option_map_or entry_bytes o 0) (sym absent) ∙ baggage_bytes-with_entry es new in
+      by count bytes (cases_lt (length es) 64) (cases_lt 8192 (baggage_bytes es + entry_bytes new))
+    where
+      by : length (with_entry es new) ≡ length es + 1 → baggage_bytes (with_entry es new) + 0 ≡ baggage_bytes es + entry_bytes new → (length es < 64) ⊎ (64 ≤ length es) → (8192 < baggage_bytes es + entry_bytes new) ⊎ (baggage_bytes es + entry_bytes new ≤ 8192) → BreaksLimit es new
+      by count bytes (inl few) (inl large) = inr (inr (omega arith))
+      by count bytes (inl few) (inr small) = absurd (full few small)
+      by count bytes (inr many) size = inr (inl (omega arith))
+
+  -- an entry in the place of one of its name breaks no limit but that of bytes
+  pub replaced_breaks_none : new.key ≢ [] → length es ≤ 64 → is_some (entry_at es new.key) ≡ true → ¬ (8192 < baggage_bytes (with_entry es new)) → ¬ (BreaksLimit es new)
+  replaced_breaks_none some few there small (inl none) = some none
+  replaced_breaks_none some few there small (inr (inl many)) =
+      let kept = few_keeps few (inl (is_some-mapped entry_bytes (entry_at es new.key) ∙ there)) in
+      omega arith
+  replaced_breaks_none some few there small (inr (inr large)) = small large
+
+-- what all entries count for where one is put in the place of one that the map has
+pub replaced_bytes : {Y Z : Type 0} (es : List (String Y × (String Z × List ℕ))) (name : List ℕ) (old v : String Z × List ℕ) (bytes : ℕ) → bytes ≡ baggage_bytes (plain_entries es)
+    → lookup (λ k. bytes_eq name (string_bytes k)) es ≡ Some old
+    → (length name + length (string_bytes old.0) + length old.1 ≤ bytes)
+    × (baggage_bytes (with_entry (plain_entries es) (entry_of name (string_bytes v.0) v.1)) ≡ bytes - (length name + length (string_bytes old.0) + length old.1) + entry_bytes (entry_of name (string_bytes v.0) v.1))
+replaced_bytes es name old v bytes counted found =
+    bytes_with_entry (plain_entries es) (entry_of name (string_bytes v.0) v.1) bytes _ counted (ap (λ o. unwrap_or o 0) (sym (bytes_at-Some es name old found)))

@@ -39,9 +39,9 @@ entry_at es name = find (λ e. bytes_eq name e.key) es
 abbrev pub found_at : PlainBaggage → List ℕ → Option (List ℕ × List ℕ)
 found_at es name = option_map value_and_metadata (entry_at es name)
 
--- the bytes that what was found under a name counts for with its name; none where nothing was found
-abbrev pub found_bytes : List ℕ → Option (List ℕ × List ℕ) → ℕ
-found_bytes name found = option_map_or (λ pair. length name + length pair.0 + length pair.1) found 0
+-- the bytes that what was found counts for with a name of this length; none where nothing was found
+abbrev pub found_bytes : ℕ → Option (List ℕ × List ℕ) → ℕ
+found_bytes name_len found = option_map_or (λ pair. name_len + length pair.0 + length pair.1) found 0
 
 -- a value and metadata that were handed out, without where they lie
 abbrev pub handed_out : {Y : Type 0} → Option (String Y × List ℕ) → Option (List ℕ × List ℕ)

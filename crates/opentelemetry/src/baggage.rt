@@ -329,35 +329,14 @@ fn insert_in(
     ensures err { OnErr result (entries_or_none entries.new ≡ entries_or_none entries.old) }
 {
     match entries {
-        Some(kept) => insert_into(kept, name, value, metadata),
+        Some(kept) => kept.insert(name, value, metadata),
         None => {
             let mut kept = Entries::new(*name.allocator());
-            let replaced = insert_into(&mut kept, name, value, metadata)?;
+            let replaced = kept.insert(name, value, metadata)?;
             *entries = Some(kept);
             Ok(replaced)
         }
     }
-}
-
-fn insert_into(
-    entries: &mut Entries,
-    name: String,
-    value: String,
-    metadata: BaggageMetadata,
-) -> Result<Option<(String, BaggageMetadata)>, BaggageError>
-    ensures ok { OnOk result
-        (entries.new ≡ with_entry entries.old (entry_of (string_bytes name) (string_bytes value) metadata)) }
-    ensures replaced { IfOk result (λ old. handed_out old ≡ found_at entries.old (string_bytes name)) }
-    ensures limit { IsErrOf result BaggageError.Limit
-        ↔ BreaksLimit entries.old (entry_of (string_bytes name) (string_bytes value) metadata) }
-    ensures memory { IsErrOf result BaggageError.Memory → entry_at entries.old (string_bytes name) ≡ None }
-    ensures err { OnErr result (entries.new ≡ entries.old) }
-{
-    let Some(after) = entries.bytes_after(&name, &value, &metadata) else {
-        return Err(BaggageError::Limit);
-    };
-    let replaced = entries.put(after, name, value, metadata)?;
-    Ok(replaced)
 }
 
 /// As `Baggage::remove`.

@@ -12,7 +12,7 @@ use Rattle.std.specs.BTreeMap.{BTreeMap}
 use Rattle.std.specs.Arc.{arc_value}
 use Rattle.std.specs.declared.sync.Arc.{Arc}
 use Rattle.opentelemetry.specs.Plain.{PlainValue, boolean, integer, text, booleans, integers, texts, PlainKeyValue}
-use Rattle.opentelemetry.specs.PlainValues.{plain_value}
+use Rattle.opentelemetry.specs.PlainValues.{plain_value, IsScalar}
 use Rattle.opentelemetry.specs.declared.common.Value.{Value}
 
 -- values by the bytes of their keys
@@ -95,9 +95,7 @@ shared_resource (Some shared) = arc_value shared
 -- a copy of this grows nothing: there is no value, or it is a truth or a number
 abbrev pub NeedsNoMemory : Option PlainValue → Type 0
 NeedsNoMemory None = Unit {0}
-NeedsNoMemory (Some (boolean b)) = Unit {0}
-NeedsNoMemory (Some (integer n)) = Unit {0}
-NeedsNoMemory (Some v) = ⊥
+NeedsNoMemory (Some v) = IsScalar v
 
 -- a pair that is pointed to, without where it lies
 abbrev pub shown_pair : Bor (List ℕ) × Bor Value → List ℕ × PlainValue

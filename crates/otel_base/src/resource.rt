@@ -143,12 +143,7 @@ impl Resource {
         ensures value { IfOk result (λ found. option_map plain_value found ≡ fin.get self.now.attributes key.now) }
         ensures free { NeedsNoMemory (fin.get self.now.attributes key.now) → IsOk result }
     {
-        match self.get_ref(key) {
-            Some(Value::Bool(truth)) => Ok(Some(Value::Bool(*truth))),
-            Some(Value::I64(number)) => Ok(Some(Value::I64(*number))),
-            Some(value) => Ok(Some(value.clone()?)),
-            None => Ok(None),
-        }
+        self.get_ref(key).cloned()
     }
 
     /// The key's value.

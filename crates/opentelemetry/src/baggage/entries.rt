@@ -1,17 +1,18 @@
 //! The entries of a baggage in a map that keeps their order, and the number of bytes that they count for.
 
-ghost use Rattle.std.specs.Prelude.{◌≡◌, [], ◌+◌, ◌-◌, ◌^◌, ◌≤◌, ◌↔◌, min, length};
-ghost use Rattle.std.specs.Prelude.{OnOk, OnErr, IfOk, IfSome, IsNone, string_bytes, Some, None};
+ghost use Rattle.std.specs.Prelude.{◌≡◌, ◌≢◌, [], ◌+◌, ◌-◌, ◌^◌, ◌<◌, ◌≤◌, ◌↔◌, ◌⊎◌, min, length, string_bytes, Some, None};
+ghost use Rattle.std.specs.Prelude.{OnOk, OnErr, OnSome, IfNone, IfOk, IfSome, IsErrOf, IsNone, IsTrue};
 ghost use Rattle.std.specs.Option.{option_map};
 ghost use Rattle.opentelemetry.specs.Baggage.{entry_bytes, baggage_bytes, entry_at, entry_of, found_at, found_bytes};
 ghost use Rattle.opentelemetry.specs.Baggage.{handed_out, with_entry, without_entry, plain_entries, BreaksLimit};
 ghost use Rattle.opentelemetry.specs.Baggage.{IsWithinLimits, HasDistinctNames};
 ghost use Rattle.opentelemetry.specs.SameParts.{same_baggage};
 
-use super::BaggageMetadata;
+use super::{BaggageError, BaggageMetadata};
 use indexmap::{IndexMap, map};
 use std::alloc::{AllocError, Global};
 use std::marker::Model;
+use std::mem;
 
 const MAX_ENTRIES: usize = 64;
 
@@ -55,41 +56,95 @@ impl Entries {
         self.alloc
     }
 
-    /// The bytes that stand after this entry was put, or `None` where a limit does not allow it.
-    pub(crate) fn bytes_after(
-        &self,
-        name: &str,
-        value: &str,
-        metadata: &BaggageMetadata,
-    ) -> Option<usize>
-        ensures refused { IsNone result ↔ BreaksLimit self.now (entry_of name.now value.now metadata.now) }
-        ensures allowed { IfSome result (λ after. after
-            ≡ baggage_bytes (with_entry self.now (entry_of name.now value.now metadata.now))) }
+    /// Puts an entry in the place of the one of its name, else last, and gives back what it replaced. `Limit` where a
+    /// limit does not allow it, and only else `Memory`. Only a new name takes memory. The name is looked up once.
+    pub(crate) fn insert(
+        &mut self,
+        name: String,
+        value: String,
+        metadata: BaggageMetadata,
+    ) -> Result<Option<(String, BaggageMetadata)>, BaggageError>
+        ensures ok { OnOk result
+            (self.new ≡ with_entry self.old (entry_of (string_bytes name) (string_bytes value) metadata)) }
+        ensures replaced { IfOk result (λ old. handed_out old ≡ found_at self.old (string_bytes name)) }
+        ensures limit { IsErrOf result BaggageError.Limit
+            ↔ BreaksLimit self.old (entry_of (string_bytes name) (string_bytes value) metadata) }
+        ensures memory { IsErrOf result BaggageError.Memory → entry_at self.old (string_bytes name) ≡ None }
+        ensures err { OnErr result (self.new ≡ self.old) }
     {
-        allowed_bytes(&self.map, self.bytes, name, value, metadata)
+        if name.is_empty() {
+            return Err(BaggageError::Limit);
+        }
+        let added = bytes_of(name.as_str(), value.as_str(), &metadata);
+        if self.has_room(added) {
+            let replaced = self.put(added, name, value, metadata)?;
+            return Ok(replaced);
+        }
+        match self.replace(added, name.as_str(), value, metadata) {
+            Some(replaced) => Ok(Some(replaced)),
+            None => Err(BaggageError::Limit),
+        }
     }
 
-    /// Puts an entry in the place of the one of its name, else last, and gives back what it replaced. `after` is what
-    /// `bytes_after` says of it. Only a new name takes memory.
-    pub(crate) fn put(
+    /// Whether one more entry of so many bytes is within the limits, whatever its name.
+    fn has_room(&self, added: usize) -> bool
+        ensures { IsTrue result ↔ ((length self.now < 64) × (baggage_bytes self.now + added ≤ 8192)) }
+    {
+        added <= MAX_BYTES - self.bytes && self.map.len() < MAX_ENTRIES
+    }
+
+    /// Puts an entry of so many bytes, for which there is room.
+    fn put(
         &mut self,
-        after: usize,
+        added: usize,
         name: String,
         value: String,
         metadata: BaggageMetadata,
     ) -> Result<Option<(String, BaggageMetadata)>, AllocError>
-        requires allowed { ¬ (BreaksLimit self.old (entry_of (string_bytes name) (string_bytes value) metadata)) }
-        requires counted { after
-            ≡ baggage_bytes (with_entry self.old (entry_of (string_bytes name) (string_bytes value) metadata)) }
+        requires named { string_bytes name ≢ [] }
+        requires counted { added ≡ entry_bytes (entry_of (string_bytes name) (string_bytes value) metadata) }
+        requires few { length self.old < 64 }
+        requires small { baggage_bytes self.old + added ≤ 8192 }
         ensures ok { OnOk result
             (self.new ≡ with_entry self.old (entry_of (string_bytes name) (string_bytes value) metadata)) }
         ensures replaced { IfOk result (λ old. handed_out old ≡ found_at self.old (string_bytes name)) }
         ensures err { OnErr result (self.new ≡ self.old) }
         ensures memory { OnErr result (entry_at self.old (string_bytes name) ≡ None) }
     {
+        let name_len = name.len();
         let replaced = put_in(&mut self.map, name, value, metadata)?;
-        self.bytes = after;
+        self.bytes = self.bytes + added - bytes_handed_out(name_len, &replaced);
         Ok(replaced)
+    }
+
+    /// Puts an entry of so many bytes in the place of the one of its name; `None` where there is none, or where the
+    /// limit of bytes does not allow it. Takes no memory.
+    fn replace(
+        &mut self,
+        added: usize,
+        name: &str,
+        value: String,
+        metadata: BaggageMetadata,
+    ) -> Option<(String, BaggageMetadata)>
+        requires named { name.now ≢ [] }
+        requires counted { added ≡ min (entry_bytes (entry_of name.now (string_bytes value) metadata)) (2 ^ 64 - 1) }
+        ensures ok { OnSome result (self.new ≡ with_entry self.old (entry_of name.now (string_bytes value) metadata)) }
+        ensures replaced { IfSome result (λ old. handed_out (Some old) ≡ found_at self.old name.now) }
+        ensures allowed { OnSome result (¬ (BreaksLimit self.old (entry_of name.now (string_bytes value) metadata))) }
+        ensures refused { IsNone result ↔ ((entry_at self.old name.now ≡ None)
+            ⊎ (8192 < baggage_bytes (with_entry self.old (entry_of name.now (string_bytes value) metadata)))) }
+        ensures unchanged { IfNone result (self.new ≡ self.old) }
+    {
+        let (after, replaced) = replace_in(
+            &mut self.map,
+            self.bytes,
+            added,
+            name,
+            value,
+            metadata,
+        )?;
+        self.bytes = after;
+        Some(replaced)
     }
 
     /// Takes out the entry of a name. The others keep their order.
@@ -98,7 +153,7 @@ impl Entries {
         ensures removed { handed_out result ≡ found_at self.old name.now }
     {
         let removed = remove_in(&mut self.map, name);
-        self.bytes -= removed_bytes(name, &removed);
+        self.bytes -= bytes_handed_out(name.len(), &removed);
         removed
     }
 
@@ -235,71 +290,55 @@ fn put_in(
     }
 }
 
-/// The bytes of the entry under a name.
-fn bytes_at(map: &IndexMap<String, (String, BaggageMetadata)>, name: &str) -> Option<usize>
-    requires { baggage_bytes (plain_entries map.now.entries) ≤ 8192 }
-    ensures { result ≡ option_map entry_bytes (entry_at (plain_entries map.now.entries) name.now) }
+/// Puts an entry of `added` bytes in the place of the one of its name, and answers the bytes that all count for then
+/// and what was replaced. `None` where there is none, or where the bytes would be over the limit.
+fn replace_in(
+    map: &mut IndexMap<String, (String, BaggageMetadata)>,
+    bytes: usize,
+    added: usize,
+    name: &str,
+    value: String,
+    metadata: BaggageMetadata,
+) -> Option<(usize, (String, BaggageMetadata))>
+    requires counted { bytes ≡ baggage_bytes (plain_entries map.old.entries) }
+    requires small { bytes ≤ 8192 }
+    requires added { added ≡ min (entry_bytes (entry_of name.now (string_bytes value) metadata)) (2 ^ 64 - 1) }
+    ensures ok { OnSome result (plain_entries map.new.entries
+        ≡ with_entry (plain_entries map.old.entries) (entry_of name.now (string_bytes value) metadata)) }
+    ensures counted { IfSome result (λ put. put.0 ≡ baggage_bytes
+        (with_entry (plain_entries map.old.entries) (entry_of name.now (string_bytes value) metadata))) }
+    ensures replaced { IfSome result (λ put.
+        handed_out (Some put.1) ≡ found_at (plain_entries map.old.entries) name.now) }
+    ensures refused { IsNone result ↔ ((entry_at (plain_entries map.old.entries) name.now ≡ None)
+        ⊎ (8192 < baggage_bytes
+        (with_entry (plain_entries map.old.entries) (entry_of name.now (string_bytes value) metadata)))) }
+    ensures unchanged { IfNone result (plain_entries map.new.entries ≡ plain_entries map.old.entries) }
 {
-    match map.get(name) {
-        Some(kept) => Some(name.len() + kept.0.len() + kept.1.as_str().len()),
-        None => None,
+    let kept = map.get_mut(name)?;
+    let before = name.len() + kept.0.len() + kept.1.as_str().len();
+    let after = (bytes - before).saturating_add(added);
+    if after > MAX_BYTES {
+        return None;
     }
+    Some((after, mem::replace(kept, (value, metadata))))
 }
 
-/// The bytes that a removed entry counted for; none where there was none.
-fn removed_bytes(name: &str, removed: &Option<(String, BaggageMetadata)>) -> usize
-    requires { found_bytes name.now (handed_out removed.now) ≤ 8192 }
-    ensures { result ≡ found_bytes name.now (handed_out removed.now) }
+/// The bytes that an entry counted for which is handed out, with a name of this length; none where there was none.
+fn bytes_handed_out(name_len: usize, given: &Option<(String, BaggageMetadata)>) -> usize
+    requires { found_bytes name_len (handed_out given.now) ≤ 8192 }
+    ensures { result ≡ found_bytes name_len (handed_out given.now) }
 {
-    match removed {
-        Some((value, metadata)) => name.len() + value.len() + metadata.as_str().len(),
+    match given {
+        Some((value, metadata)) => name_len + value.len() + metadata.as_str().len(),
         None => 0,
     }
 }
 
-/// The bytes that stand after an entry was put in the place of one of `replaced` bytes, or of none.
-fn bytes_with(
-    bytes: usize,
-    replaced: usize,
-    name: &str,
-    value: &str,
-    metadata: &BaggageMetadata,
-) -> usize
-    requires { replaced ≤ bytes }
-    ensures { result ≡ min (bytes - replaced + entry_bytes (entry_of name.now value.now metadata.now)) (2 ^ 64 - 1) }
+/// The bytes that an entry counts for, up to the greatest `usize`.
+fn bytes_of(name: &str, value: &str, metadata: &BaggageMetadata) -> usize
+    ensures { result ≡ min (entry_bytes (entry_of name.now value.now metadata.now)) (2 ^ 64 - 1) }
 {
-    let added = name
-        .len()
+    name.len()
         .saturating_add(value.len())
-        .saturating_add(metadata.as_str().len());
-    (bytes - replaced).saturating_add(added)
-}
-
-/// The bytes that stand after an entry was put, or `None` where a limit does not allow it.
-fn allowed_bytes(
-    map: &IndexMap<String, (String, BaggageMetadata)>,
-    bytes: usize,
-    name: &str,
-    value: &str,
-    metadata: &BaggageMetadata,
-) -> Option<usize>
-    requires counted { bytes ≡ baggage_bytes (plain_entries map.now.entries) }
-    requires within { IsWithinLimits (plain_entries map.now.entries) }
-    ensures refused { IsNone result
-        ↔ BreaksLimit (plain_entries map.now.entries) (entry_of name.now value.now metadata.now) }
-    ensures allowed { IfSome result (λ after. after
-        ≡ baggage_bytes (with_entry (plain_entries map.now.entries) (entry_of name.now value.now metadata.now))) }
-{
-    if name.is_empty() {
-        return None;
-    }
-    let replaced = bytes_at(map, name);
-    if replaced.is_none() && map.len() >= MAX_ENTRIES {
-        return None;
-    }
-    let after = bytes_with(bytes, replaced.unwrap_or(0), name, value, metadata);
-    if after > MAX_BYTES {
-        return None;
-    }
-    Some(after)
+        .saturating_add(metadata.as_str().len())
 }
