@@ -1,8 +1,9 @@
 //! Attributes and the scope of a library: what every span, event, link and resource carries. Texts are handed in as
 //! `String`s and stay where they are.
 
-ghost use Rattle.std.specs.Prelude.{◌≡◌, ◌↔◌, None, Some, [], string_bytes, IfOk, IsTrue};
+ghost use Rattle.std.specs.Prelude.{◌≡◌, ◌↔◌, None, Some, [], string_bytes, IfOk, IsOk, IsTrue};
 ghost use Rattle.std.specs.Option.{option_copied};
+ghost use Rattle.std.specs.Cow.{cow_str_bytes, IsBorrowedStr};
 ghost use Rattle.opentelemetry.specs.PlainValues.{plain_value};
 
 #[cfg(test)]
@@ -10,28 +11,37 @@ mod attribute_tests;
 mod display;
 
 use std::alloc::{AllocError, Global};
+use std::borrow::CowStr;
 use std::cmp::Ordering;
 use std::hash::{Hash, Hasher};
 use std::marker::Model;
 use std::sync::Arc;
 
-/// The name of an attribute.
+/// The name of an attribute: a text, its own or a constant. Equality, order and hash are of the text alone.
 #[derive(Debug, Drop)]
-pub struct Key(String);
+pub struct Key(CowStr<'static, Global>);
 
 impl Model for Key {
-    ghost use Rattle.std.specs.Prelude.{ℕ, List, string_bytes};
+    ghost use Rattle.std.specs.Prelude.{ℕ, List};
+    ghost use Rattle.std.specs.Cow.{cow_str_bytes};
 
     ghost Value = { List ℕ };
 
-    ghost view = { λ key. string_bytes key.0 };
+    ghost view = { λ key. cow_str_bytes key.0 };
 }
 
 impl Key {
     pub fn new(key: String) -> Key
         ensures { result ≡ string_bytes key }
     {
-        Key(key)
+        Key(CowStr::Owned(key))
+    }
+
+    /// A constant as a key. Neither it nor a clone of it takes memory.
+    pub const fn from_static_str(key: &'static str) -> Key
+        ensures { result ≡ key.now }
+    {
+        Key(CowStr::Borrowed(key))
     }
 
     pub fn as_str(&self) -> &str
@@ -41,13 +51,25 @@ impl Key {
     }
 }
 
+// A copy of a key's text. A constant stays one, which takes no memory.
+fn copy_of(text: &CowStr<'static, Global>) -> Result<CowStr<'static, Global>, AllocError>
+    ensures ok { IfOk result (λ copy. cow_str_bytes copy ≡ cow_str_bytes text.now) }
+    ensures free { IsBorrowedStr text.now → IsOk result }
+    ensures stays_free { IfOk result (λ copy. IsBorrowedStr text.now → IsBorrowedStr copy) }
+{
+    match text {
+        CowStr::Borrowed(constant) => Ok(CowStr::Borrowed(*constant)),
+        CowStr::Owned(owned) => Ok(CowStr::Owned(owned.clone()?)),
+    }
+}
+
 impl Clone for Key {
     ghost use Rattle.std.specs.Prelude.{◌≡◌};
 
     ghost is_clone = { λ key copy. copy ≡ key };
 
     fn clone(&self) -> Result<Key, AllocError> {
-        Ok(Key(self.0.clone()?))
+        Ok(Key(copy_of(&self.0)?))
     }
 }
 
@@ -459,25 +481,37 @@ impl Eq for InstrumentationScope {
 }
 
 impl InstrumentationScopeBuilder {
-    pub fn with_version(mut self, version: String) -> InstrumentationScopeBuilder
+    pub fn with_version(self, version: String) -> InstrumentationScopeBuilder
         ensures { result ≡ record self { version = Some (string_bytes version) } }
     {
-        self.parts.version = Some(version);
-        self
+        let InstrumentationScopeBuilder { parts, alloc } = self;
+        let parts = ScopeParts {
+            version: Some(version),
+            ..parts
+        };
+        InstrumentationScopeBuilder { parts, alloc }
     }
 
-    pub fn with_schema_url(mut self, schema_url: String) -> InstrumentationScopeBuilder
+    pub fn with_schema_url(self, schema_url: String) -> InstrumentationScopeBuilder
         ensures { result ≡ record self { schema_url = Some (string_bytes schema_url) } }
     {
-        self.parts.schema_url = Some(schema_url);
-        self
+        let InstrumentationScopeBuilder { parts, alloc } = self;
+        let parts = ScopeParts {
+            schema_url: Some(schema_url),
+            ..parts
+        };
+        InstrumentationScopeBuilder { parts, alloc }
     }
 
-    pub fn with_attributes(mut self, attributes: Vec<KeyValue>) -> InstrumentationScopeBuilder
+    pub fn with_attributes(self, attributes: Vec<KeyValue>) -> InstrumentationScopeBuilder
         ensures { result ≡ record self { attributes = attributes.items } }
     {
-        self.parts.attributes = attributes;
-        self
+        let InstrumentationScopeBuilder { parts, alloc } = self;
+        let parts = ScopeParts {
+            attributes,
+            ..parts
+        };
+        InstrumentationScopeBuilder { parts, alloc }
     }
 
     /// The scope, whose clones will share these parts.

@@ -3,30 +3,17 @@ use Rattle.std.proofs.Common.{◌≡◌, ℕ, ◌+◌, ◌<◌, ◌≤◌, Bool,
 use Rattle.std.specs.Bool.{IsTrue}
 use Rattle.std.proofs.lemmas.List.{map-append}
 use Rattle.otel_base.specs.declared.error.OTelSdkError.{OTelSdkError}
-use Rattle.otel_batch.specs.PlainSpanData.{PlainSpanData}
+use Rattle.otel_batch.specs.PlainSpanData.{PlainSpanData, is_sampled}
 use Rattle.otel_batch.specs.Telling.{Tells}
+use Rattle.otel_batch.proofs.Tellings.{tells_append, tells_same}
 use Rattle.std.specs.declared.alloc.AllocError.{AllocError}
-use Rattle.opentelemetry_sdk.specs.ProcessorTelling.{ProcessorTelling, CountsUp, TakesSpan, TakesNothing, HandsOver, HearsNothing, is_sampled}
+use Rattle.opentelemetry_sdk.specs.ProcessorTelling.{ProcessorTelling, CountsUp, TakesSpan, TakesNothing, HandsOver, HearsNothing}
 use Rattle.opentelemetry_sdk.specs.Deliveries.{Delivery, Follows, EachFollows, Reaches, ReachesFirst, spans_of}
 use Rattle.opentelemetry_sdk.specs.declared.trace.span_processor.SpanProcessor.{Ghosts}
 use Rattle.opentelemetry_sdk.specs.Each.{Each, AskedAll, error_count}
 use Rattle.opentelemetry_sdk.specs.Ending.{TakesAndTells, DeliversIf, deliveries}
 use Rattle.opentelemetry_sdk.specs.Provider.{ProviderState, ShutsDown, ShutsProcessor}
 use Rattle.opentelemetry_sdk.specs.SpanHistory.{ended_at}
-
--- one telling after another is the telling of both
-tells_append : {D : Type 0} (a : Option (List D)) (xs : List D) (b : Option (List D)) (ys : List D) (c : Option (List D)) → Tells a xs b → Tells b ys c → Tells a (xs ++ ys) c
-tells_append a xs b ys None h k = tt
-tells_append a xs None ys (Some z) h k = absurd (let e : None ≡ Some z = k in cc)
-tells_append None xs (Some y) ys (Some z) h k = absurd (let e : None ≡ Some y = h in cc)
-tells_append {D} (Some x) xs (Some y) ys (Some z) h k =
-    let e : x ++ xs ≡ y = cc in
-    ap (λ (l : List D). Some l) (sym (append_assoc x xs ys) ∙ ap (λ (l : List D). l ++ ys) e) ∙ k
-
--- a telling that stays tells nothing more
-tells_same : {D : Type 0} (a b : Option (List D)) → b ≡ a → Tells a [] b
-tells_same {D} None b e = subst (λ (o : Option (List D)). Tells None [] o) (sym e) tt
-tells_same {D} (Some x) b e = subst (λ (o : Option (List D)). Tells (Some x) [] o) (sym e) (ap (λ (l : List D). Some l) (append-nil x))
 
 -- a count that stays counts up by nothing
 counts_nothing : (before after : ℕ) → after ≡ before → CountsUp before 0 after

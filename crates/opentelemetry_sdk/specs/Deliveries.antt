@@ -1,9 +1,9 @@
 -- What is delivered to the processors of a provider, and what of it each tells.
 use Rattle.std.specs.Prelude.{◌≡◌, ℕ, ◌+◌, ◌<◌, ◌⊎◌, List, [], ◌∷◌, ◌++◌, map, Bool, true, false, IsTrue, IsFalse}
 use Rattle.std.specs.List.{AllZip}
-use Rattle.otel_batch.specs.PlainSpanData.{PlainSpanData}
+use Rattle.otel_batch.specs.PlainSpanData.{PlainSpanData, is_sampled}
 use Rattle.otel_batch.specs.Telling.{Tells}
-use Rattle.opentelemetry_sdk.specs.ProcessorTelling.{ProcessorTelling, CountsUp, is_sampled}
+use Rattle.opentelemetry_sdk.specs.ProcessorTelling.{ProcessorTelling, CountsUp}
 use Rattle.opentelemetry_sdk.specs.declared.trace.span_processor.SpanProcessor.{Ghosts}
 
 -- what an end delivers to each processor, and how many of them refused it

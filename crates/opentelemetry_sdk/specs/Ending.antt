@@ -15,7 +15,8 @@ module _ {P : Type 0} (calls : Ghosts P) where
     pub gives : calls.end_gives old span answer new
     pub told : TakesSpan (calls.told old) span answer (calls.told new)
 
-  -- what an end does to the processors of a provider: nothing where it is shut; else each is given the data, and n refuse it
+  -- what an end does to the processors of a provider: nothing where it is shut; else each is given the data, and n
+  -- refuse it
   abbrev pub Delivers : Bool → PlainSpanData → List P → List P → ℕ → Type 0
   Delivers true span ps qs n = (qs ≡ ps) × (n ≡ 0)
   Delivers false span ps qs n = AskedAll (TakesAndTells span) ps qs n

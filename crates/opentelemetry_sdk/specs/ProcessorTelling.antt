@@ -1,7 +1,6 @@
 -- What a processor says that it was given, and what reached its exporter or waits in front of it.
 use Rattle.std.specs.Prelude.{◌≡◌, ℕ, ◌+◌, ◌-◌, ◌^◌, ◌%◌, ◌==◌, ◌&&◌, ◌<◌, ◌≤◌, ◌⊎◌, Bool, true, false, List, [], ◌∷◌, Option, Some, None, Result, Ok, Err, IsTrue}
-use Rattle.std.specs.List.{flat_map}
-use Rattle.otel_batch.specs.PlainSpanData.{PlainSpanData}
+use Rattle.otel_batch.specs.PlainSpanData.{PlainSpanData, is_sampled, spans_in}
 use Rattle.otel_batch.specs.Telling.{Tells}
 
 -- the spans that a processor tells itself; the spans that its exporter heard, followed by those that wait in front of
@@ -16,18 +15,10 @@ pub record ProcessorTelling : Type 0 where
 abbrev pub silent : ProcessorTelling
 silent = record { spans = None; heard = None; dropped = 0; is_open = false }
 
--- the spans of batches, in order
-abbrev pub spans_in : List (List PlainSpanData) → List PlainSpanData
-spans_in batches = flat_map (λ batch. batch) batches
-
 -- the spans of the batches that an exporter tells
 abbrev pub spans_told : Option (List (List PlainSpanData)) → Option (List PlainSpanData)
 spans_told None = None
 spans_told (Some batches) = Some (spans_in batches)
-
--- whether the sampled flag is set
-abbrev pub is_sampled : PlainSpanData → Bool
-is_sampled span = span.span_context.trace_flags % 2 == 1
 
 -- a count before and after so many more; it stops at the greatest u64
 pub record CountsUp (before more after : ℕ) : Type 0 where

@@ -37,8 +37,8 @@ module _ {P : Type 0} (calls : Ghosts P) where
     pub told : TakesNothing (calls.told old) (calls.told new)
     pub is_open : (calls.told new).is_open ≡ (calls.told old).is_open
 
-  -- what a flush does, whether the provider is shut or not: each processor was asked, and the answer is Ok exactly where
-  -- none failed
+  -- what a flush does, whether the provider is shut or not: each processor was asked, and the answer is Ok exactly
+  -- where none failed
   pub record Flushes {S G : Type 0} (old : ProviderState P S G) (answer : Result (Unit {0}) OTelSdkError)
       (new : ProviderState P S G) : Type 0 where
     pub failed : ℕ

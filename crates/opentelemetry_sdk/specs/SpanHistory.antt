@@ -91,8 +91,8 @@ links_within limits links = record {
   dropped_count = left_out limits.max_links_per_span links;
 }
 
--- the data of a span with this start and these edits, ended at a moment: whole lists, each cut once, the last name and the
--- greatest status
+-- the data of a span with this start and these edits, ended at a moment: whole lists, each cut once, the last name and
+-- the greatest status
 abbrev pub data_of : SpanStart → List Edit → ℕ → PlainSpanData
 data_of start edits moment = record {
   span_context = start.span_context;

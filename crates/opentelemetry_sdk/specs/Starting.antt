@@ -33,8 +33,8 @@ start_question cx trace_id builder = record {
   links = unwrap_or builder.links [];
 }
 
--- the flags of a new span: those of its parent, with the sampled flag set where it is exported and cleared where it is only
--- recorded; none where it is dropped
+-- the flags of a new span: those of its parent, with the sampled flag set where it is exported and cleared where it is
+-- only recorded; none where it is dropped
 abbrev pub start_flags : PlainSpanContext → SamplingDecision → ℕ
 start_flags parent decisions.Drop = 0
 start_flags parent decisions.RecordOnly = 2 * (parent.trace_flags / 2)

@@ -1,6 +1,13 @@
 pub mod AttributeLemmas
 pub mod AttributesStringLemmas
+pub mod BaggageBounds
+pub mod BaggageNames
+pub mod BaggagePieceLemmas
+pub mod BaggageRoundTrip
+pub mod BaggageTextLemmas
 pub mod Behind
 pub mod DetectedLemmas
 pub mod FractionLemmas
 pub mod SameLemmas
+pub mod TextPieces
+pub mod TrimLemmas

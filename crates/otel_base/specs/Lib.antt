@@ -1,4 +1,6 @@
 pub mod AttributesString
+pub mod BaggageHeader
+pub mod BaggagePieces
 pub mod DetectedResource
 pub mod ErrorText
 pub mod IdSource

@@ -1,11 +1,15 @@
-//! The laws of resources, of merging them and of reading attributes strings, over the definitions alone. Each function
-//! does nothing; its contract is the law, for all values.
+//! The laws of resources, of merging them, of reading attributes strings and of headers, over the definitions alone. Each
+//! function does nothing; its contract is the law, for all values.
 
-ghost use Rattle.std.specs.Prelude.{◌≡◌, ◌≢◌, Some, ℕ, List, [], AllPairs};
+ghost use Rattle.std.specs.Prelude.{◌≡◌, ◌≢◌, Some, ℕ, List, [], All, AllPairs};
 ghost use Rattle.std.specs.Option.{option_or};
 ghost use Rattle.std.specs.FinMap.{get, keys};
-ghost use Rattle.opentelemetry.specs.Plain.{PlainKeyValue};
+ghost use Rattle.opentelemetry.specs.Plain.{PlainContext, PlainKeyValue};
 ghost use Rattle.otel_base.specs.AttributesString.{IsAttributesString};
+ghost use Rattle.opentelemetry.specs.Baggage.{PlainBaggage};
+ghost use Rattle.opentelemetry.specs.Carrier.{Texts};
+ghost use Rattle.otel_base.specs.BaggageHeader.{entries_of, header_of, Carries, InjectsBaggage, IsBaggage};
+ghost use Rattle.otel_base.specs.BaggageHeader.{IsCarriedUnchanged, IsSaidUnchanged};
 ghost use Rattle.otel_base.specs.Resource.{PlainResource, empty_resource, non_empty, merge};
 
 /// No two attributes of a resource have one key.
@@ -45,4 +49,16 @@ pub fn attributes_strings_read_once()
     ensures some { (given : List ℕ) → (pairs : List PlainKeyValue) × IsAttributesString given pairs }
     ensures once { (given : List ℕ) (pairs others : List PlainKeyValue)
         → IsAttributesString given pairs → IsAttributesString given others → pairs ≡ others }
+{}
+
+/// The header of a baggage reads back as it, in order, where each entry is said unchanged.
+pub fn baggage_headers_read_back()
+    ensures { (es : PlainBaggage) → IsBaggage es → All IsSaidUnchanged es → entries_of (header_of es) ≡ es }
+{}
+
+/// What a propagator injects of such a baggage, another extracts whole and in order, over every carrier that gives back
+/// what was set.
+pub fn injected_baggage_is_carried()
+    ensures { (cx : PlainContext) (old new : Texts) → IsBaggage cx.baggage → IsCarriedUnchanged cx.baggage
+        → InjectsBaggage cx old (Ok tt) new → Carries new cx.baggage }
 {}

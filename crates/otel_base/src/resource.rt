@@ -343,8 +343,7 @@ impl ResourceBuilder {
     pub fn with_service_name(self, name: Value) -> Result<ResourceBuilder, AllocError>
         ensures { IfOk result (λ built. built ≡ meaning.merge self (meaning.service_named (plain_value name))) }
     {
-        let key = Key::new(String::from_str(self.alloc, SERVICE_NAME)?);
-        self.with_attribute(KeyValue::new(key, name))
+        self.with_attribute(KeyValue::new(Key::from_static_str(SERVICE_NAME), name))
     }
 
     /// Merges the builder over these attributes and this schema. An empty schema text is none.

@@ -4,3 +4,14 @@ pub mod StoredBatches
 pub mod ExporterKinds
 pub mod RestsOr
 pub mod Telling
+pub mod PlainBatchConfig
+pub mod Slots
+pub mod Messages
+pub mod Workers
+pub mod MachineState
+pub mod SoundMachine
+pub mod PermittedStep
+pub mod MovedSpans
+pub mod MachineRun
+pub mod Conservation
+pub mod ShutdownSilence

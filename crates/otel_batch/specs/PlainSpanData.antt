@@ -1,5 +1,6 @@
 -- What contracts see of the data of an ended span.
-use Rattle.std.specs.Prelude.{ℕ, ◌-◌, ◌^◌, Bool, List, length, take, min}
+use Rattle.std.specs.Prelude.{ℕ, ◌-◌, ◌^◌, ◌%◌, ◌==◌, Bool, List, length, take, min}
+use Rattle.std.specs.List.{flat_map}
 use Rattle.opentelemetry.specs.Plain.{PlainKeyValue, PlainSpanContext, PlainStatus, PlainEvent, PlainLink, PlainScope}
 use Rattle.opentelemetry.specs.declared.trace.span_kind.SpanKind.{SpanKind}
 
@@ -28,6 +29,14 @@ pub record PlainSpanData : Type 0 where
   pub links : PlainSpanLinks
   pub status : PlainStatus
   pub instrumentation_scope : PlainScope
+
+-- whether the sampled flag is set
+abbrev pub is_sampled : PlainSpanData → Bool
+is_sampled span = span.span_context.trace_flags % 2 == 1
+
+-- the spans of batches, in order
+abbrev pub spans_in : List (List PlainSpanData) → List PlainSpanData
+spans_in batches = flat_map (λ batch. batch) batches
 
 -- a whole list cut at a limit: its first items
 abbrev pub cut_at : {X : Type 0} → ℕ → List X → List X

@@ -1,4 +1,5 @@
-//! The data of ended spans, and the exporters that take it.
+//! The data of ended spans, the exporters that take it, and the batch queue in front of one.
 #![tactic(auto)]
 
+pub mod machine;
 pub mod trace;

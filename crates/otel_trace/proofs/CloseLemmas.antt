@@ -8,7 +8,7 @@ use Rattle.opentelemetry_sdk.specs.Provider.{ProviderState}
 use Rattle.opentelemetry_sdk.specs.declared.trace.span_processor.SpanProcessor.{Ghosts}
 use Rattle.otel_trace.specs.declared.exported.KeepsBatches as keeping
 use Rattle.otel_trace.specs.ReplyText.{span_lines}
-use Rattle.opentelemetry_sdk.specs.ProcessorTelling.{spans_in}
+use Rattle.otel_batch.specs.PlainSpanData.{spans_in}
 use Rattle.otel_trace.specs.SessionDelivery.{SessionState, Closes, ShutsIfOpen, batches_of_first, or_no_memory}
 
 pub closes : {P S G : Type 0} (calls : Ghosts P) (batches : keeping.Ghosts P) (sampler : sampling.Ghosts S) (ids : drawing.Ghosts G) (session : SessionState P S G) (provider : ProviderState P S G)

@@ -11,7 +11,7 @@ use Rattle.otel_trace.specs.declared.exported.KeepsBatches as keeping
 use Rattle.otel_trace.specs.KeptBatches.{Appends}
 use Rattle.otel_trace.specs.Commands.{PlainCommand, may_lose, plain_command, plain_commands}
 use Rattle.otel_trace.specs.PlainReply.{PlainReply}
-use Rattle.opentelemetry_sdk.specs.ProcessorTelling.{spans_in}
+use Rattle.otel_batch.specs.PlainSpanData.{spans_in}
 use Rattle.otel_trace.specs.SessionDelivery.{Histories, Course, course_of, Demands, Replies, DemandAll, Demanded, SessionState, CarriesOutOne, session_batches, batches_of_first, unshown, CarriesOut, Shows, NoneLeft, LosesNone, RunsAll, Refuses, RunsBeginning}
 use Rattle.otel_trace.specs.declared.command.Command.{Command}
 use Rattle.otel_trace.proofs.ShownLemmas.{shows_nothing, shows_no_more, shows_reply, none_left}

@@ -6,13 +6,12 @@ use Rattle.std.proofs.Common.{ap, sym, ◌∙◌, append-nil, inl, inr}
 use Rattle.opentelemetry.specs.Plain.{PlainContext}
 use Rattle.otel_base.specs.declared.error.OTelSdkError.{OTelSdkError}
 use Rattle.otel_batch.specs.ExporterKinds.{ExporterGives}
-use Rattle.otel_batch.specs.PlainSpanData.{PlainSpanData}
+use Rattle.otel_batch.specs.PlainSpanData.{PlainSpanData, is_sampled}
 use Rattle.otel_batch.specs.RestsOr.{RestsOr}
 use Rattle.otel_batch.specs.StoredBatches.{StoredBatches, StoresBatch}
 use Rattle.otel_batch.specs.declared.trace.exporter_box.ExporterOf.{ExporterOf}
 use Rattle.otel_batch.specs.declared.trace.exporter_box.ExporterOf.TheVariants as exporters
 use Rattle.opentelemetry_sdk.specs.ProcessorKinds.{ProcessorGives}
-use Rattle.opentelemetry_sdk.specs.ProcessorTelling.{is_sampled}
 use Rattle.opentelemetry_sdk.specs.SpanHistory.{PlainSpan}
 use Rattle.opentelemetry_sdk.specs.declared.trace.span_processor.SpanProcessor.{Ghosts}
 use Rattle.otel_batch.specs.declared.trace.export.SpanExporter as exporting

@@ -102,8 +102,8 @@ module _ {P S G : Type 0} (calls : Ghosts P) (sampler : sampling.Ghosts S) (ids 
       StartsNamed p scope old name (child_cx parent.span_context) called moment (named old name) answer q new
 
 module _ {P S G : Type 0} (calls : Ghosts P) (sampler : sampling.Ghosts S) (ids : drawing.Ghosts G) where
-  -- what a start in a context may do to a provider, also where it found no memory: nothing, or ids are drawn, or all that
-  -- the start of a span does
+  -- what a start in a context may do to a provider, also where it found no memory: nothing, or ids are drawn, or all
+  -- that the start of a span does
   abbrev pub MayStart : ProviderState P S G → PlainScope → PlainContext → List ℕ → ℕ → ProviderState P S G → Type 0
   MayStart p scope cx called moment q =
       (q ≡ p) ⊎ (OnlyDraws sampler ids p (named_builder called) cx q

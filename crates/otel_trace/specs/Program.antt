@@ -42,8 +42,8 @@ bad_line_text line = codes "line " ++ (decimal line ++ (codes ": cannot read" ++
 abbrev pub MemoryProcessor : Type 0 → Type 0 → Type 0
 MemoryProcessor C D = ProcessorOf (SimpleProcessor (ExporterOf StoredBatches C)) D
 
--- the provider of a seed: a root is sampled, and a child as its parent is; each span is kept within the limits that nobody
--- chose, and the one processor exports each into memory as it ends
+-- the provider of a seed: a root is sampled, and a child as its parent is; each span is kept within the limits that
+-- nobody chose, and the one processor exports each into memory as it ends
 pub record IsProviderOfSeed {C D E : Type 0} (seed : ℕ)
     (provider : ProviderState (MemoryProcessor C D) (SamplerOf E) (List ℕ)) : Type 0 where
   pub processors : provider.processors ≡ kinds.Simple (record {

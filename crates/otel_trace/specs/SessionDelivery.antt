@@ -1,6 +1,6 @@
--- What the commands of a session demand of its provider and its exporters. It speaks of each span as its history, a start
--- and the edits since, and of what an end delivers as the data of that history: whole lists, each cut once. No history is
--- stored.
+-- What the commands of a session demand of its provider and its exporters. It speaks of each span as its history, a
+-- start and the edits since, and of what an end delivers as the data of that history: whole lists, each cut once. No
+-- history is stored.
 use Rattle.std.specs.Prelude.{◌≡◌, ℕ, List, [], ◌∷◌, ◌++◌, Option, Some, None, map, take, drop, slice_get, IsFalse, Result, Ok, Err, MatchBool, if◌then◌else◌, ◌⊎◌, ◌≤◌, length}
 use Rattle.std.specs.List.{flat_map}
 use Rattle.std.specs.Option.{option_map, option_map_or}
@@ -10,9 +10,8 @@ use Rattle.otel_base.specs.declared.error.OTelSdkError.{OTelSdkError}
 use Rattle.otel_base.specs.declared.error.OTelSdkError.TheVariants as errors
 use Rattle.otel_base.specs.declared.trace.sampler.ShouldSample as sampling
 use Rattle.otel_base.specs.declared.trace.id_generator.IdGenerator as drawing
-use Rattle.otel_batch.specs.PlainSpanData.{PlainSpanData}
+use Rattle.otel_batch.specs.PlainSpanData.{PlainSpanData, spans_in}
 use Rattle.opentelemetry_sdk.specs.SpanHistory.{SpanHistory, begun, over, SpanStart, Edit, set_attribute, add_event, set_status, data_of, span_of}
-use Rattle.opentelemetry_sdk.specs.ProcessorTelling.{spans_in}
 use Rattle.opentelemetry_sdk.specs.Deliveries.{Delivery, EachFollows}
 use Rattle.opentelemetry_sdk.specs.Provider.{Flushes, ProviderState, ShutsDown}
 use Rattle.opentelemetry_sdk.specs.Starting.{Starts, root_cx}
@@ -210,8 +209,8 @@ module _ {P S G : Type 0} (calls : Ghosts P) (sampler : sampling.Ghosts S) (ids 
   CarriesOutOne scope p old command answer q new =
       (histories : Histories) → Describe histories old → DemandsOne scope p histories command answer q new
 
-  -- what a command that is refused may do to the provider: nothing, but that a start may have drawn ids, or done all that
-  -- the start of a span does, where the span then found no place. The provider's own calls are not refused
+  -- what a command that is refused may do to the provider: nothing, but that a start may have drawn ids, or done all
+  -- that the start of a span does, where the span then found no place. The provider's own calls are not refused
   abbrev pub MayAsk : PlainScope → ProviderState P S G → NamedSpans → PlainCommand → ProviderState P S G → Type 0
   MayAsk scope p spans (start span name moment) q = MayStart calls sampler ids p scope root_cx name moment q
   MayAsk scope p spans (child span parent name moment) q =
@@ -294,8 +293,8 @@ module _ {P S G : Type 0} (calls : Ghosts P) (keeps : keeping.Ghosts P) (sampler
       shown
       × (ds ≡ first ++ rest)
 
-  -- what commands demand of the histories that the spans of a session had; each processor follows all that was delivered,
-  -- in order
+  -- what commands demand of the histories that the spans of a session had; each processor follows all that was
+  -- delivered, in order
   pub record Demanded (old : SessionState P S G) (histories : Histories) (commands : List PlainCommand)
       (replies : List PlainReply) (new : SessionState P S G) : Type 0 where
     pub deliveries : List Delivery
@@ -373,8 +372,8 @@ module _ {P S G : Type 0} (calls : Ghosts P) (keeps : keeping.Ghosts P) (sampler
   Feeds old bytes before (Err (feeds.Line n)) now new = FeedsUpTo old bytes (Some n) before now new
   Feeds old bytes before (Err feeds.Memory) now new = FeedsBeginning old bytes before now new
 
-  -- the lines of the spans that no reply has shown are appended, those exported by the shutdown among them; where there is
-  -- no memory for them, none is
+  -- the lines of the spans that no reply has shown are appended, those exported by the shutdown among them; where there
+  -- is no memory for them, none is
   pub record Closes (session : SessionState P S G) (before : List ℕ) (answer : Result (Unit {0}) OTelSdkError)
       (now : List ℕ) : Type 0 where
     pub provider : ProviderState P S G

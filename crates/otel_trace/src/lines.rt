@@ -221,7 +221,7 @@ fn field_and_moment(text: &str) -> Option<(&str, Moment)>
     Some((first, moment))
 }
 
-/// The status that a text spells: `ok`, or `error`, a space and the description. That may be empty or have spaces in it.
+/// The status that a text spells: `ok`, or `error`, a space and the description, maybe empty or with spaces in it.
 fn read_status(alloc: Global, text: &str) -> Result<Option<Status>, AllocError>
     ensures { IfOk result (StatusGives text.now) }
 {

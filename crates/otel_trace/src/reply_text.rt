@@ -256,8 +256,8 @@ pub fn write_batches(
     write_text(out, text.as_str())
 }
 
-/// Writes a whole reply, or nothing where memory runs out: the spans are read where the exporter keeps them. The text is
-/// put together in `text`, whose room serves one reply after another.
+/// Writes a whole reply, or nothing where memory runs out: the spans are read where the exporter keeps them. The text
+/// is put together in `text`, whose room serves one reply after another.
 pub fn write_reply(
     text: &mut String,
     out: &mut Vec<u8>,

@@ -4,7 +4,7 @@
 ghost use Rattle.std.specs.Prelude.{◌≡◌, ◌++◌, [], drop, false, length, map, IfErr, IfOk, IsFalse, MatchResult, OnOk, OnErr, codes, string_bytes};
 ghost use Rattle.std.specs.List.{flat_map};
 ghost use Rattle.opentelemetry.specs.Plain.{text};
-ghost use Rattle.opentelemetry_sdk.specs.ProcessorTelling.{spans_in};
+ghost use Rattle.otel_batch.specs.PlainSpanData.{spans_in};
 ghost use Rattle.opentelemetry_sdk.specs.Provider.{scope_named};
 ghost use Rattle.opentelemetry_sdk.specs.SpanEdits.{plain_edit};
 ghost use Rattle.opentelemetry_sdk.specs.SpanHistory.{set_attribute};
@@ -121,9 +121,9 @@ impl<P: KeepsBatches, S: ShouldSample, G: IdGenerator> Session<P, S, G> {
         })
     }
 
-    /// Carries commands out in order and appends a reply for each. Where memory runs out, also for the batch of a span that
-    /// the first processor exported, a beginning of the commands was carried out, each with its reply, except that the
-    /// last one may be without. A processor that refused a span is counted in the reply.
+    /// Carries commands out in order and appends a reply for each. Where memory runs out, also for the batch of a span
+    /// that the first processor exported, a beginning of the commands was carried out, each with its reply, except that
+    /// the last one may be without. A processor that refused a span is counted in the reply.
     pub fn run(
         &mut self,
         commands: Vec<Command>,
@@ -146,11 +146,11 @@ impl<P: KeepsBatches, S: ShouldSample, G: IdGenerator> Session<P, S, G> {
         Ok(())
     }
 
-    /// Carries out the commands that the lines of a text spell, up to the first line that is none, and appends the text of
-    /// each reply. `Line` names the first bad line, from 1 and with empty lines counted. `Memory` comes where memory runs
-    /// out, also where a processor refused a span for want of it, which no text tells: the output then has the replies of
-    /// a beginning of the commands, and at most one more command was carried out. What that one exported is left for the
-    /// next reply.
+    /// Carries out the commands that the lines of a text spell, up to the first line that is none, and appends the text
+    /// of each reply. `Line` names the first bad line, from 1 and with empty lines counted. `Memory` comes where memory
+    /// runs out, also where a processor refused a span for want of it, which no text tells: the output then has the
+    /// replies of a beginning of the commands, and at most one more command was carried out. What that one exported is
+    /// left for the next reply.
     pub fn feed(&mut self, text: &[u8], output: &mut Vec<u8>) -> Result<(), FeedError>
         ensures { Feeds P.SpanProcessor P.KeepsBatches.own S.ShouldSample G.IdGenerator self.old text.now
             output.old.items result output.new.items self.new }
@@ -167,9 +167,9 @@ impl<P: KeepsBatches, S: ShouldSample, G: IdGenerator> Session<P, S, G> {
         }
     }
 
-    /// Spends the session: its spans are abandoned, the provider is shut down where it is open, and the lines of the spans
-    /// that no reply has shown are appended. The answer is that of the shutdown, or `OutOfMemory` where that is Ok and the
-    /// lines found no memory.
+    /// Spends the session: its spans are abandoned, the provider is shut down where it is open, and the lines of the
+    /// spans that no reply has shown are appended. The answer is that of the shutdown, or `OutOfMemory` where that is
+    /// Ok and the lines found no memory.
     pub fn close(self, output: &mut Vec<u8>) -> OTelSdkResult
         ensures { Closes P.SpanProcessor P.KeepsBatches.own S.ShouldSample G.IdGenerator self output.old.items result
             output.new.items }
@@ -229,8 +229,8 @@ impl<P: KeepsBatches, S: ShouldSample, G: IdGenerator> Session<P, S, G> {
         write_reply(text, output, self.unshown(), answer)
     }
 
-    /// Carries one command out. It is also an error where the first processor's exporter lost the batch of an ended span.
-    /// On an error the command was carried out or not, and what it exported is left for the next reply.
+    /// Carries one command out. It is also an error where the first processor's exporter lost the batch of an ended
+    /// span. On an error the command was carried out or not, and what it exported is left for the next reply.
     fn answer(&mut self, command: Command) -> Result<Answer, AllocError>
         ensures ok { IfOk result (λ answer. CarriesOutOne P.SpanProcessor S.ShouldSample G.IdGenerator self.old.scope
             self.old.provider self.old.spans

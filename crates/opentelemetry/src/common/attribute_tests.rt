@@ -1,7 +1,7 @@
-//! Tests of keys and attributes: their copies, their order and their hash.
+//! Tests of keys and attributes: their copies, their order, their hash and their debug text.
 
 use super::{Arc, Array, InstrumentationScope, Key, KeyValue, Value};
-use std::alloc::Global;
+use std::alloc::{AllocError, Global};
 use std::hash::{DefaultHasher, Hash, Hasher};
 use std::test::Fail;
 
@@ -18,19 +18,40 @@ fn hash_of(key: &Key) -> u64 {
 #[test]
 fn keys_stand_by_their_bytes(rt: HostRuntime) -> Result<(), Fail> {
     let rising = [
-        key(rt.alloc(), "B")?,
-        key(rt.alloc(), "a")?,
-        key(rt.alloc(), "aa")?,
-        key(rt.alloc(), "b")?,
+        (1, key(rt.alloc(), "B")?),
+        (1, Key::from_static_str("B")),
+        (2, Key::from_static_str("a")),
+        (2, key(rt.alloc(), "a")?),
+        (3, key(rt.alloc(), "aa")?),
+        (4, Key::from_static_str("b")),
     ];
-    for (i, lower) in rising.iter().enumerate() {
-        for (j, upper) in rising.iter().enumerate() {
-            assert_eq!(rt; lower < upper, i < j);
-            assert_eq!(rt; lower == upper, i == j);
+    for (low, lower) in &rising {
+        for (high, upper) in &rising {
+            assert_eq!(rt; lower < upper, low < high);
+            assert_eq!(rt; lower == upper, low == high);
+            assert_eq!(rt; hash_of(lower) == hash_of(upper), low == high);
         }
         let copy = lower.clone()?;
         assert!(rt; copy == *lower);
         assert_eq!(rt; hash_of(&copy), hash_of(lower));
+    }
+    Ok(())
+}
+
+#[test]
+fn a_constant_and_its_clone_are_never_refused(rt: HostRuntime) {
+    let copy: Result<Key, AllocError> = Key::from_static_str("service.name").clone();
+    assert!(rt; copy.is_ok_and(|key| key.as_str() == "service.name"));
+}
+
+#[test]
+fn a_key_shows_its_text(rt: HostRuntime) -> Result<(), Fail> {
+    let alloc = rt.alloc();
+    for key in &[key(alloc, "a \"b\"")?, Key::from_static_str("a \"b\"")] {
+        assert_eq!(rt;
+            format!(in alloc; "{key:?}")?.as_str(),
+            "Key(\"a \\\"b\\\"\")"
+        );
     }
     Ok(())
 }

@@ -1,5 +1,5 @@
-//! What a span keeps within its limits: the first items of each list. Those over a limit are only counted (OpenTelemetry
-//! specification, "Span Limits"). Lists are cut in place.
+//! What a span keeps within its limits: the first items of each list. Those over a limit are only counted
+//! (OpenTelemetry specification, "Span Limits"). Lists are cut in place.
 
 ghost use Rattle.std.specs.Prelude.{◌≡◌, ◌≤◌, ◌⊎◌, ◌++◌, [], length, map, IfOk, IsOk, OnErr, OnOk, unwrap_or};
 ghost use Rattle.std.specs.Option.{option_map};

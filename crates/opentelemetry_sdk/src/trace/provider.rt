@@ -137,7 +137,8 @@ impl<P, S, G> ProviderOf<P, S, G> {
 }
 
 impl<P, S, G: IdGenerator> ProviderOf<P, S, G> {
-    /// The ids of a new span in a context. The span id is drawn first; a trace id is drawn only where no span is active.
+    /// The ids of a new span in a context. The span id is drawn first; a trace id is drawn only where no span is
+    /// active.
     pub(crate) fn draw_ids(&mut self, cx: &Context) -> (TraceId, SpanId)
         ensures draws { DrawsIds G.IdGenerator cx.now.span_context self.old.id_generator result.0 result.1
             self.new.id_generator }

@@ -19,8 +19,8 @@ use otel_batch::trace::SpanData;
 use std::alloc::AllocError;
 use std::marker::Model;
 
-/// A span that somebody holds. `finish` ends and spends it; `end_with_timestamp` ends it and leaves it to be asked who it
-/// was; `abandon` spends it without delivering anything.
+/// A span that somebody holds. `finish` ends and spends it; `end_with_timestamp` ends it and leaves it to be asked who
+/// it was; `abandon` spends it without delivering anything.
 pub struct Span {
     span_context: SpanContext,
     data: Option<SpanData>,
@@ -95,9 +95,9 @@ impl Span {
         edit.apply_if(&mut self.data, self.span_limits)
     }
 
-    /// Sets an attribute behind those that are there, also where its key is among them. Over the limit it is only counted,
-    /// which takes no memory. Nothing happens where the span is not recording (OpenTelemetry specification, "Set
-    /// Attributes").
+    /// Sets an attribute behind those that are there, also where its key is among them. Over the limit it is only
+    /// counted, which takes no memory. Nothing happens where the span is not recording (OpenTelemetry specification,
+    /// "Set Attributes").
     pub fn set_attribute(&mut self, attribute: KeyValue) -> Result<(), AllocError>
         ensures ok { OnOk result (self.new ≡ history.edited (history.set_attribute attribute) self.old) }
         ensures err { OnErr result (self.new ≡ self.old) }
@@ -109,8 +109,8 @@ impl Span {
         self.edit(SpanEdit::SetAttribute(attribute))
     }
 
-    /// Adds an event that happened at this moment. Its attributes are cut at their own limit; over the limit of events it
-    /// is only counted (OpenTelemetry specification, "Add Events").
+    /// Adds an event that happened at this moment. Its attributes are cut at their own limit; over the limit of events
+    /// it is only counted (OpenTelemetry specification, "Add Events").
     pub fn add_event_with_timestamp(
         &mut self,
         name: String,
@@ -132,8 +132,8 @@ impl Span {
         self.edit(SpanEdit::AddEvent(Event::new(name, timestamp, attributes, 0)))
     }
 
-    /// Points to another span. The attributes of the link are cut at their own limit; over the limit of links it is only
-    /// counted (OpenTelemetry specification, "Add Link").
+    /// Points to another span. The attributes of the link are cut at their own limit; over the limit of links it is
+    /// only counted (OpenTelemetry specification, "Add Link").
     pub fn add_link(
         &mut self,
         span_context: SpanContext,
@@ -214,9 +214,10 @@ impl Span {
     }
 
     /// Ends the span at this moment: each processor of the provider is given what the span recorded, in order, also
-    /// after one refused it. The answer is how many refused for want of memory. All copies are made before any processor
-    /// is given one, so that on an error span and processors are unchanged; the last processor gets the original, and
-    /// with one processor nothing is copied. A span that is not recording, or whose provider is shut, ends with 0.
+    /// after one refused it. The answer is how many refused for want of memory. All copies are made before any
+    /// processor is given one, so that on an error span and processors are unchanged; the last processor gets the
+    /// original, and with one processor nothing is copied. A span that is not recording, or whose provider is shut,
+    /// ends with 0.
     pub fn end_with_timestamp<P: SpanProcessor, S: Drop, G: Drop>(
         &mut self,
         provider: &mut ProviderOf<P, S, G>,
@@ -258,8 +259,8 @@ impl Span {
         Ok(provider.end_each(copies, recorded))
     }
 
-    /// Ends the span as `end_with_timestamp` does, and spends it. Where there is no memory for the copies it comes back as
-    /// it was, and no processor has been given anything.
+    /// Ends the span as `end_with_timestamp` does, and spends it. Where there is no memory for the copies it comes back
+    /// as it was, and no processor has been given anything.
     pub fn finish<P: SpanProcessor, S: Drop, G: Drop>(
         mut self,
         provider: &mut ProviderOf<P, S, G>,

@@ -47,7 +47,8 @@ pub trait SpanProcessor: Drop {
     /// What a flush does.
     ghost flush_gives: { Self → Result (Unit {0}) OTelSdkError → Self → Type 0 } = { λ _ _ _. Unit {0} };
 
-    /// What a shutdown does: the processor before it, the timeout in nanoseconds, the answer, and the processor after it.
+    /// What a shutdown does: the processor before it, the timeout in nanoseconds, the answer, and the processor after
+    /// it.
     ghost shutdown_gives: { Self → ℕ → Result (Unit {0}) OTelSdkError → Self → Type 0 } = { λ _ _ _ _. Unit {0} };
 
     /// What it does with the resource, where it does anything: the processor before it, the resource, the answer, and

@@ -61,8 +61,8 @@ impl SdkTracer {
         SpanBuilder::from_name(name)
     }
 
-    /// Starts a root span at this moment: in a context where no span is active and nothing is suppressed. All else is as
-    /// with `build_with_context`.
+    /// Starts a root span at this moment: in a context where no span is active and nothing is suppressed. All else is
+    /// as with `build_with_context`.
     pub fn start<P: SpanProcessor, S: ShouldSample, G: IdGenerator>(
         &self,
         name: String,
@@ -114,10 +114,11 @@ impl SdkTracer {
     }
 
     /// Starts a span in a context, as a child of the one that is active there. The provider decides alone: where it is
-    /// shut, or telemetry is suppressed in the context, the span does not record and has the empty span context. Else its
-    /// sampler is asked, and each processor is told of a span that records. What the builder leaves open the tracer fills
-    /// in: the kind is internal, and the span starts now (nanoseconds since 1970). Lists are cut at the provider's limits.
-    /// On an error no processor was asked, but ids may have been drawn (OpenTelemetry specification, "Span Creation").
+    /// shut, or telemetry is suppressed in the context, the span does not record and has the empty span context. Else
+    /// its sampler is asked, and each processor is told of a span that records. What the builder leaves open the tracer
+    /// fills in: the kind is internal, and the span starts now (nanoseconds since 1970). Lists are cut at the
+    /// provider's limits. On an error no processor was asked, but ids may have been drawn (OpenTelemetry specification,
+    /// "Span Creation").
     pub fn build_with_context<P: SpanProcessor, S: ShouldSample, G: IdGenerator>(
         &self,
         builder: SpanBuilder,
@@ -279,3 +280,6 @@ fn begin(
     };
     Ok(Span::recording(span_context, recorded, span_limits))
 }
+
+#[cfg(test)]
+mod tests;

@@ -146,9 +146,8 @@ pub(super) fn detected_attributes(
     ensures { IfOk result (λ all. detected.IsDetected strings.now (of_attributes (by_key all))) }
 {
     let mut attributes = BTreeMap::new(alloc);
-    let key = Key::new(String::from_str(alloc, SERVICE_NAME)?);
     let name = name_besides_attributes(alloc, strings)?;
-    put(&mut attributes, key, name)?;
+    put(&mut attributes, Key::from_static_str(SERVICE_NAME), name)?;
     put_telemetry(&mut attributes, alloc)?;
     put_string(attributes, alloc, &strings.attributes)
 }
@@ -194,7 +193,7 @@ fn name_in(alloc: Global, given: &Option<String>) -> Result<Option<Value>, Alloc
         × (option_map plain_value found ≡ fin.get (attributes_of pairs) service_name_key)) }
 {
     let mut attributes = put_string(BTreeMap::new(alloc), alloc, given)?;
-    let key = Key::new(String::from_str(alloc, SERVICE_NAME)?);
+    let key = Key::from_static_str(SERVICE_NAME);
     Ok(attributes.remove(&key))
 }
 

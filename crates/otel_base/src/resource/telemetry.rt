@@ -1,10 +1,12 @@
 //! The detector of this SDK itself (OpenTelemetry semantic conventions, "Telemetry SDK").
 
 ghost use Rattle.std.specs.Prelude.{◌≡◌, OnOk};
+ghost use Rattle.std.specs.FinMap as fin;
+ghost use Rattle.opentelemetry.specs.Plain.{text};
 ghost use Rattle.otel_base.specs.Resource.{by_key, union, attributes_of};
 ghost use Rattle.otel_base.specs.DetectedResource.{telemetry_pairs};
 
-use super::attributes::put_text;
+use super::attributes::put;
 use super::{Resource, ResourceDetector};
 use opentelemetry::{Key, Value};
 use std::alloc::{AllocError, Global};
@@ -42,8 +44,21 @@ pub(super) fn put_telemetry(
 ) -> Result<(), AllocError>
     ensures { OnOk result (by_key attributes.new ≡ union (by_key attributes.old) (attributes_of telemetry_pairs)) }
 {
-    put_text(attributes, alloc, "telemetry.sdk.name", "opentelemetry")?;
-    put_text(attributes, alloc, "telemetry.sdk.language", "rust")?;
-    put_text(attributes, alloc, "telemetry.sdk.version", "0.33.0")?;
+    put_constant(attributes, alloc, "telemetry.sdk.name", "opentelemetry")?;
+    put_constant(attributes, alloc, "telemetry.sdk.language", "rust")?;
+    put_constant(attributes, alloc, "telemetry.sdk.version", "0.33.0")?;
     Ok(())
+}
+
+// A text for a key that is a constant.
+fn put_constant(
+    attributes: &mut BTreeMap<Key, Value>,
+    alloc: Global,
+    key: &'static str,
+    value: &str,
+) -> Result<(), AllocError>
+    ensures { OnOk result (by_key attributes.new ≡ fin.insert (by_key attributes.old) key.now (text value.now)) }
+{
+    let value = Value::String(String::from_str(alloc, value)?);
+    put(attributes, Key::from_static_str(key), value)
 }

@@ -1,6 +1,7 @@
 //! The exporter that keeps its batches: for tests, for examples, and for the program that prints what was exported.
 
 ghost use Rattle.std.specs.Prelude.{◌≡◌, [], Some, map};
+ghost use Rattle.std.specs.Option.{option_map};
 
 use crate::trace::{SpanData, SpanExporter};
 use otel_base::error::{OTelSdkError, OTelSdkResult};
@@ -39,6 +40,15 @@ impl InMemorySpanExporter {
         ensures { map (λ batch. batch.items) result.now ≡ self.now.batches }
     {
         &self.batches
+    }
+
+    /// Forgets the batches. What it tells begins anew, unless the telling has ended.
+    pub fn reset(&mut self)
+        ensures kept { self.new ≡ record self.old { batches = [] } }
+        ensures told { ⟦<InMemorySpanExporter as SpanExporter>⟧.told self.new
+            ≡ option_map (λ _. []) (⟦<InMemorySpanExporter as SpanExporter>⟧.told self.old) }
+    {
+        self.batches.clear();
     }
 
     /// How many batches were handed over and are not kept, since there was no memory for them. It stops at the greatest

@@ -22,6 +22,66 @@ ignored
 
 const UNKNOWN: &str = "no such span\n";
 
+/// A span with a child, and what becomes of both around a shutdown.
+const REQUEST: &[u8] = b"start s GET 1000
+child c s db 1100
+event c row 1200
+status c error b
+status c error a
+end c 1300
+shutdown
+end s 1400
+start t x 1500
+shutdown
+start s y 1600
+";
+
+const REQUEST_ANSWERED: &str = "started 00-5c0fdf91ec9a7bfc61da6f3dc380d507-53175d61490b23df-01
+started 00-5c0fdf91ec9a7bfc61da6f3dc380d507-02eebf8c3bbe5e1a-01
+ok
+ok
+ok
+span 5c0fdf91ec9a7bfc61da6f3dc380d507 02eebf8c3bbe5e1a 53175d61490b23df 01 1100 1300 db error(b) attrs [] 0 events [row@1200] 0 links 0 0
+ended
+ok
+ended
+dropped 00-00000000000000000000000000000000-0000000000000000-00
+Shutdown already invoked
+span exists
+";
+
+const CHILD_OF_AN_ENDED_SPAN: &str =
+    "started 00-5c0fdf91ec9a7bfc61da6f3dc380d507-53175d61490b23df-01
+span 5c0fdf91ec9a7bfc61da6f3dc380d507 53175d61490b23df 0000000000000000 01 1000 2000 GET unset attrs [] 0 events [] 0 links 0 0
+ended
+ignored
+ignored
+started 00-5c0fdf91ec9a7bfc61da6f3dc380d507-02eebf8c3bbe5e1a-01
+";
+
+const CHILD_OF_A_DROPPED_SPAN: &str = "ok
+dropped 00-00000000000000000000000000000000-0000000000000000-00
+dropped 00-00000000000000000000000000000000-0000000000000000-00
+ignored
+ignored
+ignored
+";
+
+const EDITS_BEHIND_THE_SHUTDOWN: &str =
+    "started 00-5c0fdf91ec9a7bfc61da6f3dc380d507-53175d61490b23df-01
+ok
+ok
+ok
+ok
+ok
+ended
+";
+
+const TAKEN_AND_UNKNOWN: &str = "started 00-5c0fdf91ec9a7bfc61da6f3dc380d507-53175d61490b23df-01
+span exists
+no such span
+";
+
 /// Gives its bytes one a call, and fails behind them.
 #[derive(Drop)]
 struct BrokenReader {
@@ -118,7 +178,7 @@ struct Case {
     faults: &'static str,
 }
 
-const CASES: [Case; 11] = [
+const CASES: [Case; 18] = [
     Case {
         name: "an empty input",
         input: b"",
@@ -145,6 +205,55 @@ const CASES: [Case; 11] = [
         input: b"start s a 1\n",
         status: 0,
         output: STARTED,
+        faults: "",
+    },
+    Case {
+        name: "a span and its child, to the shutdown and behind it",
+        input: REQUEST,
+        status: 0,
+        output: REQUEST_ANSWERED,
+        faults: "",
+    },
+    Case {
+        name: "names that no start made",
+        input: b"child x nobody n 1\nchild x x n 1\nevent x e 1\nstatus x ok\n",
+        status: 0,
+        output: "no such span\nno such span\nno such span\nno such span\n",
+        faults: "",
+    },
+    Case {
+        name: "a child under a taken name, whose parent is looked for first",
+        input: b"start s a 1\nchild s s b 2\nchild s nobody b 3\n",
+        status: 0,
+        output: TAKEN_AND_UNKNOWN,
+        faults: "",
+    },
+    Case {
+        name: "a child of an ended span is in its trace",
+        input: b"start s GET 1000\nend s 2000\nevent s row 2100\nstatus s ok\nchild c s db 2200\n",
+        status: 0,
+        output: CHILD_OF_AN_ENDED_SPAN,
+        faults: "",
+    },
+    Case {
+        name: "a child of a dropped span",
+        input: b"shutdown\nstart s a 1\nchild c s b 2\nevent c e 3\nstatus c ok\nend c 4\n",
+        status: 0,
+        output: CHILD_OF_A_DROPPED_SPAN,
+        faults: "",
+    },
+    Case {
+        name: "edits and a flush behind the shutdown",
+        input: b"start s a 1\nshutdown\nattr s k v\nevent s e 2\nstatus s ok\nflush\nend s 3\n",
+        status: 0,
+        output: EDITS_BEHIND_THE_SHUTDOWN,
+        faults: "",
+    },
+    Case {
+        name: "a flush where nothing was started",
+        input: b"flush\n",
+        status: 0,
+        output: "ok\n",
         faults: "",
     },
     Case {

@@ -82,6 +82,8 @@ impl KeepsBatches for Losing {
     ghost appends = { record {
       starts = λ p span cx edited q same. (([], refl), ap (λ r. r.lost) same);
       ends = λ _ _ _ _ _. ([], refl);
+      flushes = λ _ _ _ _. ([], refl);
+      shuts = λ _ _ _ _ _. ([], refl);
     } };
 
     fn batches(&self) -> &[Vec<SpanData>] {
@@ -270,7 +272,7 @@ fn a_session_shows_no_span_from_before_it(rt: HostRuntime) -> Result<(), Fail> {
     Ok(())
 }
 
-/// A processor that refuses each span, and fails to shut down.
+/// A processor that refuses each span, and fails to flush and to shut down.
 #[derive(Drop)]
 struct Failing;
 
@@ -282,7 +284,7 @@ impl SpanProcessor for Failing {
     }
 
     fn force_flush(&mut self) -> OTelSdkResult {
-        Ok(())
+        Err(OTelSdkError::Timeout(Duration::from_secs(1)))
     }
 
     fn shutdown_with_timeout(&mut self, timeout: Duration) -> OTelSdkResult {
@@ -343,3 +345,31 @@ fn each_reply_shows_its_own_spans(rt: HostRuntime) -> Result<(), Fail> {
     assert_eq!(rt; shown.as_slice(), [0, 0, 1, 1].as_slice());
     Ok(())
 }
+
+#[test]
+fn a_failed_flush_and_a_failed_shutdown_are_answered(rt: HostRuntime) -> Result<(), Fail> {
+    let mut commands = Vec::new(rt.alloc());
+    commands.push(Command::Flush)?;
+    let mut replies = Vec::new(rt.alloc());
+    let mut output = Vec::new(rt.alloc());
+    let mut session = session_over(rt.alloc(), half_failing_provider(rt.alloc())?)?;
+    let run = session.run(commands, &mut replies);
+    let fed = session.feed(b"shutdown\nshutdown\nflush\n", &mut output);
+    let closed = session.close(&mut output);
+    assert!(rt; run.is_ok());
+    assert_eq!(rt; replies.len(), 1);
+    assert!(rt;
+        matches!(
+            replies[0].answer,
+            Answer::Failed(OTelSdkError::InternalFailure(_))
+        )
+    );
+    assert_eq!(rt; fed, Ok(()));
+    assert!(rt; closed.is_ok());
+    assert_eq!(rt; output.as_slice(), FAILED_CALLS);
+    Ok(())
+}
+
+/// What is printed where one of two processors fails: a shutdown, a second one that asks nobody, and a flush.
+const FAILED_CALLS: &[u8] =
+    b"Operation failed: Shutdown errors: 1\nShutdown already invoked\nOperation failed: errs: 1\n";

@@ -5,10 +5,7 @@ use std::alloc::{AllocError, Global};
 use std::test::Fail;
 
 fn attributes(alloc: Global) -> Result<Vec<KeyValue>, AllocError> {
-    let mut attributes = Vec::new(alloc);
-    let key = Key::new(String::from_str(alloc, "k")?);
-    attributes.push(KeyValue::new(key, Value::I64(7)))?;
-    Ok(attributes)
+    Ok(vec![in alloc; KeyValue::new(Key::from_static_str("k"), Value::I64(7))]?)
 }
 
 #[test]

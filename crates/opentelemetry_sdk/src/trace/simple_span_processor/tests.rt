@@ -7,8 +7,8 @@ use otel_base::error::OTelSdkError;
 use otel_batch::trace::ExporterBox;
 use std::test::Fail;
 
-/// An exporter whose shutdown answers, as a time that ran out, the timeout in seconds and a hundred for each time that it was
-/// asked, and for each attribute of a resource that it heard.
+/// An exporter whose shutdown answers, as a time that ran out, the timeout in seconds and a hundred for each time that
+/// it was asked, and for each attribute of a resource that it heard.
 #[derive(Drop)]
 struct Stuck {
     asked: u64,

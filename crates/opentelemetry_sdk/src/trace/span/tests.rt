@@ -6,8 +6,11 @@ use otel_batch::trace::InMemorySpanExporter;
 use std::alloc::Global;
 use std::test::Fail;
 
-type TestProvider =
-    ProviderOf<SimpleSpanProcessor<InMemorySpanExporter>, Sampler, RandomIdGenerator>;
+type TestProvider = ProviderOf<
+    SimpleSpanProcessor<InMemorySpanExporter>,
+    Sampler,
+    RandomIdGenerator,
+>;
 
 /// An open provider over these processors, which samples every span.
 fn provider_over(
@@ -174,9 +177,18 @@ fn attributes_of_events_and_links_are_cut_and_counted_anew(rt: HostRuntime) -> R
 fn the_greatest_status_stays(rt: HostRuntime) -> Result<(), Fail> {
     let alloc = rt.alloc();
     let rows = [
-        ([error_of(alloc, "b")?, error_of(alloc, "a")?, Status::Unset], error_of(alloc, "b")?),
-        ([error_of(alloc, "a")?, Status::Unset, error_of(alloc, "b")?], error_of(alloc, "b")?),
-        ([Status::Ok, error_of(alloc, "z")?, Status::Unset], Status::Ok),
+        (
+            [error_of(alloc, "b")?, error_of(alloc, "a")?, Status::Unset],
+            error_of(alloc, "b")?,
+        ),
+        (
+            [error_of(alloc, "a")?, Status::Unset, error_of(alloc, "b")?],
+            error_of(alloc, "b")?,
+        ),
+        (
+            [Status::Ok, error_of(alloc, "z")?, Status::Unset],
+            Status::Ok,
+        ),
         ([Status::Unset, Status::Unset, Status::Unset], Status::Unset),
     ];
     for (set, status) in rows {
@@ -207,10 +219,7 @@ fn finished(alloc: Global, provider: &mut TestProvider) -> Result<usize, AllocEr
 }
 
 fn edit_by_each_call(alloc: Global, span: &mut Span) -> Result<(), AllocError> {
-    span.set_attribute(KeyValue::new(
-        Key::new(String::from_str(alloc, "k")?),
-        Value::I64(3),
-    ))?;
+    span.set_attribute(KeyValue::new(Key::from_static_str("k"), Value::I64(3)))?;
     span.add_event_with_timestamp(String::from_str(alloc, "row")?, Moment(8), Vec::new(alloc))?;
     span.add_link(SpanContext::empty_context(), attributes(alloc, b'a', 2)?)?;
     span.set_status(error_of(alloc, "lost")?)?;
@@ -234,10 +243,7 @@ fn exported_by(alloc: Global, provider: &TestProvider) -> Result<Vec<SpanData>, 
 fn a_finished_span_is_exported_once_with_each_edit(rt: HostRuntime) -> Result<(), Fail> {
     let alloc = rt.alloc();
     let mut processors = Vec::new(alloc);
-    processors.push(SimpleSpanProcessor::new(
-        alloc,
-        InMemorySpanExporter::new(alloc),
-    ))?;
+    processors.push(SimpleSpanProcessor::new(alloc, InMemorySpanExporter::new(alloc)))?;
     let mut provider = provider_over(processors, SpanLimits::default());
     let refused = finished(alloc, &mut provider);
     let exported = exported_by(alloc, &provider);

@@ -8,8 +8,8 @@ use otel_base::error::OTelSdkError;
 use std::alloc::{AllocError, Global};
 use std::test::Fail;
 
-/// An exporter of a caller's own: each answer says, as a time that ran out, what it was handed; that of a shutdown or a flush
-/// has a hundred seconds more for each time that it was asked for either.
+/// An exporter of a caller's own: each answer says, as a time that ran out, what it was handed; that of a shutdown or a
+/// flush has a hundred seconds more for each time that it was asked for either.
 #[derive(Drop)]
 struct Echo {
     asked: u64,

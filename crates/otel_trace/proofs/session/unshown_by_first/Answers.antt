@@ -2,8 +2,7 @@ use Rattle.std.proofs.Common.{◌∙◌, sym, ap, List, drop}
 use Rattle.std.proofs.lemmas.List.{drop-map}
 use Rattle.std.proofs.lemmas.List.Folds.{flat_map-map}
 use Rattle.std.specs.List.{flat_map}
-use Rattle.otel_batch.specs.PlainSpanData.{PlainSpanData}
-use Rattle.opentelemetry_sdk.specs.ProcessorTelling.{spans_in}
+use Rattle.otel_batch.specs.PlainSpanData.{PlainSpanData, spans_in}
 use Rattle.otel_trace.specs.SessionDelivery.{}
 use Rattle.otel_trace.proofs.session.unshown_by_first.Goals as goal
 

@@ -9,11 +9,11 @@ use Rattle.otel_base.proofs.resource.env.name_in.Goals as goal
 pub returns : goal.returns
 returns c =
     let (pairs, reads, put) = c.in_ok-attributes.ensures in
-    let key : c.new-key.result ≡ service_name_key = c.new-key.ensures ∙ c.in_ok-from_str.ensures.ok in (
+    let key : c.from_static_str-key.result ≡ service_name_key = c.from_static_str-key.ensures in (
       pairs,
       reads,
       ap (option_map plain_value) c.remove.ensures.value
-          ∙ sym (get-by_key c.in_ok-attributes.attributes c.new-key.result)
+          ∙ sym (get-by_key c.in_ok-attributes.attributes c.from_static_str-key.result)
           ∙ (λ i. fin.get (put i) (key i))
           ∙ ap (λ (m : Attributes). fin.get (union m (attributes_of pairs)) service_name_key) (by_key-empty c.new.result c.new.ensures.empty)
           ∙ ap (λ (m : Attributes). fin.get m service_name_key) (union-empty_left (attributes_of pairs)),

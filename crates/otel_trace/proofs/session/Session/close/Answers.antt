@@ -1,7 +1,6 @@
 use Rattle.std.proofs.Common.{◌≡◌, ◌++◌, ◌∙◌, ap, List, OnOk, drop, subst}
-use Rattle.otel_batch.specs.PlainSpanData.{PlainSpanData}
+use Rattle.otel_batch.specs.PlainSpanData.{PlainSpanData, spans_in}
 use Rattle.otel_trace.specs.ReplyText.{span_lines}
-use Rattle.opentelemetry_sdk.specs.ProcessorTelling.{spans_in}
 use Rattle.otel_trace.specs.SessionDelivery.{SessionState, Closes, batches_of_first}
 use Rattle.otel_trace.proofs.CloseLemmas.{closes}
 use Rattle.otel_trace.proofs.session.Session.close.Goals as goal

@@ -1,5 +1,5 @@
 use Rattle.std.proofs.Common.{List, drop, ap, ◌∙◌}
-use Rattle.opentelemetry_sdk.specs.ProcessorTelling.{spans_in}
+use Rattle.otel_batch.specs.PlainSpanData.{spans_in}
 use Rattle.otel_trace.specs.SessionDelivery.{SessionState, batches_of_first, unshown}
 use Rattle.otel_trace.proofs.session.Session.unshown.Goals as goal
 

@@ -1,0 +1,25 @@
+use Rattle.std.proofs.Common.{Some, string_bytes, sym, ap, ◌∙◌}
+use Rattle.std.specs.Option.{option_map}
+use Rattle.opentelemetry.specs.Baggage.{entry_of}
+use Rattle.otel_base.specs.BaggageHeader.{metadata_of}
+use Rattle.otel_base.specs.BaggagePieces.{entry_with, properties_behind}
+use Rattle.otel_base.proofs.BaggagePieceLemmas.{member_says}
+use Rattle.otel_base.proofs.propagation.baggage.read.read_member.Goals as goal
+
+pub returns-in_default : goal.returns-in_default
+returns-in_default c =
+    let pair = c.split_properties.result.0.now in
+    let properties = properties_behind c.split_properties.result.1 in
+    sym (ap (option_map (entry_with (metadata_of properties))) c.in_default.is)
+    ∙ c.in_ok-name.ensures (metadata_of properties)
+    ∙ sym (member_says c.args.member.now pair properties c.split_properties.ensures)
+
+pub returns : goal.returns
+returns c =
+    let pair = c.split_properties.result.0.now in
+    let properties = properties_behind c.split_properties.result.1 in
+    ap Some c.new.ensures
+    ∙ ap (λ m. Some (entry_of (string_bytes c.in-Some.name) (string_bytes c.in-Some.value) m)) (c.new-metadata.ensures ∙ c.in_ok-read_metadata.ensures)
+    ∙ sym (ap (option_map (entry_with (metadata_of properties))) c.in-Some.is)
+    ∙ c.in_ok-name.ensures (metadata_of properties)
+    ∙ sym (member_says c.args.member.now pair properties c.split_properties.ensures)

@@ -1,0 +1,197 @@
+-- Behind a completed shutdown the worker of the batch queue is gone, and nothing is exported.
+use Rattle.std.proofs.Common.{◌≡◌, ◌∙◌, ap, sym, refl, subst, zero, suc, ℕ, true, false, List, [], ◌∷◌, ◌++◌, Option, Some, None, take, drop, slice_get, rules, arith}
+use Rattle.otel_batch.specs.Workers.{is_closing, is_ready, is_clearing, is_loading, is_pulling, is_handing, is_subtracting, is_finishing}
+use Rattle.otel_batch.specs.MachineState.{Machine, Counts, counts}
+use Rattle.otel_batch.specs.PermittedStep.{Permitted, TakeRow, TickRow, ClearRow, LoadRow, PullRow, HandOverRow, SubtractRow, FinishRow, CloseRow}
+use Rattle.otel_batch.specs.MovedSpans.{Moved, Keeps}
+use Rattle.otel_batch.specs.MachineRun.{Run, Stepped, batch_sizes}
+use Rattle.otel_batch.specs.ShutdownSilence.{IsSilentBehind, SilentAfterShutdown}
+use Rattle.otel_batch.specs.declared.machine.state.Worker.TheVariants as worker
+use Rattle.otel_batch.specs.declared.machine.step.Outcome.{Outcome}
+use Rattle.otel_batch.specs.declared.machine.step.Outcome.TheVariants as outcome
+use Rattle.otel_batch.specs.declared.machine.step.Step.{Step}
+use Rattle.otel_batch.specs.declared.machine.step.Step.TheVariants as step
+use Rattle.otel_batch.specs.declared.trace.export.SpanExporter.{Ghosts}
+use Rattle.otel_batch.proofs.TableFacts.{is_producers, LeavesWorker, permitted-alone}
+use Rattle.otel_batch.proofs.Conserving.{sizes-first}
+
+-- the worker stays gone, and no batch was handed over
+record StaysGone (o : Outcome) (t : Counts) : Type 0 where
+  gone : t.control.worker ≡ worker.Gone
+  no_batch : batch_sizes (o ∷ []) ≡ []
+
+-- no producer's step hands a batch over
+pub producers-no_batch : (o : Outcome) → is_producers o ≡ true → batch_sizes (o ∷ []) ≡ []
+producers-no_batch (outcome.HandedOver k e) is = cc
+producers-no_batch _ is = refl
+
+gone_by : (o : Outcome) (s t : Counts) → s.control.worker ≡ worker.Gone → LeavesWorker o s t → StaysGone o t
+gone_by o s t gone leaves =
+    record { gone = leaves.worker ∙ gone; no_batch = producers-no_batch o leaves.producers }
+
+rests_gone : (s t : Counts) → t ≡ s → s.control.worker ≡ worker.Gone → StaysGone outcome.NotEnabled t
+rests_gone s t e gone = record { gone = ap (λ c. c.control.worker) e ∙ gone; no_batch = refl }
+
+take_gone : (s : Counts) (o : Outcome) (t : Counts) → s.control.worker ≡ worker.Gone → TakeRow s o t → StaysGone o t
+take_gone s outcome.Nothing t gone row = absurd (let at = row.0 in cc)
+take_gone s outcome.TookExport t gone row = absurd (let at = row.0 in cc)
+take_gone s (outcome.TookFlush p) t gone row = absurd (let at = row.0 in cc)
+take_gone s (outcome.TookShutdown p) t gone row = absurd (let at = row.0 in cc)
+take_gone s outcome.TookResource t gone row = absurd (let at = row.0 in cc)
+take_gone s outcome.NotEnabled t gone row = rests_gone s t row.1 gone
+take_gone s _ t gone row = absurd row
+
+tick_gone : (s : Counts) (o : Outcome) (t : Counts) → s.control.worker ≡ worker.Gone → TickRow s o t → StaysGone o t
+tick_gone s outcome.Ticked t gone row = absurd (let at = row.0 in cc)
+tick_gone s outcome.NotEnabled t gone row = rests_gone s t row.1 gone
+tick_gone s _ t gone row = absurd row
+
+clear_gone : (s : Counts) (o : Outcome) (t : Counts) → s.control.worker ≡ worker.Gone → ClearRow s o t → StaysGone o t
+clear_gone s outcome.Cleared t gone row = absurd (let at = row.0 in cc)
+clear_gone s outcome.NotEnabled t gone row = rests_gone s t row.1 gone
+clear_gone s _ t gone row = absurd row
+
+load_gone : (s : Counts) (o : Outcome) (t : Counts) → s.control.worker ≡ worker.Gone → LoadRow s o t → StaysGone o t
+load_gone s (outcome.Loaded n) t gone row = absurd (let at = row.1 in cc)
+load_gone s outcome.NotEnabled t gone row = rests_gone s t row.1 gone
+load_gone s _ t gone row = absurd row
+
+pull_gone : (s : Counts) (o : Outcome) (t : Counts) → s.control.worker ≡ worker.Gone → PullRow s o t → StaysGone o t
+pull_gone s outcome.Empty t gone row = absurd (let at = row.0 in cc)
+pull_gone s outcome.NoMemory t gone row = absurd (let at = row.0 in cc)
+pull_gone s outcome.Pulled t gone row = absurd (let at = row.0 in cc)
+pull_gone s outcome.NotEnabled t gone row = rests_gone s t row.1 gone
+pull_gone s _ t gone row = absurd row
+
+hand_over_gone : (s : Counts) (o : Outcome) (t : Counts) → s.control.worker ≡ worker.Gone → HandOverRow s o t → StaysGone o t
+hand_over_gone s (outcome.HandedOver k e) t gone row = absurd (let at = row.0 in cc)
+hand_over_gone s outcome.NotEnabled t gone row = rests_gone s t row.1 gone
+hand_over_gone s _ t gone row = absurd row
+
+subtract_gone : (s : Counts) (o : Outcome) (t : Counts) → s.control.worker ≡ worker.Gone → SubtractRow s o t → StaysGone o t
+subtract_gone s outcome.Subtracted t gone row = absurd (let at = row.1 in cc)
+subtract_gone s outcome.NotEnabled t gone row = rests_gone s t row.1 gone
+subtract_gone s _ t gone row = absurd row
+
+close_gone : (s : Counts) (o : Outcome) (t : Counts) → s.control.worker ≡ worker.Gone → CloseRow s o t → StaysGone o t
+close_gone s outcome.ShutDown t gone row =
+    absurd (let at : is_closing s.control.worker ≡ false = rw gone refl in let closing = row.0 in cc)
+close_gone s outcome.NotEnabled t gone row = rests_gone s t row.1 gone
+close_gone s _ t gone row = absurd row
+
+finish_gone : (s : Counts) (o : Outcome) (t : Counts) → s.control.worker ≡ worker.Gone → FinishRow s o t → StaysGone o t
+finish_gone s (outcome.Finished e) t gone row = absurd (let at = row.0 in cc)
+finish_gone s outcome.NotEnabled t gone row = rests_gone s t row.1 gone
+finish_gone s _ t gone row = absurd row
+
+permitted_gone : (s : Counts) (x : Step) (o : Outcome) (t : Counts) → s.control.worker ≡ worker.Gone →
+    Permitted s x o t → StaysGone o t
+permitted_gone s (step.Offer p span) o t gone row = gone_by o s t gone (permitted-alone s (step.Offer p span) o t refl row)
+permitted_gone s (step.Send p) o t gone row = gone_by o s t gone (permitted-alone s (step.Send p) o t refl row)
+permitted_gone s (step.Undo p) o t gone row = gone_by o s t gone (permitted-alone s (step.Undo p) o t refl row)
+permitted_gone s (step.Ask p) o t gone row = gone_by o s t gone (permitted-alone s (step.Ask p) o t refl row)
+permitted_gone s (step.Post p) o t gone row = gone_by o s t gone (permitted-alone s (step.Post p) o t refl row)
+permitted_gone s (step.Reset p) o t gone row = gone_by o s t gone (permitted-alone s (step.Reset p) o t refl row)
+permitted_gone s (step.RequestFlush p) o t gone row = gone_by o s t gone (permitted-alone s (step.RequestFlush p) o t refl row)
+permitted_gone s (step.RequestShutdown p) o t gone row = gone_by o s t gone (permitted-alone s (step.RequestShutdown p) o t refl row)
+permitted_gone s (step.Collect p) o t gone row = gone_by o s t gone (permitted-alone s (step.Collect p) o t refl row)
+permitted_gone s (step.PostResource resource) o t gone row = gone_by o s t gone (permitted-alone s (step.PostResource resource) o t refl row)
+permitted_gone s step.Take o t gone row = take_gone s o t gone row
+permitted_gone s step.Tick o t gone row = tick_gone s o t gone row
+permitted_gone s step.Clear o t gone row = clear_gone s o t gone row
+permitted_gone s step.Load o t gone row = load_gone s o t gone row
+permitted_gone s step.Pull o t gone row = pull_gone s o t gone row
+permitted_gone s step.HandOver o t gone row = hand_over_gone s o t gone row
+permitted_gone s step.Subtract o t gone row = subtract_gone s o t gone row
+permitted_gone s step.Close o t gone row = close_gone s o t gone row
+permitted_gone s step.Finish o t gone row = finish_gone s o t gone row
+
+-- only the worker's last step completes a shutdown
+shut_down-closes : (s : Counts) (x : Step) (t : Counts) → Permitted s x outcome.ShutDown t → x ≡ step.Close
+shut_down-closes s (step.Offer p span) t row = absurd row
+shut_down-closes s (step.Send p) t row = absurd row
+shut_down-closes s (step.Undo p) t row = absurd row
+shut_down-closes s (step.Ask p) t row = absurd row
+shut_down-closes s (step.Post p) t row = absurd row
+shut_down-closes s (step.Reset p) t row = absurd row
+shut_down-closes s (step.RequestFlush p) t row = absurd row
+shut_down-closes s (step.RequestShutdown p) t row = absurd row
+shut_down-closes s (step.Collect p) t row = absurd row
+shut_down-closes s (step.PostResource resource) t row = absurd row
+shut_down-closes s step.Take t row = absurd row
+shut_down-closes s step.Tick t row = absurd row
+shut_down-closes s step.Clear t row = absurd row
+shut_down-closes s step.Load t row = absurd row
+shut_down-closes s step.Pull t row = absurd row
+shut_down-closes s step.HandOver t row = absurd row
+shut_down-closes s step.Subtract t row = absurd row
+shut_down-closes s step.Close t row = refl
+shut_down-closes s step.Finish t row = absurd row
+
+module _ {E : Type 0} (calls : Ghosts E) where
+  -- a machine that is gone keeps its exporter
+  moved_gone : (s : Machine E) (x : Step) (o : Outcome) (t : Machine E) → s.control.worker ≡ worker.Gone →
+      Permitted (counts s) x o (counts t) → Moved calls s x o t → t.exporter ≡ s.exporter
+  moved_gone s (step.Send p) outcome.Accepted t gone row m = m.exporter
+  moved_gone s step.Pull outcome.Pulled t gone row m = m.exporter
+  moved_gone s step.HandOver (outcome.HandedOver k e) t gone row m = absurd (let at = row.0 in cc)
+  moved_gone s step.Take outcome.TookResource t gone row m = absurd (let at = row.0 in cc)
+  moved_gone s step.Close outcome.ShutDown t gone row m =
+      absurd (let at : is_closing s.control.worker ≡ false = rw gone refl in let closing = row.0 in cc)
+  moved_gone s _ _ t gone row m = m.exporter
+
+  gone_run : (s : Machine E) (xs : List Step) (os : List Outcome) (t : Machine E) → s.control.worker ≡ worker.Gone →
+      Run calls s xs os t → (t.exporter ≡ s.exporter) × (batch_sizes os ≡ [])
+  gone_run s [] [] t gone run = (ap (λ m. m.exporter) run, refl)
+  gone_run s (x ∷ xs) (o ∷ os) t gone run =
+      let stays = permitted_gone (counts s) x o (counts run.0) gone run.1.permitted in
+      let rest = gone_run run.0 xs os t stays.gone run.2 in (
+        rest.0 ∙ moved_gone s x o run.0 gone run.1.permitted run.1.moved,
+        sizes-first o os ∙ ap (λ l. l ++ batch_sizes os) stays.no_batch ∙ rest.1,
+      )
+  gone_run s [] (o ∷ os) t gone run = absurd run
+  gone_run s (x ∷ xs) [] t gone run = absurd run
+
+  -- a step that completes a shutdown changes no telling, and leaves the worker gone
+  closes : (s : Machine E) (x : Step) (o : Outcome) (t : Machine E) → o ≡ outcome.ShutDown → Stepped calls s x o t →
+      (calls.told t.exporter ≡ calls.told s.exporter) × (t.control.worker ≡ worker.Gone)
+  closes s x o t e took =
+      let row : Permitted (counts s) x outcome.ShutDown (counts t) = rw e at took.permitted in
+      let is : x ≡ step.Close = shut_down-closes (counts s) x (counts t) row in
+      let moved : Moved calls s step.Close outcome.ShutDown t = rw (e, is) at took.moved in
+      let closed : Permitted (counts s) step.Close outcome.ShutDown (counts t) = rw is at row in
+      (moved.told, ap (λ c. c.control.worker) closed.2)
+
+  -- nothing follows a shutdown in a run
+  pub run-silent : (s : Machine E) (xs : List Step) (os : List Outcome) (t : Machine E) → Run calls s xs os t →
+      SilentAfterShutdown calls s xs os t
+  run-silent s [] [] t run n e =
+      absurd (let os : List Outcome = [] in let none : slice_get os n ≡ None = refl in cc)
+  run-silent s (x ∷ xs) (o ∷ os) t run zero e =
+      let is : o ≡ outcome.ShutDown = cc in
+      let closed = closes s x o run.0 is run.1 in
+      let rest = gone_run run.0 xs os t closed.1 run.2 in
+      record {
+        before = s;
+        shut = run.0;
+        up_to = refl;
+        closes = (run.0, run.1, refl);
+        behind = run.2;
+        told = closed.0;
+        exporter = rest.0;
+        no_batch = rest.1;
+      }
+  run-silent s (x ∷ xs) (o ∷ os) t run (suc n) e =
+      let later = run-silent run.0 xs os t run.2 n e in
+      record {
+        before = later.before;
+        shut = later.shut;
+        up_to = (run.0, run.1, later.up_to);
+        closes = later.closes;
+        behind = later.behind;
+        told = later.told;
+        exporter = later.exporter;
+        no_batch = later.no_batch;
+      }
+  run-silent s [] (o ∷ os) t run n e = absurd run
+  run-silent s (x ∷ xs) [] t run n e = absurd run

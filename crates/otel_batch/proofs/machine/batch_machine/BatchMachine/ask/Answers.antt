@@ -1,0 +1,15 @@
+use Rattle.std.proofs.Common.{rules, arith, ◌≡◌, ℕ, ◌+◌, ◌∷◌, ◌++◌, [], ◌≤◌, ◌<◌, Some, true, false, refl, slice_get, slice_set, length}
+use Rattle.std.proofs.lemmas.Grind.{common_steps}
+use Rattle.otel_batch.specs.declared.machine.state.Slot.TheVariants.{Idle, Refused, Asking, Posting, Resetting, Waiting, Answered, Holding}
+use Rattle.otel_batch.proofs.Soundness.{sound_slot, sound_may_post, sound_reset, sound_posted}
+use Rattle.otel_batch.proofs.machine.batch_machine.BatchMachine.ask.Goals as goal
+
+pub invariant_of-self : goal.invariant_of-self
+invariant_of-self g c =
+    let at : slice_get c.self.inside.slots.items c.args.p ≡ Some Asking = grind (arith, common_steps) in
+    rw c.set_slot.ensures (record { sound = sound_slot _ c.args.p Asking Idle at c.self.invariant.sound _ _ _ (omega arith) (omega arith) (omega arith) c.self.invariant.sound.fits.waiting_fits c.self.invariant.sound.fits.dropped_fits; room = c.self.invariant.room })
+
+pub invariant_of-self-2 : goal.invariant_of-self-2
+invariant_of-self-2 g c =
+    let at : slice_get c.self.inside.slots.items c.args.p ≡ Some Asking = grind (arith, common_steps) in
+    rw c.set_slot-2.ensures (record { sound = sound_may_post _ c.args.p at c.if-self.false c.self.invariant.sound; room = c.self.invariant.room })

@@ -1,0 +1,23 @@
+use Rattle.std.proofs.Common.{rules, arith, ◌≡◌, ◌∙◌, ◌≤◌, ap, sym, refl, ◌<◌, ◌^◌, [], replicate}
+use Rattle.std.proofs.lemmas.Grind.{common_steps}
+use Rattle.otel_batch.proofs.First.{first-sound}
+use Rattle.otel_batch.proofs.machine.batch_machine.BatchMachine.new.Goals as goal
+
+pub invariant_of-result : goal.invariant_of-result
+invariant_of-result g c =
+    let size : c.in_ok-with_capacity.field-0.capacity ≡ c.args.config.max_queue_size = grind (arith, common_steps) in
+    let batch : c.max_export_batch_size-batch_size.result ≡ c.args.config.max_export_batch_size =
+    c.max_export_batch_size-batch_size.ensures.value in
+    let fits : c.args.config.max_queue_size < 2 ^ 64 = grind (arith, common_steps) in
+    rw (
+      c.in_ok-with_capacity-2.ensures,
+      c.in_ok-idle_slots.ensures,
+      c.new.ensures.items,
+      c.in_ok-with_capacity.ensures,
+      batch,
+      c.max_queue_size.ensures,
+    ) (record {
+      sound = first-sound c.args.exporter c.args.config c.args.producers fits
+          (rw batch at c.max_export_batch_size-batch_size.ensures.fits) c.ranges.producers.fits;
+      room = record { hand = λ f. cc; control = refl };
+    })

@@ -1,0 +1,58 @@
+use Rattle.std.proofs.Common.{rules, arith, ◌≡◌, ◌∙◌, ap, sym, refl, ℕ, ◌<◌, ◌≤◌, List, [], ◌∷◌, ◌++◌, length, take, drop, append_assoc, append-nil}
+use Rattle.std.proofs.lemmas.Grind.{common_steps}
+use Rattle.std.specs.Vec.Iter.{into_iter_items, into_iter_len}
+use Rattle.otel_batch.specs.MachineRun.{Run, Stepped, added}
+use Rattle.otel_batch.proofs.Conserving.{run-conserves, run-loses_none, run-drops}
+use Rattle.otel_batch.proofs.Silence.{run-silent}
+use Rattle.otel_batch.proofs.machine.batch_machine.BatchMachine.run.Goals as goal
+
+pub loop-step-preserved : goal.loop-step-preserved
+loop-step-preserved g c =
+    let inv = c.loop-step.invariant in
+    let n : ℕ = length c.args.outcomes.now.items in
+    let more : c.push_reserved.new.self.items ≡ c.loop-step.outcomes.items ++ c.step-outcome.result ∷ [] = c.push_reserved.ensures.items in
+    let cut : drop n (c.loop-step.outcomes.items ++ c.step-outcome.result ∷ []) ≡ drop n c.loop-step.outcomes.items ++ c.step-outcome.result ∷ [] = grind (arith, common_steps, inv.longer) in
+    let first : into_iter_items c.loop-step.rest ≡ c.in-Some.step ∷ into_iter_items c.next.new.self = grind (arith, common_steps) in
+    record {
+      goes_on = λ os t run. rw (more, cut, append_assoc (drop n c.loop-step.outcomes.items) (c.step-outcome.result ∷ []) os)
+          (inv.goes_on (c.step-outcome.result ∷ os) t
+          (rw first (c.step-outcome.new.self, record { permitted = c.step-outcome.ensures.permitted; moved = c.step-outcome.ensures.moved; sound = c.step-outcome.ensures.sound }, run)));
+      kept = grind (arith, common_steps);
+      longer = grind (arith, common_steps);
+      room = grind (arith, common_steps);
+    }
+
+pub returns-clause-ran : goal.returns-clause-ran
+returns-clause-ran g c =
+    let none : into_iter_items c.loop-step.rest ≡ [] = grind (arith, common_steps) in
+    let outs = added c.args.outcomes.now.items c.loop-step.outcomes.items in
+    rw (← append-nil outs) (c.loop-step.invariant.goes_on [] c.loop-step.self (rw none refl))
+
+pub returns-clause-conserved : goal.returns-clause-conserved
+returns-clause-conserved g c =
+    let none : into_iter_items c.loop-step.rest ≡ [] = grind (arith, common_steps) in
+    let outs = added c.args.outcomes.now.items c.loop-step.outcomes.items in
+    run-conserves g.E.SpanExporter c.args.self.now c.args.steps.items outs c.loop-step.self
+    (rw (← append-nil outs) (c.loop-step.invariant.goes_on [] c.loop-step.self (rw none refl)))
+
+pub returns-clause-loses_no_span : goal.returns-clause-loses_no_span
+returns-clause-loses_no_span g c = λ first.
+    let none : into_iter_items c.loop-step.rest ≡ [] = grind (arith, common_steps) in
+    let outs = added c.args.outcomes.now.items c.loop-step.outcomes.items in
+    run-loses_none g.E.SpanExporter c.args.self.now c.args.steps.items outs c.loop-step.self first
+    (rw (← append-nil outs) (c.loop-step.invariant.goes_on [] c.loop-step.self (rw none refl)))
+
+pub returns-clause-dropped : goal.returns-clause-dropped
+returns-clause-dropped g c =
+    let none : into_iter_items c.loop-step.rest ≡ [] = grind (arith, common_steps) in
+    let outs = added c.args.outcomes.now.items c.loop-step.outcomes.items in
+    run-drops g.E.SpanExporter c.args.self.now c.args.steps.items outs c.loop-step.self
+    c.is_sound.ensures.fits.dropped_fits
+    (rw (← append-nil outs) (c.loop-step.invariant.goes_on [] c.loop-step.self (rw none refl)))
+
+pub returns-clause-silent : goal.returns-clause-silent
+returns-clause-silent g c =
+    let none : into_iter_items c.loop-step.rest ≡ [] = grind (arith, common_steps) in
+    let outs = added c.args.outcomes.now.items c.loop-step.outcomes.items in
+    run-silent g.E.SpanExporter c.args.self.now c.args.steps.items outs c.loop-step.self
+    (rw (← append-nil outs) (c.loop-step.invariant.goes_on [] c.loop-step.self (rw none refl)))

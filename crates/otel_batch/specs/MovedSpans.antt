@@ -1,0 +1,64 @@
+-- Where the spans go in one step of the batch queue, and what the exporter is asked.
+use Rattle.std.specs.Prelude.{◌≡◌, ℕ, List, [], ◌∷◌, ◌++◌, Option, Some, None, Result, slice_get}
+use Rattle.otel_base.specs.declared.error.OTelSdkError.{OTelSdkError}
+use Rattle.otel_batch.specs.PlainSpanData.{PlainSpanData}
+use Rattle.otel_batch.specs.RestsOr.{RestsOr, StaysOr}
+use Rattle.otel_batch.specs.Telling.{Tells}
+use Rattle.otel_batch.specs.Slots.{held}
+use Rattle.otel_batch.specs.Messages.{resource_in}
+use Rattle.otel_batch.specs.MachineState.{Machine}
+use Rattle.otel_batch.specs.declared.machine.step.Outcome.{Outcome}
+use Rattle.otel_batch.specs.declared.machine.step.Outcome.TheVariants as outcome
+use Rattle.otel_batch.specs.declared.machine.step.Step.{Step}
+use Rattle.otel_batch.specs.declared.machine.step.Step.TheVariants as step
+use Rattle.otel_batch.specs.declared.trace.export.SpanExporter.{Ghosts}
+
+-- no span moved, and the exporter is the same
+pub record Keeps {E : Type 0} (s t : Machine E) : Type 0 where
+  pub exporter : t.exporter ≡ s.exporter
+  pub hand : t.hand ≡ s.hand
+  pub waiting : t.waiting ≡ s.waiting
+
+-- the span of p goes last among those that wait
+pub record QueuesSpan {E : Type 0} (s : Machine E) (p : ℕ) (t : Machine E) : Type 0 where
+  pub exporter : t.exporter ≡ s.exporter
+  pub hand : t.hand ≡ s.hand
+  pub waiting : t.waiting ≡ s.waiting ++ held (slice_get s.control.slots p)
+
+-- the first span that waits goes last into the hand
+pub record PullsSpan {E : Type 0} (s t : Machine E) : Type 0 where
+  pub exporter : t.exporter ≡ s.exporter
+  pub both : t.hand ++ t.waiting ≡ s.hand ++ s.waiting
+
+module _ {E : Type 0} (calls : Ghosts E) where
+  -- the exporter is handed the hand as a batch, and its answer is the drain's result
+  pub record ExportsHand (s t : Machine E) : Type 0 where
+    pub gives : calls.export_gives s.exporter s.hand t.control.result t.exporter
+    pub told : Tells (calls.told s.exporter) (s.hand ∷ []) (calls.told t.exporter)
+    pub hand : t.hand ≡ []
+    pub waiting : t.waiting ≡ s.waiting
+
+  -- the exporter is handed the resource of the first message
+  pub record PassesResource (s t : Machine E) : Type 0 where
+    pub gives : StaysOr (λ x y. calls.resource_gives x (resource_in (slice_get s.control.messages 0)) y)
+        s.exporter t.exporter
+    pub told : calls.told t.exporter ≡ calls.told s.exporter
+    pub hand : t.hand ≡ s.hand
+    pub waiting : t.waiting ≡ s.waiting
+
+  -- the exporter is shut down, in five seconds; its answer is dropped
+  pub record ShutsExporter (s t : Machine E) : Type 0 where
+    pub answer : Result (Unit {0}) OTelSdkError
+    pub gives : RestsOr (λ x given y. calls.shutdown_gives x 5_000_000_000 given y) s.exporter answer t.exporter
+    pub told : calls.told t.exporter ≡ calls.told s.exporter
+    pub hand : t.hand ≡ s.hand
+    pub waiting : t.waiting ≡ s.waiting
+
+  -- where the spans go in one step
+  abbrev pub Moved : Machine E → Step → Outcome → Machine E → Type 0
+  Moved s (step.Send p) outcome.Accepted t = QueuesSpan s p t
+  Moved s step.Pull outcome.Pulled t = PullsSpan s t
+  Moved s step.HandOver (outcome.HandedOver k e) t = ExportsHand s t
+  Moved s step.Take outcome.TookResource t = PassesResource s t
+  Moved s step.Close outcome.ShutDown t = ShutsExporter s t
+  Moved s _ _ t = Keeps s t

@@ -1,0 +1,27 @@
+-- Nothing follows a shutdown of the batch queue.
+use Rattle.std.specs.Prelude.{◌≡◌, ℕ, suc, take, drop, List, [], Option, Some, slice_get}
+use Rattle.otel_batch.specs.MachineState.{Machine}
+use Rattle.otel_batch.specs.MachineRun.{Run, batch_sizes}
+use Rattle.otel_batch.specs.declared.machine.step.Outcome.{Outcome}
+use Rattle.otel_batch.specs.declared.machine.step.Outcome.TheVariants as outcome
+use Rattle.otel_batch.specs.declared.machine.step.Step.{Step}
+use Rattle.otel_batch.specs.declared.trace.export.SpanExporter.{Ghosts}
+
+module _ {E : Type 0} (calls : Ghosts E) where
+  -- the n-th step of a run completed a shutdown: it changed nothing that the exporter tells, and behind it no batch was
+  -- handed over, and the exporter is the same to the end
+  pub record IsSilentBehind (n : ℕ) (s : Machine E) (xs : List Step) (os : List Outcome) (t : Machine E) : Type 0 where
+    -- the machine before that step, and behind it
+    pub before : Machine E
+    pub shut : Machine E
+    pub up_to : Run calls s (take n xs) (take n os) before
+    pub closes : Run calls before (take 1 (drop n xs)) (take 1 (drop n os)) shut
+    pub behind : Run calls shut (drop (suc n) xs) (drop (suc n) os) t
+    pub told : calls.told shut.exporter ≡ calls.told before.exporter
+    pub exporter : t.exporter ≡ shut.exporter
+    pub no_batch : batch_sizes (drop (suc n) os) ≡ []
+
+  -- so it is behind every step that completed a shutdown
+  abbrev pub SilentAfterShutdown : Machine E → List Step → List Outcome → Machine E → Type 0
+  SilentAfterShutdown s xs os t =
+      (n : ℕ) → slice_get os n ≡ Some outcome.ShutDown → IsSilentBehind n s xs os t

@@ -1,0 +1,19 @@
+//! The batch queue as a machine of small steps: producers offer ended spans to a queue of bounded length, and one worker
+//! drains it into batches for an exporter. A caller takes one step at a time, or a list of them, in any order and
+//! interleaving; a step that is not enabled changes nothing. A threaded worker that takes these steps one at a time can
+//! rely on all that is proved of them.
+
+pub mod batch_machine;
+mod producer_steps;
+mod queue;
+mod slots;
+pub mod state;
+pub mod step;
+mod worker_steps;
+
+pub use batch_machine::BatchMachine;
+pub use state::{Message, Request, Slot, Why, Worker};
+pub use step::{Outcome, Step};
+
+#[cfg(test)]
+mod tests;

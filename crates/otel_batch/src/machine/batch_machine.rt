@@ -1,0 +1,296 @@
+//! The batch queue itself: what it is made of, how it is made and read, and its steps.
+
+ghost use Rattle.std.specs.Prelude.{◌≡◌, ◌++◌, IfOk, IfErr, OnOk, length, slice_get};
+
+use crate::machine::slots::idle_slots;
+use crate::machine::state::{Message, Request, Slot, Why, Worker};
+use crate::machine::step::{Outcome, Step};
+use crate::trace::batch_config::BatchConfig;
+use crate::trace::{SpanData, SpanExporter};
+use circular_buffer::HeapCircularBuffer;
+use otel_base::error::OTelSdkResult;
+use std::alloc::{AllocError, Global};
+use std::marker::Model;
+
+/// A batch queue with its producers, its worker and its exporter. All memory but that of a batch is taken when it is
+/// made.
+#[derive(Drop)]
+pub struct BatchMachine<E> {
+    pub(super) alloc: Global,
+    pub(super) exporter: E,
+    pub(super) waiting: HeapCircularBuffer<SpanData>,
+    pub(super) hand: Vec<SpanData>,
+    pub(super) messages: HeapCircularBuffer<Message>,
+    pub(super) slots: Vec<Slot>,
+    pub(super) counter: u128,
+    pub(super) flag: bool,
+    pub(super) dropped: u64,
+    pub(super) closed: bool,
+    pub(super) worker: Worker,
+    pub(super) why: Why,
+    pub(super) target: u128,
+    pub(super) done: u128,
+    pub(super) result: OTelSdkResult,
+    pub(super) refused: bool,
+    pub(super) batch_size: usize,
+}
+
+impl<E> Model for BatchMachine<E> {
+    ghost use Rattle.std.specs.Prelude.{length, vec_len, vec_capacity};
+    ghost use Rattle.std.specs.Coded.{codes};
+    ghost use Rattle.otel_base.specs.Resource.{resource_code};
+    ghost use Rattle.otel_batch.specs.MachineState.{Machine, Control};
+    ghost use Rattle.otel_batch.specs.SoundMachine.{IsKept};
+
+    ghost Value = { Machine E };
+
+    ghost coded = { Prim.hlevel (codes, resource_code) };
+
+    ghost view = { λ m. record {
+      control = record {
+        counter = m.counter;
+        flag = m.flag;
+        messages = m.messages.items;
+        dropped = m.dropped;
+        closed = m.closed;
+        slots = m.slots.items;
+        worker = m.worker;
+        why = m.why;
+        target = m.target;
+        done = m.done;
+        result = m.result;
+        refused = m.refused;
+        queue_size = m.waiting.capacity;
+        batch_size = m.batch_size;
+      };
+      hand = m.hand.items;
+      waiting = m.waiting.items;
+      exporter = m.exporter;
+    } };
+
+    ghost invariant = { λ m. IsKept (record {
+      control = record {
+        counter = m.counter;
+        flag = m.flag;
+        messages = m.messages.items;
+        dropped = m.dropped;
+        closed = m.closed;
+        slots = m.slots.items;
+        worker = m.worker;
+        why = m.why;
+        target = m.target;
+        done = m.done;
+        result = m.result;
+        refused = m.refused;
+        queue_size = m.waiting.capacity;
+        batch_size = m.batch_size;
+      };
+      hand = length m.hand.items;
+      waiting = length m.waiting.items;
+    }) (vec_len m.hand) (vec_capacity m.hand) m.messages.capacity };
+}
+
+impl<E> BatchMachine<E> {
+    ghost use Rattle.std.specs.Prelude.{option_copied};
+    ghost use Rattle.otel_batch.specs.MachineState.{counts};
+    ghost use Rattle.otel_batch.specs.SoundMachine.{IsSound};
+
+    /// How many spans wait.
+    pub fn waiting_len(&self) -> usize
+        ensures { result ≡ length self.now.waiting }
+    {
+        self.waiting.len()
+    }
+
+    /// A span that waits, the oldest first.
+    pub fn waiting(&self, index: usize) -> Option<&SpanData>
+        ensures { option_copied result ≡ slice_get self.now.waiting index }
+    {
+        self.waiting.get(index)
+    }
+
+    /// The spans in the worker's hand.
+    pub fn hand(&self) -> &[SpanData]
+        ensures { result.now ≡ self.now.hand }
+    {
+        self.hand.as_slice()
+    }
+
+    /// What a producer is at.
+    pub fn slot(&self, producer: usize) -> Option<&Slot>
+        ensures { option_copied result ≡ slice_get self.now.control.slots producer }
+    {
+        self.slots.get(producer)
+    }
+
+    /// What the worker is at.
+    pub fn worker(&self) -> &Worker
+        ensures { result.now ≡ self.now.control.worker }
+    {
+        &self.worker
+    }
+
+    /// How many spans are accounted for.
+    pub fn counter(&self) -> u128
+        ensures { result ≡ self.now.control.counter }
+    {
+        self.counter
+    }
+
+    /// How many messages the control queue has.
+    pub fn messages_len(&self) -> usize
+        ensures { result ≡ length self.now.control.messages }
+    {
+        self.messages.len()
+    }
+
+    /// How many spans found the queue full. It stops at the greatest `u64`.
+    pub fn dropped_count(&self) -> u64
+        ensures { result ≡ self.now.control.dropped }
+    {
+        self.dropped
+    }
+
+    /// Whether a shutdown was completed.
+    pub fn is_closed(&self) -> bool
+        ensures { result ≡ self.now.control.closed }
+    {
+        self.closed
+    }
+
+    pub fn exporter(&self) -> &E
+        ensures { result.now ≡ self.now.exporter }
+    {
+        &self.exporter
+    }
+
+    /// What holds of every machine.
+    pub(super) fn is_sound(&self)
+        ensures { IsSound (counts self.now) }
+    {
+        let _ = &self.closed;
+    }
+}
+
+impl<E: SpanExporter> BatchMachine<E> {
+    ghost use Rattle.otel_batch.specs.MachineState.{counts, first_machine};
+    ghost use Rattle.otel_batch.specs.SoundMachine.{IsSound};
+    ghost use Rattle.otel_batch.specs.MachineRun.{Run, accepted, added, batch_sizes, counted_up, full_sends, holds_at};
+    ghost use Rattle.otel_batch.specs.Conservation.{Conserves, IsFirst, LosesNoSpan};
+    ghost use Rattle.otel_batch.specs.ShutdownSilence.{SilentAfterShutdown};
+    ghost use Rattle.otel_batch.specs.PermittedStep.{Permitted};
+    ghost use Rattle.otel_batch.specs.MovedSpans.{Moved};
+
+    /// A machine with so many producers, in which nothing waits. It takes the room of the queue, the control queue and
+    /// the producers, and fails where there is no memory for them.
+    pub fn new(
+        alloc: Global,
+        exporter: E,
+        config: BatchConfig,
+        producers: usize,
+    ) -> Result<BatchMachine<E>, AllocError>
+        ensures { IfOk result (λ m. m ≡ first_machine exporter config producers) }
+    {
+        let batch_size = config.max_export_batch_size();
+        Ok(BatchMachine {
+            alloc,
+            exporter,
+            waiting: HeapCircularBuffer::with_capacity(alloc, config.max_queue_size())?,
+            hand: Vec::new(alloc),
+            messages: HeapCircularBuffer::with_capacity(alloc, 64)?,
+            slots: idle_slots(alloc, producers)?,
+            counter: 0,
+            flag: false,
+            dropped: 0,
+            closed: false,
+            worker: Worker::Ready,
+            why: Why::Asked,
+            target: 0,
+            done: 0,
+            result: Ok(()),
+            refused: false,
+            batch_size,
+        })
+    }
+
+    /// One step of a producer or of the worker. Where it is not enabled, or names no producer, nothing changes, and its
+    /// span or resource is dropped.
+    pub fn step(&mut self, step: Step) -> Outcome
+        ensures permitted { Permitted (counts self.old) step result (counts self.new) }
+        ensures moved { Moved E.SpanExporter self.old step result self.new }
+        ensures sound { IsSound (counts self.new) }
+    {
+        let outcome = self.dispatch(step);
+        self.is_sound();
+        outcome
+    }
+
+    /// Takes these steps, one after another, and appends their outcomes. The room for the outcomes is taken first; where
+    /// there is no memory for it the steps come back, and nothing has changed.
+    pub fn run(
+        &mut self,
+        steps: Vec<Step>,
+        outcomes: &mut Vec<Outcome>,
+    ) -> Result<(), (Vec<Step>, AllocError)>
+        ensures kept { OnOk result (outcomes.new.items
+            ≡ outcomes.old.items ++ added outcomes.old.items outcomes.new.items) }
+        // Each step has its outcome, and is permitted.
+        ensures ran { OnOk result
+            (Run E.SpanExporter self.old steps.items (added outcomes.old.items outcomes.new.items) self.new) }
+        // The spans that a new machine accepted are, in order and each once, those handed to the exporter, those in the
+        // worker's hand, and those that wait.
+        ensures loses_no_span { IsFirst self.old → OnOk result
+            (LosesNoSpan E.SpanExporter self.old steps.items (added outcomes.old.items outcomes.new.items) self.new) }
+        // So it is from any machine on, behind what was in hand and waited before.
+        ensures conserved { OnOk result (Conserves E.SpanExporter self.old
+            (accepted (holds_at self.old.control.slots) steps.items (added outcomes.old.items outcomes.new.items))
+            (batch_sizes (added outcomes.old.items outcomes.new.items)) self.new) }
+        // Each span that met a full queue is counted.
+        ensures dropped { OnOk result (self.new.control.dropped ≡ counted_up self.old.control.dropped
+            (full_sends steps.items (added outcomes.old.items outcomes.new.items))) }
+        // Nothing follows a shutdown.
+        ensures silent { OnOk result (SilentAfterShutdown E.SpanExporter self.old steps.items
+            (added outcomes.old.items outcomes.new.items) self.new) }
+        ensures err { IfErr result (λ e. (e.0 ≡ steps)
+            × (self.new ≡ self.old)
+            × (outcomes.new.items ≡ outcomes.old.items)) }
+    {
+        self.is_sound();
+        if let Err(error) = outcomes.reserve(steps.len()) {
+            return Err((steps, error));
+        }
+        let mut rest = steps.into_iter();
+        while let Some(step) = rest.next() {
+            let outcome = self.step(step);
+            outcomes.push_reserved(outcome);
+        }
+        Ok(())
+    }
+
+    fn dispatch(&mut self, step: Step) -> Outcome
+        ensures permitted { Permitted (counts self.old) step result (counts self.new) }
+        ensures moved { Moved E.SpanExporter self.old step result self.new }
+    {
+        match step {
+            Step::Offer(p, span) => self.offer(p, span),
+            Step::Send(p) => self.send(p),
+            Step::Undo(p) => self.undo(p),
+            Step::Ask(p) => self.ask(p),
+            Step::Post(p) => self.post(p),
+            Step::Reset(p) => self.reset(p),
+            Step::RequestFlush(p) => self.request(Request::Flush, p),
+            Step::RequestShutdown(p) => self.request(Request::Shutdown, p),
+            Step::Collect(p) => self.collect(p),
+            Step::PostResource(resource) => self.post_resource(resource),
+            Step::Take => self.take(),
+            Step::Tick => self.tick(),
+            Step::Clear => self.clear(),
+            Step::Load => self.load(),
+            Step::Pull => self.pull(),
+            Step::HandOver => self.hand_over(),
+            Step::Subtract => self.subtract(),
+            Step::Finish => self.finish(),
+            Step::Close => self.close(),
+        }
+    }
+}

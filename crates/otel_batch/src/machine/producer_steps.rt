@@ -1,0 +1,168 @@
+//! The steps of the producers, and the posting of a resource. None takes memory: the queues have their room, and spans
+//! are moved.
+
+ghost use Rattle.std.specs.Prelude.{◌≡◌};
+
+use crate::machine::batch_machine::BatchMachine;
+use crate::machine::queue::message_of;
+use crate::machine::slots::{
+    is_asking_at, is_idle_at, is_posting_at, is_refused_at, is_resetting_at, number_held_at,
+    set_slot, take_answer, take_span,
+};
+use crate::machine::state::{Message, Request, Slot};
+use crate::machine::step::Outcome;
+use crate::trace::{SpanData, SpanExporter};
+use otel_base::resource::Resource;
+
+impl<E: SpanExporter> BatchMachine<E> {
+    ghost use Rattle.otel_batch.specs.MachineState.{counts};
+    ghost use Rattle.otel_batch.specs.PermittedStep.{OfferRow, SendRow, UndoRow, AskRow, PostRow, ResetRow};
+    ghost use Rattle.otel_batch.specs.PermittedStep.{RequestRow, CollectRow, ResourceRow};
+    ghost use Rattle.otel_batch.specs.MovedSpans.{Keeps, Moved};
+    ghost use Rattle.otel_batch.specs.declared.machine.step.Step.TheVariants as step;
+
+    #[tactic(auto, using(crate::proofs::SlotSums::counts_slot, crate::proofs::SlotSums::asks_slot, crate::proofs::SlotSums::counts_le,))]
+    pub(super) fn offer(&mut self, p: usize, span: SpanData) -> Outcome
+        ensures row { OfferRow (counts self.old) p span result (counts self.new) }
+        ensures moved { Keeps self.old self.new }
+    {
+        if !is_idle_at(&self.slots, p) {
+            return Outcome::NotEnabled;
+        }
+        if !span.span_context.is_sampled() {
+            return Outcome::Skipped;
+        }
+        self.counter += 1;
+        let n = self.counter;
+        set_slot(&mut self.slots, p, Slot::Holding(span, n));
+        Outcome::Counted(n)
+    }
+
+    pub(super) fn send(&mut self, p: usize) -> Outcome
+        ensures row { SendRow (counts self.old) p result (counts self.new) }
+        ensures moved { Moved E.SpanExporter self.old (step.Send p) result self.new }
+    {
+        let Some(n) = number_held_at(&self.slots, p) else {
+            return Outcome::NotEnabled;
+        };
+        if self.closed {
+            set_slot(&mut self.slots, p, Slot::Refused);
+            return Outcome::Closed;
+        }
+        if self.waiting.is_full() {
+            self.dropped = self.dropped.saturating_add(1);
+            set_slot(&mut self.slots, p, Slot::Refused);
+            return Outcome::Full;
+        }
+        let after = if self.batch_size as u128 <= n {
+            Slot::Asking
+        } else {
+            Slot::Idle
+        };
+        let span = take_span(&mut self.slots, p, after);
+        let _ = self.waiting.try_push_back(span);
+        Outcome::Accepted
+    }
+
+    pub(super) fn undo(&mut self, p: usize) -> Outcome
+        ensures row { UndoRow (counts self.old) p result (counts self.new) }
+        ensures moved { Keeps self.old self.new }
+    {
+        if !is_refused_at(&self.slots, p) {
+            return Outcome::NotEnabled;
+        }
+        self.counter -= 1;
+        set_slot(&mut self.slots, p, Slot::Idle);
+        Outcome::Undone
+    }
+
+    pub(super) fn ask(&mut self, p: usize) -> Outcome
+        ensures row { AskRow (counts self.old) p result (counts self.new) }
+        ensures moved { Keeps self.old self.new }
+    {
+        if !is_asking_at(&self.slots, p) {
+            return Outcome::NotEnabled;
+        }
+        if self.flag {
+            set_slot(&mut self.slots, p, Slot::Idle);
+            return Outcome::AlreadyAsked;
+        }
+        self.flag = true;
+        set_slot(&mut self.slots, p, Slot::Posting);
+        Outcome::MayPost
+    }
+
+    pub(super) fn post(&mut self, p: usize) -> Outcome
+        ensures row { PostRow (counts self.old) p result (counts self.new) }
+        ensures moved { Keeps self.old self.new }
+    {
+        if !is_posting_at(&self.slots, p) {
+            return Outcome::NotEnabled;
+        }
+        if self.closed {
+            set_slot(&mut self.slots, p, Slot::Resetting);
+            return Outcome::Closed;
+        }
+        if self.messages.is_full() {
+            set_slot(&mut self.slots, p, Slot::Resetting);
+            return Outcome::Full;
+        }
+        set_slot(&mut self.slots, p, Slot::Idle);
+        let _ = self.messages.try_push_back(Message::Export);
+        Outcome::Posted
+    }
+
+    pub(super) fn reset(&mut self, p: usize) -> Outcome
+        ensures row { ResetRow (counts self.old) p result (counts self.new) }
+        ensures moved { Keeps self.old self.new }
+    {
+        if !is_resetting_at(&self.slots, p) {
+            return Outcome::NotEnabled;
+        }
+        self.flag = false;
+        set_slot(&mut self.slots, p, Slot::Idle);
+        Outcome::ResetDone
+    }
+
+    pub(super) fn request(&mut self, request: Request, p: usize) -> Outcome
+        ensures row { RequestRow (counts self.old) request p result (counts self.new) }
+        ensures moved { Keeps self.old self.new }
+    {
+        if !is_idle_at(&self.slots, p) {
+            return Outcome::NotEnabled;
+        }
+        if self.closed {
+            return Outcome::Closed;
+        }
+        if self.messages.is_full() {
+            return Outcome::Full;
+        }
+        set_slot(&mut self.slots, p, Slot::Waiting(request));
+        let _ = self.messages.try_push_back(message_of(request, p));
+        Outcome::Requested
+    }
+
+    pub(super) fn collect(&mut self, p: usize) -> Outcome
+        ensures row { CollectRow (counts self.old) p result (counts self.new) }
+        ensures moved { Keeps self.old self.new }
+    {
+        let Some(answer) = take_answer(&mut self.slots, p) else {
+            return Outcome::NotEnabled;
+        };
+        Outcome::Collected(answer)
+    }
+
+    pub(super) fn post_resource(&mut self, resource: Resource) -> Outcome
+        ensures row { ResourceRow (counts self.old) resource result (counts self.new) }
+        ensures moved { Keeps self.old self.new }
+    {
+        if self.closed {
+            return Outcome::Closed;
+        }
+        if self.messages.is_full() {
+            return Outcome::Full;
+        }
+        let _ = self.messages.try_push_back(Message::Resource(resource));
+        Outcome::Posted
+    }
+}

@@ -1,0 +1,174 @@
+//! How a batch processor is configured (OpenTelemetry specification, "Batching processor"): how many spans may wait,
+//! how many a batch has, and how long the worker and an export may take. A batch never has more spans than may wait.
+
+ghost use Rattle.std.specs.Prelude.{◌≡◌, ◌≤◌};
+ghost use Rattle.std.specs.Duration.{as_nanos};
+ghost use Rattle.otel_batch.specs.PlainBatchConfig.{cut_to_queue};
+
+use std::marker::Model;
+use std::time::Duration;
+
+/// How many spans may wait, where nothing else is said.
+pub const OTEL_BSP_MAX_QUEUE_SIZE_DEFAULT: usize = 2048;
+
+/// How many spans a batch has at most, where nothing else is said.
+pub const OTEL_BSP_MAX_EXPORT_BATCH_SIZE_DEFAULT: usize = 512;
+
+/// The time between two drains by the timer, where nothing else is said, in milliseconds.
+pub const OTEL_BSP_SCHEDULE_DELAY_DEFAULT: u64 = 5_000;
+
+/// How long an export may take, where nothing else is said, in milliseconds.
+pub const OTEL_BSP_EXPORT_TIMEOUT_DEFAULT: u64 = 30_000;
+
+/// The sizes and times of a batch processor.
+#[derive(Debug, Drop)]
+pub struct BatchConfig {
+    max_queue_size: usize,
+    max_export_batch_size: usize,
+    scheduled_delay: Duration,
+    max_export_timeout: Duration,
+}
+
+impl Model for BatchConfig {
+    ghost use Rattle.std.specs.Prelude.{◌≤◌};
+    ghost use Rattle.std.specs.Duration.{as_nanos};
+    ghost use Rattle.otel_batch.specs.PlainBatchConfig.{PlainBatchConfig};
+
+    ghost Value = { PlainBatchConfig };
+
+    ghost view = { λ c. record {
+      max_queue_size = c.max_queue_size;
+      max_export_batch_size = c.max_export_batch_size;
+      scheduled_delay = as_nanos c.scheduled_delay;
+      max_export_timeout = as_nanos c.max_export_timeout;
+    } };
+
+    ghost invariant = { λ c. c.max_export_batch_size ≤ c.max_queue_size };
+}
+
+impl BatchConfig {
+    /// How many spans may wait.
+    pub fn max_queue_size(&self) -> usize
+        ensures { result ≡ self.now.max_queue_size }
+    {
+        self.max_queue_size
+    }
+
+    /// How many spans a batch has at most; with zero, as many as may wait.
+    pub fn max_export_batch_size(&self) -> usize
+        ensures value { result ≡ self.now.max_export_batch_size }
+        ensures fits { result ≤ self.now.max_queue_size }
+    {
+        self.max_export_batch_size
+    }
+
+    /// The time between two drains by the timer.
+    pub fn scheduled_delay(&self) -> Duration
+        ensures { as_nanos result ≡ self.now.scheduled_delay }
+    {
+        self.scheduled_delay
+    }
+
+    /// How long an export may take.
+    pub fn max_export_timeout(&self) -> Duration
+        ensures { as_nanos result ≡ self.now.max_export_timeout }
+    {
+        self.max_export_timeout
+    }
+}
+
+impl Default for BatchConfig {
+    ghost use Rattle.std.specs.Prelude.{◌≡◌};
+    ghost use Rattle.otel_batch.specs.PlainBatchConfig.{default_batch_config};
+
+    ghost is_default = { λ config. config ≡ default_batch_config };
+
+    /// What is configured where nothing else is said.
+    fn default() -> BatchConfig {
+        BatchConfigBuilder::default().build()
+    }
+}
+
+/// Makes a configuration.
+#[derive(Debug, Drop)]
+pub struct BatchConfigBuilder {
+    max_queue_size: usize,
+    max_export_batch_size: usize,
+    scheduled_delay: Duration,
+    max_export_timeout: Duration,
+}
+
+impl Model for BatchConfigBuilder {
+    ghost use Rattle.std.specs.Duration.{as_nanos};
+    ghost use Rattle.otel_batch.specs.PlainBatchConfig.{PlainBatchConfig};
+
+    ghost Value = { PlainBatchConfig };
+
+    ghost view = { λ b. record {
+      max_queue_size = b.max_queue_size;
+      max_export_batch_size = b.max_export_batch_size;
+      scheduled_delay = as_nanos b.scheduled_delay;
+      max_export_timeout = as_nanos b.max_export_timeout;
+    } };
+}
+
+impl Default for BatchConfigBuilder {
+    ghost use Rattle.std.specs.Prelude.{◌≡◌};
+    ghost use Rattle.otel_batch.specs.PlainBatchConfig.{default_batch_config};
+
+    ghost is_default = { λ builder. builder ≡ default_batch_config };
+
+    /// Makes the default configuration.
+    fn default() -> BatchConfigBuilder {
+        BatchConfigBuilder {
+            max_queue_size: OTEL_BSP_MAX_QUEUE_SIZE_DEFAULT,
+            max_export_batch_size: OTEL_BSP_MAX_EXPORT_BATCH_SIZE_DEFAULT,
+            scheduled_delay: Duration::from_millis(OTEL_BSP_SCHEDULE_DELAY_DEFAULT),
+            max_export_timeout: Duration::from_millis(OTEL_BSP_EXPORT_TIMEOUT_DEFAULT),
+        }
+    }
+}
+
+impl BatchConfigBuilder {
+    /// So many spans may wait.
+    pub fn with_max_queue_size(self, max_queue_size: usize) -> BatchConfigBuilder
+        ensures { result ≡ record self { max_queue_size = max_queue_size } }
+    {
+        BatchConfigBuilder {
+            max_queue_size,
+            ..self
+        }
+    }
+
+    /// A batch has so many spans at most, and no more than may wait.
+    pub fn with_max_export_batch_size(self, max_export_batch_size: usize) -> BatchConfigBuilder
+        ensures { result ≡ record self { max_export_batch_size = max_export_batch_size } }
+    {
+        BatchConfigBuilder {
+            max_export_batch_size,
+            ..self
+        }
+    }
+
+    /// The time between two drains by the timer.
+    pub fn with_scheduled_delay(self, scheduled_delay: Duration) -> BatchConfigBuilder
+        ensures { result ≡ record self { scheduled_delay = as_nanos scheduled_delay } }
+    {
+        BatchConfigBuilder {
+            scheduled_delay,
+            ..self
+        }
+    }
+
+    /// The configuration. The size of a batch is cut to that of the queue.
+    pub fn build(self) -> BatchConfig
+        ensures { result ≡ cut_to_queue self }
+    {
+        BatchConfig {
+            max_queue_size: self.max_queue_size,
+            max_export_batch_size: self.max_export_batch_size.min(self.max_queue_size),
+            scheduled_delay: self.scheduled_delay,
+            max_export_timeout: self.max_export_timeout,
+        }
+    }
+}
