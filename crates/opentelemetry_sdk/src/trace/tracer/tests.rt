@@ -133,10 +133,7 @@ struct Ended {
 fn ended_twice(alloc: Global, provider: &mut TestProvider) -> Result<Ended, AllocError> {
     let tracer = provider.tracer(String::new(alloc))?;
     let mut attributes = Vec::new(alloc);
-    attributes.push(KeyValue::new(
-        Key::from_static_str("given"),
-        Value::Bool(true),
-    ))?;
+    attributes.push(KeyValue::new(Key::from_static_str("given"), Value::Bool(true)))?;
     let builder = tracer
         .span_builder(String::new(alloc))
         .with_attributes(attributes);
