@@ -1,11 +1,12 @@
 -- What every permitted step has in common, read off the table once.
-use Rattle.std.proofs.Common.{◌≡◌, ◌∙◌, ap, sym, refl, ℕ, ◌==◌, Bool, true, false, List, [], ◌∷◌, Option, Some, None, Ok, Err, if◌then◌else◌, rules, arith}
+use Rattle.std.proofs.Common.{◌≡◌, ◌∙◌, ap, sym, refl, ℕ, ◌==◌, ◌≤◌, ◌+◌, Bool, true, false, List, [], ◌∷◌, Option, Some, None, Ok, Err, if◌then◌else◌, rules, arith}
 use Rattle.otel_base.specs.Resource.{PlainResource}
 use Rattle.otel_base.specs.declared.error.OTelSdkError.{OTelSdkError}
 use Rattle.otel_base.specs.declared.error.OTelSdkError.TheVariants.{OutOfMemory}
 use Rattle.otel_batch.specs.PlainSpanData.{PlainSpanData}
 use Rattle.otel_batch.specs.StoredBatches.{one_more}
 use Rattle.otel_batch.specs.MachineState.{Counts, Control}
+use Rattle.otel_batch.specs.Drains.{is_workers}
 use Rattle.otel_batch.specs.PermittedStep.{Permitted, OfferRow, SendRow, UndoRow, AskRow, PostRow, ResetRow, RequestRow, CollectRow, ResourceRow, TakeRow, TickRow, ClearRow, LoadRow, PullRow, HandOverRow, SubtractRow, FinishRow, FinishRowFor, CloseRow, finished, put_slot}
 use Rattle.otel_batch.specs.declared.machine.state.Slot.TheVariants as slot
 use Rattle.otel_batch.specs.declared.machine.state.Request.{Request}
@@ -17,19 +18,6 @@ use Rattle.otel_batch.specs.declared.machine.step.Outcome.{Outcome}
 use Rattle.otel_batch.specs.declared.machine.step.Outcome.TheVariants as outcome
 use Rattle.otel_batch.specs.declared.machine.step.Step.{Step}
 use Rattle.otel_batch.specs.declared.machine.step.Step.TheVariants as step
-
--- the step is one of the worker's
-abbrev pub is_workers : Step → Bool
-is_workers step.Take = true
-is_workers step.Tick = true
-is_workers step.Clear = true
-is_workers step.Load = true
-is_workers step.Pull = true
-is_workers step.HandOver = true
-is_workers step.Subtract = true
-is_workers step.Finish = true
-is_workers step.Close = true
-is_workers _ = false
 
 -- the outcome is one that a producer's step can have
 abbrev pub is_producers : Outcome → Bool
@@ -67,6 +55,7 @@ pub record LeavesWorker (o : Outcome) (s t : Counts) : Type 0 where
   pub target : t.control.target ≡ s.control.target
   pub done : t.control.done ≡ s.control.done
   pub hand : t.hand ≡ s.hand
+  pub waiting : s.waiting ≤ t.waiting
 
 leaves_by : (x : Step) (o : Outcome) (s t next : Counts) → t ≡ next →
     next.control.queue_size ≡ s.control.queue_size → next.control.batch_size ≡ s.control.batch_size →
@@ -80,26 +69,29 @@ leaves_by x o s t next e q b d = record {
 alone_by : (o : Outcome) (s t next : Counts) → is_producers o ≡ true → t ≡ next →
     next.control.worker ≡ s.control.worker → next.control.why ≡ s.control.why →
     next.control.target ≡ s.control.target → next.control.done ≡ s.control.done → next.hand ≡ s.hand →
-    LeavesWorker o s t
-alone_by o s t next producers e w y g d h = record {
+    s.waiting ≤ next.waiting → LeavesWorker o s t
+alone_by o s t next producers e w y g d h more = record {
   producers = producers;
   worker = ap (λ c. c.control.worker) e ∙ w;
   why = ap (λ c. c.control.why) e ∙ y;
   target = ap (λ c. c.control.target) e ∙ g;
   done = ap (λ c. c.control.done) e ∙ d;
   hand = ap (λ c. c.hand) e ∙ h;
+  waiting = let same : t.waiting ≡ next.waiting = ap (λ c. c.waiting) e in omega (arith, same, more);
 }
 
-offer_leaves : (s : Counts) (p : ℕ) (span : PlainSpanData) (o : Outcome) (t : Counts) → OfferRow s p span o t → Leaves (step.Offer p span) o s t
+offer_leaves : (s : Counts) (p : ℕ) (span : PlainSpanData) (o : Outcome) (t : Counts) → OfferRow s p span o t →
+    Leaves (step.Offer p span) o s t
 offer_leaves s p span outcome.Skipped t row = leaves_by _ _ _ _ _ row.2 refl refl refl
 offer_leaves s p span (outcome.Counted n) t row = leaves_by _ _ _ _ _ row.3 refl refl refl
 offer_leaves s p span outcome.NotEnabled t row = leaves_by _ _ _ _ _ row.1 refl refl refl
 offer_leaves s p span _ t row = absurd row
 
-offer_alone : (s : Counts) (p : ℕ) (span : PlainSpanData) (o : Outcome) (t : Counts) → OfferRow s p span o t → LeavesWorker o s t
-offer_alone s p span outcome.Skipped t row = alone_by _ _ _ _ refl row.2 refl refl refl refl refl
-offer_alone s p span (outcome.Counted n) t row = alone_by _ _ _ _ refl row.3 refl refl refl refl refl
-offer_alone s p span outcome.NotEnabled t row = alone_by _ _ _ _ refl row.1 refl refl refl refl refl
+offer_alone : (s : Counts) (p : ℕ) (span : PlainSpanData) (o : Outcome) (t : Counts) → OfferRow s p span o t →
+    LeavesWorker o s t
+offer_alone s p span outcome.Skipped t row = alone_by _ _ _ _ refl row.2 refl refl refl refl refl (omega arith)
+offer_alone s p span (outcome.Counted n) t row = alone_by _ _ _ _ refl row.3 refl refl refl refl refl (omega arith)
+offer_alone s p span outcome.NotEnabled t row = alone_by _ _ _ _ refl row.1 refl refl refl refl refl (omega arith)
 offer_alone s p span _ t row = absurd row
 
 send_leaves : (s : Counts) (p : ℕ) (o : Outcome) (t : Counts) → SendRow s p o t → Leaves (step.Send p) o s t
@@ -110,10 +102,10 @@ send_leaves s p outcome.NotEnabled t row = leaves_by _ _ _ _ _ row.1 refl refl r
 send_leaves s p _ t row = absurd row
 
 send_alone : (s : Counts) (p : ℕ) (o : Outcome) (t : Counts) → SendRow s p o t → LeavesWorker o s t
-send_alone s p outcome.Accepted t row = alone_by _ _ _ _ refl row.3 refl refl refl refl refl
-send_alone s p outcome.Full t row = alone_by _ _ _ _ refl row.3 refl refl refl refl refl
-send_alone s p outcome.Closed t row = alone_by _ _ _ _ refl row.2 refl refl refl refl refl
-send_alone s p outcome.NotEnabled t row = alone_by _ _ _ _ refl row.1 refl refl refl refl refl
+send_alone s p outcome.Accepted t row = alone_by _ _ _ _ refl row.3 refl refl refl refl refl (omega arith)
+send_alone s p outcome.Full t row = alone_by _ _ _ _ refl row.3 refl refl refl refl refl (omega arith)
+send_alone s p outcome.Closed t row = alone_by _ _ _ _ refl row.2 refl refl refl refl refl (omega arith)
+send_alone s p outcome.NotEnabled t row = alone_by _ _ _ _ refl row.1 refl refl refl refl refl (omega arith)
 send_alone s p _ t row = absurd row
 
 undo_leaves : (s : Counts) (p : ℕ) (o : Outcome) (t : Counts) → UndoRow s p o t → Leaves (step.Undo p) o s t
@@ -122,8 +114,8 @@ undo_leaves s p outcome.NotEnabled t row = leaves_by _ _ _ _ _ row.1 refl refl r
 undo_leaves s p _ t row = absurd row
 
 undo_alone : (s : Counts) (p : ℕ) (o : Outcome) (t : Counts) → UndoRow s p o t → LeavesWorker o s t
-undo_alone s p outcome.Undone t row = alone_by _ _ _ _ refl row.1 refl refl refl refl refl
-undo_alone s p outcome.NotEnabled t row = alone_by _ _ _ _ refl row.1 refl refl refl refl refl
+undo_alone s p outcome.Undone t row = alone_by _ _ _ _ refl row.1 refl refl refl refl refl (omega arith)
+undo_alone s p outcome.NotEnabled t row = alone_by _ _ _ _ refl row.1 refl refl refl refl refl (omega arith)
 undo_alone s p _ t row = absurd row
 
 ask_leaves : (s : Counts) (p : ℕ) (o : Outcome) (t : Counts) → AskRow s p o t → Leaves (step.Ask p) o s t
@@ -133,9 +125,9 @@ ask_leaves s p outcome.NotEnabled t row = leaves_by _ _ _ _ _ row.1 refl refl re
 ask_leaves s p _ t row = absurd row
 
 ask_alone : (s : Counts) (p : ℕ) (o : Outcome) (t : Counts) → AskRow s p o t → LeavesWorker o s t
-ask_alone s p outcome.AlreadyAsked t row = alone_by _ _ _ _ refl row.2 refl refl refl refl refl
-ask_alone s p outcome.MayPost t row = alone_by _ _ _ _ refl row.2 refl refl refl refl refl
-ask_alone s p outcome.NotEnabled t row = alone_by _ _ _ _ refl row.1 refl refl refl refl refl
+ask_alone s p outcome.AlreadyAsked t row = alone_by _ _ _ _ refl row.2 refl refl refl refl refl (omega arith)
+ask_alone s p outcome.MayPost t row = alone_by _ _ _ _ refl row.2 refl refl refl refl refl (omega arith)
+ask_alone s p outcome.NotEnabled t row = alone_by _ _ _ _ refl row.1 refl refl refl refl refl (omega arith)
 ask_alone s p _ t row = absurd row
 
 post_leaves : (s : Counts) (p : ℕ) (o : Outcome) (t : Counts) → PostRow s p o t → Leaves (step.Post p) o s t
@@ -146,10 +138,10 @@ post_leaves s p outcome.NotEnabled t row = leaves_by _ _ _ _ _ row.1 refl refl r
 post_leaves s p _ t row = absurd row
 
 post_alone : (s : Counts) (p : ℕ) (o : Outcome) (t : Counts) → PostRow s p o t → LeavesWorker o s t
-post_alone s p outcome.Closed t row = alone_by _ _ _ _ refl row.2 refl refl refl refl refl
-post_alone s p outcome.Full t row = alone_by _ _ _ _ refl row.3 refl refl refl refl refl
-post_alone s p outcome.Posted t row = alone_by _ _ _ _ refl row.3 refl refl refl refl refl
-post_alone s p outcome.NotEnabled t row = alone_by _ _ _ _ refl row.1 refl refl refl refl refl
+post_alone s p outcome.Closed t row = alone_by _ _ _ _ refl row.2 refl refl refl refl refl (omega arith)
+post_alone s p outcome.Full t row = alone_by _ _ _ _ refl row.3 refl refl refl refl refl (omega arith)
+post_alone s p outcome.Posted t row = alone_by _ _ _ _ refl row.3 refl refl refl refl refl (omega arith)
+post_alone s p outcome.NotEnabled t row = alone_by _ _ _ _ refl row.1 refl refl refl refl refl (omega arith)
 post_alone s p _ t row = absurd row
 
 reset_leaves : (s : Counts) (p : ℕ) (o : Outcome) (t : Counts) → ResetRow s p o t → Leaves (step.Reset p) o s t
@@ -158,22 +150,24 @@ reset_leaves s p outcome.NotEnabled t row = leaves_by _ _ _ _ _ row.1 refl refl 
 reset_leaves s p _ t row = absurd row
 
 reset_alone : (s : Counts) (p : ℕ) (o : Outcome) (t : Counts) → ResetRow s p o t → LeavesWorker o s t
-reset_alone s p outcome.ResetDone t row = alone_by _ _ _ _ refl row.1 refl refl refl refl refl
-reset_alone s p outcome.NotEnabled t row = alone_by _ _ _ _ refl row.1 refl refl refl refl refl
+reset_alone s p outcome.ResetDone t row = alone_by _ _ _ _ refl row.1 refl refl refl refl refl (omega arith)
+reset_alone s p outcome.NotEnabled t row = alone_by _ _ _ _ refl row.1 refl refl refl refl refl (omega arith)
 reset_alone s p _ t row = absurd row
 
-request_leaves : (s : Counts) (x : Step) (r : Request) (p : ℕ) (o : Outcome) (t : Counts) → ((o : Outcome) (d : ℕ) → dropped_after x o d ≡ d) → RequestRow s r p o t → Leaves x o s t
+request_leaves : (s : Counts) (x : Step) (r : Request) (p : ℕ) (o : Outcome) (t : Counts) → ((o : Outcome) (d : ℕ) →
+    dropped_after x o d ≡ d) → RequestRow s r p o t → Leaves x o s t
 request_leaves s x r p outcome.Closed t same row = leaves_by _ _ _ _ _ row.2 refl refl (sym (same _ _))
 request_leaves s x r p outcome.Full t same row = leaves_by _ _ _ _ _ row.3 refl refl (sym (same _ _))
 request_leaves s x r p outcome.Requested t same row = leaves_by _ _ _ _ _ row.3 refl refl (sym (same _ _))
 request_leaves s x r p outcome.NotEnabled t same row = leaves_by _ _ _ _ _ row.1 refl refl (sym (same _ _))
 request_leaves s x r p _ t same row = absurd row
 
-request_alone : (s : Counts) (r : Request) (p : ℕ) (o : Outcome) (t : Counts) → RequestRow s r p o t → LeavesWorker o s t
-request_alone s r p outcome.Closed t row = alone_by _ _ _ _ refl row.2 refl refl refl refl refl
-request_alone s r p outcome.Full t row = alone_by _ _ _ _ refl row.3 refl refl refl refl refl
-request_alone s r p outcome.Requested t row = alone_by _ _ _ _ refl row.3 refl refl refl refl refl
-request_alone s r p outcome.NotEnabled t row = alone_by _ _ _ _ refl row.1 refl refl refl refl refl
+request_alone : (s : Counts) (r : Request) (p : ℕ) (o : Outcome) (t : Counts) → RequestRow s r p o t →
+    LeavesWorker o s t
+request_alone s r p outcome.Closed t row = alone_by _ _ _ _ refl row.2 refl refl refl refl refl (omega arith)
+request_alone s r p outcome.Full t row = alone_by _ _ _ _ refl row.3 refl refl refl refl refl (omega arith)
+request_alone s r p outcome.Requested t row = alone_by _ _ _ _ refl row.3 refl refl refl refl refl (omega arith)
+request_alone s r p outcome.NotEnabled t row = alone_by _ _ _ _ refl row.1 refl refl refl refl refl (omega arith)
 request_alone s r p _ t row = absurd row
 
 collect_leaves : (s : Counts) (p : ℕ) (o : Outcome) (t : Counts) → CollectRow s p o t → Leaves (step.Collect p) o s t
@@ -182,20 +176,22 @@ collect_leaves s p outcome.NotEnabled t row = leaves_by _ _ _ _ _ row.1 refl ref
 collect_leaves s p _ t row = absurd row
 
 collect_alone : (s : Counts) (p : ℕ) (o : Outcome) (t : Counts) → CollectRow s p o t → LeavesWorker o s t
-collect_alone s p (outcome.Collected answer) t row = alone_by _ _ _ _ refl row.1 refl refl refl refl refl
-collect_alone s p outcome.NotEnabled t row = alone_by _ _ _ _ refl row.1 refl refl refl refl refl
+collect_alone s p (outcome.Collected answer) t row = alone_by _ _ _ _ refl row.1 refl refl refl refl refl (omega arith)
+collect_alone s p outcome.NotEnabled t row = alone_by _ _ _ _ refl row.1 refl refl refl refl refl (omega arith)
 collect_alone s p _ t row = absurd row
 
-post_resource_leaves : (s : Counts) (resource : PlainResource) (o : Outcome) (t : Counts) → ResourceRow s resource o t → Leaves (step.PostResource resource) o s t
+post_resource_leaves : (s : Counts) (resource : PlainResource) (o : Outcome) (t : Counts) →
+    ResourceRow s resource o t → Leaves (step.PostResource resource) o s t
 post_resource_leaves s resource outcome.Closed t row = leaves_by _ _ _ _ _ row.1 refl refl refl
 post_resource_leaves s resource outcome.Full t row = leaves_by _ _ _ _ _ row.2 refl refl refl
 post_resource_leaves s resource outcome.Posted t row = leaves_by _ _ _ _ _ row.2 refl refl refl
 post_resource_leaves s resource _ t row = absurd row
 
-post_resource_alone : (s : Counts) (resource : PlainResource) (o : Outcome) (t : Counts) → ResourceRow s resource o t → LeavesWorker o s t
-post_resource_alone s resource outcome.Closed t row = alone_by _ _ _ _ refl row.1 refl refl refl refl refl
-post_resource_alone s resource outcome.Full t row = alone_by _ _ _ _ refl row.2 refl refl refl refl refl
-post_resource_alone s resource outcome.Posted t row = alone_by _ _ _ _ refl row.2 refl refl refl refl refl
+post_resource_alone : (s : Counts) (resource : PlainResource) (o : Outcome) (t : Counts) →
+    ResourceRow s resource o t → LeavesWorker o s t
+post_resource_alone s resource outcome.Closed t row = alone_by _ _ _ _ refl row.1 refl refl refl refl refl (omega arith)
+post_resource_alone s resource outcome.Full t row = alone_by _ _ _ _ refl row.2 refl refl refl refl refl (omega arith)
+post_resource_alone s resource outcome.Posted t row = alone_by _ _ _ _ refl row.2 refl refl refl refl refl (omega arith)
 post_resource_alone s resource _ t row = absurd row
 
 take_leaves : (s : Counts) (o : Outcome) (t : Counts) → TakeRow s o t → Leaves step.Take o s t
@@ -328,3 +324,26 @@ permitted-rests s step.HandOver t row = row.1
 permitted-rests s step.Subtract t row = row.1
 permitted-rests s step.Close t row = row.1
 permitted-rests s step.Finish t row = row.1
+
+-- only the worker's hand-over hands a batch over, which is what was in its hand
+pub handed_over-hands : (s : Counts) (x : Step) (k : ℕ) (e : Option OTelSdkError) (t : Counts) →
+    Permitted s x (outcome.HandedOver k e) t → (s.control.worker ≡ worker.Handing) × (k ≡ s.hand)
+handed_over-hands s (step.Offer p span) k e t row = absurd row
+handed_over-hands s (step.Send p) k e t row = absurd row
+handed_over-hands s (step.Undo p) k e t row = absurd row
+handed_over-hands s (step.Ask p) k e t row = absurd row
+handed_over-hands s (step.Post p) k e t row = absurd row
+handed_over-hands s (step.Reset p) k e t row = absurd row
+handed_over-hands s (step.RequestFlush p) k e t row = absurd row
+handed_over-hands s (step.RequestShutdown p) k e t row = absurd row
+handed_over-hands s (step.Collect p) k e t row = absurd row
+handed_over-hands s (step.PostResource resource) k e t row = absurd row
+handed_over-hands s step.Take k e t row = absurd row
+handed_over-hands s step.Tick k e t row = absurd row
+handed_over-hands s step.Clear k e t row = absurd row
+handed_over-hands s step.Load k e t row = absurd row
+handed_over-hands s step.Pull k e t row = absurd row
+handed_over-hands s step.HandOver k e t row = (row.0, row.1)
+handed_over-hands s step.Subtract k e t row = absurd row
+handed_over-hands s step.Close k e t row = absurd row
+handed_over-hands s step.Finish k e t row = absurd row

@@ -12,6 +12,8 @@ pub mod MachineState
 pub mod SoundMachine
 pub mod PermittedStep
 pub mod MovedSpans
+pub mod KeptRequests
 pub mod MachineRun
 pub mod Conservation
 pub mod ShutdownSilence
+pub mod Drains

@@ -1,6 +1,6 @@
 //! The batch queue itself: what it is made of, how it is made and read, and its steps.
 
-ghost use Rattle.std.specs.Prelude.{◌≡◌, ◌++◌, IfOk, IfErr, OnOk, length, slice_get};
+ghost use Rattle.std.specs.Prelude.{◌≡◌, ◌++◌, true, false, IfOk, IfErr, OnOk, length, slice_get};
 
 use crate::machine::slots::idle_slots;
 use crate::machine::state::{Message, Request, Slot, Why, Worker};
@@ -178,6 +178,9 @@ impl<E: SpanExporter> BatchMachine<E> {
     ghost use Rattle.otel_batch.specs.MachineRun.{Run, accepted, added, batch_sizes, counted_up, full_sends, holds_at};
     ghost use Rattle.otel_batch.specs.Conservation.{Conserves, IsFirst, LosesNoSpan};
     ghost use Rattle.otel_batch.specs.ShutdownSilence.{SilentAfterShutdown};
+    ghost use Rattle.otel_batch.specs.KeptRequests.{KeepsRequests, next_step};
+    ghost use Rattle.otel_batch.specs.Drains.{BoundsDrains, CompletesDrains, FitBatches, is_enabled, largest_batch};
+    ghost use Rattle.otel_batch.specs.Workers.{is_gone};
     ghost use Rattle.otel_batch.specs.PermittedStep.{Permitted};
     ghost use Rattle.otel_batch.specs.MovedSpans.{Moved};
 
@@ -218,6 +221,11 @@ impl<E: SpanExporter> BatchMachine<E> {
     pub fn step(&mut self, step: Step) -> Outcome
         ensures permitted { Permitted (counts self.old) step result (counts self.new) }
         ensures moved { Moved E.SpanExporter self.old step result self.new }
+        // Who waits for an answer goes on waiting until one that is its own.
+        ensures requests { KeepsRequests (counts self.old) step result (counts self.new) }
+        // The worker can go on until it is gone.
+        ensures enabled { step ≡ next_step self.old.control.worker →
+            is_gone self.old.control.worker ≡ false → is_enabled result ≡ true }
         ensures sound { IsSound (counts self.new) }
     {
         let outcome = self.dispatch(step);
@@ -248,6 +256,15 @@ impl<E: SpanExporter> BatchMachine<E> {
         // Each span that met a full queue is counted.
         ensures dropped { OnOk result (self.new.control.dropped ≡ counted_up self.old.control.dropped
             (full_sends steps.items (added outcomes.old.items outcomes.new.items))) }
+        // A finished drain that found memory handed over all that waited at its load.
+        ensures drains { OnOk result (CompletesDrains E.SpanExporter self.old steps.items
+            (added outcomes.old.items outcomes.new.items) self.new) }
+        // It takes a bounded number of the worker's steps.
+        ensures bounded { OnOk result (BoundsDrains self.old.control steps.items
+            (added outcomes.old.items outcomes.new.items)) }
+        // No batch is empty or too large.
+        ensures batches { OnOk result (FitBatches (largest_batch self.old.control)
+            (batch_sizes (added outcomes.old.items outcomes.new.items))) }
         // Nothing follows a shutdown.
         ensures silent { OnOk result (SilentAfterShutdown E.SpanExporter self.old steps.items
             (added outcomes.old.items outcomes.new.items) self.new) }

@@ -4,6 +4,8 @@ use Rattle.std.specs.Vec.Iter.{into_iter_items, into_iter_len}
 use Rattle.otel_batch.specs.MachineRun.{Run, Stepped, added}
 use Rattle.otel_batch.proofs.Conserving.{run-conserves, run-loses_none, run-drops}
 use Rattle.otel_batch.proofs.Silence.{run-silent}
+use Rattle.otel_batch.proofs.Draining.{run-completes}
+use Rattle.otel_batch.proofs.Bounding.{run-bounds, run-fits}
 use Rattle.otel_batch.proofs.machine.batch_machine.BatchMachine.run.Goals as goal
 
 pub loop-step-preserved : goal.loop-step-preserved
@@ -16,7 +18,7 @@ loop-step-preserved g c =
     record {
       goes_on = λ os t run. rw (more, cut, append_assoc (drop n c.loop-step.outcomes.items) (c.step-outcome.result ∷ []) os)
           (inv.goes_on (c.step-outcome.result ∷ os) t
-          (rw first (c.step-outcome.new.self, record { permitted = c.step-outcome.ensures.permitted; moved = c.step-outcome.ensures.moved; sound = c.step-outcome.ensures.sound }, run)));
+          (rw first (c.step-outcome.new.self, record { permitted = c.step-outcome.ensures.permitted; moved = c.step-outcome.ensures.moved; requests = c.step-outcome.ensures.requests; sound = c.step-outcome.ensures.sound }, run)));
       kept = grind (arith, common_steps);
       longer = grind (arith, common_steps);
       room = grind (arith, common_steps);
@@ -55,4 +57,25 @@ returns-clause-silent g c =
     let none : into_iter_items c.loop-step.rest ≡ [] = grind (arith, common_steps) in
     let outs = added c.args.outcomes.now.items c.loop-step.outcomes.items in
     run-silent g.E.SpanExporter c.args.self.now c.args.steps.items outs c.loop-step.self
+    (rw (← append-nil outs) (c.loop-step.invariant.goes_on [] c.loop-step.self (rw none refl)))
+
+pub returns-clause-drains : goal.returns-clause-drains
+returns-clause-drains g c =
+    let none : into_iter_items c.loop-step.rest ≡ [] = grind (arith, common_steps) in
+    let outs = added c.args.outcomes.now.items c.loop-step.outcomes.items in
+    run-completes g.E.SpanExporter c.args.self.now c.args.steps.items outs c.loop-step.self c.is_sound.ensures
+    (rw (← append-nil outs) (c.loop-step.invariant.goes_on [] c.loop-step.self (rw none refl)))
+
+pub returns-clause-bounded : goal.returns-clause-bounded
+returns-clause-bounded g c =
+    let none : into_iter_items c.loop-step.rest ≡ [] = grind (arith, common_steps) in
+    let outs = added c.args.outcomes.now.items c.loop-step.outcomes.items in
+    run-bounds g.E.SpanExporter c.args.self.now c.args.steps.items outs c.loop-step.self c.is_sound.ensures
+    (rw (← append-nil outs) (c.loop-step.invariant.goes_on [] c.loop-step.self (rw none refl)))
+
+pub returns-clause-batches : goal.returns-clause-batches
+returns-clause-batches g c =
+    let none : into_iter_items c.loop-step.rest ≡ [] = grind (arith, common_steps) in
+    let outs = added c.args.outcomes.now.items c.loop-step.outcomes.items in
+    run-fits g.E.SpanExporter c.args.self.now c.args.steps.items outs c.loop-step.self c.is_sound.ensures
     (rw (← append-nil outs) (c.loop-step.invariant.goes_on [] c.loop-step.self (rw none refl)))

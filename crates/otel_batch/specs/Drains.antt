@@ -1,0 +1,109 @@
+-- Drains of the batch queue, from the step that loaded one to the next that finished: what a flush needs in order to
+-- return, and to be right.
+use Rattle.std.specs.Prelude.{◌≡◌, ℕ, suc, ◌+◌, ◌*◌, ◌<◌, ◌≤◌, ◌==◌, ◌&&◌, Bool, true, false, take, drop, sum, length, map, List, [], ◌∷◌, ◌++◌, Option, Some, slice_get, if◌then◌else◌}
+use Rattle.otel_batch.specs.PlainSpanData.{PlainSpanData, spans_in}
+use Rattle.otel_batch.specs.Telling.{Tells}
+use Rattle.otel_batch.specs.MachineState.{Machine, Control}
+use Rattle.otel_batch.specs.MachineRun.{Run, accepted, holds_at, batch_sizes}
+use Rattle.otel_batch.specs.declared.machine.step.Outcome.{Outcome}
+use Rattle.otel_batch.specs.declared.machine.step.Outcome.TheVariants as outcome
+use Rattle.otel_batch.specs.declared.machine.step.Step.{Step}
+use Rattle.otel_batch.specs.declared.machine.step.Step.TheVariants as step
+use Rattle.otel_batch.specs.declared.trace.export.SpanExporter.{Ghosts}
+
+-- the step is one of the worker's
+abbrev pub is_workers : Step → Bool
+is_workers step.Take = true
+is_workers step.Tick = true
+is_workers step.Clear = true
+is_workers step.Load = true
+is_workers step.Pull = true
+is_workers step.HandOver = true
+is_workers step.Subtract = true
+is_workers step.Finish = true
+is_workers step.Close = true
+is_workers _ = false
+
+-- the outcome is that of a step that was enabled
+abbrev pub is_enabled : Outcome → Bool
+is_enabled outcome.NotEnabled = false
+is_enabled _ = true
+
+-- how many enabled steps the worker took
+abbrev pub worker_steps : List Step → List Outcome → ℕ
+worker_steps [] os = 0
+worker_steps (x ∷ xs) [] = 0
+worker_steps (x ∷ xs) (o ∷ os) = (if is_workers x && is_enabled o then 1 else 0) + worker_steps xs os
+
+-- the outcomes behind a load, up to the first that finished, of which none found no memory
+abbrev pub IsWholeDrain : List Outcome → Type 0
+IsWholeDrain [] = ⊥
+IsWholeDrain (outcome.Finished e ∷ []) = Unit {0}
+IsWholeDrain (outcome.Finished e ∷ (o ∷ os)) = ⊥
+IsWholeDrain (outcome.NoMemory ∷ os) = ⊥
+IsWholeDrain (_ ∷ os) = IsWholeDrain os
+
+-- none of the outcomes finished a drain
+abbrev pub NoneFinishes : List Outcome → Type 0
+NoneFinishes [] = Unit {0}
+NoneFinishes (outcome.Finished e ∷ os) = ⊥
+NoneFinishes (_ ∷ os) = NoneFinishes os
+
+-- no batch is empty, and none has more spans than this
+abbrev pub FitBatches : ℕ → List ℕ → Type 0
+FitBatches most [] = Unit {0}
+FitBatches most (k ∷ ks) = (0 < k) × (k ≤ most) × FitBatches most ks
+
+-- the most spans that a batch may have: the size of a batch, or all that the queue can hold where that is zero
+abbrev pub largest_batch : Control → ℕ
+largest_batch c = if c.batch_size == 0 then c.queue_size else c.batch_size
+
+-- how many more steps than four a span a drain may take: none, or one for each place of the queue where a batch takes all
+-- that waits
+abbrev pub more_steps : Control → ℕ
+more_steps c = if c.batch_size == 0 then c.queue_size else 0
+
+-- behind a load of this target, before its drain has finished: the worker took at most four enabled steps a span; and
+-- with a size of batches it handed over at most the target
+pub record IsBounded (c : Control) (target : ℕ) (xs : List Step) (os : List Outcome) : Type 0 where
+  pub steps : worker_steps xs os ≤ 4 * target + more_steps c
+  pub handed : 0 < c.batch_size → sum (batch_sizes os) ≤ target
+
+-- so it is behind every load of a run from this control on
+abbrev pub BoundsDrains : Control → List Step → List Outcome → Type 0
+BoundsDrains c xs os =
+    (n m target : ℕ) → slice_get os n ≡ Some (outcome.Loaded target) → NoneFinishes (take m (drop (suc n) os)) →
+    IsBounded c target (take m (drop (suc n) xs)) (take m (drop (suc n) os))
+
+module _ {E : Type 0} (calls : Ghosts E) where
+  -- between two machines batches of these sizes were handed over, which begin with these spans
+  pub record HandsOverFirst (s : Machine E) (spans : List PlainSpanData) (sizes : List ℕ) (t : Machine E)
+      : Type 0 where
+    pub batches : List (List PlainSpanData)
+    pub sized : map length batches ≡ sizes
+    pub told : Tells (calls.told s.exporter) batches (calls.told t.exporter)
+    pub rest : List PlainSpanData
+    pub begins : spans_in batches ≡ spans ++ rest
+
+  -- the n-th step of a run loaded a drain, and the m steps behind it are up to its finish
+  pub record CompletesDrain (n m : ℕ) (s : Machine E) (xs : List Step) (os : List Outcome) (t : Machine E)
+      : Type 0 where
+    -- the machine behind the load, and behind the finish
+    pub load : Machine E
+    pub finish : Machine E
+    pub up_to : Run calls s (take (suc n) xs) (take (suc n) os) load
+    pub drain : Run calls load (take m (drop (suc n) xs)) (take m (drop (suc n) os)) finish
+    pub behind : Run calls finish (drop m (drop (suc n) xs)) (drop m (drop (suc n) os)) t
+    -- all that waited at the load was handed over in the drain, before anything else
+    pub waited : HandsOverFirst load load.waiting (batch_sizes (take m (drop (suc n) os))) finish
+    -- what was in hand or waited at the start of the run, and what it accepted before the load, was handed over by the
+    -- finish, before anything else
+    pub earlier : HandsOverFirst s
+        ((s.hand ++ s.waiting) ++ accepted (holds_at s.control.slots) (take (suc n) xs) (take (suc n) os))
+        (batch_sizes (take (suc n) os) ++ batch_sizes (take m (drop (suc n) os))) finish
+
+  -- every finished drain of a run that found memory is complete
+  abbrev pub CompletesDrains : Machine E → List Step → List Outcome → Machine E → Type 0
+  CompletesDrains s xs os t =
+      (n m target : ℕ) → slice_get os n ≡ Some (outcome.Loaded target) → IsWholeDrain (take m (drop (suc n) os)) →
+      CompletesDrain n m s xs os t

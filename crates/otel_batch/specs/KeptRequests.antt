@@ -1,0 +1,40 @@
+-- No request to the worker of a batch queue is lost: who waits goes on waiting until an answer that is its own.
+use Rattle.std.specs.Prelude.{◌≡◌, ℕ, ◌<◌, ◌⊎◌, Bool, true, false, Some, sum_by}
+use Rattle.otel_batch.specs.Slots.{is_answered}
+use Rattle.otel_batch.specs.Messages.{message_names}
+use Rattle.otel_batch.specs.Workers.{worker_names}
+use Rattle.otel_batch.specs.MachineState.{Counts}
+use Rattle.otel_batch.specs.PermittedStep.{slot_at}
+use Rattle.otel_batch.specs.declared.machine.state.Request.{Request}
+use Rattle.otel_batch.specs.declared.machine.state.Slot.TheVariants as slot
+use Rattle.otel_batch.specs.declared.machine.state.Worker.{Worker}
+use Rattle.otel_batch.specs.declared.machine.state.Worker.TheVariants as worker
+use Rattle.otel_batch.specs.declared.machine.step.Outcome.{Outcome}
+use Rattle.otel_batch.specs.declared.machine.step.Outcome.TheVariants as outcome
+use Rattle.otel_batch.specs.declared.machine.step.Step.{Step}
+use Rattle.otel_batch.specs.declared.machine.step.Step.TheVariants as step
+
+-- the step answers the request of p: its drain has finished, or its shutdown is completed, or a shutdown found it in the
+-- control queue
+abbrev pub AnswersTo : Counts → Step → Outcome → ℕ → Type 0
+AnswersTo s step.Finish (outcome.Finished e) p = worker_names p s.control.why s.control.worker ≡ 1
+AnswersTo s step.Close outcome.ShutDown p =
+    (worker_names p s.control.why s.control.worker ≡ 1) ⊎ (0 < sum_by (message_names p) s.control.messages)
+AnswersTo s _ _ p = ⊥
+
+-- who waits goes on waiting for the same, or the step answers it
+pub record KeepsRequests (s : Counts) (x : Step) (o : Outcome) (t : Counts) : Type 0 where
+  pub each : (p : ℕ) (request : Request) → slot_at s p ≡ Some (slot.Waiting request) →
+      (slot_at t p ≡ Some (slot.Waiting request)) ⊎ (is_answered (slot_at t p) ≡ true) × AnswersTo s x o p
+
+-- the worker's next step, until it is gone
+abbrev pub next_step : Worker → Step
+next_step worker.Ready = step.Take
+next_step worker.Clearing = step.Clear
+next_step (worker.Loading why) = step.Load
+next_step worker.Pulling = step.Pull
+next_step worker.Handing = step.HandOver
+next_step (worker.Subtracting k) = step.Subtract
+next_step worker.Finishing = step.Finish
+next_step (worker.Closing p) = step.Close
+next_step worker.Gone = step.Take
