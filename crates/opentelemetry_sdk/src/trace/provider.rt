@@ -264,6 +264,7 @@ fn copies_of(
     ensures none { count ≡ 0 → IsOk result }
 {
     let mut copies = Vec::new(alloc);
+    copies.reserve(count)?;
     for _i in 0..count {
         let mut copy = recorded.clone()?;
         copy.end_time = timestamp;

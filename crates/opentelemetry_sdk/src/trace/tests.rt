@@ -40,8 +40,8 @@ pub(crate) fn span_data(alloc: Global, moment: u64, flags: u8) -> Result<SpanDat
     })
 }
 
-/// A processor that writes its digit on a board that several share, at each end and at each shutdown, and keeps the
-/// spans that it was given.
+/// A processor that writes its digit on a board that several share, at each end, flush and shutdown, and keeps the spans
+/// that it was given.
 #[derive(Drop)]
 struct Writer<'a> {
     digit: u64,
@@ -70,6 +70,7 @@ impl SpanProcessor for Writer<'_> {
     }
 
     fn force_flush(&mut self) -> OTelSdkResult {
+        self.write();
         Ok(())
     }
 
@@ -101,12 +102,13 @@ fn three_writers(
 }
 
 #[test]
-fn ends_and_shutdowns_ask_each_processor_in_its_turn(rt: HostRuntime) -> Result<(), Fail> {
+fn ends_flushes_and_shutdowns_ask_each_processor_in_its_turn(rt: HostRuntime) -> Result<(), Fail> {
     let board = Cell::new(0);
     let recorded = span_data(rt.alloc(), 7, 1)?;
     let mut provider = three_writers(rt.alloc(), &board)?;
     let mut span = Span::recording(context_of(1), recorded, SpanLimits::default());
     let refused = span.end_with_timestamp(&mut provider, Moment(9));
+    let flushed = provider.force_flush();
     let shut = provider.shutdown();
     for writer in provider.processors() {
         assert_eq!(rt; writer.taken.len(), 1);
@@ -116,8 +118,9 @@ fn ends_and_shutdowns_ask_each_processor_in_its_turn(rt: HostRuntime) -> Result<
     span.abandon();
     let closed = provider.close();
     assert_eq!(rt; refused, Ok(0));
+    assert!(rt; flushed.is_ok());
     assert!(rt; shut.is_ok());
     assert!(rt; closed.is_ok());
-    assert_eq!(rt; board.get(), 123_123);
+    assert_eq!(rt; board.get(), 123_123_123);
     Ok(())
 }
