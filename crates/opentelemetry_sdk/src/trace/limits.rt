@@ -1,7 +1,7 @@
 //! What a span keeps within its limits: the first items of each list. Those over a limit are only counted
 //! (OpenTelemetry specification, "Span Limits"). Lists are cut in place.
 
-ghost use Rattle.std.specs.Prelude.{◌≡◌, ◌≤◌, ◌⊎◌, ◌++◌, [], length, map, IfOk, IsOk, OnErr, OnOk, unwrap_or};
+ghost use Rattle.std.specs.Prelude.{◌≡◌, ◌≤◌, ◌⊎◌, ◌++◌, [], if◌then◌else◌, length, map, nat_lt, IfOk, IsOk, OnErr, OnOk, unwrap_or};
 ghost use Rattle.std.specs.Option.{option_map};
 ghost use Rattle.otel_base.specs.Sampling.{added_attributes};
 ghost use Rattle.otel_batch.specs.PlainSpanData.{cut_at, left_out};
@@ -23,26 +23,24 @@ pub(crate) fn cut<T: Drop>(items: &mut Vec<T>, limit: u32) -> u32
     u32::try_from(left_out).unwrap_or(u32::MAX)
 }
 
-/// Adds an item where there is room under the limit, and else counts it as dropped, which takes no memory.
+/// Adds an item where there is room under the limit, and else drops it, which takes no memory. The answer is how many were
+/// dropped.
 pub(crate) fn push_within<T: Drop>(
     items: &mut Vec<T>,
-    dropped_count: &mut u32,
     limit: u32,
     item: T,
-) -> Result<(), AllocError>
+) -> Result<u32, AllocError>
     ensures kept { OnOk result (items.new.items ≡ history.grown_within limit items.old.items item) }
-    ensures dropped { OnOk result
-        (dropped_count.new ≡ history.left_out_with limit items.old.items dropped_count.old) }
-    ensures err { OnErr result
-        ((items.new.items ≡ items.old.items) × (dropped_count.new ≡ dropped_count.old)) }
+    ensures dropped { IfOk result (λ dropped. dropped ≡ (if nat_lt (length items.old.items) limit then 0 else 1)) }
+    ensures err { OnErr result (items.new.items ≡ items.old.items) }
     ensures full { limit ≤ length items.old.items → IsOk result }
 {
     if items.len() < limit as usize {
         items.push(item)?;
+        Ok(0)
     } else {
-        *dropped_count = dropped_count.saturating_add(1);
+        Ok(1)
     }
-    Ok(())
 }
 
 /// What is kept of the attributes that a span is given at its start, those of its builder in front of those that the

@@ -1,7 +1,7 @@
 //! Edits of a span as values: each of a span's calls that changes what it records makes one, and a program that takes
 //! edits from elsewhere may hand them in as they come.
 
-ghost use Rattle.std.specs.Prelude.{◌≡◌, IsNone, IsOk, IfSome, OnErr, OnOk};
+ghost use Rattle.std.specs.Prelude.{◌≡◌, ◌≤◌, length, IsNone, IsOk, IfSome, OnErr, OnOk};
 ghost use Rattle.opentelemetry.specs.Order.{greater_status};
 ghost use Rattle.opentelemetry.specs.PlainValues.{plain_status};
 ghost use Rattle.opentelemetry_sdk.specs.SpanEdits.{plain_edit};
@@ -11,7 +11,7 @@ use super::limits::{cut_event, cut_link, push_within};
 use opentelemetry::KeyValue;
 use opentelemetry::trace::{Event, Link, Status};
 use otel_base::trace::SpanLimits;
-use otel_batch::trace::SpanData;
+use otel_batch::trace::{SpanData, SpanEvents, SpanLinks};
 use std::alloc::AllocError;
 
 /// What may be done to a span while it records (OpenTelemetry specification, "Span operations").
@@ -51,29 +51,20 @@ impl SpanEdit {
         ensures full { history.KeepsNoMore limits (plain_edit self) recorded.old → IsOk result }
     {
         match self {
-            SpanEdit::SetAttribute(attribute) => push_within(
-                &mut recorded.attributes,
-                &mut recorded.dropped_attributes_count,
-                limits.max_attributes_per_span,
-                attribute,
-            ),
+            SpanEdit::SetAttribute(attribute) => {
+                let limit = limits.max_attributes_per_span;
+                let dropped = push_within(&mut recorded.attributes, limit, attribute)?;
+                let count = recorded.dropped_attributes_count;
+                recorded.dropped_attributes_count = count.saturating_add(dropped);
+                Ok(())
+            }
             SpanEdit::AddEvent(mut event) => {
                 cut_event(&mut event, limits);
-                push_within(
-                    &mut recorded.events.events,
-                    &mut recorded.events.dropped_count,
-                    limits.max_events_per_span,
-                    event,
-                )
+                add_event(&mut recorded.events, limits, event)
             }
             SpanEdit::AddLink(mut link) => {
                 cut_link(&mut link, limits);
-                push_within(
-                    &mut recorded.links.links,
-                    &mut recorded.links.dropped_count,
-                    limits.max_links_per_span,
-                    link,
-                )
+                add_link(&mut recorded.links, limits, link)
             }
             SpanEdit::SetStatus(status) => {
                 raise(&mut recorded.status, status);
@@ -94,4 +85,33 @@ fn raise(status: &mut Status, other: Status)
     if *status < other {
         *status = other;
     }
+}
+
+/// Adds an event, or counts it.
+fn add_event(events: &mut SpanEvents, limits: SpanLimits, event: Event) -> Result<(), AllocError>
+    ensures ok { OnOk result (events.new ≡ record {
+      events = history.grown_within limits.max_events_per_span events.old.events event;
+      dropped_count =
+          history.left_out_with limits.max_events_per_span events.old.events events.old.dropped_count;
+    }) }
+    ensures err { OnErr result (events.new ≡ events.old) }
+    ensures full { limits.max_events_per_span ≤ length events.old.events → IsOk result }
+{
+    let dropped = push_within(&mut events.events, limits.max_events_per_span, event)?;
+    events.dropped_count = events.dropped_count.saturating_add(dropped);
+    Ok(())
+}
+
+/// Adds a link, or counts it.
+fn add_link(links: &mut SpanLinks, limits: SpanLimits, link: Link) -> Result<(), AllocError>
+    ensures ok { OnOk result (links.new ≡ record {
+      links = history.grown_within limits.max_links_per_span links.old.links link;
+      dropped_count = history.left_out_with limits.max_links_per_span links.old.links links.old.dropped_count;
+    }) }
+    ensures err { OnErr result (links.new ≡ links.old) }
+    ensures full { limits.max_links_per_span ≤ length links.old.links → IsOk result }
+{
+    let dropped = push_within(&mut links.links, limits.max_links_per_span, link)?;
+    links.dropped_count = links.dropped_count.saturating_add(dropped);
+    Ok(())
 }
