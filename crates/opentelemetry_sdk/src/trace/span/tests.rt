@@ -2,7 +2,7 @@ use super::*;
 use crate::trace::SimpleSpanProcessor;
 use opentelemetry::{Context, Key, Value};
 use otel_base::trace::{RandomIdGenerator, Sampler};
-use otel_batch::trace::InMemorySpanExporter;
+use otel_batch::trace::{InMemorySpanExporter, SpanEvents, SpanLinks};
 use std::alloc::Global;
 use std::test::Fail;
 
@@ -125,6 +125,16 @@ fn attributes_over_the_limit_are_counted(rt: HostRuntime) -> Result<(), Fail> {
     Ok(())
 }
 
+/// How many events were kept, and how many were not.
+fn events_of(events: &SpanEvents) -> (usize, u32) {
+    (events.as_slice().len(), events.dropped_count)
+}
+
+/// How many links were kept, and how many were not.
+fn links_of(links: &SpanLinks) -> (usize, u32) {
+    (links.as_slice().len(), links.dropped_count)
+}
+
 #[test]
 fn events_and_links_over_their_limits_are_counted(rt: HostRuntime) -> Result<(), Fail> {
     let alloc = rt.alloc();
@@ -140,10 +150,8 @@ fn events_and_links_over_their_limits_are_counted(rt: HostRuntime) -> Result<(),
             edits.push(SpanEdit::AddLink(link(alloc, 0, 0)?))?;
         }
         let exported = exported_after(alloc, limits, 0, edits)?;
-        assert_eq!(rt; exported.events.as_slice().len(), kept);
-        assert_eq!(rt; exported.events.dropped_count, dropped);
-        assert_eq!(rt; exported.links.as_slice().len(), kept);
-        assert_eq!(rt; exported.links.dropped_count, dropped);
+        assert_eq!(rt; events_of(&exported.events), (kept, dropped));
+        assert_eq!(rt; links_of(&exported.links), (kept, dropped));
     }
     Ok(())
 }
@@ -257,9 +265,11 @@ fn a_finished_span_is_exported_once_with_each_edit(rt: HostRuntime) -> Result<()
     assert_eq!(rt; span.start_time.0, 7);
     assert_eq!(rt; span.end_time.0, 9);
     assert_eq!(rt; keys_of(alloc, &span.attributes)?.as_str(), "k");
-    assert_eq!(rt; span.events.as_slice()[0].name.as_str(), "row");
-    assert_eq!(rt; span.events.as_slice()[0].timestamp.0, 8);
-    assert_eq!(rt; span.links.as_slice()[0].attributes.len(), 2);
+    let event = &span.events.as_slice()[0];
+    assert_eq!(rt; event.name.as_str(), "row");
+    assert_eq!(rt; event.timestamp.0, 8);
+    let link = &span.links.as_slice()[0];
+    assert_eq!(rt; link.attributes.len(), 2);
     assert!(rt; span.status == error_of(alloc, "lost")?);
     Ok(())
 }
