@@ -171,12 +171,18 @@ fn attributes_of_events_and_links_are_cut_and_counted_anew(rt: HostRuntime) -> R
         edits.push(SpanEdit::AddEvent(event(alloc, given, count)?))?;
         edits.push(SpanEdit::AddLink(link(alloc, given, count)?))?;
         let exported = exported_after(alloc, limits, 0, edits)?;
-        let event = &exported.events.as_slice()[0];
-        let link = &exported.links.as_slice()[0];
-        assert_eq!(rt; event.attributes.len(), kept);
-        assert_eq!(rt; event.dropped_attributes_count, dropped);
-        assert_eq!(rt; link.attributes.len(), kept);
-        assert_eq!(rt; link.dropped_attributes_count, dropped);
+        let events = exported.events.as_slice();
+        assert_eq!(rt; events.len(), 1);
+        for event in events {
+            assert_eq!(rt; event.attributes.len(), kept);
+            assert_eq!(rt; event.dropped_attributes_count, dropped);
+        }
+        let links = exported.links.as_slice();
+        assert_eq!(rt; links.len(), 1);
+        for link in links {
+            assert_eq!(rt; link.attributes.len(), kept);
+            assert_eq!(rt; link.dropped_attributes_count, dropped);
+        }
     }
     Ok(())
 }
@@ -265,11 +271,17 @@ fn a_finished_span_is_exported_once_with_each_edit(rt: HostRuntime) -> Result<()
     assert_eq!(rt; span.start_time.0, 7);
     assert_eq!(rt; span.end_time.0, 9);
     assert_eq!(rt; keys_of(alloc, &span.attributes)?.as_str(), "k");
-    let event = &span.events.as_slice()[0];
-    assert_eq!(rt; event.name.as_str(), "row");
-    assert_eq!(rt; event.timestamp.0, 8);
-    let link = &span.links.as_slice()[0];
-    assert_eq!(rt; link.attributes.len(), 2);
+    let events = span.events.as_slice();
+    assert_eq!(rt; events.len(), 1);
+    for event in events {
+        assert_eq!(rt; event.name.as_str(), "row");
+        assert_eq!(rt; event.timestamp.0, 8);
+    }
+    let links = span.links.as_slice();
+    assert_eq!(rt; links.len(), 1);
+    for link in links {
+        assert_eq!(rt; link.attributes.len(), 2);
+    }
     assert!(rt; span.status == error_of(alloc, "lost")?);
     Ok(())
 }
