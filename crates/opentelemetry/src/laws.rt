@@ -1,7 +1,7 @@
 //! Laws of the values: each function does nothing, and its contract is the law. Those without an argument speak of all
 //! values; those of a reference speak of the value behind it, so that a caller has the law of that value.
 
-ghost use Rattle.std.specs.Prelude.{◌≡◌, List, ℕ};
+ghost use Rattle.std.specs.Prelude.{◌≡◌, ◌<◌, ◌^◌, List, ℕ};
 ghost use Rattle.std.specs.declared.cmp.Ordering.TheVariants.{Less};
 ghost use Rattle.std.specs.List.Sorted.{IsPermutation};
 ghost use Rattle.std.specs.Ordering.{nat_cmp};
@@ -12,7 +12,7 @@ ghost use Rattle.opentelemetry.specs.Baggage.{IsWithinLimits, HasDistinctNames};
 ghost use Rattle.opentelemetry.specs.Tracestate.{ArePairs, IsTracestate, tracestate_text};
 
 use crate::baggage::Baggage;
-use crate::trace::TraceState;
+use crate::trace::{SpanContext, TraceState};
 
 /// An unset status stands below each error, each error below ok, and errors stand by the bytes of their descriptions.
 pub fn statuses_rise()
@@ -38,6 +38,17 @@ pub fn trace_states_have_pairs(state: &TraceState)
     ensures { ArePairs state.now }
 {
     let _pairs = state.entries();
+}
+
+/// Each span context has ids of 128 and 64 bits, and a trace state of pairs of a key and a value.
+pub fn span_contexts_fit(span_context: &SpanContext)
+    ensures trace_id { span_context.now.trace_id < 2 ^ 128 }
+    ensures span_id { span_context.now.span_id < 2 ^ 64 }
+    ensures trace_state { ArePairs span_context.now.trace_state }
+{
+    let _trace_id = span_context.trace_id().to_bytes();
+    let _span_id = span_context.span_id().to_bytes();
+    trace_states_have_pairs(span_context.trace_state());
 }
 
 /// Each baggage is within the limits, and no two of its entries have one name.

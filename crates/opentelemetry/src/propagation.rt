@@ -54,13 +54,19 @@ pub trait TextMapPropagator {
 
     ghost field_names: { Self → List (List ℕ) };
 
-    /// Sets the texts of the context in the carrier.
-    fn inject_context<I: Injector>(&self, cx: &Context, injector: &mut I) -> Result<(), AllocError>
+    /// Sets the texts of the context in the carrier. `alloc` says where they lie.
+    fn inject_context<I: Injector>(
+        &self,
+        alloc: Global,
+        cx: &Context,
+        injector: &mut I,
+    ) -> Result<(), AllocError>
         ensures { inject_gives self.now cx.now (I.texts injector.old) result (I.texts injector.new) };
 
-    /// The context with what the carrier's texts say in place of what it had.
+    /// The context with what the carrier's texts say in place of what it had. `alloc` says where that lies.
     fn extract_with_context<X: Extractor>(
         &self,
+        alloc: Global,
         cx: &Context,
         extractor: &X,
     ) -> Result<Context, AllocError>

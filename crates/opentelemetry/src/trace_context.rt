@@ -28,8 +28,8 @@ fn digit_value(byte: u8) -> Option<u8>
     }
 }
 
-// The number that a text of exactly `count` lower-case digits spells.
-fn number_from_hex(text: &str, count: usize) -> Option<u128>
+/// The number that a text of exactly `count` digits 0-9 a-f spells.
+pub fn number_from_hex(text: &str, count: usize) -> Option<u128>
     requires { count ≤ 32 }
     ensures value { IfSome result (λ n. (n < 16 ^ count) × (text.now ≡ hex_text count n)) }
     ensures only { IsSome result ↔ IsHexText count text.now }

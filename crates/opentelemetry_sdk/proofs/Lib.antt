@@ -1,3 +1,4 @@
+pub mod AgreementLemmas
 pub mod Clauses
 pub mod Cutting
 pub mod EachLemmas

@@ -10,12 +10,12 @@ Each G (p ∷ ps) [] qs = ⊥
 Each G (p ∷ ps) (r ∷ rs) [] = ⊥
 Each G (p ∷ ps) (r ∷ rs) (q ∷ qs) = G p r q × Each G ps rs qs
 
--- how many of the answers are error_count
+-- how many of the answers are errors
 abbrev pub error_count : {T E : Type 0} → List (Result T E) → ℕ
 error_count [] = 0
 error_count (Ok _ ∷ rs) = error_count rs
 error_count (Err _ ∷ rs) = error_count rs + 1
 
--- each was asked, also after one refused: n of the answers are error_count
+-- each was asked, also after one refused: n of the answers are errors
 abbrev pub AskedAll : {P T E : Type 0} → (P → Result T E → P → Type 0) → List P → List P → ℕ → Type 0
 AskedAll {P} {T} {E} G ps qs n = (rs : List (Result T E)) × (error_count rs ≡ n) × Each G ps rs qs

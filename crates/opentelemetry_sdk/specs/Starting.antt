@@ -84,7 +84,7 @@ module _ {G : Type 0} (ids : drawing.Ghosts G) where
     pub draws_trace_id : DrawsTraceId active between trace_id new
 
 module _ {P S G : Type 0} (sampler : sampling.Ghosts S) (ids : drawing.Ghosts G) where
-  -- ids were drawn and the sampler was asked, and nothing else happened: it found no memory, or the span was to record
+  -- ids were drawn, and nothing else happened; where the sampler needs no memory for the question, the span was to record
   pub record OnlyDraws (old : ProviderState P S G) (builder : PlainSpanBuilder) (cx : PlainContext)
       (new : ProviderState P S G) : Type 0 where
     pub trace_id : ℕ

@@ -2,4 +2,5 @@
 //! processors.
 #![tactic(auto)]
 
+pub mod laws;
 pub mod trace;

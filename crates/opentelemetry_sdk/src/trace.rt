@@ -18,6 +18,4 @@ pub use span_processor::SpanProcessor;
 pub use tracer::SdkTracer;
 
 #[cfg(test)]
-mod queueing_processor;
-#[cfg(test)]
 mod tests;

@@ -1,12 +1,11 @@
 -- The header of a baggage reads back as it.
-use Rattle.std.proofs.Common.{◌≡◌, ◌≢◌, ◌⊎◌, inl, inr, ℕ, ◌+◌, ◌<◌, ◌≤◌, Bool, true, false, ◌||◌, cond, eqb, ltb, List, [], ◌∷◌, ◌++◌, length, take, get_or, map, All, Option, Some, None, Ok, unwrap_or, refl, sym, ap, subst, ◌∙◌, ⊎_elim, arith, append-nil, append_assoc, ne_eqb, eq-eqb, lit<}
-use Rattle.std.specs.List.{cons_option, filter_map, flat_map, join_with_byte, onto_first, slice_split}
+use Rattle.std.proofs.Common.{◌≡◌, ◌≢◌, ℕ, true, false, eqb, List, [], ◌∷◌, ◌++◌, length, take, map, All, Some, Ok, unwrap_or, refl, sym, ap, subst, ◌∙◌, ⊎_elim, arith, append-nil, append_assoc, ne_eqb, eq-eqb, lit<}
+use Rattle.std.specs.List.{cons_option, filter_map, join_with_byte, onto_first}
 use Rattle.std.specs.Str.{IsUtf8, trim}
 use Rattle.std.proofs.lemmas.Bool.{both_ways, cond-true, cond-false, cases_Bool}
 use borrow.Author.Tests.{le-leb}
-use Rattle.std.proofs.lemmas.Bool.Decides.{nat_tests}
 use Rattle.std.proofs.lemmas.List.{length-map, take_all}
-use Rattle.std.proofs.lemmas.List.Elements.{All-nil, All-cons, All-head, All-tail, All-append, All-weaker}
+use Rattle.std.proofs.lemmas.List.Elements.{All-nil, All-cons, All-head, All-tail, All-append}
 use Rattle.std.proofs.lemmas.List.Splits.{slice_split_none, slice_split_at, join_with_byte-slice_split}
 use Rattle.percent_encoding.specs.Percent.{percent_decode, percent_encode, percent_sign}
 use Rattle.percent_encoding.specs.AsciiSet.{should_percent_encode}
@@ -14,7 +13,7 @@ use Rattle.percent_encoding.proofs.PercentLemmas.{IsEscapeByte, All-percent_enco
 use Rattle.opentelemetry.specs.Baggage.{PlainBaggage, PlainBaggageEntry, entry_of, HasNames}
 use Rattle.otel_base.specs.AttributesString.{HasNo, comma, equals_sign}
 use Rattle.otel_base.specs.declared.propagation.baggage.write.TheConstants.{ESCAPED}
-use Rattle.otel_base.specs.BaggageHeader.{behind_semicolon, entries_of, entry_of_member, entry_of_parts, escaped, header_of, member_of, metadata_of, named_entry, needs_escape, one_a_name, paired_entry, pieces_at, said_by, semicolon, HasTexts, IsBaggage, IsSaidUnchanged, IsCarriedUnchanged, Carries, InjectsBaggage, baggage_field, read_baggage}
+use Rattle.otel_base.specs.BaggageHeader.{behind_semicolon, entries_of, entry_of_member, escaped, header_of, member_of, metadata_of, named_entry, needs_escape, one_a_name, paired_entry, pieces_at, said_by, semicolon, HasTexts, IsBaggage, IsSaidUnchanged, IsCarriedUnchanged, Carries, InjectsBaggage, baggage_field, read_baggage}
 use Rattle.opentelemetry.specs.Carrier.{Texts}
 use Rattle.opentelemetry.specs.Plain.{PlainContext}
 use Rattle.otel_base.proofs.BaggageNames.{one_a_name_distinct}

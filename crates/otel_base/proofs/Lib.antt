@@ -6,8 +6,11 @@ pub mod BaggagePieceLemmas
 pub mod BaggageRoundTrip
 pub mod BaggageTextLemmas
 pub mod Behind
+pub mod ConfigLemmas
 pub mod DetectedLemmas
 pub mod FractionLemmas
+pub mod RatioLemmas
 pub mod SameLemmas
 pub mod TextPieces
+pub mod TraceparentLemmas
 pub mod TrimLemmas

@@ -1,12 +1,12 @@
 -- The pieces of a text between ASCII characters are texts, and what is trimmed between such characters is trimmed whole.
-use Rattle.std.proofs.Common.{◌≡◌, ◌≢◌, ◌⊎◌, inl, inr, ℕ, zero, suc, ◌+◌, ◌*◌, ◌/◌, ◌%◌, ◌<◌, ◌≤◌, Bool, true, false, ◌&&◌, cond, eqb, ltb, List, [], ◌∷◌, ◌++◌, length, get_or, map, All, refl, sym, ap, subst, ◌∙◌, ⊎_elim, arith, append-nil, append_assoc, length-append, ne_eqb, eq-eqb}
+use Rattle.std.proofs.Common.{◌≡◌, ◌≢◌, ◌⊎◌, inl, inr, ℕ, ◌+◌, ◌/◌, ◌%◌, ◌<◌, ◌≤◌, Bool, true, false, ◌&&◌, eqb, ltb, List, [], ◌∷◌, ◌++◌, length, get_or, map, All, refl, sym, ap, subst, ◌∙◌, ⊎_elim, arith, append-nil, length-append, ne_eqb, eq-eqb}
 use Rattle.std.specs.Char.{is_whitespace, encode_utf8}
 use Rattle.std.specs.List.{AllByRecursion, join_with_byte, onto_first, slice_split}
 use Rattle.std.specs.Str.{IsUtf8, chars, all_scalars, encode_utf8_all, skip_leading_whitespace, drop_trailing_whitespace, trim}
 use Rattle.std.proofs.lemmas.Bool.{and_right, both_ways, cond_both, false_from_ne_true, cond-true, cond-false, cases_Bool, eqb-true, ltb-true}
 use Rattle.std.proofs.lemmas.List.Elements.{All-nil, All-cons, All-head, All-tail, All-append, All-from_get_or}
 use Rattle.std.proofs.lemmas.List.Splits.{join_with_byte-slice_split}
-use Rattle.std.proofs.lemmas.Str.{encode_ascii, inside_one, encodes-chars, scalars-chars, chars-encodes, encodes_same}
+use Rattle.std.proofs.lemmas.Str.{encode_ascii, inside_one, chars-encodes, encodes_same}
 use lib.Utf8.{encode, scalar, scalar_cases}
 use Rattle.otel_base.proofs.TrimLemmas.{trimmed_chars, trim_is, second_true}
 

@@ -103,7 +103,8 @@ read_baggage None = None
 read_baggage (Some header) = if nat_le (length header) 8192 then Some (entries_of header) else None
 
 -- what a baggage propagator injects: the header; for an empty baggage nothing, which needs no memory
-pub record InjectsBaggage (cx : PlainContext) (old : Texts) (result : Result (Unit {0}) AllocError) (new : Texts) : Type 0 where
+pub record InjectsBaggage (cx : PlainContext) (old : Texts) (result : Result (Unit {0}) AllocError)
+    (new : Texts) : Type 0 where
   pub set : cx.baggage ≢ [] → OnOk result (SetsText old new baggage_field (header_of cx.baggage))
   pub nothing : cx.baggage ≡ [] → IsOk result × SameTexts old new
   pub err : OnErr result (SameTexts old new)

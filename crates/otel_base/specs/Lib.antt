@@ -1,12 +1,17 @@
+pub mod Agreement
 pub mod AttributesString
 pub mod BaggageHeader
 pub mod BaggagePieces
+pub mod Config
+pub mod ConfigStrings
 pub mod DetectedResource
 pub mod ErrorText
 pub mod IdSource
 pub mod Ids
+pub mod Ratio
 pub mod Resource
 pub mod SameResource
 pub mod SameSamplingResult
 pub mod Sampler
 pub mod Sampling
+pub mod Traceparent

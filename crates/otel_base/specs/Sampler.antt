@@ -4,7 +4,8 @@ use Rattle.opentelemetry.specs.Plain.{PlainContext, PlainSpanContext}
 use Rattle.otel_base.specs.Sampling.{SamplingQuestion, PlainSamplingResult}
 use Rattle.otel_base.specs.declared.trace.sampler.SamplingDecision.{SamplingDecision}
 use Rattle.otel_base.specs.declared.trace.sampler.SamplingDecision.TheVariants as decisions
-use Rattle.otel_base.specs.declared.trace.sampler.SamplerOf.{SamplerOf, AlwaysOn, AlwaysOff, ParentBased', Custom}
+use Rattle.otel_base.specs.declared.trace.sampler.SamplerOf.{SamplerOf, AlwaysOn, AlwaysOff, ParentBased', TraceIdRatioBased, Custom}
+use Rattle.otel_base.specs.Ratio.{PlainRatio, samples}
 
 -- what a sampler is made of, without where it lies in memory: one of the SDK's, perhaps over another one, or a
 -- custom one
@@ -12,6 +13,7 @@ pub data SamplerPlan (C : Type 0) : Type 0 where
   always_on : SamplerPlan C
   always_off : SamplerPlan C
   parent_based : SamplerPlan C → SamplerPlan C
+  trace_id_ratio_based : PlainRatio → SamplerPlan C
   custom : C → SamplerPlan C
 
 -- the plan of a sampler
@@ -19,6 +21,7 @@ abbrev pub plan : {C : Type 0} → SamplerOf C → SamplerPlan C
 plan AlwaysOn = always_on
 plan AlwaysOff = always_off
 plan (ParentBased' p delegate) = parent_based (plan delegate)
+plan (TraceIdRatioBased ratio) = trace_id_ratio_based ratio
 plan (Custom c) = custom c
 
 -- the context of the span that is active in a context, if there is one
@@ -39,8 +42,12 @@ built_in decision active = record { decision = decision; attributes = []; trace_
 abbrev pub parent_decision : PlainSpanContext → SamplingDecision
 parent_decision span = if span.trace_flags % 2 == 1 then decisions.RecordAndSample else decisions.Drop
 
+-- a trace that the ratio samples is sampled, and another one is dropped
+abbrev pub ratio_decision : PlainRatio → ℕ → SamplingDecision
+ratio_decision ratio trace_id = if samples ratio trace_id then decisions.RecordAndSample else decisions.Drop
+
 -- what a sampler answers, where custom_gives is what a custom one does: an active span decides alone in place of a
--- delegate, which is asked where none is active
+-- delegate, which is asked where none is active, and of whose answer the decision alone counts
 abbrev pub SamplerGives : {C : Type 0} → (C → SamplingQuestion → PlainSamplingResult → Type 0)
     → SamplerPlan C → SamplingQuestion → PlainSamplingResult → Type 0
 SamplerGives custom_gives always_on question answer =
@@ -49,8 +56,11 @@ SamplerGives custom_gives always_off question answer =
     answer ≡ built_in decisions.Drop (active_in question.parent_context)
 SamplerGives custom_gives (parent_based delegate) question answer =
     MatchOption (active_in question.parent_context)
-    (SamplerGives custom_gives delegate question answer)
+    ((asked : PlainSamplingResult) × SamplerGives custom_gives delegate question asked
+    × (answer ≡ built_in asked.decision None))
     (λ span. answer ≡ built_in (parent_decision span) (Some span))
+SamplerGives custom_gives (trace_id_ratio_based ratio) question answer =
+    answer ≡ built_in (ratio_decision ratio question.trace_id) (active_in question.parent_context)
 SamplerGives custom_gives (custom c) question answer = custom_gives c question answer
 
 -- where a sampler answers whether memory is there or not: a sampler of the SDK does where the active span has no
@@ -65,6 +75,8 @@ SamplerIsInfallible custom_is_infallible (parent_based delegate) question =
     MatchOption (active_in question.parent_context)
     (SamplerIsInfallible custom_is_infallible delegate question)
     (λ span. span.trace_state ≡ [])
+SamplerIsInfallible custom_is_infallible (trace_id_ratio_based ratio) question =
+    passed_trace_state (active_in question.parent_context) ≡ []
 SamplerIsInfallible custom_is_infallible (custom c) question = custom_is_infallible c question
 
 -- whether a custom sampler stands in a plan
@@ -72,6 +84,7 @@ abbrev pub has_custom : {C : Type 0} → SamplerPlan C → Bool
 has_custom always_on = false
 has_custom always_off = false
 has_custom (parent_based delegate) = has_custom delegate
+has_custom (trace_id_ratio_based ratio) = false
 has_custom (custom c) = true
 
 -- whether a plan begins with a sampler that has a delegate
@@ -79,6 +92,7 @@ abbrev pub has_delegate : {C : Type 0} → SamplerPlan C → Bool
 has_delegate always_on = false
 has_delegate always_off = false
 has_delegate (parent_based delegate) = true
+has_delegate (trace_id_ratio_based ratio) = false
 has_delegate (custom c) = false
 
 -- what a try at a copy answers: a sampler of the same plan, or none where a custom one stands in it

@@ -1,15 +1,18 @@
-//! The laws of resources, of merging them, of reading attributes strings and of headers, over the definitions alone. Each
-//! function does nothing; its contract is the law, for all values.
+//! The laws of resources, of merging them, of reading attributes strings, of headers and of ratios, over the
+//! definitions alone. Each function does nothing; its contract is the law, for all values.
 
-ghost use Rattle.std.specs.Prelude.{◌≡◌, ◌≢◌, Some, ℕ, List, [], All, AllPairs};
+ghost use Rattle.std.specs.Prelude.{◌≡◌, ◌≢◌, ◌*◌, ◌<◌, ◌≤◌, IsTrue, Some, ℕ, List, [], All, AllPairs};
 ghost use Rattle.std.specs.Option.{option_or};
 ghost use Rattle.std.specs.FinMap.{get, keys};
-ghost use Rattle.opentelemetry.specs.Plain.{PlainContext, PlainKeyValue};
+ghost use Rattle.opentelemetry.specs.Plain.{PlainContext, PlainKeyValue, PlainSpanContext};
 ghost use Rattle.otel_base.specs.AttributesString.{IsAttributesString};
 ghost use Rattle.opentelemetry.specs.Baggage.{PlainBaggage};
 ghost use Rattle.opentelemetry.specs.Carrier.{Texts};
 ghost use Rattle.otel_base.specs.BaggageHeader.{entries_of, header_of, Carries, InjectsBaggage, IsBaggage};
 ghost use Rattle.otel_base.specs.BaggageHeader.{IsCarriedUnchanged, IsSaidUnchanged};
+ghost use Rattle.otel_base.specs.Ratio.{PlainRatio, low_half, samples};
+ghost use Rattle.otel_base.specs.Traceparent.{span_of, CarriesSpan, InjectsTraceContext, IsSpanContext};
+ghost use Rattle.otel_base.specs.Traceparent.{IsTraceparent, IsValid};
 ghost use Rattle.otel_base.specs.Resource.{PlainResource, empty_resource, non_empty, merge};
 
 /// No two attributes of a resource have one key.
@@ -61,4 +64,30 @@ pub fn baggage_headers_read_back()
 pub fn injected_baggage_is_carried()
     ensures { (cx : PlainContext) (old new : Texts) → IsBaggage cx.baggage → IsCarriedUnchanged cx.baggage
         → InjectsBaggage cx old (Ok tt) new → Carries new cx.baggage }
+{}
+
+/// What a ratio samples, each ratio that is at least as large samples: a service that samples more keeps whole what one
+/// that samples less keeps.
+pub fn larger_ratios_sample_more()
+    ensures { (r s : PlainRatio) (trace_id : ℕ) → 0 < r.denominator
+        → r.numerator * s.denominator ≤ s.numerator * r.denominator
+        → IsTrue (samples r trace_id) → IsTrue (samples s trace_id) }
+{}
+
+/// The low half of a trace id decides alone whether a ratio samples the trace.
+pub fn low_halves_decide()
+    ensures { (r : PlainRatio) (one other : ℕ) → low_half one ≡ low_half other → samples r one ≡ samples r other }
+{}
+
+/// A text of `traceparent` says one span context at most.
+pub fn traceparents_read_once()
+    ensures { (text : List ℕ) (these those : PlainSpanContext)
+        → IsTraceparent text these → IsTraceparent text those → these ≡ those }
+{}
+
+/// What a propagator injects of a valid span context, another extracts: the ids, the sampled flag and the trace state,
+/// remote, over every carrier that gives back what was set.
+pub fn injected_span_context_is_carried()
+    ensures { (cx : PlainContext) (old new : Texts) → IsSpanContext (span_of cx) → IsValid (span_of cx)
+        → InjectsTraceContext cx old (Ok tt) new → CarriesSpan new (span_of cx) }
 {}

@@ -1,5 +1,7 @@
 //! What travels between processes: each propagator writes a part of a context into headers and reads it back.
 
 pub mod baggage;
+pub mod trace_context;
 
 pub use baggage::BaggagePropagator;
+pub use trace_context::TraceContextPropagator;

@@ -1,9 +1,13 @@
-//! Who makes the ids of spans, which spans are sampled, and how much a span keeps.
+//! Who makes the ids of spans, which spans are sampled, how much a span keeps, and the strings that configure all this.
 
+pub mod config;
 pub mod id_generator;
+pub mod ratio;
 pub mod sampler;
 pub mod span_limit;
 
+pub use config::{BatchStrings, Config, ConfigOf, ConfigStrings};
 pub use id_generator::{IdGenerator, IdSource, IdSourceOf, RandomIdGenerator};
+pub use ratio::{Ratio, RatioError};
 pub use sampler::{Sampler, SamplerOf, SamplingDecision, SamplingResult, ShouldSample};
 pub use span_limit::SpanLimits;

@@ -1,7 +1,7 @@
 -- A drain of the batch queue ends after a bounded number of the worker's steps, and its batches have the right size.
-use Rattle.std.proofs.Common.{◌≡◌, ◌⊎◌, inl, inr, ◌∙◌, ap, sym, refl, zero, suc, ℕ, ◌+◌, ◌-◌, ◌*◌, ◌<◌, ◌≤◌, ◌==◌, ◌&&◌, Bool, true, false, List, [], ◌∷◌, ◌++◌, length, Option, Some, None, Ok, Err, take, drop, slice_get, min, nat_lt, if◌then◌else◌, rules, arith, sum}
+use Rattle.std.proofs.Common.{◌≡◌, ◌⊎◌, inl, inr, ◌∙◌, ap, sym, refl, suc, ℕ, ◌+◌, ◌-◌, ◌*◌, ◌<◌, ◌≤◌, ◌==◌, Bool, true, false, List, [], ◌∷◌, ◌++◌, length, Option, Err, take, drop, min, nat_lt, if◌then◌else◌, arith, sum}
 use Rattle.std.proofs.lemmas.Bool.Decides.{eqb_tells}
-use Rattle.otel_batch.specs.Workers.{is_draining, is_handing, is_pulling, is_filling, worker_counts}
+use Rattle.otel_batch.specs.Workers.{is_draining, worker_counts}
 use Rattle.otel_batch.specs.MachineState.{Machine, Counts, Control, counts, batch_limit, limit_of}
 use Rattle.otel_batch.specs.SoundMachine.{IsSound}
 use Rattle.otel_batch.specs.PermittedStep.{Permitted, PullRow, HandOverRow, SubtractRow, FinishRow, FinishRowFor, finished, put_slot}
@@ -11,7 +11,7 @@ use Rattle.otel_batch.specs.declared.machine.state.Slot.TheVariants as slot
 use Rattle.otel_batch.specs.declared.machine.state.Why.{Why}
 use Rattle.otel_batch.specs.declared.machine.state.Why.TheVariants as why
 use Rattle.otel_batch.specs.MachineRun.{Run, batch_sizes}
-use Rattle.otel_batch.specs.Drains.{is_workers, is_enabled, worker_steps, NoneFinishes, FitBatches, largest_batch, more_steps, IsBounded, BoundsDrains}
+use Rattle.otel_batch.specs.Drains.{worker_steps, NoneFinishes, FitBatches, largest_batch, more_steps, BoundsDrains}
 use Rattle.otel_batch.specs.declared.machine.state.Worker.{Worker}
 use Rattle.otel_batch.specs.declared.machine.state.Worker.TheVariants as worker
 use Rattle.otel_batch.specs.declared.machine.step.Outcome.{Outcome}
@@ -19,9 +19,10 @@ use Rattle.otel_batch.specs.declared.machine.step.Outcome.TheVariants as outcome
 use Rattle.otel_batch.specs.declared.machine.step.Step.{Step}
 use Rattle.otel_batch.specs.declared.machine.step.Step.TheVariants as step
 use Rattle.otel_batch.specs.declared.trace.export.SpanExporter.{Ghosts}
-use Rattle.otel_batch.proofs.TableFacts.{Leaves, permitted-alone, permitted-leaves, handed_over-hands}
+use Rattle.otel_batch.proofs.TableFacts.{permitted-alone, permitted-leaves, handed_over-hands}
+use Rattle.otel_batch.proofs.Runs.{run-splits}
 use Rattle.otel_batch.proofs.Conserving.{sizes-first}
-use Rattle.otel_batch.proofs.Draining.{ltb_tells, handed, handed-rest, is_busy, take_busy, tick_busy, clear_busy, load_busy, close_busy, StaysInDrain, stays_alone, rests, at_load, run_split}
+use Rattle.otel_batch.proofs.Draining.{ltb_tells, handed, handed-rest, is_busy, take_busy, tick_busy, clear_busy, load_busy, close_busy, StaysInDrain, stays_alone, rests, at_load}
 
 -- no batch of a run is empty, or has more spans than the largest
 largest_same : (s t : Control) → t.queue_size ≡ s.queue_size → t.batch_size ≡ s.batch_size →
@@ -594,7 +595,7 @@ module _ {E : Type 0} (calls : Ghosts E) where
       Run calls s xs os t → BoundsDrains s.control xs os
   run-bounds s xs os t sound run n m target e on =
       let at = at_load calls n s xs os t target sound run e in
-      let parts = run_split calls at.load (drop (suc n) xs) (drop (suc n) os) t m at.behind in
+      let parts = run-splits calls at.load (drop (suc n) xs) (drop (suc n) os) t m at.behind in
       let extra : ℕ = more_steps s.control in
       let batch = at.batch_same in
       let queue = at.queue_same in

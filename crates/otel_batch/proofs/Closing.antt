@@ -1,9 +1,8 @@
-use Rattle.std.proofs.Common.{Bool, ◌≡◌, ◌≢◌, ◌∙◌, ap, sym, refl, inl, inr, zero, suc, ℕ, ◌+◌, ◌<◌, ◌≤◌, true, List, [], length, Option, Some, None, Ok, Err, Result, sum_by, slice_get, slice_set, rules, arith}
+use Rattle.std.proofs.Common.{Bool, ◌≡◌, ◌∙◌, ap, sym, refl, inl, inr, zero, suc, ℕ, ◌<◌, true, List, [], length, Option, Some, None, Ok, Result, sum_by, slice_get, slice_set, arith}
 use Rattle.std.proofs.Math.ListN.{length-set}
 use Rattle.std.proofs.lemmas.Bool.Decides.{eqb_tells}
 use Rattle.std.proofs.lemmas.Option.{slice_get_within}
 use Rattle.circular_buffer.proofs.Places.{slice_get-set_same, slice_get-set_other}
-use Rattle.otel_base.specs.declared.error.OTelSdkError.TheVariants.{AlreadyShutdown, Timeout, InternalFailure, OutOfMemory}
 use Rattle.otel_batch.specs.declared.machine.state.Slot.{Slot}
 use Rattle.otel_batch.specs.declared.machine.state.Slot.TheVariants.{Idle, Holding, Refused, Asking, Posting, Resetting, Waiting, Answered}
 use Rattle.otel_batch.specs.declared.machine.state.Message.{Message}

@@ -1,14 +1,13 @@
 -- Along a run of the batch queue no span is lost, and each send that met a full queue is counted.
-use Rattle.std.proofs.Common.{◌≡◌, ◌∙◌, ap, sym, refl, ℕ, ◌+◌, ◌-◌, ◌<◌, ◌^◌, min, List, [], ◌∷◌, ◌++◌, length, map, replicate, Option, Some, None, slice_get, append_assoc, append-nil, rules, arith}
+use Rattle.std.proofs.Common.{◌≡◌, ◌∙◌, ap, sym, refl, ℕ, ◌<◌, ◌^◌, List, [], ◌∷◌, ◌++◌, length, map, slice_get, append_assoc, append-nil, arith}
 use Rattle.std.proofs.lemmas.List.{map-append}
 use Rattle.std.proofs.lemmas.List.Concat.{flat_map-append}
 use Rattle.otel_batch.specs.PlainSpanData.{PlainSpanData, spans_in}
 use Rattle.otel_batch.specs.Slots.{held}
-use Rattle.otel_batch.specs.Telling.{Tells}
-use Rattle.otel_batch.specs.MachineState.{Machine, Counts, counts, first_machine}
-use Rattle.otel_batch.specs.PermittedStep.{Permitted, HandOverRow}
-use Rattle.otel_batch.specs.MovedSpans.{Moved, Keeps, QueuesSpan, PullsSpan, ExportsHand, PassesResource, ShutsExporter}
-use Rattle.otel_batch.specs.MachineRun.{Run, Stepped, accepted, accepts, holds_after, holds_at, batch_sizes, full_sends, counted_up}
+use Rattle.otel_batch.specs.MachineState.{Machine, counts}
+use Rattle.otel_batch.specs.PermittedStep.{Permitted}
+use Rattle.otel_batch.specs.MovedSpans.{Moved, Keeps, QueuesSpan, ExportsHand}
+use Rattle.otel_batch.specs.MachineRun.{Run, accepted, accepts, holds_after, holds_at, batch_sizes, full_sends, counted_up}
 use Rattle.otel_batch.specs.Conservation.{Conserves, IsFirst, LosesNoSpan}
 use Rattle.otel_batch.specs.declared.machine.step.Outcome.{Outcome}
 use Rattle.otel_batch.specs.declared.machine.step.Outcome.TheVariants as outcome
@@ -17,7 +16,7 @@ use Rattle.otel_batch.specs.declared.machine.step.Step.TheVariants as step
 use Rattle.otel_batch.specs.declared.trace.export.SpanExporter.{Ghosts}
 use Rattle.otel_batch.proofs.Tellings.{tells_append, tells_same}
 use Rattle.otel_batch.proofs.Holding.{Agrees, agrees_at, agrees_first, permitted-holds, accepts-agrees}
-use Rattle.otel_batch.proofs.TableFacts.{Leaves, permitted-leaves, dropped_after}
+use Rattle.otel_batch.proofs.TableFacts.{permitted-leaves, dropped_after}
 
 -- the sizes of a step's batches stand before those of the steps behind it
 pub sizes-first : (o : Outcome) (os : List Outcome) → batch_sizes (o ∷ os) ≡ batch_sizes (o ∷ []) ++ batch_sizes os

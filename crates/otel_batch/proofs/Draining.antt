@@ -1,19 +1,19 @@
 -- Drains of the batch queue are complete, bounded, and in batches of the right size.
-use Rattle.std.proofs.Common.{◌≡◌, ◌⊎◌, inl, inr, ◌∙◌, ap, sym, refl, subst, zero, suc, ℕ, ◌+◌, ◌-◌, ◌*◌, ◌<◌, ◌≤◌, ◌==◌, ◌&&◌, Bool, true, false, List, [], ◌∷◌, ◌++◌, length, map, Option, Some, None, take, drop, slice_get, append_assoc, append-nil, length-append, nat_lt, min, if◌then◌else◌, rules, arith, sum, sum_by}
+use Rattle.std.proofs.Common.{◌≡◌, ◌⊎◌, inl, inr, ◌∙◌, ap, sym, refl, subst, zero, suc, ℕ, ◌+◌, ◌<◌, ◌≤◌, ◌&&◌, Bool, true, false, List, [], ◌∷◌, ◌++◌, length, map, Some, None, take, drop, slice_get, append_assoc, length-append, nat_lt, if◌then◌else◌, arith, sum, sum_by}
 use borrow.Author.Tests.{ltb-true, ltb-false}
 use Rattle.std.proofs.lemmas.Bool.Decides.{eqb_tells}
-use Rattle.std.specs.List.{flat_map, fold}
+use Rattle.std.specs.List.{fold}
 use Rattle.std.proofs.lemmas.List.{nil_from_length}
 use Rattle.otel_batch.specs.PlainSpanData.{PlainSpanData, spans_in}
 use Rattle.otel_batch.specs.Slots.{slot_counts}
-use Rattle.otel_batch.specs.Workers.{is_closing, is_draining, is_handing, is_pulling, is_filling, worker_counts}
-use Rattle.otel_batch.specs.MachineState.{Machine, Counts, Control, counts, batch_limit, limit_of}
+use Rattle.otel_batch.specs.Workers.{is_closing, is_draining, worker_counts}
+use Rattle.otel_batch.specs.MachineState.{Machine, Counts, counts, limit_of}
 use Rattle.otel_batch.specs.SoundMachine.{IsSound}
 use Rattle.otel_batch.specs.PermittedStep.{Permitted, TakeRow, TickRow, ClearRow, LoadRow, PullRow, HandOverRow, SubtractRow, FinishRow, CloseRow}
-use Rattle.otel_batch.specs.MovedSpans.{Moved}
-use Rattle.otel_batch.specs.MachineRun.{Run, Stepped, accepted, holds_at, batch_sizes}
+use Rattle.otel_batch.specs.MachineRun.{Run, accepted, holds_at, batch_sizes}
 use Rattle.otel_batch.specs.Conservation.{Conserves}
-use Rattle.otel_batch.specs.Drains.{is_workers, is_enabled, worker_steps, IsWholeDrain, NoneFinishes, FitBatches, largest_batch, more_steps, IsBounded, BoundsDrains, HandsOverFirst, CompletesDrain, CompletesDrains}
+use Rattle.otel_batch.specs.GoingOn.{is_enabled}
+use Rattle.otel_batch.specs.Drains.{is_workers, worker_steps, IsWholeDrain, NoneFinishes, HandsOverFirst, CompletesDrains}
 use Rattle.otel_batch.specs.declared.machine.state.Worker.{Worker}
 use Rattle.otel_batch.specs.declared.machine.state.Worker.TheVariants as worker
 use Rattle.otel_batch.specs.declared.machine.step.Outcome.{Outcome}
@@ -21,8 +21,9 @@ use Rattle.otel_batch.specs.declared.machine.step.Outcome.TheVariants as outcome
 use Rattle.otel_batch.specs.declared.machine.step.Step.{Step}
 use Rattle.otel_batch.specs.declared.machine.step.Step.TheVariants as step
 use Rattle.otel_batch.specs.declared.trace.export.SpanExporter.{Ghosts}
-use Rattle.otel_batch.proofs.TableFacts.{is_producers, Leaves, LeavesWorker, permitted-alone, permitted-leaves}
-use Rattle.otel_batch.proofs.Conserving.{sizes-first, run-conserves, conserves_then}
+use Rattle.otel_batch.proofs.TableFacts.{is_producers, LeavesWorker, permitted-alone, permitted-leaves}
+use Rattle.otel_batch.proofs.Conserving.{run-conserves, conserves_then}
+use Rattle.otel_batch.proofs.Runs.{run-splits}
 use Rattle.otel_batch.proofs.Silence.{producers-no_batch}
 
 -- the test of an order, with what it says
@@ -518,17 +519,6 @@ module _ {E : Type 0} (calls : Ghosts E) where
       (omega (arith, given, enough)) in
       record { batches = c.batches; sized = c.sized; told = c.told; rest = cut.0; begins = cut.1 }
 
-  -- a run in two
-  pub run_split : (s : Machine E) (xs : List Step) (os : List Outcome) (t : Machine E) (n : ℕ) → Run calls s xs os t →
-      (between : Machine E) × Run calls s (take n xs) (take n os) between × Run calls between (drop n xs) (drop n os) t
-  run_split s xs os t zero run = (s, refl, run)
-  run_split s [] [] t (suc n) run = (s, refl, run)
-  run_split s (x ∷ xs) (o ∷ os) t (suc n) run =
-      let rest = run_split run.0 xs os t n run.2 in
-      (rest.0, (run.0, run.1, rest.1), rest.2)
-  run_split s [] (o ∷ os) t (suc n) run = absurd run
-  run_split s (x ∷ xs) [] t (suc n) run = absurd run
-
   -- the machine behind the n-th step, which loaded a drain
   pub record AtLoad (n : ℕ) (s : Machine E) (xs : List Step) (os : List Outcome) (target : ℕ) (t : Machine E) : Type 0 where
     pub load : Machine E
@@ -578,7 +568,7 @@ module _ {E : Type 0} (calls : Ghosts E) where
       Run calls s xs os t → CompletesDrains calls s xs os t
   run-completes s xs os t sound run n m target e whole =
       let at = at_load n s xs os t target sound run e in
-      let parts = run_split at.load (drop (suc n) xs) (drop (suc n) os) t m at.behind in
+      let parts = run-splits calls at.load (drop (suc n) xs) (drop (suc n) os) t m at.behind in
       let sizes = batch_sizes (take m (drop (suc n) os)) in
       let earlier_sizes = batch_sizes (take (suc n) os) in
       let spans = accepted (holds_at s.control.slots) (take (suc n) xs) (take (suc n) os) in
@@ -605,4 +595,5 @@ module _ {E : Type 0} (calls : Ghosts E) where
             (ap (λ l. (l ++ at.load.waiting) ++ more) none) (omega (arith, enough)) during;
         earlier = hands_first s (there ++ spans) more (earlier_sizes ++ sizes) parts.0 (spans ++ more)
             (sym (append_assoc there spans more)) (omega (arith, enough, count, size, start, sums, hand)) both;
+        handed = omega (arith, enough, count, sums, hand);
       }

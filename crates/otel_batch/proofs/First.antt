@@ -1,9 +1,8 @@
-use Rattle.std.proofs.Common.{◌≡◌, ◌∙◌, ap, sym, refl, inl, inr, zero, suc, ℕ, ◌+◌, ◌*◌, ◌<◌, ◌≤◌, ◌^◌, true, false, List, [], ◌∷◌, length, replicate, Option, Some, None, Ok, sum_by, slice_get, rules, arith}
+use Rattle.std.proofs.Common.{◌≡◌, ◌∙◌, sym, refl, zero, suc, ℕ, ◌<◌, ◌≤◌, ◌^◌, length, replicate, sum_by, slice_get, arith}
 use Rattle.std.proofs.lemmas.Grind.{common_steps}
 use Rattle.std.proofs.lemmas.List.Folds.{sum_by-replicate}
 use Rattle.otel_batch.specs.declared.machine.state.Slot.TheVariants.{Idle}
 use Rattle.otel_batch.specs.Slots.{slot_counts, slot_asks, slot_waits}
-use Rattle.otel_batch.specs.Messages.{message_names}
 use Rattle.otel_batch.specs.MachineState.{counts, first_machine}
 use Rattle.otel_batch.specs.PlainBatchConfig.{PlainBatchConfig}
 use Rattle.otel_batch.specs.SoundMachine.{IsSound}

@@ -1,5 +1,5 @@
 -- What the producers are said to hold along a run is what their slots hold.
-use Rattle.std.proofs.Common.{◌≡◌, ◌≢◌, ◌∙◌, ap, sym, refl, inl, inr, zero, suc, ℕ, ◌<◌, ◌==◌, Bool, true, false, List, [], ◌∷◌, ◌++◌, length, Option, Some, None, Ok, Err, sum_by, slice_get, slice_set, replicate, if◌then◌else◌, rules, arith}
+use Rattle.std.proofs.Common.{◌≡◌, ◌≢◌, ◌∙◌, ap, sym, refl, inl, inr, zero, suc, ℕ, ◌<◌, ◌==◌, Bool, true, false, List, [], ◌∷◌, length, Option, Some, None, Ok, Err, sum_by, slice_get, slice_set, replicate, if◌then◌else◌}
 use Rattle.std.proofs.Math.ListN.{length-set}
 use Rattle.std.proofs.lemmas.Bool.Decides.{eqb_tells}
 use Rattle.std.proofs.lemmas.Option.{slice_get_cases}
@@ -8,10 +8,10 @@ use Rattle.otel_base.specs.Resource.{PlainResource}
 use Rattle.otel_base.specs.declared.error.OTelSdkError.{OTelSdkError}
 use Rattle.otel_base.specs.declared.error.OTelSdkError.TheVariants.{OutOfMemory}
 use Rattle.otel_batch.specs.PlainSpanData.{PlainSpanData}
-use Rattle.otel_batch.specs.Slots.{held, is_holding, slot_waits}
+use Rattle.otel_batch.specs.Slots.{held, is_holding}
 use Rattle.otel_batch.specs.Messages.{message_names}
 use Rattle.otel_batch.specs.Workers.{closing_of}
-use Rattle.otel_batch.specs.MachineState.{Counts, Control}
+use Rattle.otel_batch.specs.MachineState.{Counts}
 use Rattle.otel_batch.specs.PermittedStep.{Permitted, OfferRow, SendRow, UndoRow, AskRow, PostRow, ResetRow, RequestRow, CollectRow, ResourceRow, TakeRow, TickRow, ClearRow, LoadRow, PullRow, HandOverRow, SubtractRow, FinishRow, FinishRowFor, CloseRow, IsDropped, SaysDropped, after_send, finished, put_slot}
 use Rattle.otel_batch.specs.MachineRun.{holds_after, holds_at, accepts}
 use Rattle.otel_batch.specs.declared.machine.state.Slot.{Slot}

@@ -1,5 +1,5 @@
 -- What becomes of requests, and that the worker goes on until it is gone.
-use Rattle.std.proofs.Common.{◌≡◌, ◌≢◌, ◌⊎◌, inl, inr, ◌∙◌, ap, sym, refl, zero, suc, ℕ, ◌+◌, ◌<◌, ◌≤◌, ◌==◌, Bool, true, false, List, [], ◌∷◌, length, Option, Some, None, Ok, Err, sum_by, slice_get, slice_set, if◌then◌else◌, rules, arith}
+use Rattle.std.proofs.Common.{◌≡◌, ◌⊎◌, inl, inr, ◌∙◌, ap, sym, refl, zero, suc, ℕ, ◌<◌, Bool, true, false, length, Option, Some, None, Ok, Err, sum_by, slice_get, slice_set, if◌then◌else◌, arith}
 use Rattle.std.proofs.lemmas.Bool.Decides.{eqb_tells}
 use Rattle.std.proofs.lemmas.Option.{slice_get_within}
 use Rattle.circular_buffer.proofs.Places.{slice_get-set_same, slice_get-set_other}
@@ -9,11 +9,11 @@ use Rattle.otel_base.specs.declared.error.OTelSdkError.TheVariants.{OutOfMemory}
 use Rattle.otel_batch.specs.PlainSpanData.{PlainSpanData}
 use Rattle.otel_batch.specs.Slots.{is_holding, is_answered, slot_waits}
 use Rattle.otel_batch.specs.Messages.{message_names}
-use Rattle.otel_batch.specs.Workers.{closing_of, is_closing, is_gone, why_names, worker_names, is_ready, is_clearing, is_loading, is_pulling, is_handing, is_subtracting, is_finishing}
-use Rattle.otel_batch.specs.MachineState.{Counts, Control}
+use Rattle.otel_batch.specs.Workers.{closing_of, is_closing, is_gone, worker_names, is_ready, is_clearing, is_loading, is_pulling, is_handing, is_subtracting, is_finishing}
+use Rattle.otel_batch.specs.MachineState.{Counts}
 use Rattle.otel_batch.specs.PermittedStep.{Permitted, OfferRow, SendRow, UndoRow, AskRow, PostRow, ResetRow, RequestRow, CollectRow, ResourceRow, TakeRow, TickRow, ClearRow, LoadRow, PullRow, HandOverRow, SubtractRow, FinishRow, FinishRowFor, CloseRow, IsDropped, SaysDropped, finished, put_slot, slot_at}
-use Rattle.otel_batch.specs.KeptRequests.{AnswersTo, KeepsRequests, next_step}
-use Rattle.otel_batch.specs.Drains.{is_enabled}
+use Rattle.otel_batch.specs.KeptRequests.{KeepsRequests}
+use Rattle.otel_batch.specs.GoingOn.{GoesOn, is_enabled, next_step}
 use Rattle.otel_batch.specs.declared.machine.state.Slot.{Slot}
 use Rattle.otel_batch.specs.declared.machine.state.Slot.TheVariants as slot
 use Rattle.otel_batch.specs.declared.machine.state.Request.{Request}
@@ -303,6 +303,5 @@ next_enabled s (worker.Closing p) o t at stays row = enabled_if o (λ e.
     let no : is_closing s.control.worker ≡ false = off.0 in let yes : is_closing s.control.worker ≡ true = rw at refl in cc)
 next_enabled s worker.Gone o t at stays row = cc
 
-pub permitted-goes_on : (s : Counts) (x : Step) (o : Outcome) (t : Counts) → Permitted s x o t →
-    x ≡ next_step s.control.worker → is_gone s.control.worker ≡ false → is_enabled o ≡ true
+pub permitted-goes_on : (s : Counts) (x : Step) (o : Outcome) (t : Counts) → Permitted s x o t → GoesOn s x o
 permitted-goes_on s x o t row e stays = next_enabled s s.control.worker o t refl stays (rw e at row)

@@ -1,11 +1,13 @@
 -- Behind a completed shutdown the worker of the batch queue is gone, and nothing is exported.
-use Rattle.std.proofs.Common.{◌≡◌, ◌∙◌, ap, sym, refl, subst, zero, suc, ℕ, true, false, List, [], ◌∷◌, ◌++◌, Option, Some, None, take, drop, slice_get, rules, arith}
-use Rattle.otel_batch.specs.Workers.{is_closing, is_ready, is_clearing, is_loading, is_pulling, is_handing, is_subtracting, is_finishing}
+use Rattle.std.proofs.Common.{◌≡◌, ◌∙◌, ap, sym, refl, zero, suc, true, false, List, [], ◌∷◌, ◌++◌, None, slice_get}
+use Rattle.otel_batch.specs.Workers.{is_closing, is_gone}
 use Rattle.otel_batch.specs.MachineState.{Machine, Counts, counts}
+use Rattle.otel_batch.specs.SoundMachine.{IsSound}
 use Rattle.otel_batch.specs.PermittedStep.{Permitted, TakeRow, TickRow, ClearRow, LoadRow, PullRow, HandOverRow, SubtractRow, FinishRow, CloseRow}
-use Rattle.otel_batch.specs.MovedSpans.{Moved, Keeps}
+use Rattle.otel_batch.specs.MovedSpans.{Moved}
 use Rattle.otel_batch.specs.MachineRun.{Run, Stepped, batch_sizes}
-use Rattle.otel_batch.specs.ShutdownSilence.{IsSilentBehind, SilentAfterShutdown}
+use Rattle.otel_batch.specs.ShutdownSilence.{SilentAfterShutdown, StaysSilent}
+use Rattle.otel_batch.specs.declared.machine.state.Worker.{Worker}
 use Rattle.otel_batch.specs.declared.machine.state.Worker.TheVariants as worker
 use Rattle.otel_batch.specs.declared.machine.step.Outcome.{Outcome}
 use Rattle.otel_batch.specs.declared.machine.step.Outcome.TheVariants as outcome
@@ -14,6 +16,18 @@ use Rattle.otel_batch.specs.declared.machine.step.Step.TheVariants as step
 use Rattle.otel_batch.specs.declared.trace.export.SpanExporter.{Ghosts}
 use Rattle.otel_batch.proofs.TableFacts.{is_producers, LeavesWorker, permitted-alone}
 use Rattle.otel_batch.proofs.Conserving.{sizes-first}
+use Rattle.otel_batch.proofs.Runs.{run-sound}
+
+pub gone_is : (w : Worker) → is_gone w ≡ true → w ≡ worker.Gone
+gone_is worker.Gone e = refl
+gone_is worker.Ready e = cc
+gone_is worker.Clearing e = cc
+gone_is (worker.Loading y) e = cc
+gone_is worker.Pulling e = cc
+gone_is worker.Handing e = cc
+gone_is (worker.Subtracting k) e = cc
+gone_is worker.Finishing e = cc
+gone_is (worker.Closing p) e = cc
 
 -- the worker stays gone, and no batch was handed over
 record StaysGone (o : Outcome) (t : Counts) : Type 0 where
@@ -141,16 +155,27 @@ module _ {E : Type 0} (calls : Ghosts E) where
   moved_gone s _ _ t gone row m = m.exporter
 
   gone_run : (s : Machine E) (xs : List Step) (os : List Outcome) (t : Machine E) → s.control.worker ≡ worker.Gone →
-      Run calls s xs os t → (t.exporter ≡ s.exporter) × (batch_sizes os ≡ [])
-  gone_run s [] [] t gone run = (ap (λ m. m.exporter) run, refl)
+      Run calls s xs os t → (t.exporter ≡ s.exporter) × (batch_sizes os ≡ []) × (t.control.worker ≡ worker.Gone)
+  gone_run s [] [] t gone run =
+      (ap (λ m. m.exporter) run, refl, ap (λ m. m.control.worker) run ∙ gone)
   gone_run s (x ∷ xs) (o ∷ os) t gone run =
       let stays = permitted_gone (counts s) x o (counts run.0) gone run.1.permitted in
       let rest = gone_run run.0 xs os t stays.gone run.2 in (
         rest.0 ∙ moved_gone s x o run.0 gone run.1.permitted run.1.moved,
         sizes-first o os ∙ ap (λ l. l ++ batch_sizes os) stays.no_batch ∙ rest.1,
+        rest.2,
       )
   gone_run s [] (o ∷ os) t gone run = absurd run
   gone_run s (x ∷ xs) [] t gone run = absurd run
+
+  -- a machine that is closed stays so, and its exporter is not used
+  pub run-stays_silent : (s : Machine E) (xs : List Step) (os : List Outcome) (t : Machine E) → IsSound (counts s) →
+      Run calls s xs os t → s.control.closed ≡ true → StaysSilent s os t
+  run-stays_silent s xs os t sound run closed =
+      let gone = gone_is s.control.worker (sym sound.awaited.gone ∙ closed) in
+      let rest = gone_run s xs os t gone run in
+      let ends = run-sound calls s xs os t sound run in
+      record { exporter = rest.0; closed = ends.awaited.gone ∙ ap is_gone rest.2; no_batch = rest.1 }
 
   -- a step that completes a shutdown changes no telling, and leaves the worker gone
   closes : (s : Machine E) (x : Step) (o : Outcome) (t : Machine E) → o ≡ outcome.ShutDown → Stepped calls s x o t →

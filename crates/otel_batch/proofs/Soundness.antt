@@ -1,10 +1,10 @@
 -- Each step of the batch queue keeps what holds of every batch queue.
-use Rattle.std.proofs.Common.{◌≡◌, ◌≢◌, Result, None, inl, inr, ◌⊎◌, ◌==◌, min, if◌then◌else◌, ◌∙◌, ap, sym, refl, subst, ℕ, ◌+◌, ◌-◌, ◌<◌, ◌≤◌, ◌^◌, Bool, true, false, List, [], ◌∷◌, ◌++◌, length, Option, Some, slice_get, slice_set, arith, rules, sum_by}
+use Rattle.std.proofs.Common.{◌≡◌, ◌≢◌, Result, None, inl, inr, ◌⊎◌, ◌∙◌, ap, sym, refl, ℕ, ◌+◌, ◌<◌, ◌≤◌, ◌^◌, Bool, true, false, List, [], ◌∷◌, ◌++◌, length, Option, Some, slice_get, slice_set, arith, sum_by}
 use Rattle.std.proofs.Math.ListN.{length-set}
 use Rattle.std.proofs.lemmas.Bool.Decides.{eqb_tells, leb_tells}
 use Rattle.std.proofs.lemmas.Grind.{common_steps}
 use Rattle.std.proofs.lemmas.Option.{slice_get_within}
-use Rattle.std.proofs.lemmas.List.Sums.{sum_by_push, sum_by-cons}
+use Rattle.std.proofs.lemmas.List.Sums.{sum_by_push}
 use Rattle.circular_buffer.proofs.Places.{slice_get-set_same, slice_get-set_other}
 use Rattle.otel_base.specs.declared.error.OTelSdkError.{OTelSdkError}
 use Rattle.otel_batch.specs.declared.machine.state.Slot.{Slot}
@@ -15,11 +15,11 @@ use Rattle.otel_batch.specs.declared.machine.state.Worker.{Worker}
 use Rattle.otel_batch.specs.declared.machine.state.Worker.TheVariants as worker
 use Rattle.otel_batch.specs.declared.machine.state.Why.{Why}
 use Rattle.otel_batch.specs.Slots.{slot_counts, slot_asks, slot_waits}
-use Rattle.otel_batch.specs.Workers.{worker_asks, worker_counts, is_draining, is_filling, is_pulling, is_handing, is_gone, worker_names, why_names}
+use Rattle.otel_batch.specs.Workers.{worker_asks, is_gone, worker_names, why_names}
 use Rattle.otel_batch.specs.Messages.{message_asks, message_names}
-use Rattle.otel_batch.specs.MachineState.{Control, Counts, batch_limit, limit_of}
+use Rattle.otel_batch.specs.MachineState.{Counts, batch_limit, limit_of}
 use Rattle.otel_batch.specs.SoundMachine.{AccountsForSpans, HasOneWish, DrainsWithinLimits, LosesNoRequest, FitsItsPlaces, IsSound, wishes}
-use Rattle.otel_batch.proofs.SlotSums.{counts_slot, asks_slot, counts_le}
+use Rattle.otel_batch.proofs.SlotSums.{counts_slot, asks_slot}
 
 -- the counter after one slot changed, and perhaps the number that waits
 pub counted_slot : (counter counter' waiting waiting' hand : ℕ) (w : Worker) (slots : List Slot) (p : ℕ)

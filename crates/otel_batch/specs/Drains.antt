@@ -1,9 +1,10 @@
 -- Drains of the batch queue, from the step that loaded one to the next that finished: what a flush needs in order to
 -- return, and to be right.
-use Rattle.std.specs.Prelude.{◌≡◌, ℕ, suc, ◌+◌, ◌*◌, ◌<◌, ◌≤◌, ◌==◌, ◌&&◌, Bool, true, false, take, drop, sum, length, map, List, [], ◌∷◌, ◌++◌, Option, Some, slice_get, if◌then◌else◌}
+use Rattle.std.specs.Prelude.{◌≡◌, ℕ, suc, ◌+◌, ◌*◌, ◌<◌, ◌≤◌, ◌==◌, ◌&&◌, Bool, true, false, take, drop, sum, length, map, List, [], ◌∷◌, ◌++◌, Some, slice_get, if◌then◌else◌}
 use Rattle.otel_batch.specs.PlainSpanData.{PlainSpanData, spans_in}
 use Rattle.otel_batch.specs.Telling.{Tells}
 use Rattle.otel_batch.specs.MachineState.{Machine, Control}
+use Rattle.otel_batch.specs.GoingOn.{is_enabled}
 use Rattle.otel_batch.specs.MachineRun.{Run, accepted, holds_at, batch_sizes}
 use Rattle.otel_batch.specs.declared.machine.step.Outcome.{Outcome}
 use Rattle.otel_batch.specs.declared.machine.step.Outcome.TheVariants as outcome
@@ -23,11 +24,6 @@ is_workers step.Subtract = true
 is_workers step.Finish = true
 is_workers step.Close = true
 is_workers _ = false
-
--- the outcome is that of a step that was enabled
-abbrev pub is_enabled : Outcome → Bool
-is_enabled outcome.NotEnabled = false
-is_enabled _ = true
 
 -- how many enabled steps the worker took
 abbrev pub worker_steps : List Step → List Outcome → ℕ
@@ -101,6 +97,10 @@ module _ {E : Type 0} (calls : Ghosts E) where
     pub earlier : HandsOverFirst s
         ((s.hand ++ s.waiting) ++ accepted (holds_at s.control.slots) (take (suc n) xs) (take (suc n) os))
         (batch_sizes (take (suc n) os) ++ batch_sizes (take m (drop (suc n) os))) finish
+    -- so these are at most as many as the batches up to the finish had
+    pub handed : length s.hand + length s.waiting
+        + length (accepted (holds_at s.control.slots) (take (suc n) xs) (take (suc n) os))
+        ≤ sum (batch_sizes (take (suc n) os) ++ batch_sizes (take m (drop (suc n) os)))
 
   -- every finished drain of a run that found memory is complete
   abbrev pub CompletesDrains : Machine E → List Step → List Outcome → Machine E → Type 0

@@ -1,5 +1,5 @@
 -- No request to the worker of a batch queue is lost: who waits goes on waiting until an answer that is its own.
-use Rattle.std.specs.Prelude.{◌≡◌, ℕ, ◌<◌, ◌⊎◌, Bool, true, false, Some, sum_by}
+use Rattle.std.specs.Prelude.{◌≡◌, ℕ, ◌<◌, ◌⊎◌, true, Some, sum_by}
 use Rattle.otel_batch.specs.Slots.{is_answered}
 use Rattle.otel_batch.specs.Messages.{message_names}
 use Rattle.otel_batch.specs.Workers.{worker_names}
@@ -7,8 +7,6 @@ use Rattle.otel_batch.specs.MachineState.{Counts}
 use Rattle.otel_batch.specs.PermittedStep.{slot_at}
 use Rattle.otel_batch.specs.declared.machine.state.Request.{Request}
 use Rattle.otel_batch.specs.declared.machine.state.Slot.TheVariants as slot
-use Rattle.otel_batch.specs.declared.machine.state.Worker.{Worker}
-use Rattle.otel_batch.specs.declared.machine.state.Worker.TheVariants as worker
 use Rattle.otel_batch.specs.declared.machine.step.Outcome.{Outcome}
 use Rattle.otel_batch.specs.declared.machine.step.Outcome.TheVariants as outcome
 use Rattle.otel_batch.specs.declared.machine.step.Step.{Step}
@@ -26,15 +24,3 @@ AnswersTo s _ _ p = ⊥
 pub record KeepsRequests (s : Counts) (x : Step) (o : Outcome) (t : Counts) : Type 0 where
   pub each : (p : ℕ) (request : Request) → slot_at s p ≡ Some (slot.Waiting request) →
       (slot_at t p ≡ Some (slot.Waiting request)) ⊎ (is_answered (slot_at t p) ≡ true) × AnswersTo s x o p
-
--- the worker's next step, until it is gone
-abbrev pub next_step : Worker → Step
-next_step worker.Ready = step.Take
-next_step worker.Clearing = step.Clear
-next_step (worker.Loading why) = step.Load
-next_step worker.Pulling = step.Pull
-next_step worker.Handing = step.HandOver
-next_step (worker.Subtracting k) = step.Subtract
-next_step worker.Finishing = step.Finish
-next_step (worker.Closing p) = step.Close
-next_step worker.Gone = step.Take

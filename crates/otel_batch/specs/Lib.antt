@@ -13,7 +13,9 @@ pub mod SoundMachine
 pub mod PermittedStep
 pub mod MovedSpans
 pub mod KeptRequests
+pub mod GoingOn
 pub mod MachineRun
+pub mod KnownRequests
 pub mod Conservation
 pub mod ShutdownSilence
 pub mod Drains

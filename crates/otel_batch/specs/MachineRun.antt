@@ -1,5 +1,5 @@
 -- Lists of steps of the batch queue, one after another.
-use Rattle.std.specs.Prelude.{◌≡◌, ℕ, ◌==◌, ◌+◌, ◌^◌, ◌-◌, min, drop, length, List, [], ◌∷◌, ◌++◌, Option, Some, None, slice_get, if◌then◌else◌}
+use Rattle.std.specs.Prelude.{◌≡◌, ℕ, ◌==◌, ◌+◌, ◌^◌, ◌-◌, min, drop, length, List, [], ◌∷◌, ◌++◌, slice_get, if◌then◌else◌}
 use Rattle.otel_batch.specs.PlainSpanData.{PlainSpanData}
 use Rattle.otel_batch.specs.Slots.{held}
 use Rattle.otel_batch.specs.MachineState.{Machine, counts}
@@ -7,6 +7,7 @@ use Rattle.otel_batch.specs.SoundMachine.{IsSound}
 use Rattle.otel_batch.specs.PermittedStep.{Permitted}
 use Rattle.otel_batch.specs.MovedSpans.{Moved}
 use Rattle.otel_batch.specs.KeptRequests.{KeepsRequests}
+use Rattle.otel_batch.specs.GoingOn.{GoesOn}
 use Rattle.otel_batch.specs.declared.machine.state.Slot.{Slot}
 use Rattle.otel_batch.specs.declared.machine.step.Outcome.{Outcome}
 use Rattle.otel_batch.specs.declared.machine.step.Outcome.TheVariants as outcome
@@ -15,11 +16,13 @@ use Rattle.otel_batch.specs.declared.machine.step.Step.TheVariants as step
 use Rattle.otel_batch.specs.declared.trace.export.SpanExporter.{Ghosts}
 
 module _ {E : Type 0} (calls : Ghosts E) where
-  -- one step: it is permitted, moves the spans as it says, loses no request, and leaves a sound machine
+  -- one step: it is permitted, moves the spans as it says, loses no request, is enabled where it is the worker's next,
+  -- and leaves a sound machine
   pub record Stepped (s : Machine E) (x : Step) (o : Outcome) (t : Machine E) : Type 0 where
     pub permitted : Permitted (counts s) x o (counts t)
     pub moved : Moved calls s x o t
     pub requests : KeepsRequests (counts s) x o (counts t)
+    pub goes_on : GoesOn (counts s) x o
     pub sound : IsSound (counts t)
 
   -- a whole run: each step has its outcome, and begins where the one before it ended

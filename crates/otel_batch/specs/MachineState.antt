@@ -1,5 +1,5 @@
 -- The state of a batch queue with its producers, its worker and its exporter.
-use Rattle.std.specs.Prelude.{ℕ, ◌-◌, ◌==◌, Bool, true, false, min, List, [], length, replicate, Result, Ok, if◌then◌else◌}
+use Rattle.std.specs.Prelude.{ℕ, ◌-◌, ◌==◌, Bool, false, min, List, [], length, replicate, Result, Ok, if◌then◌else◌}
 use Rattle.otel_base.specs.declared.error.OTelSdkError.{OTelSdkError}
 use Rattle.otel_batch.specs.PlainSpanData.{PlainSpanData}
 use Rattle.otel_batch.specs.PlainBatchConfig.{PlainBatchConfig}

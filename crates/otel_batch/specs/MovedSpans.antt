@@ -1,7 +1,6 @@
 -- Where the spans go in one step of the batch queue, and what the exporter is asked.
-use Rattle.std.specs.Prelude.{◌≡◌, ℕ, List, [], ◌∷◌, ◌++◌, Option, Some, None, Result, slice_get}
+use Rattle.std.specs.Prelude.{◌≡◌, ℕ, [], ◌∷◌, ◌++◌, Result, slice_get}
 use Rattle.otel_base.specs.declared.error.OTelSdkError.{OTelSdkError}
-use Rattle.otel_batch.specs.PlainSpanData.{PlainSpanData}
 use Rattle.otel_batch.specs.RestsOr.{RestsOr, StaysOr}
 use Rattle.otel_batch.specs.Telling.{Tells}
 use Rattle.otel_batch.specs.Slots.{held}

@@ -1,7 +1,7 @@
 -- The table of the batch queue's steps. It sees of the spans that wait or are in hand only how many they are: a
 -- relation for each step between the state before it, what it is given, its outcome, and the state after it, by cases on
 -- the outcome. A step that is not enabled changes nothing, and answers so only where no other case holds.
-use Rattle.std.specs.Prelude.{◌≡◌, ℕ, zero, suc, ◌+◌, ◌-◌, ◌<◌, ◌==◌, Bool, true, false, Option, Some, None, Result, Ok, Err, sum_by, List, [], ◌∷◌, ◌++◌, length, drop, slice_get, slice_set, nat_lt, nat_le, if◌then◌else◌, string_bytes}
+use Rattle.std.specs.Prelude.{◌≡◌, ℕ, zero, suc, ◌+◌, ◌-◌, ◌<◌, ◌==◌, Bool, true, false, Option, Some, None, Result, Ok, Err, sum_by, [], ◌∷◌, ◌++◌, length, drop, slice_get, slice_set, nat_lt, nat_le, if◌then◌else◌, string_bytes}
 use Rattle.std.specs.Result.{result_err}
 use Rattle.otel_base.specs.Resource.{PlainResource}
 use Rattle.otel_base.specs.declared.error.OTelSdkError.{OTelSdkError}
@@ -11,7 +11,7 @@ use Rattle.otel_batch.specs.StoredBatches.{one_more}
 use Rattle.otel_batch.specs.Slots.{is_idle, is_holding, number_held, is_refused, is_asking, is_posting, is_resetting, is_answered}
 use Rattle.otel_batch.specs.Messages.{message_of, message_names, is_resource}
 use Rattle.otel_batch.specs.Workers.{is_ready, is_clearing, is_loading, is_pulling, is_handing, is_subtracting, is_finishing, is_closing, closing_of}
-use Rattle.otel_batch.specs.MachineState.{Control, Counts, limit_of}
+use Rattle.otel_batch.specs.MachineState.{Counts, limit_of}
 use Rattle.otel_batch.specs.declared.machine.state.Slot.{Slot}
 use Rattle.otel_batch.specs.declared.machine.state.Slot.TheVariants as slot
 use Rattle.otel_batch.specs.declared.machine.state.Worker.{Worker}

@@ -1,11 +1,17 @@
 -- Nothing follows a shutdown of the batch queue.
-use Rattle.std.specs.Prelude.{◌≡◌, ℕ, suc, take, drop, List, [], Option, Some, slice_get}
+use Rattle.std.specs.Prelude.{◌≡◌, ℕ, suc, true, take, drop, List, [], Some, slice_get}
 use Rattle.otel_batch.specs.MachineState.{Machine}
 use Rattle.otel_batch.specs.MachineRun.{Run, batch_sizes}
 use Rattle.otel_batch.specs.declared.machine.step.Outcome.{Outcome}
 use Rattle.otel_batch.specs.declared.machine.step.Outcome.TheVariants as outcome
 use Rattle.otel_batch.specs.declared.machine.step.Step.{Step}
 use Rattle.otel_batch.specs.declared.trace.export.SpanExporter.{Ghosts}
+
+-- along a run with these outcomes the machine stayed closed, no batch was handed over, and the exporter is the same
+pub record StaysSilent {E : Type 0} (s : Machine E) (os : List Outcome) (t : Machine E) : Type 0 where
+  pub exporter : t.exporter ≡ s.exporter
+  pub closed : t.control.closed ≡ true
+  pub no_batch : batch_sizes os ≡ []
 
 module _ {E : Type 0} (calls : Ghosts E) where
   -- the n-th step of a run completed a shutdown: it changed nothing that the exporter tells, and behind it no batch was

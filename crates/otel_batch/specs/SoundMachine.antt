@@ -1,5 +1,5 @@
 -- What holds of every batch queue.
-use Rattle.std.specs.Prelude.{◌≡◌, ℕ, ◌+◌, ◌-◌, ◌≤◌, ◌<◌, ◌^◌, Bool, true, false, List, [], length, sum_by, slice_get}
+use Rattle.std.specs.Prelude.{◌≡◌, ℕ, ◌+◌, ◌≤◌, ◌<◌, ◌^◌, Bool, true, false, List, [], length, sum_by, slice_get}
 use Rattle.otel_batch.specs.Slots.{slot_counts, slot_asks, slot_waits}
 use Rattle.otel_batch.specs.Messages.{message_asks, message_names}
 use Rattle.otel_batch.specs.Workers.{worker_counts, worker_asks, worker_names, is_draining, is_filling, is_pulling, is_handing, is_gone}

@@ -1,5 +1,5 @@
 -- Clauses that speak of one case of a result.
-use Rattle.std.proofs.Common.{Result, Ok, Err, IfOk, OnErr}
+use Rattle.std.proofs.Common.{◌≡◌, Bool, true, false, Result, Ok, Err, IfOk, OnOk, OnErr}
 
 -- what always holds holds on an error
 pub always_on_err : {T E : Type 0} {P : Type 0} (r : Result T E) → P → OnErr r P
@@ -15,3 +15,16 @@ if_ok_map (Err e) f h = tt
 pub on_err_map : {T E : Type 0} {A B : Type 0} (r : Result T E) → (A → B) → OnErr r A → OnErr r B
 on_err_map (Ok x) f h = tt
 on_err_map (Err e) f h = f h
+
+-- what is false is not true
+is_no : false ≡ true → ⊥
+is_no e = cc
+
+-- where Ok follows, an error shows that the premise fails
+pub fails_on_err : {A : Type 0} → (A → false ≡ true) → A → ⊥
+fails_on_err h a = is_no (h a)
+
+-- what follows where nothing is said of the value
+pub on_ok_map : {T E : Type 0} {A B : Type 0} (r : Result T E) → (A → B) → OnOk r A → OnOk r B
+on_ok_map (Ok x) f h = f h
+on_ok_map (Err e) f h = tt

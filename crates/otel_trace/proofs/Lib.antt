@@ -11,3 +11,6 @@ pub mod Fields
 pub mod Listed
 pub mod OneReading
 pub mod Spelled
+pub mod StepFields
+pub mod StepFollowing
+pub mod StepTexts

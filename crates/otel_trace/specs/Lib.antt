@@ -7,3 +7,6 @@ pub mod PlainReply
 pub mod ReplyText
 pub mod Program
 pub mod SessionDelivery
+pub mod StepAnswers
+pub mod StepLines
+pub mod StepTexts

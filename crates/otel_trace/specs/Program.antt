@@ -9,6 +9,7 @@ use Rattle.otel_base.specs.Sampler.{plan, always_on, parent_based}
 use Rattle.otel_base.specs.declared.trace.sampler.SamplerOf.{SamplerOf}
 use Rattle.otel_base.specs.declared.trace.sampler.ShouldSample as sampling
 use Rattle.otel_base.specs.declared.trace.id_generator.IdGenerator as drawing
+use Rattle.otel_batch.specs.MachineState.{Machine}
 use Rattle.otel_batch.specs.StoredBatches.{StoredBatches}
 use Rattle.otel_batch.specs.declared.trace.exporter_box.ExporterOf.{ExporterOf}
 use Rattle.otel_batch.specs.declared.trace.exporter_box.ExporterOf.TheVariants as exporters
@@ -21,14 +22,30 @@ use Rattle.otel_trace.specs.declared.exported.KeepsBatches as keeping
 use Rattle.otel_trace.specs.KeptBatches.{exporter_keeps, exporter_loses, processor_keeps, processor_loses}
 use Rattle.otel_trace.specs.Lines.{IsMoment}
 use Rattle.otel_trace.specs.SessionDelivery.{SessionState, Finishes, batches_of_first}
+use Rattle.otel_trace.specs.StepAnswers.{Answers, machine_of}
+use Rattle.otel_trace.specs.declared.steps.Sizes.{Sizes}
 
 -- the words `trace SEED simple`, where the seed is written as a moment is: in decimal digits alone, in range of 64 bits
 abbrev pub AsksFor : List (List ℕ) → ℕ → Type 0
 AsksFor words seed = (digits : List ℕ) × IsMoment digits seed × (words ≡ codes "trace" ∷ digits ∷ codes "simple" ∷ [])
 
--- any other words
+-- words that are no such ones
+abbrev pub AsksForNoTrace : List (List ℕ) → Type 0
+AsksForNoTrace words = (seed : ℕ) → AsksFor words seed → ⊥
+
+-- three numbers write these sizes
+abbrev pub WriteSizes : List ℕ → List ℕ → List ℕ → Sizes → Type 0
+WriteSizes queue batch producers sizes =
+    IsMoment queue sizes.queue × IsMoment batch sizes.batch × IsMoment producers sizes.producers
+
+-- the words `steps Q B P`, where the sizes are written as a moment is
+abbrev pub AsksForSteps : List (List ℕ) → Sizes → Type 0
+AsksForSteps words sizes = (queue batch producers : List ℕ) × WriteSizes queue batch producers sizes
+    × (words ≡ codes "steps" ∷ queue ∷ batch ∷ producers ∷ [])
+
+-- words of neither kind
 abbrev pub AsksForNothing : List (List ℕ) → Type 0
-AsksForNothing words = (seed : ℕ) → AsksFor words seed → ⊥
+AsksForNothing words = AsksForNoTrace words × ((sizes : Sizes) → AsksForSteps words sizes → ⊥)
 
 -- what is said of wrong words
 abbrev pub usage_text : List ℕ
@@ -102,3 +119,10 @@ abbrev pub TracesSeed : {C D E : Type 0} → Ghosts (MemoryProcessor C D) → sa
 TracesSeed {C} {D} {E} calls sampler ids seed input input_after bad_line output output_after =
     (provider : ProviderState (MemoryProcessor C D) (SamplerOf E) (List ℕ)) × IsProviderOfSeed seed provider
     × TracesWhole calls memory_batches sampler ids provider input input_after bad_line output output_after
+
+-- the whole input was read, and the output was given what answers its lines, as they step a new batch queue
+abbrev pub StepsSized : Sizes → Option (List ℕ) → Option (List ℕ) → Option ℕ → Option (List ℕ) → Option (List ℕ)
+    → Type 0
+StepsSized sizes input input_after bad_line output output_after = (bytes answers : List ℕ)
+    × (after : Machine StoredBatches) × ReadsWhole input input_after bytes
+    × Answers (machine_of sizes) bytes bad_line answers after × Appends output output_after answers

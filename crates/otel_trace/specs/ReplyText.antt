@@ -5,6 +5,7 @@ use Rattle.std.specs.Fmt.{decimal}
 use Rattle.opentelemetry.specs.Hex.{hex_text}
 use Rattle.opentelemetry.specs.ValueText.{value_text}
 use Rattle.opentelemetry.specs.Plain.{PlainKeyValue, PlainEvent, PlainStatus, unset, error, ok}
+use Rattle.otel_base.specs.Traceparent.{context_text}
 use Rattle.otel_batch.specs.PlainSpanData.{PlainSpanData, PlainSpanEvents, PlainSpanLinks}
 
 -- a text that ends its line
@@ -65,11 +66,6 @@ span_line span =
 -- the lines of exported spans
 abbrev pub span_lines : List PlainSpanData → List ℕ
 span_lines = flat_map span_line
-
--- who a span is, in the form of a traceparent header (W3C Trace Context, section 3.2), with all its flags
-abbrev pub context_text : ℕ → ℕ → ℕ → List ℕ
-context_text trace_id span_id trace_flags =
-    codes "00-" ++ (hex_text 32 trace_id ++ 45 ∷ (hex_text 16 span_id ++ 45 ∷ hex_text 2 trace_flags))
 
 -- what answers a start whose span records
 abbrev pub started_line : ℕ → ℕ → ℕ → List ℕ

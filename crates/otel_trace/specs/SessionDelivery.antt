@@ -1,7 +1,7 @@
 -- What the commands of a session demand of its provider and its exporters. It speaks of each span as its history, a
 -- start and the edits since, and of what an end delivers as the data of that history: whole lists, each cut once. No
 -- history is stored.
-use Rattle.std.specs.Prelude.{◌≡◌, ℕ, List, [], ◌∷◌, ◌++◌, Option, Some, None, map, take, drop, slice_get, IsFalse, Result, Ok, Err, MatchBool, if◌then◌else◌, ◌⊎◌, ◌≤◌, length}
+use Rattle.std.specs.Prelude.{◌≡◌, ◌≢◌, ℕ, List, [], ◌∷◌, ◌++◌, Option, Some, None, map, take, drop, slice_get, IsFalse, Result, Ok, Err, MatchBool, if◌then◌else◌, ◌⊎◌, ◌≤◌, length}
 use Rattle.std.specs.List.{flat_map}
 use Rattle.std.specs.Option.{option_map, option_map_or}
 use Rattle.opentelemetry.specs.Plain.{PlainContext, PlainScope, text}
@@ -124,7 +124,8 @@ module _ {P S G : Type 0} (calls : Ghosts P) where
     pub histories : new.histories ≡ old.histories
 
   -- the provider was asked to shut down, with 5 seconds
-  pub record AsksShutdown (old : Course P S G) (answer : Answer) (ds : List Delivery) (new : Course P S G) : Type 0 where
+  pub record AsksShutdown (old : Course P S G) (answer : Answer) (ds : List Delivery)
+      (new : Course P S G) : Type 0 where
     pub said : Result (Unit {0}) OTelSdkError
     pub shuts : Shuts old.provider 5_000_000_000 said new.provider
     pub says : answer ≡ call_answer said
@@ -249,9 +250,12 @@ module _ {P S G : Type 0} (keeps : keeping.Ghosts P) where
   abbrev pub session_losses : SessionState P S G → ℕ
   session_losses session = losses_of_first keeps session.provider.processors
 
-  -- the spans of those that no reply has shown
+  -- those that no reply has shown, and their spans
+  abbrev pub unshown_batches : SessionState P S G → List (List PlainSpanData)
+  unshown_batches session = drop session.shown (session_batches session)
+
   abbrev pub unshown : SessionState P S G → List PlainSpanData
-  unshown session = spans_in (drop session.shown (session_batches session))
+  unshown session = spans_in (unshown_batches session)
 
   -- batches are kept behind those that were kept, and the replies show them in order and each once: the spans of the
   -- batches behind those that were shown before, up to those that are shown now
@@ -359,9 +363,9 @@ module _ {P S G : Type 0} (calls : Ghosts P) (keeps : keeping.Ghosts P) (sampler
       (commands : List Command) × TextSpells bytes (plain_commands commands) bad_line
       × WritesAll old commands before now new
 
-  -- memory ran out: nothing was carried out, or a beginning of the commands that the text spells
+  -- memory ran out: nothing was carried out of a text that says something, or a beginning of the commands that it spells
   abbrev pub FeedsBeginning : SessionState P S G → List ℕ → List ℕ → List ℕ → SessionState P S G → Type 0
-  FeedsBeginning old bytes before now new = ((now ≡ before) × (new ≡ old))
+  FeedsBeginning old bytes before now new = ((bytes ≢ []) × (now ≡ before) × (new ≡ old))
       ⊎ ((commands : List Command) × (bad_line : Option ℕ) × TextSpells bytes (plain_commands commands) bad_line
       × WritesBeginning old commands before now new)
 
@@ -381,7 +385,8 @@ module _ {P S G : Type 0} (calls : Ghosts P) (keeps : keeping.Ghosts P) (sampler
     pub shuts : ShutsIfOpen calls session.provider 5_000_000_000 shutdown provider
     pub writes : ((answer ≡ shutdown)
         × (now ≡ before ++ span_lines (unshown keeps (record session { provider = provider }))))
-        ⊎ ((answer ≡ or_no_memory shutdown) × (now ≡ before))
+        ⊎ ((answer ≡ or_no_memory shutdown) × (now ≡ before)
+        × (unshown_batches keeps (record session { provider = provider }) ≢ []))
 
   -- a text was fed to a session, whole or up to its first bad line, and the session closed well
   pub record Finishes (session : SessionState P S G) (bytes : List ℕ) (bad_line : Option ℕ)

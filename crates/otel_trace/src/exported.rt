@@ -9,8 +9,8 @@ use opentelemetry_sdk::trace::{ProcessorOf, SimpleSpanProcessor, SpanProcessor};
 use otel_batch::trace::{ExporterOf, InMemorySpanExporter, SpanData, SpanExporter};
 use std::alloc::{AllocError, Global};
 
-/// A processor whose exporter may keep its batches. Whatever it is asked, batches may only come behind those that are
-/// kept.
+/// A processor whose exporter may keep its batches. At a start, an end, a flush or a shutdown batches may only come
+/// behind those that are kept.
 pub trait KeepsBatches: SpanProcessor {
     /// The batches that are kept; none where the exporter keeps none.
     ghost kept: { Self → List (List PlainSpanData) };
@@ -24,7 +24,7 @@ pub trait KeepsBatches: SpanProcessor {
     fn lost_batches(&self) -> u64
         ensures { result ≡ lost self.now };
 
-    /// A call takes back no batch, and a start of a span loses none.
+    /// None of these calls takes back a batch, and a start of a span loses none.
     ghost appends: { OnlyAppends Self.SpanProcessor kept lost };
 }
 

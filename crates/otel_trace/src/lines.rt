@@ -1,6 +1,6 @@
 //! The text that a session is fed, read as commands. Reading stops at the first line that is no command.
 
-ghost use Rattle.std.specs.Prelude.{◌≡◌, ℕ, ◌<◌, List, [], ◌∷◌, ◌++◌, length, Option, None, Some, IfOk, MatchOption, codes, position, ◌==◌};
+ghost use Rattle.std.specs.Prelude.{◌≡◌, ℕ, ◌<◌, List, [], ◌∷◌, ◌++◌, length, Option, None, Some, IfOk, IsOk, MatchOption, codes, position, ◌==◌};
 ghost use Rattle.std.specs.Str.Lines.{lines as lines_of, strip_carriage_return};
 ghost use Rattle.otel_trace.specs.Commands.{PlainCommand, plain_commands};
 ghost use Rattle.otel_trace.specs.Lines.{
@@ -38,6 +38,7 @@ pub fn parse(alloc: Global, text: &[u8]) -> Result<Script, AllocError>
     ensures only { IfOk result (λ script. (commands : List PlainCommand) (bad_line : Option ℕ)
         → TextSpells text.now commands bad_line
         → (commands ≡ plain_commands script.commands.items) × (bad_line ≡ script.bad_line)) }
+    ensures free { text.now ≡ [] → IsOk result }
 {
     let mut commands = Vec::new(alloc);
     let mut number: u64 = 0;
@@ -240,7 +241,7 @@ fn read_status(alloc: Global, text: &str) -> Result<Option<Status>, AllocError>
 }
 
 /// The first field of a text and what stands behind the space that ends it; none where no field ends in a space.
-fn first_field(text: &str) -> Option<(&str, &str)>
+pub(crate) fn first_field(text: &str) -> Option<(&str, &str)>
     ensures { MatchOption result
         ((front rest : List ℕ) → IsField front → text.now ≡ front ++ 32 ∷ rest → ⊥)
         (λ parts. IsField parts.0.now × (text.now ≡ parts.0.now ++ 32 ∷ parts.1.now)) }
@@ -275,7 +276,7 @@ pub(crate) fn number_of(digits: &str) -> Option<u64>
 }
 
 /// The first line of a text, without what ends it, and the text behind it; none where the text is empty.
-fn first_line(text: &[u8]) -> Option<(&[u8], &[u8])>
+pub(crate) fn first_line(text: &[u8]) -> Option<(&[u8], &[u8])>
     ensures { MatchOption result
         (lines_of text.now ≡ [])
         (λ parts. (lines_of text.now ≡ parts.0.now ∷ lines_of parts.1.now) × (length parts.1.now < length text.now)) }

@@ -10,6 +10,7 @@ pub mod program;
 pub mod reply;
 pub mod reply_text;
 pub mod session;
+pub mod steps;
 
 pub use command::Command;
 pub use lines::{Script, parse};

@@ -1,14 +1,18 @@
-//! What the program does with its arguments and its three streams. It reads the whole input, feeds it to one session,
-//! closes the session, and then writes the output and behind it what was wrong.
+//! What the program does with its arguments and its three streams. It reads the whole input, feeds it to one session
+//! and closes that, or has its lines step one batch queue, and then writes the output and behind it what was wrong.
 
 ghost use Rattle.std.specs.Prelude.{◌≡◌, ◌≢◌, ◌⊎◌, ◌≤◌, ℕ, List, Some, None, IfOk, IfSome, OnOk, MatchOption, false, true, map, string_bytes};
 ghost use Rattle.std.specs.Io.KnownBytes.{Appends, IsAtEnd};
+ghost use Rattle.otel_batch.specs.MachineState.{Machine};
+ghost use Rattle.otel_batch.specs.StoredBatches.{StoredBatches};
 ghost use Rattle.otel_trace.specs.SessionDelivery.{Finishes};
-ghost use Rattle.otel_trace.specs.Program.{AsksFor, AsksForNothing, TracesSeed, TracesWhole, WritesText, IsProviderOfSeed, bad_line_text, session_under, usage_text};
+ghost use Rattle.otel_trace.specs.Program.{AsksFor, AsksForNoTrace, AsksForNothing, AsksForSteps, IsProviderOfSeed, StepsSized, TracesSeed, TracesWhole, WriteSizes, WritesText, bad_line_text, session_under, usage_text};
+ghost use Rattle.otel_trace.specs.StepAnswers.{Answers, machine_of};
 
 use crate::exported::KeepsBatches;
 use crate::lines::number_of;
 use crate::session::{FeedError, Session};
+use crate::steps::{Sizes, answer_lines, machine_sized};
 use opentelemetry::trace::{Link, SpanKind, TraceState};
 use opentelemetry::{Context, KeyValue, TraceId};
 use opentelemetry_sdk::trace::{ProcessorOf, ProviderOf, SimpleSpanProcessor, SpanProcessor};
@@ -67,7 +71,7 @@ pub type TraceSampler = SamplerOf<NoSampler>;
 /// The program's provider.
 type TraceProvider = ProviderOf<TraceProcessor, TraceSampler, RandomIdGenerator>;
 
-/// How a session over the whole input ended.
+/// How a session or a batch queue over the whole input ended.
 #[derive(Debug, Drop)]
 struct Outcome {
     /// The texts of the replies, and the lines of closing.
@@ -108,7 +112,20 @@ pub fn run_program<R: Read, W: Write, F: Write>(
         ⟦<RandomIdGenerator as IdGenerator>⟧ seed (R.remaining input.old) (R.remaining input.new)
         (Some line) (W.contents output.old) (W.contents output.new)
         × Appends (F.contents faults.old) (F.contents faults.new) (bad_line_text line) }
+
+    // One batch queue over the whole input.
+    ensures steps_done { (sizes : Sizes) → AsksForSteps (map string_bytes words.now) sizes → result ≡ 0 →
+        StepsSized sizes (R.remaining input.old) (R.remaining input.new)
+        None (W.contents output.old) (W.contents output.new)
+        × (faults.new ≡ faults.old) }
+    ensures steps_bad_line { (sizes : Sizes) → AsksForSteps (map string_bytes words.now) sizes → result ≡ 2 → (line : ℕ)
+        × StepsSized sizes (R.remaining input.old) (R.remaining input.new)
+        (Some line) (W.contents output.old) (W.contents output.new)
+        × Appends (F.contents faults.old) (F.contents faults.new) (bad_line_text line) }
 {
+    if let Some(sizes) = sizes_of(words) {
+        return step_input(alloc, sizes, input, output, faults);
+    }
     match provider_for(alloc, words) {
         None => refuse(faults, USAGE),
         Some(Ok(provider)) => trace_input(alloc, provider, input, output, faults),
@@ -119,7 +136,7 @@ pub fn run_program<R: Read, W: Write, F: Write>(
 /// The provider that the arguments ask for, or that there is no memory for it; none where they ask for nothing.
 fn provider_for(alloc: Global, words: &[String]) -> Option<Result<TraceProvider, AllocError>>
     ensures { MatchOption result
-        (AsksForNothing (map string_bytes words.now))
+        (AsksForNoTrace (map string_bytes words.now))
         (λ made. (seed : ℕ) × AsksFor (map string_bytes words.now) seed
         × IfOk made (IsProviderOfSeed seed)) }
 {
@@ -130,7 +147,7 @@ fn provider_for(alloc: Global, words: &[String]) -> Option<Result<TraceProvider,
 /// The seed of `trace SEED simple`; none where the words are others.
 fn seed_of(words: &[String]) -> Option<u64>
     ensures { MatchOption result
-        (AsksForNothing (map string_bytes words.now))
+        (AsksForNoTrace (map string_bytes words.now))
         (λ seed. AsksFor (map string_bytes words.now) seed) }
 {
     match words {
@@ -138,6 +155,83 @@ fn seed_of(words: &[String]) -> Option<u64>
             seed.as_str(),
         ),
         _ => None,
+    }
+}
+
+/// The sizes of `steps Q B P`; none where the words are others.
+fn sizes_of(words: &[String]) -> Option<Sizes>
+    ensures { MatchOption result
+        ((sizes : Sizes) → AsksForSteps (map string_bytes words.now) sizes → ⊥)
+        (λ sizes. AsksForSteps (map string_bytes words.now) sizes) }
+{
+    match words {
+        [mode, queue, batch, producers] if mode.as_str() == "steps" => {
+            sizes_in(queue.as_str(), batch.as_str(), producers.as_str())
+        }
+        _ => None,
+    }
+}
+
+/// The sizes that three numbers write; none where one is no number.
+fn sizes_in(queue: &str, batch: &str, producers: &str) -> Option<Sizes>
+    ensures { MatchOption result
+        ((sizes : Sizes) → WriteSizes queue.now batch.now producers.now sizes → ⊥)
+        (λ sizes. WriteSizes queue.now batch.now producers.now sizes) }
+{
+    Some(Sizes {
+        queue: number_of(queue)? as usize,
+        batch: number_of(batch)? as usize,
+        producers: number_of(producers)? as usize,
+    })
+}
+
+/// Answers the whole input by the steps of one batch queue.
+fn step_input<R: Read, W: Write, F: Write>(
+    alloc: Global,
+    sizes: Sizes,
+    input: &mut R,
+    output: &mut W,
+    faults: &mut F,
+) -> u8
+    ensures status { result ≤ 2 }
+    ensures done { result ≡ 0 →
+        StepsSized sizes (R.remaining input.old) (R.remaining input.new)
+        None (W.contents output.old) (W.contents output.new)
+        × (faults.new ≡ faults.old) }
+    ensures bad_line { result ≡ 2 → (line : ℕ)
+        × StepsSized sizes (R.remaining input.old) (R.remaining input.new)
+        (Some line) (W.contents output.old) (W.contents output.new)
+        × Appends (F.contents faults.old) (F.contents faults.new) (bad_line_text line) }
+{
+    let mut bytes = Vec::new(alloc);
+    if input.read_to_end(&mut bytes).is_err() {
+        return FAILED;
+    }
+    let outcome = step(alloc, sizes, &bytes);
+    write_outcome(alloc, outcome, output, faults)
+}
+
+/// One batch queue, stepped by the lines of an input.
+fn step(alloc: Global, sizes: Sizes, input: &[u8]) -> Outcome
+    ensures { result.has_failed ≡ false →
+        (after : Machine StoredBatches)
+        × Answers (machine_of sizes) input.now result.bad_line result.text.items after }
+{
+    let Ok(mut machine) = machine_sized(alloc, sizes) else {
+        return failed(alloc);
+    };
+    let mut text = Vec::new(alloc);
+    match answer_lines(alloc, &mut machine, input, &mut text) {
+        Ok(bad_line) => Outcome {
+            text,
+            bad_line,
+            has_failed: false,
+        },
+        Err(_) => Outcome {
+            text,
+            bad_line: None,
+            has_failed: true,
+        },
     }
 }
 
@@ -188,6 +282,24 @@ fn answer<P: KeepsBatches, S: ShouldSample, G: IdGenerator, W: Write, F: Write>(
         × Appends (F.contents faults.old) (F.contents faults.new) (bad_line_text line) }
 {
     let outcome = trace(alloc, provider, input);
+    write_outcome(alloc, outcome, output, faults)
+}
+
+/// Writes what an input came to, and answers the status for it.
+fn write_outcome<W: Write, F: Write>(
+    alloc: Global,
+    outcome: Outcome,
+    output: &mut W,
+    faults: &mut F,
+) -> u8
+    ensures status { result ≤ 2 }
+    ensures done { result ≡ 0 → (outcome.has_failed ≡ false) × (outcome.bad_line ≡ None)
+        × Appends (W.contents output.old) (W.contents output.new) outcome.text.items
+        × (faults.new ≡ faults.old) }
+    ensures bad_line { result ≡ 2 → (outcome.has_failed ≡ false) × ((line : ℕ) × (outcome.bad_line ≡ Some line)
+        × Appends (W.contents output.old) (W.contents output.new) outcome.text.items
+        × Appends (F.contents faults.old) (F.contents faults.new) (bad_line_text line)) }
+{
     if write_whole(output, &outcome.text).is_err() {
         return FAILED;
     }

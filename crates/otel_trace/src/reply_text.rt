@@ -1,12 +1,13 @@
 //! The texts of replies. Each reply's text is put together in a `String`, which a refusal for memory leaves unfinished,
 //! and is then written whole by `write_text` or not at all.
 
-ghost use Rattle.std.specs.Prelude.{◌≡◌, ◌++◌, ◌∷◌, [], IfOk, OnOk, OnErr, string_bytes};
+ghost use Rattle.std.specs.Prelude.{◌≡◌, ◌++◌, ◌∷◌, [], IfOk, IsOk, OnOk, OnErr, string_bytes};
 ghost use Rattle.std.specs.List.{flat_map};
 ghost use Rattle.opentelemetry.specs.Text.{Appends};
 ghost use Rattle.opentelemetry.specs.PlainValues.{plain_status};
+ghost use Rattle.otel_base.specs.Traceparent.{context_text};
 ghost use Rattle.otel_trace.specs.AnswerText.{answer_line};
-ghost use Rattle.otel_trace.specs.ReplyText.{listed, spaced, comma_before, status_text, attribute_text, attributes_text, event_text, events_text, links_text, identity_text, span_line, span_lines, context_text, started_line, dropped_line};
+ghost use Rattle.otel_trace.specs.ReplyText.{listed, spaced, comma_before, status_text, attribute_text, attributes_text, event_text, events_text, links_text, identity_text, span_line, span_lines, started_line, dropped_line};
 
 use crate::reply::Answer;
 use opentelemetry::trace::{Event, Status};
@@ -36,7 +37,7 @@ fn push_event(text: &mut String, event: &Event) -> Result<(), AllocError>
 }
 
 /// A comma before each item but the first.
-fn push_comma(text: &mut String, i: usize) -> Result<(), AllocError>
+pub(crate) fn push_comma(text: &mut String, i: usize) -> Result<(), AllocError>
     ensures { OnOk result (Appends text.old (comma_before i) text.new) }
 {
     if i == 0 { Ok(()) } else { text.push(',') }
@@ -250,7 +251,11 @@ pub fn write_batches(
     ensures ok { OnOk result (out.new.items
         ≡ out.old.items ++ span_lines (flat_map (λ batch. batch.items) exported.now)) }
     ensures err { OnErr result (out.new.items ≡ out.old.items) }
+    ensures free { exported.now ≡ [] → IsOk result }
 {
+    if exported.is_empty() {
+        return Ok(());
+    }
     let mut text = String::new(alloc);
     push_batches(&mut text, exported)?;
     write_text(out, text.as_str())
@@ -273,7 +278,7 @@ pub fn write_reply(
 }
 
 /// Puts a whole text behind what was written, or nothing where memory runs out.
-fn write_text(out: &mut Vec<u8>, text: &str) -> Result<(), AllocError>
+pub(crate) fn write_text(out: &mut Vec<u8>, text: &str) -> Result<(), AllocError>
     ensures ok { OnOk result (out.new.items ≡ out.old.items ++ text.now) }
     ensures err { OnErr result (out.new.items ≡ out.old.items) }
 {

@@ -342,8 +342,8 @@ fn lost_by_first<P: KeepsBatches>(processors: &[P]) -> u64
 
 /// The batches that the first of these processors keeps behind those that were shown.
 fn unshown_by_first<P: KeepsBatches>(processors: &[P], shown: usize) -> &[Vec<SpanData>]
-    ensures { flat_map (λ batch. batch.items) result.now
-        ≡ spans_in (drop shown (batches_of_first P.KeepsBatches.own processors.now)) }
+    ensures { map (λ batch. batch.items) result.now
+        ≡ drop shown (batches_of_first P.KeepsBatches.own processors.now) }
 {
     batches_since(kept_by_first(processors), shown)
 }

@@ -128,7 +128,8 @@ impl Entries {
     ) -> Option<(String, BaggageMetadata)>
         requires named { name.now ≢ [] }
         requires counted { added ≡ min (entry_bytes (entry_of name.now (string_bytes value) metadata)) (2 ^ 64 - 1) }
-        ensures ok { OnSome result (self.new ≡ with_entry self.old (entry_of name.now (string_bytes value) metadata)) }
+        ensures ok { OnSome result
+            (self.new ≡ with_entry self.old (entry_of name.now (string_bytes value) metadata)) }
         ensures replaced { IfSome result (λ old. handed_out (Some old) ≡ found_at self.old name.now) }
         ensures allowed { OnSome result (¬ (BreaksLimit self.old (entry_of name.now (string_bytes value) metadata))) }
         ensures refused { IsNone result ↔ ((entry_at self.old name.now ≡ None)

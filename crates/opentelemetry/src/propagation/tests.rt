@@ -6,10 +6,8 @@ use std::alloc::{AllocError, Global};
 use std::test::Fail;
 
 /// Sets one text, and asks for it when it reads.
-#[derive(Drop)]
-struct Greeting {
-    alloc: Global,
-}
+#[derive(Clone, Copy)]
+struct Greeting;
 
 impl TextMapPropagator for Greeting {
     ghost use Rattle.std.specs.Prelude.{◌≡◌, ◌∷◌, [], Some, OnOk, OnErr, codes};
@@ -23,15 +21,17 @@ impl TextMapPropagator for Greeting {
 
     fn inject_context<I: Injector>(
         &self,
+        alloc: Global,
         _cx: &Context,
         injector: &mut I,
     ) -> Result<(), AllocError> {
-        let hello = String::from_str(self.alloc, "hello")?;
+        let hello = String::from_str(alloc, "hello")?;
         injector.set("Greeting", hello)
     }
 
     fn extract_with_context<X: Extractor>(
         &self,
+        _alloc: Global,
         cx: &Context,
         extractor: &X,
     ) -> Result<Context, AllocError> {
@@ -47,11 +47,11 @@ impl TextMapPropagator for Greeting {
 
 #[test]
 fn a_propagator_of_ones_own_writes_into_a_map(rt: HostRuntime) -> Result<(), Fail> {
-    let greeting = Greeting { alloc: rt.alloc() };
+    let greeting = Greeting;
     let mut carrier = MapCarrier::new(rt.alloc());
-    greeting.inject_context(&Context::new(), &mut carrier)?;
+    greeting.inject_context(rt.alloc(), &Context::new(), &mut carrier)?;
     assert_eq!(rt; carrier.get("GREETING"), Some("hello"));
-    let _cx = greeting.extract_with_context(&Context::new(), &carrier)?;
+    let _cx = greeting.extract_with_context(rt.alloc(), &Context::new(), &carrier)?;
     let mut fields = greeting.fields();
     let mut copy = fields.clone()?;
     assert_eq!(rt; fields.next(), Some("Greeting"));

@@ -190,7 +190,8 @@ impl<P: SpanProcessor, S: Drop, G: Drop> ProviderOf<P, S, G> {
     /// Shuts every processor down in order, also after one failed. A second shutdown answers `AlreadyShutdown` and asks
     /// none; failures of processors are an `InternalFailure` that counts them.
     pub fn shutdown_with_timeout(&mut self, timeout: Duration) -> OTelSdkResult
-        ensures again { OnTrue self.old.is_shut (IsErrOf result OTelSdkError.AlreadyShutdown × (self.new ≡ self.old)) }
+        ensures again { OnTrue self.old.is_shut
+            (IsErrOf result OTelSdkError.AlreadyShutdown × (self.new ≡ self.old)) }
         ensures first { OnFalse self.old.is_shut
             (ShutsDown P.SpanProcessor self.old (as_nanos timeout) result self.new) }
 
@@ -207,7 +208,8 @@ impl<P: SpanProcessor, S: Drop, G: Drop> ProviderOf<P, S, G> {
 
     /// The same with 5 seconds.
     pub fn shutdown(&mut self) -> OTelSdkResult
-        ensures again { OnTrue self.old.is_shut (IsErrOf result OTelSdkError.AlreadyShutdown × (self.new ≡ self.old)) }
+        ensures again { OnTrue self.old.is_shut
+            (IsErrOf result OTelSdkError.AlreadyShutdown × (self.new ≡ self.old)) }
         ensures first { OnFalse self.old.is_shut (ShutsDown P.SpanProcessor self.old 5_000_000_000 result self.new) }
         ensures told { EachFollows P.SpanProcessor [] self.old.processors self.new.processors }
     {

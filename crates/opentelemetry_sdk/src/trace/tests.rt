@@ -1,4 +1,12 @@
-//! What no clause says of the pipeline: that each of several processors is asked in its turn.
+//! Examples of an exporter, processors and a sampler of one's own, each whole in a file; and what no clause says of the
+//! pipeline: that each of several processors is asked in its turn.
+
+mod counting_sampler;
+mod custom_exporter;
+mod custom_processor;
+mod custom_sampler;
+mod queueing_processor;
+mod refused_memory;
 
 use super::*;
 use opentelemetry::trace::{SpanContext, SpanKind, Status, TraceState};
@@ -22,7 +30,7 @@ fn context_of(flags: u8) -> SpanContext {
 }
 
 /// The data of a span that started at this moment and has these flags.
-pub(crate) fn span_data(alloc: Global, moment: u64, flags: u8) -> Result<SpanData, AllocError> {
+fn span_data(alloc: Global, moment: u64, flags: u8) -> Result<SpanData, AllocError> {
     Ok(SpanData {
         span_context: context_of(flags),
         parent_span_id: SpanId::INVALID,
@@ -40,8 +48,8 @@ pub(crate) fn span_data(alloc: Global, moment: u64, flags: u8) -> Result<SpanDat
     })
 }
 
-/// A processor that writes its digit on a board that several share, at each end, flush and shutdown, and keeps the spans
-/// that it was given.
+/// A processor that writes its digit on a board that several share, at each start, end, flush and shutdown, and keeps
+/// the spans that it was given.
 #[derive(Drop)]
 struct Writer<'a> {
     digit: u64,
@@ -61,7 +69,9 @@ impl Writer<'_> {
 }
 
 impl SpanProcessor for Writer<'_> {
-    fn on_start(&mut self, _span: &mut Span, _cx: &Context) {}
+    fn on_start(&mut self, _span: &mut Span, _cx: &Context) {
+        self.write();
+    }
 
     fn on_end(&mut self, span: SpanData) -> Result<(), AllocError> {
         self.write();
@@ -80,11 +90,8 @@ impl SpanProcessor for Writer<'_> {
     }
 }
 
-/// An open provider over three processors that share a board.
-fn three_writers(
-    alloc: Global,
-    board: &Cell<u64>,
-) -> Result<ProviderOf<Writer<'_>, Sampler, RandomIdGenerator>, AllocError> {
+/// Three processors that share a board.
+fn three_writers(alloc: Global, board: &Cell<u64>) -> Result<Vec<Writer<'_>>, AllocError> {
     let mut writers = Vec::new(alloc);
     for digit in 1..4 {
         writers.push(Writer {
@@ -93,19 +100,24 @@ fn three_writers(
             taken: Vec::new(alloc),
         })?;
     }
-    Ok(ProviderOf::from_parts(
-        writers,
+    Ok(writers)
+}
+
+/// An open provider over these processors, which samples every span and draws the ids of seed 0.
+fn provider_over<P>(processors: Vec<P>) -> ProviderOf<P, Sampler, RandomIdGenerator> {
+    ProviderOf::from_parts(
+        processors,
         Sampler::AlwaysOn,
         RandomIdGenerator::new(0),
         SpanLimits::default(),
-    ))
+    )
 }
 
 #[test]
 fn ends_flushes_and_shutdowns_ask_each_processor_in_its_turn(rt: HostRuntime) -> Result<(), Fail> {
     let board = Cell::new(0);
     let recorded = span_data(rt.alloc(), 7, 1)?;
-    let mut provider = three_writers(rt.alloc(), &board)?;
+    let mut provider = provider_over(three_writers(rt.alloc(), &board)?);
     let mut span = Span::recording(context_of(1), recorded, SpanLimits::default());
     let refused = span.end_with_timestamp(&mut provider, Moment(9));
     let flushed = provider.force_flush();
@@ -122,5 +134,15 @@ fn ends_flushes_and_shutdowns_ask_each_processor_in_its_turn(rt: HostRuntime) ->
     assert!(rt; shut.is_ok());
     assert!(rt; closed.is_ok());
     assert_eq!(rt; board.get(), 123_123_123);
+    Ok(())
+}
+
+#[test]
+fn closing_asks_each_processor_once(rt: HostRuntime) -> Result<(), Fail> {
+    let board = Cell::new(0);
+    let provider = provider_over(three_writers(rt.alloc(), &board)?);
+    let closed = provider.close();
+    assert!(rt; closed.is_ok());
+    assert_eq!(rt; board.get(), 123);
     Ok(())
 }

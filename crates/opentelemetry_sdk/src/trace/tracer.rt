@@ -78,7 +78,8 @@ impl SdkTracer {
           id_generator = provider.new.id_generator;
         } }
         ensures err { OnErr result
-            (OnlyDraws S.ShouldSample G.IdGenerator provider.old (named_builder (string_bytes name)) root_cx provider.new) }
+            (OnlyDraws S.ShouldSample G.IdGenerator provider.old (named_builder (string_bytes name)) root_cx
+            provider.new) }
         ensures shut { IsTrue provider.old.is_shut → IsOk result }
 
         // A span that is dropped takes no memory.
@@ -104,7 +105,8 @@ impl SdkTracer {
           id_generator = provider.new.id_generator;
         } }
         ensures err { OnErr result
-            (OnlyDraws S.ShouldSample G.IdGenerator provider.old (named_builder (string_bytes name)) cx.now provider.new) }
+            (OnlyDraws S.ShouldSample G.IdGenerator provider.old (named_builder (string_bytes name)) cx.now
+            provider.new) }
         ensures shut { IsTrue (provider.old.is_shut || cx.now.telemetry_suppressed) → IsOk result }
 
         // A span that is dropped takes no memory.

@@ -1,11 +1,13 @@
-//! The baggage of a context as the header `baggage` (W3C Baggage). A program hands a `BaggagePropagator` the context and
-//! a carrier on each side of a call: what one side sets, the other reads back, in order.
+//! The baggage of a context as the header `baggage` (W3C Baggage). A program hands a `BaggagePropagator` the context
+//! and a carrier on each side of a call: what one side sets, the other reads back, in order.
 
 ghost use Rattle.std.specs.Prelude.{OnOk};
 ghost use Rattle.otel_base.specs.BaggageHeader.{Carries, InjectsBaggage, IsCarriedUnchanged};
 
 mod pieces;
 mod read;
+#[cfg(test)]
+mod tests;
 mod write;
 
 use opentelemetry::Context;
@@ -19,15 +21,12 @@ const BAGGAGE_HEADER: &str = "baggage";
 const MAX_HEADER_BYTES: usize = 8192;
 
 /// Writes the baggage of contexts into carriers, and reads it from them.
-#[derive(Debug, Drop)]
-pub struct BaggagePropagator {
-    alloc: Global,
-}
+#[derive(Clone, Copy, Debug, Default)]
+pub struct BaggagePropagator;
 
 impl BaggagePropagator {
-    /// A propagator whose headers and baggage lie where `alloc` has them.
-    pub fn new(alloc: Global) -> BaggagePropagator {
-        BaggagePropagator { alloc }
+    pub const fn new() -> BaggagePropagator {
+        BaggagePropagator
     }
 }
 
@@ -42,7 +41,12 @@ impl TextMapPropagator for BaggagePropagator {
     ghost field_names = { λ _. baggage_field ∷ [] };
 
     /// Sets the header, unless the baggage is empty. The whole text is made before it is set.
-    fn inject_context<I: Injector>(&self, cx: &Context, injector: &mut I) -> Result<(), AllocError>
+    fn inject_context<I: Injector>(
+        &self,
+        alloc: Global,
+        cx: &Context,
+        injector: &mut I,
+    ) -> Result<(), AllocError>
         ensures injects { InjectsBaggage cx.now (I.texts injector.old) result (I.texts injector.new) }
         ensures carried { OnOk result
             (IsCarriedUnchanged cx.now.baggage → Carries (I.texts injector.new) cx.now.baggage) }
@@ -52,19 +56,20 @@ impl TextMapPropagator for BaggagePropagator {
             return Ok(());
         }
         baggages_keep_their_limits(baggage);
-        let header = write::header_of(self.alloc, baggage)?;
+        let header = write::header_of(alloc, baggage)?;
         injector.set(BAGGAGE_HEADER, header)
     }
 
     /// The context with the header's baggage. Without a header, or with one of more than 8192 bytes, it is as it was.
     fn extract_with_context<X: Extractor>(
         &self,
+        alloc: Global,
         cx: &Context,
         extractor: &X,
     ) -> Result<Context, AllocError> {
         match extractor.get(BAGGAGE_HEADER) {
             Some(header) if header.len() <= MAX_HEADER_BYTES => {
-                cx.with_baggage(read::entries_of(self.alloc, header)?)
+                cx.with_baggage(read::entries_of(alloc, header)?)
             }
             _ => cx.clone(),
         }

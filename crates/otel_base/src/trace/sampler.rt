@@ -5,11 +5,12 @@ ghost use Rattle.std.specs.Prelude.{◌≡◌, ◌↔◌, [], IfOk, IsFalse, IsO
 ghost use Rattle.otel_base.specs.SameSamplingResult.{same_answer, same_decision};
 ghost use Rattle.otel_base.specs.Sampling.{PlainSamplingResult, SamplingQuestion, question_of};
 ghost use Rattle.otel_base.specs.Sampler.{IsTryOf, active_in, built_in, has_custom, has_delegate, passed_trace_state};
-ghost use Rattle.otel_base.specs.Sampler.{plan};
+ghost use Rattle.otel_base.specs.Sampler.{plan, ratio_decision};
 
 #[cfg(test)]
 mod tests;
 
+use crate::trace::Ratio;
 use opentelemetry::trace::{Link, SpanContext, SpanKind, TraceState};
 use opentelemetry::{Context, KeyValue, TraceId};
 use std::alloc::AllocError;
@@ -161,8 +162,11 @@ pub enum SamplerOf<C> {
     AlwaysOn,
     /// Every span is dropped.
     AlwaysOff,
-    /// The child of an active span is sampled as that is, else dropped. Where no span is active the delegate decides.
+    /// The child of an active span is sampled as that is, else dropped. Where no span is active the delegate decides,
+    /// and of its answer the decision alone counts.
     ParentBased(Box<SamplerOf<C>>),
+    /// A share of all traces is sampled and the others are dropped, by the trace id alone.
+    TraceIdRatioBased(Ratio),
     /// A sampler of the application's own, whose whole answer is passed on.
     Custom(C),
 }
@@ -195,15 +199,21 @@ impl<C: ShouldSample> ShouldSample for SamplerOf<C> {
                     built_in(SamplingDecision::RecordAndSample, active)
                 }
                 Some(_) => built_in(SamplingDecision::Drop, active),
-                None => (**delegate).should_sample(
-                    parent_context,
-                    trace_id,
-                    name,
-                    span_kind,
-                    attributes,
-                    links,
-                ),
+                None => {
+                    let answer = (**delegate).should_sample(
+                        parent_context,
+                        trace_id,
+                        name,
+                        span_kind,
+                        attributes,
+                        links,
+                    )?;
+                    built_in(answer.decision, None)
+                }
             },
+            SamplerOf::TraceIdRatioBased(ratio) => {
+                built_in(ratio_decision(ratio, trace_id), active)
+            }
             SamplerOf::Custom(custom) => custom.should_sample(
                 parent_context,
                 trace_id,
@@ -232,6 +242,9 @@ impl<C: Drop> SamplerOf<C> {
                 }
                 None => Ok(None),
             },
+            SamplerOf::TraceIdRatioBased(ratio) => {
+                Ok(Some(SamplerOf::TraceIdRatioBased(*ratio)))
+            }
             SamplerOf::Custom(_) => Ok(None),
         }
     }
@@ -244,6 +257,17 @@ fn active_in<'a>(context: Option<&'a Context>) -> Option<&'a SpanContext>
     match context {
         Some(context) if context.has_active_span() => Some(context.span_context()),
         _ => None,
+    }
+}
+
+// What becomes of the spans of a trace under a ratio.
+fn ratio_decision(ratio: &Ratio, trace_id: TraceId) -> SamplingDecision
+    ensures { result ≡ ratio_decision ratio.now trace_id }
+{
+    if ratio.samples(trace_id) {
+        SamplingDecision::RecordAndSample
+    } else {
+        SamplingDecision::Drop
     }
 }
 

@@ -1,6 +1,6 @@
 //! The batch queue itself: what it is made of, how it is made and read, and its steps.
 
-ghost use Rattle.std.specs.Prelude.{◌≡◌, ◌++◌, true, false, IfOk, IfErr, OnOk, length, slice_get};
+ghost use Rattle.std.specs.Prelude.{◌≡◌, ◌++◌, ℕ, true, IfOk, IfErr, OnOk, length, slice_get};
 
 use crate::machine::slots::idle_slots;
 use crate::machine::state::{Message, Request, Slot, Why, Worker};
@@ -177,9 +177,12 @@ impl<E: SpanExporter> BatchMachine<E> {
     ghost use Rattle.otel_batch.specs.SoundMachine.{IsSound};
     ghost use Rattle.otel_batch.specs.MachineRun.{Run, accepted, added, batch_sizes, counted_up, full_sends, holds_at};
     ghost use Rattle.otel_batch.specs.Conservation.{Conserves, IsFirst, LosesNoSpan};
-    ghost use Rattle.otel_batch.specs.ShutdownSilence.{SilentAfterShutdown};
-    ghost use Rattle.otel_batch.specs.KeptRequests.{KeepsRequests, next_step};
-    ghost use Rattle.otel_batch.specs.Drains.{BoundsDrains, CompletesDrains, FitBatches, is_enabled, largest_batch};
+    ghost use Rattle.otel_batch.specs.ShutdownSilence.{SilentAfterShutdown, StaysSilent};
+    ghost use Rattle.otel_batch.specs.KeptRequests.{KeepsRequests};
+    ghost use Rattle.otel_batch.specs.KnownRequests.{KnowsRequests};
+    ghost use Rattle.otel_batch.specs.GoingOn.{GoesOn};
+    ghost use Rattle.otel_batch.specs.Drains.{BoundsDrains, CompletesDrains, FitBatches, largest_batch};
+    ghost use Rattle.otel_batch.specs.Slots.{slot_waits};
     ghost use Rattle.otel_batch.specs.Workers.{is_gone};
     ghost use Rattle.otel_batch.specs.PermittedStep.{Permitted};
     ghost use Rattle.otel_batch.specs.MovedSpans.{Moved};
@@ -192,10 +195,11 @@ impl<E: SpanExporter> BatchMachine<E> {
         config: BatchConfig,
         producers: usize,
     ) -> Result<BatchMachine<E>, AllocError>
-        ensures { IfOk result (λ m. m ≡ first_machine exporter config producers) }
+        ensures first { IfOk result (λ m. m ≡ first_machine exporter config producers) }
+        ensures sound { IfOk result (λ m. IsSound (counts m)) }
     {
         let batch_size = config.max_export_batch_size();
-        Ok(BatchMachine {
+        let machine = BatchMachine {
             alloc,
             exporter,
             waiting: HeapCircularBuffer::with_capacity(alloc, config.max_queue_size())?,
@@ -213,7 +217,9 @@ impl<E: SpanExporter> BatchMachine<E> {
             result: Ok(()),
             refused: false,
             batch_size,
-        })
+        };
+        machine.is_sound();
+        Ok(machine)
     }
 
     /// One step of a producer or of the worker. Where it is not enabled, or names no producer, nothing changes, and its
@@ -224,8 +230,7 @@ impl<E: SpanExporter> BatchMachine<E> {
         // Who waits for an answer goes on waiting until one that is its own.
         ensures requests { KeepsRequests (counts self.old) step result (counts self.new) }
         // The worker can go on until it is gone.
-        ensures enabled { step ≡ next_step self.old.control.worker →
-            is_gone self.old.control.worker ≡ false → is_enabled result ≡ true }
+        ensures goes_on { GoesOn (counts self.old) step result }
         ensures sound { IsSound (counts self.new) }
     {
         let outcome = self.dispatch(step);
@@ -265,9 +270,19 @@ impl<E: SpanExporter> BatchMachine<E> {
         // No batch is empty or too large.
         ensures batches { OnOk result (FitBatches (largest_batch self.old.control)
             (batch_sizes (added outcomes.old.items outcomes.new.items))) }
+        // Each request is in the control queue or with the worker, up to the step that answers it.
+        ensures requests { OnOk result (KnowsRequests E.SpanExporter self.old steps.items
+            (added outcomes.old.items outcomes.new.items) self.new) }
+        // Once the worker is gone nobody waits for an answer.
+        ensures none_waits { OnOk result (is_gone self.new.control.worker ≡ true → (p : ℕ) →
+            slot_waits (slice_get self.new.control.slots p) ≡ 0) }
         // Nothing follows a shutdown.
         ensures silent { OnOk result (SilentAfterShutdown E.SpanExporter self.old steps.items
             (added outcomes.old.items outcomes.new.items) self.new) }
+        // So it is where the machine was closed before.
+        ensures stays_silent { self.old.control.closed ≡ true → OnOk result
+            (StaysSilent self.old (added outcomes.old.items outcomes.new.items) self.new) }
+        ensures sound { OnOk result (IsSound (counts self.new)) }
         ensures err { IfErr result (λ e. (e.0 ≡ steps)
             × (self.new ≡ self.old)
             × (outcomes.new.items ≡ outcomes.old.items)) }
@@ -281,6 +296,7 @@ impl<E: SpanExporter> BatchMachine<E> {
             let outcome = self.step(step);
             outcomes.push_reserved(outcome);
         }
+        self.is_sound();
         Ok(())
     }
 

@@ -9,7 +9,9 @@ use std::test::Fail;
 use std::time::Duration;
 
 mod random;
+mod refusals;
 mod script;
+mod watching;
 
 /// A span that is sent while the queue is full is refused and counted; of two producers that see a full batch one posts.
 #[test]
@@ -170,6 +172,7 @@ fn a_step_out_of_turn_is_not_enabled(rt: HostRuntime) -> Result<(), Fail> {
         ("offer 0 a", "counted 1"),
         ("offer 0 b", "not enabled"),
         ("flush 0", "not enabled"),
+        ("shutdown 0", "not enabled"),
         ("resource", "posted"),
         ("take", "took resource"),
         ("tick", "ticked"),
@@ -283,12 +286,18 @@ fn drain_steps(alloc: Global, batch_size: usize) -> Result<usize, Fail> {
     let mut queue = machine(alloc, 5, batch_size, 1)?;
     for _ in 0..5 {
         queue.step(step_of(alloc, "offer 0 a")?);
-        queue.step(Step::Send(0));
+        if queue.step(Step::Send(0)) != Outcome::Accepted {
+            return Err(Fail::new("a send was refused"));
+        }
         queue.step(Step::Ask(0));
         queue.step(Step::Post(0));
     }
-    queue.step(Step::Tick);
-    queue.step(Step::Load);
+    if queue.step(Step::Tick) != Outcome::Ticked {
+        return Err(Fail::new("the timer was not heard"));
+    }
+    if queue.step(Step::Load) != Outcome::Loaded(5) {
+        return Err(Fail::new("the drain was not loaded with five spans"));
+    }
     let mut taken: usize = 0;
     for _ in 0..20 {
         for step in [Step::Pull, Step::HandOver, Step::Subtract] {

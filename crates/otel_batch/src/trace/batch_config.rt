@@ -1,12 +1,30 @@
 //! How a batch processor is configured (OpenTelemetry specification, "Batching processor"): how many spans may wait,
 //! how many a batch has, and how long the worker and an export may take. A batch never has more spans than may wait.
 
-ghost use Rattle.std.specs.Prelude.{◌≡◌, ◌≤◌};
+ghost use Rattle.std.specs.Prelude.{◌≡◌, ◌≤◌, string_bytes};
 ghost use Rattle.std.specs.Duration.{as_nanos};
-ghost use Rattle.otel_batch.specs.PlainBatchConfig.{cut_to_queue};
+ghost use Rattle.std.specs.Option.{option_map};
+ghost use Rattle.otel_base.specs.ConfigStrings.{IsConfiguredNumber};
+ghost use Rattle.otel_batch.specs.PlainBatchConfig.{IsConfiguredTime, IsBatchConfigOf, cut_to_queue};
 
+#[cfg(test)]
+mod tests;
+
+use otel_base::trace::BatchStrings;
 use std::marker::Model;
 use std::time::Duration;
+
+/// The usual source of `BatchStrings::schedule_delay`.
+pub const OTEL_BSP_SCHEDULE_DELAY: &str = "OTEL_BSP_SCHEDULE_DELAY";
+
+/// The usual source of `BatchStrings::max_queue_size`.
+pub const OTEL_BSP_MAX_QUEUE_SIZE: &str = "OTEL_BSP_MAX_QUEUE_SIZE";
+
+/// The usual source of `BatchStrings::max_export_batch_size`.
+pub const OTEL_BSP_MAX_EXPORT_BATCH_SIZE: &str = "OTEL_BSP_MAX_EXPORT_BATCH_SIZE";
+
+/// The usual source of `BatchStrings::export_timeout`.
+pub const OTEL_BSP_EXPORT_TIMEOUT: &str = "OTEL_BSP_EXPORT_TIMEOUT";
 
 /// How many spans may wait, where nothing else is said.
 pub const OTEL_BSP_MAX_QUEUE_SIZE_DEFAULT: usize = 2048;
@@ -130,6 +148,24 @@ impl Default for BatchConfigBuilder {
 }
 
 impl BatchConfigBuilder {
+    /// What the strings say, and else the defaults. The size of a batch is cut to that of the queue already here, so that
+    /// a longer queue set afterwards does not lengthen it.
+    pub fn from_strings(strings: &BatchStrings) -> BatchConfigBuilder
+        ensures { IsBatchConfigOf strings.now result }
+    {
+        let max_queue_size = size_or(&strings.max_queue_size, OTEL_BSP_MAX_QUEUE_SIZE_DEFAULT);
+        let max_export_batch_size = size_or(
+            &strings.max_export_batch_size,
+            OTEL_BSP_MAX_EXPORT_BATCH_SIZE_DEFAULT,
+        );
+        BatchConfigBuilder {
+            max_queue_size,
+            max_export_batch_size: max_export_batch_size.min(max_queue_size),
+            scheduled_delay: time_or(&strings.schedule_delay, OTEL_BSP_SCHEDULE_DELAY_DEFAULT),
+            max_export_timeout: time_or(&strings.export_timeout, OTEL_BSP_EXPORT_TIMEOUT_DEFAULT),
+        }
+    }
+
     /// So many spans may wait.
     pub fn with_max_queue_size(self, max_queue_size: usize) -> BatchConfigBuilder
         ensures { result ≡ record self { max_queue_size = max_queue_size } }
@@ -171,4 +207,25 @@ impl BatchConfigBuilder {
             max_export_timeout: self.max_export_timeout,
         }
     }
+}
+
+// The size that a string writes, and else this one.
+fn size_or(given: &Option<String>, default: usize) -> usize
+    ensures { IsConfiguredNumber 64 (option_map string_bytes given.now) default result }
+{
+    match given {
+        Some(text) => text.as_str().parse::<usize>().unwrap_or(default),
+        None => default,
+    }
+}
+
+// The time of so many milliseconds as a string writes, and else of this many.
+fn time_or(given: &Option<String>, default: u64) -> Duration
+    ensures { IsConfiguredTime (option_map string_bytes given.now) default (as_nanos result) }
+{
+    let milliseconds = match given {
+        Some(text) => text.as_str().parse::<u64>().unwrap_or(default),
+        None => default,
+    };
+    Duration::from_millis(milliseconds)
 }

@@ -5,6 +5,7 @@ ghost use Rattle.std.specs.Prelude.{◌≡◌, []};
 use opentelemetry::trace::Event;
 use std::alloc::{AllocError, Global};
 use std::marker::Model;
+use std::vec::IntoIter;
 
 /// Events in the order in which they were added; those over the span's limit are only counted.
 #[derive(Debug, Drop)]
@@ -37,6 +38,22 @@ impl SpanEvents {
         ensures { result.now ≡ self.now.events }
     {
         self.events.as_slice()
+    }
+}
+
+impl IntoIterator for SpanEvents {
+    type Item = Event;
+
+    type IntoIter = IntoIter<Event>;
+
+    ghost use Rattle.std.specs.Prelude.{◌≡◌};
+    ghost use Rattle.std.specs.Vec.Iter.{into_iter_items};
+
+    ghost into_iter_gives = { λ kept left. into_iter_items left ≡ kept.events };
+
+    /// The events that were kept, in order.
+    fn into_iter(self) -> IntoIter<Event> {
+        self.events.into_iter()
     }
 }
 

@@ -5,6 +5,7 @@ ghost use Rattle.std.specs.Prelude.{◌≡◌, []};
 use opentelemetry::trace::Link;
 use std::alloc::{AllocError, Global};
 use std::marker::Model;
+use std::vec::IntoIter;
 
 /// Links in the order in which they were added; those over the span's limit are only counted.
 #[derive(Debug, Drop)]
@@ -37,6 +38,22 @@ impl SpanLinks {
         ensures { result.now ≡ self.now.links }
     {
         self.links.as_slice()
+    }
+}
+
+impl IntoIterator for SpanLinks {
+    type Item = Link;
+
+    type IntoIter = IntoIter<Link>;
+
+    ghost use Rattle.std.specs.Prelude.{◌≡◌};
+    ghost use Rattle.std.specs.Vec.Iter.{into_iter_items};
+
+    ghost into_iter_gives = { λ kept left. into_iter_items left ≡ kept.links };
+
+    /// The links that were kept, in order.
+    fn into_iter(self) -> IntoIter<Link> {
+        self.links.into_iter()
     }
 }
 

@@ -4,6 +4,8 @@ use std::io;
 use std::process::Abort;
 use std::test::Fail;
 
+mod steps;
+
 const SIMPLE: &[&str] = &["trace", "0", "simple"];
 
 const STARTED: &str = "started 00-5c0fdf91ec9a7bfc61da6f3dc380d507-53175d61490b23df-01\n";
@@ -17,6 +19,7 @@ const ENDED_TWICE: &str = "started 00-5c0fdf91ec9a7bfc61da6f3dc380d507-53175d614
 ok
 span 5c0fdf91ec9a7bfc61da6f3dc380d507 53175d61490b23df 0000000000000000 01 1000 2000 GET unset attrs [http.method=GET] 0 events [] 0 links 0 0
 ended
+started 00-5c0fdf91ec9a7bfc61da6f3dc380d507-02eebf8c3bbe5e1a-01
 ignored
 ";
 
@@ -187,8 +190,8 @@ const CASES: [Case; 18] = [
         faults: "",
     },
     Case {
-        name: "an end after the end",
-        input: b"start s GET 1000\nattr s http.method GET\nend s 2000\nend s 3000\n",
+        name: "an end after the end, and a child between the two",
+        input: b"start s GET 1000\nattr s http.method GET\nend s 2000\nchild c s db 2100\nend s 3000\n",
         status: 0,
         output: ENDED_TWICE,
         faults: "",
@@ -336,9 +339,12 @@ fn wrong_arguments_are_refused_before_the_input(rt: HostRuntime) -> Result<(), F
         faults: "usage: otel_trace trace SEED simple | trace SEED batch Q B | steps Q B P\n",
         unread: 8,
     };
-    let cases: [(&str, &[&str]); 11] = [
+    let cases: [(&str, &[&str]); 14] = [
         ("a batch processor", &["trace", "0", "batch", "3", "2"]),
-        ("the steps of a machine", &["steps", "3", "2", "1"]),
+        ("a machine of two sizes", &["steps", "3", "2"]),
+        ("a machine of four sizes", &["steps", "3", "2", "1", "1"]),
+        ("a queue with a sign", &["steps", "+3", "2", "1"]),
+        ("producers that are no number", &["steps", "3", "2", ""]),
         ("no argument", &[]),
         ("a mode alone", &["trace"]),
         ("a seed that is no number", &["trace", "x", "simple"]),

@@ -373,3 +373,74 @@ fn a_failed_flush_and_a_failed_shutdown_are_answered(rt: HostRuntime) -> Result<
 /// What is printed where one of two processors fails: a shutdown, a second one that asks nobody, and a flush.
 const FAILED_CALLS: &[u8] =
     b"Operation failed: Shutdown errors: 1\nShutdown already invoked\nOperation failed: errs: 1\n";
+
+/// Lists of one command each: a span is started, gets an attribute, and ends.
+fn one_by_one(alloc: Global) -> Result<Vec<Vec<Command>>, AllocError> {
+    let start = Command::Start {
+        span: String::from_str(alloc, "s")?,
+        name: String::from_str(alloc, "a")?,
+        moment: Moment(1),
+    };
+    let attr = Command::Attr {
+        span: String::from_str(alloc, "s")?,
+        key: String::from_str(alloc, "k")?,
+        value: String::from_str(alloc, "v")?,
+    };
+    let end = Command::End {
+        span: String::from_str(alloc, "s")?,
+        moment: Moment(2),
+    };
+    let mut lists = Vec::with_capacity(alloc, 3)?;
+    for command in [start, attr, end] {
+        let mut list = Vec::with_capacity(alloc, 1)?;
+        list.push(command)?;
+        lists.push(list)?;
+    }
+    Ok(lists)
+}
+
+/// Runs each list of commands, and runs it again where it found no memory.
+fn run_each<P: KeepsBatches, S: ShouldSample, G: IdGenerator>(
+    session: &mut Session<P, S, G>,
+    first: Vec<Vec<Command>>,
+    again: Vec<Vec<Command>>,
+    replies: &mut Vec<Reply>,
+) -> Result<(), AllocError> {
+    for (commands, again) in first.into_iter().zip(again) {
+        if session.run(commands, replies).is_err() {
+            session.run(again, replies)?;
+        }
+    }
+    Ok(())
+}
+
+/// How many spans the replies show, and how many refusals they count.
+fn shown_or_refused(replies: &[Reply]) -> usize {
+    let mut count = 0usize;
+    for reply in replies {
+        count = count.saturating_add(reply.exported.len());
+        if let Answer::Ended(refused) = reply.answer {
+            count = count.saturating_add(refused);
+        }
+    }
+    count
+}
+
+/// `rt try --test --fail-alloc N` has the Nth allocation refused: then the command that wanted it is run again. The
+/// span is shown by one reply, or its batch is counted as refused or lost.
+#[test]
+fn a_run_that_found_no_memory_succeeds_again(rt: HostRuntime) -> Result<(), Fail> {
+    let alloc = rt.alloc();
+    let (first, again) = (one_by_one(alloc)?, one_by_one(alloc)?);
+    let memory = ExporterBox::Memory(InMemorySpanExporter::new(alloc));
+    let mut replies = Vec::new(alloc);
+    let mut session = session_over(alloc, provider_over(alloc, memory)?)?;
+    let run = run_each(&mut session, first, again, &mut replies);
+    let lost = session.lost_batches();
+    let _ = session.close(&mut Vec::new(alloc));
+    assert_eq!(rt; run, Ok(()));
+    assert_eq!(rt; replies.len(), 3);
+    let shown_or_refused = shown_or_refused(&replies) as u64;
+    assert_eq!(rt; shown_or_refused.saturating_add(lost), 1);
+    Ok(())
+}

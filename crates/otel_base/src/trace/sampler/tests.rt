@@ -1,6 +1,7 @@
 //! Samplers over parents, a custom one whose answers are its own, and copies of trees.
 
 use super::{Sampler, SamplingDecision, SamplingResult, ShouldSample};
+use crate::trace::Ratio;
 use opentelemetry::trace::{Link, SpanContext, SpanKind, TraceState};
 use opentelemetry::{Context, Key, KeyValue, SpanId, TraceFlags, TraceId, Value};
 use std::alloc::{AllocError, Global};
@@ -120,28 +121,87 @@ fn decides_by_the_parent_and_passes_its_trace_state_on(rt: HostRuntime) -> Resul
     Ok(())
 }
 
-/// Whether a sampler answers as the custom one does.
-fn is_own(alloc: Global, sampler: &Sampler, parent: Option<&Context>) -> Result<bool, AllocError> {
-    let answer = ask(sampler, parent, "GET")?;
-    Ok(answer == own_answer(alloc)?)
+/// What a sampler decides on a trace whose id has this low half.
+fn decision_on(
+    sampler: &Sampler,
+    parent_context: Option<&Context>,
+    low: u64,
+) -> Result<SamplingDecision, AllocError> {
+    let trace_id = TraceId::from(u128::from(low) | (5 << 64));
+    let answer = sampler.should_sample(
+        parent_context,
+        trace_id,
+        "",
+        &SpanKind::Internal,
+        &[],
+        &[],
+    )?;
+    Ok(answer.decision)
 }
 
-/// The same without a parent context, without an active span, and under a sampled parent.
-fn are_own(alloc: Global, sampler: &Sampler) -> Result<[bool; 3], Fail> {
-    let sampled = parent_of(alloc, TraceFlags::SAMPLED)?;
-    let no_span = Context::new();
-    Ok([
-        is_own(alloc, sampler, None)?,
-        is_own(alloc, sampler, Some(&no_span))?,
-        is_own(alloc, sampler, Some(&sampled))?,
-    ])
+/// Whether a sampler samples that trace; none where it finds no memory.
+fn samples(sampler: &Sampler, parent_context: Option<&Context>, low: u64) -> Option<bool> {
+    let decision = decision_on(sampler, parent_context, low).ok()?;
+    Some(decision == SamplingDecision::RecordAndSample)
 }
 
 #[test]
-fn a_custom_sampler_answers_where_no_span_is_active(rt: HostRuntime) -> Result<(), Fail> {
+fn a_ratio_decides_by_the_trace_id_alone(rt: HostRuntime) -> Result<(), Fail> {
+    let sampled = parent_of(rt.alloc(), TraceFlags::SAMPLED)?;
+    let dropped = parent_of(rt.alloc(), TraceFlags::default())?;
+    let sampler = Sampler::TraceIdRatioBased(Ratio::new(1, 4)?);
+    for parent in [None, Some(&sampled), Some(&dropped)] {
+        assert_eq!(rt; samples(&sampler, parent, (1 << 62) - 1), Some(true));
+        assert_eq!(rt; samples(&sampler, parent, 1 << 62), Some(false));
+    }
+    Ok(())
+}
+
+#[test]
+fn a_ratio_decides_at_roots_where_parents_come_first(rt: HostRuntime) -> Result<(), Fail> {
+    let sampled = parent_of(rt.alloc(), TraceFlags::SAMPLED)?;
+    let dropped = parent_of(rt.alloc(), TraceFlags::default())?;
+    let sampler = over(rt.alloc(), Sampler::TraceIdRatioBased(Ratio::new(1, 4)?))?;
+    assert_eq!(rt; samples(&sampler, None, 1 << 62), Some(false));
+    assert_eq!(rt; samples(&sampler, Some(&sampled), 1 << 62), Some(true));
+    assert_eq!(rt; samples(&sampler, Some(&dropped), 0), Some(false));
+    Ok(())
+}
+
+/// Whether a sampler answers this in a context.
+fn answers_as(
+    sampler: &Sampler,
+    parent_context: Option<&Context>,
+    expected: &SamplingResult,
+) -> Result<bool, Fail> {
+    let answer = ask(sampler, parent_context, "GET")?;
+    Ok(&answer == expected)
+}
+
+#[test]
+fn a_custom_sampler_answers_whole(rt: HostRuntime) -> Result<(), Fail> {
+    let alloc = rt.alloc();
+    let sampler = Sampler::Custom(Box::new(alloc, Own { alloc })?);
+    let whole = own_answer(alloc)?;
+    let sampled = parent_of(alloc, TraceFlags::SAMPLED)?;
+    let no_span = Context::new();
+    for parent in [None, Some(&no_span), Some(&sampled)] {
+        assert!(rt; answers_as(&sampler, parent, &whole)?);
+    }
+    Ok(())
+}
+
+#[test]
+fn the_decision_of_a_delegate_counts_alone(rt: HostRuntime) -> Result<(), Fail> {
     let alloc = rt.alloc();
     let sampler = over(alloc, Sampler::Custom(Box::new(alloc, Own { alloc })?))?;
-    assert_eq!(rt; are_own(alloc, &sampler)?, [true, true, false]);
+    let decision = without_attributes(alloc, SamplingDecision::RecordOnly, "")?;
+    let sampled = parent_of(alloc, TraceFlags::SAMPLED)?;
+    let no_span = Context::new();
+    for parent in [None, Some(&no_span)] {
+        assert!(rt; answers_as(&sampler, parent, &decision)?);
+    }
+    assert!(rt; !answers_as(&sampler, Some(&sampled), &decision)?);
     Ok(())
 }
 

@@ -31,6 +31,9 @@ struct Ledger {
     /// How many sends met a full queue.
     full: u64,
     closed: bool,
+    /// How many spans are accounted for, and how many of them the last batch had.
+    counter: u128,
+    batch: usize,
     /// The target of the drain that goes on, how many spans waited at its load, and what it did since.
     target: u128,
     waited: usize,
@@ -60,6 +63,8 @@ impl Ledger {
             handed: 0,
             full: 0,
             closed: false,
+            counter: 0,
+            batch: 0,
             target: 0,
             waited: 0,
             drained: 0,
@@ -74,10 +79,19 @@ impl Ledger {
     }
 
     fn note_offer(&mut self, producer: usize, moment: u64, outcome: &Outcome) {
-        if let Outcome::Counted(_) = outcome
-            && let Some(held) = self.holding.get_mut(producer)
-        {
+        let Outcome::Counted(counter) = outcome else {
+            return;
+        };
+        self.counter = self.counter.saturating_add(1);
+        self.wrong = self.wrong || *counter != self.counter;
+        if let Some(held) = self.holding.get_mut(producer) {
             *held = moment;
+        }
+    }
+
+    fn note_undo(&mut self, outcome: &Outcome) {
+        if let Outcome::Undone = outcome {
+            self.counter = self.counter.saturating_sub(1);
         }
     }
 
@@ -110,6 +124,7 @@ impl Ledger {
 
     fn note_batch(&mut self, count: usize) {
         self.handed = self.handed.saturating_add(count);
+        self.batch = count;
         self.drained = self.drained.saturating_add(count);
         let fits = count > 0 && count <= self.largest_batch();
         let aimed = self.batch_size == 0 || self.drained as u128 <= self.target;
@@ -131,6 +146,7 @@ impl Ledger {
     fn note_worker(&mut self, outcome: &Outcome) {
         match outcome {
             Outcome::Loaded(target) => {
+                self.wrong = self.wrong || *target != self.counter;
                 self.target = *target;
                 self.waited = self.waiting();
                 self.drained = 0;
@@ -144,7 +160,11 @@ impl Ledger {
                 self.note_batch(*count);
                 self.steps = self.steps.saturating_add(1);
             }
-            Outcome::Empty | Outcome::Subtracted => self.steps = self.steps.saturating_add(1),
+            Outcome::Empty => self.steps = self.steps.saturating_add(1),
+            Outcome::Subtracted => {
+                self.counter = self.counter.saturating_sub(self.batch as u128);
+                self.steps = self.steps.saturating_add(1);
+            }
             Outcome::Finished(_) => self.note_finish(),
             Outcome::NoMemory => self.wrong = true,
             Outcome::ShutDown => self.closed = true,
@@ -213,7 +233,8 @@ fn take_step(
             ledger.note_send(producer, &outcome)?;
         }
         4 => {
-            queue.step(producer_step(words, producer));
+            let outcome = queue.step(producer_step(words, producer));
+            ledger.note_undo(&outcome);
         }
         5 if below(words, 10) == 0 => {
             queue.step(Step::PostResource(Resource::builder_empty(alloc).build()));
@@ -267,6 +288,7 @@ fn agrees(
             && moments.as_slice() == ledger.accepted.as_slice()
             && exported == ledger.handed
             && queue.waiting_len() == ledger.waiting()
+            && queue.counter() == ledger.counter
             && queue.dropped_count() == ledger.full
             && queue.is_closed() == ledger.closed,
     )

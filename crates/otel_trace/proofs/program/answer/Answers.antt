@@ -1,20 +1,30 @@
-use Rattle.std.proofs.Common.{ℕ, Option, rules, arith, subst}
+-- What the session came to was written.
+use Rattle.std.proofs.Common.{ℕ, Option, subst}
 use Rattle.otel_trace.specs.Program.{session_under}
 use Rattle.otel_trace.specs.SessionDelivery.{Finishes}
 use Rattle.otel_trace.proofs.program.answer.Goals as goal
-use Rattle.otel_trace.proofs.program.answer.Goals.{in-None, in-Some}
+
+pub returns-clause-done : goal.returns-clause-done
+returns-clause-done g c = λ e.
+    let w = c.write_outcome.ensures.done e in (
+      (
+        c.trace-outcome.result.text.items,
+        subst (λ (b : Option ℕ). Finishes g.P.SpanProcessor g.P.KeepsBatches g.S.ShouldSample g.G.IdGenerator (session_under g.P.KeepsBatches c.args.provider) c.args.input.now b c.trace-outcome.result.text.items)
+            w.1 (c.trace-outcome.ensures w.0),
+        w.2,
+      ),
+      w.3,
+    )
 
 pub returns-clause-bad_line : goal.returns-clause-bad_line
-returns-clause-bad_line g c = elim c.match-outcome.branch [
-  | in-None w ↦ λ e. absurd (omega arith)
-  | in-Some w ↦ λ e. (
-    w.in-Some.line,
-    (
-      c.trace-outcome.result.text.items,
-      subst (λ (b : Option ℕ). Finishes g.P.SpanProcessor g.P.KeepsBatches g.S.ShouldSample g.G.IdGenerator (session_under g.P.KeepsBatches c.args.provider) c.args.input.now b c.trace-outcome.result.text.items)
-          w.in-Some.is (c.trace-outcome.ensures c.if-outcome.false),
-      search rules,
-    ),
-    search rules,
-  )
-]
+returns-clause-bad_line g c = λ e.
+    let w = c.write_outcome.ensures.bad_line e in (
+      w.1.0,
+      (
+        c.trace-outcome.result.text.items,
+        subst (λ (b : Option ℕ). Finishes g.P.SpanProcessor g.P.KeepsBatches g.S.ShouldSample g.G.IdGenerator (session_under g.P.KeepsBatches c.args.provider) c.args.input.now b c.trace-outcome.result.text.items)
+            w.1.1 (c.trace-outcome.ensures w.0),
+        w.1.2,
+      ),
+      w.1.3,
+    )

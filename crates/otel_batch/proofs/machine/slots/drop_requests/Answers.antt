@@ -1,8 +1,6 @@
-use Rattle.std.proofs.Common.{rules, arith, ◌≡◌, ◌∷◌, ◌∙◌, ap, sym, refl, Some, drop, ℕ, List, slice_get}
-use Rattle.std.proofs.lemmas.Grind.{common_steps}
+use Rattle.std.proofs.Common.{◌≡◌, ◌∷◌, ◌∙◌, ap, sym, refl, Some, drop, slice_get}
 use Rattle.std.proofs.lemmas.Option.{slice_get_within}
 use Rattle.otel_batch.specs.declared.machine.state.Slot.TheVariants.{Waiting}
-use Rattle.otel_batch.specs.declared.machine.state.Message.{Message}
 use Rattle.otel_batch.specs.declared.machine.state.Message.TheVariants.{Export, Flush, Shutdown, Resource}
 use Rattle.otel_batch.proofs.SlotSums.{message_flush, message_shutdown, others_flush, others_shutdown}
 use Rattle.otel_batch.proofs.Dropping.{Dropping, dropping_waits, dropping_one, dropping_other, first_and_rest}

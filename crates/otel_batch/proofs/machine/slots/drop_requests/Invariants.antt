@@ -1,4 +1,4 @@
-use Rattle.std.proofs.Common.{◌≡◌, ℕ, length}
+use Rattle.std.proofs.Common.{◌≡◌, length}
 use Rattle.otel_batch.proofs.Dropping.{Dropping}
 use Rattle.otel_batch.proofs.machine.slots.drop_requests.Given as goal
 

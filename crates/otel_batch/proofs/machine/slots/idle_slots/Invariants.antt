@@ -1,4 +1,4 @@
-use Rattle.std.proofs.Common.{◌≡◌, ℕ, replicate}
+use Rattle.std.proofs.Common.{◌≡◌, replicate}
 use Rattle.otel_batch.specs.declared.machine.state.Slot.TheVariants.{Idle}
 use Rattle.otel_batch.proofs.machine.slots.idle_slots.Given as goal
 

@@ -1,6 +1,6 @@
-use Rattle.std.proofs.Common.{Some, sym, ap, ◌∙◌, subst}
+use Rattle.std.proofs.Common.{Some, ap, ◌∙◌, subst}
 use Rattle.std.proofs.lemmas.Result.{on_ok_weaker}
-use Rattle.otel_base.specs.BaggageHeader.{header_of, Carries, IsBaggage}
+use Rattle.otel_base.specs.BaggageHeader.{header_of, IsBaggage}
 use Rattle.otel_base.proofs.BaggageRoundTrip.{header_carries}
 use Rattle.otel_base.proofs.propagation.baggage.BaggagePropagatorTextMapPropagator.inject_context.Goals as goal
 

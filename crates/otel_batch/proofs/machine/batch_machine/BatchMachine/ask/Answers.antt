@@ -1,7 +1,7 @@
-use Rattle.std.proofs.Common.{rules, arith, ◌≡◌, ℕ, ◌+◌, ◌∷◌, ◌++◌, [], ◌≤◌, ◌<◌, Some, true, false, refl, slice_get, slice_set, length}
+use Rattle.std.proofs.Common.{arith, ◌≡◌, Some, slice_get}
 use Rattle.std.proofs.lemmas.Grind.{common_steps}
-use Rattle.otel_batch.specs.declared.machine.state.Slot.TheVariants.{Idle, Refused, Asking, Posting, Resetting, Waiting, Answered, Holding}
-use Rattle.otel_batch.proofs.Soundness.{sound_slot, sound_may_post, sound_reset, sound_posted}
+use Rattle.otel_batch.specs.declared.machine.state.Slot.TheVariants.{Idle, Asking}
+use Rattle.otel_batch.proofs.Soundness.{sound_slot, sound_may_post}
 use Rattle.otel_batch.proofs.machine.batch_machine.BatchMachine.ask.Goals as goal
 
 pub invariant_of-self : goal.invariant_of-self

@@ -1,4 +1,4 @@
-use Rattle.std.proofs.Common.{rules, arith, ◌∙◌, ◌≡◌, ◌≤◌, ℕ, Ok, sum_by, slice_get, slice_set}
+use Rattle.std.proofs.Common.{arith, ◌∙◌, ◌≡◌, Ok, sum_by, slice_get, slice_set}
 use Rattle.std.proofs.lemmas.Option.{slice_get_within}
 use Rattle.otel_batch.specs.declared.machine.state.Slot.TheVariants.{Answered, Waiting}
 use Rattle.otel_batch.specs.Slots.{slot_waits}

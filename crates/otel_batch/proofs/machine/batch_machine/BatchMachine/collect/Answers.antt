@@ -1,4 +1,4 @@
-use Rattle.std.proofs.Common.{rules, arith, ◌≡◌, ℕ, Some, slice_get}
+use Rattle.std.proofs.Common.{arith}
 use Rattle.otel_batch.specs.declared.machine.state.Slot.TheVariants.{Idle, Answered}
 use Rattle.otel_batch.proofs.Soundness.{sound_slot}
 use Rattle.otel_batch.proofs.machine.batch_machine.BatchMachine.collect.Goals as goal

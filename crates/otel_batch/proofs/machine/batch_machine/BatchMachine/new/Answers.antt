@@ -1,10 +1,10 @@
-use Rattle.std.proofs.Common.{rules, arith, ◌≡◌, ◌∙◌, ◌≤◌, ap, sym, refl, ◌<◌, ◌^◌, [], replicate}
+use Rattle.std.proofs.Common.{arith, ◌≡◌, refl, ◌<◌, ◌^◌}
 use Rattle.std.proofs.lemmas.Grind.{common_steps}
 use Rattle.otel_batch.proofs.First.{first-sound}
 use Rattle.otel_batch.proofs.machine.batch_machine.BatchMachine.new.Goals as goal
 
-pub invariant_of-result : goal.invariant_of-result
-invariant_of-result g c =
+pub invariant_of-machine : goal.invariant_of-machine
+invariant_of-machine g c =
     let size : c.in_ok-with_capacity.field-0.capacity ≡ c.args.config.max_queue_size = grind (arith, common_steps) in
     let batch : c.max_export_batch_size-batch_size.result ≡ c.args.config.max_export_batch_size =
     c.max_export_batch_size-batch_size.ensures.value in

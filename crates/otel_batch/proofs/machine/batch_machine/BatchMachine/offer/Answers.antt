@@ -1,4 +1,4 @@
-use Rattle.std.proofs.Common.{rules, arith, ◌≡◌, ℕ, ◌+◌, Some, slice_get, slice_set, length}
+use Rattle.std.proofs.Common.{arith, ◌≡◌, ◌+◌, Some, slice_get, slice_set}
 use Rattle.std.proofs.lemmas.Grind.{common_steps}
 use Rattle.otel_batch.specs.declared.machine.state.Slot.TheVariants.{Idle, Holding}
 use Rattle.otel_batch.proofs.Soundness.{sound_slot}

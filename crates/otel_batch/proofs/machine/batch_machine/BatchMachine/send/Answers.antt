@@ -1,7 +1,7 @@
-use Rattle.std.proofs.Common.{rules, arith, ◌≡◌, ℕ, ◌+◌, ◌∷◌, ◌++◌, [], ◌≤◌, ◌<◌, Some, true, slice_get, slice_set, length, sum_by, length-append}
+use Rattle.std.proofs.Common.{arith, ◌≡◌, ◌+◌, ◌∷◌, ◌++◌, [], ◌<◌, Some, true, slice_get, length}
 use Rattle.std.proofs.lemmas.Grind.{common_steps}
 use Rattle.otel_batch.specs.Slots.{is_holding, slot_counts, slot_asks, slot_waits}
-use Rattle.otel_batch.specs.declared.machine.state.Slot.TheVariants.{Idle, Refused, Asking, Holding}
+use Rattle.otel_batch.specs.declared.machine.state.Slot.TheVariants.{Refused, Holding}
 use Rattle.otel_batch.proofs.SlotSums.{is_holding-slot}
 use Rattle.otel_batch.proofs.Soundness.{sound_slot}
 use Rattle.otel_batch.proofs.machine.batch_machine.BatchMachine.send.Goals as goal

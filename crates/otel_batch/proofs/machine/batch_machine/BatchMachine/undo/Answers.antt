@@ -1,7 +1,5 @@
-use Rattle.std.proofs.Common.{rules, arith, ◌≡◌, ℕ, ◌+◌, ◌≤◌, Some, slice_get, slice_set, length, sum_by}
+use Rattle.std.proofs.Common.{arith, ◌≡◌, ◌≤◌, Some, slice_get, slice_set}
 use Rattle.std.proofs.lemmas.Grind.{common_steps}
-use Rattle.otel_batch.specs.Slots.{slot_counts}
-use Rattle.otel_batch.specs.Workers.{worker_counts}
 use Rattle.otel_batch.specs.declared.machine.state.Slot.TheVariants.{Idle, Refused}
 use Rattle.otel_batch.proofs.SlotSums.{counts_slot}
 use Rattle.otel_batch.proofs.Soundness.{sound_slot}

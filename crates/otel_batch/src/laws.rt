@@ -1,0 +1,89 @@
+//! The laws of runs of the batch queue, over the definitions alone. Each function does nothing; its contract is the
+//! law, for every exporter. What `BatchMachine::step` promises of one step is a `Stepped`, which is a run of one step,
+//! and runs are joined: so a caller that takes its steps one at a time has of them all together what
+//! `BatchMachine::run` promises.
+
+ghost use Rattle.std.specs.Prelude.{◌≡◌, ℕ, List, [], ◌∷◌, ◌++◌, true, slice_get};
+ghost use Rattle.otel_batch.specs.MachineState.{Machine, Counts, counts};
+ghost use Rattle.otel_batch.specs.Slots.{slot_waits};
+ghost use Rattle.otel_batch.specs.Workers.{is_gone};
+ghost use Rattle.otel_batch.specs.SoundMachine.{IsSound};
+ghost use Rattle.otel_batch.specs.MachineRun.{Run, Stepped, accepted, batch_sizes, counted_up, full_sends, holds_at};
+ghost use Rattle.otel_batch.specs.Conservation.{Conserves, IsFirst, LosesNoSpan};
+ghost use Rattle.otel_batch.specs.KnownRequests.{KnowsRequests};
+ghost use Rattle.otel_batch.specs.ShutdownSilence.{SilentAfterShutdown, StaysSilent};
+ghost use Rattle.otel_batch.specs.Drains.{BoundsDrains, CompletesDrains, FitBatches, largest_batch};
+ghost use Rattle.otel_batch.specs.declared.machine.step.Outcome.{Outcome};
+ghost use Rattle.otel_batch.specs.declared.machine.step.Step.{Step};
+
+use crate::trace::SpanExporter;
+
+/// A step is a run of one step.
+pub fn a_step_is_a_run<E: SpanExporter>()
+    ensures { (s t : Machine E) (x : Step) (o : Outcome)
+        → Stepped E.SpanExporter s x o t → Run E.SpanExporter s (x ∷ []) (o ∷ []) t }
+{}
+
+/// A run and one that goes on where it ended are one run.
+pub fn runs_are_joined<E: SpanExporter>()
+    ensures { (s m t : Machine E) (xs ys : List Step) (os ps : List Outcome)
+        → Run E.SpanExporter s xs os m → Run E.SpanExporter m ys ps t
+        → Run E.SpanExporter s (xs ++ ys) (os ++ ps) t }
+{}
+
+/// A run from a machine that keeps its invariants ends in one that does.
+pub fn runs_stay_sound<E: SpanExporter>()
+    ensures { (s t : Machine E) (xs : List Step) (os : List Outcome)
+        → IsSound (counts s) → Run E.SpanExporter s xs os t → IsSound (counts t) }
+{}
+
+/// What was in hand and waited, followed by what a run accepted, was handed over, is in hand or waits, in order and
+/// each once. From a new machine on that is what it accepted alone.
+pub fn runs_lose_no_span<E: SpanExporter>()
+    ensures any { (s t : Machine E) (xs : List Step) (os : List Outcome)
+        → Run E.SpanExporter s xs os t
+        → Conserves E.SpanExporter s (accepted (holds_at s.control.slots) xs os) (batch_sizes os) t }
+    ensures new { (s t : Machine E) (xs : List Step) (os : List Outcome)
+        → IsFirst s → Run E.SpanExporter s xs os t → LosesNoSpan E.SpanExporter s xs os t }
+{}
+
+/// Each send that met a full queue is counted, up to the greatest `u64`.
+pub fn runs_count_full_sends<E: SpanExporter>()
+    ensures { (s t : Machine E) (xs : List Step) (os : List Outcome)
+        → IsSound (counts s) → Run E.SpanExporter s xs os t
+        → t.control.dropped ≡ counted_up s.control.dropped (full_sends xs os) }
+{}
+
+/// A finished drain that found memory handed over all that waited at its load, and all that was there before.
+pub fn runs_complete_drains<E: SpanExporter>()
+    ensures { (s t : Machine E) (xs : List Step) (os : List Outcome)
+        → IsSound (counts s) → Run E.SpanExporter s xs os t → CompletesDrains E.SpanExporter s xs os t }
+{}
+
+/// A drain takes a bounded number of the worker's steps, and no batch is empty or too large.
+pub fn runs_bound_drains<E: SpanExporter>()
+    ensures bounded { (s t : Machine E) (xs : List Step) (os : List Outcome)
+        → IsSound (counts s) → Run E.SpanExporter s xs os t → BoundsDrains s.control xs os }
+    ensures batches { (s t : Machine E) (xs : List Step) (os : List Outcome)
+        → IsSound (counts s) → Run E.SpanExporter s xs os t → FitBatches (largest_batch s.control) (batch_sizes os) }
+{}
+
+/// Each request is in the control queue or with the worker, up to the step that answers it.
+pub fn runs_lose_no_request<E: SpanExporter>()
+    ensures { (s t : Machine E) (xs : List Step) (os : List Outcome)
+        → IsSound (counts s) → Run E.SpanExporter s xs os t → KnowsRequests E.SpanExporter s xs os t }
+{}
+
+/// Once the worker is gone nobody waits for an answer.
+pub fn nobody_waits_once_the_worker_is_gone()
+    ensures { (s : Counts) → IsSound s → is_gone s.control.worker ≡ true → (p : ℕ)
+        → slot_waits (slice_get s.control.slots p) ≡ 0 }
+{}
+
+/// Nothing follows a shutdown: neither one in the run nor one before it.
+pub fn runs_are_silent_behind_a_shutdown<E: SpanExporter>()
+    ensures within { (s t : Machine E) (xs : List Step) (os : List Outcome)
+        → Run E.SpanExporter s xs os t → SilentAfterShutdown E.SpanExporter s xs os t }
+    ensures before { (s t : Machine E) (xs : List Step) (os : List Outcome)
+        → IsSound (counts s) → Run E.SpanExporter s xs os t → s.control.closed ≡ true → StaysSilent s os t }
+{}
