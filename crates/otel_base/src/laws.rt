@@ -76,7 +76,8 @@ pub fn larger_ratios_sample_more()
 
 /// The low half of a trace id decides alone whether a ratio samples the trace.
 pub fn low_halves_decide()
-    ensures { (r : PlainRatio) (one other : ℕ) → low_half one ≡ low_half other → samples r one ≡ samples r other }
+    ensures { (r : PlainRatio) (one other : ℕ) → low_half one ≡ low_half other
+        → samples r one ≡ samples r other }
 {}
 
 /// A text of `traceparent` says one span context at most.

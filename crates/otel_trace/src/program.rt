@@ -118,8 +118,8 @@ pub fn run_program<R: Read, W: Write, F: Write>(
         StepsSized sizes (R.remaining input.old) (R.remaining input.new)
         None (W.contents output.old) (W.contents output.new)
         × (faults.new ≡ faults.old) }
-    ensures steps_bad_line { (sizes : Sizes) → AsksForSteps (map string_bytes words.now) sizes → result ≡ 2 → (line : ℕ)
-        × StepsSized sizes (R.remaining input.old) (R.remaining input.new)
+    ensures steps_bad_line { (sizes : Sizes) → AsksForSteps (map string_bytes words.now) sizes → result ≡ 2
+        → (line : ℕ) × StepsSized sizes (R.remaining input.old) (R.remaining input.new)
         (Some line) (W.contents output.old) (W.contents output.new)
         × Appends (F.contents faults.old) (F.contents faults.new) (bad_line_text line) }
 {
@@ -296,7 +296,8 @@ fn write_outcome<W: Write, F: Write>(
     ensures done { result ≡ 0 → (outcome.has_failed ≡ false) × (outcome.bad_line ≡ None)
         × Appends (W.contents output.old) (W.contents output.new) outcome.text.items
         × (faults.new ≡ faults.old) }
-    ensures bad_line { result ≡ 2 → (outcome.has_failed ≡ false) × ((line : ℕ) × (outcome.bad_line ≡ Some line)
+    ensures bad_line { result ≡ 2 → (outcome.has_failed ≡ false) × ((line : ℕ)
+        × (outcome.bad_line ≡ Some line)
         × Appends (W.contents output.old) (W.contents output.new) outcome.text.items
         × Appends (F.contents faults.old) (F.contents faults.new) (bad_line_text line)) }
 {

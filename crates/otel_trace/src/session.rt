@@ -406,7 +406,8 @@ fn event_without_attributes(alloc: Global, name: String, moment: Moment) -> Span
 
 /// The edit that sets an attribute whose value is a text.
 fn text_attribute(key: String, value: String) -> SpanEdit
-    ensures { plain_edit result ≡ set_attribute (record { key = string_bytes key; value = text (string_bytes value) }) }
+    ensures { plain_edit result
+        ≡ set_attribute (record { key = string_bytes key; value = text (string_bytes value) }) }
 {
     SpanEdit::SetAttribute(KeyValue::new(Key::new(key), Value::String(value)))
 }

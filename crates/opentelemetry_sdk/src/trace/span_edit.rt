@@ -36,7 +36,8 @@ impl SpanEdit {
         ensures ok { OnOk result (recorded.new ≡ history.edited_if limits (plain_edit self) recorded.old) }
         ensures err { OnErr result (recorded.new ≡ recorded.old) }
         ensures free { IsNone recorded.old → IsOk result }
-        ensures full { IfSome recorded.old (λ kept. history.KeepsNoMore limits (plain_edit self) kept → IsOk result) }
+        ensures full { IfSome recorded.old
+            (λ kept. history.KeepsNoMore limits (plain_edit self) kept → IsOk result) }
     {
         match recorded {
             Some(recorded) => self.apply(recorded, limits),

@@ -39,17 +39,20 @@ pub trait SpanProcessor: Drop {
     ghost told: { Self → ProcessorTelling } = { λ _. silent };
 
     /// What a start does: the processor and the span before it, the context, the span and the processor after it.
-    ghost start_gives: { Self → PlainSpan → PlainContext → PlainSpan → Self → Type 0 } = { λ _ _ _ _ _. Unit {0} };
+    ghost start_gives: { Self → PlainSpan → PlainContext → PlainSpan
+        → Self → Type 0 } = { λ _ _ _ _ _. Unit {0} };
 
     /// What an end does: the processor before it, the span's data, the answer, and the processor after it.
-    ghost end_gives: { Self → PlainSpanData → Result (Unit {0}) AllocError → Self → Type 0 } = { λ _ _ _ _. Unit {0} };
+    ghost end_gives: { Self → PlainSpanData → Result (Unit {0}) AllocError
+        → Self → Type 0 } = { λ _ _ _ _. Unit {0} };
 
     /// What a flush does.
     ghost flush_gives: { Self → Result (Unit {0}) OTelSdkError → Self → Type 0 } = { λ _ _ _. Unit {0} };
 
     /// What a shutdown does: the processor before it, the timeout in nanoseconds, the answer, and the processor after
     /// it.
-    ghost shutdown_gives: { Self → ℕ → Result (Unit {0}) OTelSdkError → Self → Type 0 } = { λ _ _ _ _. Unit {0} };
+    ghost shutdown_gives: { Self → ℕ → Result (Unit {0}) OTelSdkError
+        → Self → Type 0 } = { λ _ _ _ _. Unit {0} };
 
     /// What it does with the resource, where it does anything: the processor before it, the resource, the answer, and
     /// the processor after it.

@@ -83,7 +83,8 @@ impl SdkTracer {
         ensures shut { IsTrue provider.old.is_shut → IsOk result }
 
         // A span that is dropped takes no memory.
-        ensures dropped { Drops S.ShouldSample provider.old (named_builder (string_bytes name)) root_cx → IsOk result }
+        ensures dropped { Drops S.ShouldSample provider.old (named_builder (string_bytes name)) root_cx
+            → IsOk result }
     {
         self.build_with_context(self.span_builder(name), &self.root, provider, now)
     }

@@ -276,7 +276,8 @@ fn built_in(
     decision: SamplingDecision,
     active: Option<&SpanContext>,
 ) -> Result<SamplingResult, AllocError>
-    ensures value { IfOk result (λ answer. answer ≡ built_in decision (option_map (λ span. span.now) active.entry)) }
+    ensures value { IfOk result
+        (λ answer. answer ≡ built_in decision (option_map (λ span. span.now) active.entry)) }
     ensures infallible { passed_trace_state (option_map (λ span. span.now) active.entry) ≡ [] → IsOk result }
 {
     let trace_state = match active {

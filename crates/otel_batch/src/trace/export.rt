@@ -27,7 +27,8 @@ pub trait SpanExporter: Drop {
 
     /// What a shutdown does, where it does anything: the exporter before it, the timeout in nanoseconds, the answer,
     /// and the exporter after it.
-    ghost shutdown_gives: { Self → ℕ → Result (Unit {0}) OTelSdkError → Self → Type 0 } = { λ _ _ _ _. Unit {0} };
+    ghost shutdown_gives: { Self → ℕ → Result (Unit {0}) OTelSdkError
+        → Self → Type 0 } = { λ _ _ _ _. Unit {0} };
 
     /// What a flush does, where it does anything.
     ghost flush_gives: { Self → Result (Unit {0}) OTelSdkError → Self → Type 0 } = { λ _ _ _. Unit {0} };
