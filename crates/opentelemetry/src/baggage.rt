@@ -9,8 +9,6 @@ ghost use Rattle.opentelemetry.specs.Baggage.{BreaksLimit, IsWithinLimits, HasDi
 
 pub(crate) mod entries;
 pub mod iter;
-#[cfg(test)]
-mod tests;
 
 use entries::Entries;
 pub use iter::Iter;

@@ -6,8 +6,6 @@ ghost use Rattle.std.specs.Option.{option_copied};
 ghost use Rattle.std.specs.Cow.{cow_str_bytes, IsBorrowedStr};
 ghost use Rattle.opentelemetry.specs.PlainValues.{plain_value};
 
-#[cfg(test)]
-mod attribute_tests;
 mod display;
 
 use std::alloc::{AllocError, Global};

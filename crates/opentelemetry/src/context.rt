@@ -4,9 +4,6 @@
 ghost use Rattle.std.specs.Prelude.{◌≡◌, ◌↔◌, [], None, Some, true, false, IsTrue, IsSome, IfOk, unwrap_or};
 ghost use Rattle.opentelemetry.specs.PlainContexts.{active_span_context, empty_span_context};
 
-#[cfg(test)]
-mod tests;
-
 use crate::baggage::Baggage;
 use crate::trace::SpanContext;
 use std::alloc::AllocError;

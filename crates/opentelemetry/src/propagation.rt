@@ -9,8 +9,6 @@ ghost use Rattle.opentelemetry.specs.Carrier.{Texts, Injection, SetsText, SameTe
 ghost use Rattle.opentelemetry.specs.Plain.{PlainContext};
 
 pub mod map_carrier;
-#[cfg(test)]
-mod tests;
 
 use crate::Context;
 pub use map_carrier::MapCarrier;

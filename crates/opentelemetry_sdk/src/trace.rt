@@ -16,6 +16,3 @@ pub use span::Span;
 pub use span_edit::SpanEdit;
 pub use span_processor::SpanProcessor;
 pub use tracer::SdkTracer;
-
-#[cfg(test)]
-mod tests;

@@ -9,9 +9,6 @@ use std::error::Error;
 use std::fmt;
 use std::time::Duration;
 
-#[cfg(test)]
-mod tests;
-
 /// Why a call of an exporter, a processor or a provider failed.
 #[derive(Debug, Drop, PartialEq, Eq)]
 pub enum OTelSdkError {

@@ -22,8 +22,6 @@ mod attributes;
 mod detector;
 mod env;
 mod telemetry;
-#[cfg(test)]
-mod tests;
 
 pub use detector::ResourceDetector;
 pub use env::{EnvResourceDetector, ResourceStrings, SdkProvidedResourceDetector};

@@ -15,6 +15,3 @@ mod worker_steps;
 pub use batch_machine::BatchMachine;
 pub use state::{Message, Request, Slot, Why, Worker};
 pub use step::{Outcome, Step};
-
-#[cfg(test)]
-mod tests;

@@ -5,9 +5,6 @@ ghost use Rattle.std.specs.Option.{option_eq};
 ghost use Rattle.opentelemetry.specs.PlainSpanBuilder.{named_builder};
 ghost use Rattle.opentelemetry.specs.SameBuilder.{same_kind, kind_place};
 
-#[cfg(test)]
-mod tests;
-
 use crate::trace::{Event, Link, SpanKind};
 use crate::{KeyValue, Moment};
 use std::alloc::AllocError;

@@ -96,6 +96,3 @@ fn batch_of(alloc: Global, span: SpanData) -> Result<Vec<SpanData>, AllocError>
     batch.push(span)?;
     Ok(batch)
 }
-
-#[cfg(test)]
-mod tests;

@@ -297,6 +297,3 @@ impl Span {
         } = self;
     }
 }
-
-#[cfg(test)]
-mod tests;

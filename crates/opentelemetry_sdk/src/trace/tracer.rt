@@ -283,6 +283,3 @@ fn begin(
     };
     Ok(Span::recording(span_context, recorded, span_limits))
 }
-
-#[cfg(test)]
-mod tests;

@@ -6,8 +6,6 @@ ghost use Rattle.otel_base.specs.BaggageHeader.{Carries, InjectsBaggage, IsCarri
 
 mod pieces;
 mod read;
-#[cfg(test)]
-mod tests;
 mod write;
 
 use opentelemetry::Context;

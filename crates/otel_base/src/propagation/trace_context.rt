@@ -9,9 +9,6 @@ ghost use Rattle.opentelemetry.specs.Plain.{PlainSpanContext};
 ghost use Rattle.otel_base.specs.Traceparent.{hyphen, span_of, traceparent_of, CarriesSpan, InjectsTraceContext};
 ghost use Rattle.otel_base.specs.Traceparent.{IsTraceparent, IsValid, MayFollow, SaysState};
 
-#[cfg(test)]
-mod tests;
-
 use opentelemetry::laws::span_contexts_fit;
 use opentelemetry::propagation::{Extractor, FieldIter, Injector, TextMapPropagator};
 use opentelemetry::trace::{SpanContext, TraceState, TraceStateError};

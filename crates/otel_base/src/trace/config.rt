@@ -8,9 +8,6 @@ ghost use Rattle.otel_base.specs.Config.{AreConfiguredLimits, IsConfigOf, IsConf
 ghost use Rattle.otel_base.specs.ConfigStrings.{IsConfiguredNumber, IsConfiguredRatio};
 ghost use Rattle.otel_base.specs.Sampler.{parent_based, plan};
 
-#[cfg(test)]
-mod tests;
-
 use crate::resource::{Resource, ResourceStrings};
 use crate::trace::{IdSource, RandomIdGenerator, Ratio, Sampler, SpanLimits};
 use std::alloc::{AllocError, Global};

@@ -6,9 +6,6 @@ ghost use Rattle.std.specs.Prelude.{◌≡◌, ℕ};
 ghost use Rattle.rand_xoshiro.specs.SplitMix64.{splitmix_seed};
 ghost use Rattle.rand_xoshiro.specs.Xoshiro256.{of_seed};
 
-#[cfg(test)]
-mod tests;
-
 use opentelemetry::{SpanId, TraceId};
 use rand_core::SeedableRng;
 use rand_core::utils::NextWord;

@@ -5,9 +5,6 @@ ghost use Rattle.std.specs.Prelude.{◌≡◌, ◌≢◌, ◌+◌, ◌*◌, ◌^
 ghost use Rattle.std.specs.Str.Parse.{AllDigits, digits_value_after};
 ghost use Rattle.otel_base.specs.Ratio.{PlainRatio, IsDecimal, IsRatioText, WritesRatio, low_half, samples};
 
-#[cfg(test)]
-mod tests;
-
 use opentelemetry::TraceId;
 use std::marker::Model;
 use thiserror::Error;

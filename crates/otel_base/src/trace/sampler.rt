@@ -7,9 +7,6 @@ ghost use Rattle.otel_base.specs.Sampling.{PlainSamplingResult, SamplingQuestion
 ghost use Rattle.otel_base.specs.Sampler.{IsTryOf, active_in, built_in, has_custom, has_delegate, passed_trace_state};
 ghost use Rattle.otel_base.specs.Sampler.{plan, ratio_decision};
 
-#[cfg(test)]
-mod tests;
-
 use crate::trace::Ratio;
 use opentelemetry::trace::{Link, SpanContext, SpanKind, TraceState};
 use opentelemetry::{Context, KeyValue, TraceId};

@@ -7,9 +7,6 @@ ghost use Rattle.std.specs.Option.{option_map};
 ghost use Rattle.otel_base.specs.ConfigStrings.{IsConfiguredNumber};
 ghost use Rattle.otel_batch.specs.PlainBatchConfig.{IsConfiguredTime, IsBatchConfigOf, cut_to_queue};
 
-#[cfg(test)]
-mod tests;
-
 use otel_base::trace::BatchStrings;
 use std::marker::Model;
 use std::time::Duration;

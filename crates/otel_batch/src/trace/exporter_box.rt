@@ -75,6 +75,3 @@ impl<M: SpanExporter, C: SpanExporter> SpanExporter for ExporterOf<M, C> {
         }
     }
 }
-
-#[cfg(test)]
-mod tests;

@@ -127,6 +127,3 @@ impl Eq for SpanData {
 
     ghost laws = { equivalence_from_decides same_span_data same_span_data_decides };
 }
-
-#[cfg(test)]
-mod tests;

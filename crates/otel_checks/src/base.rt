@@ -1,0 +1,10 @@
+//! Tests of `otel_base`.
+
+mod baggage;
+mod config;
+mod error;
+mod id_generator;
+mod ratio;
+mod resource;
+mod sampler;
+mod trace_context;

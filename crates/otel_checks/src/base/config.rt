@@ -1,0 +1,132 @@
+//! What strings configure: samplers by name, ratios and limits.
+
+use otel_base::trace::{Config, ConfigStrings, Ratio, Sampler};
+use std::alloc::{AllocError, Global};
+use std::test::Fail;
+
+/// A sampler in words of its own.
+#[derive(Clone, Copy, Debug, PartialEq)]
+enum Shape {
+    On,
+    Off,
+    Ratio(Ratio),
+    Custom,
+    OverOn,
+    OverOff,
+    OverRatio(Ratio),
+    OverOther,
+}
+
+fn shape_of(sampler: &Sampler) -> Shape {
+    match sampler {
+        Sampler::AlwaysOn => Shape::On,
+        Sampler::AlwaysOff => Shape::Off,
+        Sampler::TraceIdRatioBased(ratio) => Shape::Ratio(*ratio),
+        Sampler::Custom(_) => Shape::Custom,
+        Sampler::ParentBased(delegate) => match &**delegate {
+            Sampler::AlwaysOn => Shape::OverOn,
+            Sampler::AlwaysOff => Shape::OverOff,
+            Sampler::TraceIdRatioBased(ratio) => Shape::OverRatio(*ratio),
+            _ => Shape::OverOther,
+        },
+    }
+}
+
+fn text(alloc: Global, given: Option<&str>) -> Result<Option<String>, AllocError> {
+    match given {
+        Some(given) => Ok(Some(String::from_str(alloc, given)?)),
+        None => Ok(None),
+    }
+}
+
+fn configured_shape(
+    alloc: Global,
+    sampler: Option<&str>,
+    argument: Option<&str>,
+) -> Result<Shape, AllocError> {
+    let strings = ConfigStrings {
+        sampler: text(alloc, sampler)?,
+        sampler_arg: text(alloc, argument)?,
+        ..ConfigStrings::default()
+    };
+    let config = Config::from_strings(alloc, &strings, 0)?;
+    Ok(shape_of(&config.sampler))
+}
+
+#[test]
+fn names_configure_samplers(rt: HostRuntime) -> Result<(), Fail> {
+    let quarter = Ratio::new(25, 100)?;
+    let all = Ratio::new(1, 1)?;
+    let cases = [
+        (None, None, Shape::OverOn),
+        (Some("always_on"), None, Shape::On),
+        (Some("always_off"), Some("0.25"), Shape::Off),
+        (Some("traceidratio"), Some("0.25"), Shape::Ratio(quarter)),
+        (Some("traceidratio"), None, Shape::Ratio(all)),
+        (Some("traceidratio"), Some("1e-3"), Shape::Ratio(all)),
+        (Some("traceidratio"), Some(""), Shape::Ratio(all)),
+        (Some("parentbased_always_on"), None, Shape::OverOn),
+        (Some("parentbased_always_off"), None, Shape::OverOff),
+        (
+            Some("parentbased_traceidratio"),
+            Some("0.25"),
+            Shape::OverRatio(quarter),
+        ),
+        (Some("always_on "), None, Shape::OverOn),
+        (Some(""), None, Shape::OverOn),
+    ];
+    for (sampler, argument, shape) in cases {
+        assert!(rt; configured_shape(rt.alloc(), sampler, argument)? == shape);
+    }
+    Ok(())
+}
+
+fn configured_attributes(alloc: Global, limit: Option<&str>) -> Result<u32, AllocError> {
+    let strings = ConfigStrings {
+        attribute_count_limit: text(alloc, limit)?,
+        ..ConfigStrings::default()
+    };
+    let config = Config::from_strings(alloc, &strings, 0)?;
+    Ok(config.span_limits.max_attributes_per_span)
+}
+
+#[test]
+fn numbers_configure_limits(rt: HostRuntime) -> Result<(), Fail> {
+    let cases = [
+        (None, 128),
+        (Some("7"), 7),
+        (Some("+7"), 7),
+        (Some("007"), 7),
+        (Some("0"), 0),
+        (Some("4294967295"), 4_294_967_295),
+        (Some("4294967296"), 128),
+        (Some(" 7"), 128),
+        (Some("-7"), 128),
+        (Some("++7"), 128),
+        (Some("+"), 128),
+        (Some(""), 128),
+    ];
+    for (limit, attributes) in cases {
+        assert_eq!(rt; configured_attributes(rt.alloc(), limit)?, attributes);
+    }
+    Ok(())
+}
+
+#[test]
+fn each_limit_has_a_string_of_its_own(rt: HostRuntime) -> Result<(), Fail> {
+    let alloc = rt.alloc();
+    let strings = ConfigStrings {
+        attribute_count_limit: text(alloc, Some("1"))?,
+        event_count_limit: text(alloc, Some("2"))?,
+        link_count_limit: text(alloc, Some("3"))?,
+        ..ConfigStrings::default()
+    };
+    let config = Config::from_strings(alloc, &strings, 0)?;
+    let limits = config.span_limits;
+    assert_eq!(rt; limits.max_attributes_per_span, 1);
+    assert_eq!(rt; limits.max_events_per_span, 2);
+    assert_eq!(rt; limits.max_links_per_span, 3);
+    assert_eq!(rt; limits.max_attributes_per_event, 128);
+    assert_eq!(rt; limits.max_attributes_per_link, 128);
+    Ok(())
+}

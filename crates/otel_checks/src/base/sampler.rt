@@ -1,0 +1,260 @@
+//! Samplers over parents, a custom one whose answers are its own, and copies of trees.
+
+use opentelemetry::trace::{Link, SpanContext, SpanKind, TraceState};
+use opentelemetry::{Context, Key, KeyValue, SpanId, TraceFlags, TraceId, Value};
+use otel_base::trace::{Ratio, Sampler, SamplingDecision, SamplingResult, ShouldSample};
+use std::alloc::{AllocError, Global};
+use std::test::Fail;
+
+/// Records without sampling, adds an attribute, and has a trace state of its own. It refuses spans without a name.
+#[derive(Drop)]
+struct Own {
+    alloc: Global,
+}
+
+fn own_answer(alloc: Global) -> Result<SamplingResult, AllocError> {
+    let key = Key::new(String::from_str(alloc, "sampler")?);
+    let mut attributes = Vec::new(alloc);
+    attributes.push(KeyValue::new(key, Value::I64(7)))?;
+    let trace_state = match TraceState::from_str(alloc, "own=1") {
+        Ok(trace_state) => trace_state,
+        Err(_) => return Err(AllocError),
+    };
+    Ok(SamplingResult {
+        decision: SamplingDecision::RecordOnly,
+        attributes: Some(attributes),
+        trace_state,
+    })
+}
+
+impl ShouldSample for Own {
+    fn should_sample(
+        &self,
+        _parent_context: Option<&Context>,
+        _trace_id: TraceId,
+        name: &str,
+        _span_kind: &SpanKind,
+        _attributes: &[KeyValue],
+        _links: &[Link],
+    ) -> Result<SamplingResult, AllocError> {
+        if name.is_empty() {
+            return Err(AllocError);
+        }
+        own_answer(self.alloc)
+    }
+}
+
+fn parent_of(alloc: Global, trace_flags: TraceFlags) -> Result<Context, Fail> {
+    let span_context = SpanContext::new(
+        TraceId::from(1),
+        SpanId::from(1),
+        trace_flags,
+        true,
+        TraceState::from_str(alloc, "foo=bar")?,
+    );
+    Ok(Context::new().with_span_context(span_context)?)
+}
+
+fn ask(
+    sampler: &Sampler,
+    parent_context: Option<&Context>,
+    name: &str,
+) -> Result<SamplingResult, AllocError> {
+    sampler.should_sample(
+        parent_context,
+        TraceId::from(1),
+        name,
+        &SpanKind::Internal,
+        &[],
+        &[],
+    )
+}
+
+fn without_attributes(
+    alloc: Global,
+    decision: SamplingDecision,
+    trace_state: &str,
+) -> Result<SamplingResult, Fail> {
+    Ok(SamplingResult {
+        decision,
+        attributes: Some(Vec::new(alloc)),
+        trace_state: TraceState::from_str(alloc, trace_state)?,
+    })
+}
+
+fn over(alloc: Global, delegate: Sampler) -> Result<Sampler, AllocError> {
+    Ok(Sampler::ParentBased(Box::new(alloc, delegate)?))
+}
+
+#[test]
+fn decides_by_the_parent_and_passes_its_trace_state_on(rt: HostRuntime) -> Result<(), Fail> {
+    let on = SamplingDecision::RecordAndSample;
+    let off = SamplingDecision::Drop;
+    let sampled = parent_of(rt.alloc(), TraceFlags::SAMPLED)?;
+    let dropped = parent_of(rt.alloc(), TraceFlags::new(0xfe))?;
+    let no_span = Context::new();
+    let empty_span = no_span.with_span_context(SpanContext::empty_context())?;
+    let over_on = over(rt.alloc(), Sampler::AlwaysOn)?;
+    let over_off = over(rt.alloc(), over(rt.alloc(), Sampler::AlwaysOff)?)?;
+    let cases = [
+        ("no parent context", None, on, off, ""),
+        ("no active span", Some(&no_span), on, off, ""),
+        ("the empty span context", Some(&empty_span), off, off, ""),
+        ("a sampled parent", Some(&sampled), on, on, "foo=bar"),
+        ("other flags alone", Some(&dropped), off, off, "foo=bar"),
+    ];
+    for (case, parent, from_over_on, from_over_off, state) in cases {
+        let answers = [
+            (ask(&Sampler::AlwaysOn, parent, "")?, on),
+            (ask(&Sampler::AlwaysOff, parent, "")?, off),
+            (ask(&over_on, parent, "")?, from_over_on),
+            (ask(&over_off, parent, "")?, from_over_off),
+        ];
+        for (answer, decision) in answers {
+            assert!(rt;
+                answer == without_attributes(rt.alloc(), decision, state)?,
+                "{case}"
+            );
+        }
+    }
+    Ok(())
+}
+
+/// What a sampler decides on a trace whose id has this low half.
+fn decision_on(
+    sampler: &Sampler,
+    parent_context: Option<&Context>,
+    low: u64,
+) -> Result<SamplingDecision, AllocError> {
+    let trace_id = TraceId::from(u128::from(low) | (5 << 64));
+    let answer = sampler.should_sample(
+        parent_context,
+        trace_id,
+        "",
+        &SpanKind::Internal,
+        &[],
+        &[],
+    )?;
+    Ok(answer.decision)
+}
+
+/// Whether a sampler samples that trace; none where it finds no memory.
+fn samples(sampler: &Sampler, parent_context: Option<&Context>, low: u64) -> Option<bool> {
+    let decision = decision_on(sampler, parent_context, low).ok()?;
+    Some(decision == SamplingDecision::RecordAndSample)
+}
+
+#[test]
+fn a_ratio_decides_by_the_trace_id_alone(rt: HostRuntime) -> Result<(), Fail> {
+    let sampled = parent_of(rt.alloc(), TraceFlags::SAMPLED)?;
+    let dropped = parent_of(rt.alloc(), TraceFlags::default())?;
+    let sampler = Sampler::TraceIdRatioBased(Ratio::new(1, 4)?);
+    for parent in [None, Some(&sampled), Some(&dropped)] {
+        assert_eq!(rt; samples(&sampler, parent, (1 << 62) - 1), Some(true));
+        assert_eq!(rt; samples(&sampler, parent, 1 << 62), Some(false));
+    }
+    Ok(())
+}
+
+#[test]
+fn a_ratio_decides_at_roots_where_parents_come_first(rt: HostRuntime) -> Result<(), Fail> {
+    let sampled = parent_of(rt.alloc(), TraceFlags::SAMPLED)?;
+    let dropped = parent_of(rt.alloc(), TraceFlags::default())?;
+    let sampler = over(rt.alloc(), Sampler::TraceIdRatioBased(Ratio::new(1, 4)?))?;
+    assert_eq!(rt; samples(&sampler, None, 1 << 62), Some(false));
+    assert_eq!(rt; samples(&sampler, Some(&sampled), 1 << 62), Some(true));
+    assert_eq!(rt; samples(&sampler, Some(&dropped), 0), Some(false));
+    Ok(())
+}
+
+/// Whether a sampler answers this in a context.
+fn answers_as(
+    sampler: &Sampler,
+    parent_context: Option<&Context>,
+    expected: &SamplingResult,
+) -> Result<bool, Fail> {
+    let answer = ask(sampler, parent_context, "GET")?;
+    Ok(&answer == expected)
+}
+
+#[test]
+fn a_custom_sampler_answers_whole(rt: HostRuntime) -> Result<(), Fail> {
+    let alloc = rt.alloc();
+    let sampler = Sampler::Custom(Box::new(alloc, Own { alloc })?);
+    let whole = own_answer(alloc)?;
+    let sampled = parent_of(alloc, TraceFlags::SAMPLED)?;
+    let no_span = Context::new();
+    for parent in [None, Some(&no_span), Some(&sampled)] {
+        assert!(rt; answers_as(&sampler, parent, &whole)?);
+    }
+    Ok(())
+}
+
+#[test]
+fn the_decision_of_a_delegate_counts_alone(rt: HostRuntime) -> Result<(), Fail> {
+    let alloc = rt.alloc();
+    let sampler = over(alloc, Sampler::Custom(Box::new(alloc, Own { alloc })?))?;
+    let decision = without_attributes(alloc, SamplingDecision::RecordOnly, "")?;
+    let sampled = parent_of(alloc, TraceFlags::SAMPLED)?;
+    let no_span = Context::new();
+    for parent in [None, Some(&no_span)] {
+        assert!(rt; answers_as(&sampler, parent, &decision)?);
+    }
+    assert!(rt; !answers_as(&sampler, Some(&sampled), &decision)?);
+    Ok(())
+}
+
+#[test]
+fn a_custom_sampler_is_not_asked_under_a_parent(rt: HostRuntime) -> Result<(), Fail> {
+    let alloc = rt.alloc();
+    let sampled = parent_of(alloc, TraceFlags::SAMPLED)?;
+    let sampler = over(alloc, Sampler::Custom(Box::new(alloc, Own { alloc })?))?;
+    assert!(rt; ask(&sampler, None, "").is_err());
+    assert!(rt; ask(&sampler, Some(&sampled), "").is_ok());
+    Ok(())
+}
+
+#[test]
+fn a_clone_of_an_answer_is_equal(rt: HostRuntime) -> Result<(), Fail> {
+    let own = own_answer(rt.alloc())?;
+    assert!(rt; own.clone()? == own);
+    Ok(())
+}
+
+#[test]
+fn copies_trees_without_a_custom_sampler(rt: HostRuntime) -> Result<(), Fail> {
+    let alloc = rt.alloc();
+    let dropped = parent_of(alloc, TraceFlags::default())?;
+    let cases = [
+        ("always on", Sampler::AlwaysOn, true, true),
+        ("always off", Sampler::AlwaysOff, false, false),
+        ("parent-based", over(alloc, Sampler::AlwaysOn)?, true, false),
+        (
+            "twice parent-based",
+            over(alloc, over(alloc, Sampler::AlwaysOff)?)?,
+            false,
+            false,
+        ),
+    ];
+    for (case, sampler, at_root, under_dropped) in cases {
+        let Some(copy) = sampler.try_clone()? else {
+            return Err("no copy")?;
+        };
+        let root = ask(&copy, None, "")?;
+        assert_eq!(rt;
+            root.decision == SamplingDecision::RecordAndSample,
+            at_root,
+            "{case}"
+        );
+        let child = ask(&copy, Some(&dropped), "")?;
+        assert_eq!(rt;
+            child.decision == SamplingDecision::RecordAndSample,
+            under_dropped,
+            "{case}"
+        );
+    }
+    let custom = Sampler::Custom(Box::new(alloc, Own { alloc })?);
+    assert!(rt; custom.try_clone()?.is_none());
+    assert!(rt; over(alloc, over(alloc, custom)?)?.try_clone()?.is_none());
+    Ok(())
+}

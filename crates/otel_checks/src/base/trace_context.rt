@@ -1,0 +1,299 @@
+//! Tables of headers. `T` and `S` are the ids of the example in W3C Trace Context, section 3.2.3.
+
+use opentelemetry::propagation::{Extractor, Injector, MapCarrier, TextMapPropagator};
+use opentelemetry::trace::{SpanContext, TraceState};
+use opentelemetry::{Context, SpanId, TraceFlags, TraceId};
+use otel_base::propagation::TraceContextPropagator;
+use std::alloc::{AllocError, Global};
+use std::test::Fail;
+
+const T: u128 = 0x4bf92f3577b34da6a3ce929d0e0e4736;
+
+const S: u64 = 0x00f067aa0ba902b7;
+
+/// The context that is extracted from these headers. An absent one is not set.
+fn extracted(alloc: Global, parent: &str, state: Option<&str>) -> Result<Context, AllocError> {
+    let mut carrier = MapCarrier::new(alloc);
+    carrier.set("traceparent", String::from_str(alloc, parent)?)?;
+    if let Some(state) = state {
+        carrier.set("tracestate", String::from_str(alloc, state)?)?;
+    }
+    TraceContextPropagator::new().extract_with_context(alloc, &Context::new(), &carrier)
+}
+
+/// What is extracted, as `IDS FLAGS REMOTE STATE`; nothing where the context stays without a span.
+fn found(alloc: Global, parent: &str, state: Option<&str>) -> Result<String, AllocError> {
+    let cx = extracted(alloc, parent, state)?;
+    if !cx.has_active_span() {
+        return Ok(String::new(alloc));
+    }
+    shown(alloc, cx.span_context())
+}
+
+fn shown(alloc: Global, span_context: &SpanContext) -> Result<String, AllocError> {
+    let trace_id = span_context.trace_id();
+    let span_id = span_context.span_id();
+    let flags = span_context.trace_flags();
+    let remote = span_context.is_remote();
+    let state = span_context.trace_state().header(alloc)?;
+    format!(in alloc; "{trace_id}-{span_id} {flags} {remote} {state}")
+}
+
+/// A context with a span of the ids `T` and `S`.
+fn context_of(alloc: Global, flags: u8, state: &str) -> Result<Context, Fail> {
+    let state = TraceState::from_str(alloc, state)?;
+    let flags = TraceFlags::new(flags);
+    let span_context = SpanContext::new(TraceId::from(T), SpanId::from(S), flags, false, state);
+    Ok(Context::new().with_span_context(span_context)?)
+}
+
+/// What a carrier with an older trace state has after an injection.
+fn injected(alloc: Global, cx: &Context) -> Result<String, AllocError> {
+    let mut carrier = MapCarrier::new(alloc);
+    carrier.set("tracestate", String::from_str(alloc, "old=1")?)?;
+    TraceContextPropagator::new().inject_context(alloc, cx, &mut carrier)?;
+    let parent = carrier.get("traceparent").unwrap_or("none");
+    let state = carrier.get("tracestate").unwrap_or("none");
+    format!(in alloc; "{parent} {state}")
+}
+
+#[test]
+fn reads_every_version_that_there_can_be(rt: HostRuntime) -> Result<(), Fail> {
+    let cases = [
+        ("not sampled", "00-", "-00", "00"),
+        ("sampled", "00-", "-01", "01"),
+        ("other flags stay behind", "00-", "-09", "01"),
+        ("two flags", "00-", "-03", "01"),
+        ("a hyphen behind version 0", "00-", "-01-", "01"),
+        ("a later version", "02-", "-01", "01"),
+        ("a later version, not sampled", "02-", "-08", "00"),
+        ("a later version with other flags", "02-", "-09", "01"),
+        (
+            "a later version with more fields",
+            "02-",
+            "-09-XYZxsf09",
+            "01",
+        ),
+        ("a hyphen behind a later version", "01-", "-01-", "01"),
+        ("other flags and a hyphen", "01-", "-09-", "01"),
+        ("the last version", "fe-", "-01-a-b", "01"),
+        ("tabs around", "\t00-", "-01\t", "01"),
+        ("spaces around", "  00-", "-01 ", "01"),
+        ("no-break spaces around", "\u{a0}00-", "-01\u{a0}", "01"),
+    ];
+    for (case, version, tail, flags) in cases {
+        let ids = "4bf92f3577b34da6a3ce929d0e0e4736-00f067aa0ba902b7";
+        let text = format!(in rt.alloc(); "{version}{ids}{tail}")?;
+        let wanted = format!(in rt.alloc(); "{ids} {flags} true a=1")?;
+        let given = found(rt.alloc(), text.as_str(), Some("a=1"))?;
+        assert_eq!(rt; given.as_str(), wanted.as_str(), "{case}");
+    }
+    Ok(())
+}
+
+#[test]
+fn refuses_every_other_text(rt: HostRuntime) -> Result<(), Fail> {
+    let cases = [
+        ("an empty header", ""),
+        (
+            "a version of four digits",
+            "0000-00000000000000000000000000000000-0000000000000000-01",
+        ),
+        (
+            "a trace id of 34 digits",
+            "00-ab00000000000000000000000000000000-cd00000000000000-01",
+        ),
+        (
+            "a span id of 18 digits",
+            "00-ab000000000000000000000000000000-cd0000000000000000-01",
+        ),
+        (
+            "flags of four digits",
+            "00-ab000000000000000000000000000000-cd00000000000000-0100",
+        ),
+        (
+            "letters for a version",
+            "qw-00000000000000000000000000000000-0000000000000000-01",
+        ),
+        (
+            "letters for a trace id",
+            "00-qw000000000000000000000000000000-cd00000000000000-01",
+        ),
+        (
+            "letters for a span id",
+            "00-ab000000000000000000000000000000-qw00000000000000-01",
+        ),
+        (
+            "letters for flags",
+            "00-ab000000000000000000000000000000-cd00000000000000-qw",
+        ),
+        (
+            "an upper-case version",
+            "A0-4bf92f3577b34da6a3ce929d0e0e4736-00f067aa0ba902b7-01",
+        ),
+        (
+            "an upper-case trace id",
+            "00-AB000000000000000000000000000000-cd00000000000000-01",
+        ),
+        (
+            "an upper-case span id",
+            "00-ab000000000000000000000000000000-CD00000000000000-01",
+        ),
+        (
+            "upper-case flags",
+            "00-ab000000000000000000000000000000-cd00000000000000-A1",
+        ),
+        (
+            "ids of zeros",
+            "00-00000000000000000000000000000000-0000000000000000-01",
+        ),
+        (
+            "a trace id of zeros",
+            "00-00000000000000000000000000000000-00f067aa0ba902b7-01",
+        ),
+        (
+            "a span id of zeros",
+            "00-4bf92f3577b34da6a3ce929d0e0e4736-0000000000000000-01",
+        ),
+        (
+            "version ff",
+            "ff-4bf92f3577b34da6a3ce929d0e0e4736-00f067aa0ba902b7-01",
+        ),
+        (
+            "no flags",
+            "00-4bf92f3577b34da6a3ce929d0e0e4736-00f067aa0ba902b7",
+        ),
+        (
+            "empty flags",
+            "00-4bf92f3577b34da6a3ce929d0e0e4736-00f067aa0ba902b7-",
+        ),
+        (
+            "flags of one digit",
+            "00-4bf92f3577b34da6a3ce929d0e0e4736-00f067aa0ba902b7-1",
+        ),
+        (
+            "flags of three digits",
+            "00-4bf92f3577b34da6a3ce929d0e0e4736-00f067aa0ba902b7-010",
+        ),
+        (
+            "two hyphens behind",
+            "00-4bf92f3577b34da6a3ce929d0e0e4736-00f067aa0ba902b7-01--",
+        ),
+        (
+            "more behind version 0",
+            "00-4bf92f3577b34da6a3ce929d0e0e4736-00f067aa0ba902b7-01-x",
+        ),
+        (
+            "more without a hyphen",
+            "01-4bf92f3577b34da6a3ce929d0e0e4736-00f067aa0ba902b7-01x",
+        ),
+        (
+            "a plus sign",
+            "+0-4bf92f3577b34da6a3ce929d0e0e4736-00f067aa0ba902b7-01",
+        ),
+        (
+            "a space within",
+            "00-4bf92f3577b34da6a3ce929d0e0e4736 -00f067aa0ba902b7-01",
+        ),
+    ];
+    for (case, text) in cases {
+        assert_eq!(rt;
+            found(rt.alloc(), text, Some("a=1"))?.as_str(),
+            "",
+            "{case}"
+        );
+    }
+    Ok(())
+}
+
+#[test]
+fn an_unreadable_trace_state_counts_as_empty(rt: HostRuntime) -> Result<(), Fail> {
+    let cases = [
+        ("none", None, ""),
+        ("empty", Some(""), ""),
+        ("two equals signs", Some("a=b=c"), ""),
+        ("an upper-case key", Some("A=b"), ""),
+        (
+            "the example of W3C Trace Context",
+            Some("rojo=00f067aa0ba902b7,congo=t61rcWkgMzE"),
+            "rojo=00f067aa0ba902b7,congo=t61rcWkgMzE",
+        ),
+    ];
+    for (case, state, header) in cases {
+        let parent = "00-0af7651916cd43dd8448eb211c80319c-b7ad6b7169203331-01";
+        let ids = "0af7651916cd43dd8448eb211c80319c-b7ad6b7169203331";
+        let wanted = format!(in rt.alloc(); "{ids} 01 true {header}")?;
+        let given = found(rt.alloc(), parent, state)?;
+        assert_eq!(rt; given.as_str(), wanted.as_str(), "{case}");
+    }
+    Ok(())
+}
+
+#[test]
+fn sets_both_headers_of_a_valid_span_context(rt: HostRuntime) -> Result<(), Fail> {
+    let cases = [
+        ("all flags", 0xff, "foo=bar", "-01 foo=bar"),
+        ("no flags", 0, "foo=bar", "-00 foo=bar"),
+        ("no trace state", 1, "", "-01 "),
+    ];
+    for (case, flags, state, tail) in cases {
+        let ids = "00-4bf92f3577b34da6a3ce929d0e0e4736-00f067aa0ba902b7";
+        let wanted = format!(in rt.alloc(); "{ids}{tail}")?;
+        let cx = context_of(rt.alloc(), flags, state)?;
+        assert_eq!(rt;
+            injected(rt.alloc(), &cx)?.as_str(),
+            wanted.as_str(),
+            "{case}"
+        );
+    }
+    Ok(())
+}
+
+#[test]
+fn an_invalid_span_context_sets_nothing(rt: HostRuntime) -> Result<(), Fail> {
+    let cases = [
+        ("neither id", 0, 0),
+        ("no trace id", 0, S),
+        ("no span id", T, 0),
+    ];
+    for (case, trace, span) in cases {
+        let span_context = SpanContext::new(
+            TraceId::from(trace),
+            SpanId::from(span),
+            TraceFlags::SAMPLED,
+            false,
+            TraceState::new(),
+        );
+        let cx = Context::new().with_span_context(span_context)?;
+        assert_eq!(rt; injected(rt.alloc(), &cx)?.as_str(), "none old=1", "{case}");
+    }
+    assert_eq!(rt;
+        injected(rt.alloc(), &Context::new())?.as_str(),
+        "none old=1"
+    );
+    Ok(())
+}
+
+#[test]
+fn the_other_side_has_the_same_span_context(rt: HostRuntime) -> Result<(), Fail> {
+    let mut carrier = MapCarrier::new(rt.alloc());
+    let cx = context_of(rt.alloc(), 0xff, "foo=bar,a=b")?;
+    TraceContextPropagator::default().inject_context(rt.alloc(), &cx, &mut carrier)?;
+    let other = TraceContextPropagator::new().extract_with_context(
+        rt.alloc(),
+        &Context::new(),
+        &carrier,
+    )?;
+    let wanted = "4bf92f3577b34da6a3ce929d0e0e4736-00f067aa0ba902b7 01 true foo=bar,a=b";
+    assert_eq!(rt; shown(rt.alloc(), other.span_context())?.as_str(), wanted);
+    Ok(())
+}
+
+#[test]
+fn names_both_headers(rt: HostRuntime) -> Result<(), Fail> {
+    let mut fields = TraceContextPropagator::new().fields();
+    assert_eq!(rt; fields.next(), Some("traceparent"));
+    assert_eq!(rt; fields.next(), Some("tracestate"));
+    assert_eq!(rt; fields.next(), None);
+    Ok(())
+}

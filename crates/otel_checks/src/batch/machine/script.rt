@@ -1,0 +1,228 @@
+//! Scripts of the batch queue for tests: each line is a step and the outcome that it is to have, as the program's lines
+//! spell them.
+
+use opentelemetry::trace::{SpanContext, SpanKind, Status, TraceState};
+use opentelemetry::{InstrumentationScope, Moment, SpanId, TraceFlags, TraceId};
+use otel_base::resource::Resource;
+use otel_batch::machine::{BatchMachine, Outcome, Step};
+use otel_batch::trace::{
+    BatchConfig, BatchConfigBuilder, ExporterBox, ExporterOf, InMemorySpanExporter, SpanData,
+    SpanEvents, SpanLinks,
+};
+use std::alloc::{AllocError, Global};
+use std::test::Fail;
+
+/// A span of this name, with these flags.
+pub fn span(alloc: Global, name: &str, flags: u8) -> Result<SpanData, AllocError> {
+    Ok(SpanData {
+        span_context: SpanContext::new(
+            TraceId::from(1),
+            SpanId::from(2),
+            TraceFlags::new(flags),
+            false,
+            TraceState::new(),
+        ),
+        parent_span_id: SpanId::INVALID,
+        parent_span_is_remote: false,
+        span_kind: SpanKind::Internal,
+        name: String::from_str(alloc, name)?,
+        start_time: Moment(1),
+        end_time: Moment(2),
+        attributes: Vec::new(alloc),
+        dropped_attributes_count: 0,
+        events: SpanEvents::new(alloc),
+        links: SpanLinks::new(alloc),
+        status: Status::Unset,
+        instrumentation_scope: InstrumentationScope::builder(alloc, String::new(alloc)).build()?,
+    })
+}
+
+/// The sizes of a queue and of its batches.
+pub fn sizes(queue: usize, batch: usize) -> BatchConfig {
+    BatchConfigBuilder::default()
+        .with_max_queue_size(queue)
+        .with_max_export_batch_size(batch)
+        .build()
+}
+
+/// A machine in front of an exporter in memory.
+pub fn machine(
+    alloc: Global,
+    queue: usize,
+    batch: usize,
+    producers: usize,
+) -> Result<BatchMachine<ExporterBox>, AllocError> {
+    let exporter = ExporterBox::Memory(InMemorySpanExporter::new(alloc));
+    BatchMachine::new(alloc, exporter, sizes(queue, batch), producers)
+}
+
+/// The worker's step of this name.
+fn worker_step(name: &str) -> Option<Step> {
+    match name {
+        "take" => Some(Step::Take),
+        "tick" => Some(Step::Tick),
+        "clear" => Some(Step::Clear),
+        "load" => Some(Step::Load),
+        "pull" => Some(Step::Pull),
+        "hand" => Some(Step::HandOver),
+        "subtract" => Some(Step::Subtract),
+        "finish" => Some(Step::Finish),
+        "close" => Some(Step::Close),
+        _ => None,
+    }
+}
+
+/// The step of this name that a producer takes with nothing.
+fn bare_step(name: &str, producer: usize) -> Option<Step> {
+    match name {
+        "send" => Some(Step::Send(producer)),
+        "undo" => Some(Step::Undo(producer)),
+        "ask" => Some(Step::Ask(producer)),
+        "post" => Some(Step::Post(producer)),
+        "reset" => Some(Step::Reset(producer)),
+        "flush" => Some(Step::RequestFlush(producer)),
+        "shutdown" => Some(Step::RequestShutdown(producer)),
+        "collect" => Some(Step::Collect(producer)),
+        _ => None,
+    }
+}
+
+/// The step that a line spells.
+pub fn step_of(alloc: Global, line: &str) -> Result<Step, Fail> {
+    if let Some(step) = worker_step(line) {
+        return Ok(step);
+    }
+    let mut words = line.split(' ');
+    let name = words.next().unwrap_or("");
+    let producer = words.next().and_then(|word| word.parse().ok()).unwrap_or(0);
+    if let Some(step) = bare_step(name, producer) {
+        return Ok(step);
+    }
+    let span_name = words.next().unwrap_or("");
+    match name {
+        "offer" => Ok(Step::Offer(producer, span(alloc, span_name, 1)?)),
+        "offer-unsampled" => Ok(Step::Offer(producer, span(alloc, span_name, 2)?)),
+        "resource" => Ok(Step::PostResource(Resource::builder_empty(alloc).build())),
+        _ => Err(Fail::new("no such step")),
+    }
+}
+
+/// The text of an outcome that has nothing with it.
+fn bare_text(outcome: &Outcome) -> &'static str {
+    match outcome {
+        Outcome::Skipped => "skipped",
+        Outcome::Accepted => "accepted",
+        Outcome::Full => "full",
+        Outcome::Closed => "closed",
+        Outcome::Undone => "undone",
+        Outcome::AlreadyAsked => "already asked",
+        Outcome::MayPost => "may post",
+        Outcome::Posted => "posted",
+        Outcome::ResetDone => "reset",
+        Outcome::Requested => "requested",
+        Outcome::Nothing => "nothing",
+        Outcome::TookExport => "took export",
+        Outcome::TookResource => "took resource",
+        Outcome::Ticked => "ticked",
+        Outcome::Cleared => "cleared",
+        Outcome::Empty => "empty",
+        Outcome::Pulled => "pulled",
+        Outcome::NoMemory => "no memory",
+        Outcome::Subtracted => "subtracted",
+        Outcome::Finished(None) => "finished",
+        Outcome::ShutDown => "shut down",
+        _ => "not enabled",
+    }
+}
+
+/// The text of an outcome. That of a batch handed over has the exporter's error too.
+pub fn text_of(alloc: Global, outcome: &Outcome) -> Result<String, AllocError> {
+    match outcome {
+        Outcome::Counted(n) => format!(in alloc; "counted {n}"),
+        Outcome::Loaded(n) => format!(in alloc; "loaded {n}"),
+        Outcome::TookFlush(p) => format!(in alloc; "took flush {p}"),
+        Outcome::TookShutdown(p) => format!(in alloc; "took shutdown {p}"),
+        Outcome::Collected(Ok(())) => String::from_str(alloc, "collected ok"),
+        Outcome::Collected(Err(error)) => format!(in alloc; "collected {error}"),
+        Outcome::HandedOver(k, None) => format!(in alloc; "handed over {k}"),
+        Outcome::HandedOver(k, Some(error)) => format!(in alloc; "handed over {k} {error}"),
+        Outcome::Finished(Some(error)) => format!(in alloc; "finished {error}"),
+        _ => String::from_str(alloc, bare_text(outcome)),
+    }
+}
+
+/// The first line of a script whose step has another outcome, with that outcome; an empty text where there is none.
+pub fn first_difference(
+    alloc: Global,
+    machine: &mut BatchMachine<ExporterBox>,
+    script: &[(&str, &str)],
+) -> Result<String, Fail> {
+    for (line, wanted) in script {
+        let outcome = machine.step(step_of(alloc, line)?);
+        let text = text_of(alloc, &outcome)?;
+        if text.as_str() != *wanted {
+            return Ok(format!(in alloc; "{line}: {text}")?);
+        }
+    }
+    Ok(String::new(alloc))
+}
+
+/// The names of spans, joined by commas, between brackets.
+fn names(text: &mut String, spans: &[SpanData]) -> Result<(), AllocError> {
+    text.push_str("[")?;
+    for (place, span) in spans.iter().enumerate() {
+        if place > 0 {
+            text.push_str(",")?;
+        }
+        text.push_str(span.name.as_str())?;
+    }
+    text.push_str("]")
+}
+
+/// The names of the spans that wait.
+fn waiting_names(text: &mut String, machine: &BatchMachine<ExporterBox>) -> Result<(), AllocError> {
+    text.push_str("[")?;
+    for place in 0..machine.waiting_len() {
+        if place > 0 {
+            text.push_str(",")?;
+        }
+        if let Some(span) = machine.waiting(place) {
+            text.push_str(span.name.as_str())?;
+        }
+    }
+    text.push_str("]")
+}
+
+/// What waits, what is in hand, and the batches that the exporter kept.
+pub fn spans_text(
+    alloc: Global,
+    machine: &BatchMachine<ExporterBox>,
+) -> Result<String, AllocError> {
+    let mut text = String::from_str(alloc, "waiting ")?;
+    waiting_names(&mut text, machine)?;
+    text.push_str(" hand ")?;
+    names(&mut text, machine.hand())?;
+    text.push_str(" told")?;
+    if let ExporterOf::Memory(memory) = machine.exporter() {
+        for batch in memory.batches() {
+            text.push_str(" ")?;
+            names(&mut text, batch)?;
+        }
+    }
+    Ok(text)
+}
+
+/// The counter, the dropped count, and whether the machine is closed.
+pub fn counts_text(
+    alloc: Global,
+    machine: &BatchMachine<ExporterBox>,
+) -> Result<String, AllocError> {
+    let counter = machine.counter();
+    let dropped = machine.dropped_count();
+    let word = if machine.is_closed() {
+        "closed"
+    } else {
+        "open"
+    };
+    format!(in alloc; "counter {counter} dropped {dropped} {word}")
+}

@@ -1,0 +1,84 @@
+//! How often a start asks its sampler, which no clause says: it answers a question, and may count them.
+
+use opentelemetry::trace::{Link, SpanKind, TraceState};
+use opentelemetry::{Context, KeyValue, Moment, TraceId};
+use opentelemetry_sdk::trace::{ProviderOf, SimpleSpanProcessor};
+use otel_base::trace::{
+    RandomIdGenerator, SamplingDecision, SamplingResult, ShouldSample, SpanLimits,
+};
+use otel_batch::trace::InMemorySpanExporter;
+use std::alloc::{AllocError, Global};
+use std::cell::Cell;
+use std::test::Fail;
+
+/// Drops every span, and counts how often it is asked.
+#[derive(Drop)]
+struct CountingSampler<'a> {
+    asked: &'a Cell<u64>,
+}
+
+impl ShouldSample for CountingSampler<'_> {
+    fn should_sample(
+        &self,
+        _parent_context: Option<&Context>,
+        _trace_id: TraceId,
+        _name: &str,
+        _span_kind: &SpanKind,
+        _attributes: &[KeyValue],
+        _links: &[Link],
+    ) -> Result<SamplingResult, AllocError> {
+        self.asked.set(self.asked.get().saturating_add(1));
+        Ok(SamplingResult {
+            decision: SamplingDecision::Drop,
+            attributes: None,
+            trace_state: TraceState::new(),
+        })
+    }
+}
+
+type CountingProvider<'a> = ProviderOf<
+    SimpleSpanProcessor<InMemorySpanExporter>,
+    CountingSampler<'a>,
+    RandomIdGenerator,
+>;
+
+fn start_in(
+    alloc: Global,
+    cx: &Context,
+    provider: &mut CountingProvider<'_>,
+) -> Result<(), AllocError> {
+    let tracer = provider.tracer(String::new(alloc))?;
+    let span = tracer.start_with_context(String::new(alloc), cx, provider, Moment(1))?;
+    span.abandon();
+    Ok(())
+}
+
+/// Starts a span in a context, in one where telemetry is suppressed, and behind a shutdown.
+fn start_thrice(alloc: Global, provider: &mut CountingProvider<'_>) -> Result<(), AllocError> {
+    start_in(alloc, &Context::new(), provider)?;
+    start_in(
+        alloc,
+        &Context::new().with_telemetry_suppressed()?,
+        provider,
+    )?;
+    let _ = provider.shutdown();
+    start_in(alloc, &Context::new(), provider)
+}
+
+#[test]
+fn a_sampler_is_asked_once_and_only_at_an_open_start(rt: HostRuntime) -> Result<(), Fail> {
+    let alloc = rt.alloc();
+    let asked = Cell::new(0);
+    let sampler = CountingSampler { asked: &asked };
+    let mut provider = ProviderOf::from_parts(
+        Vec::new(alloc),
+        sampler,
+        RandomIdGenerator::new(0),
+        SpanLimits::default(),
+    );
+    let started = start_thrice(alloc, &mut provider);
+    let _ = provider.close();
+    started?;
+    assert_eq!(rt; asked.get(), 1);
+    Ok(())
+}

@@ -1,0 +1,124 @@
+//! An example: a processor of one's own in front of another one. It keeps back the spans that are marked, and hands on
+//! all else that it is asked.
+//!
+//! It tells nothing, which is what a processor does that says no more. Two relations say what its calls do, so that a
+//! provider over it promises as much: a start is the other one's start, and an end is the other one's end or leaves
+//! that as it was. `queueing_processor.rt` has a processor that tells.
+
+use opentelemetry::{Context, Key, KeyValue, Moment, Value};
+use opentelemetry_sdk::trace::{ProviderOf, SimpleSpanProcessor, Span, SpanProcessor};
+use otel_base::error::OTelSdkResult;
+use otel_base::resource::Resource;
+use otel_base::trace::{RandomIdGenerator, Sampler, SpanLimits};
+use otel_batch::trace::{InMemorySpanExporter, SpanData};
+use std::alloc::{AllocError, Global};
+use std::test::Fail;
+use std::time::Duration;
+
+/// The attribute that marks a span, where it is true.
+const MARK: &str = "example.drop";
+
+/// Keeps back the spans that are marked.
+#[derive(Drop)]
+struct FilteringProcessor<P> {
+    inner: P,
+}
+
+fn is_marked(span: &SpanData) -> bool {
+    for attribute in &span.attributes {
+        if attribute.key.as_str() == MARK && matches!(attribute.value, Value::Bool(true)) {
+            return true;
+        }
+    }
+    false
+}
+
+impl<P: SpanProcessor> SpanProcessor for FilteringProcessor<P> {
+    ghost use Rattle.std.specs.Prelude.{◌≡◌, ◌⊎◌};
+
+    ghost start_gives = { λ p span cx edited q. P.start_gives p.inner span cx edited q.inner };
+
+    ghost end_gives = { λ p span answer q. (q ≡ p) ⊎ P.end_gives p.inner span answer q.inner };
+
+    fn on_start(&mut self, span: &mut Span, cx: &Context) {
+        self.inner.on_start(span, cx);
+    }
+
+    fn on_end(&mut self, span: SpanData) -> Result<(), AllocError> {
+        if is_marked(&span) {
+            return Ok(());
+        }
+        self.inner.on_end(span)
+    }
+
+    fn force_flush(&mut self) -> OTelSdkResult {
+        self.inner.force_flush()
+    }
+
+    fn shutdown_with_timeout(&mut self, timeout: Duration) -> OTelSdkResult {
+        self.inner.shutdown_with_timeout(timeout)
+    }
+
+    fn set_resource(&mut self, resource: &Resource) -> Result<(), AllocError> {
+        self.inner.set_resource(resource)
+    }
+}
+
+type FilteringProvider = ProviderOf<
+    FilteringProcessor<SimpleSpanProcessor<InMemorySpanExporter>>,
+    Sampler,
+    RandomIdGenerator,
+>;
+
+/// A provider that exports into memory what the filter lets through. Among processors of other kinds, this one is
+/// `Processor::Custom(Box::new(alloc, FilteringProcessor { inner })?)`.
+fn filtering_provider(alloc: Global) -> Result<FilteringProvider, AllocError> {
+    let inner = SimpleSpanProcessor::new(alloc, InMemorySpanExporter::new(alloc));
+    let mut processors = Vec::new(alloc);
+    processors.push(FilteringProcessor { inner })?;
+    Ok(ProviderOf::from_parts(
+        processors,
+        Sampler::AlwaysOn,
+        RandomIdGenerator::new(0),
+        SpanLimits::default(),
+    ))
+}
+
+/// Starts a span at a moment, sets the mark to a value, and ends it.
+fn trace_span(
+    alloc: Global,
+    provider: &mut FilteringProvider,
+    start: u64,
+    mark: bool,
+) -> Result<usize, AllocError> {
+    let tracer = provider.tracer(String::from_str(alloc, "library")?)?;
+    let mut span = tracer.start(String::new(alloc), provider, Moment(start))?;
+    let key = Key::from_static_str(MARK);
+    let marked = span.set_attribute(KeyValue::new(key, Value::Bool(mark)));
+    let refused = span.end_with_timestamp(provider, Moment(9));
+    span.abandon();
+    marked?;
+    refused
+}
+
+#[test]
+fn a_marked_span_is_kept_back_and_others_are_exported(rt: HostRuntime) -> Result<(), Fail> {
+    let alloc = rt.alloc();
+    let mut provider = filtering_provider(alloc)?;
+    let ended = [
+        trace_span(alloc, &mut provider, 7, true),
+        trace_span(alloc, &mut provider, 8, false),
+    ];
+    let shut = provider.shutdown();
+    for processor in provider.processors() {
+        let batches = processor.inner.exporter().batches();
+        assert_eq!(rt; batches.len(), 1);
+        assert_eq!(rt; batches[0].len(), 1);
+        assert_eq!(rt; batches[0][0].start_time.0, 8);
+    }
+    let closed = provider.close();
+    assert_eq!(rt; ended, [Ok(0), Ok(0)]);
+    assert!(rt; shut.is_ok());
+    assert!(rt; closed.is_ok());
+    Ok(())
+}

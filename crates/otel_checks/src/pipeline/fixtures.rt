@@ -1,0 +1,108 @@
+//! Span data, processors and a provider that several tests use.
+
+use opentelemetry::trace::{SpanContext, SpanKind, Status, TraceState};
+use opentelemetry::{Context, InstrumentationScope, Moment, SpanId, TraceFlags, TraceId};
+use opentelemetry_sdk::trace::{ProviderOf, Span, SpanProcessor};
+use otel_base::error::OTelSdkResult;
+use otel_base::trace::{RandomIdGenerator, Sampler, SpanLimits};
+use otel_batch::trace::{SpanData, SpanEvents, SpanLinks};
+use std::alloc::{AllocError, Global};
+use std::cell::Cell;
+use std::time::Duration;
+
+pub(super) fn context_of(flags: u8) -> SpanContext {
+    SpanContext::new(
+        TraceId::from(1),
+        SpanId::from(2),
+        TraceFlags::new(flags),
+        false,
+        TraceState::new(),
+    )
+}
+
+/// The data of a span that started at this moment and has these flags.
+pub(super) fn span_data(alloc: Global, moment: u64, flags: u8) -> Result<SpanData, AllocError> {
+    Ok(SpanData {
+        span_context: context_of(flags),
+        parent_span_id: SpanId::INVALID,
+        parent_span_is_remote: false,
+        span_kind: SpanKind::Internal,
+        name: String::new(alloc),
+        start_time: Moment(moment),
+        end_time: Moment(moment),
+        attributes: Vec::new(alloc),
+        dropped_attributes_count: 0,
+        events: SpanEvents::new(alloc),
+        links: SpanLinks::new(alloc),
+        status: Status::Unset,
+        instrumentation_scope: InstrumentationScope::builder(alloc, String::new(alloc)).build()?,
+    })
+}
+
+/// A processor that writes its digit on a board that several share, at each start, end, flush and shutdown, and keeps
+/// the spans that it was given.
+#[derive(Drop)]
+pub(super) struct Writer<'a> {
+    digit: u64,
+    board: &'a Cell<u64>,
+    pub(super) taken: Vec<SpanData>,
+}
+
+impl Writer<'_> {
+    fn write(&self) {
+        self.board.set(
+            self.board
+                .get()
+                .saturating_mul(10)
+                .saturating_add(self.digit),
+        );
+    }
+}
+
+impl SpanProcessor for Writer<'_> {
+    fn on_start(&mut self, _span: &mut Span, _cx: &Context) {
+        self.write();
+    }
+
+    fn on_end(&mut self, span: SpanData) -> Result<(), AllocError> {
+        self.write();
+        self.taken.push(span)?;
+        Ok(())
+    }
+
+    fn force_flush(&mut self) -> OTelSdkResult {
+        self.write();
+        Ok(())
+    }
+
+    fn shutdown_with_timeout(&mut self, _timeout: Duration) -> OTelSdkResult {
+        self.write();
+        Ok(())
+    }
+}
+
+/// Three processors that share a board.
+pub(super) fn three_writers(
+    alloc: Global,
+    board: &Cell<u64>,
+) -> Result<Vec<Writer<'_>>, AllocError> {
+    let mut writers = Vec::new(alloc);
+    for digit in 1..4 {
+        writers.push(Writer {
+            digit,
+            board,
+            taken: Vec::new(alloc),
+        })?;
+    }
+    Ok(writers)
+}
+
+/// An open provider over these processors, which samples every span and draws the ids of seed 0.
+pub(super) fn provider_over<P>(processors: Vec<P>) -> ProviderOf<P, Sampler, RandomIdGenerator> {
+    ProviderOf::from_parts(
+        processors,
+        Sampler::AlwaysOn,
+        RandomIdGenerator::new(0),
+        SpanLimits::default(),
+    )
+}

@@ -1,0 +1,192 @@
+//! What a call that finds no memory leaves behind, and that the same call succeeds when it is made again. A sampler
+//! that refuses shows it of starts. Edits and ends want memory of the machine alone, which an ordinary run has:
+//! `rt try --test --fail-alloc N` has the Nth allocation refused.
+
+use super::fixtures::{provider_over, three_writers};
+use opentelemetry::trace::{Event, Link, SpanContext, SpanKind, TraceState};
+use opentelemetry::{Context, Key, KeyValue, Moment, SpanId, TraceId, Value};
+use opentelemetry_sdk::trace::{ProviderOf, SimpleSpanProcessor, Span, SpanEdit, SpanProcessor};
+use otel_base::trace::{
+    RandomIdGenerator, Sampler, SamplingDecision, SamplingResult, ShouldSample, SpanLimits,
+};
+use otel_batch::trace::{InMemorySpanExporter, SpanData};
+use std::alloc::{AllocError, Global};
+use std::cell::Cell;
+use std::test::Fail;
+
+/// Samples every span, but for the first one, for which it finds no memory.
+#[derive(Drop)]
+struct RefusingOnce {
+    was_asked: Cell<bool>,
+}
+
+impl ShouldSample for RefusingOnce {
+    fn should_sample(
+        &self,
+        _parent_context: Option<&Context>,
+        _trace_id: TraceId,
+        _name: &str,
+        _span_kind: &SpanKind,
+        _attributes: &[KeyValue],
+        _links: &[Link],
+    ) -> Result<SamplingResult, AllocError> {
+        if !self.was_asked.get() {
+            self.was_asked.set(true);
+            return Err(AllocError);
+        }
+        Ok(SamplingResult {
+            decision: SamplingDecision::RecordAndSample,
+            attributes: None,
+            trace_state: TraceState::new(),
+        })
+    }
+}
+
+/// The id of a span that is started and abandoned.
+fn started<P: SpanProcessor, S: ShouldSample>(
+    alloc: Global,
+    provider: &mut ProviderOf<P, S, RandomIdGenerator>,
+) -> Result<SpanId, AllocError> {
+    let tracer = provider.tracer(String::new(alloc))?;
+    let span = tracer.start(String::new(alloc), provider, Moment(1))?;
+    let span_id = span.span_context().span_id();
+    span.abandon();
+    Ok(span_id)
+}
+
+/// The second span id under seed 0, where a trace id is drawn between the two.
+const SECOND_SPAN_ID: u64 = 0x02ee_bf8c_3bbe_5e1a;
+
+#[test]
+fn a_refused_start_tells_no_processor_and_succeeds_again(rt: HostRuntime) -> Result<(), Fail> {
+    let board = Cell::new(0);
+    let sampler = RefusingOnce {
+        was_asked: Cell::new(false),
+    };
+    let mut provider = ProviderOf::from_parts(
+        three_writers(rt.alloc(), &board)?,
+        sampler,
+        RandomIdGenerator::new(0),
+        SpanLimits::default(),
+    );
+    let refused = started(rt.alloc(), &mut provider);
+    let told = board.get();
+    let again = started(rt.alloc(), &mut provider);
+    let told_again = board.get();
+    let closed = provider.close();
+    assert!(rt; refused.is_err());
+    assert_eq!(rt; told, 0);
+    assert_eq!(rt; again, Ok(SpanId::from(SECOND_SPAN_ID)));
+    assert_eq!(rt; told_again, 123);
+    assert!(rt; closed.is_ok());
+    Ok(())
+}
+
+/// One edit of each kind that wants memory.
+fn edits_of_each_kind(alloc: Global) -> Result<Vec<SpanEdit>, AllocError> {
+    let attribute = KeyValue::new(Key::from_static_str("k"), Value::Bool(true));
+    let event = Event::new(String::new(alloc), Moment(8), Vec::new(alloc), 0);
+    let link = Link::new(SpanContext::empty_context(), Vec::new(alloc), 0);
+    let mut edits = Vec::with_capacity(alloc, 3)?;
+    edits.push(SpanEdit::SetAttribute(attribute))?;
+    edits.push(SpanEdit::AddEvent(event))?;
+    edits.push(SpanEdit::AddLink(link))?;
+    Ok(edits)
+}
+
+/// Makes each edit, and makes it again where it was refused. The answer is whether the span was then as before, and
+/// the second time succeeded.
+fn edit_all(span: &mut Span, edits: Vec<SpanEdit>, again: Vec<SpanEdit>) -> bool {
+    let mut holds = true;
+    for (edit, again) in edits.into_iter().zip(again) {
+        let before = span.exported_data();
+        if span.edit(edit).is_err() {
+            let is_same = before == span.exported_data();
+            holds = holds && is_same && span.edit(again).is_ok();
+        }
+    }
+    holds
+}
+
+type MemoryProvider = ProviderOf<
+    SimpleSpanProcessor<InMemorySpanExporter>,
+    Sampler,
+    RandomIdGenerator,
+>;
+
+/// How many batches the processors of a provider handed to their exporters, which kept or lost them.
+fn exported_by(provider: &MemoryProvider) -> u64 {
+    let mut count = 0u64;
+    for processor in provider.processors() {
+        let exporter = processor.exporter();
+        let kept = exporter.batches().len() as u64;
+        count = count
+            .saturating_add(kept)
+            .saturating_add(exporter.lost_batches());
+    }
+    count
+}
+
+/// Finishes a span, and finishes it again where it came back, which it must do as it was. The answer is how many
+/// processors refused it.
+fn finish(span: Span, provider: &mut MemoryProvider) -> Option<u64> {
+    let (span, _) = match span.finish(provider, Moment(9)) {
+        Ok(refused) => return Some(refused as u64),
+        Err(back) => back,
+    };
+    let holds = span.is_recording() && exported_by(provider) == 0;
+    match span.finish(provider, Moment(9)) {
+        Ok(refused) if holds => Some(refused as u64),
+        Ok(_) => None,
+        Err((span, _)) => {
+            span.abandon();
+            None
+        }
+    }
+}
+
+/// Starts a span, edits it in each way, and finishes it: whether each edit did what it must, and how many processors
+/// refused the span.
+fn edit_and_finish(
+    alloc: Global,
+    provider: &mut MemoryProvider,
+) -> Result<(bool, Option<u64>), AllocError> {
+    let (edits, again) = (edits_of_each_kind(alloc)?, edits_of_each_kind(alloc)?);
+    let tracer = provider.tracer(String::new(alloc))?;
+    let mut span = tracer.start(String::new(alloc), provider, Moment(7))?;
+    let edited = edit_all(&mut span, edits, again);
+    Ok((edited, finish(span, provider)))
+}
+
+/// What an exported span keeps of the edits.
+fn kept_by(span: &SpanData) -> [usize; 3] {
+    [
+        span.attributes.len(),
+        span.events.as_slice().len(),
+        span.links.as_slice().len(),
+    ]
+}
+
+#[test]
+fn refused_edits_and_ends_change_nothing_and_succeed_again(rt: HostRuntime) -> Result<(), Fail> {
+    let alloc = rt.alloc();
+    let mut processors = Vec::new(alloc);
+    for _i in 0..2 {
+        processors.push(SimpleSpanProcessor::new(alloc, InMemorySpanExporter::new(alloc)))?;
+    }
+    let mut provider = provider_over(processors);
+    let outcome = edit_and_finish(alloc, &mut provider);
+    let exported = exported_by(&provider);
+    for processor in provider.processors() {
+        for batch in processor.exporter().batches() {
+            assert_eq!(rt; batch.len(), 1);
+            assert_eq!(rt; kept_by(&batch[0]), [1, 1, 1]);
+        }
+    }
+    let closed = provider.close();
+    let (edited, refused) = outcome?;
+    assert!(rt; edited);
+    assert_eq!(rt; refused, Some(2u64.saturating_sub(exported)));
+    assert!(rt; closed.is_ok());
+    Ok(())
+}

@@ -1,0 +1,54 @@
+//! That each of several processors is asked in its turn, which no clause says.
+
+use super::fixtures::{provider_over, three_writers};
+use opentelemetry::Moment;
+use opentelemetry_sdk::trace::{ProviderOf, SpanProcessor};
+use otel_base::trace::{RandomIdGenerator, Sampler};
+use std::alloc::{AllocError, Global};
+use std::cell::Cell;
+use std::test::Fail;
+
+/// Starts a span at moment 7 and ends it at moment 9. The answer is how many processors refused it.
+fn start_and_end<P: SpanProcessor>(
+    alloc: Global,
+    provider: &mut ProviderOf<P, Sampler, RandomIdGenerator>,
+) -> Result<usize, AllocError> {
+    let tracer = provider.tracer(String::new(alloc))?;
+    let mut span = tracer.start(String::new(alloc), provider, Moment(7))?;
+    let refused = span.end_with_timestamp(provider, Moment(9));
+    span.abandon();
+    refused
+}
+
+#[test]
+fn starts_ends_flushes_and_shutdowns_ask_each_processor_in_its_turn(
+    rt: HostRuntime,
+) -> Result<(), Fail> {
+    let board = Cell::new(0);
+    let mut provider = provider_over(three_writers(rt.alloc(), &board)?);
+    let refused = start_and_end(rt.alloc(), &mut provider);
+    let flushed = provider.force_flush();
+    let shut = provider.shutdown();
+    for writer in provider.processors() {
+        assert_eq!(rt; writer.taken.len(), 1);
+        assert_eq!(rt; writer.taken[0].start_time.0, 7);
+        assert_eq!(rt; writer.taken[0].end_time.0, 9);
+    }
+    let closed = provider.close();
+    assert_eq!(rt; refused, Ok(0));
+    assert!(rt; flushed.is_ok());
+    assert!(rt; shut.is_ok());
+    assert!(rt; closed.is_ok());
+    assert_eq!(rt; board.get(), 123_123_123_123);
+    Ok(())
+}
+
+#[test]
+fn closing_asks_each_processor_once(rt: HostRuntime) -> Result<(), Fail> {
+    let board = Cell::new(0);
+    let provider = provider_over(three_writers(rt.alloc(), &board)?);
+    let closed = provider.close();
+    assert!(rt; closed.is_ok());
+    assert_eq!(rt; board.get(), 123);
+    Ok(())
+}

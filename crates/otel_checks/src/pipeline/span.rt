@@ -1,0 +1,287 @@
+use opentelemetry::trace::{Event, Link, SpanContext, Status};
+use opentelemetry::{Context, Key, KeyValue, Moment, Value};
+use opentelemetry_sdk::trace::{ProviderOf, SimpleSpanProcessor, Span, SpanEdit};
+use otel_base::trace::{RandomIdGenerator, Sampler, SpanLimits};
+use otel_batch::trace::{InMemorySpanExporter, SpanData, SpanEvents, SpanLinks};
+use std::alloc::{AllocError, Global};
+use std::test::Fail;
+
+type TestProvider = ProviderOf<
+    SimpleSpanProcessor<InMemorySpanExporter>,
+    Sampler,
+    RandomIdGenerator,
+>;
+
+/// An open provider over these processors, which samples every span.
+fn provider_over(
+    processors: Vec<SimpleSpanProcessor<InMemorySpanExporter>>,
+    limits: SpanLimits,
+) -> TestProvider {
+    ProviderOf::from_parts(
+        processors,
+        Sampler::AlwaysOn,
+        RandomIdGenerator::new(0),
+        limits,
+    )
+}
+
+/// As many attributes, whose keys are a, b, ..
+fn attributes(alloc: Global, first: u8, count: u8) -> Result<Vec<KeyValue>, AllocError> {
+    let mut attributes = Vec::new(alloc);
+    for place in 0..count {
+        let mut key = String::new(alloc);
+        key.push(char::from(first.saturating_add(place)))?;
+        attributes.push(KeyValue::new(Key::new(key), Value::Bool(true)))?;
+    }
+    Ok(attributes)
+}
+
+fn error_of(alloc: Global, description: &str) -> Result<Status, AllocError> {
+    Ok(Status::Error {
+        description: String::from_str(alloc, description)?,
+    })
+}
+
+fn event(alloc: Global, attribute_count: u8, dropped: u32) -> Result<Event, AllocError> {
+    Ok(Event::new(
+        String::new(alloc),
+        Moment(8),
+        attributes(alloc, b'a', attribute_count)?,
+        dropped,
+    ))
+}
+
+fn link(alloc: Global, attribute_count: u8, dropped: u32) -> Result<Link, AllocError> {
+    Ok(Link::new(
+        SpanContext::empty_context(),
+        attributes(alloc, b'a', attribute_count)?,
+        dropped,
+    ))
+}
+
+/// What a span would export after edits; its builder gives it so many attributes.
+fn exported_after(
+    alloc: Global,
+    limits: SpanLimits,
+    given: u8,
+    edits: Vec<SpanEdit>,
+) -> Result<SpanData, AllocError> {
+    let mut provider = provider_over(Vec::new(alloc), limits);
+    let exported = export_after(alloc, &mut provider, given, edits);
+    let _ = provider.close();
+    exported?.ok_or(AllocError)
+}
+
+fn export_after(
+    alloc: Global,
+    provider: &mut TestProvider,
+    given: u8,
+    edits: Vec<SpanEdit>,
+) -> Result<Option<SpanData>, AllocError> {
+    let tracer = provider.tracer(String::new(alloc))?;
+    let builder = tracer
+        .span_builder(String::from_str(alloc, "GET")?)
+        .with_attributes(attributes(alloc, b'a', given)?);
+    let mut span = tracer.build_with_context(builder, &Context::new(), provider, Moment(7))?;
+    let edited = edit_all(&mut span, edits);
+    let exported = span.exported_data();
+    span.abandon();
+    edited?;
+    exported
+}
+
+fn edit_all(span: &mut Span, edits: Vec<SpanEdit>) -> Result<(), AllocError> {
+    for edit in edits {
+        span.edit(edit)?;
+    }
+    Ok(())
+}
+
+/// The keys, one behind the other.
+fn keys_of(alloc: Global, attributes: &[KeyValue]) -> Result<String, AllocError> {
+    let mut keys = String::new(alloc);
+    for attribute in attributes {
+        keys.push_str(attribute.key.as_str())?;
+    }
+    Ok(keys)
+}
+
+#[test]
+fn attributes_over_the_limit_are_counted(rt: HostRuntime) -> Result<(), Fail> {
+    let alloc = rt.alloc();
+    for (limit, kept, dropped) in [(2, "ab", 2), (0, "", 4), (3, "abc", 1), (4, "abcd", 0)] {
+        let limits = SpanLimits {
+            max_attributes_per_span: limit,
+            ..SpanLimits::default()
+        };
+        let mut edits = Vec::new(alloc);
+        for attribute in attributes(alloc, b'c', 2)? {
+            edits.push(SpanEdit::SetAttribute(attribute))?;
+        }
+        let exported = exported_after(alloc, limits, 2, edits)?;
+        assert_eq!(rt; keys_of(alloc, &exported.attributes)?.as_str(), kept);
+        assert_eq!(rt; exported.dropped_attributes_count, dropped);
+    }
+    Ok(())
+}
+
+/// How many events were kept, and how many were not.
+fn events_of(events: &SpanEvents) -> (usize, u32) {
+    (events.as_slice().len(), events.dropped_count)
+}
+
+/// How many links were kept, and how many were not.
+fn links_of(links: &SpanLinks) -> (usize, u32) {
+    (links.as_slice().len(), links.dropped_count)
+}
+
+#[test]
+fn events_and_links_over_their_limits_are_counted(rt: HostRuntime) -> Result<(), Fail> {
+    let alloc = rt.alloc();
+    for (limit, kept, dropped) in [(0, 0, 2), (1, 1, 1), (2, 2, 0)] {
+        let limits = SpanLimits {
+            max_events_per_span: limit,
+            max_links_per_span: limit,
+            ..SpanLimits::default()
+        };
+        let mut edits = Vec::new(alloc);
+        for _i in 0..2 {
+            edits.push(SpanEdit::AddEvent(event(alloc, 0, 0)?))?;
+            edits.push(SpanEdit::AddLink(link(alloc, 0, 0)?))?;
+        }
+        let exported = exported_after(alloc, limits, 0, edits)?;
+        assert_eq!(rt; events_of(&exported.events), (kept, dropped));
+        assert_eq!(rt; links_of(&exported.links), (kept, dropped));
+    }
+    Ok(())
+}
+
+#[test]
+fn attributes_of_events_and_links_are_cut_and_counted_anew(rt: HostRuntime) -> Result<(), Fail> {
+    let alloc = rt.alloc();
+
+    // The attributes that are handed in, the count beside them, how many are kept, and the count then.
+    for (given, count, kept, dropped) in [(3, 0, 1, 2), (1, 7, 1, 0), (0, 7, 0, 0)] {
+        let limits = SpanLimits {
+            max_attributes_per_event: 1,
+            max_attributes_per_link: 1,
+            ..SpanLimits::default()
+        };
+        let mut edits = Vec::new(alloc);
+        edits.push(SpanEdit::AddEvent(event(alloc, given, count)?))?;
+        edits.push(SpanEdit::AddLink(link(alloc, given, count)?))?;
+        let exported = exported_after(alloc, limits, 0, edits)?;
+        let events = exported.events.as_slice();
+        assert_eq!(rt; events.len(), 1);
+        for event in events {
+            assert_eq!(rt; event.attributes.len(), kept);
+            assert_eq!(rt; event.dropped_attributes_count, dropped);
+        }
+        let links = exported.links.as_slice();
+        assert_eq!(rt; links.len(), 1);
+        for link in links {
+            assert_eq!(rt; link.attributes.len(), kept);
+            assert_eq!(rt; link.dropped_attributes_count, dropped);
+        }
+    }
+    Ok(())
+}
+
+#[test]
+fn the_greatest_status_stays(rt: HostRuntime) -> Result<(), Fail> {
+    let alloc = rt.alloc();
+    let rows = [
+        (
+            [error_of(alloc, "b")?, error_of(alloc, "a")?, Status::Unset],
+            error_of(alloc, "b")?,
+        ),
+        (
+            [error_of(alloc, "a")?, Status::Unset, error_of(alloc, "b")?],
+            error_of(alloc, "b")?,
+        ),
+        (
+            [Status::Ok, error_of(alloc, "z")?, Status::Unset],
+            Status::Ok,
+        ),
+        ([Status::Unset, Status::Unset, Status::Unset], Status::Unset),
+    ];
+    for (set, status) in rows {
+        let mut edits = Vec::new(alloc);
+        for status in set {
+            edits.push(SpanEdit::SetStatus(status))?;
+        }
+        let exported = exported_after(alloc, SpanLimits::default(), 0, edits)?;
+        assert!(rt; exported.status == status);
+    }
+    Ok(())
+}
+
+/// What a span exports that was edited by each call once and finished.
+fn finished(alloc: Global, provider: &mut TestProvider) -> Result<usize, AllocError> {
+    let tracer = provider.tracer(String::new(alloc))?;
+    let mut span = tracer.start(String::from_str(alloc, "GET")?, provider, Moment(7))?;
+    let edited = edit_by_each_call(alloc, &mut span);
+    let refused = match span.finish(provider, Moment(9)) {
+        Ok(refused) => refused,
+        Err((span, error)) => {
+            span.abandon();
+            return Err(error);
+        }
+    };
+    edited?;
+    Ok(refused)
+}
+
+fn edit_by_each_call(alloc: Global, span: &mut Span) -> Result<(), AllocError> {
+    span.set_attribute(KeyValue::new(Key::from_static_str("k"), Value::I64(3)))?;
+    span.add_event_with_timestamp(String::from_str(alloc, "row")?, Moment(8), Vec::new(alloc))?;
+    span.add_link(SpanContext::empty_context(), attributes(alloc, b'a', 2)?)?;
+    span.set_status(error_of(alloc, "lost")?)?;
+    span.update_name(String::from_str(alloc, "n")?)
+}
+
+/// Copies of the spans that the processors of a provider exported.
+fn exported_by(alloc: Global, provider: &TestProvider) -> Result<Vec<SpanData>, AllocError> {
+    let mut spans = Vec::new(alloc);
+    for processor in provider.processors() {
+        for batch in processor.exporter().batches() {
+            for span in batch {
+                spans.push(span.clone()?)?;
+            }
+        }
+    }
+    Ok(spans)
+}
+
+#[test]
+fn a_finished_span_is_exported_once_with_each_edit(rt: HostRuntime) -> Result<(), Fail> {
+    let alloc = rt.alloc();
+    let mut processors = Vec::new(alloc);
+    processors.push(SimpleSpanProcessor::new(alloc, InMemorySpanExporter::new(alloc)))?;
+    let mut provider = provider_over(processors, SpanLimits::default());
+    let refused = finished(alloc, &mut provider);
+    let exported = exported_by(alloc, &provider);
+    let closed = provider.close();
+    assert_eq!(rt; refused, Ok(0));
+    assert!(rt; closed.is_ok());
+    let spans = exported?;
+    assert_eq!(rt; spans.len(), 1);
+    let span = &spans[0];
+    assert_eq!(rt; span.name.as_str(), "n");
+    assert_eq!(rt; span.start_time.0, 7);
+    assert_eq!(rt; span.end_time.0, 9);
+    assert_eq!(rt; keys_of(alloc, &span.attributes)?.as_str(), "k");
+    let events = span.events.as_slice();
+    assert_eq!(rt; events.len(), 1);
+    for event in events {
+        assert_eq!(rt; event.name.as_str(), "row");
+        assert_eq!(rt; event.timestamp.0, 8);
+    }
+    let links = span.links.as_slice();
+    assert_eq!(rt; links.len(), 1);
+    for link in links {
+        assert_eq!(rt; link.attributes.len(), 2);
+    }
+    assert!(rt; span.status == error_of(alloc, "lost")?);
+    Ok(())
+}

@@ -1,0 +1,193 @@
+use opentelemetry::trace::SpanContext;
+use opentelemetry::{Context, Key, KeyValue, Moment, SpanId, Value};
+use opentelemetry_sdk::trace::{ProcessorOf, ProviderOf, SimpleSpanProcessor, Span, SpanProcessor};
+use otel_base::error::{OTelSdkError, OTelSdkResult};
+use otel_base::trace::{RandomIdGenerator, Sampler, SpanLimits};
+use otel_batch::trace::{InMemorySpanExporter, SpanData};
+use std::alloc::{AllocError, Global};
+use std::test::Fail;
+use std::time::Duration;
+
+/// The first span id under seed 0.
+const FIRST_SPAN_ID: u64 = 0x5317_5d61_490b_23df;
+
+/// A processor that stamps each span that starts, and refuses what it is asked otherwise.
+#[derive(Drop)]
+struct Stamping {
+    alloc: Global,
+}
+
+impl Stamping {
+    ghost use Rattle.opentelemetry_sdk.specs.SpanHistory.{IsEdited};
+
+    fn stamp(&self, span: &mut Span) -> Result<(), AllocError>
+        ensures { IsEdited span.old span.new }
+    {
+        let key = Key::from_static_str("stamp");
+        span.set_attribute(KeyValue::new(key, Value::Bool(true)))
+    }
+}
+
+impl SpanProcessor for Stamping {
+    fn on_start(&mut self, span: &mut Span, _cx: &Context) {
+        let _ = self.stamp(span);
+    }
+
+    fn on_end(&mut self, _span: SpanData) -> Result<(), AllocError> {
+        Err(AllocError)
+    }
+
+    fn force_flush(&mut self) -> OTelSdkResult {
+        Err(OTelSdkError::Timeout(Duration::from_secs(1)))
+    }
+
+    fn shutdown_with_timeout(&mut self, timeout: Duration) -> OTelSdkResult {
+        Err(OTelSdkError::Timeout(timeout))
+    }
+}
+
+type TestProvider = ProviderOf<
+    ProcessorOf<SimpleSpanProcessor<InMemorySpanExporter>, Stamping>,
+    Sampler,
+    RandomIdGenerator,
+>;
+
+/// An open provider over one that stamps and refuses, and one that exports into memory.
+fn two_processors(alloc: Global) -> Result<TestProvider, AllocError> {
+    let mut processors = Vec::new(alloc);
+    processors.push(ProcessorOf::Custom(Stamping { alloc }))?;
+    processors.push(ProcessorOf::Simple(SimpleSpanProcessor::new(
+        alloc,
+        InMemorySpanExporter::new(alloc),
+    )))?;
+    Ok(ProviderOf::from_parts(
+        processors,
+        Sampler::ParentBased(Box::new(alloc, Sampler::AlwaysOn)?),
+        RandomIdGenerator::new(0),
+        SpanLimits::default(),
+    ))
+}
+
+/// Who a started span is, and whether it records.
+#[derive(Drop)]
+struct Started {
+    span_id: SpanId,
+    is_recording: bool,
+    is_sampled: bool,
+}
+
+/// Starts a span in a context, and abandons it.
+fn started_in(
+    alloc: Global,
+    cx: &Context,
+    provider: &mut TestProvider,
+) -> Result<Started, AllocError> {
+    let tracer = provider.tracer(String::new(alloc))?.clone()?;
+    let span = tracer.start_with_context(String::new(alloc), cx, provider, Moment(1))?;
+    let started = Started {
+        span_id: span.span_context().span_id(),
+        is_recording: span.is_recording(),
+        is_sampled: span.span_context().is_sampled(),
+    };
+    span.abandon();
+    Ok(started)
+}
+
+#[test]
+fn a_suppressed_context_draws_no_id(rt: HostRuntime) -> Result<(), Fail> {
+    let alloc = rt.alloc();
+    let suppressed = Context::new().with_telemetry_suppressed()?;
+    let mut provider = two_processors(alloc)?;
+    let silent = started_in(alloc, &suppressed, &mut provider);
+    let plain = started_in(alloc, &Context::new(), &mut provider);
+    let _ = provider.close();
+    let (silent, plain) = (silent?, plain?);
+    assert_eq!(rt; silent.span_id, SpanId::INVALID);
+    assert!(rt; !silent.is_recording);
+    assert_eq!(rt; plain.span_id, SpanId::from(FIRST_SPAN_ID));
+    assert!(rt; plain.is_recording && plain.is_sampled);
+    Ok(())
+}
+
+#[test]
+fn the_child_of_the_empty_span_context_is_dropped(rt: HostRuntime) -> Result<(), Fail> {
+    let alloc = rt.alloc();
+    let cx = Context::new().with_span_context(SpanContext::empty_context())?;
+    let mut provider = two_processors(alloc)?;
+    let child = started_in(alloc, &cx, &mut provider);
+    let _ = provider.close();
+    let child = child?;
+    assert_eq!(rt; child.span_id, SpanId::from(FIRST_SPAN_ID));
+    assert!(rt; !child.is_recording && !child.is_sampled);
+    Ok(())
+}
+
+/// What a started span has recorded, and what two ends of it answer.
+#[derive(Drop)]
+struct Ended {
+    exported: Option<SpanData>,
+    first: usize,
+    second: usize,
+}
+
+/// Starts a span whose builder has an attribute, and ends it twice.
+fn ended_twice(alloc: Global, provider: &mut TestProvider) -> Result<Ended, AllocError> {
+    let tracer = provider.tracer(String::new(alloc))?;
+    let mut attributes = Vec::new(alloc);
+    attributes.push(KeyValue::new(Key::from_static_str("given"), Value::Bool(true)))?;
+    let builder = tracer
+        .span_builder(String::new(alloc))
+        .with_attributes(attributes);
+    let mut span = tracer.build_with_context(builder, &Context::new(), provider, Moment(1))?;
+    let exported = span.exported_data();
+    let first = span.end_with_timestamp(provider, Moment(2));
+    let second = span.end_with_timestamp(provider, Moment(3));
+    span.abandon();
+    Ok(Ended {
+        exported: exported?,
+        first: first?,
+        second: second?,
+    })
+}
+
+/// How many batches the processors exported into memory.
+fn batch_count(provider: &TestProvider) -> usize {
+    let mut count = 0;
+    for processor in provider.processors() {
+        if let ProcessorOf::Simple(simple) = processor {
+            count = simple.exporter().batches().len();
+        }
+    }
+    count
+}
+
+#[test]
+fn what_one_processor_stamps_and_refuses_the_other_exports_once(
+    rt: HostRuntime,
+) -> Result<(), Fail> {
+    let alloc = rt.alloc();
+    let mut provider = two_processors(alloc)?;
+    let ended = ended_twice(alloc, &mut provider);
+    let batches = batch_count(&provider);
+    let flushed = provider.force_flush();
+    let shut = provider.shutdown();
+    let closed = provider.close();
+    let ended = ended?;
+    assert_eq!(rt; ended.first, 1);
+    assert_eq!(rt; ended.second, 0);
+    assert_eq!(rt; batches, 1);
+    for span in ended.exported {
+        assert_eq!(rt; span.attributes.len(), 2);
+        assert_eq!(rt; span.attributes[0].key.as_str(), "given");
+        assert_eq!(rt; span.attributes[1].key.as_str(), "stamp");
+    }
+    for (answer, text) in [
+        (flushed, "Operation failed: errs: 1"),
+        (shut, "Operation failed: Shutdown errors: 1"),
+    ] {
+        let error = answer.err().ok_or(AllocError)?;
+        assert_eq!(rt; error.to_string(alloc)?.as_str(), text);
+    }
+    assert!(rt; closed.is_ok());
+    Ok(())
+}

@@ -1,0 +1,89 @@
+//! Tests of keys and attributes: their copies, their order, their hash and their debug text.
+
+use core::hash::{Hash, Hasher};
+use opentelemetry::{Array, InstrumentationScope, Key, KeyValue, Value};
+use std::alloc::{AllocError, Global};
+use std::hash::DefaultHasher;
+use std::test::Fail;
+
+fn key(alloc: Global, text: &str) -> Result<Key, Fail> {
+    Ok(Key::new(String::from_str(alloc, text)?))
+}
+
+fn hash_of(key: &Key) -> u64 {
+    let mut state = DefaultHasher::new();
+    key.hash(&mut state);
+    state.finish()
+}
+
+#[test]
+fn keys_stand_by_their_bytes(rt: HostRuntime) -> Result<(), Fail> {
+    let rising = [
+        (1, key(rt.alloc(), "B")?),
+        (1, Key::from_static_str("B")),
+        (2, Key::from_static_str("a")),
+        (2, key(rt.alloc(), "a")?),
+        (3, key(rt.alloc(), "aa")?),
+        (4, Key::from_static_str("b")),
+    ];
+    for (low, lower) in &rising {
+        for (high, upper) in &rising {
+            assert_eq!(rt; lower < upper, low < high);
+            assert_eq!(rt; lower == upper, low == high);
+            assert_eq!(rt; hash_of(lower) == hash_of(upper), low == high);
+        }
+        let copy = lower.clone()?;
+        assert!(rt; copy == *lower);
+        assert_eq!(rt; hash_of(&copy), hash_of(lower));
+    }
+    Ok(())
+}
+
+#[test]
+fn a_constant_and_its_clone_are_never_refused(rt: HostRuntime) {
+    let copy: Result<Key, AllocError> = Key::from_static_str("service.name").clone();
+    assert!(rt; copy.is_ok_and(|key| key.as_str() == "service.name"));
+}
+
+#[test]
+fn a_key_shows_its_text(rt: HostRuntime) -> Result<(), Fail> {
+    let alloc = rt.alloc();
+    for key in &[key(alloc, "a \"b\"")?, Key::from_static_str("a \"b\"")] {
+        assert_eq!(rt;
+            format!(in alloc; "{key:?}")?.as_str(),
+            "Key(\"a \\\"b\\\"\")"
+        );
+    }
+    Ok(())
+}
+
+#[test]
+fn clones_of_a_scope_share_its_parts(rt: HostRuntime) -> Result<(), Fail> {
+    let name = String::from_str(rt.alloc(), "lib")?;
+    let scope = InstrumentationScope::builder(rt.alloc(), name).build()?;
+    let copy = scope.clone()?;
+    assert!(rt; copy.name().as_ptr() == scope.name().as_ptr());
+    assert!(rt; copy == scope);
+    Ok(())
+}
+
+#[test]
+fn attributes_are_the_same_by_key_and_value(rt: HostRuntime) -> Result<(), Fail> {
+    let attribute = KeyValue::new(
+        key(rt.alloc(), "k")?,
+        Value::Array(Array::I64(vec![in rt.alloc(); 1, 2]?)),
+    );
+    assert!(rt; attribute.clone()? == attribute);
+    let others = [
+        KeyValue::new(key(rt.alloc(), "l")?, attribute.value.clone()?),
+        KeyValue::new(
+            key(rt.alloc(), "k")?,
+            Value::Array(Array::I64(vec![in rt.alloc(); 1]?)),
+        ),
+        KeyValue::new(key(rt.alloc(), "k")?, Value::I64(1)),
+    ];
+    for other in &others {
+        assert!(rt; *other != attribute);
+    }
+    Ok(())
+}

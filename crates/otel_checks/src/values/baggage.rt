@@ -1,0 +1,123 @@
+use opentelemetry::baggage::{Baggage, BaggageError, BaggageMetadata, KeyValueMetadata};
+use std::alloc::{AllocError, Global};
+use std::test::Fail;
+
+fn text(alloc: Global, text: &str) -> Result<String, AllocError> {
+    String::from_str(alloc, text)
+}
+
+/// Inserts a value of `count` bytes, and says whether it was taken.
+fn takes(
+    baggage: &mut Baggage,
+    alloc: Global,
+    name: &str,
+    count: usize,
+) -> Result<bool, AllocError> {
+    let mut value = String::new(alloc);
+    for _ in 0..count {
+        value.push('v')?;
+    }
+    match baggage.insert(text(alloc, name)?, value) {
+        Ok(_) => Ok(true),
+        Err(BaggageError::Limit) => Ok(false),
+        Err(BaggageError::Memory) => Err(AllocError),
+    }
+}
+
+/// A baggage of 64 entries.
+fn full(alloc: Global) -> Result<Baggage, AllocError> {
+    let mut baggage = Baggage::new(alloc);
+    for number in 0..64u32 {
+        let name = format!(in alloc; "name{number}")?;
+        let _taken = takes(&mut baggage, alloc, name.as_str(), 3)?;
+    }
+    Ok(baggage)
+}
+
+#[test]
+fn a_65th_name_breaks_the_limit(rt: HostRuntime) -> Result<(), Fail> {
+    let mut baggage = full(rt.alloc())?;
+    assert_eq!(rt; baggage.len(), 64);
+    assert_eq!(rt; baggage.get("name32"), Some("vvv"));
+    assert!(rt; !takes(&mut baggage, rt.alloc(), "name64", 1)?);
+    assert_eq!(rt; baggage.get("name64"), None);
+    Ok(())
+}
+
+#[test]
+fn a_new_value_keeps_its_place(rt: HostRuntime) -> Result<(), Fail> {
+    let mut baggage = full(rt.alloc())?;
+    let replaced = baggage.insert(text(rt.alloc(), "name0")?, text(rt.alloc(), "new")?)?;
+    let (old, _metadata) = replaced.ok_or("the old value")?;
+    assert_eq!(rt; old.as_str(), "vvv");
+    let (name, (value, _metadata)) = baggage.iter().next().ok_or("the first entry")?;
+    assert_eq!(rt; name, "name0");
+    assert_eq!(rt; value, "new");
+    Ok(())
+}
+
+#[test]
+fn an_entry_within_the_limits_is_taken(rt: HostRuntime) -> Result<(), Fail> {
+    let cases = [
+        ("8192 bytes with the name", "a", 8191, true),
+        ("8193 bytes with the name", "a", 8192, false),
+        ("an empty name", "", 1, false),
+        ("an empty value", "a", 0, true),
+    ];
+    for (case, name, count, taken) in cases {
+        let mut baggage = Baggage::new(rt.alloc());
+        let was_taken = takes(&mut baggage, rt.alloc(), name, count)?;
+        assert_eq!(rt; was_taken, taken, "{case}");
+    }
+    Ok(())
+}
+
+#[test]
+fn errors_say_what_went_wrong(rt: HostRuntime) -> Result<(), Fail> {
+    let cases = [
+        (
+            BaggageError::Limit,
+            "the baggage's limits do not allow this entry",
+        ),
+        (BaggageError::Memory, "no memory for a baggage entry"),
+    ];
+    for (error, shown) in cases {
+        assert_eq!(rt; error.to_string(rt.alloc())?.as_str(), shown);
+    }
+    Ok(())
+}
+
+#[test]
+fn metadata_stays_with_its_entry(rt: HostRuntime) -> Result<(), Fail> {
+    let mut baggage = Baggage::new(rt.alloc());
+    let metadata = BaggageMetadata::new(text(rt.alloc(), "secret;v=2")?);
+    let new = baggage.insert_with_metadata(
+        text(rt.alloc(), "k")?,
+        text(rt.alloc(), "1")?,
+        metadata,
+    )?;
+    assert!(rt; new.is_none());
+    let copy = baggage.clone()?;
+    let (value, metadata) = copy.get_with_metadata("k").ok_or("the entry")?;
+    assert_eq!(rt; value, "1");
+    assert_eq!(rt; metadata.as_str(), "secret;v=2");
+    Ok(())
+}
+
+#[test]
+fn the_others_keep_their_order(rt: HostRuntime) -> Result<(), Fail> {
+    let mut baggage = full(rt.alloc())?;
+    let (value, _metadata) = baggage.remove("name0").ok_or("the removed entry")?;
+    assert_eq!(rt; value.as_str(), "vvv");
+    assert!(rt; baggage.remove("name0").is_none());
+    assert_eq!(rt; baggage.iter().next().ok_or("an entry")?.0, "name1");
+    Ok(())
+}
+
+#[test]
+fn one_entry_is_copied(rt: HostRuntime) -> Result<(), Fail> {
+    let metadata = BaggageMetadata::new(text(rt.alloc(), "m")?);
+    let entry = KeyValueMetadata::new(text(rt.alloc(), "k")?, text(rt.alloc(), "v")?, metadata);
+    assert!(rt; entry.clone()? == entry);
+    Ok(())
+}
