@@ -1,9 +1,8 @@
 //! Tests of keys and attributes: their copies, their order, their hash and their debug text.
 
-use core::hash::{Hash, Hasher};
-use opentelemetry::{Array, InstrumentationScope, Key, KeyValue, Value};
+use opentelemetry::{Array, Key, KeyValue, Value};
 use std::alloc::{AllocError, Global};
-use std::hash::DefaultHasher;
+use std::hash::{DefaultHasher, Hash, Hasher};
 use std::test::Fail;
 
 fn key(alloc: Global, text: &str) -> Result<Key, Fail> {
@@ -54,16 +53,6 @@ fn a_key_shows_its_text(rt: HostRuntime) -> Result<(), Fail> {
             "Key(\"a \\\"b\\\"\")"
         );
     }
-    Ok(())
-}
-
-#[test]
-fn clones_of_a_scope_share_its_parts(rt: HostRuntime) -> Result<(), Fail> {
-    let name = String::from_str(rt.alloc(), "lib")?;
-    let scope = InstrumentationScope::builder(rt.alloc(), name).build()?;
-    let copy = scope.clone()?;
-    assert!(rt; copy.name().as_ptr() == scope.name().as_ptr());
-    assert!(rt; copy == scope);
     Ok(())
 }
 

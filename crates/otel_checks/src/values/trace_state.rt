@@ -98,17 +98,6 @@ fn an_empty_key_is_refused(rt: HostRuntime) -> Result<(), Fail> {
 }
 
 #[test]
-fn clones_share_their_pairs(rt: HostRuntime) -> Result<(), Fail> {
-    let state = TraceState::from_str(rt.alloc(), "a=1")?;
-    let copy = state.clone()?;
-    let shared = state.get("a").ok_or("a value")?;
-    let copied = copy.get("a").ok_or("its copy")?;
-    assert!(rt; shared.as_ptr() == copied.as_ptr());
-    assert_eq!(rt; copied, "1");
-    Ok(())
-}
-
-#[test]
 fn errors_say_what_is_wrong(rt: HostRuntime) -> Result<(), Fail> {
     let cases = [
         (
