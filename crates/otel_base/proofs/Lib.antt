@@ -6,6 +6,7 @@ pub mod BaggagePieceLemmas
 pub mod BaggageRoundTrip
 pub mod BaggageTextLemmas
 pub mod Behind
+pub mod CompositeLemmas
 pub mod ConfigLemmas
 pub mod DetectedLemmas
 pub mod FractionLemmas

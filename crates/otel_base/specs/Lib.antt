@@ -2,6 +2,7 @@ pub mod Agreement
 pub mod AttributesString
 pub mod BaggageHeader
 pub mod BaggagePieces
+pub mod Composite
 pub mod Config
 pub mod ConfigStrings
 pub mod DetectedResource

@@ -1,7 +1,9 @@
 //! What travels between processes: each propagator writes a part of a context into headers and reads it back.
 
 pub mod baggage;
+pub mod composite;
 pub mod trace_context;
 
 pub use baggage::BaggagePropagator;
+pub use composite::{CompositePropagator, FieldsError};
 pub use trace_context::TraceContextPropagator;

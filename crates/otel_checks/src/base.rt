@@ -1,6 +1,7 @@
 //! Tests of `otel_base`.
 
 mod baggage;
+mod composite;
 mod config;
 mod error;
 mod id_generator;

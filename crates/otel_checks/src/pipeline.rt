@@ -7,6 +7,7 @@ mod custom_sampler;
 mod fixtures;
 mod queueing_processor;
 mod refused_memory;
+mod sampler_answers;
 mod several_processors;
 mod simple_span_processor;
 mod span;

@@ -81,6 +81,14 @@ impl SpanProcessor for Writer<'_> {
     }
 }
 
+pub(super) fn writer(alloc: Global, digit: u64, board: &Cell<u64>) -> Writer<'_> {
+    Writer {
+        digit,
+        board,
+        taken: Vec::new(alloc),
+    }
+}
+
 /// Three processors that share a board.
 pub(super) fn three_writers(
     alloc: Global,
@@ -88,11 +96,7 @@ pub(super) fn three_writers(
 ) -> Result<Vec<Writer<'_>>, AllocError> {
     let mut writers = Vec::new(alloc);
     for digit in 1..4 {
-        writers.push(Writer {
-            digit,
-            board,
-            taken: Vec::new(alloc),
-        })?;
+        writers.push(writer(alloc, digit, board))?;
     }
     Ok(writers)
 }

@@ -1,0 +1,155 @@
+//! What becomes of a sampler's whole answer at a start: a span that is recorded and not sampled, one whose delegate
+//! decides alone, and a trace state of the sampler's own.
+
+use super::fixtures::{Writer, writer};
+use opentelemetry::trace::{Link, SpanContext, SpanKind, TraceState};
+use opentelemetry::{Context, Key, KeyValue, Moment, SpanId, TraceFlags, TraceId, Value};
+use opentelemetry_sdk::trace::{ProcessorOf, ProviderOf, SimpleSpanProcessor, Span};
+use otel_base::trace::{
+    RandomIdGenerator, SamplerOf, SamplingDecision, SamplingResult, ShouldSample, SpanLimits,
+};
+use otel_batch::trace::InMemorySpanExporter;
+use std::alloc::{AllocError, Global};
+use std::cell::Cell;
+use std::test::Fail;
+
+/// Records every span without sampling it, adds an attribute, and sets `foo=notbar` in the parent's trace state.
+#[derive(Drop)]
+struct Recording {
+    alloc: Global,
+}
+
+impl ShouldSample for Recording {
+    fn should_sample(
+        &self,
+        parent_context: Option<&Context>,
+        _trace_id: TraceId,
+        _name: &str,
+        _span_kind: &SpanKind,
+        _attributes: &[KeyValue],
+        _links: &[Link],
+    ) -> Result<SamplingResult, AllocError> {
+        let mut attributes = Vec::new(self.alloc);
+        attributes.push(KeyValue::new(Key::from_static_str("marked"), Value::Bool(true)))?;
+        Ok(SamplingResult {
+            decision: SamplingDecision::RecordOnly,
+            attributes: Some(attributes),
+            trace_state: edited_state(self.alloc, parent_context)?,
+        })
+    }
+}
+
+/// The parent's trace state, in which `foo` is `notbar`.
+fn edited_state(alloc: Global, parent: Option<&Context>) -> Result<TraceState, AllocError> {
+    let Some(parent) = parent else {
+        return Ok(TraceState::new());
+    };
+    let foo = String::from_str(alloc, "foo")?;
+    let notbar = String::from_str(alloc, "notbar")?;
+    let state = parent.span_context().trace_state();
+    state.insert(alloc, foo, notbar).or(Err(AllocError))
+}
+
+type RecordingProvider<'a> = ProviderOf<
+    ProcessorOf<SimpleSpanProcessor<InMemorySpanExporter>, Writer<'a>>,
+    SamplerOf<Recording>,
+    RandomIdGenerator,
+>;
+
+/// A provider with a simple processor and one of its own kind.
+fn provider_of(
+    alloc: Global,
+    board: &Cell<u64>,
+    sampler: SamplerOf<Recording>,
+) -> Result<RecordingProvider<'_>, AllocError> {
+    let mut processors = Vec::new(alloc);
+    let exporter = InMemorySpanExporter::new(alloc);
+    processors.push(ProcessorOf::Simple(SimpleSpanProcessor::new(alloc, exporter)))?;
+    processors.push(ProcessorOf::Custom(writer(alloc, 1, board)))?;
+    Ok(ProviderOf::from_parts(
+        processors,
+        sampler,
+        RandomIdGenerator::new(0),
+        SpanLimits::default(),
+    ))
+}
+
+/// A context in which a valid span with these flags and the trace state `foo=bar` is active.
+fn parent_of(alloc: Global, flags: u8) -> Result<Context, Fail> {
+    let state = TraceState::from_str(alloc, "foo=bar")?;
+    let flags = TraceFlags::new(flags);
+    let parent = SpanContext::new(TraceId::from(1), SpanId::from(2), flags, false, state);
+    Ok(Context::new().with_span_context(parent)?)
+}
+
+/// Starts a span in a context, ends it, and shows its flags, how many attributes it recorded, and what `foo` is in its
+/// trace state.
+fn started_in(
+    alloc: Global,
+    cx: &Context,
+    provider: &mut RecordingProvider<'_>,
+) -> Result<String, AllocError> {
+    let tracer = provider.tracer(String::new(alloc))?;
+    let mut span = tracer.start_with_context(String::new(alloc), cx, provider, Moment(7))?;
+    let text = shown(alloc, &span);
+    let _ = span.end_with_timestamp(provider, Moment(9));
+    span.abandon();
+    text
+}
+
+fn shown(alloc: Global, span: &Span) -> Result<String, AllocError> {
+    let flags = span.span_context().trace_flags();
+    let foo = span
+        .span_context()
+        .trace_state()
+        .get("foo")
+        .unwrap_or("none");
+    match span.exported_data()? {
+        Some(data) => format!(in alloc; "{flags} {} {foo}", data.attributes.len()),
+        None => format!(in alloc; "{flags} dropped {foo}"),
+    }
+}
+
+/// How many spans the first processor exported, and how many the second one was given.
+fn delivered(provider: &RecordingProvider<'_>) -> (usize, usize) {
+    let (mut exported, mut given) = (0, 0);
+    for processor in provider.processors() {
+        match processor {
+            ProcessorOf::Simple(simple) => exported = simple.exporter().batches().len(),
+            ProcessorOf::Custom(writer) => given = writer.taken.len(),
+        }
+    }
+    (exported, given)
+}
+
+#[test]
+fn a_recorded_span_keeps_its_parents_other_flags_and_is_not_exported(
+    rt: HostRuntime,
+) -> Result<(), Fail> {
+    let alloc = rt.alloc();
+    let board = Cell::new(0);
+    let parent = parent_of(alloc, 0xff)?;
+    let mut provider = provider_of(alloc, &board, SamplerOf::Custom(Recording { alloc }))?;
+    let started = started_in(alloc, &parent, &mut provider);
+    let (exported, given) = delivered(&provider);
+    let _ = provider.close();
+    assert_eq!(rt; started?.as_str(), "fe 1 notbar");
+    assert_eq!(rt; exported, 0);
+    assert_eq!(rt; given, 1);
+    Ok(())
+}
+
+#[test]
+fn a_delegate_decides_on_a_root_alone(rt: HostRuntime) -> Result<(), Fail> {
+    let alloc = rt.alloc();
+    let board = Cell::new(0);
+    let child_of = parent_of(alloc, 0)?;
+    let delegate = Box::new(alloc, SamplerOf::Custom(Recording { alloc }))?;
+    let mut provider = provider_of(alloc, &board, SamplerOf::ParentBased(delegate))?;
+    let root = started_in(alloc, &Context::new(), &mut provider);
+    let child = started_in(alloc, &child_of, &mut provider);
+    let _ = provider.close();
+    assert_eq!(rt; root?.as_str(), "00 0 none");
+    assert_eq!(rt; child?.as_str(), "00 dropped bar");
+    Ok(())
+}
