@@ -1,5 +1,5 @@
 -- Each span of a trace agrees with its root where samplers go by parents.
-use Rattle.std.proofs.Common.{◌≡◌, ℕ, ◌+◌, ◌*◌, ◌/◌, ◌%◌, Bool, true, false, ◌||◌, List, [], ◌∷◌, All, MatchBool, refl, subst, ap, ◌∙◌, arith}
+use Rattle.std.proofs.Common.{◌≡◌, ℕ, ◌+◌, ◌*◌, ◌/◌, ◌%◌, Bool, true, false, ◌||◌, List, [], ◌∷◌, All, MatchBool, ⊎_elim, refl, sym, subst, ap, ◌∙◌, arith}
 use Rattle.std.specs.Prelude.{Option, None, Some, MatchOption, unwrap_or, ◌==◌, if◌then◌else◌}
 use Rattle.std.proofs.lemmas.Bool.{both_ways, eqb-true, eq-eqb}
 use Rattle.std.proofs.lemmas.List.Elements.{All-nil, All-cons}
@@ -14,7 +14,9 @@ use Rattle.otel_base.specs.declared.trace.sampler.SamplerOf.{SamplerOf}
 use Rattle.otel_base.specs.declared.trace.sampler.SamplingDecision.{SamplingDecision}
 use Rattle.otel_base.specs.declared.trace.sampler.SamplingDecision.TheVariants as decisions
 use Rattle.otel_base.specs.declared.trace.sampler.ShouldSample as sampling
-use Rattle.opentelemetry_sdk.specs.Hops.{AreHops, IsChild}
+use Rattle.otel_base.specs.Traceparent.{remote_copy}
+use Rattle.otel_base.proofs.TraceparentLemmas.{injected_carries}
+use Rattle.opentelemetry_sdk.specs.Hops.{AreHops, IsChild, IsPassedOn}
 use Rattle.opentelemetry_sdk.specs.Provider.{ProviderState}
 use Rattle.opentelemetry_sdk.specs.SpanHistory.{SpanHistory, SpanStart, over, span_of}
 use Rattle.opentelemetry_sdk.specs.Starting.{Decided, DrawsTraceId, Starts, StartsOpen, parent_in, start_flags, start_question, start_span_context}
@@ -35,10 +37,31 @@ child_agrees root parent child agrees (span_id, is) = record {
   trace_state = ap (λ (c : PlainSpanContext). c.trace_state) is ∙ agrees.trace_state;
 }
 
+some_is : {X : Type 0} (x y : X) → Some x ≡ Some y → x ≡ y
+some_is {X = X} x y is = ap (λ (o : Option X). unwrap_or o x) is
+
+-- what is passed on is the same span context, remote, with the sampled flag alone
+passed_on : (sent received : PlainSpanContext) → IsPassedOn sent received → received ≡ remote_copy sent
+passed_on sent received passed =
+    let is = ap (λ (a : Option PlainSpanContext). unwrap_or a empty_span_context) passed.sends in
+    let carried = injected_carries passed.sender passed.before passed.headers (rw is passed.is_span_context) (rw is passed.is_valid) passed.injects
+    passed.receiver passed.found passed.extracts in
+    some_is received (remote_copy sent)
+    (sym passed.receives ∙ ap (λ (cx : PlainContext). cx.span_context) carried ∙ ap (λ (c : PlainSpanContext). Some (remote_copy c)) is)
+
+passed_on_agrees : (root sent received : PlainSpanContext) → Agrees root sent → IsPassedOn sent received → Agrees root received
+passed_on_agrees root sent received agrees passed =
+    let is = passed_on sent received passed in
+    record {
+      trace_id = ap (λ (c : PlainSpanContext). c.trace_id) is ∙ agrees.trace_id;
+      sampled = ap (λ (c : PlainSpanContext). c.trace_flags % 2) is ∙ omega (arith, agrees.sampled);
+      trace_state = ap (λ (c : PlainSpanContext). c.trace_state) is ∙ agrees.trace_state;
+    }
+
 pub hops_agree : (root before : PlainSpanContext) (hops : List PlainSpanContext) → Agrees root before → AreHops before hops → All (Agrees root) hops
 hops_agree root before [] agrees are = All-nil (Agrees root)
-hops_agree root before (next ∷ more) agrees (child, rest) =
-    let also = child_agrees root before next agrees child in
+hops_agree root before (next ∷ more) agrees (hop, rest) =
+    let also = ⊎_elim (child_agrees root before next agrees) (passed_on_agrees root before next agrees) hop in
     All-cons (Agrees root) next more also (hops_agree root next more also rest)
 
 module _ {P : Type 0} (calls : Ghosts P) where

@@ -1,7 +1,9 @@
 -- How a trace goes on from its root, one span context after another.
-use Rattle.std.specs.Prelude.{◌≡◌, ℕ, List, [], ◌∷◌, Some}
-use Rattle.opentelemetry.specs.Plain.{PlainSpanContext}
+use Rattle.std.specs.Prelude.{◌≡◌, ◌⊎◌, ℕ, List, [], ◌∷◌, Some, Ok}
+use Rattle.opentelemetry.specs.Carrier.{Texts}
+use Rattle.opentelemetry.specs.Plain.{PlainContext, PlainSpanContext}
 use Rattle.otel_base.specs.Sampler.{built_in, parent_decision}
+use Rattle.otel_base.specs.Traceparent.{ExtractsTraceContext, InjectsTraceContext, IsSpanContext, IsValid}
 use Rattle.opentelemetry_sdk.specs.Starting.{start_span_context}
 
 -- a span context is that of a child under a sampler by parents: its trace id is the parent's, its span id a new one, and
@@ -11,7 +13,21 @@ IsChild parent child =
     (span_id : ℕ)
     × (child ≡ start_span_context parent parent.trace_id span_id (built_in (parent_decision parent) (Some parent)))
 
--- each of these span contexts comes of the one before it, and the first of this one
+-- a span context is what a process extracts of the headers that another one injected of a valid span context
+pub record IsPassedOn (sent received : PlainSpanContext) : Type 0 where
+  pub is_valid : IsValid sent
+  pub is_span_context : IsSpanContext sent
+  pub sender : PlainContext
+  pub receiver : PlainContext
+  pub found : PlainContext
+  pub before : Texts
+  pub headers : Texts
+  pub sends : sender.span_context ≡ Some sent
+  pub injects : InjectsTraceContext sender before (Ok tt) headers
+  pub extracts : ExtractsTraceContext receiver headers found
+  pub receives : found.span_context ≡ Some received
+
+-- each of these span contexts comes of the one before it, as its child or in another process, and the first of this one
 abbrev pub AreHops : PlainSpanContext → List PlainSpanContext → Type 0
 AreHops before [] = Unit {0}
-AreHops before (next ∷ more) = IsChild before next × AreHops next more
+AreHops before (next ∷ more) = (IsChild before next ⊎ IsPassedOn before next) × AreHops next more
