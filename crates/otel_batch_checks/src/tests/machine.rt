@@ -1,0 +1,350 @@
+mod random;
+mod refusals;
+mod script;
+mod watching;
+
+use crate::tests::machine::script::{
+    counts_text, first_difference, machine, sizes, spans_text, step_of, text_of,
+};
+use otel_base::error::{OTelSdkError, OTelSdkResult};
+use otel_batch::machine::{BatchMachine, Outcome, Slot, Step, Worker};
+use otel_batch::trace::{ExporterBox, SpanData, SpanExporter};
+use std::alloc::Global;
+use std::test::Fail;
+use std::time::Duration;
+
+/// A span that is sent while the queue is full is refused and counted; of two producers that see a full batch one posts.
+#[test]
+fn a_full_queue_drops_and_a_wish_is_posted_once(rt: HostRuntime) -> Result<(), Fail> {
+    let alloc = rt.alloc();
+    let mut queue = machine(alloc, 3, 2, 1)?;
+    let script = [
+        ("offer 0 a", "counted 1"),
+        ("send 0", "accepted"),
+        ("offer 0 b", "counted 2"),
+        ("send 0", "accepted"),
+        ("ask 0", "may post"),
+        ("post 0", "posted"),
+        ("offer 0 c", "counted 3"),
+        ("send 0", "accepted"),
+        ("ask 0", "already asked"),
+        ("offer 0 d", "counted 4"),
+        ("send 0", "full"),
+        ("undo 0", "undone"),
+        ("take", "took export"),
+        ("load", "not enabled"),
+        ("clear", "cleared"),
+        ("load", "loaded 3"),
+        ("pull", "pulled"),
+        ("pull", "pulled"),
+        ("pull", "not enabled"),
+        ("hand", "handed over 2"),
+        ("subtract", "subtracted"),
+        ("pull", "pulled"),
+        ("hand", "handed over 1"),
+        ("subtract", "subtracted"),
+        ("finish", "finished"),
+    ];
+    assert_eq!(rt; first_difference(alloc, &mut queue, &script)?.as_str(), "");
+    assert_eq!(rt;
+        spans_text(alloc, &queue)?.as_str(),
+        "waiting [] hand [] told [a,b] [c]"
+    );
+    assert_eq!(rt;
+        counts_text(alloc, &queue)?.as_str(),
+        "counter 0 dropped 1 open"
+    );
+    Ok(())
+}
+
+/// A flush counts the span of a producer that has not sent it yet, and leaves it to the next drain.
+#[test]
+fn a_flush_drains_what_waits(rt: HostRuntime) -> Result<(), Fail> {
+    let alloc = rt.alloc();
+    let mut queue = machine(alloc, 2, 2, 2)?;
+    let script = [
+        ("offer 0 a", "counted 1"),
+        ("flush 1", "requested"),
+        ("take", "took flush 1"),
+        ("load", "loaded 1"),
+        ("pull", "empty"),
+        ("finish", "finished"),
+        ("collect 1", "collected ok"),
+        ("send 0", "accepted"),
+    ];
+    assert_eq!(rt; first_difference(alloc, &mut queue, &script)?.as_str(), "");
+    assert_eq!(rt;
+        spans_text(alloc, &queue)?.as_str(),
+        "waiting [a] hand [] told"
+    );
+    assert_eq!(rt;
+        counts_text(alloc, &queue)?.as_str(),
+        "counter 1 dropped 0 open"
+    );
+    Ok(())
+}
+
+/// A span that is sent behind a shutdown's load stays among the waiting, and none is exported behind the shutdown.
+#[test]
+fn a_span_sent_during_a_shutdown_is_stranded(rt: HostRuntime) -> Result<(), Fail> {
+    let alloc = rt.alloc();
+    let mut queue = machine(alloc, 2, 2, 2)?;
+    let script = [
+        ("offer 0 a", "counted 1"),
+        ("send 0", "accepted"),
+        ("shutdown 1", "requested"),
+        ("take", "took shutdown 1"),
+        ("load", "loaded 1"),
+        ("offer 0 b", "counted 2"),
+        ("send 0", "accepted"),
+        ("pull", "pulled"),
+        ("hand", "handed over 1"),
+        ("subtract", "subtracted"),
+        ("finish", "finished"),
+        ("close", "shut down"),
+        ("collect 1", "collected ok"),
+        ("ask 0", "may post"),
+        ("post 0", "closed"),
+        ("reset 0", "reset"),
+        ("offer 0 c", "counted 2"),
+        ("send 0", "closed"),
+        ("undo 0", "undone"),
+        ("flush 0", "closed"),
+        ("shutdown 1", "closed"),
+        ("resource", "closed"),
+    ];
+    assert_eq!(rt; first_difference(alloc, &mut queue, &script)?.as_str(), "");
+    assert_eq!(rt;
+        spans_text(alloc, &queue)?.as_str(),
+        "waiting [b] hand [] told [a]"
+    );
+    assert_eq!(rt;
+        counts_text(alloc, &queue)?.as_str(),
+        "counter 1 dropped 0 closed"
+    );
+    Ok(())
+}
+
+/// A request that a shutdown finds in the control queue is answered with an error.
+#[test]
+fn a_shutdown_drops_the_requests_behind_it(rt: HostRuntime) -> Result<(), Fail> {
+    let alloc = rt.alloc();
+    let mut queue = machine(alloc, 2, 2, 2)?;
+    let script = [
+        ("shutdown 0", "requested"),
+        ("flush 1", "requested"),
+        ("take", "took shutdown 0"),
+        ("load", "loaded 0"),
+        ("finish", "finished"),
+        ("close", "shut down"),
+        (
+            "collect 1",
+            "collected Operation failed: request dropped by shutdown",
+        ),
+        ("collect 0", "collected ok"),
+        ("take", "not enabled"),
+    ];
+    assert_eq!(rt; first_difference(alloc, &mut queue, &script)?.as_str(), "");
+    Ok(())
+}
+
+/// Steps in states in which they are not enabled, and steps of producers that there are not.
+#[test]
+fn a_step_out_of_turn_is_not_enabled(rt: HostRuntime) -> Result<(), Fail> {
+    let alloc = rt.alloc();
+    let mut queue = machine(alloc, 2, 2, 1)?;
+    let script = [
+        ("offer-unsampled 0 a", "skipped"),
+        ("send 0", "not enabled"),
+        ("undo 0", "not enabled"),
+        ("ask 0", "not enabled"),
+        ("post 0", "not enabled"),
+        ("reset 0", "not enabled"),
+        ("collect 0", "not enabled"),
+        ("clear", "not enabled"),
+        ("pull", "not enabled"),
+        ("hand", "not enabled"),
+        ("subtract", "not enabled"),
+        ("finish", "not enabled"),
+        ("close", "not enabled"),
+        ("take", "nothing"),
+        ("offer 1 a", "not enabled"),
+        ("offer 0 a", "counted 1"),
+        ("offer 0 b", "not enabled"),
+        ("flush 0", "not enabled"),
+        ("shutdown 0", "not enabled"),
+        ("resource", "posted"),
+        ("take", "took resource"),
+        ("tick", "ticked"),
+        ("tick", "not enabled"),
+    ];
+    assert_eq!(rt; first_difference(alloc, &mut queue, &script)?.as_str(), "");
+    assert_eq!(rt;
+        counts_text(alloc, &queue)?.as_str(),
+        "counter 1 dropped 0 open"
+    );
+    Ok(())
+}
+
+/// With 64 messages the control queue takes no more.
+#[test]
+fn the_control_queue_holds_64_messages(rt: HostRuntime) -> Result<(), Fail> {
+    let alloc = rt.alloc();
+    let mut queue = machine(alloc, 1, 1, 1)?;
+    for _ in 0..64 {
+        assert_eq!(rt; queue.step(step_of(alloc, "resource")?), Outcome::Posted);
+    }
+    assert_eq!(rt; queue.messages_len(), 64);
+    let script = [
+        ("resource", "full"),
+        ("flush 0", "full"),
+        ("shutdown 0", "full"),
+        ("offer 0 a", "counted 1"),
+        ("send 0", "accepted"),
+        ("ask 0", "may post"),
+        ("post 0", "full"),
+        ("reset 0", "reset"),
+    ];
+    assert_eq!(rt; first_difference(alloc, &mut queue, &script)?.as_str(), "");
+    Ok(())
+}
+
+/// An exporter of a caller's own, which fails with a text.
+#[derive(Drop)]
+struct Failing {
+    alloc: Global,
+}
+
+impl SpanExporter for Failing {
+    ghost use Rattle.std.specs.Prelude.{None};
+
+    ghost told = { λ _. None };
+
+    fn export(&mut self, batch: Vec<SpanData>) -> OTelSdkResult {
+        let _ = batch;
+        match String::from_str(self.alloc, "no route") {
+            Ok(reason) => Err(OTelSdkError::InternalFailure(reason)),
+            Err(_) => Err(OTelSdkError::OutOfMemory),
+        }
+    }
+
+    fn shutdown_with_timeout(&mut self, timeout: Duration) -> OTelSdkResult {
+        Err(OTelSdkError::Timeout(timeout))
+    }
+}
+
+/// The exporter's last answer is a drain's result, for a timer's drain and for a flush; that of its shutdown is dropped.
+#[test]
+fn the_last_answer_of_a_drain_is_its_result(rt: HostRuntime) -> Result<(), Fail> {
+    let alloc = rt.alloc();
+    let exporter = ExporterBox::Custom(Box::new(alloc, Failing { alloc })?);
+    let mut queue = BatchMachine::new(alloc, exporter, sizes(2, 0), 1)?;
+    let script = [
+        ("offer 0 a", "counted 1"),
+        ("send 0", "accepted"),
+        ("ask 0", "may post"),
+        ("post 0", "posted"),
+        ("tick", "ticked"),
+        ("load", "loaded 1"),
+        ("pull", "pulled"),
+        ("pull", "empty"),
+        ("hand", "handed over 1 Operation failed: "),
+        ("subtract", "subtracted"),
+        ("finish", "finished Operation failed: no route"),
+        ("offer 0 b", "counted 1"),
+        ("send 0", "accepted"),
+        ("ask 0", "already asked"),
+        ("flush 0", "requested"),
+        ("take", "took export"),
+        ("clear", "cleared"),
+        ("load", "loaded 1"),
+        ("pull", "pulled"),
+        ("pull", "empty"),
+        ("hand", "handed over 1 Operation failed: "),
+        ("subtract", "subtracted"),
+        ("finish", "finished Operation failed: no route"),
+    ];
+    assert_eq!(rt; first_difference(alloc, &mut queue, &script)?.as_str(), "");
+    let script = [
+        ("take", "took flush 0"),
+        ("load", "loaded 0"),
+        ("finish", "finished"),
+        ("collect 0", "collected ok"),
+        ("shutdown 0", "requested"),
+        ("take", "took shutdown 0"),
+        ("load", "loaded 0"),
+        ("finish", "finished"),
+        ("close", "shut down"),
+        ("collect 0", "collected ok"),
+    ];
+    assert_eq!(rt; first_difference(alloc, &mut queue, &script)?.as_str(), "");
+    Ok(())
+}
+
+/// How many enabled steps the worker takes from a load of five spans to the finish, for this size of batches.
+fn drain_steps(alloc: Global, batch_size: usize) -> Result<usize, Fail> {
+    let mut queue = machine(alloc, 5, batch_size, 1)?;
+    for _ in 0..5 {
+        queue.step(step_of(alloc, "offer 0 a")?);
+        if queue.step(Step::Send(0)) != Outcome::Accepted {
+            return Err(Fail::new("a send was refused"));
+        }
+        queue.step(Step::Ask(0));
+        queue.step(Step::Post(0));
+    }
+    if queue.step(Step::Tick) != Outcome::Ticked {
+        return Err(Fail::new("the timer was not heard"));
+    }
+    if queue.step(Step::Load) != Outcome::Loaded(5) {
+        return Err(Fail::new("the drain was not loaded with five spans"));
+    }
+    let mut taken: usize = 0;
+    for _ in 0..20 {
+        for step in [Step::Pull, Step::HandOver, Step::Subtract] {
+            if queue.step(step) != Outcome::NotEnabled {
+                taken = taken.saturating_add(1);
+            }
+        }
+    }
+    if queue.step(Step::Finish) != Outcome::Finished(None) {
+        return Err(Fail::new("the drain has not finished"));
+    }
+    Ok(taken)
+}
+
+/// Three steps a batch and one more a further span; a batch of all that waits ends where it meets its own size.
+#[test]
+fn a_drain_of_five_spans_takes_its_steps(rt: HostRuntime) -> Result<(), Fail> {
+    assert_eq!(rt; drain_steps(rt.alloc(), 1)?, 15);
+    assert_eq!(rt; drain_steps(rt.alloc(), 2)?, 11);
+    assert_eq!(rt; drain_steps(rt.alloc(), 0)?, 7);
+    Ok(())
+}
+
+/// A list of steps has the outcomes of its steps, behind those that were there.
+#[test]
+fn a_run_appends_its_outcomes(rt: HostRuntime) -> Result<(), Fail> {
+    let alloc = rt.alloc();
+    let mut queue = machine(alloc, 1, 1, 1)?;
+    let steps = vec![in alloc;
+        step_of(alloc, "offer 0 a")?,
+        Step::Send(0),
+        Step::Ask(0),
+        Step::Take,
+    ]?;
+    let mut outcomes = vec![in alloc; Outcome::Nothing]?;
+    assert!(rt; queue.run(steps, &mut outcomes).is_ok());
+    let mut text = String::new(alloc);
+    for outcome in &outcomes {
+        text.push_str(text_of(alloc, outcome)?.as_str())?;
+        text.push_str(";")?;
+    }
+    assert_eq!(rt;
+        text.as_str(),
+        "nothing;counted 1;accepted;may post;nothing;"
+    );
+    assert!(rt; matches!(queue.slot(0), Some(Slot::Posting)));
+    assert!(rt; queue.slot(1).is_none());
+    assert_eq!(rt; *queue.worker(), Worker::Ready);
+    Ok(())
+}
