@@ -87,7 +87,7 @@ pub(crate) fn batches_since(batches: &[Vec<SpanData>], shown: usize) -> &[Vec<Sp
 }
 
 /// Copies of the spans of batches.
-pub(crate) fn copies_of(
+pub(crate) fn copied_spans(
     alloc: Global,
     batches: &[Vec<SpanData>],
 ) -> Result<Vec<SpanData>, AllocError>

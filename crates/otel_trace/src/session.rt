@@ -36,7 +36,7 @@ ghost use Rattle.otel_trace.specs.SessionDelivery.{
 };
 
 use crate::command::Command;
-use crate::exported::{KeepsBatches, batches_since, copies_of};
+use crate::exported::{KeepsBatches, batches_since, copied_spans};
 use crate::lines::parse;
 use crate::open_spans::OpenSpans;
 use crate::reply::{Answer, Reply};
@@ -139,7 +139,7 @@ impl<P: KeepsBatches, S: ShouldSample, G: IdGenerator> Session<P, S, G> {
         let mut queue = VecDeque::from_vec(commands);
         while let Some(command) = queue.pop_front() {
             let answer = self.answer(command)?;
-            let exported = copies_of(self.alloc, self.unshown())?;
+            let exported = copied_spans(self.alloc, self.unshown())?;
             replies.push(Reply { exported, answer })?;
             self.mark_shown();
         }

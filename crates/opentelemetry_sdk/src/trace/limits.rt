@@ -15,7 +15,7 @@ use std::alloc::{AllocError, Global};
 
 /// Cuts a list at a limit. The answer is how many items were left out, at most the greatest `u32`.
 pub(crate) fn cut<T: Drop>(items: &mut Vec<T>, limit: u32) -> u32
-    ensures kept { items.new.items ≡ cut_at limit items.old.items }
+    ensures cut { items.new.items ≡ cut_at limit items.old.items }
     ensures left_out { result ≡ left_out limit items.old.items }
 {
     let left_out = items.len().saturating_sub(limit as usize);
@@ -30,7 +30,7 @@ pub(crate) fn push_within<T: Drop>(
     limit: u32,
     item: T,
 ) -> Result<u32, AllocError>
-    ensures kept { OnOk result (items.new.items ≡ history.grown_within limit items.old.items item) }
+    ensures grown { OnOk result (items.new.items ≡ history.grown_within limit items.old.items item) }
     ensures dropped { IfOk result (λ dropped. dropped ≡ (if nat_lt (length items.old.items) limit then 0 else 1)) }
     ensures err { OnErr result (items.new.items ≡ items.old.items) }
     ensures full { limit ≤ length items.old.items → IsOk result }
@@ -51,9 +51,9 @@ pub(crate) fn attributes_within(
     added: Option<Vec<KeyValue>>,
     limit: u32,
 ) -> Result<(Vec<KeyValue>, u32), AllocError>
-    ensures kept { IfOk result (λ kept. kept.0.items
+    ensures cut { IfOk result (λ answer. answer.0.items
         ≡ cut_at limit (added_attributes given ++ added_attributes added)) }
-    ensures left_out { IfOk result (λ kept. kept.1
+    ensures left_out { IfOk result (λ answer. answer.1
         ≡ left_out limit (added_attributes given ++ added_attributes added)) }
     ensures free { (added_attributes given ≡ []) ⊎ (added_attributes added ≡ []) → IsOk result }
 {
@@ -68,8 +68,8 @@ fn joined_within<T: Drop>(
     mut back: Vec<T>,
     limit: u32,
 ) -> Result<(Vec<T>, u32), AllocError>
-    ensures kept { IfOk result (λ kept. kept.0.items ≡ cut_at limit (front.items ++ back.items)) }
-    ensures left_out { IfOk result (λ kept. kept.1 ≡ left_out limit (front.items ++ back.items)) }
+    ensures cut { IfOk result (λ answer. answer.0.items ≡ cut_at limit (front.items ++ back.items)) }
+    ensures left_out { IfOk result (λ answer. answer.1 ≡ left_out limit (front.items ++ back.items)) }
     ensures free { (front.items ≡ []) ⊎ (back.items ≡ []) → IsOk result }
 {
     if front.is_empty() {

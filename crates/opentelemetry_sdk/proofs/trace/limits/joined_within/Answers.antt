@@ -4,8 +4,8 @@ use Rattle.otel_batch.specs.PlainSpanData.{cut_at}
 use Rattle.opentelemetry_sdk.proofs.Cutting.{cut_joined}
 use Rattle.opentelemetry_sdk.proofs.trace.limits.joined_within.Goals as goal
 
-pub returns-clause-kept : goal.returns-clause-kept
-returns-clause-kept g c =
+pub returns-clause-cut : goal.returns-clause-cut
+returns-clause-cut g c =
     let size : c.len.result ≡ length (cut_at c.args.limit c.args.front.items) = search rules in
     let few : length (take c.args.limit c.args.front.items) ≤ c.args.limit = omega (arith, length-take c.args.limit c.args.front.items) in
     let room : c.saturating_sub-room.result ≡ c.args.limit - length (cut_at c.args.limit c.args.front.items) = omega (arith, size, few, c.ranges.limit.fits, c.saturating_sub-room.ensures) in
