@@ -2,7 +2,7 @@
 
 use opentelemetry::trace::{Link, SpanContext, SpanKind, TraceState};
 use opentelemetry::{Context, Key, KeyValue, SpanId, TraceFlags, TraceId, Value};
-use otel_base::trace::{Ratio, Sampler, SamplingDecision, SamplingResult, ShouldSample};
+use otel_base::trace::{Ratio, Sampler, SamplerOf, SamplingDecision, SamplingResult, ShouldSample};
 use std::alloc::{AllocError, Global};
 use std::test::Fail;
 
@@ -44,6 +44,9 @@ impl ShouldSample for Own {
     }
 }
 
+/// A tree whose custom sampler stands in no box, which is quicker to prove. One test has the everyday type.
+type Tree = SamplerOf<Own>;
+
 fn parent_of(alloc: Global, trace_flags: TraceFlags) -> Result<Context, Fail> {
     let span_context = SpanContext::new(
         TraceId::from(1),
@@ -56,7 +59,7 @@ fn parent_of(alloc: Global, trace_flags: TraceFlags) -> Result<Context, Fail> {
 }
 
 fn ask(
-    sampler: &Sampler,
+    sampler: &Tree,
     parent_context: Option<&Context>,
     name: &str,
 ) -> Result<SamplingResult, AllocError> {
@@ -82,8 +85,8 @@ fn without_attributes(
     })
 }
 
-fn over(alloc: Global, delegate: Sampler) -> Result<Sampler, AllocError> {
-    Ok(Sampler::ParentBased(Box::new(alloc, delegate)?))
+fn over(alloc: Global, delegate: Tree) -> Result<Tree, AllocError> {
+    Ok(Tree::ParentBased(Box::new(alloc, delegate)?))
 }
 
 #[test]
@@ -94,8 +97,8 @@ fn decides_by_the_parent_and_passes_its_trace_state_on(rt: HostRuntime) -> Resul
     let dropped = parent_of(rt.alloc(), TraceFlags::new(0xfe))?;
     let no_span = Context::new();
     let empty_span = no_span.with_span_context(SpanContext::empty_context())?;
-    let over_on = over(rt.alloc(), Sampler::AlwaysOn)?;
-    let over_off = over(rt.alloc(), over(rt.alloc(), Sampler::AlwaysOff)?)?;
+    let over_on = over(rt.alloc(), Tree::AlwaysOn)?;
+    let over_off = over(rt.alloc(), over(rt.alloc(), Tree::AlwaysOff)?)?;
     let cases = [
         ("no parent context", None, on, off, ""),
         ("no active span", Some(&no_span), on, off, ""),
@@ -105,8 +108,8 @@ fn decides_by_the_parent_and_passes_its_trace_state_on(rt: HostRuntime) -> Resul
     ];
     for (case, parent, from_over_on, from_over_off, state) in cases {
         let answers = [
-            (ask(&Sampler::AlwaysOn, parent, "")?, on),
-            (ask(&Sampler::AlwaysOff, parent, "")?, off),
+            (ask(&Tree::AlwaysOn, parent, "")?, on),
+            (ask(&Tree::AlwaysOff, parent, "")?, off),
             (ask(&over_on, parent, "")?, from_over_on),
             (ask(&over_off, parent, "")?, from_over_off),
         ];
@@ -122,7 +125,7 @@ fn decides_by_the_parent_and_passes_its_trace_state_on(rt: HostRuntime) -> Resul
 
 /// What a sampler decides on a trace whose id has this low half.
 fn decision_on(
-    sampler: &Sampler,
+    sampler: &Tree,
     parent_context: Option<&Context>,
     low: u64,
 ) -> Result<SamplingDecision, AllocError> {
@@ -139,7 +142,7 @@ fn decision_on(
 }
 
 /// Whether a sampler samples that trace; none where it finds no memory.
-fn samples(sampler: &Sampler, parent_context: Option<&Context>, low: u64) -> Option<bool> {
+fn samples(sampler: &Tree, parent_context: Option<&Context>, low: u64) -> Option<bool> {
     let decision = decision_on(sampler, parent_context, low).ok()?;
     Some(decision == SamplingDecision::RecordAndSample)
 }
@@ -148,7 +151,7 @@ fn samples(sampler: &Sampler, parent_context: Option<&Context>, low: u64) -> Opt
 fn a_ratio_decides_by_the_trace_id_alone(rt: HostRuntime) -> Result<(), Fail> {
     let sampled = parent_of(rt.alloc(), TraceFlags::SAMPLED)?;
     let dropped = parent_of(rt.alloc(), TraceFlags::default())?;
-    let sampler = Sampler::TraceIdRatioBased(Ratio::new(1, 4)?);
+    let sampler = Tree::TraceIdRatioBased(Ratio::new(1, 4)?);
     for parent in [None, Some(&sampled), Some(&dropped)] {
         assert_eq!(rt; samples(&sampler, parent, (1 << 62) - 1), Some(true));
         assert_eq!(rt; samples(&sampler, parent, 1 << 62), Some(false));
@@ -160,7 +163,7 @@ fn a_ratio_decides_by_the_trace_id_alone(rt: HostRuntime) -> Result<(), Fail> {
 fn a_ratio_decides_at_roots_where_parents_come_first(rt: HostRuntime) -> Result<(), Fail> {
     let sampled = parent_of(rt.alloc(), TraceFlags::SAMPLED)?;
     let dropped = parent_of(rt.alloc(), TraceFlags::default())?;
-    let sampler = over(rt.alloc(), Sampler::TraceIdRatioBased(Ratio::new(1, 4)?))?;
+    let sampler = over(rt.alloc(), Tree::TraceIdRatioBased(Ratio::new(1, 4)?))?;
     assert_eq!(rt; samples(&sampler, None, 1 << 62), Some(false));
     assert_eq!(rt; samples(&sampler, Some(&sampled), 1 << 62), Some(true));
     assert_eq!(rt; samples(&sampler, Some(&dropped), 0), Some(false));
@@ -169,7 +172,7 @@ fn a_ratio_decides_at_roots_where_parents_come_first(rt: HostRuntime) -> Result<
 
 /// Whether a sampler answers this in a context.
 fn answers_as(
-    sampler: &Sampler,
+    sampler: &Tree,
     parent_context: Option<&Context>,
     expected: &SamplingResult,
 ) -> Result<bool, Fail> {
@@ -180,7 +183,7 @@ fn answers_as(
 #[test]
 fn a_custom_sampler_answers_whole(rt: HostRuntime) -> Result<(), Fail> {
     let alloc = rt.alloc();
-    let sampler = Sampler::Custom(Box::new(alloc, Own { alloc })?);
+    let sampler = Tree::Custom(Own { alloc });
     let whole = own_answer(alloc)?;
     let sampled = parent_of(alloc, TraceFlags::SAMPLED)?;
     let no_span = Context::new();
@@ -191,9 +194,25 @@ fn a_custom_sampler_answers_whole(rt: HostRuntime) -> Result<(), Fail> {
 }
 
 #[test]
+fn a_custom_sampler_in_a_box_answers_whole(rt: HostRuntime) -> Result<(), Fail> {
+    let alloc = rt.alloc();
+    let sampler = Sampler::Custom(Box::new(alloc, Own { alloc })?);
+    let answer = sampler.should_sample(
+        None,
+        TraceId::from(1),
+        "GET",
+        &SpanKind::Internal,
+        &[],
+        &[],
+    )?;
+    assert!(rt; answer == own_answer(alloc)?);
+    Ok(())
+}
+
+#[test]
 fn the_decision_of_a_delegate_counts_alone(rt: HostRuntime) -> Result<(), Fail> {
     let alloc = rt.alloc();
-    let sampler = over(alloc, Sampler::Custom(Box::new(alloc, Own { alloc })?))?;
+    let sampler = over(alloc, Tree::Custom(Own { alloc }))?;
     let decision = without_attributes(alloc, SamplingDecision::RecordOnly, "")?;
     let sampled = parent_of(alloc, TraceFlags::SAMPLED)?;
     let no_span = Context::new();
@@ -208,7 +227,7 @@ fn the_decision_of_a_delegate_counts_alone(rt: HostRuntime) -> Result<(), Fail> 
 fn a_custom_sampler_is_not_asked_under_a_parent(rt: HostRuntime) -> Result<(), Fail> {
     let alloc = rt.alloc();
     let sampled = parent_of(alloc, TraceFlags::SAMPLED)?;
-    let sampler = over(alloc, Sampler::Custom(Box::new(alloc, Own { alloc })?))?;
+    let sampler = over(alloc, Tree::Custom(Own { alloc }))?;
     assert!(rt; ask(&sampler, None, "").is_err());
     assert!(rt; ask(&sampler, Some(&sampled), "").is_ok());
     Ok(())
@@ -226,12 +245,12 @@ fn copies_trees_without_a_custom_sampler(rt: HostRuntime) -> Result<(), Fail> {
     let alloc = rt.alloc();
     let dropped = parent_of(alloc, TraceFlags::default())?;
     let cases = [
-        ("always on", Sampler::AlwaysOn, true, true),
-        ("always off", Sampler::AlwaysOff, false, false),
-        ("parent-based", over(alloc, Sampler::AlwaysOn)?, true, false),
+        ("always on", Tree::AlwaysOn, true, true),
+        ("always off", Tree::AlwaysOff, false, false),
+        ("parent-based", over(alloc, Tree::AlwaysOn)?, true, false),
         (
             "twice parent-based",
-            over(alloc, over(alloc, Sampler::AlwaysOff)?)?,
+            over(alloc, over(alloc, Tree::AlwaysOff)?)?,
             false,
             false,
         ),
@@ -253,7 +272,7 @@ fn copies_trees_without_a_custom_sampler(rt: HostRuntime) -> Result<(), Fail> {
             "{case}"
         );
     }
-    let custom = Sampler::Custom(Box::new(alloc, Own { alloc })?);
+    let custom = Tree::Custom(Own { alloc });
     assert!(rt; custom.try_clone()?.is_none());
     assert!(rt; over(alloc, over(alloc, custom)?)?.try_clone()?.is_none());
     Ok(())
