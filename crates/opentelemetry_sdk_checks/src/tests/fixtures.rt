@@ -81,7 +81,7 @@ impl SpanProcessor for Writer<'_> {
     }
 }
 
-pub(super) fn writer(alloc: Global, digit: u64, board: &Cell<u64>) -> Writer<'_> {
+pub(super) fn new_writer(alloc: Global, digit: u64, board: &Cell<u64>) -> Writer<'_> {
     Writer {
         digit,
         board,
@@ -96,7 +96,7 @@ pub(super) fn three_writers(
 ) -> Result<Vec<Writer<'_>>, AllocError> {
     let mut writers = Vec::new(alloc);
     for digit in 1..4 {
-        writers.push(writer(alloc, digit, board))?;
+        writers.push(new_writer(alloc, digit, board))?;
     }
     Ok(writers)
 }

@@ -1,7 +1,7 @@
 //! What becomes of a sampler's whole answer at a start: a span that is recorded and not sampled, one whose delegate
 //! decides alone, and a trace state of the sampler's own.
 
-use super::fixtures::{Writer, writer};
+use super::fixtures::{Writer, new_writer};
 use opentelemetry::trace::{Link, SpanContext, SpanKind, TraceState};
 use opentelemetry::{Context, Key, KeyValue, Moment, SpanId, TraceFlags, TraceId, Value};
 use opentelemetry_sdk::trace::{ProcessorOf, ProviderOf, SimpleSpanProcessor, Span};
@@ -65,7 +65,7 @@ fn provider_of(
     let mut processors = Vec::new(alloc);
     let exporter = InMemorySpanExporter::new(alloc);
     processors.push(ProcessorOf::Simple(SimpleSpanProcessor::new(alloc, exporter)))?;
-    processors.push(ProcessorOf::Custom(writer(alloc, 1, board)))?;
+    processors.push(ProcessorOf::Custom(new_writer(alloc, 1, board)))?;
     Ok(ProviderOf::from_parts(
         processors,
         sampler,

@@ -89,16 +89,27 @@ fn over(alloc: Global, delegate: Tree) -> Result<Tree, AllocError> {
     Ok(Tree::ParentBased(Box::new(alloc, delegate)?))
 }
 
+/// Whether a sampler gives a span without a name this decision and trace state, and no attribute.
+fn decides(
+    alloc: Global,
+    sampler: &Tree,
+    parent_context: Option<&Context>,
+    decision: SamplingDecision,
+    trace_state: &str,
+) -> Result<bool, Fail> {
+    Ok(ask(sampler, parent_context, "")? == without_attributes(alloc, decision, trace_state)?)
+}
+
 #[test]
 fn decides_by_the_parent_and_passes_its_trace_state_on(rt: HostRuntime) -> Result<(), Fail> {
-    let on = SamplingDecision::RecordAndSample;
-    let off = SamplingDecision::Drop;
-    let sampled = parent_of(rt.alloc(), TraceFlags::SAMPLED)?;
-    let dropped = parent_of(rt.alloc(), TraceFlags::new(0xfe))?;
+    let alloc = rt.alloc();
+    let (on, off) = (SamplingDecision::RecordAndSample, SamplingDecision::Drop);
+    let sampled = parent_of(alloc, TraceFlags::SAMPLED)?;
+    let dropped = parent_of(alloc, TraceFlags::new(0xfe))?;
     let no_span = Context::new();
     let empty_span = no_span.with_span_context(SpanContext::empty_context())?;
-    let over_on = over(rt.alloc(), Tree::AlwaysOn)?;
-    let over_off = over(rt.alloc(), over(rt.alloc(), Tree::AlwaysOff)?)?;
+    let over_on = over(alloc, Tree::AlwaysOn)?;
+    let over_off = over(alloc, over(alloc, Tree::AlwaysOff)?)?;
     let cases = [
         ("no parent context", None, on, off, ""),
         ("no active span", Some(&no_span), on, off, ""),
@@ -107,18 +118,22 @@ fn decides_by_the_parent_and_passes_its_trace_state_on(rt: HostRuntime) -> Resul
         ("other flags alone", Some(&dropped), off, off, "foo=bar"),
     ];
     for (case, parent, from_over_on, from_over_off, state) in cases {
-        let answers = [
-            (ask(&Tree::AlwaysOn, parent, "")?, on),
-            (ask(&Tree::AlwaysOff, parent, "")?, off),
-            (ask(&over_on, parent, "")?, from_over_on),
-            (ask(&over_off, parent, "")?, from_over_off),
-        ];
-        for (answer, decision) in answers {
-            assert!(rt;
-                answer == without_attributes(rt.alloc(), decision, state)?,
-                "{case}"
-            );
-        }
+        assert!(rt;
+            decides(alloc, &Tree::AlwaysOn, parent, on, state)?,
+            "{case}"
+        );
+        assert!(rt;
+            decides(alloc, &Tree::AlwaysOff, parent, off, state)?,
+            "{case}"
+        );
+        assert!(rt;
+            decides(alloc, &over_on, parent, from_over_on, state)?,
+            "{case}"
+        );
+        assert!(rt;
+            decides(alloc, &over_off, parent, from_over_off, state)?,
+            "{case}"
+        );
     }
     Ok(())
 }
@@ -240,40 +255,36 @@ fn a_clone_of_an_answer_is_equal(rt: HostRuntime) -> Result<(), Fail> {
     Ok(())
 }
 
+/// Whether the copy of a sampler samples a root, and whether it samples the child of a span that is not.
+fn copy_samples(sampler: &Tree, dropped: &Context) -> Result<(bool, bool), Fail> {
+    let Some(copy) = sampler.try_clone()? else {
+        return Err("no copy")?;
+    };
+    let root = ask(&copy, None, "")?.decision;
+    let child = ask(&copy, Some(dropped), "")?.decision;
+    let on = SamplingDecision::RecordAndSample;
+    Ok((root == on, child == on))
+}
+
 #[test]
 fn copies_trees_without_a_custom_sampler(rt: HostRuntime) -> Result<(), Fail> {
     let alloc = rt.alloc();
     let dropped = parent_of(alloc, TraceFlags::default())?;
-    let cases = [
-        ("always on", Tree::AlwaysOn, true, true),
-        ("always off", Tree::AlwaysOff, false, false),
-        ("parent-based", over(alloc, Tree::AlwaysOn)?, true, false),
-        (
-            "twice parent-based",
-            over(alloc, over(alloc, Tree::AlwaysOff)?)?,
-            false,
-            false,
-        ),
-    ];
-    for (case, sampler, at_root, under_dropped) in cases {
-        let Some(copy) = sampler.try_clone()? else {
-            return Err("no copy")?;
-        };
-        let root = ask(&copy, None, "")?;
-        assert_eq!(rt;
-            root.decision == SamplingDecision::RecordAndSample,
-            at_root,
-            "{case}"
-        );
-        let child = ask(&copy, Some(&dropped), "")?;
-        assert_eq!(rt;
-            child.decision == SamplingDecision::RecordAndSample,
-            under_dropped,
-            "{case}"
-        );
-    }
+    assert_eq!(rt; copy_samples(&Tree::AlwaysOn, &dropped)?, (true, true));
+    assert_eq!(rt; copy_samples(&Tree::AlwaysOff, &dropped)?, (false, false));
+    let over_on = over(alloc, Tree::AlwaysOn)?;
+    assert_eq!(rt; copy_samples(&over_on, &dropped)?, (true, false));
+    let twice = over(alloc, over(alloc, Tree::AlwaysOff)?)?;
+    assert_eq!(rt; copy_samples(&twice, &dropped)?, (false, false));
+    Ok(())
+}
+
+#[test]
+fn a_tree_with_a_custom_sampler_is_not_copied(rt: HostRuntime) -> Result<(), Fail> {
+    let alloc = rt.alloc();
     let custom = Tree::Custom(Own { alloc });
     assert!(rt; custom.try_clone()?.is_none());
-    assert!(rt; over(alloc, over(alloc, custom)?)?.try_clone()?.is_none());
+    let tree = over(alloc, over(alloc, custom)?)?;
+    assert!(rt; tree.try_clone()?.is_none());
     Ok(())
 }
