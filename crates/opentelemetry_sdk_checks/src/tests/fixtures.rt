@@ -81,14 +81,6 @@ impl SpanProcessor for Writer<'_> {
     }
 }
 
-pub(super) fn new_writer(alloc: Global, digit: u64, board: &Cell<u64>) -> Writer<'_> {
-    Writer {
-        digit,
-        board,
-        taken: Vec::new(alloc),
-    }
-}
-
 /// Three processors that share a board.
 pub(super) fn three_writers(
     alloc: Global,
@@ -96,7 +88,11 @@ pub(super) fn three_writers(
 ) -> Result<Vec<Writer<'_>>, AllocError> {
     let mut writers = Vec::new(alloc);
     for digit in 1..4 {
-        writers.push(new_writer(alloc, digit, board))?;
+        writers.push(Writer {
+            digit,
+            board,
+            taken: Vec::new(alloc),
+        })?;
     }
     Ok(writers)
 }

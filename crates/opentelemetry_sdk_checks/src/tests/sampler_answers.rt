@@ -1,17 +1,17 @@
 //! What becomes of a sampler's whole answer at a start: a span that is recorded and not sampled, one whose delegate
 //! decides alone, and a trace state of the sampler's own.
 
-use super::fixtures::{Writer, new_writer};
 use opentelemetry::trace::{Link, SpanContext, SpanKind, TraceState};
 use opentelemetry::{Context, Key, KeyValue, Moment, SpanId, TraceFlags, TraceId, Value};
-use opentelemetry_sdk::trace::{ProcessorOf, ProviderOf, SimpleSpanProcessor, Span};
+use opentelemetry_sdk::trace::{ProcessorOf, ProviderOf, SimpleSpanProcessor, Span, SpanProcessor};
+use otel_base::error::OTelSdkResult;
 use otel_base::trace::{
     RandomIdGenerator, SamplerOf, SamplingDecision, SamplingResult, ShouldSample, SpanLimits,
 };
-use otel_batch::trace::InMemorySpanExporter;
+use otel_batch::trace::{InMemorySpanExporter, SpanData};
 use std::alloc::{AllocError, Global};
-use std::cell::Cell;
 use std::test::Fail;
+use std::time::Duration;
 
 /// Records every span without sampling it, adds an attribute, and sets `foo=notbar` in the parent's trace state.
 #[derive(Drop)]
@@ -50,8 +50,31 @@ fn edited_state(alloc: Global, parent: Option<&Context>) -> Result<TraceState, A
     state.insert(alloc, foo, notbar).or(Err(AllocError))
 }
 
-type RecordingProvider<'a> = ProviderOf<
-    ProcessorOf<SimpleSpanProcessor<InMemorySpanExporter>, Writer<'a>>,
+/// Counts the spans that it is given.
+#[derive(Drop)]
+struct Counting {
+    given: usize,
+}
+
+impl SpanProcessor for Counting {
+    fn on_start(&mut self, _span: &mut Span, _cx: &Context) {}
+
+    fn on_end(&mut self, _span: SpanData) -> Result<(), AllocError> {
+        self.given = self.given.saturating_add(1);
+        Ok(())
+    }
+
+    fn force_flush(&mut self) -> OTelSdkResult {
+        Ok(())
+    }
+
+    fn shutdown_with_timeout(&mut self, _timeout: Duration) -> OTelSdkResult {
+        Ok(())
+    }
+}
+
+type RecordingProvider = ProviderOf<
+    ProcessorOf<SimpleSpanProcessor<InMemorySpanExporter>, Counting>,
     SamplerOf<Recording>,
     RandomIdGenerator,
 >;
@@ -59,13 +82,12 @@ type RecordingProvider<'a> = ProviderOf<
 /// A provider with a simple processor and one of its own kind.
 fn provider_of(
     alloc: Global,
-    board: &Cell<u64>,
     sampler: SamplerOf<Recording>,
-) -> Result<RecordingProvider<'_>, AllocError> {
+) -> Result<RecordingProvider, AllocError> {
     let mut processors = Vec::new(alloc);
     let exporter = InMemorySpanExporter::new(alloc);
     processors.push(ProcessorOf::Simple(SimpleSpanProcessor::new(alloc, exporter)))?;
-    processors.push(ProcessorOf::Custom(new_writer(alloc, 1, board)))?;
+    processors.push(ProcessorOf::Custom(Counting { given: 0 }))?;
     Ok(ProviderOf::from_parts(
         processors,
         sampler,
@@ -87,7 +109,7 @@ fn parent_of(alloc: Global, flags: u8) -> Result<Context, Fail> {
 fn started_in(
     alloc: Global,
     cx: &Context,
-    provider: &mut RecordingProvider<'_>,
+    provider: &mut RecordingProvider,
 ) -> Result<String, AllocError> {
     let tracer = provider.tracer(String::new(alloc))?;
     let mut span = tracer.start_with_context(String::new(alloc), cx, provider, Moment(7))?;
@@ -111,12 +133,12 @@ fn shown(alloc: Global, span: &Span) -> Result<String, AllocError> {
 }
 
 /// How many spans the first processor exported, and how many the second one was given.
-fn delivered(provider: &RecordingProvider<'_>) -> (usize, usize) {
+fn delivered(provider: &RecordingProvider) -> (usize, usize) {
     let (mut exported, mut given) = (0, 0);
     for processor in provider.processors() {
         match processor {
             ProcessorOf::Simple(simple) => exported = simple.exporter().batches().len(),
-            ProcessorOf::Custom(writer) => given = writer.taken.len(),
+            ProcessorOf::Custom(counting) => given = counting.given,
         }
     }
     (exported, given)
@@ -127,9 +149,8 @@ fn a_recorded_span_keeps_its_parents_other_flags_and_is_not_exported(
     rt: HostRuntime,
 ) -> Result<(), Fail> {
     let alloc = rt.alloc();
-    let board = Cell::new(0);
     let parent = parent_of(alloc, 0xff)?;
-    let mut provider = provider_of(alloc, &board, SamplerOf::Custom(Recording { alloc }))?;
+    let mut provider = provider_of(alloc, SamplerOf::Custom(Recording { alloc }))?;
     let started = started_in(alloc, &parent, &mut provider);
     let (exported, given) = delivered(&provider);
     let _ = provider.close();
@@ -142,10 +163,9 @@ fn a_recorded_span_keeps_its_parents_other_flags_and_is_not_exported(
 #[test]
 fn a_delegate_decides_on_a_root_alone(rt: HostRuntime) -> Result<(), Fail> {
     let alloc = rt.alloc();
-    let board = Cell::new(0);
     let child_of = parent_of(alloc, 0)?;
     let delegate = Box::new(alloc, SamplerOf::Custom(Recording { alloc }))?;
-    let mut provider = provider_of(alloc, &board, SamplerOf::ParentBased(delegate))?;
+    let mut provider = provider_of(alloc, SamplerOf::ParentBased(delegate))?;
     let root = started_in(alloc, &Context::new(), &mut provider);
     let child = started_in(alloc, &child_of, &mut provider);
     let _ = provider.close();

@@ -100,6 +100,22 @@ fn decides(
     Ok(ask(sampler, parent_context, "")? == without_attributes(alloc, decision, trace_state)?)
 }
 
+/// The same of these samplers, each with its decision, of the one that samples all, and of the one that drops all.
+fn all_decide(
+    alloc: Global,
+    parent: Option<&Context>,
+    samplers: &[(&Tree, SamplingDecision)],
+    state: &str,
+) -> Result<bool, Fail> {
+    let (on, off) = (SamplingDecision::RecordAndSample, SamplingDecision::Drop);
+    let mut all = decides(alloc, &Tree::AlwaysOn, parent, on, state)?;
+    all = all && decides(alloc, &Tree::AlwaysOff, parent, off, state)?;
+    for (sampler, decision) in samplers {
+        all = all && decides(alloc, sampler, parent, *decision, state)?;
+    }
+    Ok(all)
+}
+
 #[test]
 fn decides_by_the_parent_and_passes_its_trace_state_on(rt: HostRuntime) -> Result<(), Fail> {
     let alloc = rt.alloc();
@@ -118,22 +134,8 @@ fn decides_by_the_parent_and_passes_its_trace_state_on(rt: HostRuntime) -> Resul
         ("other flags alone", Some(&dropped), off, off, "foo=bar"),
     ];
     for (case, parent, from_over_on, from_over_off, state) in cases {
-        assert!(rt;
-            decides(alloc, &Tree::AlwaysOn, parent, on, state)?,
-            "{case}"
-        );
-        assert!(rt;
-            decides(alloc, &Tree::AlwaysOff, parent, off, state)?,
-            "{case}"
-        );
-        assert!(rt;
-            decides(alloc, &over_on, parent, from_over_on, state)?,
-            "{case}"
-        );
-        assert!(rt;
-            decides(alloc, &over_off, parent, from_over_off, state)?,
-            "{case}"
-        );
+        let of_parents = [(&over_on, from_over_on), (&over_off, from_over_off)];
+        assert!(rt; all_decide(alloc, parent, &of_parents, state)?, "{case}");
     }
     Ok(())
 }
