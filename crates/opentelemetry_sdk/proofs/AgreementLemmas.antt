@@ -1,5 +1,5 @@
 -- Each span of a trace agrees with its root where samplers go by parents.
-use Rattle.std.proofs.Common.{◌≡◌, ℕ, ◌+◌, ◌*◌, ◌/◌, ◌%◌, Bool, true, false, ◌||◌, List, [], ◌∷◌, All, MatchBool, ⊎_elim, refl, sym, subst, ap, ◌∙◌, arith}
+use Rattle.std.proofs.Common.{◌≡◌, ℕ, ◌%◌, Bool, true, false, ◌||◌, List, [], ◌∷◌, All, MatchBool, ⊎_elim, refl, sym, subst, ap, ◌∙◌, arith}
 use Rattle.std.specs.Prelude.{Option, None, Some, MatchOption, unwrap_or, ◌==◌, if◌then◌else◌}
 use Rattle.std.proofs.lemmas.Bool.{both_ways, eqb-true, eq-eqb}
 use Rattle.std.proofs.lemmas.List.Elements.{All-nil, All-cons}
@@ -7,16 +7,15 @@ use Rattle.opentelemetry.specs.Plain.{PlainScope, PlainContext, PlainSpanContext
 use Rattle.opentelemetry.specs.PlainContexts.{empty_span_context}
 use Rattle.opentelemetry.specs.PlainSpanBuilder.{PlainSpanBuilder}
 use Rattle.otel_base.specs.Agreement.{Agrees}
-use Rattle.otel_base.specs.Sampler.{SamplerGives, SamplerPlan, built_in, parent_based, parent_decision, plan}
+use Rattle.otel_base.specs.Sampler.{SamplerGives, SamplerPlan, active_in, built_in, parent_based, parent_decision}
 use Rattle.otel_base.specs.Sampling.{SamplingQuestion, PlainSamplingResult}
 use Rattle.otel_base.specs.declared.trace.id_generator.IdGenerator as drawing
-use Rattle.otel_base.specs.declared.trace.sampler.SamplerOf.{SamplerOf}
 use Rattle.otel_base.specs.declared.trace.sampler.SamplingDecision.{SamplingDecision}
 use Rattle.otel_base.specs.declared.trace.sampler.SamplingDecision.TheVariants as decisions
 use Rattle.otel_base.specs.declared.trace.sampler.ShouldSample as sampling
 use Rattle.otel_base.specs.Traceparent.{remote_copy}
 use Rattle.otel_base.proofs.TraceparentLemmas.{injected_carries}
-use Rattle.opentelemetry_sdk.specs.Hops.{AreHops, IsChild, IsPassedOn}
+use Rattle.opentelemetry_sdk.specs.Hops.{AreHops, GoesByParents, IsChild, IsPassedOn}
 use Rattle.opentelemetry_sdk.specs.Provider.{ProviderState}
 use Rattle.opentelemetry_sdk.specs.SpanHistory.{SpanHistory, SpanStart, over, span_of}
 use Rattle.opentelemetry_sdk.specs.Starting.{Decided, DrawsTraceId, Starts, StartsOpen, parent_in, start_flags, start_question, start_span_context}
@@ -30,7 +29,7 @@ flag_kept parent false is =
     let other = λ (e : parent.trace_flags % 2 ≡ 1). both_ways (parent.trace_flags % 2 == 1) is (eq-eqb (parent.trace_flags % 2) 1 e) in
     omega (arith, other)
 
-child_agrees : (root parent child : PlainSpanContext) → Agrees root parent → IsChild parent child → Agrees root child
+pub child_agrees : (root parent child : PlainSpanContext) → Agrees root parent → IsChild parent child → Agrees root child
 child_agrees root parent child agrees (span_id, is) = record {
   trace_id = ap (λ (c : PlainSpanContext). c.trace_id) is ∙ agrees.trace_id;
   sampled = ap (λ (c : PlainSpanContext). c.trace_flags % 2) is ∙ flag_kept parent (parent.trace_flags % 2 == 1) refl ∙ agrees.sampled;
@@ -72,26 +71,29 @@ module _ {P : Type 0} (calls : Ghosts P) where
   decided_context decisions.RecordOnly cx start old new history decided = ap (λ (h : SpanHistory). (span_of h).span_context) decided.history_is
   decided_context decisions.RecordAndSample cx start old new history decided = ap (λ (h : SpanHistory). (span_of h).span_context) decided.history_is
 
-module _ {P C G : Type 0} (calls : Ghosts P) (sampler : sampling.Ghosts (SamplerOf C)) (ids : drawing.Ghosts G) where
-  -- a start under a sampler by parents makes a child of the active span
-  pub child_of_start : (custom : C → SamplingQuestion → PlainSamplingResult → Type 0)
-      → ((s : SamplerOf C) (question : SamplingQuestion) (answer : PlainSamplingResult) → sampler.gives s question answer → SamplerGives custom (plan s) question answer)
-      → (old new : ProviderState P (SamplerOf C) G) (delegate : SamplerPlan C) (scope : PlainScope) (builder : PlainSpanBuilder) (cx : PlainContext) (now : ℕ) (history : SpanHistory) (parent : PlainSpanContext)
-      → plan old.sampler ≡ parent_based delegate → old.is_shut ≡ false → cx.telemetry_suppressed ≡ false → cx.span_context ≡ Some parent
+-- a sampler by parents answers for the active span
+pub goes_by_parents : {C : Type 0} (custom : C → SamplingQuestion → PlainSamplingResult → Type 0) (made delegate : SamplerPlan C) (question : SamplingQuestion) (answer : PlainSamplingResult) (parent : PlainSpanContext)
+    → made ≡ parent_based delegate → active_in question.parent_context ≡ Some parent → SamplerGives custom made question answer
+    → answer ≡ built_in (parent_decision parent) (Some parent)
+goes_by_parents {C} custom made delegate question answer parent based active given =
+    let by_parents : SamplerGives custom (parent_based delegate) question answer =
+    subst (λ (p : SamplerPlan C). SamplerGives custom p question answer) based given in
+    subst (λ (a : Option PlainSpanContext). MatchOption a ((asked : PlainSamplingResult) × SamplerGives custom delegate question asked × (answer ≡ built_in asked.decision None)) (λ span. answer ≡ built_in (parent_decision span) (Some span)))
+    active by_parents
+
+module _ {P S G : Type 0} (calls : Ghosts P) (sampler : sampling.Ghosts S) (ids : drawing.Ghosts G) where
+  -- a start under a sampler that goes by parents makes a child of the active span
+  pub child_of_start : (old new : ProviderState P S G) (scope : PlainScope) (builder : PlainSpanBuilder) (cx : PlainContext) (now : ℕ) (history : SpanHistory) (parent : PlainSpanContext)
+      → GoesByParents sampler old.sampler → old.is_shut ≡ false → cx.telemetry_suppressed ≡ false → cx.span_context ≡ Some parent
       → Starts calls sampler ids old scope builder cx now history new → IsChild parent (span_of history).span_context
-  child_of_start custom gives old new delegate scope builder cx now history parent based is_open unsuppressed active starts =
+  child_of_start old new scope builder cx now history parent by_parents is_open unsuppressed active starts =
       let runs : (old.is_shut || cx.telemetry_suppressed) ≡ false = λ k. is_open k || unsuppressed k in
       let started : StartsOpen calls sampler ids old scope builder cx now history new =
       subst (λ (b : Bool). MatchBool b ((history ≡ over empty_span_context old.span_limits) × (new ≡ old)) (StartsOpen calls sampler ids old scope builder cx now history new)) runs starts in
-      let question : SamplingQuestion = start_question cx started.trace_id builder in
       let is_parent : parent_in cx ≡ parent = ap (λ (a : Option PlainSpanContext). unwrap_or a empty_span_context) active in
       let drawn : DrawsTraceId ids (Some parent) started.draws.between started.trace_id new.id_generator =
       subst (λ (a : Option PlainSpanContext). DrawsTraceId ids a started.draws.between started.trace_id new.id_generator) active started.draws.draws_trace_id in
-      let by_parents : SamplerGives custom (parent_based delegate) question started.answer =
-      subst (λ (p : SamplerPlan C). SamplerGives custom p question started.answer) based (gives old.sampler question started.answer started.asks) in
-      let answered : started.answer ≡ built_in (parent_decision parent) (Some parent) =
-      subst (λ (a : Option PlainSpanContext). MatchOption a ((asked : PlainSamplingResult) × SamplerGives custom delegate question asked × (started.answer ≡ built_in asked.decision None)) (λ span. started.answer ≡ built_in (parent_decision span) (Some span)))
-      active by_parents in (
+      let answered = by_parents (start_question cx started.trace_id builder) started.answer parent active started.asks in (
         started.span_id,
         decided_context calls started.answer.decision cx _ old.processors new.processors history started.decided
             ∙ (λ k. start_span_context (is_parent k) (drawn.0 k) started.span_id (answered k)),

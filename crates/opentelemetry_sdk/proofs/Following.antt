@@ -2,7 +2,6 @@
 use Rattle.std.proofs.Common.{◌≡◌, ℕ, ◌+◌, ◌<◌, ◌≤◌, Bool, true, false, ◌&&◌, List, [], ◌∷◌, ◌++◌, map, Option, Some, None, Result, Ok, Err, refl, sym, ◌∙◌, ap, subst, append_assoc, append-nil, arith, inl, inr}
 use Rattle.std.specs.Bool.{IsTrue}
 use Rattle.std.proofs.lemmas.List.{map-append}
-use Rattle.otel_base.specs.declared.error.OTelSdkError.{OTelSdkError}
 use Rattle.otel_batch.specs.PlainSpanData.{PlainSpanData, is_sampled}
 use Rattle.otel_batch.specs.Telling.{Tells}
 use Rattle.otel_batch.proofs.Tellings.{tells_append, tells_same}
@@ -12,7 +11,6 @@ use Rattle.opentelemetry_sdk.specs.Deliveries.{Delivery, Follows, EachFollows, R
 use Rattle.opentelemetry_sdk.specs.declared.trace.span_processor.SpanProcessor.{Ghosts}
 use Rattle.opentelemetry_sdk.specs.Each.{Each, AskedAll, error_count}
 use Rattle.opentelemetry_sdk.specs.Ending.{TakesAndTells, DeliversIf, deliveries}
-use Rattle.opentelemetry_sdk.specs.Provider.{ProviderState, ShutsDown, ShutsProcessor}
 use Rattle.opentelemetry_sdk.specs.SpanHistory.{ended_at}
 
 -- a count that stays counts up by nothing

@@ -2,7 +2,9 @@
 use Rattle.std.specs.Prelude.{◌≡◌, ◌⊎◌, ℕ, List, [], ◌∷◌, Some, Ok}
 use Rattle.opentelemetry.specs.Carrier.{Texts}
 use Rattle.opentelemetry.specs.Plain.{PlainContext, PlainSpanContext}
-use Rattle.otel_base.specs.Sampler.{built_in, parent_decision}
+use Rattle.otel_base.specs.Sampler.{active_in, built_in, parent_decision}
+use Rattle.otel_base.specs.Sampling.{SamplingQuestion, PlainSamplingResult}
+use Rattle.otel_base.specs.declared.trace.sampler.ShouldSample as sampling
 use Rattle.otel_base.specs.Traceparent.{ExtractsTraceContext, InjectsTraceContext, IsSpanContext, IsValid}
 use Rattle.opentelemetry_sdk.specs.Starting.{start_span_context}
 
@@ -12,6 +14,12 @@ abbrev pub IsChild : PlainSpanContext → PlainSpanContext → Type 0
 IsChild parent child =
     (span_id : ℕ)
     × (child ≡ start_span_context parent parent.trace_id span_id (built_in (parent_decision parent) (Some parent)))
+
+-- a sampler goes by parents: where a span is active, that one's decision is the answer
+abbrev pub GoesByParents : {S : Type 0} → sampling.Ghosts S → S → Type 0
+GoesByParents sampler s = (question : SamplingQuestion) (answer : PlainSamplingResult) (parent : PlainSpanContext)
+    → active_in question.parent_context ≡ Some parent → sampler.gives s question answer
+    → answer ≡ built_in (parent_decision parent) (Some parent)
 
 -- a span context is what a process extracts of the headers that another one injected of a valid span context
 pub record IsPassedOn (sent received : PlainSpanContext) : Type 0 where

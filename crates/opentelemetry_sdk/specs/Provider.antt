@@ -1,5 +1,5 @@
 -- What contracts see of a provider, and what a shutdown does to it.
-use Rattle.std.specs.Prelude.{◌≡◌, ℕ, ◌↔◌, Bool, true, List, [], Option, None, Result, IsOk, IfErr}
+use Rattle.std.specs.Prelude.{◌≡◌, ℕ, ◌↔◌, Bool, true, List, [], None, Result, IsOk, IfErr}
 use Rattle.opentelemetry.specs.Plain.{PlainScope}
 use Rattle.otel_base.specs.declared.error.OTelSdkError.{OTelSdkError}
 use Rattle.otel_base.specs.declared.error.OTelSdkError.TheVariants as errors

@@ -1,5 +1,5 @@
 -- What the start of a span makes, and what it does to its provider (OpenTelemetry specification, "Span Creation").
-use Rattle.std.specs.Prelude.{◌≡◌, ◌≢◌, ◌⊎◌, ℕ, ◌+◌, ◌*◌, ◌/◌, ◌++◌, ◌&&◌, ◌||◌, Bool, false, List, [], ◌∷◌, Option, Some, None, IsFalse, MatchBool, nat_lt, unwrap_or}
+use Rattle.std.specs.Prelude.{◌≡◌, ◌≢◌, ℕ, ◌+◌, ◌*◌, ◌/◌, ◌++◌, ◌&&◌, ◌||◌, Bool, false, List, [], ◌∷◌, Option, Some, None, MatchBool, nat_lt, unwrap_or}
 use Rattle.opentelemetry.specs.Plain.{PlainKeyValue, PlainSpanContext, PlainContext, PlainScope}
 use Rattle.opentelemetry.specs.PlainContexts.{empty_span_context}
 use Rattle.opentelemetry.specs.PlainSpanBuilder.{PlainSpanBuilder}

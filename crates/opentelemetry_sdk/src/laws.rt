@@ -5,7 +5,7 @@ ghost use Rattle.opentelemetry.specs.Plain.{PlainContext, PlainScope, PlainSpanC
 ghost use Rattle.opentelemetry.specs.PlainSpanBuilder.{PlainSpanBuilder};
 ghost use Rattle.otel_base.specs.Agreement.{Agrees};
 ghost use Rattle.otel_base.specs.Sampler.{SamplerPlan, parent_based, plan};
-ghost use Rattle.opentelemetry_sdk.specs.Hops.{AreHops, IsChild};
+ghost use Rattle.opentelemetry_sdk.specs.Hops.{AreHops, GoesByParents, IsChild};
 ghost use Rattle.opentelemetry_sdk.specs.Provider.{ProviderState};
 ghost use Rattle.opentelemetry_sdk.specs.SpanHistory.{SpanHistory, span_of};
 ghost use Rattle.opentelemetry_sdk.specs.Starting.{Starts};
@@ -14,14 +14,20 @@ ghost use Rattle.otel_base.specs.declared.trace.sampler.SamplerOf.{SamplerOf};
 use crate::trace::SpanProcessor;
 use otel_base::trace::{IdGenerator, SamplerOf, ShouldSample};
 
-/// A span that starts at an open provider under a sampler by parents, whatever its delegate, in a context that is not
-/// suppressed and has an active span, is a child of that span.
-pub fn starts_under_parents_make_children<P: SpanProcessor, C: ShouldSample, G: IdGenerator>()
-    ensures { (old new : ProviderState P (SamplerOf C) G) (delegate : SamplerPlan C) (scope : PlainScope)
-        (builder : PlainSpanBuilder) (cx : PlainContext) (now : ℕ) (history : SpanHistory) (parent : PlainSpanContext)
-        → plan old.sampler ≡ parent_based delegate → old.is_shut ≡ false
+/// `ParentBased` goes by parents, whatever its delegate.
+pub fn parent_based_goes_by_parents<C: ShouldSample>()
+    ensures { (sampler : SamplerOf C) (delegate : SamplerPlan C) → plan sampler ≡ parent_based delegate
+        → GoesByParents ⟦<SamplerOf<C> as ShouldSample>⟧ sampler }
+{}
+
+/// A span that starts at an open provider under a sampler that goes by parents, in a context that is not suppressed and
+/// has an active span, is a child of that span.
+pub fn starts_under_parents_make_children<P: SpanProcessor, S: ShouldSample, G: IdGenerator>()
+    ensures { (old new : ProviderState P S G) (scope : PlainScope) (builder : PlainSpanBuilder) (cx : PlainContext)
+        (now : ℕ) (history : SpanHistory) (parent : PlainSpanContext)
+        → GoesByParents S.ShouldSample old.sampler → old.is_shut ≡ false
         → cx.telemetry_suppressed ≡ false → cx.span_context ≡ Some parent
-        → Starts P.SpanProcessor ⟦<SamplerOf<C> as ShouldSample>⟧ G.IdGenerator old scope builder cx now history new
+        → Starts P.SpanProcessor S.ShouldSample G.IdGenerator old scope builder cx now history new
         → IsChild parent (span_of history).span_context }
 {}
 

@@ -9,7 +9,8 @@ use Rattle.opentelemetry.specs.Plain.{PlainContext}
 -- the second one injects into what the first one leaves; where that is refused it is not asked
 abbrev pub InjectsBoth : Injection → Injection → Injection
 InjectsBoth these those cx old result new =
-    ((between : Texts) × these cx old (Ok tt) between × those cx between result new) ⊎ (IsErr result × these cx old result new)
+    ((between : Texts) × these cx old (Ok tt) between × those cx between result new)
+    ⊎ (IsErr result × these cx old result new)
 
 -- what a propagator extracts
 abbrev pub Extraction : Type 1

@@ -1,5 +1,6 @@
 //! Tests of `otel_base`.
 
+mod again;
 mod baggage;
 mod composite;
 mod config;

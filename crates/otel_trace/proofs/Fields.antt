@@ -1,7 +1,7 @@
 -- A text has one first field, so what stands behind it is determined.
-use Rattle.std.proofs.Common.{◌≡◌, ◌≢◌, ℕ, List, [], ◌∷◌, ◌++◌, Option, None, Some, All, IsUtf8, codes, refl, sym, ap, ◌∙◌, arith, rules}
+use Rattle.std.proofs.Common.{◌≡◌, ◌≢◌, ℕ, List, [], ◌∷◌, ◌++◌, Option, None, Some, All, IsUtf8, codes, refl, sym, ap, subst, ◌∙◌, arith, rules}
 use Rattle.std.proofs.lemmas.List.Elements.{All-tail, All-from_recursion}
-use Rattle.otel_trace.specs.Commands.{PlainCommand, plain_command, start, child, attr, event, status, end, flush, shutdown}
+use Rattle.otel_trace.specs.Commands.{PlainCommand, plain_command, start, child, remote, attr, event, status, inject, end, flush, shutdown}
 use Rattle.opentelemetry.specs.Plain.{PlainStatus, unset, error, ok}
 use Rattle.otel_trace.specs.declared.command.Command.{Command}
 use Rattle.otel_trace.specs.Lines.{IsField, IsStatus, LineForm, field, last_field, time, outcome, rest_of_line, IsOfForm, form_of, LineGives, HasFields, FieldsGive, WordGives}
@@ -49,6 +49,10 @@ pub only_child : (fields : List ℕ) → ((s p n : List ℕ) (m : ℕ) → IsOfF
 only_child fields none (child s p n m) h = none s p n m h.1
 only_child fields none _ h = search rules
 
+pub only_remote : (fields : List ℕ) → ((s h n : List ℕ) (m : ℕ) → IsOfForm fields (field s (field h (field n (time m)))) → ⊥) → (command : PlainCommand) → HasFields (codes "remote") fields (form_of command) → ⊥
+only_remote fields none (remote s h n m) k = none s h n m k.1
+only_remote fields none _ h = search rules
+
 pub only_attr : (fields : List ℕ) → ((s k v : List ℕ) → IsOfForm fields (field s (field k (rest_of_line v))) → ⊥) → (command : PlainCommand) → HasFields (codes "attr") fields (form_of command) → ⊥
 only_attr fields none (attr s k v) h = none s k v h.1
 only_attr fields none _ h = search rules
@@ -60,6 +64,10 @@ only_event fields none _ h = search rules
 pub only_status : (fields : List ℕ) → ((s : List ℕ) (how : PlainStatus) → IsOfForm fields (field s (outcome how)) → ⊥) → (command : PlainCommand) → HasFields (codes "status") fields (form_of command) → ⊥
 only_status fields none (status s how) h = none s how h.1
 only_status fields none _ h = search rules
+
+pub only_inject : (fields : List ℕ) → ¬ (IsField fields) → (command : PlainCommand) → HasFields (codes "inject") fields (form_of command) → ⊥
+only_inject fields none (inject s) h = none (subst IsField (sym h.1.1) h.1.0)
+only_inject fields none _ h = search rules
 
 pub only_end : (fields : List ℕ) → ((s : List ℕ) (m : ℕ) → IsOfForm fields (field s (time m)) → ⊥) → (command : PlainCommand) → HasFields (codes "end") fields (form_of command) → ⊥
 only_end fields none (end s m) h = none s m h.1

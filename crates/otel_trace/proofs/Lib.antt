@@ -14,3 +14,5 @@ pub mod Spelled
 pub mod StepFields
 pub mod StepFollowing
 pub mod StepTexts
+pub mod TraceLemmas
+pub mod HeaderLemmas

@@ -40,9 +40,17 @@ equal_from Less h = cc
 equal_from Equal h = refl
 equal_from Greater h = cc
 
+-- a name is its own
+pub is_itself : (q : List ℕ) → is_name q q ≡ true
+is_itself q = (eq_by_cmp_equiv nat_list_cmp_total).refl q
+
+-- names that compare equal are one
+pub same_name : (q s : List ℕ) → is_name q s ≡ true → q ≡ s
+same_name q s e = slice_cmp-IsAntisymmetric nat_cmp-IsAntisymmetric q s (equal_from _ e)
+
 put_there : (spans : NamedSpans) (s : List ℕ) (span : PlainSpan) (q : List ℕ) (b : Bool) → is_name q s ≡ b → named spans s ≡ Some span → (if b then Some span else named spans q) ≡ named spans q
 put_there spans s span q false e h = refl
-put_there spans s span q true e h = sym h ∙ ap (named spans) (sym (slice_cmp-IsAntisymmetric nat_cmp-IsAntisymmetric q s (equal_from _ e)))
+put_there spans s span q true e h = sym h ∙ ap (named spans) (sym (same_name q s e))
 
 -- a span put where it stands changes nothing
 pub put_same : (old new : NamedSpans) (s : List ℕ) (span : PlainSpan) → named old s ≡ Some span → PutsSpan old s span new → SameSpans old new

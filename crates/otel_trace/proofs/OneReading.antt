@@ -3,7 +3,7 @@ use Rattle.std.proofs.Common.{◌≡◌, ℕ, List, [], ◌∷◌, ◌++◌, len
 use Rattle.std.specs.Str.Lines.{lines}
 use Rattle.std.specs.Str.Parse.{digits_value}
 use Rattle.opentelemetry.specs.Plain.{PlainStatus, unset, error, ok}
-use Rattle.otel_trace.specs.Commands.{PlainCommand, start, child, attr, event, status, end, flush, shutdown}
+use Rattle.otel_trace.specs.Commands.{PlainCommand, start, child, remote, attr, event, status, inject, end, flush, shutdown}
 use Rattle.otel_trace.specs.Lines.{IsMoment, IsStatus, LineForm, field, last_field, time, outcome, rest_of_line, IsOfForm, form_of, Reads, IsBad, Spell, TextSpells}
 use Rattle.otel_trace.proofs.Fields.{same_field, no_last_field}
 
@@ -50,12 +50,16 @@ same_command (start s n m) (start s' n' m') h = cc
 same_command (start s n m) _ h = search rules
 same_command (child s p n m) (child s' p' n' m') h = cc
 same_command (child s p n m) _ h = search rules
+same_command (remote s t n m) (remote s' t' n' m') h = cc
+same_command (remote s t n m) _ h = search rules
 same_command (attr s k v) (attr s' k' v') h = cc
 same_command (attr s k v) _ h = search rules
 same_command (event s n m) (event s' n' m') h = cc
 same_command (event s n m) _ h = search rules
 same_command (status s how) (status s' how') h = cc
 same_command (status s how) _ h = search rules
+same_command (inject s) (inject s') h = cc
+same_command (inject s) _ h = search rules
 same_command (end s m) (end s' m') h = cc
 same_command (end s m) _ h = search rules
 same_command flush flush h = refl

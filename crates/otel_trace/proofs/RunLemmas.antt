@@ -8,12 +8,13 @@ use Rattle.opentelemetry_sdk.specs.Deliveries.{Delivery}
 use Rattle.opentelemetry_sdk.specs.declared.trace.span_processor.SpanProcessor.{Ghosts}
 use Rattle.opentelemetry_sdk.proofs.Following.{EachFollows-same, EachFollows-append}
 use Rattle.otel_trace.specs.declared.exported.KeepsBatches as keeping
-use Rattle.otel_trace.specs.KeptBatches.{Appends}
+use Rattle.otel_trace.specs.KeptBatches.{Grows}
 use Rattle.otel_trace.specs.Commands.{PlainCommand, may_lose, plain_command, plain_commands}
 use Rattle.otel_trace.specs.PlainReply.{PlainReply}
 use Rattle.otel_batch.specs.PlainSpanData.{spans_in}
-use Rattle.otel_trace.specs.SessionDelivery.{Histories, Course, course_of, Demands, Replies, DemandAll, Demanded, SessionState, CarriesOutOne, session_batches, batches_of_first, unshown, CarriesOut, Shows, NoneLeft, LosesNone, RunsAll, Refuses, RunsBeginning}
+use Rattle.otel_trace.specs.SessionDelivery.{Histories, Course, course_of, Describe, Demands, Replies, DemandAll, Demanded, SessionState, CarriesOutOne, session_batches, batches_of_first, unshown, CarriesOut, Shows, NoneLeft, LosesNone, RunsAll, Refuses, RunsBeginning}
 use Rattle.otel_trace.specs.declared.command.Command.{Command}
+use Rattle.otel_trace.proofs.TraceLemmas.{children_agree, contexts_kept}
 use Rattle.otel_trace.proofs.ShownLemmas.{shows_nothing, shows_no_more, shows_reply, none_left}
 
 module _ {P S G : Type 0} (calls : Ghosts P) (keeps : keeping.Ghosts P) (sampler : sampling.Ghosts S) (ids : drawing.Ghosts G) where
@@ -50,6 +51,8 @@ module _ {P S G : Type 0} (calls : Ghosts P) (keeps : keeping.Ghosts P) (sampler
       demands = (refl, refl, refl);
       describes = describes;
       follows = EachFollows-same calls session.provider.processors session.provider.processors refl;
+      contexts = λ q was there. (was, there, refl);
+      traces = λ by_parents is_open root is_in agree. agree;
     };
   }
 
@@ -59,7 +62,7 @@ module _ {P S G : Type 0} (calls : Ghosts P) (keeps : keeping.Ghosts P) (sampler
     pub shows : reply.exported ≡ unshown keeps new
     pub loses_none : IsFalse (may_lose (plain_command command)) → LosesNone keeps old new
     pub rest : new ≡ record old { provider = new.provider; spans = new.spans }
-    pub appends : Appends (session_batches keeps old) (session_batches keeps new)
+    pub appends : Grows (session_batches keeps old) (session_batches keeps new)
 
   -- a session whose replies have shown all that is kept
   abbrev marked : SessionState P S G → SessionState P S G
@@ -67,23 +70,28 @@ module _ {P S G : Type 0} (calls : Ghosts P) (keeps : keeping.Ghosts P) (sampler
 
   -- one more command, with its reply
   demands_more : (old middle new : SessionState P S G) (histories : Histories) (done : List Command) (replies : List PlainReply) (command : Command) (reply : PlainReply)
-      → middle.scope ≡ old.scope → Demanded calls keeps sampler ids old histories (plain_commands done) replies middle → Answers middle command reply new
+      → middle.scope ≡ old.scope → Describe histories old.spans → Demanded calls keeps sampler ids old histories (plain_commands done) replies middle → Answers middle command reply new
       → Demanded calls keeps sampler ids old histories (plain_commands (done ++ command ∷ [])) (replies ++ reply ∷ []) (marked new)
-  demands_more old middle new histories done replies command reply scope first answers =
+  demands_more old middle new histories done replies command reply scope describes first answers =
       let next = answers.carried first.after first.describes in
       let shown : new.shown ≡ middle.shown = ap (λ (s : SessionState P S G). s.shown) answers.rest in
       let replied : Replies calls keeps sampler ids old.scope (course_of middle first.after) middle.shown (plain_command command) reply next.deliveries (course_of new next.after) = record {
         demands = subst (λ (s : PlainScope). Demands calls sampler ids s (course_of middle first.after) (plain_command command) reply.answer next.deliveries (course_of new next.after)) scope next.demands;
         shows = answers.shows ∙ ap (λ (n : ℕ). spans_in (drop n (session_batches keeps new))) shown;
         loses_none = answers.loses_none;
-      } in record {
+      } in
+      let demands = subst (λ (commands : List PlainCommand). DemandAll calls keeps sampler ids old.scope (course_of old histories) old.shown commands (replies ++ reply ∷ []) (first.deliveries ++ next.deliveries) (course_of new next.after) (length (session_batches keeps new)))
+      (sym (map-append plain_command done (command ∷ [])))
+      (DemandAll-push old.scope (course_of old histories) (course_of middle first.after) (course_of new next.after) old.shown middle.shown (plain_commands done) replies first.deliveries next.deliveries (plain_command command) reply first.demands replied) in
+      let commands = plain_commands (done ++ command ∷ []) in
+      record {
         deliveries = first.deliveries ++ next.deliveries;
         after = next.after;
-        demands = subst (λ (commands : List PlainCommand). DemandAll calls keeps sampler ids old.scope (course_of old histories) old.shown commands (replies ++ reply ∷ []) (first.deliveries ++ next.deliveries) (course_of new next.after) (length (session_batches keeps new)))
-            (sym (map-append plain_command done (command ∷ [])))
-            (DemandAll-push old.scope (course_of old histories) (course_of middle first.after) (course_of new next.after) old.shown middle.shown (plain_commands done) replies first.deliveries next.deliveries (plain_command command) reply first.demands replied);
+        demands = demands;
         describes = next.describes;
         follows = EachFollows-append calls first.deliveries next.deliveries old.provider.processors middle.provider.processors new.provider.processors first.follows next.follows;
+        contexts = contexts_kept calls keeps sampler ids old.scope (course_of old histories) (course_of new next.after) old.shown _ commands (replies ++ reply ∷ []) _ old.spans new.spans describes next.describes demands;
+        traces = children_agree calls keeps sampler ids old.scope (course_of old histories) (course_of new next.after) old.shown _ commands (replies ++ reply ∷ []) _ new.spans next.describes demands;
       }
 
   carries_more : (old middle new : SessionState P S G) (done : List Command) (replies : List PlainReply) (command : Command) (reply : PlainReply)
@@ -91,7 +99,7 @@ module _ {P S G : Type 0} (calls : Ghosts P) (keeps : keeping.Ghosts P) (sampler
       → CarriesOut calls keeps sampler ids old (done ++ command ∷ []) (replies ++ reply ∷ []) (marked new)
   carries_more old middle new done replies command reply carried answers = record {
     scope = ap (λ (s : SessionState P S G). s.scope) answers.rest ∙ carried.scope;
-    demanded = λ histories describes. demands_more old middle new histories done replies command reply carried.scope (carried.demanded histories describes) answers;
+    demanded = λ histories describes. demands_more old middle new histories done replies command reply carried.scope describes (carried.demanded histories describes) answers;
   }
 
   -- the commands before those that are left were carried out, each with its reply

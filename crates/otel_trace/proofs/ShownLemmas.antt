@@ -23,8 +23,9 @@ use Rattle.opentelemetry_sdk.specs.SpanHistory.{PlainSpan, SpanStart, SpanHistor
 use Rattle.otel_trace.specs.declared.exported.KeepsBatches as keeping
 use Rattle.std.specs.declared.alloc.AllocError.{AllocError}
 use Rattle.opentelemetry.specs.PlainContexts.{empty_span_context}
-use Rattle.otel_trace.specs.KeptBatches.{Appends, OnlyAppends}
-use Rattle.otel_trace.specs.OpenSpans.{MayStart, ChildMayStart, MayDeliver, child_cx}
+use Rattle.otel_trace.specs.KeptBatches.{Grows, OnlyAppends}
+use Rattle.otel_trace.specs.Headers.{child_cx}
+use Rattle.otel_trace.specs.OpenSpans.{MayStart, ChildMayStart, MayDeliver}
 use Rattle.otel_trace.specs.PlainReply.{PlainReply}
 use Rattle.otel_trace.specs.SessionDelivery.{SessionState, Shows, NoneLeft, session_batches, batches_of_first, losses_of_first, exported_in, unshown}
 
@@ -32,13 +33,13 @@ abbrev Batches : Type 0
 Batches = List (List PlainSpanData)
 
 -- nothing behind
-pub appends_none : {X : Type 0} (xs ys : List X) → ys ≡ xs → Appends xs ys
+pub appends_none : {X : Type 0} (xs ys : List X) → ys ≡ xs → Grows xs ys
 appends_none xs ys e = ([], e ∙ sym (append-nil xs))
 
-appends_more : {X : Type 0} (xs ys zs : List X) → Appends xs ys → Appends ys zs → Appends xs zs
+appends_more : {X : Type 0} (xs ys zs : List X) → Grows xs ys → Grows ys zs → Grows xs zs
 appends_more {X} xs ys zs h k = (h.0 ++ k.0, k.1 ∙ ap (λ (l : List X). l ++ k.0) h.1 ∙ append_assoc xs h.0 k.0)
 
-appends_length : {X : Type 0} (xs ys : List X) → Appends xs ys → length xs ≤ length ys
+appends_length : {X : Type 0} (xs ys : List X) → Grows xs ys → length xs ≤ length ys
 appends_length xs ys h = let e = ap length h.1 ∙ length-append xs h.0 in omega (arith, e)
 
 -- nothing shown
@@ -51,7 +52,7 @@ shows_nothing keeps session = (appends_none _ _ refl, λ within. (omega arith, w
 
 -- batches came, and no reply
 pub shows_no_more : {P S G : Type 0} (keeps : keeping.Ghosts P) (old middle new : SessionState P S G) (replies : List PlainReply)
-    → Shows keeps old replies middle → Appends (session_batches keeps middle) (session_batches keeps new) → new.shown ≡ middle.shown
+    → Shows keeps old replies middle → Grows (session_batches keeps middle) (session_batches keeps new) → new.shown ≡ middle.shown
     → Shows keeps old replies new
 shows_no_more keeps old middle new replies h k e = (
   appends_more _ _ _ h.0 k,
@@ -96,7 +97,7 @@ none_left {P} {S} {G} keeps middle new replies e = subst (λ (s : SessionState P
 
 -- batches are kept behind those that were kept, and none was lost
 abbrev pub LosesNothing : {P : Type 0} → keeping.Ghosts P → List P → List P → Type 0
-LosesNothing keeps old new = Appends (batches_of_first keeps old) (batches_of_first keeps new) × (losses_of_first keeps new ≡ losses_of_first keeps old)
+LosesNothing keeps old new = Grows (batches_of_first keeps old) (batches_of_first keeps new) × (losses_of_first keeps new ≡ losses_of_first keeps old)
 
 pub loses_nothing : {P : Type 0} (keeps : keeping.Ghosts P) (old new : List P) → new ≡ old → LosesNothing keeps old new
 loses_nothing keeps old new e = (appends_none _ _ (ap (batches_of_first keeps) e), ap (losses_of_first keeps) e)
@@ -117,7 +118,7 @@ module _ {P : Type 0} (calls : Ghosts P) (keeps : keeping.Ghosts P) (law : OnlyA
 
   -- what it keeps where each may have been given an ended span
   asked_keeps : (span : PlainSpanData) (ps qs : List P) (rs : List (Result (Unit {0}) AllocError)) → Each (TakesAndTells calls span) ps rs qs
-      → Appends (batches_of_first keeps ps) (batches_of_first keeps qs)
+      → Grows (batches_of_first keeps ps) (batches_of_first keeps qs)
   asked_keeps span [] [] [] h = ([], refl)
   asked_keeps span [] (q ∷ qs) [] h = absurd h
   asked_keeps span [] qs (r ∷ rs) h = absurd h
@@ -125,7 +126,7 @@ module _ {P : Type 0} (calls : Ghosts P) (keeps : keeping.Ghosts P) (law : OnlyA
   asked_keeps span (p ∷ ps) [] (r ∷ rs) h = absurd h
   asked_keeps span (p ∷ ps) (q ∷ qs) (r ∷ rs) h = law.ends p span r q h.0.gives
 
-  pub may_deliver_keeps : (ps qs : List P) → MayDeliver calls ps qs → Appends (batches_of_first keeps ps) (batches_of_first keeps qs)
+  pub may_deliver_keeps : (ps qs : List P) → MayDeliver calls ps qs → Grows (batches_of_first keeps ps) (batches_of_first keeps qs)
   may_deliver_keeps ps qs (inl e) = appends_none _ _ (ap (batches_of_first keeps) e)
   may_deliver_keeps ps qs (inr h) = asked_keeps h.0 ps qs h.2.0 h.2.2
 
@@ -152,7 +153,7 @@ module _ {P S G : Type 0} (calls : Ghosts P) (keeps : keeping.Ghosts P) (law : O
   child_may_start_keeps old new scope (Some parent) called now h = may_start_keeps old new scope (child_cx parent.span_context) called now h
 
 module _ {P : Type 0} (calls : Ghosts P) (keeps : keeping.Ghosts P) (law : OnlyAppends calls keeps.kept keeps.lost) where
-  first_flushed : (ps qs : List P) (rs : List (Result (Unit {0}) OTelSdkError)) → Each (FlushesProcessor calls) ps rs qs → Appends (batches_of_first keeps ps) (batches_of_first keeps qs)
+  first_flushed : (ps qs : List P) (rs : List (Result (Unit {0}) OTelSdkError)) → Each (FlushesProcessor calls) ps rs qs → Grows (batches_of_first keeps ps) (batches_of_first keeps qs)
   first_flushed [] [] [] h = ([], refl)
   first_flushed [] (q ∷ qs) [] h = absurd h
   first_flushed [] qs (r ∷ rs) h = absurd h
@@ -160,7 +161,7 @@ module _ {P : Type 0} (calls : Ghosts P) (keeps : keeping.Ghosts P) (law : OnlyA
   first_flushed (p ∷ ps) [] (r ∷ rs) h = absurd h
   first_flushed (p ∷ ps) (q ∷ qs) (r ∷ rs) h = law.flushes p r q h.0.gives
 
-  first_shut : (timeout : ℕ) (ps qs : List P) (rs : List (Result (Unit {0}) OTelSdkError)) → Each (ShutsProcessor calls timeout) ps rs qs → Appends (batches_of_first keeps ps) (batches_of_first keeps qs)
+  first_shut : (timeout : ℕ) (ps qs : List P) (rs : List (Result (Unit {0}) OTelSdkError)) → Each (ShutsProcessor calls timeout) ps rs qs → Grows (batches_of_first keeps ps) (batches_of_first keeps qs)
   first_shut timeout [] [] [] h = ([], refl)
   first_shut timeout [] (q ∷ qs) [] h = absurd h
   first_shut timeout [] qs (r ∷ rs) h = absurd h
@@ -169,14 +170,14 @@ module _ {P : Type 0} (calls : Ghosts P) (keeps : keeping.Ghosts P) (law : OnlyA
   first_shut timeout (p ∷ ps) (q ∷ qs) (r ∷ rs) h = law.shuts p timeout r q h.0.gives
 
   -- what the first processor keeps where each was asked to flush
-  pub flush_keeps : {S G : Type 0} (old new : ProviderState P S G) (said : Result (Unit {0}) OTelSdkError) → Flushes calls old said new → Appends (batches_of_first keeps old.processors) (batches_of_first keeps new.processors)
+  pub flush_keeps : {S G : Type 0} (old new : ProviderState P S G) (said : Result (Unit {0}) OTelSdkError) → Flushes calls old said new → Grows (batches_of_first keeps old.processors) (batches_of_first keeps new.processors)
   flush_keeps old new said h = first_flushed old.processors new.processors h.asked.0 h.asked.2
 
   -- and where the provider was asked to shut down
   pub shutdown_keeps : {S G : Type 0} (old new : ProviderState P S G) (timeout : ℕ) (said : Result (Unit {0}) OTelSdkError) → OnTrue old.is_shut (IsErrOf said errors.AlreadyShutdown × (new ≡ old)) → OnFalse old.is_shut (ShutsDown calls old timeout said new)
-      → Appends (batches_of_first keeps old.processors) (batches_of_first keeps new.processors)
+      → Grows (batches_of_first keeps old.processors) (batches_of_first keeps new.processors)
   shutdown_keeps {S} {G} old new timeout said again first = by old.is_shut again first
     where
-      by : (b : Bool) → OnTrue b (IsErrOf said errors.AlreadyShutdown × (new ≡ old)) → OnFalse b (ShutsDown calls old timeout said new) → Appends (batches_of_first keeps old.processors) (batches_of_first keeps new.processors)
+      by : (b : Bool) → OnTrue b (IsErrOf said errors.AlreadyShutdown × (new ≡ old)) → OnFalse b (ShutsDown calls old timeout said new) → Grows (batches_of_first keeps old.processors) (batches_of_first keeps new.processors)
       by true again first = appends_none _ _ (ap (λ (p : ProviderState P S G). batches_of_first keeps p.processors) again.1)
       by false again first = first_shut timeout old.processors new.processors first.asked.0 first.asked.2

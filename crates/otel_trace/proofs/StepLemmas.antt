@@ -16,9 +16,10 @@ use Rattle.opentelemetry_sdk.specs.Ending.{end_delivers}
 use Rattle.opentelemetry_sdk.proofs.Following.{EachFollows-same, delivered_follows}
 use Rattle.opentelemetry_sdk.proofs.SpanLaws.{edited-recording}
 use Rattle.opentelemetry_sdk.specs.declared.trace.span_processor.SpanProcessor.{Ghosts}
-use Rattle.otel_trace.specs.Commands.{start, child, attr, event, status, end, flush, shutdown}
-use Rattle.otel_trace.specs.OpenSpans.{NamedSpans, named, is_name, PutsSpan, SameSpans, StartsNamed, ChildStartsNamed, EditsNamed, EndsNamed, child_cx}
-use Rattle.otel_trace.specs.SessionDelivery.{Course, Histories, with_history, Describe, EditDemands, StartDemands, CarriesOutOne, DemandsOne, bare_event, call_answer}
+use Rattle.otel_trace.specs.Commands.{start, child, remote, attr, event, status, inject, end, flush, shutdown}
+use Rattle.otel_trace.specs.OpenSpans.{NamedSpans, named, is_name, PutsSpan, SameSpans, StartsNamed, ChildStartsNamed, EditsNamed, EndsNamed, InjectsNamed}
+use Rattle.otel_trace.specs.Headers.{SaysContext, child_cx}
+use Rattle.otel_trace.specs.SessionDelivery.{Course, Histories, with_history, Describe, EditDemands, InjectDemands, StartDemands, CarriesOutOne, DemandsOne, bare_event, call_answer}
 use Rattle.otel_trace.specs.declared.reply.Answer.{Answer}
 use Rattle.otel_trace.proofs.NamedLemmas.{put_same}
 
@@ -184,6 +185,31 @@ module _ {P S G : Type 0} (calls : Ghosts P) (sampler : sampling.Ghosts S) (ids 
       → CarriesOutOne calls sampler ids scope p old (child name parent called moment) answer q new
   carries_child p q old new name parent called moment answer t h = λ histories describes. child_found p q histories old new name parent called moment (histories parent) answer refl describes t
       (subst (λ (o : Option PlainSpan). ChildStartsNamed calls sampler ids p scope old name o called moment answer q new) (describes parent) h)
+
+  -- a start in the context that a header says
+  pub carries_remote : (p q : ProviderState P S G) (old new : NamedSpans) (name header called : List ℕ) (moment : ℕ) (cx : PlainContext) (answer : Answer)
+      → SaysContext header cx → map calls.told q.processors ≡ map calls.told p.processors
+      → StartsNamed calls sampler ids p scope old name cx called moment (named old name) answer q new
+      → CarriesOutOne calls sampler ids scope p old (remote name header called moment) answer q new
+  carries_remote p q old new name header called moment cx answer says t h = λ histories describes.
+      let one = starts_one p q histories old new name cx called moment answer describes h in
+      record { deliveries = []; after = one.after; demands = record { cx = cx; says = says; starts = one.demands }; describes = one.describes; follows = EachFollows-same calls p.processors q.processors t }
+
+  -- the headers of a span
+  inject_found : (p : ProviderState P S G) (histories : Histories) (found : Option SpanHistory) (answer : Answer) → InjectsNamed (option_map span_of found) answer
+      → InjectDemands (course p histories) found answer [] (course p histories)
+  inject_found p histories None answer h = record { says = h; delivers = refl; rest = refl }
+  inject_found p histories (Some history) answer h = record { says = h; delivers = refl; rest = refl }
+
+  pub carries_inject : (p : ProviderState P S G) (spans : NamedSpans) (name : List ℕ) (answer : Answer) → InjectsNamed (named spans name) answer
+      → CarriesOutOne calls sampler ids scope p spans (inject name) answer p spans
+  carries_inject p spans name answer h = λ histories describes. record {
+    deliveries = [];
+    after = histories;
+    demands = inject_found p histories (histories name) answer (subst (λ (o : Option PlainSpan). InjectsNamed o answer) (describes name) h);
+    describes = describes;
+    follows = EachFollows-same calls p.processors p.processors refl;
+  }
 
   -- the provider's own calls
   pub carries_flush : (p q : ProviderState P S G) (spans : NamedSpans) (said : Result (Unit {0}) OTelSdkError)

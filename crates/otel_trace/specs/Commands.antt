@@ -11,12 +11,16 @@ pub data PlainCommand : Type 0 where
   start : List ℕ → List ℕ → ℕ → PlainCommand
   -- the span's text, its parent's text, the span's name, the moment at which it starts
   child : List ℕ → List ℕ → List ℕ → ℕ → PlainCommand
+  -- the span's text, the header, the span's name, the moment at which it starts
+  remote : List ℕ → List ℕ → List ℕ → ℕ → PlainCommand
   -- the span's text, the key, the value
   attr : List ℕ → List ℕ → List ℕ → PlainCommand
   -- the span's text, the event's name, the moment at which it happened
   event : List ℕ → List ℕ → ℕ → PlainCommand
   -- the span's text, how its operation went
   status : List ℕ → PlainStatus → PlainCommand
+  -- the span's text
+  inject : List ℕ → PlainCommand
   -- the span's text, the moment at which it ends
   end : List ℕ → ℕ → PlainCommand
   -- of the provider, and of no span
@@ -28,9 +32,12 @@ abbrev pub plain_command : Command → PlainCommand
 plain_command (commands.Start span name moment) = start (string_bytes span) (string_bytes name) moment.0
 plain_command (commands.Child span parent name moment) =
     child (string_bytes span) (string_bytes parent) (string_bytes name) moment.0
+plain_command (commands.Remote span header name moment) =
+    remote (string_bytes span) (string_bytes header) (string_bytes name) moment.0
 plain_command (commands.Attr span key value) = attr (string_bytes span) (string_bytes key) (string_bytes value)
 plain_command (commands.Event span name moment) = event (string_bytes span) (string_bytes name) moment.0
 plain_command (commands.Status span how) = status (string_bytes span) (plain_status how)
+plain_command (commands.Inject span) = inject (string_bytes span)
 plain_command (commands.End span moment) = end (string_bytes span) moment.0
 plain_command commands.Flush = flush
 plain_command commands.Shutdown = shutdown
@@ -39,9 +46,11 @@ plain_command commands.Shutdown = shutdown
 abbrev pub is_end : PlainCommand → Bool
 is_end (start span name moment) = false
 is_end (child span parent name moment) = false
+is_end (remote span header name moment) = false
 is_end (attr span key value) = false
 is_end (event span name moment) = false
 is_end (status span how) = false
+is_end (inject span) = false
 is_end (end span moment) = true
 is_end flush = false
 is_end shutdown = false

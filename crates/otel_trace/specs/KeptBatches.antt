@@ -20,21 +20,21 @@ use Rattle.opentelemetry_sdk.specs.declared.trace.processor.ProcessorOf.{Process
 use Rattle.opentelemetry_sdk.specs.declared.trace.processor.ProcessorOf.TheVariants as kinds
 
 -- a list and another that begins with it
-abbrev pub Appends : {X : Type 0} → List X → List X → Type 0
-Appends {X} old new = (more : List X) × (new ≡ old ++ more)
+abbrev pub Grows : {X : Type 0} → List X → List X → Type 0
+Grows {X} old new = (more : List X) × (new ≡ old ++ more)
 
 -- a call of a processor takes back no batch, and a start loses none
 pub record OnlyAppends {P : Type 0} (calls : Ghosts P) (kept : P → List (List PlainSpanData))
     (lost : P → ℕ) : Type 0 where
   pub starts : (p : P) (span : PlainSpan) (cx : PlainContext) (edited : PlainSpan) (q : P)
       → calls.start_gives p span cx edited q
-      → Appends (kept p) (kept q) × (lost q ≡ lost p)
+      → Grows (kept p) (kept q) × (lost q ≡ lost p)
   pub ends : (p : P) (span : PlainSpanData) (answer : Result (Unit {0}) AllocError) (q : P)
-      → calls.end_gives p span answer q → Appends (kept p) (kept q)
+      → calls.end_gives p span answer q → Grows (kept p) (kept q)
   pub flushes : (p : P) (answer : Result (Unit {0}) OTelSdkError) (q : P)
-      → calls.flush_gives p answer q → Appends (kept p) (kept q)
+      → calls.flush_gives p answer q → Grows (kept p) (kept q)
   pub shuts : (p : P) (timeout : ℕ) (answer : Result (Unit {0}) OTelSdkError) (q : P)
-      → calls.shutdown_gives p timeout answer q → Appends (kept p) (kept q)
+      → calls.shutdown_gives p timeout answer q → Grows (kept p) (kept q)
 
 -- the batches that an exporter keeps, and how many it lost; none where it is not the one in memory
 abbrev pub exporter_keeps : {C : Type 0} → ExporterOf StoredBatches C → List (List PlainSpanData)
@@ -55,12 +55,12 @@ abbrev pub processor_loses : {S D : Type 0} → (S → ℕ) → ProcessorOf S D 
 processor_loses loses (kinds.Simple simple) = loses simple
 processor_loses loses (kinds.Custom _) = 0
 
-nothing_more : {X Y : Type 0} (f : X → List Y) (x y : X) → y ≡ x → Appends (f x) (f y)
+nothing_more : {X Y : Type 0} (f : X → List Y) (x y : X) → y ≡ x → Grows (f x) (f y)
 nothing_more f x y e = ([], ap f e ∙ sym (append-nil (f x)))
 
 -- an export into memory
 memory_appends : (old : StoredBatches) (batch : List PlainSpanData) (answer : Result (Unit {0}) OTelSdkError)
-    (new : StoredBatches) → StoresBatch old batch answer new → Appends old.batches new.batches
+    (new : StoredBatches) → StoresBatch old batch answer new → Grows old.batches new.batches
 memory_appends old batch (Ok _) new h = (batch ∷ [], ap (λ (s : StoredBatches). s.batches) h)
 memory_appends old batch (Err _) new h = ([], ap (λ (s : StoredBatches). s.batches) h.1 ∙ sym (append-nil old.batches))
 
@@ -69,7 +69,7 @@ pub exporter_appends : {C : Type 0} (exports : C → List PlainSpanData → Resu
     (old : ExporterOf StoredBatches C) (batch : List PlainSpanData) (answer : Result (Unit {0}) OTelSdkError)
     (new : ExporterOf StoredBatches C)
     → ExporterGives (λ m n. StoresBatch m batch answer n) (λ c d. exports c batch answer d) old new
-    → Appends (exporter_keeps old) (exporter_keeps new)
+    → Grows (exporter_keeps old) (exporter_keeps new)
 exporter_appends exports (exporters.Memory m) batch answer (exporters.Memory n) h = memory_appends m batch answer n h
 exporter_appends exports (exporters.Memory m) batch answer (exporters.Custom d) h = absurd h
 exporter_appends exports (exporters.Custom c) batch answer (exporters.Memory n) h = absurd h
@@ -78,10 +78,10 @@ exporter_appends exports (exporters.Custom c) batch answer (exporters.Custom d) 
 -- an end at a simple processor
 appends_if : {E : Type 0} (keeps : E → List (List PlainSpanData)) (calls : exporting.Ghosts E)
     → ((old : E) (batch : List PlainSpanData) (answer : Result (Unit {0}) OTelSdkError) (new : E)
-    → calls.export_gives old batch answer new → Appends (keeps old) (keeps new))
+    → calls.export_gives old batch answer new → Grows (keeps old) (keeps new))
     → (is_due : Bool) (old : SimpleProcessor E) (span : PlainSpanData) (taken : Result (Unit {0}) AllocError)
     (new : SimpleProcessor E)
-    → ExportsIf calls is_due old span taken new → Appends (keeps old.exporter) (keeps new.exporter)
+    → ExportsIf calls is_due old span taken new → Grows (keeps old.exporter) (keeps new.exporter)
 appends_if keeps calls appends true old span (Ok _) new h =
     appends old.exporter (span ∷ []) h.answer new.exporter h.gives
 appends_if {E} keeps calls appends true old span (Err _) new h =
@@ -91,16 +91,16 @@ appends_if {E} keeps calls appends false old span taken new h =
 
 pub simple_appends : {E : Type 0} (keeps : E → List (List PlainSpanData)) (calls : exporting.Ghosts E)
     → ((old : E) (batch : List PlainSpanData) (answer : Result (Unit {0}) OTelSdkError) (new : E)
-    → calls.export_gives old batch answer new → Appends (keeps old) (keeps new))
+    → calls.export_gives old batch answer new → Grows (keeps old) (keeps new))
     → (old : SimpleProcessor E) (span : PlainSpanData) (taken : Result (Unit {0}) AllocError) (new : SimpleProcessor E)
-    → SimpleEnds calls old span taken new → Appends (keeps old.exporter) (keeps new.exporter)
+    → SimpleEnds calls old span taken new → Grows (keeps old.exporter) (keeps new.exporter)
 simple_appends keeps calls appends old span taken new h =
     appends_if keeps calls appends (not old.is_shut && is_sampled span) old span taken new h
 
 -- a call that leaves a simple processor as it was keeps what is kept and loses nothing
 pub simple_stays : {E : Type 0} {B : Type 0} (keeps : E → List (List PlainSpanData)) (loses : E → ℕ)
     (old new : SimpleProcessor E)
-    → (new ≡ old) × B → Appends (keeps old.exporter) (keeps new.exporter) × (loses new.exporter ≡ loses old.exporter)
+    → (new ≡ old) × B → Grows (keeps old.exporter) (keeps new.exporter) × (loses new.exporter ≡ loses old.exporter)
 simple_stays {E} keeps loses old new h = (
   nothing_more (λ (p : SimpleProcessor E). keeps p.exporter) old new h.0,
   ap
@@ -110,8 +110,8 @@ simple_stays {E} keeps loses old new h = (
 -- a call of a processor of either kind
 pub processor_appends : {S D : Type 0} (keeps : S → List (List PlainSpanData)) (simple : S → S → Type 0)
     (custom : D → D → Type 0)
-    → ((a b : S) → simple a b → Appends (keeps a) (keeps b)) → (old new : ProcessorOf S D)
-    → ProcessorGives simple custom old new → Appends (processor_keeps keeps old) (processor_keeps keeps new)
+    → ((a b : S) → simple a b → Grows (keeps a) (keeps b)) → (old new : ProcessorOf S D)
+    → ProcessorGives simple custom old new → Grows (processor_keeps keeps old) (processor_keeps keeps new)
 processor_appends keeps simple custom appends (kinds.Simple a) (kinds.Simple b) h = appends a b h
 processor_appends keeps simple custom appends (kinds.Simple a) (kinds.Custom d) h = absurd h
 processor_appends keeps simple custom appends (kinds.Custom c) (kinds.Simple b) h = absurd h
@@ -120,8 +120,8 @@ processor_appends keeps simple custom appends (kinds.Custom c) (kinds.Custom d) 
 -- the same where none is lost either
 pub processor_stays : {S D : Type 0} (keeps : S → List (List PlainSpanData)) (loses : S → ℕ) (simple : S → S → Type 0)
     (custom : D → D → Type 0)
-    → ((a b : S) → simple a b → Appends (keeps a) (keeps b) × (loses b ≡ loses a)) → (old new : ProcessorOf S D)
-    → ProcessorGives simple custom old new → Appends (processor_keeps keeps old) (processor_keeps keeps new)
+    → ((a b : S) → simple a b → Grows (keeps a) (keeps b) × (loses b ≡ loses a)) → (old new : ProcessorOf S D)
+    → ProcessorGives simple custom old new → Grows (processor_keeps keeps old) (processor_keeps keeps new)
     × (processor_loses loses new ≡ processor_loses loses old)
 processor_stays keeps loses simple custom stays (kinds.Simple a) (kinds.Simple b) h = stays a b h
 processor_stays keeps loses simple custom stays (kinds.Simple a) (kinds.Custom d) h = absurd h
@@ -130,7 +130,7 @@ processor_stays keeps loses simple custom stays (kinds.Custom c) (kinds.Custom d
 
 -- a call that leaves what it may keep as it was
 rests : (old : StoredBatches) (answer : Result (Unit {0}) OTelSdkError) (new : StoredBatches)
-    → RestsOr (λ m r n. (r ≡ Ok tt) × (n ≡ m)) old answer new → Appends old.batches new.batches
+    → RestsOr (λ m r n. (r ≡ Ok tt) × (n ≡ m)) old answer new → Grows old.batches new.batches
 rests old answer new (inl h) = nothing_more (λ (s : StoredBatches). s.batches) old new h.1
 rests old answer new (inr h) = nothing_more (λ (s : StoredBatches). s.batches) old new h.1
 
@@ -138,7 +138,7 @@ rests old answer new (inr h) = nothing_more (λ (s : StoredBatches). s.batches) 
 kinds_shut : {C : Type 0} (custom : C → Result (Unit {0}) OTelSdkError → C → Type 0)
     (old : ExporterOf StoredBatches C) (answer : Result (Unit {0}) OTelSdkError) (new : ExporterOf StoredBatches C)
     → ExporterGives (λ m n. RestsOr (λ a r b. (r ≡ Ok tt) × (b ≡ a)) m answer n) (λ c d. custom c answer d) old new
-    → Appends (exporter_keeps old) (exporter_keeps new)
+    → Grows (exporter_keeps old) (exporter_keeps new)
 kinds_shut custom (exporters.Memory m) answer (exporters.Memory n) h = rests m answer n h
 kinds_shut custom (exporters.Memory m) answer (exporters.Custom d) h = absurd h
 kinds_shut custom (exporters.Custom c) answer (exporters.Memory n) h = absurd h
@@ -148,11 +148,11 @@ pub exporter_shuts : {C : Type 0} (custom : C → Result (Unit {0}) OTelSdkError
     (old : ExporterOf StoredBatches C) (answer : Result (Unit {0}) OTelSdkError) (new : ExporterOf StoredBatches C)
     → RestsOr (λ x given y. ExporterGives
     (λ m n. RestsOr (λ a r b. (r ≡ Ok tt) × (b ≡ a)) m given n) (λ c d. custom c given d) x y) old answer new
-    → Appends (exporter_keeps old) (exporter_keeps new)
+    → Grows (exporter_keeps old) (exporter_keeps new)
 exporter_shuts custom old answer new (inl h) = nothing_more exporter_keeps old new h.1
 exporter_shuts custom old answer new (inr h) = kinds_shut custom old answer new h
 
 -- a flush of a simple processor, which does nothing
 pub simple_flushes : {E : Type 0} {B : Type 0} (keeps : E → List (List PlainSpanData)) (old new : SimpleProcessor E)
-    → B × (new ≡ old) → Appends (keeps old.exporter) (keeps new.exporter)
+    → B × (new ≡ old) → Grows (keeps old.exporter) (keeps new.exporter)
 simple_flushes {E} keeps old new h = nothing_more (λ (p : SimpleProcessor E). keeps p.exporter) old new h.1

@@ -1,5 +1,6 @@
 pub mod AnswerText
 pub mod Commands
+pub mod Headers
 pub mod KeptBatches
 pub mod Lines
 pub mod OpenSpans
@@ -10,3 +11,4 @@ pub mod SessionDelivery
 pub mod StepAnswers
 pub mod StepLines
 pub mod StepTexts
+pub mod Traces

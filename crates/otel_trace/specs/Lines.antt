@@ -7,7 +7,7 @@ use Rattle.opentelemetry.specs.declared.trace.status.Status.{Status}
 use Rattle.opentelemetry.specs.Plain.{PlainStatus, unset, error, ok}
 use Rattle.opentelemetry.specs.PlainValues.{plain_status}
 use Rattle.otel_trace.specs.declared.command.Command.{Command}
-use Rattle.otel_trace.specs.Commands.{PlainCommand, start, child, attr, event, status, end, flush, shutdown, plain_command}
+use Rattle.otel_trace.specs.Commands.{PlainCommand, start, child, remote, attr, event, status, inject, end, flush, shutdown, plain_command}
 
 -- a field is not empty and has no space in it
 abbrev pub IsField : List ℕ → Type 0
@@ -50,9 +50,12 @@ abbrev pub form_of : PlainCommand → LineForm
 form_of (start span name moment) = field (codes "start") (field span (field name (time moment)))
 form_of (child span parent name moment) =
     field (codes "child") (field span (field parent (field name (time moment))))
+form_of (remote span header name moment) =
+    field (codes "remote") (field span (field header (field name (time moment))))
 form_of (attr span key value) = field (codes "attr") (field span (field key (rest_of_line value)))
 form_of (event span name moment) = field (codes "event") (field span (field name (time moment)))
 form_of (status span how) = field (codes "status") (field span (outcome how))
+form_of (inject span) = field (codes "inject") (last_field span)
 form_of (end span moment) = field (codes "end") (field span (time moment))
 form_of flush = last_field (codes "flush")
 form_of shutdown = last_field (codes "shutdown")

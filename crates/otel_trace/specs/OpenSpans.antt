@@ -3,7 +3,7 @@ use Rattle.std.specs.Prelude.{◌≡◌, ℕ, Bool, List, [], ◌∷◌, Option,
 use Rattle.std.specs.Ordering.{nat_cmp}
 use Rattle.std.specs.Cmp.Lexicographic.{slice_cmp}
 use Rattle.std.specs.BTreeMap.{is_at}
-use Rattle.opentelemetry.specs.Plain.{PlainContext, PlainScope, PlainSpanContext}
+use Rattle.opentelemetry.specs.Plain.{PlainContext, PlainScope}
 use Rattle.opentelemetry.specs.PlainSpanBuilder.{named_builder}
 use Rattle.otel_base.specs.declared.trace.sampler.ShouldSample as sampling
 use Rattle.otel_base.specs.declared.trace.id_generator.IdGenerator as drawing
@@ -11,12 +11,13 @@ use Rattle.otel_batch.specs.PlainSpanData.{PlainSpanData}
 use Rattle.opentelemetry_sdk.specs.SpanHistory.{PlainSpan, SpanHistory, span_of, Edit, edited, ended}
 use Rattle.opentelemetry_sdk.specs.Each.{AskedAll}
 use Rattle.opentelemetry_sdk.specs.Provider.{ProviderState}
-use Rattle.opentelemetry_sdk.specs.Starting.{OnlyDraws, Starts, root_cx}
+use Rattle.opentelemetry_sdk.specs.Starting.{OnlyDraws, Starts}
 use Rattle.opentelemetry_sdk.specs.Ending.{TakesAndTells, DeliversIf}
 use Rattle.opentelemetry_sdk.specs.declared.trace.span_processor.SpanProcessor.{Ghosts}
 use Rattle.otel_trace.specs.declared.reply.Answer.{Answer}
 use Rattle.otel_trace.specs.declared.reply.Answer.TheVariants as answers
 use Rattle.otel_trace.specs.declared.reply.SpanIdentity.{SpanIdentity}
+use Rattle.otel_trace.specs.Headers.{AnswersHeaders, SaysContext, child_cx}
 
 -- spans, each under the bytes of its name
 abbrev pub NamedSpans : Type 0
@@ -71,9 +72,10 @@ abbrev pub EditsNamed : NamedSpans → List ℕ → Edit → Option PlainSpan �
 EditsNamed old name edit None answer new = (answer ≡ answers.NoSuchSpan) × SameSpans old new
 EditsNamed old name edit (Some span) answer new = (answer ≡ edit_answer span) × PutsSpan old name (edited edit span) new
 
--- the context in which the span of this span context is active, and nothing else is handed on
-abbrev pub child_cx : PlainSpanContext → PlainContext
-child_cx parent = record root_cx { span_context = Some parent }
+-- what is said of the headers of the span of a name
+abbrev pub InjectsNamed : Option PlainSpan → Answer → Type 0
+InjectsNamed None answer = answer ≡ answers.NoSuchSpan
+InjectsNamed (Some span) answer = AnswersHeaders span.span_context answer
 
 module _ {P S G : Type 0} (calls : Ghosts P) (sampler : sampling.Ghosts S) (ids : drawing.Ghosts G) where
   -- a new name is given the span that a start in a context makes
@@ -114,6 +116,11 @@ module _ {P S G : Type 0} (calls : Ghosts P) (sampler : sampling.Ghosts S) (ids 
       → Type 0
   ChildMayStart p scope None called moment q = q ≡ p
   ChildMayStart p scope (Some parent) called moment q = MayStart p scope (child_cx parent.span_context) called moment q
+
+  -- the same in the context that a header says
+  abbrev pub RemoteMayStart : ProviderState P S G → PlainScope → List ℕ → List ℕ → ℕ → ProviderState P S G → Type 0
+  RemoteMayStart p scope header called moment q =
+      (q ≡ p) ⊎ ((cx : PlainContext) × SaysContext header cx × MayStart p scope cx called moment q)
 
 module _ {P S G : Type 0} (calls : Ghosts P) where
   -- the end of a span: what it delivers, and to whom

@@ -22,7 +22,7 @@ use Rattle.otel_trace.specs.declared.exported.KeepsBatches as keeping
 use Rattle.otel_trace.specs.KeptBatches.{exporter_keeps, exporter_loses, processor_keeps, processor_loses}
 use Rattle.otel_trace.specs.Lines.{IsMoment}
 use Rattle.otel_trace.specs.SessionDelivery.{SessionState, Finishes, batches_of_first}
-use Rattle.otel_trace.specs.StepAnswers.{Answers, machine_of}
+use Rattle.otel_trace.specs.StepAnswers.{AnswersLines, machine_of}
 use Rattle.otel_trace.specs.declared.steps.Sizes.{Sizes}
 
 -- the words `trace SEED simple`, where the seed is written as a moment is: in decimal digits alone, in range of 64 bits
@@ -125,4 +125,4 @@ abbrev pub StepsSized : Sizes → Option (List ℕ) → Option (List ℕ) → Op
     → Type 0
 StepsSized sizes input input_after bad_line output output_after = (bytes answers : List ℕ)
     × (after : Machine StoredBatches) × ReadsWhole input input_after bytes
-    × Answers (machine_of sizes) bytes bad_line answers after × Appends output output_after answers
+    × AnswersLines (machine_of sizes) bytes bad_line answers after × Appends output output_after answers

@@ -79,6 +79,18 @@ dropped_line trace_id span_id trace_flags = line (codes "dropped " ++ context_te
 abbrev pub ok_line : List ℕ
 ok_line = line (codes "ok")
 
+-- the line of a header
+abbrev pub header_line : List ℕ → List ℕ → List ℕ
+header_line name value = line (name ++ 61 ∷ value)
+
+-- what answers an inject of a span with valid ids: two lines
+abbrev pub headers_lines : List ℕ → List ℕ → List ℕ
+headers_lines parent state = header_line (codes "traceparent") parent ++ header_line (codes "tracestate") state
+
+-- what answers an inject of another span
+abbrev pub no_headers_line : List ℕ
+no_headers_line = line (codes "no headers")
+
 -- what answers an edit or an end of a span that does not record
 abbrev pub ignored_line : List ℕ
 ignored_line = line (codes "ignored")

@@ -1,10 +1,10 @@
 -- What the commands of a session demand of its provider and its exporters. It speaks of each span as its history, a
 -- start and the edits since, and of what an end delivers as the data of that history: whole lists, each cut once. No
 -- history is stored.
-use Rattle.std.specs.Prelude.{◌≡◌, ◌≢◌, ℕ, List, [], ◌∷◌, ◌++◌, Option, Some, None, map, take, drop, slice_get, IsFalse, Result, Ok, Err, MatchBool, if◌then◌else◌, ◌⊎◌, ◌≤◌, length}
+use Rattle.std.specs.Prelude.{◌≡◌, ◌≢◌, ℕ, List, [], ◌∷◌, ◌++◌, Option, Some, None, map, take, drop, slice_get, IsFalse, false, Result, Ok, Err, MatchBool, if◌then◌else◌, ◌⊎◌, ◌≤◌, length}
 use Rattle.std.specs.List.{flat_map}
 use Rattle.std.specs.Option.{option_map, option_map_or}
-use Rattle.opentelemetry.specs.Plain.{PlainContext, PlainScope, text}
+use Rattle.opentelemetry.specs.Plain.{PlainContext, PlainScope, PlainSpanContext, text}
 use Rattle.opentelemetry.specs.PlainSpanBuilder.{named_builder}
 use Rattle.otel_base.specs.declared.error.OTelSdkError.{OTelSdkError}
 use Rattle.otel_base.specs.declared.error.OTelSdkError.TheVariants as errors
@@ -13,18 +13,21 @@ use Rattle.otel_base.specs.declared.trace.id_generator.IdGenerator as drawing
 use Rattle.otel_batch.specs.PlainSpanData.{PlainSpanData, spans_in}
 use Rattle.opentelemetry_sdk.specs.SpanHistory.{SpanHistory, begun, over, SpanStart, Edit, set_attribute, add_event, set_status, data_of, span_of}
 use Rattle.opentelemetry_sdk.specs.Deliveries.{Delivery, EachFollows}
+use Rattle.opentelemetry_sdk.specs.Hops.{GoesByParents}
 use Rattle.opentelemetry_sdk.specs.Provider.{Flushes, ProviderState, ShutsDown}
 use Rattle.opentelemetry_sdk.specs.Starting.{Starts, root_cx}
 use Rattle.opentelemetry_sdk.specs.Ending.{Delivers, end_delivers}
 use Rattle.opentelemetry_sdk.specs.declared.trace.span_processor.SpanProcessor.{Ghosts}
 use Rattle.otel_trace.specs.declared.exported.KeepsBatches as keeping
-use Rattle.otel_trace.specs.Commands.{PlainCommand, start, child, attr, event, status, end, flush, shutdown, may_lose, plain_command, plain_commands}
-use Rattle.otel_trace.specs.KeptBatches.{Appends}
-use Rattle.otel_trace.specs.OpenSpans.{NamedSpans, SameSpans, MayStart, ChildMayStart, child_cx, named, is_name, start_answer}
+use Rattle.otel_trace.specs.Commands.{PlainCommand, start, child, remote, attr, event, status, inject, end, flush, shutdown, may_lose, plain_command, plain_commands}
+use Rattle.otel_trace.specs.KeptBatches.{Grows}
+use Rattle.otel_trace.specs.Headers.{AnswersHeaders, SaysContext, child_cx}
+use Rattle.otel_trace.specs.OpenSpans.{NamedSpans, SameSpans, MayStart, ChildMayStart, RemoteMayStart, named, is_name, start_answer}
 use Rattle.otel_trace.specs.AnswerText.{replies_text}
 use Rattle.otel_trace.specs.Lines.{TextSpells}
 use Rattle.otel_trace.specs.PlainReply.{PlainReply, NoneRefused}
 use Rattle.otel_trace.specs.ReplyText.{span_lines}
+use Rattle.otel_trace.specs.Traces.{ChildrenAgree, KeepsContexts}
 use Rattle.otel_trace.specs.declared.session.FeedError.{FeedError}
 use Rattle.otel_trace.specs.declared.session.FeedError.TheVariants as feeds
 use Rattle.otel_trace.specs.declared.command.Command.{Command}
@@ -69,6 +72,19 @@ EditDemands old name edit None answer ds new = OnlyAnswers answers.NoSuchSpan ol
 EditDemands old name edit (Some (over context limits)) answer ds new = OnlyAnswers answers.Ignored old answer ds new
 EditDemands old name edit (Some (begun from edits)) answer ds new =
     AddsEdit old name from (edits ++ edit ∷ []) answer ds new
+
+-- the headers of a span are told, and nothing changes
+pub record TellsHeaders {P S G : Type 0} (old : Course P S G) (context : PlainSpanContext) (answer : Answer)
+    (ds : List Delivery) (new : Course P S G) : Type 0 where
+  pub says : AnswersHeaders context answer
+  pub delivers : ds ≡ []
+  pub rest : new ≡ old
+
+-- the headers of the span of a name, also where its history is over
+abbrev pub InjectDemands : {P S G : Type 0} → Course P S G → Option SpanHistory → Answer → List Delivery
+    → Course P S G → Type 0
+InjectDemands old None answer ds new = OnlyAnswers answers.NoSuchSpan old answer ds new
+InjectDemands old (Some history) answer ds new = TellsHeaders old (span_of history).span_context answer ds new
 
 -- the batches that the first of these processors keeps
 abbrev pub batches_of_first : {P : Type 0} → keeping.Ghosts P → List P → List (List PlainSpanData)
@@ -158,6 +174,13 @@ module _ {P S G : Type 0} (calls : Ghosts P) (sampler : sampling.Ghosts S) (ids 
       StartDemands scope old name (child_cx (span_of parent).span_context) called moment (old.histories name) answer ds
       new
 
+  -- a start in the context that a header says
+  pub record RemoteDemands (scope : PlainScope) (old : Course P S G) (name header called : List ℕ) (moment : ℕ)
+      (answer : Answer) (ds : List Delivery) (new : Course P S G) : Type 0 where
+    pub cx : PlainContext
+    pub says : SaysContext header cx
+    pub starts : StartDemands scope old name cx called moment (old.histories name) answer ds new
+
   -- a history is over, and its data is delivered, unless the provider is shut
   pub record EndsHistory (old : Course P S G) (name : List ℕ) (from : SpanStart) (span : PlainSpanData)
       (answer : Answer) (ds : List Delivery) (new : Course P S G) : Type 0 where
@@ -182,12 +205,15 @@ module _ {P S G : Type 0} (calls : Ghosts P) (sampler : sampling.Ghosts S) (ids 
       StartDemands scope old span root_cx name moment (old.histories span) answer ds new
   Demands scope old (child span parent name moment) answer ds new =
       ChildDemands scope old span (old.histories parent) name moment answer ds new
+  Demands scope old (remote span header name moment) answer ds new =
+      RemoteDemands scope old span header name moment answer ds new
   Demands scope old (attr span key value) answer ds new =
       EditDemands old span (set_attribute (record { key = key; value = text value })) (old.histories span) answer ds new
   Demands scope old (event span name moment) answer ds new =
       EditDemands old span (bare_event name moment) (old.histories span) answer ds new
   Demands scope old (status span how) answer ds new =
       EditDemands old span (set_status how) (old.histories span) answer ds new
+  Demands scope old (inject span) answer ds new = InjectDemands old (old.histories span) answer ds new
   Demands scope old (end span moment) answer ds new = EndDemands old span moment (old.histories span) answer ds new
   Demands scope old flush answer ds new = AsksFlush calls old answer ds new
   Demands scope old shutdown answer ds new = AsksShutdown calls old answer ds new
@@ -216,9 +242,12 @@ module _ {P S G : Type 0} (calls : Ghosts P) (sampler : sampling.Ghosts S) (ids 
   MayAsk scope p spans (start span name moment) q = MayStart calls sampler ids p scope root_cx name moment q
   MayAsk scope p spans (child span parent name moment) q =
       ChildMayStart calls sampler ids p scope (named spans parent) name moment q
+  MayAsk scope p spans (remote span header name moment) q =
+      RemoteMayStart calls sampler ids p scope header name moment q
   MayAsk scope p spans (attr span key value) q = q ≡ p
   MayAsk scope p spans (event span name moment) q = q ≡ p
   MayAsk scope p spans (status span how) q = q ≡ p
+  MayAsk scope p spans (inject span) q = q ≡ p
   MayAsk scope p spans (end span moment) q = q ≡ p
   MayAsk scope p spans flush q = ⊥
   MayAsk scope p spans shutdown q = ⊥
@@ -260,7 +289,7 @@ module _ {P S G : Type 0} (keeps : keeping.Ghosts P) where
   -- batches are kept behind those that were kept, and the replies show them in order and each once: the spans of the
   -- batches behind those that were shown before, up to those that are shown now
   abbrev pub Shows : SessionState P S G → List PlainReply → SessionState P S G → Type 0
-  Shows old replies new = Appends (session_batches old) (session_batches new)
+  Shows old replies new = Grows (session_batches old) (session_batches new)
       × (old.shown ≤ length (session_batches old) → (old.shown ≤ new.shown) × (new.shown ≤ length (session_batches new))
       × (exported_in replies ≡ spans_in (drop old.shown (take new.shown (session_batches new)))))
 
@@ -298,7 +327,7 @@ module _ {P S G : Type 0} (calls : Ghosts P) (keeps : keeping.Ghosts P) (sampler
       × (ds ≡ first ++ rest)
 
   -- what commands demand of the histories that the spans of a session had; each processor follows all that was
-  -- delivered, in order
+  -- delivered, in order; and at an open provider under a sampler that goes by parents each trace is sampled whole
   pub record Demanded (old : SessionState P S G) (histories : Histories) (commands : List PlainCommand)
       (replies : List PlainReply) (new : SessionState P S G) : Type 0 where
     pub deliveries : List Delivery
@@ -307,6 +336,9 @@ module _ {P S G : Type 0} (calls : Ghosts P) (keeps : keeping.Ghosts P) (sampler
         (course_of new after) new.shown
     pub describes : Describe after new.spans
     pub follows : EachFollows calls deliveries old.provider.processors new.provider.processors
+    pub contexts : KeepsContexts old.spans new.spans
+    pub traces : GoesByParents sampler old.provider.sampler → old.provider.is_shut ≡ false
+        → ChildrenAgree commands replies new.spans
 
   -- commands were carried out, each with its reply, whatever histories the spans had
   pub record CarriesOut (old : SessionState P S G) (commands : List Command) (replies : List PlainReply)
@@ -329,7 +361,7 @@ module _ {P S G : Type 0} (calls : Ghosts P) (keeps : keeping.Ghosts P) (sampler
     pub asked : MayCarryOut calls sampler ids old.scope old.provider old.spans
         (plain_command command) new.provider new.spans
     pub rest : new ≡ record old { provider = new.provider; spans = new.spans }
-    pub keeps_batches : Appends (session_batches keeps old) (session_batches keeps new)
+    pub keeps_batches : Grows (session_batches keeps old) (session_batches keeps new)
 
   -- a beginning of the commands was carried out, each with its reply, and the one behind it was refused
   pub record RunsBeginning (old : SessionState P S G) (commands : List Command) (before now : List PlainReply)

@@ -39,15 +39,15 @@ Obeys m orders.State text after = (after ≡ m) × (text ≡ ended (state_text m
 
 -- what lines do, one by one up to the first bad one, and their answers. Empty lines are left out, but counted: so many
 -- lines stand before these
-abbrev pub Follows : Machine StoredBatches → ℕ → List (List ℕ) → Option ℕ → List ℕ → Machine StoredBatches → Type 0
-Follows m number [] bad_line text after = (bad_line ≡ None) × (text ≡ []) × (after ≡ m)
-Follows m number ([] ∷ more) bad_line text after = Follows m (number + 1) more bad_line text after
-Follows m number ((b ∷ line) ∷ more) bad_line text after =
+abbrev pub ObeysEach : Machine StoredBatches → ℕ → List (List ℕ) → Option ℕ → List ℕ → Machine StoredBatches → Type 0
+ObeysEach m number [] bad_line text after = (bad_line ≡ None) × (text ≡ []) × (after ≡ m)
+ObeysEach m number ([] ∷ more) bad_line text after = ObeysEach m (number + 1) more bad_line text after
+ObeysEach m number ((b ∷ line) ∷ more) bad_line text after =
     (IsBadOrder (b ∷ line) × (bad_line ≡ Some (number + 1)) × (text ≡ []) × (after ≡ m))
     ⊎ ((order : Order) × (answer rest : List ℕ) × (next : Machine StoredBatches)
     × ReadsOrder (b ∷ line) order × Obeys m order answer next
-    × Follows next (number + 1) more bad_line rest after × (text ≡ answer ++ rest))
+    × ObeysEach next (number + 1) more bad_line rest after × (text ≡ answer ++ rest))
 
 -- what a text does to a machine, and the text that answers it
-abbrev pub Answers : Machine StoredBatches → List ℕ → Option ℕ → List ℕ → Machine StoredBatches → Type 0
-Answers m text bad_line answers after = Follows m 0 (lines text) bad_line answers after
+abbrev pub AnswersLines : Machine StoredBatches → List ℕ → Option ℕ → List ℕ → Machine StoredBatches → Type 0
+AnswersLines m text bad_line answers after = ObeysEach m 0 (lines text) bad_line answers after

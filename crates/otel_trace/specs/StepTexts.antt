@@ -20,8 +20,8 @@ name_of None = []
 name_of (Some span) = span.name
 
 -- the name of the span that was pulled, which is the last one in hand
-abbrev pub last_name : List PlainSpanData → List ℕ
-last_name hand = name_of (slice_get hand (length hand - 1))
+abbrev pub pulled_name : List PlainSpanData → List ℕ
+pulled_name hand = name_of (slice_get hand (length hand - 1))
 
 -- what answers a step, where these spans are in hand behind it
 abbrev pub outcome_text : List PlainSpanData → Outcome → List ℕ
@@ -47,7 +47,7 @@ outcome_text hand outcomes.Ticked = codes "ticked"
 outcome_text hand outcomes.Cleared = codes "cleared"
 outcome_text hand (outcomes.Loaded target) = codes "loaded " ++ decimal target
 outcome_text hand outcomes.Empty = codes "empty"
-outcome_text hand outcomes.Pulled = codes "pulled " ++ last_name hand
+outcome_text hand outcomes.Pulled = codes "pulled " ++ pulled_name hand
 outcome_text hand outcomes.NoMemory = codes "no memory"
 outcome_text hand (outcomes.HandedOver count _) = codes "handed over " ++ decimal count
 outcome_text hand outcomes.Subtracted = codes "subtracted"

@@ -22,6 +22,14 @@ pub enum Command {
         name: String,
         moment: Moment,
     },
+    /// Start a span under a name, in the context that a `traceparent` says (W3C Trace Context): as a child of a span of
+    /// another process, or of none where the text says none.
+    Remote {
+        span: String,
+        traceparent: String,
+        name: String,
+        moment: Moment,
+    },
     /// Set an attribute whose value is a text.
     Attr {
         span: String,
@@ -38,6 +46,10 @@ pub enum Command {
     Status {
         span: String,
         status: Status,
+    },
+    /// Tell the headers by which another process continues the trace of a span.
+    Inject {
+        span: String,
     },
     /// End a span.
     End {

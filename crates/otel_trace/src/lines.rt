@@ -1,6 +1,6 @@
 //! The text that a session is fed, read as commands. Reading stops at the first line that is no command.
 
-ghost use Rattle.std.specs.Prelude.{◌≡◌, ℕ, ◌<◌, List, [], ◌∷◌, ◌++◌, length, Option, None, Some, IfOk, IsOk, MatchOption, codes, position, ◌==◌};
+ghost use Rattle.std.specs.Prelude.{◌≡◌, ℕ, ◌<◌, List, [], ◌∷◌, ◌++◌, length, Option, None, Some, IfOk, IsOk, IsTrue, ◌↔◌, MatchOption, codes, position, ◌==◌};
 ghost use Rattle.std.specs.Str.Lines.{lines as lines_of, strip_carriage_return};
 ghost use Rattle.otel_trace.specs.Commands.{PlainCommand, plain_commands};
 ghost use Rattle.otel_trace.specs.Lines.{
@@ -100,9 +100,11 @@ fn command_with_fields(
     match word {
         "start" => start_of(alloc, fields),
         "child" => child_of(alloc, fields),
+        "remote" => remote_of(alloc, fields),
         "attr" => attr_of(alloc, fields),
         "event" => event_of(alloc, fields),
         "status" => status_of(alloc, fields),
+        "inject" => inject_of(alloc, fields),
         "end" => end_of(alloc, fields),
         _ => Ok(None),
     }
@@ -126,15 +128,27 @@ fn start_of(alloc: Global, fields: &str) -> Result<Option<Command>, AllocError>
 fn child_of(alloc: Global, fields: &str) -> Result<Option<Command>, AllocError>
     ensures { IfOk result (FieldsGive (codes "child") fields.now) }
 {
-    let Some((span, rest)) = first_field(fields) else {
-        return Ok(None);
-    };
-    let Some((parent, name, moment)) = two_fields_and_moment(rest) else {
+    let Some((span, parent, name, moment)) = three_fields_and_moment(fields) else {
         return Ok(None);
     };
     Ok(Some(Command::Child {
         span: String::from_str(alloc, span)?,
         parent: String::from_str(alloc, parent)?,
+        name: String::from_str(alloc, name)?,
+        moment,
+    }))
+}
+
+/// The fields of `remote SPAN TRACEPARENT NAME MOMENT`.
+fn remote_of(alloc: Global, fields: &str) -> Result<Option<Command>, AllocError>
+    ensures { IfOk result (FieldsGive (codes "remote") fields.now) }
+{
+    let Some((span, traceparent, name, moment)) = three_fields_and_moment(fields) else {
+        return Ok(None);
+    };
+    Ok(Some(Command::Remote {
+        span: String::from_str(alloc, span)?,
+        traceparent: String::from_str(alloc, traceparent)?,
         name: String::from_str(alloc, name)?,
         moment,
     }))
@@ -187,6 +201,18 @@ fn status_of(alloc: Global, fields: &str) -> Result<Option<Command>, AllocError>
     }))
 }
 
+/// The field of `inject SPAN`.
+fn inject_of(alloc: Global, field: &str) -> Result<Option<Command>, AllocError>
+    ensures { IfOk result (FieldsGive (codes "inject") field.now) }
+{
+    if !is_field(field) {
+        return Ok(None);
+    }
+    Ok(Some(Command::Inject {
+        span: String::from_str(alloc, field)?,
+    }))
+}
+
 /// The fields of `end SPAN MOMENT`.
 fn end_of(alloc: Global, fields: &str) -> Result<Option<Command>, AllocError>
     ensures { IfOk result (FieldsGive (codes "end") fields.now) }
@@ -198,6 +224,19 @@ fn end_of(alloc: Global, fields: &str) -> Result<Option<Command>, AllocError>
         span: String::from_str(alloc, span)?,
         moment,
     }))
+}
+
+/// Three fields and the moment behind them; none where anything else stands there.
+fn three_fields_and_moment(text: &str) -> Option<(&str, &str, &str, Moment)>
+    ensures { MatchOption result
+        ((first second third : List ℕ) (moment : ℕ)
+        → IsOfForm text.now (field first (field second (field third (time moment)))) → ⊥)
+        (λ parts. IsOfForm text.now
+        (field parts.0.now (field parts.1.now (field parts.2.now (time parts.3.0))))) }
+{
+    let (first, rest) = first_field(text)?;
+    let (second, third, moment) = two_fields_and_moment(rest)?;
+    Some((first, second, third, moment))
 }
 
 /// Two fields and the moment behind them; none where anything else stands there.
@@ -238,6 +277,13 @@ fn read_status(alloc: Global, text: &str) -> Result<Option<Status>, AllocError>
     Ok(Some(Status::Error {
         description: String::from_str(alloc, description)?,
     }))
+}
+
+/// Whether a text is one field: not empty, and without a space.
+fn is_field(text: &str) -> bool
+    ensures { IsTrue result ↔ IsField text.now }
+{
+    !text.is_empty() && text.as_bytes().iter().all(|byte| *byte != b' ')
 }
 
 /// The first field of a text and what stands behind the space that ends it; none where no field ends in a space.

@@ -4,6 +4,7 @@
 
 pub mod command;
 pub mod exported;
+mod headers;
 pub mod lines;
 mod open_spans;
 pub mod program;

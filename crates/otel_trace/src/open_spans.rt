@@ -4,23 +4,25 @@ ghost use Rattle.std.specs.Prelude.{◌≡◌, [], None, IfOk, OnOk, OnErr, is_s
 ghost use Rattle.std.specs.Option.{option_map};
 ghost use Rattle.opentelemetry_sdk.specs.SpanEdits.{plain_edit};
 ghost use Rattle.opentelemetry_sdk.specs.Starting.{root_cx};
+ghost use Rattle.otel_trace.specs.Headers.{child_cx};
 ghost use Rattle.otel_trace.specs.OpenSpans.{
   ChildMayStart,
   ChildStartsNamed,
   EditsNamed,
   EndsNamed,
   MayDeliver,
+  InjectsNamed,
   MayStart,
   PutsSpan,
   SameSpans,
   StartsNamed,
   by_name,
-  child_cx,
   identity_of,
   named,
   start_answer,
 };
 
+use crate::headers::answer_with_headers;
 use crate::reply::{Answer, SpanIdentity};
 use opentelemetry::{Context, Moment};
 use opentelemetry_sdk::trace::{ProviderOf, SdkTracer, Span, SpanEdit, SpanProcessor};
@@ -97,7 +99,7 @@ impl OpenSpans {
     }
 
     /// The same in a context.
-    fn start_in<P: SpanProcessor, S: ShouldSample, G: IdGenerator>(
+    pub(crate) fn start_in<P: SpanProcessor, S: ShouldSample, G: IdGenerator>(
         &mut self,
         name: String,
         cx: &Context,
@@ -133,6 +135,16 @@ impl OpenSpans {
         };
         let cx = Context::new().with_span_context(span.span_context().clone()?)?;
         Ok(Some(cx))
+    }
+
+    /// What is said of the headers of the span of a name.
+    pub(crate) fn inject(&self, alloc: Global, name: &str) -> Result<Answer, AllocError>
+        ensures { IfOk result (InjectsNamed (named self.now name.now)) }
+    {
+        let Some(cx) = self.context_of(name)? else {
+            return Ok(Answer::NoSuchSpan);
+        };
+        answer_with_headers(alloc, &cx)
     }
 
     fn contains(&self, name: &str) -> bool

@@ -7,7 +7,7 @@ ghost use Rattle.otel_batch.specs.MachineState.{Machine};
 ghost use Rattle.otel_batch.specs.StoredBatches.{StoredBatches};
 ghost use Rattle.otel_trace.specs.SessionDelivery.{Finishes};
 ghost use Rattle.otel_trace.specs.Program.{AsksFor, AsksForNoTrace, AsksForNothing, AsksForSteps, IsProviderOfSeed, StepsSized, TracesSeed, TracesWhole, WriteSizes, WritesText, bad_line_text, session_under, usage_text};
-ghost use Rattle.otel_trace.specs.StepAnswers.{Answers, machine_of};
+ghost use Rattle.otel_trace.specs.StepAnswers.{AnswersLines, machine_of};
 
 use crate::exported::KeepsBatches;
 use crate::lines::number_of;
@@ -215,7 +215,7 @@ fn step_input<R: Read, W: Write, F: Write>(
 fn step(alloc: Global, sizes: Sizes, input: &[u8]) -> Outcome
     ensures { result.has_failed ≡ false →
         (after : Machine StoredBatches)
-        × Answers (machine_of sizes) input.now result.bad_line result.text.items after }
+        × AnswersLines (machine_of sizes) input.now result.bad_line result.text.items after }
 {
     let Ok(mut machine) = machine_sized(alloc, sizes) else {
         return failed(alloc);

@@ -25,6 +25,13 @@ pub enum Answer {
     Dropped(SpanIdentity),
     /// It was done.
     Ok,
+    /// The headers of the span.
+    Headers {
+        traceparent: String,
+        tracestate: String,
+    },
+    /// The span has no ids that could travel.
+    NoHeaders,
     /// The span is not recording, so nothing was done.
     Ignored,
     /// No start made the name.

@@ -7,7 +7,7 @@ ghost use Rattle.opentelemetry.specs.Text.{Appends};
 ghost use Rattle.opentelemetry.specs.PlainValues.{plain_status};
 ghost use Rattle.otel_base.specs.Traceparent.{context_text};
 ghost use Rattle.otel_trace.specs.AnswerText.{answer_line};
-ghost use Rattle.otel_trace.specs.ReplyText.{listed, spaced, comma_before, status_text, attribute_text, attributes_text, event_text, events_text, links_text, identity_text, span_line, span_lines, started_line, dropped_line};
+ghost use Rattle.otel_trace.specs.ReplyText.{listed, spaced, comma_before, status_text, attribute_text, attributes_text, event_text, events_text, links_text, identity_text, span_line, span_lines, started_line, dropped_line, header_line, headers_lines};
 
 use crate::reply::Answer;
 use opentelemetry::trace::{Event, Status};
@@ -212,6 +212,24 @@ fn push_dropped(
     text.push('\n')
 }
 
+/// The line of a header: its name, `=` and its text.
+#[tactic(auto, using(std::proofs::lemmas::List::append_assoc))]
+fn push_header(text: &mut String, name: &str, value: &str) -> Result<(), AllocError>
+    ensures { OnOk result (Appends text.old (header_line name.now value.now) text.new) }
+{
+    write!(text, "{name}={value}")?;
+    text.push('\n')
+}
+
+/// A line for each of both headers.
+#[tactic(auto, using(std::proofs::lemmas::List::append_assoc))]
+fn push_headers(text: &mut String, parent: &str, state: &str) -> Result<(), AllocError>
+    ensures { OnOk result (Appends text.old (headers_lines parent.now state.now) text.new) }
+{
+    push_header(text, "traceparent", parent)?;
+    push_header(text, "tracestate", state)
+}
+
 /// The line of an answer.
 fn push_answer(text: &mut String, answer: Answer) -> Result<(), AllocError>
     ensures { OnOk result (Appends text.old (answer_line answer) text.new) }
@@ -220,6 +238,11 @@ fn push_answer(text: &mut String, answer: Answer) -> Result<(), AllocError>
         Answer::Started(span) => push_started(text, span.trace_id, span.span_id, span.trace_flags),
         Answer::Dropped(span) => push_dropped(text, span.trace_id, span.span_id, span.trace_flags),
         Answer::Ok => text.push_str("ok\n"),
+        Answer::Headers {
+            traceparent,
+            tracestate,
+        } => push_headers(text, traceparent.as_str(), tracestate.as_str()),
+        Answer::NoHeaders => text.push_str("no headers\n"),
         Answer::Ignored => text.push_str("ignored\n"),
         Answer::NoSuchSpan => text.push_str("no such span\n"),
         Answer::SpanExists => text.push_str("span exists\n"),
@@ -388,6 +411,9 @@ mod tests {
     const LINES: &str = "started 00-5c0fdf91ec9a7bfc61da6f3dc380d507-02eebf8c3bbe5e1a-01
 dropped 00-00000000000000000000000000000000-0000000000000000-00
 ok
+traceparent=00-a
+tracestate=k=v
+no headers
 ignored
 no such span
 span exists
@@ -427,6 +453,11 @@ ended
             Answer::Started(span),
             Answer::Dropped(nobody),
             Answer::Ok,
+            Answer::Headers {
+                traceparent: String::from_str(rt.alloc(), "00-a")?,
+                tracestate: String::from_str(rt.alloc(), "k=v")?,
+            },
+            Answer::NoHeaders,
             Answer::Ignored,
             Answer::NoSuchSpan,
             Answer::SpanExists,

@@ -10,7 +10,7 @@ ghost use Rattle.opentelemetry_sdk.specs.SpanEdits.{plain_edit};
 ghost use Rattle.opentelemetry_sdk.specs.SpanHistory.{set_attribute};
 ghost use Rattle.otel_trace.specs.Commands.{is_end, may_lose, plain_command};
 ghost use Rattle.otel_trace.specs.AnswerText.{answer_line};
-ghost use Rattle.otel_trace.specs.KeptBatches.{Appends};
+ghost use Rattle.otel_trace.specs.KeptBatches.{Grows};
 ghost use Rattle.otel_trace.specs.PlainReply.{counts_refusals};
 ghost use Rattle.otel_trace.specs.ReplyText.{span_lines};
 ghost use Rattle.otel_trace.specs.SessionDelivery.{
@@ -37,6 +37,7 @@ ghost use Rattle.otel_trace.specs.SessionDelivery.{
 
 use crate::command::Command;
 use crate::exported::{KeepsBatches, batches_since, copied_spans};
+use crate::headers::remote_context;
 use crate::lines::parse;
 use crate::open_spans::OpenSpans;
 use crate::reply::{Answer, Reply};
@@ -241,7 +242,7 @@ impl<P: KeepsBatches, S: ShouldSample, G: IdGenerator> Session<P, S, G> {
             (MayCarryOut P.SpanProcessor S.ShouldSample G.IdGenerator self.old.scope self.old.provider self.old.spans
             (plain_command command) self.new.provider self.new.spans) }
         ensures rest { self.new ≡ record self.old { provider = self.new.provider; spans = self.new.spans } }
-        ensures keeps { Appends (session_batches P.KeepsBatches.own self.old)
+        ensures keeps { Grows (session_batches P.KeepsBatches.own self.old)
             (session_batches P.KeepsBatches.own self.new) }
     {
         let ends_span = command.ends_span();
@@ -262,7 +263,7 @@ impl<P: KeepsBatches, S: ShouldSample, G: IdGenerator> Session<P, S, G> {
             (RefusesOne P.SpanProcessor S.ShouldSample G.IdGenerator self.old.scope self.old.provider self.old.spans
             (plain_command command) self.new.provider self.new.spans) }
         ensures rest { self.new ≡ record self.old { provider = self.new.provider; spans = self.new.spans } }
-        ensures keeps { Appends (session_batches P.KeepsBatches.own self.old)
+        ensures keeps { Grows (session_batches P.KeepsBatches.own self.old)
             (session_batches P.KeepsBatches.own self.new) }
         ensures loses { IsFalse (is_end (plain_command command)) → IsFalse (may_lose (plain_command command))
             → LosesNone P.KeepsBatches.own self.old self.new }
@@ -362,7 +363,7 @@ fn carry_out<P: KeepsBatches, S: ShouldSample, G: IdGenerator>(
     ensures err { OnErr result
         (RefusesOne P.SpanProcessor S.ShouldSample G.IdGenerator tracer.now provider.old spans.old
         (plain_command command) provider.new spans.new) }
-    ensures keeps { Appends (batches_of_first P.KeepsBatches.own provider.old.processors)
+    ensures keeps { Grows (batches_of_first P.KeepsBatches.own provider.old.processors)
         (batches_of_first P.KeepsBatches.own provider.new.processors) }
     ensures loses { IsFalse (is_end (plain_command command)) → IsFalse (may_lose (plain_command command))
         → losses_of_first P.KeepsBatches.own provider.new.processors
@@ -376,11 +377,21 @@ fn carry_out<P: KeepsBatches, S: ShouldSample, G: IdGenerator>(
             name,
             moment,
         } => spans.start_child(span, parent.as_str(), tracer, provider, name, moment),
+        Command::Remote {
+            span,
+            traceparent,
+            name,
+            moment,
+        } => {
+            let cx = remote_context(alloc, traceparent)?;
+            spans.start_in(span, &cx, tracer, provider, name, moment)
+        }
         Command::Attr { span, key, value } => spans.edit(span.as_str(), text_attribute(key, value)),
         Command::Event { span, name, moment } => {
             spans.edit(span.as_str(), event_without_attributes(alloc, name, moment))
         }
         Command::Status { span, status } => spans.edit(span.as_str(), SpanEdit::SetStatus(status)),
+        Command::Inject { span } => spans.inject(alloc, span.as_str()),
         Command::End { span, moment } => spans.end(span.as_str(), provider, moment),
         Command::Flush => Ok(answer_to_call(provider.force_flush())),
         Command::Shutdown => Ok(answer_to_call(provider.shutdown())),

@@ -4,7 +4,7 @@
 ghost use Rattle.std.specs.Prelude.{◌≡◌, ◌++◌, List, ℕ, IfOk, OnOk};
 ghost use Rattle.opentelemetry.specs.Text.{Appends};
 ghost use Rattle.otel_batch.specs.MachineRun.{Stepped};
-ghost use Rattle.otel_trace.specs.StepAnswers.{Answers, Obeys, machine_of, memory_calls};
+ghost use Rattle.otel_trace.specs.StepAnswers.{AnswersLines, Obeys, machine_of, memory_calls};
 ghost use Rattle.otel_trace.specs.StepTexts.{outcome_text};
 
 use crate::lines::first_line;
@@ -55,7 +55,7 @@ pub fn answer_lines(
     out: &mut Vec<u8>,
 ) -> Result<Option<u64>, AllocError>
     ensures { IfOk result (λ bad_line. (answers : List ℕ) × (out.new.items ≡ out.old.items ++ answers)
-        × Answers machine.old text.now bad_line answers machine.new) }
+        × AnswersLines machine.old text.now bad_line answers machine.new) }
 {
     let mut answer = String::new(alloc);
     let mut number: u64 = 0;

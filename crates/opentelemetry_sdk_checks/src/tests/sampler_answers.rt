@@ -132,6 +132,25 @@ fn shown(alloc: Global, span: &Span) -> Result<String, AllocError> {
     }
 }
 
+/// Starts a root and a child of it: what is shown of both.
+fn root_and_child(
+    alloc: Global,
+    provider: &mut RecordingProvider,
+) -> Result<(String, String), AllocError> {
+    let tracer = provider.tracer(String::new(alloc))?;
+    let root = tracer.start(String::new(alloc), provider, Moment(7))?;
+    let text = shown(alloc, &root);
+    let cx = context_of(&root);
+    root.abandon();
+    let child = started_in(alloc, &cx?, provider)?;
+    Ok((text?, child))
+}
+
+/// The context in which a span is active.
+fn context_of(span: &Span) -> Result<Context, AllocError> {
+    Context::new().with_span_context(span.span_context().clone()?)
+}
+
 /// How many spans the first processor exported, and how many the second one was given.
 fn delivered(provider: &RecordingProvider) -> (usize, usize) {
     let (mut exported, mut given) = (0, 0);
@@ -163,13 +182,12 @@ fn a_recorded_span_keeps_its_parents_other_flags_and_is_not_exported(
 #[test]
 fn a_delegate_decides_on_a_root_alone(rt: HostRuntime) -> Result<(), Fail> {
     let alloc = rt.alloc();
-    let child_of = parent_of(alloc, 0)?;
     let delegate = Box::new(alloc, SamplerOf::Custom(Recording { alloc }))?;
     let mut provider = provider_of(alloc, SamplerOf::ParentBased(delegate))?;
-    let root = started_in(alloc, &Context::new(), &mut provider);
-    let child = started_in(alloc, &child_of, &mut provider);
+    let started = root_and_child(alloc, &mut provider);
     let _ = provider.close();
-    assert_eq!(rt; root?.as_str(), "00 0 none");
-    assert_eq!(rt; child?.as_str(), "00 dropped bar");
+    let (root, child) = started?;
+    assert_eq!(rt; root.as_str(), "00 0 none");
+    assert_eq!(rt; child.as_str(), "00 dropped none");
     Ok(())
 }

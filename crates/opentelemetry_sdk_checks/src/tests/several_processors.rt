@@ -1,12 +1,15 @@
 //! That each of several processors is asked in its turn, which no clause says.
 
 use super::fixtures::{provider_over, three_writers};
-use opentelemetry::Moment;
-use opentelemetry_sdk::trace::{ProviderOf, SpanProcessor};
+use opentelemetry::{Context, Moment};
+use opentelemetry_sdk::trace::{ProviderOf, Span, SpanProcessor};
+use otel_base::error::{OTelSdkError, OTelSdkResult};
 use otel_base::trace::{RandomIdGenerator, Sampler};
+use otel_batch::trace::SpanData;
 use std::alloc::{AllocError, Global};
 use std::cell::Cell;
 use std::test::Fail;
+use std::time::Duration;
 
 /// Starts a span at moment 7 and ends it at moment 9. The answer is how many processors refused it.
 fn start_and_end<P: SpanProcessor>(
@@ -40,6 +43,50 @@ fn starts_ends_flushes_and_shutdowns_ask_each_processor_in_its_turn(
     assert!(rt; shut.is_ok());
     assert!(rt; closed.is_ok());
     assert_eq!(rt; board.get(), 123_123_123_123);
+    Ok(())
+}
+
+/// A processor whose flush fails or does not.
+#[derive(Drop)]
+struct Flushing {
+    alloc: Global,
+    fails: bool,
+}
+
+impl SpanProcessor for Flushing {
+    fn on_start(&mut self, _span: &mut Span, _cx: &Context) {}
+
+    fn on_end(&mut self, _span: SpanData) -> Result<(), AllocError> {
+        Ok(())
+    }
+
+    fn force_flush(&mut self) -> OTelSdkResult {
+        if self.fails {
+            return Err(OTelSdkError::InternalFailure(String::new(self.alloc)));
+        }
+        Ok(())
+    }
+
+    fn shutdown_with_timeout(&mut self, _timeout: Duration) -> OTelSdkResult {
+        Ok(())
+    }
+}
+
+#[test]
+fn a_flush_says_how_many_processors_failed(rt: HostRuntime) -> Result<(), Fail> {
+    let alloc = rt.alloc();
+    let mut processors = Vec::new(alloc);
+    for fails in [false, true] {
+        processors.push(Flushing { alloc, fails })?;
+    }
+    let mut provider = provider_over(processors);
+    let flushed = provider.force_flush();
+    let closed = provider.close();
+    let Err(OTelSdkError::InternalFailure(reason)) = flushed else {
+        return Err(Fail::new("another answer"));
+    };
+    assert_eq!(rt; reason.as_str(), "errs: 1");
+    assert!(rt; closed.is_ok());
     Ok(())
 }
 

@@ -187,6 +187,51 @@ fn attributes_of_events_and_links_are_cut_and_counted_anew(rt: HostRuntime) -> R
     Ok(())
 }
 
+/// What a span records that a builder gives an event and a link, under the default limits.
+fn recorded_of(
+    alloc: Global,
+    provider: &mut TestProvider,
+    event: Event,
+    link: Link,
+) -> Result<Option<SpanData>, AllocError> {
+    let mut events = Vec::new(alloc);
+    events.push(event)?;
+    let mut links = Vec::new(alloc);
+    links.push(link)?;
+    let tracer = provider.tracer(String::new(alloc))?;
+    let builder = tracer
+        .span_builder(String::from_str(alloc, "GET")?)
+        .with_events(events)
+        .with_links(links);
+    let span = tracer.build_with_context(builder, &Context::new(), provider, Moment(7))?;
+    let exported = span.exported_data();
+    span.abandon();
+    exported
+}
+
+#[test]
+fn a_builders_events_and_links_are_counted_anew(rt: HostRuntime) -> Result<(), Fail> {
+    let alloc = rt.alloc();
+    let (event, link) = (event(alloc, 1, 7)?, link(alloc, 1, 7)?);
+    let mut provider = provider_over(Vec::new(alloc), SpanLimits::default());
+    let recorded = recorded_of(alloc, &mut provider, event, link);
+    let _ = provider.close();
+    let Some(recorded) = recorded? else {
+        return Err(Fail::new("nothing is recorded"));
+    };
+    assert_eq!(rt; events_of(&recorded.events), (1, 0));
+    assert_eq!(rt; links_of(&recorded.links), (1, 0));
+    for event in recorded.events.as_slice() {
+        assert_eq!(rt; event.attributes.len(), 1);
+        assert_eq!(rt; event.dropped_attributes_count, 0);
+    }
+    for link in recorded.links.as_slice() {
+        assert_eq!(rt; link.attributes.len(), 1);
+        assert_eq!(rt; link.dropped_attributes_count, 0);
+    }
+    Ok(())
+}
+
 #[test]
 fn the_greatest_status_stays(rt: HostRuntime) -> Result<(), Fail> {
     let alloc = rt.alloc();

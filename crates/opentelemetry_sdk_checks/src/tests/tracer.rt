@@ -1,5 +1,5 @@
 use opentelemetry::trace::SpanContext;
-use opentelemetry::{Context, Key, KeyValue, Moment, SpanId, Value};
+use opentelemetry::{Context, Key, KeyValue, Moment, SpanId, TraceId, Value};
 use opentelemetry_sdk::trace::{ProcessorOf, ProviderOf, SimpleSpanProcessor, Span, SpanProcessor};
 use otel_base::error::{OTelSdkError, OTelSdkResult};
 use otel_base::trace::{RandomIdGenerator, Sampler, SpanLimits};
@@ -46,23 +46,31 @@ impl SpanProcessor for Stamping {
     }
 }
 
-type TestProvider = ProviderOf<
-    ProcessorOf<SimpleSpanProcessor<InMemorySpanExporter>, Stamping>,
-    Sampler,
-    RandomIdGenerator,
->;
+type TestProcessor = ProcessorOf<SimpleSpanProcessor<InMemorySpanExporter>, Stamping>;
 
-/// An open provider over one that stamps and refuses, and one that exports into memory.
-fn two_processors(alloc: Global) -> Result<TestProvider, AllocError> {
+type TestProvider = ProviderOf<TestProcessor, Sampler, RandomIdGenerator>;
+
+/// One that stamps and refuses, and one that exports into memory.
+fn two_processors(alloc: Global) -> Result<Vec<TestProcessor>, AllocError> {
+    let exporter = InMemorySpanExporter::new(alloc);
     let mut processors = Vec::new(alloc);
     processors.push(ProcessorOf::Custom(Stamping { alloc }))?;
-    processors.push(ProcessorOf::Simple(SimpleSpanProcessor::new(
-        alloc,
-        InMemorySpanExporter::new(alloc),
-    )))?;
+    processors.push(ProcessorOf::Simple(SimpleSpanProcessor::new(alloc, exporter)))?;
+    Ok(processors)
+}
+
+/// A sampler that keeps each root, and a child where its parent is kept.
+fn by_parents(alloc: Global) -> Result<Sampler, AllocError> {
+    Ok(Sampler::ParentBased(Box::new(alloc, Sampler::AlwaysOn)?))
+}
+
+/// An open provider over both processors.
+fn provider_of_two(alloc: Global) -> Result<TestProvider, AllocError> {
+    let sampler = by_parents(alloc)?;
+    let processors = two_processors(alloc)?;
     Ok(ProviderOf::from_parts(
         processors,
-        Sampler::ParentBased(Box::new(alloc, Sampler::AlwaysOn)?),
+        sampler,
         RandomIdGenerator::new(0),
         SpanLimits::default(),
     ))
@@ -71,6 +79,7 @@ fn two_processors(alloc: Global) -> Result<TestProvider, AllocError> {
 /// Who a started span is, and whether it records.
 #[derive(Drop)]
 struct Started {
+    trace_id: TraceId,
     span_id: SpanId,
     is_recording: bool,
     is_sampled: bool,
@@ -85,6 +94,7 @@ fn started_in(
     let tracer = provider.tracer(String::new(alloc))?.clone()?;
     let span = tracer.start_with_context(String::new(alloc), cx, provider, Moment(1))?;
     let started = Started {
+        trace_id: span.span_context().trace_id(),
         span_id: span.span_context().span_id(),
         is_recording: span.is_recording(),
         is_sampled: span.span_context().is_sampled(),
@@ -97,11 +107,12 @@ fn started_in(
 fn a_suppressed_context_draws_no_id(rt: HostRuntime) -> Result<(), Fail> {
     let alloc = rt.alloc();
     let suppressed = Context::new().with_telemetry_suppressed()?;
-    let mut provider = two_processors(alloc)?;
+    let mut provider = provider_of_two(alloc)?;
     let silent = started_in(alloc, &suppressed, &mut provider);
     let plain = started_in(alloc, &Context::new(), &mut provider);
     let _ = provider.close();
     let (silent, plain) = (silent?, plain?);
+    assert_eq!(rt; silent.trace_id, TraceId::INVALID);
     assert_eq!(rt; silent.span_id, SpanId::INVALID);
     assert!(rt; !silent.is_recording);
     assert_eq!(rt; plain.span_id, SpanId::from(FIRST_SPAN_ID));
@@ -113,10 +124,11 @@ fn a_suppressed_context_draws_no_id(rt: HostRuntime) -> Result<(), Fail> {
 fn the_child_of_the_empty_span_context_is_dropped(rt: HostRuntime) -> Result<(), Fail> {
     let alloc = rt.alloc();
     let cx = Context::new().with_span_context(SpanContext::empty_context())?;
-    let mut provider = two_processors(alloc)?;
+    let mut provider = provider_of_two(alloc)?;
     let child = started_in(alloc, &cx, &mut provider);
     let _ = provider.close();
     let child = child?;
+    assert_eq!(rt; child.trace_id, TraceId::INVALID);
     assert_eq!(rt; child.span_id, SpanId::from(FIRST_SPAN_ID));
     assert!(rt; !child.is_recording && !child.is_sampled);
     Ok(())
@@ -166,7 +178,7 @@ fn what_one_processor_stamps_and_refuses_the_other_exports_once(
     rt: HostRuntime,
 ) -> Result<(), Fail> {
     let alloc = rt.alloc();
-    let mut provider = two_processors(alloc)?;
+    let mut provider = provider_of_two(alloc)?;
     let ended = ended_twice(alloc, &mut provider);
     let batches = batch_count(&provider);
     let flushed = provider.force_flush();

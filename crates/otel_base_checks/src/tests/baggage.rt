@@ -1,5 +1,6 @@
 //! Tables of headers. A baggage is shown as its members in order, each with a bar behind it.
 
+use super::again::carried;
 use opentelemetry::Context;
 use opentelemetry::baggage::{Baggage, BaggageMetadata};
 use opentelemetry::propagation::{Extractor, Injector, MapCarrier, TextMapPropagator};
@@ -126,6 +127,11 @@ fn reads_the_examples_of_the_standard(rt: HostRuntime) -> Result<(), Fail> {
     let escapes = "userId=Am%C3%A9lie,serverNode=DF%2028,isProduction=false";
     let members = "userId=Amélie|serverNode=DF 28|isProduction=false|";
     assert!(rt; reads_as(rt.alloc(), escapes, members)?);
+    let plain = "userId=alice,serverNode=DF%2028,isProduction=false";
+    let members = "userId=alice|serverNode=DF 28|isProduction=false|";
+    assert!(rt; reads_as(rt.alloc(), plain, members)?);
+    let spaced = "serverNode = DF%2028, isProduction = false";
+    assert!(rt; reads_as(rt.alloc(), spaced, "serverNode=DF 28|isProduction=false|")?);
     Ok(())
 }
 
@@ -207,6 +213,21 @@ fn a_written_header_can_be_too_long_to_be_read(rt: HostRuntime) -> Result<(), Fa
 fn raw_metadata_is_read_percent_decoded(rt: HostRuntime) -> Result<(), Fail> {
     assert!(rt; writes(rt.alloc(), &[("a", "1", "q%41")], "a=1;q%41")?);
     assert!(rt; reads_as(rt.alloc(), "a=1;q%41", "a=1;qA|")?);
+    Ok(())
+}
+
+/// `rt try --test --fail-alloc N` has the Nth allocation refused: then the call that wanted it is made again.
+#[test]
+fn refused_calls_succeed_again(rt: HostRuntime) -> Result<(), Fail> {
+    let baggage = baggage_of(rt.alloc(), &[("a", "50%", "m"), ("b", "2", "")])?;
+    let cx = Context::new().with_baggage(baggage)?;
+    let Some(other) = carried::<BaggagePropagator>(rt.alloc(), &cx, "baggage")? else {
+        return Err(Fail::new("a header was left"));
+    };
+    assert_eq!(rt;
+        shown(rt.alloc(), other.baggage())?.as_str(),
+        "a=50%;m|b=2|"
+    );
     Ok(())
 }
 

@@ -58,25 +58,54 @@ fn names_configure_samplers(rt: HostRuntime) -> Result<(), Fail> {
     let quarter = Ratio::new(25, 100)?;
     let all = Ratio::new(1, 1)?;
     let cases = [
-        (None, None, Shape::OverOn),
-        (Some("always_on"), None, Shape::On),
-        (Some("always_off"), Some("0.25"), Shape::Off),
-        (Some("traceidratio"), Some("0.25"), Shape::Ratio(quarter)),
-        (Some("traceidratio"), None, Shape::Ratio(all)),
-        (Some("traceidratio"), Some("1e-3"), Shape::Ratio(all)),
-        (Some("traceidratio"), Some(""), Shape::Ratio(all)),
-        (Some("parentbased_always_on"), None, Shape::OverOn),
-        (Some("parentbased_always_off"), None, Shape::OverOff),
+        ("no name", None, None, Shape::OverOn),
+        ("always_on", Some("always_on"), None, Shape::On),
+        ("always_off", Some("always_off"), Some("0.25"), Shape::Off),
         (
+            "a ratio",
+            Some("traceidratio"),
+            Some("0.25"),
+            Shape::Ratio(quarter),
+        ),
+        ("no ratio", Some("traceidratio"), None, Shape::Ratio(all)),
+        (
+            "an exponent",
+            Some("traceidratio"),
+            Some("1e-3"),
+            Shape::Ratio(all),
+        ),
+        (
+            "an empty ratio",
+            Some("traceidratio"),
+            Some(""),
+            Shape::Ratio(all),
+        ),
+        (
+            "parents and on",
+            Some("parentbased_always_on"),
+            None,
+            Shape::OverOn,
+        ),
+        (
+            "parents and off",
+            Some("parentbased_always_off"),
+            None,
+            Shape::OverOff,
+        ),
+        (
+            "parents and a ratio",
             Some("parentbased_traceidratio"),
             Some("0.25"),
             Shape::OverRatio(quarter),
         ),
-        (Some("always_on "), None, Shape::OverOn),
-        (Some(""), None, Shape::OverOn),
+        ("a space behind", Some("always_on "), None, Shape::OverOn),
+        ("an empty name", Some(""), None, Shape::OverOn),
     ];
-    for (sampler, argument, shape) in cases {
-        assert!(rt; configured_shape(rt.alloc(), sampler, argument)? == shape);
+    for (case, sampler, argument, shape) in cases {
+        assert!(rt;
+            configured_shape(rt.alloc(), sampler, argument)? == shape,
+            "{case}"
+        );
     }
     Ok(())
 }
@@ -93,21 +122,25 @@ fn configured_attributes(alloc: Global, limit: Option<&str>) -> Result<u32, Allo
 #[test]
 fn numbers_configure_limits(rt: HostRuntime) -> Result<(), Fail> {
     let cases = [
-        (None, 128),
-        (Some("7"), 7),
-        (Some("+7"), 7),
-        (Some("007"), 7),
-        (Some("0"), 0),
-        (Some("4294967295"), 4_294_967_295),
-        (Some("4294967296"), 128),
-        (Some(" 7"), 128),
-        (Some("-7"), 128),
-        (Some("++7"), 128),
-        (Some("+"), 128),
-        (Some(""), 128),
+        ("no string", None, 128),
+        ("a digit", Some("7"), 7),
+        ("a plus sign", Some("+7"), 7),
+        ("leading zeros", Some("007"), 7),
+        ("zero", Some("0"), 0),
+        ("the largest", Some("4294967295"), 4_294_967_295),
+        ("out of range", Some("4294967296"), 128),
+        ("a space", Some(" 7"), 128),
+        ("a minus sign", Some("-7"), 128),
+        ("two signs", Some("++7"), 128),
+        ("a sign alone", Some("+"), 128),
+        ("an empty string", Some(""), 128),
     ];
-    for (limit, attributes) in cases {
-        assert_eq!(rt; configured_attributes(rt.alloc(), limit)?, attributes);
+    for (case, limit, attributes) in cases {
+        assert_eq!(rt;
+            configured_attributes(rt.alloc(), limit)?,
+            attributes,
+            "{case}"
+        );
     }
     Ok(())
 }

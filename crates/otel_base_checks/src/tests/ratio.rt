@@ -101,3 +101,53 @@ fn samples_up_to_its_share_of_the_low_halves(rt: HostRuntime) -> Result<(), Fail
     }
     Ok(())
 }
+
+/// Trace ids that other specifications show: W3C Trace Context, B3 and OTLP. Half, a third and a tenth of all traces
+/// have them or not.
+#[test]
+fn samples_the_trace_ids_of_other_specifications_by_the_inequality(
+    rt: HostRuntime,
+) -> Result<(), Fail> {
+    let cases = [
+        (
+            "of W3C",
+            0x4bf92f3577b34da6a3ce929d0e0e4736,
+            [false, false, false],
+        ),
+        (
+            "of W3C, the other",
+            0x0af7651916cd43dd8448eb211c80319c,
+            [false, false, false],
+        ),
+        (
+            "of B3",
+            0x80f198ee56343ba864fe8b2a57d3eff7,
+            [true, false, false],
+        ),
+        (
+            "of B3, the other",
+            0x463ac35c9f6413ad48485a3953bb6124,
+            [true, true, false],
+        ),
+        (
+            "of OTLP",
+            0x5b8efff798038103d269b633813fc60c,
+            [false, false, false],
+        ),
+        (
+            "of OTLP, the other",
+            0x5b8aa5a2d2c872e8321cf37308d69df2,
+            [true, true, false],
+        ),
+        ("of 64 bits", 0x00f067aa0ba902b7, [true, true, true]),
+    ];
+    for (case, trace_id, sampled) in cases {
+        let answers = [
+            sampled_by(Ratio::new(1, 2)?, trace_id)?,
+            sampled_by(Ratio::new(1, 3)?, trace_id)?,
+            sampled_by(Ratio::new(1, 10)?, trace_id)?,
+        ];
+        assert_eq!(rt; answers, sampled, "{case}");
+    }
+    Ok(())
+}

@@ -257,27 +257,46 @@ fn a_clone_of_an_answer_is_equal(rt: HostRuntime) -> Result<(), Fail> {
     Ok(())
 }
 
-/// Whether the copy of a sampler samples a root, and whether it samples the child of a span that is not.
-fn copy_samples(sampler: &Tree, dropped: &Context) -> Result<(bool, bool), Fail> {
+fn copy_of(sampler: &Tree) -> Result<Tree, Fail> {
     let Some(copy) = sampler.try_clone()? else {
         return Err("no copy")?;
     };
-    let root = ask(&copy, None, "")?.decision;
-    let child = ask(&copy, Some(dropped), "")?.decision;
-    let on = SamplingDecision::RecordAndSample;
-    Ok((root == on, child == on))
+    Ok(copy)
+}
+
+/// What the copy of a sampler decides on a root.
+fn root_decision(sampler: &Tree) -> Result<SamplingDecision, Fail> {
+    let copy = copy_of(sampler)?;
+    Ok(ask(&copy, None, "")?.decision)
+}
+
+/// The same on the child of a span.
+fn child_decision(sampler: &Tree, parent: &Context) -> Result<SamplingDecision, Fail> {
+    let copy = copy_of(sampler)?;
+    Ok(ask(&copy, Some(parent), "")?.decision)
+}
+
+/// The same on a root, on the child of a sampled span, and on that of another one.
+fn copy_decisions(alloc: Global, sampler: &Tree) -> Result<[SamplingDecision; 3], Fail> {
+    let sampled = parent_of(alloc, TraceFlags::SAMPLED)?;
+    let dropped = parent_of(alloc, TraceFlags::default())?;
+    let root = root_decision(sampler)?;
+    let child = child_decision(sampler, &sampled)?;
+    let other = child_decision(sampler, &dropped)?;
+    Ok([root, child, other])
 }
 
 #[test]
 fn copies_trees_without_a_custom_sampler(rt: HostRuntime) -> Result<(), Fail> {
     let alloc = rt.alloc();
-    let dropped = parent_of(alloc, TraceFlags::default())?;
-    assert_eq!(rt; copy_samples(&Tree::AlwaysOn, &dropped)?, (true, true));
-    assert_eq!(rt; copy_samples(&Tree::AlwaysOff, &dropped)?, (false, false));
+    let on = SamplingDecision::RecordAndSample;
+    let off = SamplingDecision::Drop;
+    assert_eq!(rt; copy_decisions(alloc, &Tree::AlwaysOn)?, [on, on, on]);
+    assert_eq!(rt; copy_decisions(alloc, &Tree::AlwaysOff)?, [off, off, off]);
     let over_on = over(alloc, Tree::AlwaysOn)?;
-    assert_eq!(rt; copy_samples(&over_on, &dropped)?, (true, false));
+    assert_eq!(rt; copy_decisions(alloc, &over_on)?, [on, on, off]);
     let twice = over(alloc, over(alloc, Tree::AlwaysOff)?)?;
-    assert_eq!(rt; copy_samples(&twice, &dropped)?, (false, false));
+    assert_eq!(rt; copy_decisions(alloc, &twice)?, [off, on, off]);
     Ok(())
 }
 

@@ -1,5 +1,6 @@
 //! Tables of headers. `T` and `S` are the ids of the example in W3C Trace Context, section 3.2.3.
 
+use super::again::carried;
 use opentelemetry::propagation::{Extractor, Injector, MapCarrier, TextMapPropagator};
 use opentelemetry::trace::{SpanContext, TraceState};
 use opentelemetry::{Context, SpanId, TraceFlags, TraceId};
@@ -218,6 +219,21 @@ fn an_unreadable_trace_state_counts_as_empty(rt: HostRuntime) -> Result<(), Fail
             Some("rojo=00f067aa0ba902b7,congo=t61rcWkgMzE"),
             "rojo=00f067aa0ba902b7,congo=t61rcWkgMzE",
         ),
+        (
+            "its example of one vendor",
+            Some("rojo=00f067aa0ba902b7"),
+            "rojo=00f067aa0ba902b7",
+        ),
+        (
+            "its example of two, one of which came first",
+            Some("congo=ucfJifl5GOE,rojo=00f067aa0ba902b7"),
+            "congo=ucfJifl5GOE,rojo=00f067aa0ba902b7",
+        ),
+        (
+            "its example of opaque values",
+            Some("vendorname1=opaqueValue1,vendorname2=opaqueValue2"),
+            "vendorname1=opaqueValue1,vendorname2=opaqueValue2",
+        ),
     ];
     for (case, state, header) in cases {
         let parent = "00-0af7651916cd43dd8448eb211c80319c-b7ad6b7169203331-01";
@@ -225,6 +241,41 @@ fn an_unreadable_trace_state_counts_as_empty(rt: HostRuntime) -> Result<(), Fail
         let wanted = format!(in rt.alloc(); "{ids} 01 true {header}")?;
         let given = found(rt.alloc(), parent, state)?;
         assert_eq!(rt; given.as_str(), wanted.as_str(), "{case}");
+    }
+    Ok(())
+}
+
+/// What is extracted where a span is active, as `IDS FLAGS REMOTE STATE`. An absent header is not set.
+fn found_over(alloc: Global, cx: &Context, parent: Option<&str>) -> Result<String, AllocError> {
+    let mut carrier = MapCarrier::new(alloc);
+    if let Some(parent) = parent {
+        carrier.set("traceparent", String::from_str(alloc, parent)?)?;
+    }
+    let found = TraceContextPropagator::new().extract_with_context(alloc, cx, &carrier)?;
+    shown(alloc, found.span_context())
+}
+
+#[test]
+fn an_active_span_stays_unless_a_header_says_another(rt: HostRuntime) -> Result<(), Fail> {
+    let active = "4bf92f3577b34da6a3ce929d0e0e4736-00f067aa0ba902b7 01 false foo=bar";
+    let cases = [
+        ("no header", None, active),
+        ("an empty header", Some(""), active),
+        (
+            "a header of version ff",
+            Some("ff-0af7651916cd43dd8448eb211c80319c-b7ad6b7169203331-01"),
+            active,
+        ),
+        (
+            "a header",
+            Some("00-0af7651916cd43dd8448eb211c80319c-b7ad6b7169203331-00"),
+            "0af7651916cd43dd8448eb211c80319c-b7ad6b7169203331 00 true ",
+        ),
+    ];
+    let cx = context_of(rt.alloc(), 1, "foo=bar")?;
+    for (case, parent, wanted) in cases {
+        let given = found_over(rt.alloc(), &cx, parent)?;
+        assert_eq!(rt; given.as_str(), wanted, "{case}");
     }
     Ok(())
 }
@@ -285,6 +336,18 @@ fn the_other_side_has_the_same_span_context(rt: HostRuntime) -> Result<(), Fail>
         &carrier,
     )?;
     let wanted = "4bf92f3577b34da6a3ce929d0e0e4736-00f067aa0ba902b7 01 true foo=bar,a=b";
+    assert_eq!(rt; shown(rt.alloc(), other.span_context())?.as_str(), wanted);
+    Ok(())
+}
+
+/// `rt try --test --fail-alloc N` has the Nth allocation refused: then the call that wanted it is made again.
+#[test]
+fn refused_calls_succeed_again(rt: HostRuntime) -> Result<(), Fail> {
+    let cx = context_of(rt.alloc(), 1, "foo=bar")?;
+    let Some(other) = carried::<TraceContextPropagator>(rt.alloc(), &cx, "tracestate")? else {
+        return Err(Fail::new("the second header was left"));
+    };
+    let wanted = "4bf92f3577b34da6a3ce929d0e0e4736-00f067aa0ba902b7 01 true foo=bar";
     assert_eq!(rt; shown(rt.alloc(), other.span_context())?.as_str(), wanted);
     Ok(())
 }

@@ -34,16 +34,26 @@ fn sizes(
 #[test]
 fn numbers_configure_sizes(rt: HostRuntime) -> Result<(), Fail> {
     let cases = [
-        (None, None, (2048, 512)),
-        (Some("+7"), None, (7, 7)),
-        (Some("100"), Some("50"), (100, 50)),
-        (Some("100"), Some("0"), (100, 0)),
-        (Some("0"), None, (0, 0)),
-        (Some("18446744073709551616"), Some("-1"), (2048, 512)),
-        (Some(" 7"), Some("1e3"), (2048, 512)),
+        ("no strings", None, None, (2048, 512)),
+        ("a plus sign", Some("+7"), None, (7, 7)),
+        ("both sizes", Some("100"), Some("50"), (100, 50)),
+        ("a batch of none", Some("100"), Some("0"), (100, 0)),
+        ("a queue of none", Some("0"), None, (0, 0)),
+        (
+            "out of range, and a minus sign",
+            Some("18446744073709551616"),
+            Some("-1"),
+            (2048, 512),
+        ),
+        (
+            "a space, and an exponent",
+            Some(" 7"),
+            Some("1e3"),
+            (2048, 512),
+        ),
     ];
-    for (queue, batch, expected) in cases {
-        assert_eq!(rt; sizes(rt.alloc(), queue, batch)?, expected);
+    for (case, queue, batch, expected) in cases {
+        assert_eq!(rt; sizes(rt.alloc(), queue, batch)?, expected, "{case}");
     }
     Ok(())
 }
@@ -67,24 +77,31 @@ fn times(
 fn numbers_configure_times_in_milliseconds(rt: HostRuntime) -> Result<(), Fail> {
     let cases = [
         (
+            "no strings",
             None,
             None,
             (Duration::from_secs(5), Duration::from_secs(30)),
         ),
         (
+            "both",
             Some("1000"),
             Some("+2000"),
             (Duration::from_secs(1), Duration::from_secs(2)),
         ),
         (
+            "a unit, and no digit",
             Some("5s"),
             Some(""),
             (Duration::from_secs(5), Duration::from_secs(30)),
         ),
     ];
-    for (delay, timeout, expected) in cases {
-        assert_eq!(rt; times(rt.alloc(), delay, timeout)?, expected);
+    for (case, delay, timeout, expected) in cases {
+        assert_eq!(rt; times(rt.alloc(), delay, timeout)?, expected, "{case}");
     }
+    let hour = BatchConfigBuilder::default()
+        .with_scheduled_delay(Duration::from_secs(3600))
+        .build();
+    assert_eq!(rt; hour.scheduled_delay(), Duration::from_secs(3600));
     Ok(())
 }
 

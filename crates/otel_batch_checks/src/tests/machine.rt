@@ -233,9 +233,90 @@ impl SpanExporter for Failing {
     }
 }
 
-/// The exporter's last answer is a drain's result, for a timer's drain and for a flush; that of its shutdown is dropped.
+/// An exporter that fails at every second batch, from the first one on.
+#[derive(Drop)]
+struct Alternating {
+    fails: bool,
+}
+
+impl SpanExporter for Alternating {
+    ghost use Rattle.std.specs.Prelude.{None};
+
+    ghost told = { λ _. None };
+
+    fn export(&mut self, batch: Vec<SpanData>) -> OTelSdkResult {
+        let _ = batch;
+        self.fails = !self.fails;
+        if self.fails {
+            return Err(OTelSdkError::Timeout(Duration::from_secs(1)));
+        }
+        Ok(())
+    }
+}
+
+/// The exporter's last answer is a drain's result, also that of a flush. A request that waits at a close is dropped.
 #[test]
-fn the_last_answer_of_a_drain_is_its_result(rt: HostRuntime) -> Result<(), Fail> {
+fn the_last_of_two_answers_is_the_result(rt: HostRuntime) -> Result<(), Fail> {
+    let alloc = rt.alloc();
+    let exporter = ExporterBox::Custom(Box::new(alloc, Alternating { fails: false })?);
+    let mut queue = BatchMachine::new(alloc, exporter, sizes(3, 1), 2)?;
+    let script = [
+        ("offer 0 a", "counted 1"),
+        ("send 0", "accepted"),
+        ("ask 0", "may post"),
+        ("post 0", "posted"),
+        ("offer 0 b", "counted 2"),
+        ("send 0", "accepted"),
+        ("ask 0", "already asked"),
+        ("flush 1", "requested"),
+        ("take", "took export"),
+        ("clear", "cleared"),
+        ("load", "loaded 2"),
+        ("pull", "pulled"),
+        ("hand", "handed over 1 Operation timed out after 1s"),
+        ("subtract", "subtracted"),
+        ("pull", "pulled"),
+        ("hand", "handed over 1"),
+        ("subtract", "subtracted"),
+        ("finish", "finished"),
+        ("offer 0 c", "counted 1"),
+        ("send 0", "accepted"),
+        ("ask 0", "may post"),
+        ("post 0", "posted"),
+        ("take", "took flush 1"),
+        ("load", "loaded 1"),
+        ("pull", "pulled"),
+        ("hand", "handed over 1 Operation timed out after 1s"),
+        ("subtract", "subtracted"),
+        ("finish", "finished"),
+        ("collect 1", "collected Operation timed out after 1s"),
+    ];
+    assert_eq!(rt; first_difference(alloc, &mut queue, &script)?.as_str(), "");
+    let script = [
+        ("take", "took export"),
+        ("clear", "cleared"),
+        ("load", "loaded 0"),
+        ("finish", "finished"),
+        ("shutdown 1", "requested"),
+        ("shutdown 0", "requested"),
+        ("take", "took shutdown 1"),
+        ("load", "loaded 0"),
+        ("finish", "finished"),
+        ("close", "shut down"),
+        ("collect 1", "collected ok"),
+        (
+            "collect 0",
+            "collected Operation failed: request dropped by shutdown",
+        ),
+    ];
+    assert_eq!(rt; first_difference(alloc, &mut queue, &script)?.as_str(), "");
+    Ok(())
+}
+
+/// The exporter's answer is the result of a timer's drain and of one that was asked for; that of its shutdown is
+/// dropped.
+#[test]
+fn the_answer_of_an_exporter_is_the_result_of_a_drain(rt: HostRuntime) -> Result<(), Fail> {
     let alloc = rt.alloc();
     let exporter = ExporterBox::Custom(Box::new(alloc, Failing { alloc })?);
     let mut queue = BatchMachine::new(alloc, exporter, sizes(2, 0), 1)?;

@@ -2,9 +2,11 @@ use super::*;
 use std::test::Fail;
 
 /// What a line is, its bytes, and whether it reads.
-const LINES: [(&str, &[u8], bool); 51] = [
+const LINES: [(&str, &[u8], bool); 59] = [
     ("a start", b"start s GET 1000", true),
     ("a child", b"child c s db 1100", true),
+    ("a remote start", b"remote r 00-a-b-01 work 5", true),
+    ("an inject", b"inject s", true),
     ("an attribute", b"attr s route /home", true),
     ("a value with spaces", b"attr s k  a b ", true),
     ("an empty value", b"attr s k ", true),
@@ -41,6 +43,16 @@ const LINES: [(&str, &[u8], bool); 51] = [
     ("a start with no name", b"start s 7", false),
     ("a child with no parent", b"child c db 1100", false),
     ("a child with no moment", b"child c s db", false),
+    ("a remote start with no header", b"remote r work 5", false),
+    (
+        "a remote start with an empty header",
+        b"remote r  work 5",
+        false,
+    ),
+    ("an inject of nothing", b"inject ", false),
+    ("an inject of no span", b"inject", false),
+    ("an inject and more", b"inject s 7", false),
+    ("an inject and a space", b"inject s ", false),
     ("an event with no moment", b"event s row", false),
     ("an event at a word", b"event s n x", false),
     ("an error with no text's space", b"status s error", false),
@@ -88,8 +100,8 @@ const TEXTS: [(&str, &[u8], usize, Option<u64>); 12] = [
     ),
     (
         "each kind of line",
-        b"start s a 1\nchild c s b 2\nattr c k v\nevent c e 3\nstatus c error x\nend c 4\nflush\nshutdown\n",
-        8,
+        b"start s a 1\nchild c s b 2\nremote r h w 3\nattr c k v\nevent c e 3\nstatus c error x\ninject c\nend c 4\nflush\nshutdown\n",
+        10,
         None,
     ),
     (

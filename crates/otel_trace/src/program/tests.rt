@@ -85,6 +85,48 @@ span exists
 no such span
 ";
 
+const HEADERS: &str = "started 00-5c0fdf91ec9a7bfc61da6f3dc380d507-53175d61490b23df-01
+traceparent=00-5c0fdf91ec9a7bfc61da6f3dc380d507-53175d61490b23df-01
+tracestate=
+ok
+dropped 00-00000000000000000000000000000000-0000000000000000-00
+no headers
+";
+
+const REMOTE_ENDED: &str = "started 00-4bf92f3577b34da6a3ce929d0e0e4736-53175d61490b23df-01
+span 4bf92f3577b34da6a3ce929d0e0e4736 53175d61490b23df 00f067aa0ba902b7 01 5 6 work unset attrs [] 0 events [] 0 links 0 0
+ended
+";
+
+const REMOTE_DROPPED: &str = "dropped 00-4bf92f3577b34da6a3ce929d0e0e4736-53175d61490b23df-00
+ignored
+traceparent=00-4bf92f3577b34da6a3ce929d0e0e4736-53175d61490b23df-00
+tracestate=
+";
+
+const UNKNOWN_AND_TAKEN: &str = "started 00-5c0fdf91ec9a7bfc61da6f3dc380d507-53175d61490b23df-01
+no such span
+span exists
+";
+
+/// A trace that goes on in a second run: the header that the first one tells is the parent in the second one.
+const FRONTEND: &[u8] = b"start s GET 1000\ninject s\nend s 2000\n";
+
+const FRONTEND_ANSWERED: &str = "started 00-5c0fdf91ec9a7bfc61da6f3dc380d507-53175d61490b23df-01
+traceparent=00-5c0fdf91ec9a7bfc61da6f3dc380d507-53175d61490b23df-01
+tracestate=
+span 5c0fdf91ec9a7bfc61da6f3dc380d507 53175d61490b23df 0000000000000000 01 1000 2000 GET unset attrs [] 0 events [] 0 links 0 0
+ended
+";
+
+const BACKEND: &[u8] =
+    b"remote r 00-5c0fdf91ec9a7bfc61da6f3dc380d507-53175d61490b23df-01 work 1200\nend r 1300\n";
+
+const BACKEND_ANSWERED: &str = "started 00-5c0fdf91ec9a7bfc61da6f3dc380d507-cfc5d07f6f03c29b-01
+span 5c0fdf91ec9a7bfc61da6f3dc380d507 cfc5d07f6f03c29b 53175d61490b23df 01 1200 1300 work unset attrs [] 0 events [] 0 links 0 0
+ended
+";
+
 /// Gives its bytes one a call, and fails behind them.
 #[derive(Drop)]
 struct BrokenReader {
@@ -181,7 +223,7 @@ struct Case {
     faults: &'static str,
 }
 
-const CASES: [Case; 18] = [
+const CASES: [Case; 23] = [
     Case {
         name: "an empty input",
         input: b"",
@@ -253,6 +295,41 @@ const CASES: [Case; 18] = [
         faults: "",
     },
     Case {
+        name: "headers of a span, and none of one that was dropped at a shut provider",
+        input: b"start s a 1\ninject s\nshutdown\nstart t b 2\ninject t\n",
+        status: 0,
+        output: HEADERS,
+        faults: "",
+    },
+    Case {
+        name: "a header that says no span context",
+        input: b"remote r 00-4bf92f3577b34da6a3ce929d0e0e4736-00f067aa0ba902b7-1 work 5\n",
+        status: 0,
+        output: STARTED,
+        faults: "",
+    },
+    Case {
+        name: "a child of a sampled span of another process",
+        input: b"remote r 00-4bf92f3577b34da6a3ce929d0e0e4736-00f067aa0ba902b7-01 work 5\nend r 6\n",
+        status: 0,
+        output: REMOTE_ENDED,
+        faults: "",
+    },
+    Case {
+        name: "a child of an unsampled span of another process has headers too",
+        input: b"remote r 00-4bf92f3577b34da6a3ce929d0e0e4736-00f067aa0ba902b7-00 work 5\nattr r k v\ninject r\n",
+        status: 0,
+        output: REMOTE_DROPPED,
+        faults: "",
+    },
+    Case {
+        name: "headers of a name that no start made, and a remote start under a taken name",
+        input: b"start s a 1\ninject x\nremote s 00-4bf92f3577b34da6a3ce929d0e0e4736-00f067aa0ba902b7-01 b 2\n",
+        status: 0,
+        output: UNKNOWN_AND_TAKEN,
+        faults: "",
+    },
+    Case {
         name: "a flush where nothing was started",
         input: b"flush\n",
         status: 0,
@@ -320,6 +397,31 @@ fn each_line_is_answered_up_to_a_bad_one(rt: HostRuntime) -> Result<(), Fail> {
             unread: 0,
         };
         assert_runs(&rt, rt.alloc(), case.name, SIMPLE, case.input, &want)?;
+    }
+    Ok(())
+}
+
+#[test]
+fn a_trace_goes_on_in_a_second_run(rt: HostRuntime) -> Result<(), Fail> {
+    let runs = [
+        ("0", FRONTEND, FRONTEND_ANSWERED),
+        ("1", BACKEND, BACKEND_ANSWERED),
+    ];
+    for (seed, input, output) in runs {
+        let want = Want {
+            status: 0,
+            output,
+            faults: "",
+            unread: 0,
+        };
+        assert_runs(
+            &rt,
+            rt.alloc(),
+            seed,
+            &["trace", seed, "simple"],
+            input,
+            &want,
+        )?;
     }
     Ok(())
 }

@@ -374,27 +374,26 @@ fn a_failed_flush_and_a_failed_shutdown_are_answered(rt: HostRuntime) -> Result<
 const FAILED_CALLS: &[u8] =
     b"Operation failed: Shutdown errors: 1\nShutdown already invoked\nOperation failed: errs: 1\n";
 
-/// Lists of one command each: a span is started, gets an attribute, and ends.
+/// What a span, its child and a remote one live through, a command a line.
+const LIVES: [&[u8]; 11] = [
+    b"start s a 1",
+    b"child c s b 2",
+    b"remote r 00-4bf92f3577b34da6a3ce929d0e0e4736-00f067aa0ba902b7-01 w 3",
+    b"attr s k v",
+    b"event s e 4",
+    b"status s error x",
+    b"inject c",
+    b"end c 5",
+    b"end s 6",
+    b"flush",
+    b"shutdown",
+];
+
+/// Lists of one command each.
 fn one_by_one(alloc: Global) -> Result<Vec<Vec<Command>>, AllocError> {
-    let start = Command::Start {
-        span: String::from_str(alloc, "s")?,
-        name: String::from_str(alloc, "a")?,
-        moment: Moment(1),
-    };
-    let attr = Command::Attr {
-        span: String::from_str(alloc, "s")?,
-        key: String::from_str(alloc, "k")?,
-        value: String::from_str(alloc, "v")?,
-    };
-    let end = Command::End {
-        span: String::from_str(alloc, "s")?,
-        moment: Moment(2),
-    };
-    let mut lists = Vec::with_capacity(alloc, 3)?;
-    for command in [start, attr, end] {
-        let mut list = Vec::with_capacity(alloc, 1)?;
-        list.push(command)?;
-        lists.push(list)?;
+    let mut lists = Vec::new(alloc);
+    for line in LIVES {
+        lists.push(parse(alloc, line)?.commands)?;
     }
     Ok(lists)
 }
@@ -426,8 +425,8 @@ fn shown_or_refused(replies: &[Reply]) -> usize {
     count
 }
 
-/// `rt try --test --fail-alloc N` has the Nth allocation refused: then the command that wanted it is run again. The
-/// span is shown by one reply, or its batch is counted as refused or lost.
+/// `rt try --test --fail-alloc N` has the Nth allocation refused: then the command that wanted it is run again. Each of
+/// both ended spans is shown by one reply, or its batch is counted as refused or lost.
 #[test]
 fn a_run_that_found_no_memory_succeeds_again(rt: HostRuntime) -> Result<(), Fail> {
     let alloc = rt.alloc();
@@ -439,8 +438,8 @@ fn a_run_that_found_no_memory_succeeds_again(rt: HostRuntime) -> Result<(), Fail
     let lost = session.lost_batches();
     let _ = session.close(&mut Vec::new(alloc));
     assert_eq!(rt; run, Ok(()));
-    assert_eq!(rt; replies.len(), 3);
+    assert_eq!(rt; replies.len(), LIVES.len());
     let shown_or_refused = shown_or_refused(&replies) as u64;
-    assert_eq!(rt; shown_or_refused.saturating_add(lost), 1);
+    assert_eq!(rt; shown_or_refused.saturating_add(lost), 2);
     Ok(())
 }

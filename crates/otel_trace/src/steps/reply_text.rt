@@ -2,7 +2,7 @@
 
 ghost use Rattle.std.specs.Prelude.{◌≡◌, ◌++◌, OnOk, map, codes};
 ghost use Rattle.opentelemetry.specs.Text.{Appends};
-ghost use Rattle.otel_trace.specs.StepTexts.{counts_text, last_name, names_text, outcome_text, state_text, told_text};
+ghost use Rattle.otel_trace.specs.StepTexts.{counts_text, pulled_name, names_text, outcome_text, state_text, told_text};
 
 use crate::reply_text::push_comma;
 use otel_batch::machine::{BatchMachine, Outcome};
@@ -54,7 +54,7 @@ pub fn push_outcome(
 
 /// `pulled` and the name of the span, which is the last one in hand.
 fn push_pulled(text: &mut String, hand: &[SpanData]) -> Result<(), AllocError>
-    ensures { OnOk result (Appends text.old (codes "pulled " ++ last_name hand.now) text.new) }
+    ensures { OnOk result (Appends text.old (codes "pulled " ++ pulled_name hand.now) text.new) }
 {
     text.push_str("pulled ")?;
     match hand.last() {

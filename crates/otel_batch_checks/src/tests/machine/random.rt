@@ -78,14 +78,17 @@ impl Ledger {
         self.accepted.len().saturating_sub(self.pulled)
     }
 
-    fn note_offer(&mut self, producer: usize, moment: u64, outcome: &Outcome) {
-        let Outcome::Counted(counter) = outcome else {
-            return;
-        };
-        self.counter = self.counter.saturating_add(1);
-        self.wrong = self.wrong || *counter != self.counter;
-        if let Some(held) = self.holding.get_mut(producer) {
-            *held = moment;
+    fn note_offer(&mut self, producer: usize, moment: u64, is_sampled: bool, outcome: &Outcome) {
+        match outcome {
+            Outcome::Counted(counter) => {
+                self.counter = self.counter.saturating_add(1);
+                self.wrong = self.wrong || !is_sampled || *counter != self.counter;
+                if let Some(held) = self.holding.get_mut(producer) {
+                    *held = moment;
+                }
+            }
+            Outcome::Skipped => self.wrong = self.wrong || is_sampled,
+            _ => {}
         }
     }
 
@@ -131,16 +134,22 @@ impl Ledger {
         self.wrong = self.wrong || self.closed || !fits || !aimed;
     }
 
-    /// A drain has finished: it handed over at least what waited at its load, in at most four steps a span, and one for
-    /// each place of the queue where a batch takes all that waits.
-    fn note_finish(&mut self) {
+    /// A step of a drain: there are at most four a span, and one for each place of the queue where a batch takes all
+    /// that waits.
+    fn count_step(&mut self) {
         let more = if self.batch_size == 0 {
             self.queue_size as u128
         } else {
             0
         };
         let most = self.target.saturating_mul(4).saturating_add(more);
-        self.wrong = self.wrong || self.drained < self.waited || self.steps > most;
+        self.steps = self.steps.saturating_add(1);
+        self.wrong = self.wrong || self.steps > most;
+    }
+
+    /// A drain has finished: it handed over at least what waited at its load.
+    fn note_finish(&mut self) {
+        self.wrong = self.wrong || self.drained < self.waited;
     }
 
     fn note_worker(&mut self, outcome: &Outcome) {
@@ -154,16 +163,17 @@ impl Ledger {
             }
             Outcome::Pulled => {
                 self.pulled = self.pulled.saturating_add(1);
-                self.steps = self.steps.saturating_add(1);
+                self.count_step();
             }
-            Outcome::HandedOver(count, _) => {
+            Outcome::HandedOver(count, error) => {
+                self.wrong = self.wrong || error.is_some();
                 self.note_batch(*count);
-                self.steps = self.steps.saturating_add(1);
+                self.count_step();
             }
-            Outcome::Empty => self.steps = self.steps.saturating_add(1),
+            Outcome::Empty => self.count_step(),
             Outcome::Subtracted => {
                 self.counter = self.counter.saturating_sub(self.batch as u128);
-                self.steps = self.steps.saturating_add(1);
+                self.count_step();
             }
             Outcome::Finished(_) => self.note_finish(),
             Outcome::NoMemory => self.wrong = true,
@@ -225,8 +235,10 @@ fn take_step(
     let producer = below(words, 3) as usize;
     match below(words, 10) {
         0 | 1 => {
-            let outcome = queue.step(Step::Offer(producer, span_at(words, alloc, moment)?));
-            ledger.note_offer(producer, moment, &outcome);
+            let span = span_at(words, alloc, moment)?;
+            let is_sampled = span.span_context.is_sampled();
+            let outcome = queue.step(Step::Offer(producer, span));
+            ledger.note_offer(producer, moment, is_sampled, &outcome);
         }
         2 | 3 => {
             let outcome = queue.step(Step::Send(producer));

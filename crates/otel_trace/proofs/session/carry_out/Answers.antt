@@ -1,14 +1,14 @@
-use Rattle.std.proofs.Common.{◌≡◌, true, IsFalse, refl, subst, sym, ap, map, rules, string_bytes, List, ℕ, Option}
+use Rattle.std.proofs.Common.{◌≡◌, true, IsFalse, refl, subst, sym, ap, map, rules, string_bytes, List, ℕ, Option, inr}
 use Rattle.opentelemetry_sdk.specs.SpanEdits.{plain_edit}
 use Rattle.opentelemetry.specs.PlainValues.{plain_status}
 use Rattle.opentelemetry_sdk.specs.SpanHistory.{Edit, PlainSpan, set_status}
 use Rattle.otel_trace.specs.Commands.{plain_command, is_end, may_lose}
-use Rattle.otel_trace.specs.OpenSpans.{ChildMayStart, ChildStartsNamed, EditsNamed, EndsNamed, named}
+use Rattle.otel_trace.specs.OpenSpans.{ChildMayStart, ChildStartsNamed, EditsNamed, EndsNamed, InjectsNamed, named}
 use Rattle.otel_trace.specs.SessionDelivery.{CarriesOutOne, RefusesOne, batches_of_first, call_answer}
 use Rattle.otel_trace.specs.declared.command.Command.{Command}
 use Rattle.otel_trace.specs.declared.reply.Answer.{Answer}
 use Rattle.otel_trace.proofs.Clauses.{if_ok_map, on_err_map}
-use Rattle.otel_trace.proofs.StepLemmas.{carries_start, carries_child, carries_attr, carries_event, carries_status, carries_end, carries_flush, carries_shutdown}
+use Rattle.otel_trace.proofs.StepLemmas.{carries_start, carries_child, carries_attr, carries_event, carries_status, carries_end, carries_flush, carries_inject, carries_remote, carries_shutdown}
 use Rattle.otel_trace.proofs.ShownLemmas.{appends_none, may_start_keeps, child_may_start_keeps, may_deliver_keeps, flush_keeps, shutdown_keeps}
 use Rattle.otel_trace.proofs.session.carry_out.Goals as goal
 
@@ -136,3 +136,26 @@ returns-in-Flush-clause-loses g c = λ not_end keeps. let e : may_lose (plain_co
 pub returns-in-Shutdown-clause-loses : goal.returns-in-Shutdown-clause-loses
 returns-in-Shutdown-clause-loses g c = λ not_end keeps. let e : may_lose (plain_command c.args.command) ≡ true = ap (λ (command : Command). may_lose (plain_command command)) c.in-Shutdown.is in
     let never : IsFalse true = subst IsFalse e keeps in search rules
+
+pub returns-in_ok-cx-in-Remote-clause-ok : goal.returns-in_ok-cx-in-Remote-clause-ok
+returns-in_ok-cx-in-Remote-clause-ok g c = if_ok_map c.start_in.result (λ answer h.
+    subst (λ (command : Command). CarriesOutOne g.P.SpanProcessor g.S.ShouldSample g.G.IdGenerator c.args.tracer.now c.args.provider.now c.args.spans.now (plain_command command) answer c.start_in.new.provider c.start_in.new.self) (sym c.in-Remote.is)
+    (carries_remote g.P.SpanProcessor g.S.ShouldSample g.G.IdGenerator c.args.tracer.now c.args.provider.now c.start_in.new.provider c.args.spans.now c.start_in.new.self (string_bytes c.in-Remote.span) (string_bytes c.in-Remote.traceparent) (string_bytes c.in-Remote.name) c.in-Remote.moment.0 c.in_ok-cx-in-Remote.cx answer
+    c.in_ok-cx-in-Remote.ensures c.start_in.ensures.told h)) c.start_in.ensures.ok
+
+pub returns-in_ok-cx-in-Remote-clause-err : goal.returns-in_ok-cx-in-Remote-clause-err
+returns-in_ok-cx-in-Remote-clause-err g c = on_err_map c.start_in.result (λ h.
+    subst (λ (command : Command). RefusesOne g.P.SpanProcessor g.S.ShouldSample g.G.IdGenerator c.args.tracer.now c.args.provider.now c.args.spans.now (plain_command command) c.start_in.new.provider c.start_in.new.self) (sym c.in-Remote.is)
+    (record { spans = h; asks = inr (c.in_ok-cx-in-Remote.cx, c.in_ok-cx-in-Remote.ensures, c.start_in.ensures.asks); told = c.start_in.ensures.told })) c.start_in.ensures.err
+
+pub returns-in_ok-cx-in-Remote-clause-keeps : goal.returns-in_ok-cx-in-Remote-clause-keeps
+returns-in_ok-cx-in-Remote-clause-keeps g c = (may_start_keeps g.P.SpanProcessor g.P.KeepsBatches g.met.P.KeepsBatches.appends g.S.ShouldSample g.G.IdGenerator c.args.provider.now c.start_in.new.provider c.args.tracer.now _ (string_bytes c.in-Remote.name) c.in-Remote.moment.0 c.start_in.ensures.asks).0
+
+pub returns-in_ok-cx-in-Remote-clause-loses : goal.returns-in_ok-cx-in-Remote-clause-loses
+returns-in_ok-cx-in-Remote-clause-loses g c = λ not_end keeps. (may_start_keeps g.P.SpanProcessor g.P.KeepsBatches g.met.P.KeepsBatches.appends g.S.ShouldSample g.G.IdGenerator c.args.provider.now c.start_in.new.provider c.args.tracer.now _ (string_bytes c.in-Remote.name) c.in-Remote.moment.0 c.start_in.ensures.asks).1
+
+pub returns-in-Inject-clause-ok : goal.returns-in-Inject-clause-ok
+returns-in-Inject-clause-ok g c = if_ok_map c.inject.result (λ answer h.
+    subst (λ (command : Command). CarriesOutOne g.P.SpanProcessor g.S.ShouldSample g.G.IdGenerator c.args.tracer.now c.args.provider.now c.args.spans.now (plain_command command) answer c.args.provider.now c.args.spans.now) (sym c.in-Inject.is)
+    (carries_inject g.P.SpanProcessor g.S.ShouldSample g.G.IdGenerator c.args.tracer.now c.args.provider.now c.args.spans.now (string_bytes c.in-Inject.span) answer
+    (subst (λ (name : List ℕ). InjectsNamed (named c.args.spans.now name) answer) c.as_str-in-Inject.ensures.value h))) c.inject.ensures

@@ -1,4 +1,4 @@
-use Rattle.std.proofs.Common.{rules, ℕ, ◌≡◌, ◌∙◌, ◌-◌, ◌++◌, ◌≤◌, List, take, length, ap, sym, arith}
+use Rattle.std.proofs.Common.{rules, ◌≡◌, ◌∙◌, ◌-◌, ◌++◌, ◌≤◌, take, length, ap, arith}
 use Rattle.std.proofs.lemmas.List.{length-take}
 use Rattle.otel_batch.specs.PlainSpanData.{cut_at}
 use Rattle.opentelemetry_sdk.proofs.Cutting.{cut_joined}

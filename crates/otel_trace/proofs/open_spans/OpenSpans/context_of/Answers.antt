@@ -2,7 +2,8 @@ use Rattle.std.proofs.Common.{◌≡◌, ◌∙◌, ap, sym, rules, Option, Some
 use Rattle.std.specs.Option.{option_map}
 use Rattle.opentelemetry.specs.Plain.{PlainContext}
 use Rattle.opentelemetry_sdk.specs.SpanHistory.{PlainSpan}
-use Rattle.otel_trace.specs.OpenSpans.{NamedSpans, child_cx, named}
+use Rattle.otel_trace.specs.Headers.{child_cx}
+use Rattle.otel_trace.specs.OpenSpans.{NamedSpans, named}
 use Rattle.otel_trace.proofs.NamedLemmas.{named-get}
 use Rattle.otel_trace.proofs.open_spans.OpenSpans.context_of.Goals as goal
 

@@ -1,4 +1,4 @@
-use Rattle.std.proofs.Common.{rules, ◌≡◌, ◌∙◌, sym}
+use Rattle.std.proofs.Common.{rules}
 use Rattle.opentelemetry_sdk.proofs.SpanLaws.{recorded_is, status_is}
 use Rattle.opentelemetry_sdk.proofs.trace.span.Span.exported_data.Goals as goal
 

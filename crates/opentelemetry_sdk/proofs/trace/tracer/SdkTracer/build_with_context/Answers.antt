@@ -1,4 +1,4 @@
-use Rattle.std.proofs.Common.{◌≡◌, ◌≢◌, [], ◌∙◌, ap, sym, subst, rules}
+use Rattle.std.proofs.Common.{◌≡◌, ◌≢◌, [], rules}
 use Rattle.otel_base.specs.Sampling.{PlainSamplingResult}
 use Rattle.otel_base.specs.declared.trace.sampler.SamplingDecision.TheVariants as decisions
 use Rattle.opentelemetry_sdk.specs.Starting.{parent_in, start_of, start_question, start_span_context}
