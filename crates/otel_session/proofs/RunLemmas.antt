@@ -1,0 +1,169 @@
+-- What commands one after another demand.
+use Rattle.std.proofs.Common.{◌≡◌, ℕ, IsFalse, List, [], ◌∷◌, ◌++◌, refl, sym, ◌∙◌, ap, subst, append_assoc, append-nil, length, drop, inl}
+use Rattle.std.proofs.lemmas.List.{map-append}
+use Rattle.opentelemetry.specs.Plain.{PlainScope}
+use Rattle.otel_base.specs.declared.trace.sampler.ShouldSample as sampling
+use Rattle.otel_base.specs.declared.trace.id_generator.IdGenerator as drawing
+use Rattle.opentelemetry_sdk.specs.Deliveries.{Delivery}
+use Rattle.opentelemetry_sdk.specs.declared.trace.span_processor.SpanProcessor.{Ghosts}
+use Rattle.opentelemetry_sdk.proofs.Following.{EachFollows-same, EachFollows-append}
+use Rattle.otel_session.specs.declared.exported.KeepsBatches as keeping
+use Rattle.otel_session.specs.KeptBatches.{Grows}
+use Rattle.otel_session.specs.Commands.{PlainCommand, may_lose, plain_command, plain_commands}
+use Rattle.otel_session.specs.PlainReply.{PlainReply}
+use Rattle.otel_batch.specs.PlainSpanData.{spans_in}
+use Rattle.otel_session.specs.SessionDelivery.{Histories, Course, course_of, Describe, Demands, Replies, DemandAll, Demanded, SessionState, CarriesOutOne, session_batches, batches_of_first, unshown, CarriesOut, Shows, NoneLeft, LosesNone, RunsAll, Refuses, RunsBeginning}
+use Rattle.otel_session.specs.declared.command.Command.{Command}
+use Rattle.otel_session.proofs.TraceLemmas.{children_agree, contexts_kept}
+use Rattle.otel_session.proofs.ShownLemmas.{shows_nothing, shows_no_more, shows_reply, none_left}
+
+module _ {P S G : Type 0} (calls : Ghosts P) (keeps : keeping.Ghosts P) (sampler : sampling.Ghosts S) (ids : drawing.Ghosts G) where
+  -- one more command
+  DemandAll-push : (scope : PlainScope) (old middle new : Course P S G) (before shown : ℕ) (commands : List PlainCommand) (replies : List PlainReply) (ds d : List Delivery) (command : PlainCommand) (reply : PlainReply)
+      → DemandAll calls keeps sampler ids scope old before commands replies ds middle shown → Replies calls keeps sampler ids scope middle shown command reply d new
+      → DemandAll calls keeps sampler ids scope old before (commands ++ command ∷ []) (replies ++ reply ∷ []) (ds ++ d) new (length (batches_of_first keeps new.provider.processors))
+  DemandAll-push scope old middle new before shown [] [] ds d command reply h k = (
+    new,
+    d,
+    [],
+    subst (λ (n : ℕ). Replies calls keeps sampler ids scope old n command reply d new) h.2 (subst (λ (m : Course P S G). Replies calls keeps sampler ids scope m shown command reply d new) h.1 k),
+    (refl, refl, refl),
+    ap (λ (l : List Delivery). l ++ d) h.0 ∙ sym (append-nil d),
+  )
+  DemandAll-push scope old middle new before shown [] (r ∷ replies) ds d command reply h k = absurd h
+  DemandAll-push scope old middle new before shown (c ∷ commands) [] ds d command reply h k = absurd h
+  DemandAll-push scope old middle new before shown (c ∷ commands) (r ∷ replies) ds d command reply h k = (
+    h.0,
+    h.1,
+    h.2 ++ d,
+    h.3,
+    DemandAll-push scope h.0 middle new (length (batches_of_first keeps h.0.provider.processors)) shown commands replies h.2 d command reply h.4 k,
+    ap (λ (l : List Delivery). l ++ d) h.5 ∙ append_assoc h.1 h.2 d,
+  )
+
+  -- no command
+  carries_nothing : (session : SessionState P S G) → CarriesOut calls keeps sampler ids session [] [] session
+  carries_nothing session = record {
+    scope = refl;
+    demanded = λ histories describes. record {
+      deliveries = [];
+      after = histories;
+      demands = (refl, refl, refl);
+      describes = describes;
+      follows = EachFollows-same calls session.provider.processors session.provider.processors refl;
+      contexts = λ q was there. (was, there, refl);
+      traces = λ by_parents is_open root is_in agree. agree;
+    };
+  }
+
+  -- one command, with a reply that shows what was left to show
+  pub record Answers (old : SessionState P S G) (command : Command) (reply : PlainReply) (new : SessionState P S G) : Type 0 where
+    pub carried : CarriesOutOne calls sampler ids old.scope old.provider old.spans (plain_command command) reply.answer new.provider new.spans
+    pub shows : reply.exported ≡ unshown keeps new
+    pub loses_none : IsFalse (may_lose (plain_command command)) → LosesNone keeps old new
+    pub rest : new ≡ record old { provider = new.provider; spans = new.spans }
+    pub appends : Grows (session_batches keeps old) (session_batches keeps new)
+
+  -- a session whose replies have shown all that is kept
+  abbrev marked : SessionState P S G → SessionState P S G
+  marked session = record session { shown = length (session_batches keeps session) }
+
+  -- one more command, with its reply
+  demands_more : (old middle new : SessionState P S G) (histories : Histories) (done : List Command) (replies : List PlainReply) (command : Command) (reply : PlainReply)
+      → middle.scope ≡ old.scope → Describe histories old.spans → Demanded calls keeps sampler ids old histories (plain_commands done) replies middle → Answers middle command reply new
+      → Demanded calls keeps sampler ids old histories (plain_commands (done ++ command ∷ [])) (replies ++ reply ∷ []) (marked new)
+  demands_more old middle new histories done replies command reply scope describes first answers =
+      let next = answers.carried first.after first.describes in
+      let shown : new.shown ≡ middle.shown = ap (λ (s : SessionState P S G). s.shown) answers.rest in
+      let replied : Replies calls keeps sampler ids old.scope (course_of middle first.after) middle.shown (plain_command command) reply next.deliveries (course_of new next.after) = record {
+        demands = subst (λ (s : PlainScope). Demands calls sampler ids s (course_of middle first.after) (plain_command command) reply.answer next.deliveries (course_of new next.after)) scope next.demands;
+        shows = answers.shows ∙ ap (λ (n : ℕ). spans_in (drop n (session_batches keeps new))) shown;
+        loses_none = answers.loses_none;
+      } in
+      let demands = subst (λ (commands : List PlainCommand). DemandAll calls keeps sampler ids old.scope (course_of old histories) old.shown commands (replies ++ reply ∷ []) (first.deliveries ++ next.deliveries) (course_of new next.after) (length (session_batches keeps new)))
+      (sym (map-append plain_command done (command ∷ [])))
+      (DemandAll-push old.scope (course_of old histories) (course_of middle first.after) (course_of new next.after) old.shown middle.shown (plain_commands done) replies first.deliveries next.deliveries (plain_command command) reply first.demands replied) in
+      let commands = plain_commands (done ++ command ∷ []) in
+      record {
+        deliveries = first.deliveries ++ next.deliveries;
+        after = next.after;
+        demands = demands;
+        describes = next.describes;
+        follows = EachFollows-append calls first.deliveries next.deliveries old.provider.processors middle.provider.processors new.provider.processors first.follows next.follows;
+        contexts = contexts_kept calls keeps sampler ids old.scope (course_of old histories) (course_of new next.after) old.shown _ commands (replies ++ reply ∷ []) _ old.spans new.spans describes next.describes demands;
+        traces = children_agree calls keeps sampler ids old.scope (course_of old histories) (course_of new next.after) old.shown _ commands (replies ++ reply ∷ []) _ new.spans next.describes demands;
+      }
+
+  carries_more : (old middle new : SessionState P S G) (done : List Command) (replies : List PlainReply) (command : Command) (reply : PlainReply)
+      → CarriesOut calls keeps sampler ids old done replies middle → Answers middle command reply new
+      → CarriesOut calls keeps sampler ids old (done ++ command ∷ []) (replies ++ reply ∷ []) (marked new)
+  carries_more old middle new done replies command reply carried answers = record {
+    scope = ap (λ (s : SessionState P S G). s.scope) answers.rest ∙ carried.scope;
+    demanded = λ histories describes. demands_more old middle new histories done replies command reply carried.scope describes (carried.demanded histories describes) answers;
+  }
+
+  -- the commands before those that are left were carried out, each with its reply
+  pub record Ran (old : SessionState P S G) (commands left : List Command) (replies : List PlainReply) (new : SessionState P S G) : Type 0 where
+    pub done : List Command
+    pub parts : commands ≡ done ++ left
+    pub carried : CarriesOut calls keeps sampler ids old done replies new
+    pub shown : Shows keeps old replies new
+    pub none_left : NoneLeft keeps replies new
+
+  -- none of them
+  pub ran_nothing : (session : SessionState P S G) (commands left : List Command) → left ≡ commands → Ran session commands left [] session
+  ran_nothing session commands left e = record {
+    done = [];
+    parts = sym e;
+    carried = carries_nothing session;
+    shown = shows_nothing keeps session;
+    none_left = inl refl;
+  }
+
+  -- all of them
+  pub ran_all : (old new : SessionState P S G) (commands left : List Command) (replies before now : List PlainReply)
+      → left ≡ [] → Ran old commands left replies new → now ≡ before ++ replies → RunsAll calls keeps sampler ids old commands before now new
+  ran_all old new commands left replies before now none ran appended =
+      let whole = ran.parts ∙ ap (λ (l : List Command). ran.done ++ l) none ∙ append-nil ran.done in
+      record {
+        replies = replies;
+        appended = appended;
+        carried = subst (λ (l : List Command). CarriesOut calls keeps sampler ids old l replies new) (sym whole) ran.carried;
+        shown = ran.shown;
+        none_left = ran.none_left;
+      }
+
+  -- one more, with its reply, which marks what it shows
+  pub ran_more : (old middle answered new : SessionState P S G) (commands queue left : List Command) (replies : List PlainReply) (command : Command) (reply : PlainReply)
+      → queue ≡ command ∷ left → Ran old commands queue replies middle → Answers middle command reply answered → new ≡ marked answered
+      → Ran old commands left (replies ++ reply ∷ []) new
+  ran_more old middle answered new commands queue left replies command reply popped ran answers e =
+      let shown = shows_no_more keeps old middle answered replies ran.shown answers.appends (ap (λ (s : SessionState P S G). s.shown) answers.rest) in
+      record {
+        done = ran.done ++ command ∷ [];
+        parts = ran.parts ∙ ap (λ (l : List Command). ran.done ++ l) popped ∙ sym (append_assoc ran.done (command ∷ []) left);
+        carried = subst (λ (s : SessionState P S G). CarriesOut calls keeps sampler ids old (ran.done ++ command ∷ []) (replies ++ reply ∷ []) s) (sym e)
+            (carries_more old middle answered ran.done replies command reply ran.carried answers);
+        shown = shows_reply keeps old answered new replies reply shown answers.shows e;
+        none_left = none_left keeps answered new (replies ++ reply ∷ []) e;
+      }
+
+  -- one more, which was refused
+  pub ran_refused : (old middle new : SessionState P S G) (commands queue left : List Command) (replies before now : List PlainReply) (command : Command)
+      → queue ≡ command ∷ left → Ran old commands queue replies middle → now ≡ before ++ replies
+      → Refuses calls keeps sampler ids middle command new → RunsBeginning calls keeps sampler ids old commands before now new
+  ran_refused old middle new commands queue left replies before now command popped ran appended refuses = record {
+    done = ran.done;
+    refused = command;
+    left = left;
+    middle = middle;
+    parts = ran.parts ∙ ap (λ (l : List Command). ran.done ++ l) popped;
+    ran = record {
+      replies = replies;
+      appended = appended;
+      carried = ran.carried;
+      shown = ran.shown;
+      none_left = ran.none_left;
+    };
+    refuses = refuses;
+  }

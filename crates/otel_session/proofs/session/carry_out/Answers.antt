@@ -1,0 +1,161 @@
+use Rattle.std.proofs.Common.{◌≡◌, true, IsFalse, refl, subst, sym, ap, map, rules, string_bytes, List, ℕ, Option, inr}
+use Rattle.opentelemetry_sdk.specs.SpanEdits.{plain_edit}
+use Rattle.opentelemetry.specs.PlainValues.{plain_status}
+use Rattle.opentelemetry_sdk.specs.SpanHistory.{Edit, PlainSpan, set_status}
+use Rattle.otel_session.specs.Commands.{plain_command, is_end, may_lose}
+use Rattle.otel_session.specs.OpenSpans.{ChildMayStart, ChildStartsNamed, EditsNamed, EndsNamed, InjectsNamed, named}
+use Rattle.otel_session.specs.SessionDelivery.{CarriesOutOne, RefusesOne, batches_of_first, call_answer}
+use Rattle.otel_session.specs.declared.command.Command.{Command}
+use Rattle.otel_session.specs.declared.reply.Answer.{Answer}
+use Rattle.otel_session.proofs.Clauses.{if_ok_map, on_err_map}
+use Rattle.otel_session.proofs.StepLemmas.{carries_start, carries_child, carries_attr, carries_event, carries_status, carries_end, carries_flush, carries_inject, carries_remote, carries_shutdown}
+use Rattle.otel_session.proofs.ShownLemmas.{appends_none, may_start_keeps, child_may_start_keeps, may_deliver_keeps, flush_keeps, shutdown_keeps}
+use Rattle.otel_session.proofs.session.carry_out.Goals as goal
+
+pub returns-in-Start-clause-ok : goal.returns-in-Start-clause-ok
+returns-in-Start-clause-ok g c = if_ok_map c.start.result (λ answer h.
+    subst (λ (command : Command). CarriesOutOne g.P.SpanProcessor g.S.ShouldSample g.G.IdGenerator c.args.tracer.now c.args.provider.now c.args.spans.now (plain_command command) answer c.start.new.provider c.start.new.self) (sym c.in-Start.is)
+    (carries_start g.P.SpanProcessor g.S.ShouldSample g.G.IdGenerator c.args.tracer.now c.args.provider.now c.start.new.provider c.args.spans.now c.start.new.self (string_bytes c.in-Start.span) (string_bytes c.in-Start.name) c.in-Start.moment.0 answer c.start.ensures.told h)) c.start.ensures.ok
+
+pub returns-in-Child-clause-ok : goal.returns-in-Child-clause-ok
+returns-in-Child-clause-ok g c = if_ok_map c.start_child.result (λ answer h.
+    subst (λ (command : Command). CarriesOutOne g.P.SpanProcessor g.S.ShouldSample g.G.IdGenerator c.args.tracer.now c.args.provider.now c.args.spans.now (plain_command command) answer c.start_child.new.provider c.start_child.new.self) (sym c.in-Child.is)
+    (carries_child g.P.SpanProcessor g.S.ShouldSample g.G.IdGenerator c.args.tracer.now c.args.provider.now c.start_child.new.provider c.args.spans.now c.start_child.new.self (string_bytes c.in-Child.span) (string_bytes c.in-Child.parent) (string_bytes c.in-Child.name) c.in-Child.moment.0 answer c.start_child.ensures.told
+    (subst (λ (parent : List ℕ). ChildStartsNamed g.P.SpanProcessor g.S.ShouldSample g.G.IdGenerator c.args.provider.now c.args.tracer.now c.args.spans.now (string_bytes c.in-Child.span) (named c.args.spans.now parent) (string_bytes c.in-Child.name) c.in-Child.moment.0 answer c.start_child.new.provider c.start_child.new.self) c.as_str.ensures.value h))) c.start_child.ensures.ok
+
+pub returns-in-Attr-clause-ok : goal.returns-in-Attr-clause-ok
+returns-in-Attr-clause-ok g c = if_ok_map c.edit.result (λ answer h.
+    subst (λ (command : Command). CarriesOutOne g.P.SpanProcessor g.S.ShouldSample g.G.IdGenerator c.args.tracer.now c.args.provider.now c.args.spans.now (plain_command command) answer c.args.provider.now c.edit.new.self) (sym c.in-Attr.is)
+    (carries_attr g.P.SpanProcessor g.S.ShouldSample g.G.IdGenerator c.args.tracer.now c.args.provider.now c.args.spans.now c.edit.new.self (string_bytes c.in-Attr.span) (string_bytes c.in-Attr.key) (string_bytes c.in-Attr.value) answer
+    (subst (λ (edit : Edit). EditsNamed c.args.spans.now (string_bytes c.in-Attr.span) edit (named c.args.spans.now (string_bytes c.in-Attr.span)) answer c.edit.new.self) c.text_attribute.ensures
+    (subst (λ (name : List ℕ). EditsNamed c.args.spans.now name (plain_edit c.text_attribute.result) (named c.args.spans.now name) answer c.edit.new.self) c.as_str-in-Attr.ensures.value h)))) c.edit.ensures.ok
+
+pub returns-in-Event-clause-ok : goal.returns-in-Event-clause-ok
+returns-in-Event-clause-ok g c = if_ok_map c.edit-in-Event.result (λ answer h.
+    subst (λ (command : Command). CarriesOutOne g.P.SpanProcessor g.S.ShouldSample g.G.IdGenerator c.args.tracer.now c.args.provider.now c.args.spans.now (plain_command command) answer c.args.provider.now c.edit-in-Event.new.self) (sym c.in-Event.is)
+    (carries_event g.P.SpanProcessor g.S.ShouldSample g.G.IdGenerator c.args.tracer.now c.args.provider.now c.args.spans.now c.edit-in-Event.new.self (string_bytes c.in-Event.span) (string_bytes c.in-Event.name) c.in-Event.moment.0 answer
+    (subst (λ (edit : Edit). EditsNamed c.args.spans.now (string_bytes c.in-Event.span) edit (named c.args.spans.now (string_bytes c.in-Event.span)) answer c.edit-in-Event.new.self) c.event_without_attributes.ensures
+    (subst (λ (name : List ℕ). EditsNamed c.args.spans.now name (plain_edit c.event_without_attributes.result) (named c.args.spans.now name) answer c.edit-in-Event.new.self) c.as_str-in-Event.ensures.value h)))) c.edit-in-Event.ensures.ok
+
+pub returns-in-Status-clause-ok : goal.returns-in-Status-clause-ok
+returns-in-Status-clause-ok g c = if_ok_map c.edit-in-Status.result (λ answer h.
+    subst (λ (command : Command). CarriesOutOne g.P.SpanProcessor g.S.ShouldSample g.G.IdGenerator c.args.tracer.now c.args.provider.now c.args.spans.now (plain_command command) answer c.args.provider.now c.edit-in-Status.new.self) (sym c.in-Status.is)
+    (carries_status g.P.SpanProcessor g.S.ShouldSample g.G.IdGenerator c.args.tracer.now c.args.provider.now c.args.spans.now c.edit-in-Status.new.self (string_bytes c.in-Status.span) (plain_status c.in-Status.status) answer
+    (subst (λ (name : List ℕ). EditsNamed c.args.spans.now name (set_status (plain_status c.in-Status.status)) (named c.args.spans.now name) answer c.edit-in-Status.new.self) c.as_str-in-Status.ensures.value h))) c.edit-in-Status.ensures.ok
+
+pub returns-in-End-clause-ok : goal.returns-in-End-clause-ok
+returns-in-End-clause-ok g c = if_ok_map c.end.result (λ answer h.
+    subst (λ (command : Command). CarriesOutOne g.P.SpanProcessor g.S.ShouldSample g.G.IdGenerator c.args.tracer.now c.args.provider.now c.args.spans.now (plain_command command) answer c.end.new.provider c.end.new.self) (sym c.in-End.is)
+    (carries_end g.P.SpanProcessor g.S.ShouldSample g.G.IdGenerator c.args.tracer.now c.args.provider.now c.end.new.provider c.args.spans.now c.end.new.self (string_bytes c.in-End.span) c.in-End.moment.0 answer
+    (subst (λ (name : List ℕ). EndsNamed g.P.SpanProcessor c.args.provider.now c.args.spans.now name c.in-End.moment.0 (named c.args.spans.now name) answer c.end.new.provider c.end.new.self) c.as_str-in-End.ensures.value h))) c.end.ensures.ok
+
+pub returns-in-Flush-clause-ok : goal.returns-in-Flush-clause-ok
+returns-in-Flush-clause-ok g c =
+    subst (λ (answer : Answer). CarriesOutOne g.P.SpanProcessor g.S.ShouldSample g.G.IdGenerator c.args.tracer.now c.args.provider.now c.args.spans.now (plain_command c.args.command) answer c.force_flush.new.self c.args.spans.now) (sym c.answer_to_call.ensures)
+    (subst (λ (command : Command). CarriesOutOne g.P.SpanProcessor g.S.ShouldSample g.G.IdGenerator c.args.tracer.now c.args.provider.now c.args.spans.now (plain_command command) (call_answer c.force_flush.result) c.force_flush.new.self c.args.spans.now) (sym c.in-Flush.is)
+    (carries_flush g.P.SpanProcessor g.S.ShouldSample g.G.IdGenerator c.args.tracer.now c.args.provider.now c.force_flush.new.self c.args.spans.now c.force_flush.result c.force_flush.ensures.flushes c.force_flush.ensures.told))
+
+pub returns-in-Shutdown-clause-ok : goal.returns-in-Shutdown-clause-ok
+returns-in-Shutdown-clause-ok g c =
+    subst (λ (answer : Answer). CarriesOutOne g.P.SpanProcessor g.S.ShouldSample g.G.IdGenerator c.args.tracer.now c.args.provider.now c.args.spans.now (plain_command c.args.command) answer c.shutdown.new.self c.args.spans.now) (sym c.answer_to_call-in-Shutdown.ensures)
+    (subst (λ (command : Command). CarriesOutOne g.P.SpanProcessor g.S.ShouldSample g.G.IdGenerator c.args.tracer.now c.args.provider.now c.args.spans.now (plain_command command) (call_answer c.shutdown.result) c.shutdown.new.self c.args.spans.now) (sym c.in-Shutdown.is)
+    (carries_shutdown g.P.SpanProcessor g.S.ShouldSample g.G.IdGenerator c.args.tracer.now c.args.provider.now c.shutdown.new.self c.args.spans.now c.shutdown.result c.shutdown.ensures.again c.shutdown.ensures.first c.shutdown.ensures.told))
+
+pub returns-in-Start-clause-err : goal.returns-in-Start-clause-err
+returns-in-Start-clause-err g c = on_err_map c.start.result (λ h.
+    subst (λ (command : Command). RefusesOne g.P.SpanProcessor g.S.ShouldSample g.G.IdGenerator c.args.tracer.now c.args.provider.now c.args.spans.now (plain_command command) c.start.new.provider c.start.new.self) (sym c.in-Start.is)
+    (record { spans = h; asks = c.start.ensures.asks; told = c.start.ensures.told })) c.start.ensures.err
+
+pub returns-in-Child-clause-err : goal.returns-in-Child-clause-err
+returns-in-Child-clause-err g c = on_err_map c.start_child.result (λ h.
+    subst (λ (command : Command). RefusesOne g.P.SpanProcessor g.S.ShouldSample g.G.IdGenerator c.args.tracer.now c.args.provider.now c.args.spans.now (plain_command command) c.start_child.new.provider c.start_child.new.self) (sym c.in-Child.is)
+    (record {
+      spans = h;
+      asks = subst (λ (parent : List ℕ). ChildMayStart g.P.SpanProcessor g.S.ShouldSample g.G.IdGenerator c.args.provider.now c.args.tracer.now (named c.args.spans.now parent) (string_bytes c.in-Child.name) c.in-Child.moment.0 c.start_child.new.provider) c.as_str.ensures.value c.start_child.ensures.asks;
+      told = c.start_child.ensures.told;
+    })) c.start_child.ensures.err
+
+pub returns-in-Attr-clause-err : goal.returns-in-Attr-clause-err
+returns-in-Attr-clause-err g c = on_err_map c.edit.result (λ h.
+    subst (λ (command : Command). RefusesOne g.P.SpanProcessor g.S.ShouldSample g.G.IdGenerator c.args.tracer.now c.args.provider.now c.args.spans.now (plain_command command) c.args.provider.now c.edit.new.self) (sym c.in-Attr.is)
+    (record { spans = h; asks = refl; told = refl })) c.edit.ensures.err
+
+pub returns-in-Attr-clause-keeps : goal.returns-in-Attr-clause-keeps
+returns-in-Attr-clause-keeps g c = appends_none (batches_of_first g.P.KeepsBatches c.args.provider.now.processors) _ refl
+
+pub returns-in-Event-clause-err : goal.returns-in-Event-clause-err
+returns-in-Event-clause-err g c = on_err_map c.edit-in-Event.result (λ h.
+    subst (λ (command : Command). RefusesOne g.P.SpanProcessor g.S.ShouldSample g.G.IdGenerator c.args.tracer.now c.args.provider.now c.args.spans.now (plain_command command) c.args.provider.now c.edit-in-Event.new.self) (sym c.in-Event.is)
+    (record { spans = h; asks = refl; told = refl })) c.edit-in-Event.ensures.err
+
+pub returns-in-Event-clause-keeps : goal.returns-in-Event-clause-keeps
+returns-in-Event-clause-keeps g c = appends_none (batches_of_first g.P.KeepsBatches c.args.provider.now.processors) _ refl
+
+pub returns-in-Status-clause-err : goal.returns-in-Status-clause-err
+returns-in-Status-clause-err g c = on_err_map c.edit-in-Status.result (λ h.
+    subst (λ (command : Command). RefusesOne g.P.SpanProcessor g.S.ShouldSample g.G.IdGenerator c.args.tracer.now c.args.provider.now c.args.spans.now (plain_command command) c.args.provider.now c.edit-in-Status.new.self) (sym c.in-Status.is)
+    (record { spans = h; asks = refl; told = refl })) c.edit-in-Status.ensures.err
+
+pub returns-in-Status-clause-keeps : goal.returns-in-Status-clause-keeps
+returns-in-Status-clause-keeps g c = appends_none (batches_of_first g.P.KeepsBatches c.args.provider.now.processors) _ refl
+
+pub returns-in-End-clause-err : goal.returns-in-End-clause-err
+returns-in-End-clause-err g c = on_err_map c.end.result (λ h.
+    subst (λ (command : Command). RefusesOne g.P.SpanProcessor g.S.ShouldSample g.G.IdGenerator c.args.tracer.now c.args.provider.now c.args.spans.now (plain_command command) c.end.new.provider c.end.new.self) (sym c.in-End.is)
+    (record { spans = h.0; asks = h.1; told = ap (λ r. map g.P.SpanProcessor.told r.processors) h.1 })) c.end.ensures.err
+
+pub returns-in-Start-clause-keeps : goal.returns-in-Start-clause-keeps
+returns-in-Start-clause-keeps g c = (may_start_keeps g.P.SpanProcessor g.P.KeepsBatches g.met.P.KeepsBatches.appends g.S.ShouldSample g.G.IdGenerator c.args.provider.now c.start.new.provider c.args.tracer.now _ (string_bytes c.in-Start.name) c.in-Start.moment.0 c.start.ensures.asks).0
+
+pub returns-in-Child-clause-keeps : goal.returns-in-Child-clause-keeps
+returns-in-Child-clause-keeps g c = (child_may_start_keeps g.P.SpanProcessor g.P.KeepsBatches g.met.P.KeepsBatches.appends g.S.ShouldSample g.G.IdGenerator c.args.provider.now c.start_child.new.provider c.args.tracer.now _ (string_bytes c.in-Child.name) c.in-Child.moment.0 c.start_child.ensures.asks).0
+
+pub returns-in-End-clause-keeps : goal.returns-in-End-clause-keeps
+returns-in-End-clause-keeps g c = may_deliver_keeps g.P.SpanProcessor g.P.KeepsBatches g.met.P.KeepsBatches.appends c.args.provider.now.processors c.end.new.provider.processors c.end.ensures.asks
+
+pub returns-in-Flush-clause-keeps : goal.returns-in-Flush-clause-keeps
+returns-in-Flush-clause-keeps g c = flush_keeps g.P.SpanProcessor g.P.KeepsBatches g.met.P.KeepsBatches.appends c.args.provider.now c.force_flush.new.self c.force_flush.result c.force_flush.ensures.flushes
+
+pub returns-in-Shutdown-clause-keeps : goal.returns-in-Shutdown-clause-keeps
+returns-in-Shutdown-clause-keeps g c = shutdown_keeps g.P.SpanProcessor g.P.KeepsBatches g.met.P.KeepsBatches.appends c.args.provider.now c.shutdown.new.self 5_000_000_000 c.shutdown.result c.shutdown.ensures.again c.shutdown.ensures.first
+
+pub returns-in-Start-clause-loses : goal.returns-in-Start-clause-loses
+returns-in-Start-clause-loses g c = λ not_end keeps. (may_start_keeps g.P.SpanProcessor g.P.KeepsBatches g.met.P.KeepsBatches.appends g.S.ShouldSample g.G.IdGenerator c.args.provider.now c.start.new.provider c.args.tracer.now _ (string_bytes c.in-Start.name) c.in-Start.moment.0 c.start.ensures.asks).1
+
+pub returns-in-Child-clause-loses : goal.returns-in-Child-clause-loses
+returns-in-Child-clause-loses g c = λ not_end keeps. (child_may_start_keeps g.P.SpanProcessor g.P.KeepsBatches g.met.P.KeepsBatches.appends g.S.ShouldSample g.G.IdGenerator c.args.provider.now c.start_child.new.provider c.args.tracer.now _ (string_bytes c.in-Child.name) c.in-Child.moment.0 c.start_child.ensures.asks).1
+
+pub returns-in-End-clause-loses : goal.returns-in-End-clause-loses
+returns-in-End-clause-loses g c = λ not_end keeps. let e : is_end (plain_command c.args.command) ≡ true = ap (λ (command : Command). is_end (plain_command command)) c.in-End.is in
+    let never : IsFalse true = subst IsFalse e not_end in search rules
+
+pub returns-in-Flush-clause-loses : goal.returns-in-Flush-clause-loses
+returns-in-Flush-clause-loses g c = λ not_end keeps. let e : may_lose (plain_command c.args.command) ≡ true = ap (λ (command : Command). may_lose (plain_command command)) c.in-Flush.is in
+    let never : IsFalse true = subst IsFalse e keeps in search rules
+
+pub returns-in-Shutdown-clause-loses : goal.returns-in-Shutdown-clause-loses
+returns-in-Shutdown-clause-loses g c = λ not_end keeps. let e : may_lose (plain_command c.args.command) ≡ true = ap (λ (command : Command). may_lose (plain_command command)) c.in-Shutdown.is in
+    let never : IsFalse true = subst IsFalse e keeps in search rules
+
+pub returns-in_ok-cx-in-Remote-clause-ok : goal.returns-in_ok-cx-in-Remote-clause-ok
+returns-in_ok-cx-in-Remote-clause-ok g c = if_ok_map c.start_in.result (λ answer h.
+    subst (λ (command : Command). CarriesOutOne g.P.SpanProcessor g.S.ShouldSample g.G.IdGenerator c.args.tracer.now c.args.provider.now c.args.spans.now (plain_command command) answer c.start_in.new.provider c.start_in.new.self) (sym c.in-Remote.is)
+    (carries_remote g.P.SpanProcessor g.S.ShouldSample g.G.IdGenerator c.args.tracer.now c.args.provider.now c.start_in.new.provider c.args.spans.now c.start_in.new.self (string_bytes c.in-Remote.span) (string_bytes c.in-Remote.traceparent) (string_bytes c.in-Remote.name) c.in-Remote.moment.0 c.in_ok-cx-in-Remote.cx answer
+    c.in_ok-cx-in-Remote.ensures c.start_in.ensures.told h)) c.start_in.ensures.ok
+
+pub returns-in_ok-cx-in-Remote-clause-err : goal.returns-in_ok-cx-in-Remote-clause-err
+returns-in_ok-cx-in-Remote-clause-err g c = on_err_map c.start_in.result (λ h.
+    subst (λ (command : Command). RefusesOne g.P.SpanProcessor g.S.ShouldSample g.G.IdGenerator c.args.tracer.now c.args.provider.now c.args.spans.now (plain_command command) c.start_in.new.provider c.start_in.new.self) (sym c.in-Remote.is)
+    (record { spans = h; asks = inr (c.in_ok-cx-in-Remote.cx, c.in_ok-cx-in-Remote.ensures, c.start_in.ensures.asks); told = c.start_in.ensures.told })) c.start_in.ensures.err
+
+pub returns-in_ok-cx-in-Remote-clause-keeps : goal.returns-in_ok-cx-in-Remote-clause-keeps
+returns-in_ok-cx-in-Remote-clause-keeps g c = (may_start_keeps g.P.SpanProcessor g.P.KeepsBatches g.met.P.KeepsBatches.appends g.S.ShouldSample g.G.IdGenerator c.args.provider.now c.start_in.new.provider c.args.tracer.now _ (string_bytes c.in-Remote.name) c.in-Remote.moment.0 c.start_in.ensures.asks).0
+
+pub returns-in_ok-cx-in-Remote-clause-loses : goal.returns-in_ok-cx-in-Remote-clause-loses
+returns-in_ok-cx-in-Remote-clause-loses g c = λ not_end keeps. (may_start_keeps g.P.SpanProcessor g.P.KeepsBatches g.met.P.KeepsBatches.appends g.S.ShouldSample g.G.IdGenerator c.args.provider.now c.start_in.new.provider c.args.tracer.now _ (string_bytes c.in-Remote.name) c.in-Remote.moment.0 c.start_in.ensures.asks).1
+
+pub returns-in-Inject-clause-ok : goal.returns-in-Inject-clause-ok
+returns-in-Inject-clause-ok g c = if_ok_map c.inject.result (λ answer h.
+    subst (λ (command : Command). CarriesOutOne g.P.SpanProcessor g.S.ShouldSample g.G.IdGenerator c.args.tracer.now c.args.provider.now c.args.spans.now (plain_command command) answer c.args.provider.now c.args.spans.now) (sym c.in-Inject.is)
+    (carries_inject g.P.SpanProcessor g.S.ShouldSample g.G.IdGenerator c.args.tracer.now c.args.provider.now c.args.spans.now (string_bytes c.in-Inject.span) answer
+    (subst (λ (name : List ℕ). InjectsNamed (named c.args.spans.now name) answer) c.as_str-in-Inject.ensures.value h))) c.inject.ensures

@@ -1,0 +1,40 @@
+-- One line more is followed.
+use Rattle.std.proofs.Common.{◌≡◌, ◌≢◌, [], length, arith, rules}
+use Rattle.std.proofs.lemmas.List.{nil_from_length}
+use Rattle.otel_session.specs.StepLines.{ReadsOrder}
+use Rattle.otel_session.specs.declared.steps.lines.Order.{Order}
+use Rattle.otel_session.proofs.StepFollowing.{followed_none, followed_blank, followed_all, followed_bad, followed_more}
+use Rattle.otel_session.proofs.steps.answer_lines.Goals as goal
+
+pub loop-line-init : goal.loop-line-init
+loop-line-init c = record { followed = followed_none c.args.machine.now c.args.text.now c.args.out.now.items; room = omega arith }
+
+pub loop-line-preserved-then-is_empty : goal.loop-line-preserved-then-is_empty
+loop-line-preserved-then-is_empty c =
+    let next = c.in-Some.ensures in
+    let none : length c.in-Some.line.now ≡ 0 = search rules in
+    record {
+      followed = followed_blank c.args.machine.now c.loop-line.machine c.args.text.now c.loop-line.rest.now c.in-Some.line.now c.in-Some.behind.now c.args.out.now.items c.loop-line.out.items c.loop-line.number c.loop-line.invariant.followed next.0 (nil_from_length c.in-Some.line.now none);
+      room = omega (arith, next.1);
+    }
+
+pub returns-in_default-2 : goal.returns-in_default-2
+returns-in_default-2 c =
+    let some : c.in-Some.line.now ≢ [] = search rules in
+    let bad : (order : Order) → ReadsOrder c.in-Some.line.now order → ⊥ = rw c.in_default-2.is at c.in_ok-order.ensures in
+    followed_bad c.args.machine.now c.loop-line.machine c.args.text.now c.loop-line.rest.now c.in-Some.line.now c.in-Some.behind.now c.args.out.now.items c.loop-line.out.items c.loop-line.number c.loop-line.invariant.followed c.in-Some.ensures.0 some bad
+
+pub loop-line-preserved : goal.loop-line-preserved
+loop-line-preserved c =
+    let next = c.in-Some.ensures in
+    let some : c.in-Some.line.now ≢ [] = search rules in
+    let reads : ReadsOrder c.in-Some.line.now c.in-Some-2.order = rw c.in-Some-2.is at c.in_ok-order.ensures in
+    let obeyed = c.in_ok-obey.ensures in
+    record {
+      followed = followed_more c.args.machine.now c.loop-line.machine c.obey.new.machine c.args.text.now c.loop-line.rest.now c.in-Some.line.now c.in-Some.behind.now c.args.out.now.items c.loop-line.out.items c.obey.new.out.items c.loop-line.number c.in-Some-2.order obeyed.0 c.loop-line.invariant.followed next.0 some reads obeyed.2 obeyed.1;
+      room = omega (arith, next.1);
+    }
+
+pub returns : goal.returns
+returns c =
+    followed_all c.args.machine.now c.loop-line.machine c.args.text.now c.loop-line.rest.now c.args.out.now.items c.loop-line.out.items c.loop-line.number c.loop-line.invariant.followed c.in_default.ensures

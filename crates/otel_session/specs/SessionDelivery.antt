@@ -1,0 +1,429 @@
+-- What the commands of a session demand of its provider and its exporters. It speaks of each span as its history, a
+-- start and the edits since, and of what an end delivers as the data of that history: whole lists, each cut once. No
+-- history is stored.
+use Rattle.std.specs.Prelude.{◌≡◌, ◌≢◌, ℕ, List, [], ◌∷◌, ◌++◌, Option, Some, None, map, take, drop, slice_get, IsFalse, false, Result, Ok, Err, MatchBool, if◌then◌else◌, ◌⊎◌, ◌≤◌, length}
+use Rattle.std.specs.List.{flat_map}
+use Rattle.std.specs.Option.{option_map, option_map_or}
+use Rattle.opentelemetry.specs.Plain.{PlainContext, PlainScope, PlainSpanContext, text}
+use Rattle.opentelemetry.specs.PlainSpanBuilder.{named_builder}
+use Rattle.otel_base.specs.declared.error.OTelSdkError.{OTelSdkError}
+use Rattle.otel_base.specs.declared.error.OTelSdkError.TheVariants as errors
+use Rattle.otel_base.specs.declared.trace.sampler.ShouldSample as sampling
+use Rattle.otel_base.specs.declared.trace.id_generator.IdGenerator as drawing
+use Rattle.otel_batch.specs.PlainSpanData.{PlainSpanData, spans_in}
+use Rattle.opentelemetry_sdk.specs.SpanHistory.{SpanHistory, begun, over, SpanStart, Edit, set_attribute, add_event, set_status, data_of, span_of}
+use Rattle.opentelemetry_sdk.specs.Deliveries.{Delivery, EachFollows}
+use Rattle.opentelemetry_sdk.specs.Hops.{GoesByParents}
+use Rattle.opentelemetry_sdk.specs.Provider.{Flushes, ProviderState, ShutsDown}
+use Rattle.opentelemetry_sdk.specs.Starting.{Starts, root_cx}
+use Rattle.opentelemetry_sdk.specs.Ending.{Delivers, end_delivers}
+use Rattle.opentelemetry_sdk.specs.declared.trace.span_processor.SpanProcessor.{Ghosts}
+use Rattle.otel_session.specs.declared.exported.KeepsBatches as keeping
+use Rattle.otel_session.specs.Commands.{PlainCommand, start, child, remote, attr, event, status, inject, end, flush, shutdown, may_lose, plain_command, plain_commands}
+use Rattle.otel_session.specs.KeptBatches.{Grows}
+use Rattle.otel_session.specs.Headers.{AnswersHeaders, SaysContext, child_cx}
+use Rattle.otel_session.specs.OpenSpans.{NamedSpans, SameSpans, MayStart, ChildMayStart, RemoteMayStart, named, is_name, start_answer}
+use Rattle.otel_session.specs.AnswerText.{replies_text}
+use Rattle.otel_session.specs.Lines.{TextSpells}
+use Rattle.otel_session.specs.PlainReply.{PlainReply, NoneRefused}
+use Rattle.otel_session.specs.ReplyText.{span_lines}
+use Rattle.otel_session.specs.Traces.{ChildrenAgree, KeepsContexts}
+use Rattle.otel_session.specs.declared.session.FeedError.{FeedError}
+use Rattle.otel_session.specs.declared.session.FeedError.TheVariants as feeds
+use Rattle.otel_session.specs.declared.command.Command.{Command}
+use Rattle.otel_session.specs.declared.reply.Answer.{Answer}
+use Rattle.otel_session.specs.declared.reply.Answer.TheVariants as answers
+
+-- the history of the span of each name, where a start made it
+abbrev pub Histories : Type 0
+Histories = List ℕ → Option SpanHistory
+
+-- histories in which a name has this one
+abbrev pub with_history : Histories → List ℕ → SpanHistory → Histories
+with_history old name history = λ q. if is_name q name then Some history else old q
+
+-- these spans are those that the histories give
+abbrev pub Describe : Histories → NamedSpans → Type 0
+Describe histories spans = (q : List ℕ) → named spans q ≡ option_map span_of (histories q)
+
+-- where the commands of a session stand: its provider, and the history of the span of each name
+pub record Course (P S G : Type 0) : Type 0 where
+  pub provider : ProviderState P S G
+  pub histories : Histories
+
+-- a command that is answered and changes nothing
+pub record OnlyAnswers {P S G : Type 0} (said : Answer) (old : Course P S G) (answer : Answer) (ds : List Delivery)
+    (new : Course P S G) : Type 0 where
+  pub says : answer ≡ said
+  pub delivers : ds ≡ []
+  pub rest : new ≡ old
+
+-- one more edit at the end of a history
+pub record AddsEdit {P S G : Type 0} (old : Course P S G) (name : List ℕ) (from : SpanStart) (edits : List Edit)
+    (answer : Answer) (ds : List Delivery) (new : Course P S G) : Type 0 where
+  pub says : answer ≡ answers.Ok
+  pub delivers : ds ≡ []
+  pub rest : new ≡ record old { histories = with_history old.histories name (begun from edits) }
+
+-- an edit of the span of a name: it reaches a history that is not over
+abbrev pub EditDemands : {P S G : Type 0} → Course P S G → List ℕ → Edit → Option SpanHistory → Answer → List Delivery
+    → Course P S G → Type 0
+EditDemands old name edit None answer ds new = OnlyAnswers answers.NoSuchSpan old answer ds new
+EditDemands old name edit (Some (over context limits)) answer ds new = OnlyAnswers answers.Ignored old answer ds new
+EditDemands old name edit (Some (begun from edits)) answer ds new =
+    AddsEdit old name from (edits ++ edit ∷ []) answer ds new
+
+-- the headers of a span are told, and nothing changes
+pub record TellsHeaders {P S G : Type 0} (old : Course P S G) (context : PlainSpanContext) (answer : Answer)
+    (ds : List Delivery) (new : Course P S G) : Type 0 where
+  pub says : AnswersHeaders context answer
+  pub delivers : ds ≡ []
+  pub rest : new ≡ old
+
+-- the headers of the span of a name, also where its history is over
+abbrev pub InjectDemands : {P S G : Type 0} → Course P S G → Option SpanHistory → Answer → List Delivery
+    → Course P S G → Type 0
+InjectDemands old None answer ds new = OnlyAnswers answers.NoSuchSpan old answer ds new
+InjectDemands old (Some history) answer ds new = TellsHeaders old (span_of history).span_context answer ds new
+
+-- the batches that the first of these processors keeps
+abbrev pub batches_of_first : {P : Type 0} → keeping.Ghosts P → List P → List (List PlainSpanData)
+batches_of_first keeps processors = option_map_or keeps.kept (slice_get processors 0) []
+
+-- how many batches the first of these processors lost for want of memory
+abbrev pub losses_of_first : {P : Type 0} → keeping.Ghosts P → List P → ℕ
+losses_of_first keeps processors = option_map_or keeps.lost (slice_get processors 0) 0
+
+-- the spans that replies show
+abbrev pub exported_in : List PlainReply → List PlainSpanData
+exported_in replies = flat_map (λ reply. reply.exported) replies
+
+-- a session: its provider, the library's scope, its spans, and how many batches its replies have shown
+pub record SessionState (P S G : Type 0) : Type 0 where
+  pub provider : ProviderState P S G
+  pub scope : PlainScope
+  pub spans : NamedSpans
+  pub shown : ℕ
+
+-- where a session stands, by histories of its spans
+abbrev pub course_of : {P S G : Type 0} → SessionState P S G → Histories → Course P S G
+course_of session histories = record { provider = session.provider; histories = histories }
+
+-- want of memory, unless there is an error already
+abbrev pub or_no_memory : Result (Unit {0}) OTelSdkError → Result (Unit {0}) OTelSdkError
+or_no_memory (Ok _) = Err errors.OutOfMemory
+or_no_memory (Err error) = Err error
+
+-- what is said of a call of the provider
+abbrev pub call_answer : Result (Unit {0}) OTelSdkError → Answer
+call_answer (Ok _) = answers.Ok
+call_answer (Err error) = answers.Failed error
+
+-- an event without attributes
+abbrev pub bare_event : List ℕ → ℕ → Edit
+bare_event name moment =
+    add_event (record { name = name; timestamp = moment; attributes = []; dropped_attributes_count = 0 })
+
+module _ {P S G : Type 0} (calls : Ghosts P) where
+  -- a shutdown with a timeout, as it is asked for: a second one is an error and changes nothing
+  abbrev pub Shuts : ProviderState P S G → ℕ → Result (Unit {0}) OTelSdkError → ProviderState P S G → Type 0
+  Shuts old timeout answer new = MatchBool old.is_shut
+      ((answer ≡ Err errors.AlreadyShutdown) × (new ≡ old))
+      (ShutsDown calls old timeout answer new)
+
+  -- the provider was asked to flush
+  pub record AsksFlush (old : Course P S G) (answer : Answer) (ds : List Delivery) (new : Course P S G) : Type 0 where
+    pub said : Result (Unit {0}) OTelSdkError
+    pub flushes : Flushes calls old.provider said new.provider
+    pub says : answer ≡ call_answer said
+    pub delivers : ds ≡ []
+    pub histories : new.histories ≡ old.histories
+
+  -- the provider was asked to shut down, with 5 seconds
+  pub record AsksShutdown (old : Course P S G) (answer : Answer) (ds : List Delivery)
+      (new : Course P S G) : Type 0 where
+    pub said : Result (Unit {0}) OTelSdkError
+    pub shuts : Shuts old.provider 5_000_000_000 said new.provider
+    pub says : answer ≡ call_answer said
+    pub delivers : ds ≡ []
+    pub histories : new.histories ≡ old.histories
+
+module _ {P S G : Type 0} (calls : Ghosts P) (sampler : sampling.Ghosts S) (ids : drawing.Ghosts G) where
+  -- a new name is given what the start of a span in a context makes
+  pub record BeginsSpan (scope : PlainScope) (old : Course P S G) (name : List ℕ) (cx : PlainContext) (called : List ℕ)
+      (moment : ℕ) (answer : Answer) (ds : List Delivery) (new : Course P S G) : Type 0 where
+    pub history : SpanHistory
+    pub starts : Starts calls sampler ids old.provider scope (named_builder called) cx moment history new.provider
+    pub says : answer ≡ start_answer (span_of history)
+    pub delivers : ds ≡ []
+    pub histories : new.histories ≡ with_history old.histories name history
+
+  -- a start in a context: a name is taken once
+  abbrev pub StartDemands : PlainScope → Course P S G → List ℕ → PlainContext → List ℕ → ℕ → Option SpanHistory → Answer
+      → List Delivery → Course P S G → Type 0
+  StartDemands scope old name cx called moment (Some _) answer ds new =
+      OnlyAnswers answers.SpanExists old answer ds new
+  StartDemands scope old name cx called moment None answer ds new =
+      BeginsSpan scope old name cx called moment answer ds new
+
+  -- a start as a child of the span of another name: in a context where that is active
+  abbrev pub ChildDemands : PlainScope → Course P S G → List ℕ → Option SpanHistory → List ℕ → ℕ → Answer
+      → List Delivery → Course P S G → Type 0
+  ChildDemands scope old name None called moment answer ds new = OnlyAnswers answers.NoSuchSpan old answer ds new
+  ChildDemands scope old name (Some parent) called moment answer ds new =
+      StartDemands scope old name (child_cx (span_of parent).span_context) called moment (old.histories name) answer ds
+      new
+
+  -- a start in the context that a header says
+  pub record RemoteDemands (scope : PlainScope) (old : Course P S G) (name header called : List ℕ) (moment : ℕ)
+      (answer : Answer) (ds : List Delivery) (new : Course P S G) : Type 0 where
+    pub cx : PlainContext
+    pub says : SaysContext header cx
+    pub starts : StartDemands scope old name cx called moment (old.histories name) answer ds new
+
+  -- a history is over, and its data is delivered, unless the provider is shut
+  pub record EndsHistory (old : Course P S G) (name : List ℕ) (from : SpanStart) (span : PlainSpanData)
+      (answer : Answer) (ds : List Delivery) (new : Course P S G) : Type 0 where
+    pub refused : ℕ
+    pub delivered : Delivers calls old.provider.is_shut span old.provider.processors new.provider.processors refused
+    pub says : answer ≡ answers.Ended refused
+    pub delivers : ds ≡ end_delivers old.provider.is_shut span refused
+    pub provider : new.provider ≡ record old.provider { processors = new.provider.processors }
+    pub histories : new.histories ≡ with_history old.histories name (over from.span_context from.limits)
+
+  -- the end of the span of a name
+  abbrev pub EndDemands : Course P S G → List ℕ → ℕ → Option SpanHistory → Answer → List Delivery → Course P S G
+      → Type 0
+  EndDemands old name moment None answer ds new = OnlyAnswers answers.NoSuchSpan old answer ds new
+  EndDemands old name moment (Some (over context limits)) answer ds new = OnlyAnswers answers.Ignored old answer ds new
+  EndDemands old name moment (Some (begun from edits)) answer ds new =
+      EndsHistory old name from (data_of from edits moment) answer ds new
+
+  -- what one command demands: its answer, what is delivered, and where the session then stands
+  abbrev pub Demands : PlainScope → Course P S G → PlainCommand → Answer → List Delivery → Course P S G → Type 0
+  Demands scope old (start span name moment) answer ds new =
+      StartDemands scope old span root_cx name moment (old.histories span) answer ds new
+  Demands scope old (child span parent name moment) answer ds new =
+      ChildDemands scope old span (old.histories parent) name moment answer ds new
+  Demands scope old (remote span header name moment) answer ds new =
+      RemoteDemands scope old span header name moment answer ds new
+  Demands scope old (attr span key value) answer ds new =
+      EditDemands old span (set_attribute (record { key = key; value = text value })) (old.histories span) answer ds new
+  Demands scope old (event span name moment) answer ds new =
+      EditDemands old span (bare_event name moment) (old.histories span) answer ds new
+  Demands scope old (status span how) answer ds new =
+      EditDemands old span (set_status how) (old.histories span) answer ds new
+  Demands scope old (inject span) answer ds new = InjectDemands old (old.histories span) answer ds new
+  Demands scope old (end span moment) answer ds new = EndDemands old span moment (old.histories span) answer ds new
+  Demands scope old flush answer ds new = AsksFlush calls old answer ds new
+  Demands scope old shutdown answer ds new = AsksShutdown calls old answer ds new
+
+  -- one command was carried out on the spans of a session, as it demands of the histories that they had, and each
+  -- processor follows what was delivered
+  pub record DemandsOne (scope : PlainScope) (p : ProviderState P S G) (histories : Histories)
+      (command : PlainCommand) (answer : Answer)
+      (q : ProviderState P S G) (new : NamedSpans) : Type 0 where
+    pub deliveries : List Delivery
+    pub after : Histories
+    pub demands : Demands scope (record { provider = p; histories = histories }) command answer deliveries
+        (record { provider = q; histories = after })
+    pub describes : Describe after new
+    pub follows : EachFollows calls deliveries p.processors q.processors
+
+  -- the same, whatever histories the spans had
+  abbrev pub CarriesOutOne : PlainScope → ProviderState P S G → NamedSpans → PlainCommand → Answer
+      → ProviderState P S G → NamedSpans → Type 0
+  CarriesOutOne scope p old command answer q new =
+      (histories : Histories) → Describe histories old → DemandsOne scope p histories command answer q new
+
+  -- what a command that is refused may do to the provider: nothing, but that a start may have drawn ids, or done all
+  -- that the start of a span does, where the span then found no place. The provider's own calls are not refused
+  abbrev pub MayAsk : PlainScope → ProviderState P S G → NamedSpans → PlainCommand → ProviderState P S G → Type 0
+  MayAsk scope p spans (start span name moment) q = MayStart calls sampler ids p scope root_cx name moment q
+  MayAsk scope p spans (child span parent name moment) q =
+      ChildMayStart calls sampler ids p scope (named spans parent) name moment q
+  MayAsk scope p spans (remote span header name moment) q =
+      RemoteMayStart calls sampler ids p scope header name moment q
+  MayAsk scope p spans (attr span key value) q = q ≡ p
+  MayAsk scope p spans (event span name moment) q = q ≡ p
+  MayAsk scope p spans (status span how) q = q ≡ p
+  MayAsk scope p spans (inject span) q = q ≡ p
+  MayAsk scope p spans (end span moment) q = q ≡ p
+  MayAsk scope p spans flush q = ⊥
+  MayAsk scope p spans shutdown q = ⊥
+
+  -- a command was not carried out: each name has the span that it had, and each processor tells what it told
+  pub record RefusesOne (scope : PlainScope) (p : ProviderState P S G) (old : NamedSpans) (command : PlainCommand)
+      (q : ProviderState P S G) (new : NamedSpans) : Type 0 where
+    pub spans : SameSpans old new
+    pub asks : MayAsk scope p old command q
+    pub told : map calls.told q.processors ≡ map calls.told p.processors
+
+  -- a command was carried out or not, and has no reply
+  abbrev pub MayCarryOut : PlainScope → ProviderState P S G → NamedSpans → PlainCommand → ProviderState P S G
+      → NamedSpans → Type 0
+  MayCarryOut scope p old command q new =
+      RefusesOne scope p old command q new ⊎ ((answer : Answer) × CarriesOutOne scope p old command answer q new)
+
+module _ {P S G : Type 0} (calls : Ghosts P) where
+  -- the shutdown of a session's provider with a timeout: where it was shut nothing happens
+  abbrev pub ShutsIfOpen : ProviderState P S G → ℕ → Result (Unit {0}) OTelSdkError → ProviderState P S G → Type 0
+  ShutsIfOpen old timeout answer new =
+      MatchBool old.is_shut ((answer ≡ Ok tt) × (new ≡ old)) (ShutsDown calls old timeout answer new)
+
+module _ {P S G : Type 0} (keeps : keeping.Ghosts P) where
+  -- the batches that the first processor of a session keeps, and how many it lost
+  abbrev pub session_batches : SessionState P S G → List (List PlainSpanData)
+  session_batches session = batches_of_first keeps session.provider.processors
+
+  abbrev pub session_losses : SessionState P S G → ℕ
+  session_losses session = losses_of_first keeps session.provider.processors
+
+  -- those that no reply has shown, and their spans
+  abbrev pub unshown_batches : SessionState P S G → List (List PlainSpanData)
+  unshown_batches session = drop session.shown (session_batches session)
+
+  abbrev pub unshown : SessionState P S G → List PlainSpanData
+  unshown session = spans_in (unshown_batches session)
+
+  -- batches are kept behind those that were kept, and the replies show them in order and each once: the spans of the
+  -- batches behind those that were shown before, up to those that are shown now
+  abbrev pub Shows : SessionState P S G → List PlainReply → SessionState P S G → Type 0
+  Shows old replies new = Grows (session_batches old) (session_batches new)
+      × (old.shown ≤ length (session_batches old) → (old.shown ≤ new.shown) × (new.shown ≤ length (session_batches new))
+      × (exported_in replies ≡ spans_in (drop old.shown (take new.shown (session_batches new)))))
+
+  -- behind a reply nothing is left to show
+  abbrev pub NoneLeft : List PlainReply → SessionState P S G → Type 0
+  NoneLeft replies new = (replies ≡ []) ⊎ (new.shown ≡ length (session_batches new))
+
+  -- no batch was lost meanwhile
+  abbrev pub LosesNone : SessionState P S G → SessionState P S G → Type 0
+  LosesNone old new = session_losses new ≡ session_losses old
+
+module _ {P S G : Type 0} (calls : Ghosts P) (keeps : keeping.Ghosts P) (sampler : sampling.Ghosts S)
+    (ids : drawing.Ghosts G) where
+  -- one command with its reply: its answer is as demanded, it shows the spans of the batches that the first processor's
+  -- exporter took since the reply before, and that exporter lost none, unless it was flushed or shut down
+  pub record Replies (scope : PlainScope) (old : Course P S G) (shown : ℕ) (command : PlainCommand)
+      (reply : PlainReply) (ds : List Delivery) (new : Course P S G) : Type 0 where
+    pub demands : Demands calls sampler ids scope old command reply.answer ds new
+    pub shows : reply.exported ≡ spans_in (drop shown (batches_of_first keeps new.provider.processors))
+    pub loses_none : IsFalse (may_lose command)
+        → losses_of_first keeps new.provider.processors ≡ losses_of_first keeps old.provider.processors
+
+  -- commands one after another, each with its reply, which begins behind the batches that were shown before it: the
+  -- deliveries join
+  abbrev pub DemandAll : PlainScope → Course P S G → ℕ → List PlainCommand → List PlainReply → List Delivery
+      → Course P S G → ℕ → Type 0
+  DemandAll scope old before [] [] ds new shown = (ds ≡ []) × (new ≡ old) × (shown ≡ before)
+  DemandAll scope old before [] (reply ∷ replies) ds new shown = ⊥
+  DemandAll scope old before (command ∷ commands) [] ds new shown = ⊥
+  DemandAll scope old before (command ∷ commands) (reply ∷ replies) ds new shown =
+      (middle : Course P S G) × (first : List Delivery) × (rest : List Delivery)
+      × Replies scope old before command reply first middle
+      × DemandAll scope middle (length (batches_of_first keeps middle.provider.processors)) commands replies rest new
+      shown
+      × (ds ≡ first ++ rest)
+
+  -- what commands demand of the histories that the spans of a session had; each processor follows all that was
+  -- delivered, in order; and at an open provider under a sampler that goes by parents each trace is sampled whole
+  pub record Demanded (old : SessionState P S G) (histories : Histories) (commands : List PlainCommand)
+      (replies : List PlainReply) (new : SessionState P S G) : Type 0 where
+    pub deliveries : List Delivery
+    pub after : Histories
+    pub demands : DemandAll old.scope (course_of old histories) old.shown commands replies deliveries
+        (course_of new after) new.shown
+    pub describes : Describe after new.spans
+    pub follows : EachFollows calls deliveries old.provider.processors new.provider.processors
+    pub contexts : KeepsContexts old.spans new.spans
+    pub traces : GoesByParents sampler old.provider.sampler → old.provider.is_shut ≡ false
+        → ChildrenAgree commands replies new.spans
+
+  -- commands were carried out, each with its reply, whatever histories the spans had
+  pub record CarriesOut (old : SessionState P S G) (commands : List Command) (replies : List PlainReply)
+      (new : SessionState P S G) : Type 0 where
+    pub scope : new.scope ≡ old.scope
+    pub demanded : (histories : Histories) → Describe histories old.spans
+        → Demanded old histories (plain_commands commands) replies new
+
+  -- all commands were carried out, each with its reply, and the replies show all spans that were exported meanwhile
+  pub record RunsAll (old : SessionState P S G) (commands : List Command) (before now : List PlainReply)
+      (new : SessionState P S G) : Type 0 where
+    pub replies : List PlainReply
+    pub appended : now ≡ before ++ replies
+    pub carried : CarriesOut old commands replies new
+    pub shown : Shows keeps old replies new
+    pub none_left : NoneLeft keeps replies new
+
+  -- a command found no memory: it was carried out or not, it has no reply, and what it exported is left to show
+  pub record Refuses (old : SessionState P S G) (command : Command) (new : SessionState P S G) : Type 0 where
+    pub asked : MayCarryOut calls sampler ids old.scope old.provider old.spans
+        (plain_command command) new.provider new.spans
+    pub rest : new ≡ record old { provider = new.provider; spans = new.spans }
+    pub keeps_batches : Grows (session_batches keeps old) (session_batches keeps new)
+
+  -- a beginning of the commands was carried out, each with its reply, and the one behind it was refused
+  pub record RunsBeginning (old : SessionState P S G) (commands : List Command) (before now : List PlainReply)
+      (new : SessionState P S G) : Type 0 where
+    pub done : List Command
+    pub refused : Command
+    pub left : List Command
+    pub middle : SessionState P S G
+    pub parts : commands ≡ done ++ refused ∷ left
+    pub ran : RunsAll old done before now middle
+    pub refuses : Refuses middle refused new
+
+  -- the same where the replies were written: none counts a refusal
+  pub record WritesAll (old : SessionState P S G) (commands : List Command) (before now : List ℕ)
+      (new : SessionState P S G) : Type 0 where
+    pub replies : List PlainReply
+    pub written : now ≡ before ++ replies_text replies
+    pub none_refused : NoneRefused replies
+    pub ran : RunsAll old commands [] replies new
+
+  pub record WritesBeginning (old : SessionState P S G) (commands : List Command) (before now : List ℕ)
+      (new : SessionState P S G) : Type 0 where
+    pub replies : List PlainReply
+    pub written : now ≡ before ++ replies_text replies
+    pub none_refused : NoneRefused replies
+    pub ran : RunsBeginning old commands [] replies new
+
+  -- a text was fed whole: its lines up to the first bad one spell the commands that were carried out
+  abbrev pub FeedsUpTo : SessionState P S G → List ℕ → Option ℕ → List ℕ → List ℕ → SessionState P S G → Type 0
+  FeedsUpTo old bytes bad_line before now new =
+      (commands : List Command) × TextSpells bytes (plain_commands commands) bad_line
+      × WritesAll old commands before now new
+
+  -- memory ran out: nothing was carried out of a text that says something, or a beginning of the commands that it spells
+  abbrev pub FeedsBeginning : SessionState P S G → List ℕ → List ℕ → List ℕ → SessionState P S G → Type 0
+  FeedsBeginning old bytes before now new = ((bytes ≢ []) × (now ≡ before) × (new ≡ old))
+      ⊎ ((commands : List Command) × (bad_line : Option ℕ) × TextSpells bytes (plain_commands commands) bad_line
+      × WritesBeginning old commands before now new)
+
+  -- what feeding a text does, by its answer
+  abbrev pub Feeds : {T : Type 0} → SessionState P S G → List ℕ → List ℕ → Result T FeedError → List ℕ
+      → SessionState P S G → Type 0
+  Feeds old bytes before (Ok _) now new = FeedsUpTo old bytes None before now new
+  Feeds old bytes before (Err (feeds.Line n)) now new = FeedsUpTo old bytes (Some n) before now new
+  Feeds old bytes before (Err feeds.Memory) now new = FeedsBeginning old bytes before now new
+
+  -- the lines of the spans that no reply has shown are appended, those exported by the shutdown among them; where there
+  -- is no memory for them, none is
+  pub record Closes (session : SessionState P S G) (before : List ℕ) (answer : Result (Unit {0}) OTelSdkError)
+      (now : List ℕ) : Type 0 where
+    pub provider : ProviderState P S G
+    pub shutdown : Result (Unit {0}) OTelSdkError
+    pub shuts : ShutsIfOpen calls session.provider 5_000_000_000 shutdown provider
+    pub writes : ((answer ≡ shutdown)
+        × (now ≡ before ++ span_lines (unshown keeps (record session { provider = provider }))))
+        ⊎ ((answer ≡ or_no_memory shutdown) × (now ≡ before)
+        × (unshown_batches keeps (record session { provider = provider }) ≢ []))
+
+  -- a text was fed to a session, whole or up to its first bad line, and the session closed well
+  pub record Finishes (session : SessionState P S G) (bytes : List ℕ) (bad_line : Option ℕ)
+      (now : List ℕ) : Type 0 where
+    pub written : List ℕ
+    pub after : SessionState P S G
+    pub feeds : FeedsUpTo session bytes bad_line [] written after
+    pub closes : Closes after written (Ok tt) now

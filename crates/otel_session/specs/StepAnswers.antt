@@ -1,0 +1,53 @@
+-- What lines of steps do to a batch queue over an exporter in memory, and the text that answers them.
+use Rattle.std.specs.Prelude.{◌≡◌, ◌⊎◌, ℕ, ◌+◌, List, [], ◌∷◌, ◌++◌, Option, Some, None, Ok}
+use Rattle.std.specs.Str.Lines.{lines}
+use Rattle.otel_batch.specs.PlainBatchConfig.{PlainBatchConfig, default_batch_config, cut_to_queue}
+use Rattle.otel_batch.specs.StoredBatches.{StoredBatches, StoresBatch, told_unless_lost}
+use Rattle.otel_batch.specs.MachineState.{Machine, first_machine}
+use Rattle.otel_batch.specs.MachineRun.{Stepped}
+use Rattle.otel_batch.specs.declared.machine.step.Outcome.{Outcome}
+use Rattle.otel_batch.specs.declared.trace.export.SpanExporter.{Ghosts}
+use Rattle.otel_session.specs.ReplyText.{line as ended}
+use Rattle.otel_session.specs.StepLines.{IsBadOrder, ReadsOrder}
+use Rattle.otel_session.specs.StepTexts.{outcome_text, state_text}
+use Rattle.otel_session.specs.declared.steps.lines.Order.{Order}
+use Rattle.otel_session.specs.declared.steps.lines.Order.TheVariants as orders
+use Rattle.otel_session.specs.declared.steps.Sizes.{Sizes}
+
+-- a new machine of these sizes: a batch has no more spans than may wait, and the exporter has no batch
+abbrev pub machine_of : Sizes → Machine StoredBatches
+machine_of sizes =
+    let config : PlainBatchConfig =
+    record default_batch_config { max_queue_size = sizes.queue; max_export_batch_size = sizes.batch } in
+    first_machine (record { batches = []; lost = 0 }) (cut_to_queue config) sizes.producers
+
+-- what an exporter in memory does at each call: an export stores its batch, and the others do nothing
+abbrev pub memory_calls : Ghosts StoredBatches
+memory_calls = record {
+  told = λ m. told_unless_lost m.lost m.batches;
+  export_gives = StoresBatch;
+  shutdown_gives = λ m _ answer after. (answer ≡ Ok tt) × (after ≡ m);
+  flush_gives = λ m answer after. (answer ≡ Ok tt) × (after ≡ m);
+  resource_gives = λ m _ after. after ≡ m;
+}
+
+-- what an order does, and its answer: a step is taken, and the question for the state changes nothing
+abbrev pub Obeys : Machine StoredBatches → Order → List ℕ → Machine StoredBatches → Type 0
+Obeys m (orders.Step step) text after =
+    (outcome : Outcome) × Stepped memory_calls m step outcome after × (text ≡ ended (outcome_text after.hand outcome))
+Obeys m orders.State text after = (after ≡ m) × (text ≡ ended (state_text m))
+
+-- what lines do, one by one up to the first bad one, and their answers. Empty lines are left out, but counted: so many
+-- lines stand before these
+abbrev pub ObeysEach : Machine StoredBatches → ℕ → List (List ℕ) → Option ℕ → List ℕ → Machine StoredBatches → Type 0
+ObeysEach m number [] bad_line text after = (bad_line ≡ None) × (text ≡ []) × (after ≡ m)
+ObeysEach m number ([] ∷ more) bad_line text after = ObeysEach m (number + 1) more bad_line text after
+ObeysEach m number ((b ∷ line) ∷ more) bad_line text after =
+    (IsBadOrder (b ∷ line) × (bad_line ≡ Some (number + 1)) × (text ≡ []) × (after ≡ m))
+    ⊎ ((order : Order) × (answer rest : List ℕ) × (next : Machine StoredBatches)
+    × ReadsOrder (b ∷ line) order × Obeys m order answer next
+    × ObeysEach next (number + 1) more bad_line rest after × (text ≡ answer ++ rest))
+
+-- what a text does to a machine, and the text that answers it
+abbrev pub AnswersLines : Machine StoredBatches → List ℕ → Option ℕ → List ℕ → Machine StoredBatches → Type 0
+AnswersLines m text bad_line answers after = ObeysEach m 0 (lines text) bad_line answers after

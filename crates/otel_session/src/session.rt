@@ -1,0 +1,424 @@
+//! A session: commands against one provider, each with a reply. What its commands deliver to the exporters is stated by
+//! the histories of its spans, apart from the code that fills them.
+
+ghost use Rattle.std.specs.Prelude.{◌≡◌, ◌++◌, [], drop, false, length, map, IfErr, IfOk, IsFalse, MatchResult, OnOk, OnErr, codes, string_bytes};
+ghost use Rattle.std.specs.List.{flat_map};
+ghost use Rattle.opentelemetry.specs.Plain.{text};
+ghost use Rattle.otel_batch.specs.PlainSpanData.{spans_in};
+ghost use Rattle.opentelemetry_sdk.specs.Provider.{scope_named};
+ghost use Rattle.opentelemetry_sdk.specs.SpanEdits.{plain_edit};
+ghost use Rattle.opentelemetry_sdk.specs.SpanHistory.{set_attribute};
+ghost use Rattle.otel_session.specs.Commands.{is_end, may_lose, plain_command};
+ghost use Rattle.otel_session.specs.AnswerText.{answer_line};
+ghost use Rattle.otel_session.specs.KeptBatches.{Grows};
+ghost use Rattle.otel_session.specs.PlainReply.{counts_refusals};
+ghost use Rattle.otel_session.specs.ReplyText.{span_lines};
+ghost use Rattle.otel_session.specs.SessionDelivery.{
+  CarriesOutOne,
+  Closes,
+  Feeds,
+  LosesNone,
+  MayCarryOut,
+  RefusesOne,
+  RunsAll,
+  RunsBeginning,
+  ShutsIfOpen,
+  WritesAll,
+  WritesBeginning,
+  bare_event,
+  batches_of_first,
+  call_answer,
+  losses_of_first,
+  or_no_memory,
+  session_batches,
+  session_losses,
+  unshown,
+};
+
+use crate::command::Command;
+use crate::exported::{KeepsBatches, batches_since, copied_spans};
+use crate::headers::remote_context;
+use crate::lines::parse;
+use crate::open_spans::OpenSpans;
+use crate::reply::{Answer, Reply};
+use crate::reply_text::{write_batches, write_reply};
+use opentelemetry::trace::Event;
+use opentelemetry::{Key, KeyValue, Moment, Value};
+use opentelemetry_sdk::trace::{ProviderOf, SdkTracer, SpanEdit, SpanProcessor};
+use otel_base::error::{OTelSdkError, OTelSdkResult};
+use otel_base::trace::{IdGenerator, ShouldSample};
+use otel_batch::trace::SpanData;
+use std::alloc::{AllocError, Global};
+use std::collections::VecDeque;
+use std::marker::Model;
+use thiserror::Error;
+
+/// Why a text was not carried out to its end.
+#[derive(Clone, Copy, Debug, PartialEq, Eq, Error)]
+pub enum FeedError {
+    /// The line of this number, from 1, is no command.
+    #[error("line {0}: cannot read")]
+    Line(u64),
+    /// There was no memory.
+    #[error("no memory")]
+    Memory,
+}
+
+/// The name of the library whose spans a session makes.
+const SCOPE_NAME: &str = "otel_trace";
+
+/// Commands against one provider. It must be spent by `close`.
+pub struct Session<P, S, G> {
+    provider: ProviderOf<P, S, G>,
+    tracer: SdkTracer,
+    spans: OpenSpans,
+    shown: usize,
+    alloc: Global,
+}
+
+impl<P, S, G> Model for Session<P, S, G> {
+    ghost use Rattle.otel_session.specs.SessionDelivery.{SessionState};
+
+    ghost Value = { SessionState P S G };
+
+    ghost view = { λ a. record { provider = a.provider; scope = a.tracer; spans = a.spans; shown = a.shown } };
+}
+
+fn tracer_of<P, S, G>(
+    alloc: Global,
+    provider: &ProviderOf<P, S, G>,
+) -> Result<SdkTracer, AllocError>
+    ensures { IfOk result (λ tracer. tracer ≡ scope_named (codes "otel_trace")) }
+{
+    provider.tracer(String::from_str(alloc, SCOPE_NAME)?)
+}
+
+impl<P: KeepsBatches, S: ShouldSample, G: IdGenerator> Session<P, S, G> {
+    /// A session with no spans. It shows no batch that is kept already. Where there is no memory for its scope, the
+    /// provider comes back.
+    pub fn new(
+        alloc: Global,
+        provider: ProviderOf<P, S, G>,
+    ) -> Result<Session<P, S, G>, (ProviderOf<P, S, G>, AllocError)>
+        ensures ok { IfOk result (λ session. session ≡ record {
+          provider = provider;
+          scope = scope_named (codes "otel_trace");
+          spans = [];
+          shown = length (batches_of_first P.KeepsBatches.own provider.processors);
+        }) }
+        ensures err { IfErr result (λ e. e.0 ≡ provider) }
+    {
+        let tracer = match tracer_of(alloc, &provider) {
+            Ok(tracer) => tracer,
+            Err(error) => return Err((provider, error)),
+        };
+        let shown = kept_by_first(provider.processors()).len();
+        Ok(Session {
+            provider,
+            tracer,
+            spans: OpenSpans::new(alloc),
+            shown,
+            alloc,
+        })
+    }
+
+    /// Carries commands out in order and appends a reply for each. Where memory runs out, also for the batch of a span
+    /// that the first processor exported, a beginning of the commands was carried out, each with its reply, except that
+    /// the last one may be without. A processor that refused a span is counted in the reply.
+    pub fn run(
+        &mut self,
+        commands: Vec<Command>,
+        replies: &mut Vec<Reply>,
+    ) -> Result<(), AllocError>
+        ensures ok { OnOk result (RunsAll P.SpanProcessor P.KeepsBatches.own S.ShouldSample G.IdGenerator
+            self.old commands.items replies.old.items replies.new.items self.new) }
+
+        // Where memory ran out.
+        ensures err { OnErr result (RunsBeginning P.SpanProcessor P.KeepsBatches.own S.ShouldSample G.IdGenerator
+            self.old commands.items replies.old.items replies.new.items self.new) }
+    {
+        let mut queue = VecDeque::from_vec(commands);
+        while let Some(command) = queue.pop_front() {
+            let answer = self.answer(command)?;
+            let exported = copied_spans(self.alloc, self.unshown())?;
+            replies.push(Reply { exported, answer })?;
+            self.mark_shown();
+        }
+        Ok(())
+    }
+
+    /// Carries out the commands that the lines of a text spell, up to the first line that is none, and appends the text
+    /// of each reply. `Line` names the first bad line, from 1 and with empty lines counted. `Memory` comes where memory
+    /// runs out, also where a processor refused a span for want of it, which no text tells: the output then has the
+    /// replies of a beginning of the commands, and at most one more command was carried out. What that one exported is
+    /// left for the next reply.
+    pub fn feed(&mut self, text: &[u8], output: &mut Vec<u8>) -> Result<(), FeedError>
+        ensures { Feeds P.SpanProcessor P.KeepsBatches.own S.ShouldSample G.IdGenerator self.old text.now
+            output.old.items result output.new.items self.new }
+    {
+        let Ok(script) = parse(self.alloc, text) else {
+            return Err(FeedError::Memory);
+        };
+        let Ok(()) = self.run_and_write(script.commands, output) else {
+            return Err(FeedError::Memory);
+        };
+        match script.bad_line {
+            None => Ok(()),
+            Some(line) => Err(FeedError::Line(line)),
+        }
+    }
+
+    /// Spends the session: its spans are abandoned, the provider is shut down where it is open, and the lines of the
+    /// spans that no reply has shown are appended. The answer is that of the shutdown, or `OutOfMemory` where that is
+    /// Ok and the lines found no memory.
+    pub fn close(self, output: &mut Vec<u8>) -> OTelSdkResult
+        ensures { Closes P.SpanProcessor P.KeepsBatches.own S.ShouldSample G.IdGenerator self output.old.items result
+            output.new.items }
+    {
+        let Session {
+            mut provider,
+            tracer: _,
+            spans,
+            shown,
+            alloc,
+        } = self;
+        spans.abandon();
+        let shutdown = shut_down(&mut provider);
+        let unshown = unshown_by_first(provider.processors(), shown);
+        let written = write_batches(alloc, output, unshown);
+        let _ = provider.close();
+        close_answer(shutdown, written)
+    }
+
+    /// Carries commands out in order, and appends the text of each reply before the next command. It stops behind a
+    /// command whose reply counts a refusal, or finds no memory.
+    fn run_and_write(
+        &mut self,
+        commands: Vec<Command>,
+        output: &mut Vec<u8>,
+    ) -> Result<(), AllocError>
+        ensures ok { OnOk result (WritesAll P.SpanProcessor P.KeepsBatches.own S.ShouldSample G.IdGenerator
+            self.old commands.items output.old.items output.new.items self.new) }
+        ensures err { OnErr result (WritesBeginning P.SpanProcessor P.KeepsBatches.own S.ShouldSample G.IdGenerator
+            self.old commands.items output.old.items output.new.items self.new) }
+    {
+        let mut queue = VecDeque::from_vec(commands);
+        let mut text = String::new(self.alloc);
+        while let Some(command) = queue.pop_front() {
+            let answer = self.answer(command)?;
+            self.write_unrefused(answer, &mut text, output)?;
+            self.mark_shown();
+        }
+        Ok(())
+    }
+
+    /// Writes a reply whose answer counts no refusal, or nothing. `text` is room for it.
+    fn write_unrefused(
+        &self,
+        answer: Answer,
+        text: &mut String,
+        output: &mut Vec<u8>,
+    ) -> Result<(), AllocError>
+        ensures ok { OnOk result ((counts_refusals answer ≡ false)
+            × (output.new.items ≡ output.old.items ++
+            (span_lines (unshown P.KeepsBatches.own self.now) ++ answer_line answer))) }
+        ensures err { OnErr result (output.new.items ≡ output.old.items) }
+    {
+        if answer.counts_refusals() {
+            return Err(AllocError);
+        }
+        write_reply(text, output, self.unshown(), answer)
+    }
+
+    /// Carries one command out. It is also an error where the first processor's exporter lost the batch of an ended
+    /// span. On an error the command was carried out or not, and what it exported is left for the next reply.
+    fn answer(&mut self, command: Command) -> Result<Answer, AllocError>
+        ensures ok { IfOk result (λ answer. CarriesOutOne P.SpanProcessor S.ShouldSample G.IdGenerator self.old.scope
+            self.old.provider self.old.spans
+            (plain_command command) answer self.new.provider self.new.spans) }
+        ensures loses_none { OnOk result (IsFalse (may_lose (plain_command command))
+            → LosesNone P.KeepsBatches.own self.old self.new) }
+        ensures err { OnErr result
+            (MayCarryOut P.SpanProcessor S.ShouldSample G.IdGenerator self.old.scope self.old.provider self.old.spans
+            (plain_command command) self.new.provider self.new.spans) }
+        ensures rest { self.new ≡ record self.old { provider = self.new.provider; spans = self.new.spans } }
+        ensures keeps { Grows (session_batches P.KeepsBatches.own self.old)
+            (session_batches P.KeepsBatches.own self.new) }
+    {
+        let ends_span = command.ends_span();
+        let lost = self.lost_batches();
+        let answer = self.carry_out(command)?;
+        if ends_span && self.lost_batches() != lost {
+            return Err(AllocError);
+        }
+        Ok(answer)
+    }
+
+    /// Carries one command out; a lost batch is no error.
+    fn carry_out(&mut self, command: Command) -> Result<Answer, AllocError>
+        ensures ok { IfOk result (λ answer. CarriesOutOne P.SpanProcessor S.ShouldSample G.IdGenerator self.old.scope
+            self.old.provider self.old.spans
+            (plain_command command) answer self.new.provider self.new.spans) }
+        ensures err { OnErr result
+            (RefusesOne P.SpanProcessor S.ShouldSample G.IdGenerator self.old.scope self.old.provider self.old.spans
+            (plain_command command) self.new.provider self.new.spans) }
+        ensures rest { self.new ≡ record self.old { provider = self.new.provider; spans = self.new.spans } }
+        ensures keeps { Grows (session_batches P.KeepsBatches.own self.old)
+            (session_batches P.KeepsBatches.own self.new) }
+        ensures loses { IsFalse (is_end (plain_command command)) → IsFalse (may_lose (plain_command command))
+            → LosesNone P.KeepsBatches.own self.old self.new }
+    {
+        carry_out(
+            self.alloc,
+            &self.tracer,
+            &mut self.provider,
+            &mut self.spans,
+            command,
+        )
+    }
+
+    /// The batches that the first processor's exporter keeps and no reply has shown.
+    fn unshown(&self) -> &[Vec<SpanData>]
+        ensures { flat_map (λ batch. batch.items) result.now ≡ unshown P.KeepsBatches.own self.now }
+    {
+        unshown_by_first(self.provider.processors(), self.shown)
+    }
+
+    /// How many batches of the first processor found no memory.
+    pub fn lost_batches(&self) -> u64
+        ensures { result ≡ session_losses P.KeepsBatches.own self.now }
+    {
+        lost_by_first(self.provider.processors())
+    }
+
+    /// A reply has shown what the first processor exported so far.
+    fn mark_shown(&mut self)
+        ensures { self.new ≡ record self.old { shown = length (session_batches P.KeepsBatches.own self.old) } }
+    {
+        self.shown = kept_by_first(self.provider.processors()).len();
+    }
+}
+
+/// Shuts the provider down where it is open.
+fn shut_down<P: SpanProcessor, S: Drop, G: Drop>(
+    provider: &mut ProviderOf<P, S, G>,
+) -> OTelSdkResult
+    ensures { ShutsIfOpen P.SpanProcessor provider.old 5_000_000_000 result provider.new }
+{
+    match provider.shutdown() {
+        Err(OTelSdkError::AlreadyShutdown) => Ok(()),
+        answer => answer,
+    }
+}
+
+/// What closing answers: what the shutdown did, and where that is Ok, whether the lines found memory.
+fn close_answer(shutdown: OTelSdkResult, written: Result<(), AllocError>) -> OTelSdkResult
+    ensures { MatchResult written (λ _. result ≡ shutdown) (λ _. result ≡ or_no_memory shutdown) }
+{
+    match (written, shutdown) {
+        (Err(_), Ok(())) => Err(OTelSdkError::OutOfMemory),
+        (_, shutdown) => shutdown,
+    }
+}
+
+/// The batches that the first of these processors keeps.
+fn kept_by_first<P: KeepsBatches>(processors: &[P]) -> &[Vec<SpanData>]
+    ensures { map (λ batch. batch.items) result.now ≡ batches_of_first P.KeepsBatches.own processors.now }
+{
+    match processors.first() {
+        Some(first) => first.batches(),
+        None => &[],
+    }
+}
+
+/// How many batches of the first of these processors found no memory.
+fn lost_by_first<P: KeepsBatches>(processors: &[P]) -> u64
+    ensures { result ≡ losses_of_first P.KeepsBatches.own processors.now }
+{
+    match processors.first() {
+        Some(first) => first.lost_batches(),
+        None => 0,
+    }
+}
+
+/// The batches that the first of these processors keeps behind those that were shown.
+fn unshown_by_first<P: KeepsBatches>(processors: &[P], shown: usize) -> &[Vec<SpanData>]
+    ensures { map (λ batch. batch.items) result.now
+        ≡ drop shown (batches_of_first P.KeepsBatches.own processors.now) }
+{
+    batches_since(kept_by_first(processors), shown)
+}
+
+/// The same on the parts of a session.
+fn carry_out<P: KeepsBatches, S: ShouldSample, G: IdGenerator>(
+    alloc: Global,
+    tracer: &SdkTracer,
+    provider: &mut ProviderOf<P, S, G>,
+    spans: &mut OpenSpans,
+    command: Command,
+) -> Result<Answer, AllocError>
+    ensures ok { IfOk result (λ answer. CarriesOutOne P.SpanProcessor S.ShouldSample G.IdGenerator tracer.now
+        provider.old spans.old
+        (plain_command command) answer provider.new spans.new) }
+    ensures err { OnErr result
+        (RefusesOne P.SpanProcessor S.ShouldSample G.IdGenerator tracer.now provider.old spans.old
+        (plain_command command) provider.new spans.new) }
+    ensures keeps { Grows (batches_of_first P.KeepsBatches.own provider.old.processors)
+        (batches_of_first P.KeepsBatches.own provider.new.processors) }
+    ensures loses { IsFalse (is_end (plain_command command)) → IsFalse (may_lose (plain_command command))
+        → losses_of_first P.KeepsBatches.own provider.new.processors
+        ≡ losses_of_first P.KeepsBatches.own provider.old.processors }
+{
+    match command {
+        Command::Start { span, name, moment } => spans.start(span, tracer, provider, name, moment),
+        Command::Child {
+            span,
+            parent,
+            name,
+            moment,
+        } => spans.start_child(span, parent.as_str(), tracer, provider, name, moment),
+        Command::Remote {
+            span,
+            traceparent,
+            name,
+            moment,
+        } => {
+            let cx = remote_context(alloc, traceparent)?;
+            spans.start_in(span, &cx, tracer, provider, name, moment)
+        }
+        Command::Attr { span, key, value } => spans.edit(span.as_str(), text_attribute(key, value)),
+        Command::Event { span, name, moment } => {
+            spans.edit(span.as_str(), event_without_attributes(alloc, name, moment))
+        }
+        Command::Status { span, status } => spans.edit(span.as_str(), SpanEdit::SetStatus(status)),
+        Command::Inject { span } => spans.inject(alloc, span.as_str()),
+        Command::End { span, moment } => spans.end(span.as_str(), provider, moment),
+        Command::Flush => Ok(answer_to_call(provider.force_flush())),
+        Command::Shutdown => Ok(answer_to_call(provider.shutdown())),
+    }
+}
+
+/// What is said of a call of the provider.
+fn answer_to_call(said: OTelSdkResult) -> Answer
+    ensures { result ≡ call_answer said }
+{
+    match said {
+        Ok(()) => Answer::Ok,
+        Err(error) => Answer::Failed(error),
+    }
+}
+
+/// The edit that adds an event without attributes.
+fn event_without_attributes(alloc: Global, name: String, moment: Moment) -> SpanEdit
+    ensures { plain_edit result ≡ bare_event (string_bytes name) moment.0 }
+{
+    SpanEdit::AddEvent(Event::new(name, moment, Vec::new(alloc), 0))
+}
+
+/// The edit that sets an attribute whose value is a text.
+fn text_attribute(key: String, value: String) -> SpanEdit
+    ensures { plain_edit result
+        ≡ set_attribute (record { key = string_bytes key; value = text (string_bytes value) }) }
+{
+    SpanEdit::SetAttribute(KeyValue::new(Key::new(key), Value::String(value)))
+}

@@ -1,0 +1,6 @@
+//! Tests of `otel_session`.
+
+mod lines;
+mod program;
+mod reply_text;
+mod session;

@@ -1,6 +1,0 @@
--- No start stands there.
-use Rattle.otel_trace.proofs.Fields.{only_start}
-use Rattle.otel_trace.proofs.lines.start_of.Goals as goal
-
-pub returns-in_default : goal.returns-in_default
-returns-in_default c = only_start c.args.fields.now c.in_default.ensures
