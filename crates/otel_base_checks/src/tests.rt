@@ -1,9 +1,9 @@
 //! Tests of `otel_base`.
 
-mod again;
 mod baggage;
 mod composite;
 mod config;
+mod crossing;
 mod error;
 mod id_generator;
 mod ratio;

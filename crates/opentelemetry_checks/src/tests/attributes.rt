@@ -56,20 +56,24 @@ fn a_key_shows_its_text(rt: HostRuntime) -> Result<(), Fail> {
     Ok(())
 }
 
+/// An attribute of this key that has these numbers.
+fn numbers(alloc: Global, name: &str, given: &[i64]) -> Result<KeyValue, Fail> {
+    let given = Array::I64(given.to_vec(alloc)?);
+    Ok(KeyValue::new(key(alloc, name)?, Value::Array(given)))
+}
+
+fn number(alloc: Global, name: &str, given: i64) -> Result<KeyValue, Fail> {
+    Ok(KeyValue::new(key(alloc, name)?, Value::I64(given)))
+}
+
 #[test]
 fn attributes_are_the_same_by_key_and_value(rt: HostRuntime) -> Result<(), Fail> {
-    let attribute = KeyValue::new(
-        key(rt.alloc(), "k")?,
-        Value::Array(Array::I64(vec![in rt.alloc(); 1, 2]?)),
-    );
+    let attribute = numbers(rt.alloc(), "k", &[1, 2])?;
     assert!(rt; attribute.clone()? == attribute);
     let others = [
-        KeyValue::new(key(rt.alloc(), "l")?, attribute.value.clone()?),
-        KeyValue::new(
-            key(rt.alloc(), "k")?,
-            Value::Array(Array::I64(vec![in rt.alloc(); 1]?)),
-        ),
-        KeyValue::new(key(rt.alloc(), "k")?, Value::I64(1)),
+        numbers(rt.alloc(), "l", &[1, 2])?,
+        numbers(rt.alloc(), "k", &[1])?,
+        number(rt.alloc(), "k", 1)?,
     ];
     for other in &others {
         assert!(rt; *other != attribute);

@@ -34,6 +34,29 @@ fn full(alloc: Global) -> Result<Baggage, AllocError> {
     Ok(baggage)
 }
 
+/// The name and the value of the first entry.
+fn first(baggage: &Baggage) -> Option<(&str, &str)> {
+    let (name, (value, _metadata)) = baggage.iter().next()?;
+    Some((name, value))
+}
+
+/// The value that a new one takes the place of.
+fn replaced(
+    baggage: &mut Baggage,
+    alloc: Global,
+    name: &str,
+    value: &str,
+) -> Result<Option<String>, Fail> {
+    let old = baggage.insert(text(alloc, name)?, text(alloc, value)?)?;
+    Ok(old.map(|(value, _metadata)| value))
+}
+
+/// The value of an entry that is removed.
+fn removed(baggage: &mut Baggage, name: &str) -> Option<String> {
+    let (value, _metadata) = baggage.remove(name)?;
+    Some(value)
+}
+
 #[test]
 fn a_65th_name_breaks_the_limit(rt: HostRuntime) -> Result<(), Fail> {
     let mut baggage = full(rt.alloc())?;
@@ -47,12 +70,9 @@ fn a_65th_name_breaks_the_limit(rt: HostRuntime) -> Result<(), Fail> {
 #[test]
 fn a_new_value_keeps_its_place(rt: HostRuntime) -> Result<(), Fail> {
     let mut baggage = full(rt.alloc())?;
-    let replaced = baggage.insert(text(rt.alloc(), "name0")?, text(rt.alloc(), "new")?)?;
-    let (old, _metadata) = replaced.ok_or("the old value")?;
-    assert_eq!(rt; old.as_str(), "vvv");
-    let (name, (value, _metadata)) = baggage.iter().next().ok_or("the first entry")?;
-    assert_eq!(rt; name, "name0");
-    assert_eq!(rt; value, "new");
+    let old = replaced(&mut baggage, rt.alloc(), "name0", "new")?;
+    assert_eq!(rt; old.ok_or("the old value")?.as_str(), "vvv");
+    assert_eq!(rt; first(&baggage), Some(("name0", "new")));
     Ok(())
 }
 
@@ -87,30 +107,40 @@ fn errors_say_what_went_wrong(rt: HostRuntime) -> Result<(), Fail> {
     Ok(())
 }
 
+/// Inserts a value with metadata under the name `k`, and says whether that is new.
+fn insert_whole(
+    baggage: &mut Baggage,
+    alloc: Global,
+    value: &str,
+    metadata: &str,
+) -> Result<bool, Fail> {
+    let metadata = BaggageMetadata::new(text(alloc, metadata)?);
+    let old = baggage.insert_with_metadata(text(alloc, "k")?, text(alloc, value)?, metadata)?;
+    Ok(old.is_none())
+}
+
+/// The value and the metadata under a name.
+fn whole<'a>(baggage: &'a Baggage, name: &str) -> Option<(&'a str, &'a str)> {
+    let (value, metadata) = baggage.get_with_metadata(name)?;
+    Some((value, metadata.as_str()))
+}
+
 #[test]
 fn metadata_stays_with_its_entry(rt: HostRuntime) -> Result<(), Fail> {
     let mut baggage = Baggage::new(rt.alloc());
-    let metadata = BaggageMetadata::new(text(rt.alloc(), "secret;v=2")?);
-    let new = baggage.insert_with_metadata(
-        text(rt.alloc(), "k")?,
-        text(rt.alloc(), "1")?,
-        metadata,
-    )?;
-    assert!(rt; new.is_none());
+    assert!(rt; insert_whole(&mut baggage, rt.alloc(), "1", "secret;v=2")?);
     let copy = baggage.clone()?;
-    let (value, metadata) = copy.get_with_metadata("k").ok_or("the entry")?;
-    assert_eq!(rt; value, "1");
-    assert_eq!(rt; metadata.as_str(), "secret;v=2");
+    assert_eq!(rt; whole(&copy, "k"), Some(("1", "secret;v=2")));
     Ok(())
 }
 
 #[test]
 fn the_others_keep_their_order(rt: HostRuntime) -> Result<(), Fail> {
     let mut baggage = full(rt.alloc())?;
-    let (value, _metadata) = baggage.remove("name0").ok_or("the removed entry")?;
+    let value = removed(&mut baggage, "name0").ok_or("the removed entry")?;
     assert_eq!(rt; value.as_str(), "vvv");
-    assert!(rt; baggage.remove("name0").is_none());
-    assert_eq!(rt; baggage.iter().next().ok_or("an entry")?.0, "name1");
+    assert!(rt; removed(&mut baggage, "name0").is_none());
+    assert_eq!(rt; first(&baggage), Some(("name1", "vvv")));
     Ok(())
 }
 

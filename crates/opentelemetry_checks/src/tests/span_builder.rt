@@ -7,13 +7,18 @@ fn attributes(alloc: Global) -> Result<Vec<KeyValue>, AllocError> {
     Ok(vec![in alloc; KeyValue::new(Key::from_static_str("k"), Value::I64(7))]?)
 }
 
-#[test]
-fn a_copy_of_a_builder_has_what_was_set(rt: HostRuntime) -> Result<(), Fail> {
-    let builder = SpanBuilder::from_name(String::from_str(rt.alloc(), "GET")?)
+/// A copy of a builder for which each of these was set.
+fn copied_builder(alloc: Global) -> Result<SpanBuilder, AllocError> {
+    SpanBuilder::from_name(String::from_str(alloc, "GET")?)
         .with_kind(SpanKind::Client)
         .with_start_time(Moment(9))
-        .with_attributes(attributes(rt.alloc())?);
-    let copy = builder.clone()?;
+        .with_attributes(attributes(alloc)?)
+        .clone()
+}
+
+#[test]
+fn a_copy_of_a_builder_has_what_was_set(rt: HostRuntime) -> Result<(), Fail> {
+    let copy = copied_builder(rt.alloc())?;
     assert_eq!(rt; copy.name.as_str(), "GET");
     assert_eq!(rt; copy.span_kind, Some(SpanKind::Client));
     assert_eq!(rt; copy.start_time, Some(Moment(9)));
@@ -22,23 +27,36 @@ fn a_copy_of_a_builder_has_what_was_set(rt: HostRuntime) -> Result<(), Fail> {
     Ok(())
 }
 
+fn event(alloc: Global) -> Result<Event, AllocError> {
+    let name = String::from_str(alloc, "e")?;
+    Ok(Event::new(name, Moment(5), attributes(alloc)?, 3))
+}
+
+fn link(alloc: Global) -> Result<Link, AllocError> {
+    Ok(Link::new(SpanContext::empty_context(), attributes(alloc)?, 4))
+}
+
 #[test]
 fn events_and_links_are_copied(rt: HostRuntime) -> Result<(), Fail> {
-    let name = String::from_str(rt.alloc(), "e")?;
-    let event = Event::new(name, Moment(5), attributes(rt.alloc())?, 3);
+    let event = event(rt.alloc())?;
     assert!(rt; event.clone()? == event);
-    let link = Link::new(SpanContext::empty_context(), attributes(rt.alloc())?, 4);
+    let link = link(rt.alloc())?;
     assert!(rt; link.clone()? == link);
     Ok(())
 }
 
+/// A copy of a scope for which each of these was set.
+fn copied_scope(alloc: Global) -> Result<InstrumentationScope, AllocError> {
+    InstrumentationScope::builder(alloc, String::from_str(alloc, "lib")?)
+        .with_version(String::from_str(alloc, "1.2")?)
+        .with_attributes(attributes(alloc)?)
+        .build()?
+        .clone()
+}
+
 #[test]
 fn a_copy_of_a_scope_has_what_was_set(rt: HostRuntime) -> Result<(), Fail> {
-    let scope = InstrumentationScope::builder(rt.alloc(), String::from_str(rt.alloc(), "lib")?)
-        .with_version(String::from_str(rt.alloc(), "1.2")?)
-        .with_attributes(attributes(rt.alloc())?)
-        .build()?
-        .clone()?;
+    let scope = copied_scope(rt.alloc())?;
     assert_eq!(rt; scope.name(), "lib");
     assert_eq!(rt; scope.version(), Some("1.2"));
     assert_eq!(rt; scope.schema_url(), None);

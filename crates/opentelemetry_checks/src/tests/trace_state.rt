@@ -88,12 +88,38 @@ fn takes_any_number_of_members(rt: HostRuntime) -> Result<(), Fail> {
     Ok(())
 }
 
+/// What a trace state says once a pair is in front of it.
+fn inserted(
+    alloc: Global,
+    state: &TraceState,
+    key: &str,
+    value: &str,
+) -> Result<Result<String, TraceStateError>, Fail> {
+    match state.insert(alloc, text(alloc, key)?, text(alloc, value)?) {
+        Ok(state) => Ok(Ok(state.header(alloc)?)),
+        Err(error) => Ok(Err(error)),
+    }
+}
+
+/// What a trace state says without the members of a key.
+fn deleted(
+    alloc: Global,
+    state: &TraceState,
+    key: &str,
+) -> Result<Result<String, TraceStateError>, Fail> {
+    match state.delete(alloc, key) {
+        Ok(state) => Ok(Ok(state.header(alloc)?)),
+        Err(error) => Ok(Err(error)),
+    }
+}
+
 #[test]
 fn an_empty_key_is_refused(rt: HostRuntime) -> Result<(), Fail> {
-    let state = TraceState::new();
-    assert_eq!(rt; state.get(""), None);
-    let nameless = state.insert(rt.alloc(), text(rt.alloc(), "")?, text(rt.alloc(), "4")?);
-    assert_eq!(rt; nameless.err(), Some(TraceStateError::Key));
+    assert_eq!(rt; TraceState::new().get(""), None);
+    assert_eq!(rt;
+        inserted(rt.alloc(), &TraceState::new(), "", "4")?,
+        Err(TraceStateError::Key)
+    );
     Ok(())
 }
 
@@ -125,13 +151,13 @@ fn finds_inserts_and_deletes(rt: HostRuntime) -> Result<(), Fail> {
     let state = TraceState::from_str(rt.alloc(), "a=1,b=2,a=3")?;
     assert_eq!(rt; state.get("a"), Some("1"));
     assert_eq!(rt; state.get("c"), None);
-    let inserted = state.insert(rt.alloc(), text(rt.alloc(), "a")?, text(rt.alloc(), "4")?)?;
-    assert_eq!(rt; inserted.header(rt.alloc())?.as_str(), "a=4,b=2");
-    let deleted = state.delete(rt.alloc(), "b")?;
-    assert_eq!(rt; deleted.header(rt.alloc())?.as_str(), "a=1,a=3");
+    let with_another = inserted(rt.alloc(), &state, "a", "4")??;
+    assert_eq!(rt; with_another.as_str(), "a=4,b=2");
+    let without_one = deleted(rt.alloc(), &state, "b")??;
+    assert_eq!(rt; without_one.as_str(), "a=1,a=3");
     assert_eq!(rt;
-        state.delete(rt.alloc(), "B").err(),
-        Some(TraceStateError::Key)
+        deleted(rt.alloc(), &state, "B")?,
+        Err(TraceStateError::Key)
     );
     Ok(())
 }

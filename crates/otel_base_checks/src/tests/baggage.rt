@@ -1,9 +1,9 @@
 //! Tables of headers. A baggage is shown as its members in order, each with a bar behind it.
 
-use super::again::carried;
+use super::crossing::{carried, carrier_of, extracted, inject};
 use opentelemetry::Context;
 use opentelemetry::baggage::{Baggage, BaggageMetadata};
-use opentelemetry::propagation::{Extractor, Injector, MapCarrier, TextMapPropagator};
+use opentelemetry::propagation::{Extractor, TextMapPropagator};
 use otel_base::propagation::BaggagePropagator;
 use std::alloc::{AllocError, Global};
 use std::test::Fail;
@@ -31,14 +31,16 @@ fn baggage_of(alloc: Global, entries: &[(&str, &str, &str)]) -> Result<Baggage, 
     Ok(baggage)
 }
 
+/// A context with a baggage of these entries.
+fn context_of(alloc: Global, entries: &[(&str, &str, &str)]) -> Result<Context, Fail> {
+    Ok(Context::new().with_baggage(baggage_of(alloc, entries)?)?)
+}
+
 /// What a context with the baggage `old=1` has, when this header was extracted. An absent one is not set.
 fn found(alloc: Global, header: Option<&str>) -> Result<String, Fail> {
-    let mut carrier = MapCarrier::new(alloc);
-    if let Some(header) = header {
-        carrier.set("baggage", String::from_str(alloc, header)?)?;
-    }
-    let cx = Context::new().with_baggage(baggage_of(alloc, &[("old", "1", "")])?)?;
-    let cx = BaggagePropagator::new().extract_with_context(alloc, &cx, &carrier)?;
+    let carrier = carrier_of(alloc, &[("baggage", header)])?;
+    let cx = context_of(alloc, &[("old", "1", "")])?;
+    let cx = extracted::<BaggagePropagator>(alloc, &cx, &carrier)?;
     Ok(shown(alloc, cx.baggage())?)
 }
 
@@ -47,12 +49,12 @@ fn reads_as(alloc: Global, header: &str, members: &str) -> Result<bool, Fail> {
     Ok(found(alloc, Some(header))?.as_str() == members)
 }
 
-/// The header that is injected; `none` where none is.
-fn injected(alloc: Global, baggage: Baggage) -> Result<String, AllocError> {
-    let mut carrier = MapCarrier::new(alloc);
-    let cx = Context::new().with_baggage(baggage)?;
-    BaggagePropagator::default().inject_context(alloc, &cx, &mut carrier)?;
-    String::from_str(alloc, carrier.get("baggage").unwrap_or("none"))
+/// The header that a baggage of these entries is injected as; `none` where none is.
+fn injected(alloc: Global, entries: &[(&str, &str, &str)]) -> Result<String, Fail> {
+    let cx = context_of(alloc, entries)?;
+    let mut carrier = carrier_of(alloc, &[])?;
+    inject::<BaggagePropagator>(alloc, &cx, &mut carrier)?;
+    Ok(String::from_str(alloc, carrier.get("baggage").unwrap_or("none"))?)
 }
 
 /// A front, and behind it so many of a text.
@@ -175,8 +177,7 @@ fn counts_members_that_do_not_read(rt: HostRuntime) -> Result<(), Fail> {
 
 /// Whether these entries are written as this header.
 fn writes(alloc: Global, entries: &[(&str, &str, &str)], header: &str) -> Result<bool, Fail> {
-    let baggage = baggage_of(alloc, entries)?;
-    Ok(injected(alloc, baggage)?.as_str() == header)
+    Ok(injected(alloc, entries)?.as_str() == header)
 }
 
 #[test]
@@ -199,7 +200,7 @@ fn writes_members_in_order(rt: HostRuntime) -> Result<(), Fail> {
 /// How long the header of a value of so many commas is, and how much is shown of what is read of it.
 fn commas_across(alloc: Global, count: usize) -> Result<(usize, usize), Fail> {
     let commas = repeated(alloc, "", ",", count)?;
-    let header = injected(alloc, baggage_of(alloc, &[("a", commas.as_str(), "")])?)?;
+    let header = injected(alloc, &[("a", commas.as_str(), "")])?;
     Ok((header.len(), found(alloc, Some(header.as_str()))?.len()))
 }
 
@@ -219,8 +220,7 @@ fn raw_metadata_is_read_percent_decoded(rt: HostRuntime) -> Result<(), Fail> {
 /// `rt try --test --fail-alloc N` has the Nth allocation refused: then the call that wanted it is made again.
 #[test]
 fn refused_calls_succeed_again(rt: HostRuntime) -> Result<(), Fail> {
-    let baggage = baggage_of(rt.alloc(), &[("a", "50%", "m"), ("b", "2", "")])?;
-    let cx = Context::new().with_baggage(baggage)?;
+    let cx = context_of(rt.alloc(), &[("a", "50%", "m"), ("b", "2", "")])?;
     let Some(other) = carried::<BaggagePropagator>(rt.alloc(), &cx, "baggage")? else {
         return Err(Fail::new("a header was left"));
     };

@@ -1,7 +1,8 @@
 //! Two propagators as one.
 
+use super::crossing::{carrier_of, extracted, inject};
 use opentelemetry::baggage::Baggage;
-use opentelemetry::propagation::{Extractor, FieldIter, Injector, MapCarrier, TextMapPropagator};
+use opentelemetry::propagation::{Extractor, FieldIter, TextMapPropagator};
 use opentelemetry::trace::{SpanContext, TraceState};
 use opentelemetry::{Context, SpanId, TraceFlags, TraceId};
 use otel_base::propagation::{
@@ -9,6 +10,12 @@ use otel_base::propagation::{
 };
 use std::alloc::{AllocError, Global};
 use std::test::Fail;
+
+/// The pair that is the default.
+type BuiltIn = CompositePropagator<TraceContextPropagator, BaggagePropagator>;
+
+/// The built-in ones, turned round.
+type Turned = CompositePropagator<BaggagePropagator, TraceContextPropagator>;
 
 /// The names of a propagator's fields, each with a bar behind it.
 fn names(alloc: Global, fields: FieldIter) -> Result<String, AllocError> {
@@ -20,61 +27,76 @@ fn names(alloc: Global, fields: FieldIter) -> Result<String, AllocError> {
     Ok(text)
 }
 
-#[test]
-fn the_built_in_ones_set_and_read_three_headers(rt: HostRuntime) -> Result<(), Fail> {
-    let alloc = rt.alloc();
-    let both = CompositePropagator::default();
+/// A baggage of one entry.
+fn one_entry(alloc: Global) -> Result<Baggage, Fail> {
     let mut baggage = Baggage::new(alloc);
     let _ = baggage.insert(String::from_str(alloc, "k")?, String::from_str(alloc, "v")?)?;
-    let state = TraceState::from_str(alloc, "a=1")?;
-    let span_context = SpanContext::new(
+    Ok(baggage)
+}
+
+/// A sampled span context with a trace state.
+fn sampled(alloc: Global) -> Result<SpanContext, Fail> {
+    Ok(SpanContext::new(
         TraceId::from(1),
         SpanId::from(2),
         TraceFlags::SAMPLED,
         false,
-        state,
-    );
-    let cx = Context::new()
-        .with_span_context(span_context)?
-        .with_baggage(baggage)?;
-    let mut carrier = MapCarrier::new(alloc);
-    both.inject_context(alloc, &cx, &mut carrier)?;
+        TraceState::from_str(alloc, "a=1")?,
+    ))
+}
+
+/// A context with both.
+fn context_of_both(alloc: Global) -> Result<Context, Fail> {
+    let cx = Context::new().with_span_context(sampled(alloc)?)?;
+    Ok(cx.with_baggage(one_entry(alloc)?)?)
+}
+
+#[test]
+fn the_built_in_ones_set_and_read_three_headers(rt: HostRuntime) -> Result<(), Fail> {
+    let alloc = rt.alloc();
+    let mut carrier = carrier_of(alloc, &[])?;
+    inject::<BuiltIn>(alloc, &context_of_both(alloc)?, &mut carrier)?;
     let parent = "00-00000000000000000000000000000001-0000000000000002-01";
     assert_eq!(rt; carrier.get("traceparent"), Some(parent));
     assert_eq!(rt; carrier.get("tracestate"), Some("a=1"));
     assert_eq!(rt; carrier.get("baggage"), Some("k=v"));
-    let found = both.extract_with_context(alloc, &Context::new(), &carrier)?;
+    let found = extracted::<BuiltIn>(alloc, &Context::new(), &carrier)?;
     assert!(rt; found.has_active_span());
     assert_eq!(rt; found.baggage().get("k"), Some("v"));
+    Ok(())
+}
+
+#[test]
+fn the_built_in_ones_name_three_headers(rt: HostRuntime) -> Result<(), Fail> {
     assert_eq!(rt;
-        names(alloc, both.fields())?.as_str(),
+        names(rt.alloc(), BuiltIn::default().fields())?.as_str(),
         "traceparent|tracestate|baggage|"
     );
     Ok(())
 }
 
+fn turned(fields: &'static [&'static str]) -> Result<Turned, FieldsError> {
+    CompositePropagator::new(
+        BaggagePropagator::new(),
+        TraceContextPropagator::new(),
+        fields,
+    )
+}
+
+/// The same, and the first of them once more.
+fn three(
+    fields: &'static [&'static str],
+) -> Result<CompositePropagator<Turned, BaggagePropagator>, FieldsError> {
+    CompositePropagator::new(turned(fields)?, BaggagePropagator::new(), fields)
+}
+
 #[test]
 fn fields_are_each_propagators_own_in_their_order(rt: HostRuntime) -> Result<(), Fail> {
     let alloc = rt.alloc();
-    let (spans, baggages) = (TraceContextPropagator::new(), BaggagePropagator::new());
-    let turned = CompositePropagator::new(
-        baggages,
-        spans,
-        &["baggage", "traceparent", "tracestate"],
-    )?;
-    assert_eq!(rt;
-        names(alloc, turned.fields())?.as_str(),
-        "baggage|traceparent|tracestate|"
-    );
-    let thrice = CompositePropagator::new(
-        turned,
-        baggages,
-        &["baggage", "traceparent", "tracestate"],
-    )?;
-    assert_eq!(rt;
-        names(alloc, thrice.fields())?.as_str(),
-        "baggage|traceparent|tracestate|"
-    );
+    let fields: &'static [&'static str] = &["baggage", "traceparent", "tracestate"];
+    let shown = "baggage|traceparent|tracestate|";
+    assert_eq!(rt; names(alloc, turned(fields)?.fields())?.as_str(), shown);
+    assert_eq!(rt; names(alloc, three(fields)?.fields())?.as_str(), shown);
     let refused: [&'static [&'static str]; 4] = [
         &["traceparent", "tracestate", "baggage"],
         &["baggage", "traceparent"],
@@ -82,8 +104,7 @@ fn fields_are_each_propagators_own_in_their_order(rt: HostRuntime) -> Result<(),
         &[],
     ];
     for fields in refused {
-        let answer = CompositePropagator::new(baggages, spans, fields);
-        assert_eq!(rt; answer.err(), Some(FieldsError));
+        assert_eq!(rt; turned(fields).err(), Some(FieldsError));
     }
     Ok(())
 }

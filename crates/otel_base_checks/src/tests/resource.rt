@@ -265,8 +265,48 @@ fn of_kinds(alloc: Global) -> Result<Resource, AllocError> {
     )
 }
 
-fn value_of(alloc: Global, resource: &Resource, key: &str) -> Result<Option<Value>, AllocError> {
-    resource.get(&Key::new(String::from_str(alloc, key)?))
+/// Whether a resource gives this back for a key.
+fn gives(
+    alloc: Global,
+    resource: &Resource,
+    key: &str,
+    value: Option<Value>,
+) -> Result<bool, AllocError> {
+    let found = resource.get(&Key::new(String::from_str(alloc, key)?))?;
+    Ok(found == value)
+}
+
+fn at_once(alloc: Global, count: u8) -> Result<Resource, AllocError> {
+    let pairs = many_pairs(alloc, count)?;
+    Ok(
+        Resource::builder_empty(alloc)
+            .with_attributes(pairs)?
+            .build(),
+    )
+}
+
+/// How many attributes are built of so many members, and how many of them are detected.
+fn counts_of_members(alloc: Global, count: u8) -> Result<(usize, usize), AllocError> {
+    let strings = strings_of(
+        alloc,
+        None,
+        Some(many_members(alloc, count)?.as_str()),
+        None,
+    )?;
+    let built = built_count(alloc, &strings.clone()?)?;
+    Ok((built, detected_count(&strings)?))
+}
+
+fn built_count(alloc: Global, strings: &ResourceStrings) -> Result<usize, AllocError> {
+    Ok(Resource::builder(alloc, strings)?.build().len())
+}
+
+fn detected_count(strings: &ResourceStrings) -> Result<usize, AllocError> {
+    Ok(EnvResourceDetector::new(strings)?.detect()?.len())
+}
+
+fn telemetry_count(alloc: Global) -> Result<usize, AllocError> {
+    Ok(TelemetryResourceDetector::new(alloc).detect()?.len())
 }
 
 #[test]
@@ -475,29 +515,22 @@ fn values_of_each_kind_are_given_back(rt: HostRuntime) -> Result<(), Fail> {
     let resource = of_kinds(alloc)?;
     let list = Value::Array(Array::I64([1, 2].to_vec(alloc)?));
     let empty = Value::String(String::new(alloc));
-    assert!(rt; value_of(alloc, &resource, "truth")? == Some(Value::Bool(true)));
-    assert!(rt; value_of(alloc, &resource, "list")? == Some(list));
-    assert!(rt; value_of(alloc, &resource, "")? == Some(empty));
-    assert!(rt; value_of(alloc, &resource, "absent")? == None);
+    assert!(rt; gives(alloc, &resource, "truth", Some(Value::Bool(true)))?);
+    assert!(rt; gives(alloc, &resource, "list", Some(list))?);
+    assert!(rt; gives(alloc, &resource, "", Some(empty))?);
+    assert!(rt; gives(alloc, &resource, "absent", None)?);
     Ok(())
 }
 
 #[test]
 fn many_attributes_are_kept(rt: HostRuntime) -> Result<(), Fail> {
     let alloc = rt.alloc();
-    let at_once = Resource::builder_empty(alloc)
-        .with_attributes(many_pairs(alloc, 33)?)?
-        .build();
+    let at_once = at_once(alloc, 33)?;
     assert!(rt; at_once == one_by_one(alloc, 33)?);
     assert_eq!(rt; at_once.len(), 33);
-    assert!(rt; value_of(alloc, &at_once, "key32")? == Some(Value::I64(32)));
-    let strings = strings_of(alloc, None, Some(many_members(alloc, 33)?.as_str()), None)?;
-    assert_eq!(rt;
-        Resource::builder(alloc, &strings.clone()?)?.build().len(),
-        37
-    );
-    assert_eq!(rt; EnvResourceDetector::new(&strings)?.detect()?.len(), 33);
-    assert_eq!(rt; TelemetryResourceDetector::new(alloc).detect()?.len(), 3);
+    assert!(rt; gives(alloc, &at_once, "key32", Some(Value::I64(32)))?);
+    assert_eq!(rt; counts_of_members(alloc, 33)?, (37, 33));
+    assert_eq!(rt; telemetry_count(alloc)?, 3);
     Ok(())
 }
 

@@ -58,6 +58,28 @@ fn parent_of(alloc: Global, trace_flags: TraceFlags) -> Result<Context, Fail> {
     Ok(Context::new().with_span_context(span_context)?)
 }
 
+fn of_empty_span() -> Result<Context, AllocError> {
+    Context::new().with_span_context(SpanContext::empty_context())
+}
+
+/// The contexts that a span can start in.
+#[derive(Drop)]
+struct Parents {
+    sampled: Context,
+    dropped: Context,
+    no_span: Context,
+    empty_span: Context,
+}
+
+fn four_parents(alloc: Global) -> Result<Parents, Fail> {
+    Ok(Parents {
+        sampled: parent_of(alloc, TraceFlags::SAMPLED)?,
+        dropped: parent_of(alloc, TraceFlags::new(0xfe))?,
+        no_span: Context::new(),
+        empty_span: of_empty_span()?,
+    })
+}
+
 fn ask(
     sampler: &Tree,
     parent_context: Option<&Context>,
@@ -120,18 +142,33 @@ fn all_decide(
 fn decides_by_the_parent_and_passes_its_trace_state_on(rt: HostRuntime) -> Result<(), Fail> {
     let alloc = rt.alloc();
     let (on, off) = (SamplingDecision::RecordAndSample, SamplingDecision::Drop);
-    let sampled = parent_of(alloc, TraceFlags::SAMPLED)?;
-    let dropped = parent_of(alloc, TraceFlags::new(0xfe))?;
-    let no_span = Context::new();
-    let empty_span = no_span.with_span_context(SpanContext::empty_context())?;
+    let parents = four_parents(alloc)?;
     let over_on = over(alloc, Tree::AlwaysOn)?;
     let over_off = over(alloc, over(alloc, Tree::AlwaysOff)?)?;
     let cases = [
         ("no parent context", None, on, off, ""),
-        ("no active span", Some(&no_span), on, off, ""),
-        ("the empty span context", Some(&empty_span), off, off, ""),
-        ("a sampled parent", Some(&sampled), on, on, "foo=bar"),
-        ("other flags alone", Some(&dropped), off, off, "foo=bar"),
+        ("no active span", Some(&parents.no_span), on, off, ""),
+        (
+            "the empty span context",
+            Some(&parents.empty_span),
+            off,
+            off,
+            "",
+        ),
+        (
+            "a sampled parent",
+            Some(&parents.sampled),
+            on,
+            on,
+            "foo=bar",
+        ),
+        (
+            "other flags alone",
+            Some(&parents.dropped),
+            off,
+            off,
+            "foo=bar",
+        ),
     ];
     for (case, parent, from_over_on, from_over_off, state) in cases {
         let of_parents = [(&over_on, from_over_on), (&over_off, from_over_off)];
@@ -166,10 +203,9 @@ fn samples(sampler: &Tree, parent_context: Option<&Context>, low: u64) -> Option
 
 #[test]
 fn a_ratio_decides_by_the_trace_id_alone(rt: HostRuntime) -> Result<(), Fail> {
-    let sampled = parent_of(rt.alloc(), TraceFlags::SAMPLED)?;
-    let dropped = parent_of(rt.alloc(), TraceFlags::default())?;
+    let parents = four_parents(rt.alloc())?;
     let sampler = Tree::TraceIdRatioBased(Ratio::new(1, 4)?);
-    for parent in [None, Some(&sampled), Some(&dropped)] {
+    for parent in [None, Some(&parents.sampled), Some(&parents.dropped)] {
         assert_eq!(rt; samples(&sampler, parent, (1 << 62) - 1), Some(true));
         assert_eq!(rt; samples(&sampler, parent, 1 << 62), Some(false));
     }
@@ -178,12 +214,14 @@ fn a_ratio_decides_by_the_trace_id_alone(rt: HostRuntime) -> Result<(), Fail> {
 
 #[test]
 fn a_ratio_decides_at_roots_where_parents_come_first(rt: HostRuntime) -> Result<(), Fail> {
-    let sampled = parent_of(rt.alloc(), TraceFlags::SAMPLED)?;
-    let dropped = parent_of(rt.alloc(), TraceFlags::default())?;
+    let parents = four_parents(rt.alloc())?;
     let sampler = over(rt.alloc(), Tree::TraceIdRatioBased(Ratio::new(1, 4)?))?;
     assert_eq!(rt; samples(&sampler, None, 1 << 62), Some(false));
-    assert_eq!(rt; samples(&sampler, Some(&sampled), 1 << 62), Some(true));
-    assert_eq!(rt; samples(&sampler, Some(&dropped), 0), Some(false));
+    assert_eq!(rt;
+        samples(&sampler, Some(&parents.sampled), 1 << 62),
+        Some(true)
+    );
+    assert_eq!(rt; samples(&sampler, Some(&parents.dropped), 0), Some(false));
     Ok(())
 }
 
@@ -202,9 +240,8 @@ fn a_custom_sampler_answers_whole(rt: HostRuntime) -> Result<(), Fail> {
     let alloc = rt.alloc();
     let sampler = Tree::Custom(Own { alloc });
     let whole = own_answer(alloc)?;
-    let sampled = parent_of(alloc, TraceFlags::SAMPLED)?;
-    let no_span = Context::new();
-    for parent in [None, Some(&no_span), Some(&sampled)] {
+    let parents = four_parents(alloc)?;
+    for parent in [None, Some(&parents.no_span), Some(&parents.sampled)] {
         assert!(rt; answers_as(&sampler, parent, &whole)?);
     }
     Ok(())
@@ -231,12 +268,11 @@ fn the_decision_of_a_delegate_counts_alone(rt: HostRuntime) -> Result<(), Fail> 
     let alloc = rt.alloc();
     let sampler = over(alloc, Tree::Custom(Own { alloc }))?;
     let decision = without_attributes(alloc, SamplingDecision::RecordOnly, "")?;
-    let sampled = parent_of(alloc, TraceFlags::SAMPLED)?;
-    let no_span = Context::new();
-    for parent in [None, Some(&no_span)] {
+    let parents = four_parents(alloc)?;
+    for parent in [None, Some(&parents.no_span)] {
         assert!(rt; answers_as(&sampler, parent, &decision)?);
     }
-    assert!(rt; !answers_as(&sampler, Some(&sampled), &decision)?);
+    assert!(rt; !answers_as(&sampler, Some(&parents.sampled), &decision)?);
     Ok(())
 }
 
@@ -278,11 +314,10 @@ fn child_decision(sampler: &Tree, parent: &Context) -> Result<SamplingDecision, 
 
 /// The same on a root, on the child of a sampled span, and on that of another one.
 fn copy_decisions(alloc: Global, sampler: &Tree) -> Result<[SamplingDecision; 3], Fail> {
-    let sampled = parent_of(alloc, TraceFlags::SAMPLED)?;
-    let dropped = parent_of(alloc, TraceFlags::default())?;
+    let parents = four_parents(alloc)?;
     let root = root_decision(sampler)?;
-    let child = child_decision(sampler, &sampled)?;
-    let other = child_decision(sampler, &dropped)?;
+    let child = child_decision(sampler, &parents.sampled)?;
+    let other = child_decision(sampler, &parents.dropped)?;
     Ok([root, child, other])
 }
 

@@ -1,7 +1,7 @@
 //! Tables of headers. `T` and `S` are the ids of the example in W3C Trace Context, section 3.2.3.
 
-use super::again::carried;
-use opentelemetry::propagation::{Extractor, Injector, MapCarrier, TextMapPropagator};
+use super::crossing::{carried, carrier_of, extracted, inject};
+use opentelemetry::propagation::{Extractor, TextMapPropagator};
 use opentelemetry::trace::{SpanContext, TraceState};
 use opentelemetry::{Context, SpanId, TraceFlags, TraceId};
 use otel_base::propagation::TraceContextPropagator;
@@ -12,19 +12,14 @@ const T: u128 = 0x4bf92f3577b34da6a3ce929d0e0e4736;
 
 const S: u64 = 0x00f067aa0ba902b7;
 
-/// The context that is extracted from these headers. An absent one is not set.
-fn extracted(alloc: Global, parent: &str, state: Option<&str>) -> Result<Context, AllocError> {
-    let mut carrier = MapCarrier::new(alloc);
-    carrier.set("traceparent", String::from_str(alloc, parent)?)?;
-    if let Some(state) = state {
-        carrier.set("tracestate", String::from_str(alloc, state)?)?;
-    }
-    TraceContextPropagator::new().extract_with_context(alloc, &Context::new(), &carrier)
-}
-
-/// What is extracted, as `IDS FLAGS REMOTE STATE`; nothing where the context stays without a span.
+/// What is extracted, as `IDS FLAGS REMOTE STATE`; nothing where the context stays without a span. An absent header is
+/// not set.
 fn found(alloc: Global, parent: &str, state: Option<&str>) -> Result<String, AllocError> {
-    let cx = extracted(alloc, parent, state)?;
+    let carrier = carrier_of(
+        alloc,
+        &[("traceparent", Some(parent)), ("tracestate", state)],
+    )?;
+    let cx = extracted::<TraceContextPropagator>(alloc, &Context::new(), &carrier)?;
     if !cx.has_active_span() {
         return Ok(String::new(alloc));
     }
@@ -40,19 +35,27 @@ fn shown(alloc: Global, span_context: &SpanContext) -> Result<String, AllocError
     format!(in alloc; "{trace_id}-{span_id} {flags} {remote} {state}")
 }
 
+/// A context with a span of these ids.
+fn context_with(
+    trace: u128,
+    span: u64,
+    flags: u8,
+    state: TraceState,
+) -> Result<Context, AllocError> {
+    let (trace, span) = (TraceId::from(trace), SpanId::from(span));
+    let span_context = SpanContext::new(trace, span, TraceFlags::new(flags), false, state);
+    Context::new().with_span_context(span_context)
+}
+
 /// A context with a span of the ids `T` and `S`.
 fn context_of(alloc: Global, flags: u8, state: &str) -> Result<Context, Fail> {
-    let state = TraceState::from_str(alloc, state)?;
-    let flags = TraceFlags::new(flags);
-    let span_context = SpanContext::new(TraceId::from(T), SpanId::from(S), flags, false, state);
-    Ok(Context::new().with_span_context(span_context)?)
+    Ok(context_with(T, S, flags, TraceState::from_str(alloc, state)?)?)
 }
 
 /// What a carrier with an older trace state has after an injection.
 fn injected(alloc: Global, cx: &Context) -> Result<String, AllocError> {
-    let mut carrier = MapCarrier::new(alloc);
-    carrier.set("tracestate", String::from_str(alloc, "old=1")?)?;
-    TraceContextPropagator::new().inject_context(alloc, cx, &mut carrier)?;
+    let mut carrier = carrier_of(alloc, &[("tracestate", Some("old=1"))])?;
+    inject::<TraceContextPropagator>(alloc, cx, &mut carrier)?;
     let parent = carrier.get("traceparent").unwrap_or("none");
     let state = carrier.get("tracestate").unwrap_or("none");
     format!(in alloc; "{parent} {state}")
@@ -247,11 +250,8 @@ fn an_unreadable_trace_state_counts_as_empty(rt: HostRuntime) -> Result<(), Fail
 
 /// What is extracted where a span is active, as `IDS FLAGS REMOTE STATE`. An absent header is not set.
 fn found_over(alloc: Global, cx: &Context, parent: Option<&str>) -> Result<String, AllocError> {
-    let mut carrier = MapCarrier::new(alloc);
-    if let Some(parent) = parent {
-        carrier.set("traceparent", String::from_str(alloc, parent)?)?;
-    }
-    let found = TraceContextPropagator::new().extract_with_context(alloc, cx, &carrier)?;
+    let carrier = carrier_of(alloc, &[("traceparent", parent)])?;
+    let found = extracted::<TraceContextPropagator>(alloc, cx, &carrier)?;
     shown(alloc, found.span_context())
 }
 
@@ -308,14 +308,7 @@ fn an_invalid_span_context_sets_nothing(rt: HostRuntime) -> Result<(), Fail> {
         ("no span id", T, 0),
     ];
     for (case, trace, span) in cases {
-        let span_context = SpanContext::new(
-            TraceId::from(trace),
-            SpanId::from(span),
-            TraceFlags::SAMPLED,
-            false,
-            TraceState::new(),
-        );
-        let cx = Context::new().with_span_context(span_context)?;
+        let cx = context_with(trace, span, 1, TraceState::new())?;
         assert_eq!(rt; injected(rt.alloc(), &cx)?.as_str(), "none old=1", "{case}");
     }
     assert_eq!(rt;
@@ -327,14 +320,10 @@ fn an_invalid_span_context_sets_nothing(rt: HostRuntime) -> Result<(), Fail> {
 
 #[test]
 fn the_other_side_has_the_same_span_context(rt: HostRuntime) -> Result<(), Fail> {
-    let mut carrier = MapCarrier::new(rt.alloc());
+    let mut carrier = carrier_of(rt.alloc(), &[])?;
     let cx = context_of(rt.alloc(), 0xff, "foo=bar,a=b")?;
-    TraceContextPropagator::default().inject_context(rt.alloc(), &cx, &mut carrier)?;
-    let other = TraceContextPropagator::new().extract_with_context(
-        rt.alloc(),
-        &Context::new(),
-        &carrier,
-    )?;
+    inject::<TraceContextPropagator>(rt.alloc(), &cx, &mut carrier)?;
+    let other = extracted::<TraceContextPropagator>(rt.alloc(), &Context::new(), &carrier)?;
     let wanted = "4bf92f3577b34da6a3ce929d0e0e4736-00f067aa0ba902b7 01 true foo=bar,a=b";
     assert_eq!(rt; shown(rt.alloc(), other.span_context())?.as_str(), wanted);
     Ok(())
