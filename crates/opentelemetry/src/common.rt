@@ -521,19 +521,3 @@ impl InstrumentationScopeBuilder {
         })
     }
 }
-
-#[cfg(test)]
-mod tests {
-    use super::{Arc, InstrumentationScope};
-    use std::test::Fail;
-
-    #[test]
-    fn clones_of_a_scope_share_its_parts(rt: HostRuntime) -> Result<(), Fail> {
-        let name = String::from_str(rt.alloc(), "lib")?;
-        let scope = InstrumentationScope::builder(rt.alloc(), name).build()?;
-        let copy = scope.clone()?;
-        assert_eq!(rt; Arc::strong_count(&copy.parts), 2);
-        assert!(rt; copy == scope);
-        Ok(())
-    }
-}

@@ -222,19 +222,3 @@ impl Eq for TraceState {
 
     ghost laws = { equivalence_from_decides same_pairs same_pairs_decides };
 }
-
-#[cfg(test)]
-mod tests {
-    use super::{Arc, TraceState};
-    use std::test::Fail;
-
-    #[test]
-    fn clones_share_their_pairs(rt: HostRuntime) -> Result<(), Fail> {
-        let state = TraceState::from_str(rt.alloc(), "a=1")?;
-        let copy = state.clone()?;
-        let pairs = copy.pairs.as_ref().ok_or("the shared pairs")?;
-        assert_eq!(rt; Arc::strong_count(pairs), 2);
-        assert_eq!(rt; state.get("a"), Some("1"));
-        Ok(())
-    }
-}

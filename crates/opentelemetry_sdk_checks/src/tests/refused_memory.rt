@@ -84,26 +84,39 @@ fn a_refused_start_tells_no_processor_and_succeeds_again(rt: HostRuntime) -> Res
 
 /// One edit of each kind that wants memory.
 fn edits_of_each_kind(alloc: Global) -> Result<Vec<SpanEdit>, AllocError> {
-    let attribute = KeyValue::new(Key::from_static_str("k"), Value::Bool(true));
-    let event = Event::new(String::new(alloc), Moment(8), Vec::new(alloc), 0);
-    let link = Link::new(SpanContext::empty_context(), Vec::new(alloc), 0);
-    let mut edits = Vec::with_capacity(alloc, 3)?;
-    edits.push(SpanEdit::SetAttribute(attribute))?;
-    edits.push(SpanEdit::AddEvent(event))?;
-    edits.push(SpanEdit::AddLink(link))?;
-    Ok(edits)
+    Ok(vec![in alloc; one_attribute(), one_event(alloc), one_link(alloc)]?)
 }
 
-/// Makes each edit, and makes it again where it was refused. The answer is whether the span was then as before, and
-/// the second time succeeded.
+fn one_attribute() -> SpanEdit {
+    let attribute = KeyValue::new(Key::from_static_str("k"), Value::Bool(true));
+    SpanEdit::SetAttribute(attribute)
+}
+
+fn one_event(alloc: Global) -> SpanEdit {
+    let event = Event::new(String::new(alloc), Moment(8), Vec::new(alloc), 0);
+    SpanEdit::AddEvent(event)
+}
+
+fn one_link(alloc: Global) -> SpanEdit {
+    let link = Link::new(SpanContext::empty_context(), Vec::new(alloc), 0);
+    SpanEdit::AddLink(link)
+}
+
+/// Makes an edit, and makes it again where it was refused. The answer is whether the span was then as before, and the
+/// second time succeeded.
+fn edit_again(span: &mut Span, edit: SpanEdit, again: SpanEdit) -> bool {
+    let before = span.exported_data();
+    match span.edit(edit) {
+        Ok(()) => true,
+        Err(_) => before == span.exported_data() && span.edit(again).is_ok(),
+    }
+}
+
+/// The same of each edit.
 fn edit_all(span: &mut Span, edits: Vec<SpanEdit>, again: Vec<SpanEdit>) -> bool {
     let mut holds = true;
     for (edit, again) in edits.into_iter().zip(again) {
-        let before = span.exported_data();
-        if span.edit(edit).is_err() {
-            let is_same = before == span.exported_data();
-            holds = holds && is_same && span.edit(again).is_ok();
-        }
+        holds = edit_again(span, edit, again) && holds;
     }
     holds
 }

@@ -1,6 +1,6 @@
-use opentelemetry::trace::{Event, Link, SpanContext, Status};
+use opentelemetry::trace::{Event, Link, SpanBuilder, SpanContext, Status};
 use opentelemetry::{Context, Key, KeyValue, Moment, Value};
-use opentelemetry_sdk::trace::{ProviderOf, SimpleSpanProcessor, Span, SpanEdit};
+use opentelemetry_sdk::trace::{ProviderOf, SdkTracer, SimpleSpanProcessor, Span, SpanEdit};
 use otel_base::trace::{RandomIdGenerator, Sampler, SpanLimits};
 use otel_batch::trace::{InMemorySpanExporter, SpanData, SpanEvents, SpanLinks};
 use std::alloc::{AllocError, Global};
@@ -106,21 +106,32 @@ fn keys_of(alloc: Global, attributes: &[KeyValue]) -> Result<String, AllocError>
     Ok(keys)
 }
 
+/// Edits that set attributes `c` and `d`.
+fn two_attributes(alloc: Global) -> Result<Vec<SpanEdit>, AllocError> {
+    let mut edits = Vec::new(alloc);
+    for attribute in attributes(alloc, b'c', 2)? {
+        edits.push(SpanEdit::SetAttribute(attribute))?;
+    }
+    Ok(edits)
+}
+
+/// The keys of the attributes that are kept of `a`, `b` and two set later, and how many are not.
+fn attributes_at(alloc: Global, limit: u32) -> Result<(String, u32), AllocError> {
+    let limits = SpanLimits {
+        max_attributes_per_span: limit,
+        ..SpanLimits::default()
+    };
+    let exported = exported_after(alloc, limits, 2, two_attributes(alloc)?)?;
+    let keys = keys_of(alloc, &exported.attributes)?;
+    Ok((keys, exported.dropped_attributes_count))
+}
+
 #[test]
 fn attributes_over_the_limit_are_counted(rt: HostRuntime) -> Result<(), Fail> {
-    let alloc = rt.alloc();
     for (limit, kept, dropped) in [(2, "ab", 2), (0, "", 4), (3, "abc", 1), (4, "abcd", 0)] {
-        let limits = SpanLimits {
-            max_attributes_per_span: limit,
-            ..SpanLimits::default()
-        };
-        let mut edits = Vec::new(alloc);
-        for attribute in attributes(alloc, b'c', 2)? {
-            edits.push(SpanEdit::SetAttribute(attribute))?;
-        }
-        let exported = exported_after(alloc, limits, 2, edits)?;
-        assert_eq!(rt; keys_of(alloc, &exported.attributes)?.as_str(), kept);
-        assert_eq!(rt; exported.dropped_attributes_count, dropped);
+        let (keys, dropped_count) = attributes_at(rt.alloc(), limit)?;
+        assert_eq!(rt; keys.as_str(), kept);
+        assert_eq!(rt; dropped_count, dropped);
     }
     Ok(())
 }
@@ -135,101 +146,140 @@ fn links_of(links: &SpanLinks) -> (usize, u32) {
     (links.as_slice().len(), links.dropped_count)
 }
 
+/// Edits that add so many events and as many links, each with so many attributes and this count.
+fn events_and_links(
+    alloc: Global,
+    number: u8,
+    given: u8,
+    count: u32,
+) -> Result<Vec<SpanEdit>, AllocError> {
+    let mut edits = Vec::new(alloc);
+    for _i in 0..number {
+        edits.push(SpanEdit::AddEvent(event(alloc, given, count)?))?;
+        edits.push(SpanEdit::AddLink(link(alloc, given, count)?))?;
+    }
+    Ok(edits)
+}
+
+/// What is kept and counted of two events and of two links.
+fn counts_at(alloc: Global, limit: u32) -> Result<[(usize, u32); 2], AllocError> {
+    let limits = SpanLimits {
+        max_events_per_span: limit,
+        max_links_per_span: limit,
+        ..SpanLimits::default()
+    };
+    let exported = exported_after(alloc, limits, 0, events_and_links(alloc, 2, 0, 0)?)?;
+    Ok([events_of(&exported.events), links_of(&exported.links)])
+}
+
 #[test]
 fn events_and_links_over_their_limits_are_counted(rt: HostRuntime) -> Result<(), Fail> {
-    let alloc = rt.alloc();
     for (limit, kept, dropped) in [(0, 0, 2), (1, 1, 1), (2, 2, 0)] {
-        let limits = SpanLimits {
-            max_events_per_span: limit,
-            max_links_per_span: limit,
-            ..SpanLimits::default()
-        };
-        let mut edits = Vec::new(alloc);
-        for _i in 0..2 {
-            edits.push(SpanEdit::AddEvent(event(alloc, 0, 0)?))?;
-            edits.push(SpanEdit::AddLink(link(alloc, 0, 0)?))?;
-        }
-        let exported = exported_after(alloc, limits, 0, edits)?;
-        assert_eq!(rt; events_of(&exported.events), (kept, dropped));
-        assert_eq!(rt; links_of(&exported.links), (kept, dropped));
+        assert_eq!(rt;
+            counts_at(rt.alloc(), limit)?,
+            [(kept, dropped), (kept, dropped)]
+        );
     }
     Ok(())
+}
+
+/// How many attributes each event and then each link of a span has, and what it counts beside them.
+fn attribute_counts(alloc: Global, span: &SpanData) -> Result<Vec<(usize, u32)>, AllocError> {
+    let mut counts = Vec::new(alloc);
+    for event in span.events.as_slice() {
+        counts.push((event.attributes.len(), event.dropped_attributes_count))?;
+    }
+    for link in span.links.as_slice() {
+        counts.push((link.attributes.len(), link.dropped_attributes_count))?;
+    }
+    Ok(counts)
+}
+
+/// The same of an event and a link, of which one attribute is kept.
+fn cut_at_one(alloc: Global, given: u8, count: u32) -> Result<Vec<(usize, u32)>, AllocError> {
+    let limits = SpanLimits {
+        max_attributes_per_event: 1,
+        max_attributes_per_link: 1,
+        ..SpanLimits::default()
+    };
+    let exported = exported_after(alloc, limits, 0, events_and_links(alloc, 1, given, count)?)?;
+    attribute_counts(alloc, &exported)
 }
 
 #[test]
 fn attributes_of_events_and_links_are_cut_and_counted_anew(rt: HostRuntime) -> Result<(), Fail> {
-    let alloc = rt.alloc();
-
     // The attributes that are handed in, the count beside them, how many are kept, and the count then.
     for (given, count, kept, dropped) in [(3, 0, 1, 2), (1, 7, 1, 0), (0, 7, 0, 0)] {
-        let limits = SpanLimits {
-            max_attributes_per_event: 1,
-            max_attributes_per_link: 1,
-            ..SpanLimits::default()
-        };
-        let mut edits = Vec::new(alloc);
-        edits.push(SpanEdit::AddEvent(event(alloc, given, count)?))?;
-        edits.push(SpanEdit::AddLink(link(alloc, given, count)?))?;
-        let exported = exported_after(alloc, limits, 0, edits)?;
-        let events = exported.events.as_slice();
-        assert_eq!(rt; events.len(), 1);
-        for event in events {
-            assert_eq!(rt; event.attributes.len(), kept);
-            assert_eq!(rt; event.dropped_attributes_count, dropped);
-        }
-        let links = exported.links.as_slice();
-        assert_eq!(rt; links.len(), 1);
-        for link in links {
-            assert_eq!(rt; link.attributes.len(), kept);
-            assert_eq!(rt; link.dropped_attributes_count, dropped);
-        }
+        let counts = cut_at_one(rt.alloc(), given, count)?;
+        assert_eq!(rt;
+            counts.as_slice(),
+            [(kept, dropped), (kept, dropped)].as_slice()
+        );
     }
     Ok(())
 }
 
-/// What a span records that a builder gives an event and a link, under the default limits.
-fn recorded_of(
+/// A builder with an event and a link, each with one attribute and a count of seven.
+fn builder_of_both(alloc: Global, tracer: &SdkTracer) -> Result<SpanBuilder, AllocError> {
+    let events = vec![in alloc; event(alloc, 1, 7)?]?;
+    let links = vec![in alloc; link(alloc, 1, 7)?]?;
+    Ok(
+        tracer
+            .span_builder(String::new(alloc))
+            .with_events(events)
+            .with_links(links),
+    )
+}
+
+/// What a span records of such a builder, under the default limits.
+fn recorded_of_both(
     alloc: Global,
     provider: &mut TestProvider,
-    event: Event,
-    link: Link,
 ) -> Result<Option<SpanData>, AllocError> {
-    let mut events = Vec::new(alloc);
-    events.push(event)?;
-    let mut links = Vec::new(alloc);
-    links.push(link)?;
     let tracer = provider.tracer(String::new(alloc))?;
-    let builder = tracer
-        .span_builder(String::from_str(alloc, "GET")?)
-        .with_events(events)
-        .with_links(links);
+    let builder = builder_of_both(alloc, &tracer)?;
     let span = tracer.build_with_context(builder, &Context::new(), provider, Moment(7))?;
     let exported = span.exported_data();
     span.abandon();
     exported
 }
 
+/// The counts of a span's events and links, and of their attributes.
+fn all_counts(alloc: Global, span: &SpanData) -> Result<Vec<(usize, u32)>, AllocError> {
+    let mut counts = attribute_counts(alloc, span)?;
+    counts.push(events_of(&span.events))?;
+    counts.push(links_of(&span.links))?;
+    Ok(counts)
+}
+
+fn counts_of_both(alloc: Global) -> Result<Vec<(usize, u32)>, AllocError> {
+    let mut provider = provider_over(Vec::new(alloc), SpanLimits::default());
+    let recorded = recorded_of_both(alloc, &mut provider);
+    let _ = provider.close();
+    match recorded? {
+        Some(recorded) => all_counts(alloc, &recorded),
+        None => Ok(Vec::new(alloc)),
+    }
+}
+
 #[test]
 fn a_builders_events_and_links_are_counted_anew(rt: HostRuntime) -> Result<(), Fail> {
-    let alloc = rt.alloc();
-    let (event, link) = (event(alloc, 1, 7)?, link(alloc, 1, 7)?);
-    let mut provider = provider_over(Vec::new(alloc), SpanLimits::default());
-    let recorded = recorded_of(alloc, &mut provider, event, link);
-    let _ = provider.close();
-    let Some(recorded) = recorded? else {
-        return Err(Fail::new("nothing is recorded"));
-    };
-    assert_eq!(rt; events_of(&recorded.events), (1, 0));
-    assert_eq!(rt; links_of(&recorded.links), (1, 0));
-    for event in recorded.events.as_slice() {
-        assert_eq!(rt; event.attributes.len(), 1);
-        assert_eq!(rt; event.dropped_attributes_count, 0);
-    }
-    for link in recorded.links.as_slice() {
-        assert_eq!(rt; link.attributes.len(), 1);
-        assert_eq!(rt; link.dropped_attributes_count, 0);
-    }
+    let counts = counts_of_both(rt.alloc())?;
+    assert_eq!(rt;
+        counts.as_slice(),
+        [(1, 0), (1, 0), (1, 0), (1, 0)].as_slice()
+    );
     Ok(())
+}
+
+/// Whether a span ends with a status, when these were set in turn.
+fn ends_with(alloc: Global, set: [Status; 3], status: &Status) -> Result<bool, AllocError> {
+    let mut edits = Vec::new(alloc);
+    for status in set {
+        edits.push(SpanEdit::SetStatus(status))?;
+    }
+    let exported = exported_after(alloc, SpanLimits::default(), 0, edits)?;
+    Ok(exported.status == *status)
 }
 
 #[test]
@@ -251,12 +301,7 @@ fn the_greatest_status_stays(rt: HostRuntime) -> Result<(), Fail> {
         ([Status::Unset, Status::Unset, Status::Unset], Status::Unset),
     ];
     for (set, status) in rows {
-        let mut edits = Vec::new(alloc);
-        for status in set {
-            edits.push(SpanEdit::SetStatus(status))?;
-        }
-        let exported = exported_after(alloc, SpanLimits::default(), 0, edits)?;
-        assert!(rt; exported.status == status);
+        assert!(rt; ends_with(alloc, set, &status)?);
     }
     Ok(())
 }

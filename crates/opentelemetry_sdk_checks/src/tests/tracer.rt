@@ -1,6 +1,8 @@
-use opentelemetry::trace::SpanContext;
+use opentelemetry::trace::{SpanBuilder, SpanContext};
 use opentelemetry::{Context, Key, KeyValue, Moment, SpanId, TraceId, Value};
-use opentelemetry_sdk::trace::{ProcessorOf, ProviderOf, SimpleSpanProcessor, Span, SpanProcessor};
+use opentelemetry_sdk::trace::{
+    ProcessorOf, ProviderOf, SdkTracer, SimpleSpanProcessor, Span, SpanProcessor,
+};
 use otel_base::error::{OTelSdkError, OTelSdkResult};
 use otel_base::trace::{RandomIdGenerator, Sampler, SpanLimits};
 use otel_batch::trace::{InMemorySpanExporter, SpanData};
@@ -134,32 +136,58 @@ fn the_child_of_the_empty_span_context_is_dropped(rt: HostRuntime) -> Result<(),
     Ok(())
 }
 
-/// What a started span has recorded, and what two ends of it answer.
-#[derive(Drop)]
-struct Ended {
-    exported: Option<SpanData>,
-    first: usize,
-    second: usize,
+/// A builder with an attribute.
+fn builder_of(alloc: Global, tracer: &SdkTracer) -> Result<SpanBuilder, AllocError> {
+    let given = KeyValue::new(Key::from_static_str("given"), Value::Bool(true));
+    let attributes = vec![in alloc; given]?;
+    Ok(
+        tracer
+            .span_builder(String::new(alloc))
+            .with_attributes(attributes),
+    )
 }
 
-/// Starts a span whose builder has an attribute, and ends it twice.
-fn ended_twice(alloc: Global, provider: &mut TestProvider) -> Result<Ended, AllocError> {
+/// Starts a span of that builder.
+fn started_of(alloc: Global, provider: &mut TestProvider) -> Result<Span, AllocError> {
     let tracer = provider.tracer(String::new(alloc))?;
-    let mut attributes = Vec::new(alloc);
-    attributes.push(KeyValue::new(Key::from_static_str("given"), Value::Bool(true)))?;
-    let builder = tracer
-        .span_builder(String::new(alloc))
-        .with_attributes(attributes);
-    let mut span = tracer.build_with_context(builder, &Context::new(), provider, Moment(1))?;
-    let exported = span.exported_data();
+    let builder = builder_of(alloc, &tracer)?;
+    tracer.build_with_context(builder, &Context::new(), provider, Moment(1))
+}
+
+/// The keys of the attributes that a span has recorded, each with a comma behind it.
+fn recorded_keys(alloc: Global, span: &Span) -> Result<String, AllocError> {
+    let mut keys = String::new(alloc);
+    if let Some(data) = span.exported_data()? {
+        push_keys(&mut keys, &data.attributes)?;
+    }
+    Ok(keys)
+}
+
+fn push_keys(keys: &mut String, attributes: &[KeyValue]) -> Result<(), AllocError> {
+    for attribute in attributes {
+        keys.push_str(attribute.key.as_str())?;
+        keys.push(',')?;
+    }
+    Ok(())
+}
+
+/// What two ends of a span answer.
+fn end_twice(mut span: Span, provider: &mut TestProvider) -> [Result<usize, AllocError>; 2] {
     let first = span.end_with_timestamp(provider, Moment(2));
     let second = span.end_with_timestamp(provider, Moment(3));
     span.abandon();
-    Ok(Ended {
-        exported: exported?,
-        first: first?,
-        second: second?,
-    })
+    [first, second]
+}
+
+/// What a started span has recorded, and what two ends of it answer.
+fn ended_twice(
+    alloc: Global,
+    provider: &mut TestProvider,
+) -> Result<(String, [Result<usize, AllocError>; 2]), AllocError> {
+    let span = started_of(alloc, provider)?;
+    let keys = recorded_keys(alloc, &span);
+    let answers = end_twice(span, provider);
+    Ok((keys?, answers))
 }
 
 /// How many batches the processors exported into memory.
@@ -184,15 +212,10 @@ fn what_one_processor_stamps_and_refuses_the_other_exports_once(
     let flushed = provider.force_flush();
     let shut = provider.shutdown();
     let closed = provider.close();
-    let ended = ended?;
-    assert_eq!(rt; ended.first, 1);
-    assert_eq!(rt; ended.second, 0);
+    let (keys, answers) = ended?;
+    assert_eq!(rt; keys.as_str(), "given,stamp,");
+    assert_eq!(rt; answers, [Ok(1), Ok(0)]);
     assert_eq!(rt; batches, 1);
-    for span in ended.exported {
-        assert_eq!(rt; span.attributes.len(), 2);
-        assert_eq!(rt; span.attributes[0].key.as_str(), "given");
-        assert_eq!(rt; span.attributes[1].key.as_str(), "stamp");
-    }
     for (answer, text) in [
         (flushed, "Operation failed: errs: 1"),
         (shut, "Operation failed: Shutdown errors: 1"),

@@ -36,12 +36,17 @@ fn context_of(alloc: Global, entries: &[(&str, &str, &str)]) -> Result<Context, 
     Ok(Context::new().with_baggage(baggage_of(alloc, entries)?)?)
 }
 
-/// What a context with the baggage `old=1` has, when this header was extracted. An absent one is not set.
-fn found(alloc: Global, header: Option<&str>) -> Result<String, Fail> {
+/// What a context has, when this header was extracted. An absent one is not set.
+fn found_over(alloc: Global, cx: &Context, header: Option<&str>) -> Result<String, AllocError> {
     let carrier = carrier_of(alloc, &[("baggage", header)])?;
+    let found = extracted::<BaggagePropagator>(alloc, cx, &carrier)?;
+    shown(alloc, found.baggage())
+}
+
+/// The same of a context with the baggage `old=1`.
+fn found(alloc: Global, header: Option<&str>) -> Result<String, Fail> {
     let cx = context_of(alloc, &[("old", "1", "")])?;
-    let cx = extracted::<BaggagePropagator>(alloc, &cx, &carrier)?;
-    Ok(shown(alloc, cx.baggage())?)
+    Ok(found_over(alloc, &cx, header)?)
 }
 
 /// Whether these members are read of a header.
@@ -49,12 +54,17 @@ fn reads_as(alloc: Global, header: &str, members: &str) -> Result<bool, Fail> {
     Ok(found(alloc, Some(header))?.as_str() == members)
 }
 
-/// The header that a baggage of these entries is injected as; `none` where none is.
+/// The header that a context's baggage is injected as; `none` where none is.
+fn injected_from(alloc: Global, cx: &Context) -> Result<String, AllocError> {
+    let mut carrier = carrier_of(alloc, &[])?;
+    inject::<BaggagePropagator>(alloc, cx, &mut carrier)?;
+    String::from_str(alloc, carrier.get("baggage").unwrap_or("none"))
+}
+
+/// The same of a baggage of these entries.
 fn injected(alloc: Global, entries: &[(&str, &str, &str)]) -> Result<String, Fail> {
     let cx = context_of(alloc, entries)?;
-    let mut carrier = carrier_of(alloc, &[])?;
-    inject::<BaggagePropagator>(alloc, &cx, &mut carrier)?;
-    Ok(String::from_str(alloc, carrier.get("baggage").unwrap_or("none"))?)
+    Ok(injected_from(alloc, &cx)?)
 }
 
 /// A front, and behind it so many of a text.
@@ -217,17 +227,26 @@ fn raw_metadata_is_read_percent_decoded(rt: HostRuntime) -> Result<(), Fail> {
     Ok(())
 }
 
+/// The members that the other side of a context has; nothing where a refused injection left a header.
+fn carried_from(alloc: Global, cx: &Context) -> Result<Option<String>, AllocError> {
+    match carried::<BaggagePropagator>(alloc, cx, "baggage")? {
+        Some(other) => shown(alloc, other.baggage()).map(Some),
+        None => Ok(None),
+    }
+}
+
+/// The same of a baggage of these entries.
+fn carried_members(alloc: Global, entries: &[(&str, &str, &str)]) -> Result<Option<String>, Fail> {
+    let cx = context_of(alloc, entries)?;
+    Ok(carried_from(alloc, &cx)?)
+}
+
 /// `rt try --test --fail-alloc N` has the Nth allocation refused: then the call that wanted it is made again.
 #[test]
 fn refused_calls_succeed_again(rt: HostRuntime) -> Result<(), Fail> {
-    let cx = context_of(rt.alloc(), &[("a", "50%", "m"), ("b", "2", "")])?;
-    let Some(other) = carried::<BaggagePropagator>(rt.alloc(), &cx, "baggage")? else {
-        return Err(Fail::new("a header was left"));
-    };
-    assert_eq!(rt;
-        shown(rt.alloc(), other.baggage())?.as_str(),
-        "a=50%;m|b=2|"
-    );
+    let entries = [("a", "50%", "m"), ("b", "2", "")];
+    let members = carried_members(rt.alloc(), &entries)?.ok_or("a header was left")?;
+    assert_eq!(rt; members.as_str(), "a=50%;m|b=2|");
     Ok(())
 }
 

@@ -335,23 +335,35 @@ fn no_string_gives_no_attributes(rt: HostRuntime) -> Result<(), Fail> {
 }
 
 // Each `unwrap` is proved: there is no answer but Ok.
-#[test]
-fn what_grows_nothing_is_never_refused(rt: HostRuntime) -> Result<(), Fail> {
-    let alloc = rt.alloc();
+fn detected_of_nothing(alloc: Global) -> usize {
     let unset = ResourceStrings::default();
-    let env = EnvResourceDetector::new(&unset).unwrap();
-    assert!(rt; env.detect().unwrap().is_empty());
     let _sdk = SdkProvidedResourceDetector::new(alloc, &unset).unwrap();
+    let env = EnvResourceDetector::new(&unset).unwrap();
+    env.detect().unwrap().len()
+}
+
+fn nothing_is_cloned(alloc: Global) -> bool {
     let nothing = Resource::builder_empty(alloc).build();
-    assert!(rt; nothing.clone().unwrap() == nothing);
-    let built = Resource::builder(alloc, &unset)?
+    nothing.clone().unwrap() == nothing
+}
+
+fn built_with_nothing(alloc: Global) -> Result<usize, AllocError> {
+    let built = Resource::builder(alloc, &ResourceStrings::default())?
         .with_attributes(Vec::new(alloc))
         .unwrap()
         .with_schema_url(Vec::new(alloc), String::new(alloc))
         .unwrap()
         .with_detectors(&[])
         .unwrap();
-    assert_eq!(rt; built.build().len(), 4);
+    Ok(built.build().len())
+}
+
+#[test]
+fn what_grows_nothing_is_never_refused(rt: HostRuntime) -> Result<(), Fail> {
+    let alloc = rt.alloc();
+    assert_eq!(rt; detected_of_nothing(alloc), 0);
+    assert!(rt; nothing_is_cloned(alloc));
+    assert_eq!(rt; built_with_nothing(alloc)?, 4);
     Ok(())
 }
 

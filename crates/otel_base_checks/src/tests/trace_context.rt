@@ -20,10 +20,15 @@ fn found(alloc: Global, parent: &str, state: Option<&str>) -> Result<String, All
         &[("traceparent", Some(parent)), ("tracestate", state)],
     )?;
     let cx = extracted::<TraceContextPropagator>(alloc, &Context::new(), &carrier)?;
-    if !cx.has_active_span() {
-        return Ok(String::new(alloc));
+    shown_if_active(alloc, &cx)
+}
+
+fn shown_if_active(alloc: Global, cx: &Context) -> Result<String, AllocError> {
+    if cx.has_active_span() {
+        shown(alloc, cx.span_context())
+    } else {
+        Ok(String::new(alloc))
     }
-    shown(alloc, cx.span_context())
 }
 
 fn shown(alloc: Global, span_context: &SpanContext) -> Result<String, AllocError> {
@@ -53,12 +58,24 @@ fn context_of(alloc: Global, flags: u8, state: &str) -> Result<Context, Fail> {
 }
 
 /// What a carrier with an older trace state has after an injection.
-fn injected(alloc: Global, cx: &Context) -> Result<String, AllocError> {
+fn injected_from(alloc: Global, cx: &Context) -> Result<String, AllocError> {
     let mut carrier = carrier_of(alloc, &[("tracestate", Some("old=1"))])?;
     inject::<TraceContextPropagator>(alloc, cx, &mut carrier)?;
     let parent = carrier.get("traceparent").unwrap_or("none");
     let state = carrier.get("tracestate").unwrap_or("none");
     format!(in alloc; "{parent} {state}")
+}
+
+/// The same of a context with a span of the ids `T` and `S`.
+fn injected(alloc: Global, flags: u8, state: &str) -> Result<String, Fail> {
+    let cx = context_of(alloc, flags, state)?;
+    Ok(injected_from(alloc, &cx)?)
+}
+
+/// The same of a context with a sampled span of these ids.
+fn injected_ids(alloc: Global, trace: u128, span: u64) -> Result<String, AllocError> {
+    let cx = context_with(trace, span, 1, TraceState::new())?;
+    injected_from(alloc, &cx)
 }
 
 #[test]
@@ -255,6 +272,12 @@ fn found_over(alloc: Global, cx: &Context, parent: Option<&str>) -> Result<Strin
     shown(alloc, found.span_context())
 }
 
+/// The same over a sampled span of the ids `T` and `S`.
+fn found_over_active(alloc: Global, parent: Option<&str>) -> Result<String, Fail> {
+    let cx = context_of(alloc, 1, "foo=bar")?;
+    Ok(found_over(alloc, &cx, parent)?)
+}
+
 #[test]
 fn an_active_span_stays_unless_a_header_says_another(rt: HostRuntime) -> Result<(), Fail> {
     let active = "4bf92f3577b34da6a3ce929d0e0e4736-00f067aa0ba902b7 01 false foo=bar";
@@ -272,9 +295,8 @@ fn an_active_span_stays_unless_a_header_says_another(rt: HostRuntime) -> Result<
             "0af7651916cd43dd8448eb211c80319c-b7ad6b7169203331 00 true ",
         ),
     ];
-    let cx = context_of(rt.alloc(), 1, "foo=bar")?;
     for (case, parent, wanted) in cases {
-        let given = found_over(rt.alloc(), &cx, parent)?;
+        let given = found_over_active(rt.alloc(), parent)?;
         assert_eq!(rt; given.as_str(), wanted, "{case}");
     }
     Ok(())
@@ -290,12 +312,8 @@ fn sets_both_headers_of_a_valid_span_context(rt: HostRuntime) -> Result<(), Fail
     for (case, flags, state, tail) in cases {
         let ids = "00-4bf92f3577b34da6a3ce929d0e0e4736-00f067aa0ba902b7";
         let wanted = format!(in rt.alloc(); "{ids}{tail}")?;
-        let cx = context_of(rt.alloc(), flags, state)?;
-        assert_eq!(rt;
-            injected(rt.alloc(), &cx)?.as_str(),
-            wanted.as_str(),
-            "{case}"
-        );
+        let given = injected(rt.alloc(), flags, state)?;
+        assert_eq!(rt; given.as_str(), wanted.as_str(), "{case}");
     }
     Ok(())
 }
@@ -308,36 +326,39 @@ fn an_invalid_span_context_sets_nothing(rt: HostRuntime) -> Result<(), Fail> {
         ("no span id", T, 0),
     ];
     for (case, trace, span) in cases {
-        let cx = context_with(trace, span, 1, TraceState::new())?;
-        assert_eq!(rt; injected(rt.alloc(), &cx)?.as_str(), "none old=1", "{case}");
+        let given = injected_ids(rt.alloc(), trace, span)?;
+        assert_eq!(rt; given.as_str(), "none old=1", "{case}");
     }
-    assert_eq!(rt;
-        injected(rt.alloc(), &Context::new())?.as_str(),
-        "none old=1"
-    );
+    let given = injected_from(rt.alloc(), &Context::new())?;
+    assert_eq!(rt; given.as_str(), "none old=1");
     Ok(())
 }
 
-#[test]
-fn the_other_side_has_the_same_span_context(rt: HostRuntime) -> Result<(), Fail> {
-    let mut carrier = carrier_of(rt.alloc(), &[])?;
-    let cx = context_of(rt.alloc(), 0xff, "foo=bar,a=b")?;
-    inject::<TraceContextPropagator>(rt.alloc(), &cx, &mut carrier)?;
-    let other = extracted::<TraceContextPropagator>(rt.alloc(), &Context::new(), &carrier)?;
-    let wanted = "4bf92f3577b34da6a3ce929d0e0e4736-00f067aa0ba902b7 01 true foo=bar,a=b";
-    assert_eq!(rt; shown(rt.alloc(), other.span_context())?.as_str(), wanted);
-    Ok(())
+/// The span context that the other side of a context has; nothing where a refused injection left the second header.
+fn carried_from(alloc: Global, cx: &Context) -> Result<Option<String>, AllocError> {
+    match carried::<TraceContextPropagator>(alloc, cx, "tracestate")? {
+        Some(other) => shown(alloc, other.span_context()).map(Some),
+        None => Ok(None),
+    }
+}
+
+/// The same of a context with a span of the ids `T` and `S`.
+fn carried_span(alloc: Global, flags: u8, state: &str) -> Result<Option<String>, Fail> {
+    let cx = context_of(alloc, flags, state)?;
+    Ok(carried_from(alloc, &cx)?)
 }
 
 /// `rt try --test --fail-alloc N` has the Nth allocation refused: then the call that wanted it is made again.
 #[test]
-fn refused_calls_succeed_again(rt: HostRuntime) -> Result<(), Fail> {
-    let cx = context_of(rt.alloc(), 1, "foo=bar")?;
-    let Some(other) = carried::<TraceContextPropagator>(rt.alloc(), &cx, "tracestate")? else {
-        return Err(Fail::new("the second header was left"));
-    };
-    let wanted = "4bf92f3577b34da6a3ce929d0e0e4736-00f067aa0ba902b7 01 true foo=bar";
-    assert_eq!(rt; shown(rt.alloc(), other.span_context())?.as_str(), wanted);
+fn the_other_side_has_the_same_span_context_where_refused_calls_are_made_again(
+    rt: HostRuntime,
+) -> Result<(), Fail> {
+    for (flags, state) in [(0xff, "foo=bar,a=b"), (1, "foo=bar")] {
+        let ids = "4bf92f3577b34da6a3ce929d0e0e4736-00f067aa0ba902b7";
+        let wanted = format!(in rt.alloc(); "{ids} 01 true {state}")?;
+        let given = carried_span(rt.alloc(), flags, state)?.ok_or("the second header was left")?;
+        assert_eq!(rt; given.as_str(), wanted.as_str());
+    }
     Ok(())
 }
 

@@ -197,23 +197,42 @@ struct Want<'a> {
     unread: usize,
 }
 
+/// What came of a run of the program.
+#[derive(Drop)]
+struct Outcome {
+    status: u8,
+    output: Vec<u8>,
+    faults: Vec<u8>,
+    unread: usize,
+}
+
+fn outcome_of(alloc: Global, words: &[&str], mut input: &[u8]) -> Result<Outcome, AllocError> {
+    let mut output = Vec::new(alloc);
+    let mut faults = Vec::new(alloc);
+    let words = words_of(alloc, words)?;
+    let status = run_program(alloc, &words, &mut input, &mut output, &mut faults);
+    Ok(Outcome {
+        status,
+        output,
+        faults,
+        unread: input.len(),
+    })
+}
+
 /// Asserts what the program makes of an input.
 fn assert_runs(
     rt: &impl Abort,
     alloc: Global,
     name: &str,
     words: &[&str],
-    mut input: &[u8],
+    input: &[u8],
     want: &Want,
 ) -> Result<(), AllocError> {
-    let words = words_of(alloc, words)?;
-    let mut output = Vec::new(alloc);
-    let mut faults = Vec::new(alloc);
-    let status = run_program(alloc, &words, &mut input, &mut output, &mut faults);
-    assert_eq!(rt; output.as_slice(), want.output.as_bytes(), "{name}");
-    assert_eq!(rt; faults.as_slice(), want.faults.as_bytes(), "{name}");
-    assert_eq!(rt; status, want.status, "{name}");
-    assert_eq!(rt; input.len(), want.unread, "{name}");
+    let given = outcome_of(alloc, words, input)?;
+    assert_eq!(rt; given.output.as_slice(), want.output.as_bytes(), "{name}");
+    assert_eq!(rt; given.faults.as_slice(), want.faults.as_bytes(), "{name}");
+    assert_eq!(rt; given.status, want.status, "{name}");
+    assert_eq!(rt; given.unread, want.unread, "{name}");
     Ok(())
 }
 
@@ -559,14 +578,20 @@ fn a_failed_output_outranks_a_bad_line(rt: HostRuntime) -> Result<(), Fail> {
     Ok(())
 }
 
+/// The status where a bad line, or the arguments before it, are named to this writer.
+fn status_of_fault<F: Write>(
+    alloc: Global,
+    words: &[&str],
+    faults: &mut F,
+) -> Result<u8, AllocError> {
+    status_over(alloc, words, b"stop\n", &mut Vec::new(alloc), faults)
+}
+
 #[test]
 fn a_fault_that_cannot_be_written_fails(rt: HostRuntime) -> Result<(), Fail> {
-    let mut output = Vec::new(rt.alloc());
     for words in [SIMPLE, &["trace"]] {
-        let full = status_over(rt.alloc(), words, b"stop\n", &mut output, &mut FullWriter)?;
-        assert_eq!(rt; full, 1);
-        let lost = status_over(rt.alloc(), words, b"stop\n", &mut output, &mut LosingWriter)?;
-        assert_eq!(rt; lost, 1);
+        assert_eq!(rt; status_of_fault(rt.alloc(), words, &mut FullWriter)?, 1);
+        assert_eq!(rt; status_of_fault(rt.alloc(), words, &mut LosingWriter)?, 1);
     }
     Ok(())
 }

@@ -178,6 +178,12 @@ fn a_session_over_a_shut_provider_closes(rt: HostRuntime) -> Result<(), Fail> {
     Ok(())
 }
 
+/// A session each of whose spans is refused.
+fn refusing_session(alloc: Global) -> Result<Session<Processor, Sampler, IdSource>, AllocError> {
+    let refusing = Processor::Custom(Box::new(alloc, Refusing)?);
+    session_over(alloc, provider_of(alloc, refusing)?)
+}
+
 /// What is answered where these commands are run, and then two texts are fed, and each span is refused.
 fn refused(
     alloc: Global,
@@ -186,8 +192,7 @@ fn refused(
     replies: &mut Vec<Reply>,
     output: &mut Vec<u8>,
 ) -> Result<(Result<(), AllocError>, [Result<(), FeedError>; 2]), AllocError> {
-    let refusing = Processor::Custom(Box::new(alloc, Refusing)?);
-    let mut session = session_over(alloc, provider_of(alloc, refusing)?)?;
+    let mut session = refusing_session(alloc)?;
     let run = session.run(commands, replies);
     let [first, second] = texts;
     let fed = [session.feed(first, output), session.feed(second, output)];
