@@ -62,37 +62,52 @@ fn of_empty_span() -> Result<Context, AllocError> {
     Context::new().with_span_context(SpanContext::empty_context())
 }
 
-/// The contexts that a span can start in.
-#[derive(Drop)]
-struct Parents {
-    sampled: Context,
-    dropped: Context,
-    no_span: Context,
-    empty_span: Context,
+/// What a span starts in.
+#[derive(Clone, Copy)]
+enum Parent {
+    NoContext,
+    NoSpan,
+    EmptySpan,
+    Sampled,
+    OtherFlags,
 }
 
-fn four_parents(alloc: Global) -> Result<Parents, Fail> {
-    Ok(Parents {
-        sampled: parent_of(alloc, TraceFlags::SAMPLED)?,
-        dropped: parent_of(alloc, TraceFlags::new(0xfe))?,
-        no_span: Context::new(),
-        empty_span: of_empty_span()?,
-    })
+/// The context of a parent.
+fn context_of(alloc: Global, parent: Parent) -> Result<Option<Context>, Fail> {
+    match parent {
+        Parent::NoContext => Ok(None),
+        Parent::NoSpan => Ok(Some(Context::new())),
+        Parent::EmptySpan => Ok(Some(of_empty_span()?)),
+        Parent::Sampled => Ok(Some(parent_of(alloc, TraceFlags::SAMPLED)?)),
+        Parent::OtherFlags => Ok(Some(parent_of(alloc, TraceFlags::new(0xfe))?)),
+    }
 }
 
-fn ask(
+/// A trace id with this low half.
+fn trace_of(low: u64) -> TraceId {
+    TraceId::from(u128::from(low) | (5 << 64))
+}
+
+fn ask_in(
     sampler: &Tree,
     parent_context: Option<&Context>,
+    trace_id: TraceId,
     name: &str,
 ) -> Result<SamplingResult, AllocError> {
     sampler.should_sample(
         parent_context,
-        TraceId::from(1),
+        trace_id,
         name,
         &SpanKind::Internal,
         &[],
         &[],
     )
+}
+
+/// What a sampler answers under a parent.
+fn ask(alloc: Global, sampler: &Tree, parent: Parent, name: &str) -> Result<SamplingResult, Fail> {
+    let cx = context_of(alloc, parent)?;
+    Ok(ask_in(sampler, cx.as_ref(), trace_of(1), name)?)
 }
 
 fn without_attributes(
@@ -115,134 +130,94 @@ fn over(alloc: Global, delegate: Tree) -> Result<Tree, AllocError> {
 fn decides(
     alloc: Global,
     sampler: &Tree,
-    parent_context: Option<&Context>,
+    parent: Parent,
     decision: SamplingDecision,
-    trace_state: &str,
-) -> Result<bool, Fail> {
-    Ok(ask(sampler, parent_context, "")? == without_attributes(alloc, decision, trace_state)?)
-}
-
-/// The same of these samplers, each with its decision, of the one that samples all, and of the one that drops all.
-fn all_decide(
-    alloc: Global,
-    parent: Option<&Context>,
-    samplers: &[(&Tree, SamplingDecision)],
     state: &str,
 ) -> Result<bool, Fail> {
+    let expected = without_attributes(alloc, decision, state)?;
+    Ok(ask(alloc, sampler, parent, "")? == expected)
+}
+
+/// The same of the sampler that samples all and of the one that drops all.
+fn leaves_decide(alloc: Global, parent: Parent, state: &str) -> Result<bool, Fail> {
     let (on, off) = (SamplingDecision::RecordAndSample, SamplingDecision::Drop);
-    let mut all = decides(alloc, &Tree::AlwaysOn, parent, on, state)?;
-    all = all && decides(alloc, &Tree::AlwaysOff, parent, off, state)?;
-    for (sampler, decision) in samplers {
-        all = all && decides(alloc, sampler, parent, *decision, state)?;
-    }
-    Ok(all)
+    let all = decides(alloc, &Tree::AlwaysOn, parent, on, state)?;
+    Ok(all && decides(alloc, &Tree::AlwaysOff, parent, off, state)?)
+}
+
+fn over_on(alloc: Global) -> Result<Tree, AllocError> {
+    over(alloc, Tree::AlwaysOn)
+}
+
+fn twice_over_off(alloc: Global) -> Result<Tree, AllocError> {
+    over(alloc, over(alloc, Tree::AlwaysOff)?)
 }
 
 #[test]
 fn decides_by_the_parent_and_passes_its_trace_state_on(rt: HostRuntime) -> Result<(), Fail> {
     let alloc = rt.alloc();
     let (on, off) = (SamplingDecision::RecordAndSample, SamplingDecision::Drop);
-    let parents = four_parents(alloc)?;
-    let over_on = over(alloc, Tree::AlwaysOn)?;
-    let over_off = over(alloc, over(alloc, Tree::AlwaysOff)?)?;
     let cases = [
-        ("no parent context", None, on, off, ""),
-        ("no active span", Some(&parents.no_span), on, off, ""),
-        (
-            "the empty span context",
-            Some(&parents.empty_span),
-            off,
-            off,
-            "",
-        ),
-        (
-            "a sampled parent",
-            Some(&parents.sampled),
-            on,
-            on,
-            "foo=bar",
-        ),
-        (
-            "other flags alone",
-            Some(&parents.dropped),
-            off,
-            off,
-            "foo=bar",
-        ),
+        ("no parent context", Parent::NoContext, on, off, ""),
+        ("no active span", Parent::NoSpan, on, off, ""),
+        ("the empty span context", Parent::EmptySpan, off, off, ""),
+        ("a sampled parent", Parent::Sampled, on, on, "foo=bar"),
+        ("other flags alone", Parent::OtherFlags, off, off, "foo=bar"),
     ];
-    for (case, parent, from_over_on, from_over_off, state) in cases {
-        let of_parents = [(&over_on, from_over_on), (&over_off, from_over_off)];
-        assert!(rt; all_decide(alloc, parent, &of_parents, state)?, "{case}");
+    for (case, parent, from_on, from_off, state) in cases {
+        assert!(rt; leaves_decide(alloc, parent, state)?, "{case}");
+        assert!(rt;
+            decides(alloc, &over_on(alloc)?, parent, from_on, state)?,
+            "{case}"
+        );
+        assert!(rt;
+            decides(alloc, &twice_over_off(alloc)?, parent, from_off, state)?,
+            "{case}"
+        );
     }
     Ok(())
 }
 
-/// What a sampler decides on a trace whose id has this low half.
-fn decision_on(
-    sampler: &Tree,
-    parent_context: Option<&Context>,
-    low: u64,
-) -> Result<SamplingDecision, AllocError> {
-    let trace_id = TraceId::from(u128::from(low) | (5 << 64));
-    let answer = sampler.should_sample(
-        parent_context,
-        trace_id,
-        "",
-        &SpanKind::Internal,
-        &[],
-        &[],
-    )?;
-    Ok(answer.decision)
-}
-
-/// Whether a sampler samples that trace; none where it finds no memory.
-fn samples(sampler: &Tree, parent_context: Option<&Context>, low: u64) -> Option<bool> {
-    let decision = decision_on(sampler, parent_context, low).ok()?;
-    Some(decision == SamplingDecision::RecordAndSample)
+/// Whether a sampler samples the trace whose id has this low half.
+fn samples(alloc: Global, sampler: &Tree, parent: Parent, low: u64) -> Result<bool, Fail> {
+    let cx = context_of(alloc, parent)?;
+    let answer = ask_in(sampler, cx.as_ref(), trace_of(low), "")?;
+    Ok(answer.decision == SamplingDecision::RecordAndSample)
 }
 
 #[test]
 fn a_ratio_decides_by_the_trace_id_alone(rt: HostRuntime) -> Result<(), Fail> {
-    let parents = four_parents(rt.alloc())?;
+    let alloc = rt.alloc();
     let sampler = Tree::TraceIdRatioBased(Ratio::new(1, 4)?);
-    for parent in [None, Some(&parents.sampled), Some(&parents.dropped)] {
-        assert_eq!(rt; samples(&sampler, parent, (1 << 62) - 1), Some(true));
-        assert_eq!(rt; samples(&sampler, parent, 1 << 62), Some(false));
+    for parent in [Parent::NoContext, Parent::Sampled, Parent::OtherFlags] {
+        assert!(rt; samples(alloc, &sampler, parent, (1 << 62) - 1)?);
+        assert!(rt; !samples(alloc, &sampler, parent, 1 << 62)?);
     }
     Ok(())
 }
 
 #[test]
 fn a_ratio_decides_at_roots_where_parents_come_first(rt: HostRuntime) -> Result<(), Fail> {
-    let parents = four_parents(rt.alloc())?;
-    let sampler = over(rt.alloc(), Tree::TraceIdRatioBased(Ratio::new(1, 4)?))?;
-    assert_eq!(rt; samples(&sampler, None, 1 << 62), Some(false));
-    assert_eq!(rt;
-        samples(&sampler, Some(&parents.sampled), 1 << 62),
-        Some(true)
-    );
-    assert_eq!(rt; samples(&sampler, Some(&parents.dropped), 0), Some(false));
+    let alloc = rt.alloc();
+    let sampler = over(alloc, Tree::TraceIdRatioBased(Ratio::new(1, 4)?))?;
+    assert!(rt; !samples(alloc, &sampler, Parent::NoContext, 1 << 62)?);
+    assert!(rt; samples(alloc, &sampler, Parent::Sampled, 1 << 62)?);
+    assert!(rt; !samples(alloc, &sampler, Parent::OtherFlags, 0)?);
     Ok(())
 }
 
-/// Whether a sampler answers this in a context.
-fn answers_as(
-    sampler: &Tree,
-    parent_context: Option<&Context>,
-    expected: &SamplingResult,
-) -> Result<bool, Fail> {
-    let answer = ask(sampler, parent_context, "GET")?;
-    Ok(&answer == expected)
+/// Whether a sampler answers as the custom one does.
+fn answers_whole(alloc: Global, sampler: &Tree, parent: Parent) -> Result<bool, Fail> {
+    let whole = own_answer(alloc)?;
+    Ok(ask(alloc, sampler, parent, "GET")? == whole)
 }
 
 #[test]
 fn a_custom_sampler_answers_whole(rt: HostRuntime) -> Result<(), Fail> {
     let alloc = rt.alloc();
     let sampler = Tree::Custom(Own { alloc });
-    let whole = own_answer(alloc)?;
-    let parents = four_parents(alloc)?;
-    for parent in [None, Some(&parents.no_span), Some(&parents.sampled)] {
-        assert!(rt; answers_as(&sampler, parent, &whole)?);
+    for parent in [Parent::NoContext, Parent::NoSpan, Parent::Sampled] {
+        assert!(rt; answers_whole(alloc, &sampler, parent)?);
     }
     Ok(())
 }
@@ -263,26 +238,34 @@ fn a_custom_sampler_in_a_box_answers_whole(rt: HostRuntime) -> Result<(), Fail> 
     Ok(())
 }
 
+/// Whether a sampler answers the custom one's decision and nothing else.
+fn answers_its_decision(alloc: Global, sampler: &Tree, parent: Parent) -> Result<bool, Fail> {
+    let decision = without_attributes(alloc, SamplingDecision::RecordOnly, "")?;
+    Ok(ask(alloc, sampler, parent, "GET")? == decision)
+}
+
 #[test]
 fn the_decision_of_a_delegate_counts_alone(rt: HostRuntime) -> Result<(), Fail> {
     let alloc = rt.alloc();
     let sampler = over(alloc, Tree::Custom(Own { alloc }))?;
-    let decision = without_attributes(alloc, SamplingDecision::RecordOnly, "")?;
-    let parents = four_parents(alloc)?;
-    for parent in [None, Some(&parents.no_span)] {
-        assert!(rt; answers_as(&sampler, parent, &decision)?);
-    }
-    assert!(rt; !answers_as(&sampler, Some(&parents.sampled), &decision)?);
+    assert!(rt; answers_its_decision(alloc, &sampler, Parent::NoContext)?);
+    assert!(rt; answers_its_decision(alloc, &sampler, Parent::NoSpan)?);
+    assert!(rt; !answers_its_decision(alloc, &sampler, Parent::Sampled)?);
     Ok(())
+}
+
+/// Whether a sampler refuses a span without a name.
+fn refuses(alloc: Global, sampler: &Tree, parent: Parent) -> Result<bool, Fail> {
+    let cx = context_of(alloc, parent)?;
+    Ok(ask_in(sampler, cx.as_ref(), trace_of(1), "").is_err())
 }
 
 #[test]
 fn a_custom_sampler_is_not_asked_under_a_parent(rt: HostRuntime) -> Result<(), Fail> {
     let alloc = rt.alloc();
-    let sampled = parent_of(alloc, TraceFlags::SAMPLED)?;
     let sampler = over(alloc, Tree::Custom(Own { alloc }))?;
-    assert!(rt; ask(&sampler, None, "").is_err());
-    assert!(rt; ask(&sampler, Some(&sampled), "").is_ok());
+    assert!(rt; refuses(alloc, &sampler, Parent::NoContext)?);
+    assert!(rt; !refuses(alloc, &sampler, Parent::Sampled)?);
     Ok(())
 }
 
@@ -300,24 +283,17 @@ fn copy_of(sampler: &Tree) -> Result<Tree, Fail> {
     Ok(copy)
 }
 
-/// What the copy of a sampler decides on a root.
-fn root_decision(sampler: &Tree) -> Result<SamplingDecision, Fail> {
+/// What the copy of a sampler decides under a parent.
+fn copy_decision(alloc: Global, sampler: &Tree, parent: Parent) -> Result<SamplingDecision, Fail> {
     let copy = copy_of(sampler)?;
-    Ok(ask(&copy, None, "")?.decision)
-}
-
-/// The same on the child of a span.
-fn child_decision(sampler: &Tree, parent: &Context) -> Result<SamplingDecision, Fail> {
-    let copy = copy_of(sampler)?;
-    Ok(ask(&copy, Some(parent), "")?.decision)
+    Ok(ask(alloc, &copy, parent, "")?.decision)
 }
 
 /// The same on a root, on the child of a sampled span, and on that of another one.
 fn copy_decisions(alloc: Global, sampler: &Tree) -> Result<[SamplingDecision; 3], Fail> {
-    let parents = four_parents(alloc)?;
-    let root = root_decision(sampler)?;
-    let child = child_decision(sampler, &parents.sampled)?;
-    let other = child_decision(sampler, &parents.dropped)?;
+    let root = copy_decision(alloc, sampler, Parent::NoContext)?;
+    let child = copy_decision(alloc, sampler, Parent::Sampled)?;
+    let other = copy_decision(alloc, sampler, Parent::OtherFlags)?;
     Ok([root, child, other])
 }
 
@@ -328,10 +304,11 @@ fn copies_trees_without_a_custom_sampler(rt: HostRuntime) -> Result<(), Fail> {
     let off = SamplingDecision::Drop;
     assert_eq!(rt; copy_decisions(alloc, &Tree::AlwaysOn)?, [on, on, on]);
     assert_eq!(rt; copy_decisions(alloc, &Tree::AlwaysOff)?, [off, off, off]);
-    let over_on = over(alloc, Tree::AlwaysOn)?;
-    assert_eq!(rt; copy_decisions(alloc, &over_on)?, [on, on, off]);
-    let twice = over(alloc, over(alloc, Tree::AlwaysOff)?)?;
-    assert_eq!(rt; copy_decisions(alloc, &twice)?, [off, on, off]);
+    assert_eq!(rt; copy_decisions(alloc, &over_on(alloc)?)?, [on, on, off]);
+    assert_eq!(rt;
+        copy_decisions(alloc, &twice_over_off(alloc)?)?,
+        [off, on, off]
+    );
     Ok(())
 }
 

@@ -1,10 +1,13 @@
+//! The machine by itself: exporters of a caller's own, counts of steps and random lists. Scripts of the steps before an
+//! exporter in memory are those of the program's mode `steps`, in `otel_session_checks`.
+
 mod random;
 mod refusals;
 mod script;
 mod watching;
 
 use crate::tests::machine::script::{
-    counts_text, first_difference, machine, sizes, spans_text, step_of, text_of,
+    counts_text, first_difference, machine, sizes, step_of, text_of,
 };
 use otel_base::error::{OTelSdkError, OTelSdkResult};
 use otel_batch::machine::{BatchMachine, Outcome, Slot, Step, Worker};
@@ -12,141 +15,6 @@ use otel_batch::trace::{ExporterBox, SpanData, SpanExporter};
 use std::alloc::Global;
 use std::test::Fail;
 use std::time::Duration;
-
-/// A span that is sent while the queue is full is refused and counted; of two producers that see a full batch one posts.
-#[test]
-fn a_full_queue_drops_and_a_wish_is_posted_once(rt: HostRuntime) -> Result<(), Fail> {
-    let alloc = rt.alloc();
-    let mut queue = machine(alloc, 3, 2, 1)?;
-    let script = [
-        ("offer 0 a", "counted 1"),
-        ("send 0", "accepted"),
-        ("offer 0 b", "counted 2"),
-        ("send 0", "accepted"),
-        ("ask 0", "may post"),
-        ("post 0", "posted"),
-        ("offer 0 c", "counted 3"),
-        ("send 0", "accepted"),
-        ("ask 0", "already asked"),
-        ("offer 0 d", "counted 4"),
-        ("send 0", "full"),
-        ("undo 0", "undone"),
-        ("take", "took export"),
-        ("load", "not enabled"),
-        ("clear", "cleared"),
-        ("load", "loaded 3"),
-        ("pull", "pulled"),
-        ("pull", "pulled"),
-        ("pull", "not enabled"),
-        ("hand", "handed over 2"),
-        ("subtract", "subtracted"),
-        ("pull", "pulled"),
-        ("hand", "handed over 1"),
-        ("subtract", "subtracted"),
-        ("finish", "finished"),
-    ];
-    assert_eq!(rt; first_difference(alloc, &mut queue, &script)?.as_str(), "");
-    assert_eq!(rt;
-        spans_text(alloc, &queue)?.as_str(),
-        "waiting [] hand [] told [a,b] [c]"
-    );
-    assert_eq!(rt;
-        counts_text(alloc, &queue)?.as_str(),
-        "counter 0 dropped 1 open"
-    );
-    Ok(())
-}
-
-/// A flush counts the span of a producer that has not sent it yet, and leaves it to the next drain.
-#[test]
-fn a_flush_drains_what_waits(rt: HostRuntime) -> Result<(), Fail> {
-    let alloc = rt.alloc();
-    let mut queue = machine(alloc, 2, 2, 2)?;
-    let script = [
-        ("offer 0 a", "counted 1"),
-        ("flush 1", "requested"),
-        ("take", "took flush 1"),
-        ("load", "loaded 1"),
-        ("pull", "empty"),
-        ("finish", "finished"),
-        ("collect 1", "collected ok"),
-        ("send 0", "accepted"),
-    ];
-    assert_eq!(rt; first_difference(alloc, &mut queue, &script)?.as_str(), "");
-    assert_eq!(rt;
-        spans_text(alloc, &queue)?.as_str(),
-        "waiting [a] hand [] told"
-    );
-    assert_eq!(rt;
-        counts_text(alloc, &queue)?.as_str(),
-        "counter 1 dropped 0 open"
-    );
-    Ok(())
-}
-
-/// A span that is sent behind a shutdown's load stays among the waiting, and none is exported behind the shutdown.
-#[test]
-fn a_span_sent_during_a_shutdown_is_stranded(rt: HostRuntime) -> Result<(), Fail> {
-    let alloc = rt.alloc();
-    let mut queue = machine(alloc, 2, 2, 2)?;
-    let script = [
-        ("offer 0 a", "counted 1"),
-        ("send 0", "accepted"),
-        ("shutdown 1", "requested"),
-        ("take", "took shutdown 1"),
-        ("load", "loaded 1"),
-        ("offer 0 b", "counted 2"),
-        ("send 0", "accepted"),
-        ("pull", "pulled"),
-        ("hand", "handed over 1"),
-        ("subtract", "subtracted"),
-        ("finish", "finished"),
-        ("close", "shut down"),
-        ("collect 1", "collected ok"),
-        ("ask 0", "may post"),
-        ("post 0", "closed"),
-        ("reset 0", "reset"),
-        ("offer 0 c", "counted 2"),
-        ("send 0", "closed"),
-        ("undo 0", "undone"),
-        ("flush 0", "closed"),
-        ("shutdown 1", "closed"),
-        ("resource", "closed"),
-    ];
-    assert_eq!(rt; first_difference(alloc, &mut queue, &script)?.as_str(), "");
-    assert_eq!(rt;
-        spans_text(alloc, &queue)?.as_str(),
-        "waiting [b] hand [] told [a]"
-    );
-    assert_eq!(rt;
-        counts_text(alloc, &queue)?.as_str(),
-        "counter 1 dropped 0 closed"
-    );
-    Ok(())
-}
-
-/// A request that a shutdown finds in the control queue is answered with an error.
-#[test]
-fn a_shutdown_drops_the_requests_behind_it(rt: HostRuntime) -> Result<(), Fail> {
-    let alloc = rt.alloc();
-    let mut queue = machine(alloc, 2, 2, 2)?;
-    let script = [
-        ("shutdown 0", "requested"),
-        ("flush 1", "requested"),
-        ("take", "took shutdown 0"),
-        ("load", "loaded 0"),
-        ("finish", "finished"),
-        ("close", "shut down"),
-        (
-            "collect 1",
-            "collected Operation failed: request dropped by shutdown",
-        ),
-        ("collect 0", "collected ok"),
-        ("take", "not enabled"),
-    ];
-    assert_eq!(rt; first_difference(alloc, &mut queue, &script)?.as_str(), "");
-    Ok(())
-}
 
 /// Steps in states in which they are not enabled, and steps of producers that there are not.
 #[test]
@@ -183,29 +51,6 @@ fn a_step_out_of_turn_is_not_enabled(rt: HostRuntime) -> Result<(), Fail> {
         counts_text(alloc, &queue)?.as_str(),
         "counter 1 dropped 0 open"
     );
-    Ok(())
-}
-
-/// With 64 messages the control queue takes no more.
-#[test]
-fn the_control_queue_holds_64_messages(rt: HostRuntime) -> Result<(), Fail> {
-    let alloc = rt.alloc();
-    let mut queue = machine(alloc, 1, 1, 1)?;
-    for _ in 0..64 {
-        assert_eq!(rt; queue.step(step_of(alloc, "resource")?), Outcome::Posted);
-    }
-    assert_eq!(rt; queue.messages_len(), 64);
-    let script = [
-        ("resource", "full"),
-        ("flush 0", "full"),
-        ("shutdown 0", "full"),
-        ("offer 0 a", "counted 1"),
-        ("send 0", "accepted"),
-        ("ask 0", "may post"),
-        ("post 0", "full"),
-        ("reset 0", "reset"),
-    ];
-    assert_eq!(rt; first_difference(alloc, &mut queue, &script)?.as_str(), "");
     Ok(())
 }
 

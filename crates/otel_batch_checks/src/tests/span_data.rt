@@ -40,39 +40,58 @@ fn attributes(alloc: Global, key: &str) -> Result<Vec<KeyValue>, AllocError> {
     Ok(vec![in alloc; KeyValue::new(Key::new(text(alloc, key)?), Value::I64(7))]?)
 }
 
-/// A span of which no part is empty.
-fn full_span(alloc: Global) -> Result<SpanData, Fail> {
+fn one_event(alloc: Global) -> Result<SpanEvents, AllocError> {
     let event = Event::new(
         text(alloc, "sent")?,
         Moment(5),
         attributes(alloc, "size")?,
         1,
     );
+    Ok(SpanEvents {
+        events: vec![in alloc; event]?,
+        dropped_count: 4,
+    })
+}
+
+fn one_link(alloc: Global) -> Result<SpanLinks, Fail> {
     let link = Link::new(context(alloc, 9)?, attributes(alloc, "why")?, 2);
-    let scope = InstrumentationScope::builder(alloc, text(alloc, "library")?);
+    Ok(SpanLinks {
+        links: vec![in alloc; link]?,
+        dropped_count: 5,
+    })
+}
+
+/// A span that has recorded nothing.
+fn bare_span(alloc: Global) -> Result<SpanData, Fail> {
+    let scope = InstrumentationScope::builder(alloc, text(alloc, "library")?).build()?;
     Ok(SpanData {
         span_context: context(alloc, 2)?,
         parent_span_id: SpanId::from(3),
         parent_span_is_remote: true,
         span_kind: SpanKind::Server,
-        name: text(alloc, "GET /")?,
+        name: String::new(alloc),
         start_time: Moment(4),
         end_time: Moment(6),
-        attributes: attributes(alloc, "method")?,
+        attributes: Vec::new(alloc),
         dropped_attributes_count: 3,
-        events: SpanEvents {
-            events: vec![in alloc; event]?,
-            dropped_count: 4,
-        },
-        links: SpanLinks {
-            links: vec![in alloc; link]?,
-            dropped_count: 5,
-        },
-        status: Status::Error {
-            description: text(alloc, "late")?,
-        },
-        instrumentation_scope: scope.build()?,
+        events: SpanEvents::new(alloc),
+        links: SpanLinks::new(alloc),
+        status: Status::Unset,
+        instrumentation_scope: scope,
     })
+}
+
+/// A span of which no part is empty.
+fn full_span(alloc: Global) -> Result<SpanData, Fail> {
+    let mut span = bare_span(alloc)?;
+    span.name = text(alloc, "GET /")?;
+    span.attributes = attributes(alloc, "method")?;
+    span.events = one_event(alloc)?;
+    span.links = one_link(alloc)?;
+    span.status = Status::Error {
+        description: text(alloc, "late")?,
+    };
+    Ok(span)
 }
 
 #[test]

@@ -80,6 +80,9 @@ const A_LATE_SEND: Script = &[
     ("offer 0 c", "counted 2"),
     ("send 0", "closed"),
     ("undo 0", "undone"),
+    ("flush 0", "closed"),
+    ("shutdown 1", "closed"),
+    ("resource", "closed"),
     (
         "state",
         "waiting [b] hand [] told [a] counter 1 dropped 0 closed",
