@@ -53,16 +53,21 @@ fn start_in(
     Ok(())
 }
 
+fn start_root(alloc: Global, provider: &mut CountingProvider<'_>) -> Result<(), AllocError> {
+    start_in(alloc, &Context::new(), provider)
+}
+
+fn start_suppressed(alloc: Global, provider: &mut CountingProvider<'_>) -> Result<(), AllocError> {
+    let cx = Context::new().with_telemetry_suppressed()?;
+    start_in(alloc, &cx, provider)
+}
+
 /// Starts a span in a context, in one where telemetry is suppressed, and behind a shutdown.
 fn start_thrice(alloc: Global, provider: &mut CountingProvider<'_>) -> Result<(), AllocError> {
-    start_in(alloc, &Context::new(), provider)?;
-    start_in(
-        alloc,
-        &Context::new().with_telemetry_suppressed()?,
-        provider,
-    )?;
+    start_root(alloc, provider)?;
+    start_suppressed(alloc, provider)?;
     let _ = provider.shutdown();
-    start_in(alloc, &Context::new(), provider)
+    start_root(alloc, provider)
 }
 
 #[test]
