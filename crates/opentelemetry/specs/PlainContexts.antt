@@ -1,9 +1,9 @@
 -- What contracts see of a context's parts.
-use Rattle.std.specs.Prelude.{Bool, true, false, [], Option, Some, None}
+use Rattle.std.specs.Prelude.{Bool, true, false, [], Option, Some, None, unwrap_or}
 use Rattle.std.specs.Arc.{arc_value}
 use Rattle.std.specs.declared.sync.Arc.{Arc}
 use Rattle.opentelemetry.specs.Baggage.{PlainBaggage}
-use Rattle.opentelemetry.specs.Plain.{PlainSpanContext}
+use Rattle.opentelemetry.specs.Plain.{PlainContext, PlainSpanContext}
 
 -- the context of no span
 abbrev pub empty_span_context : PlainSpanContext
@@ -13,6 +13,10 @@ empty_span_context = record { trace_id = 0; span_id = 0; trace_flags = 0; is_rem
 abbrev pub active_span_context : Bool → PlainSpanContext → Option PlainSpanContext
 active_span_context true span_context = Some span_context
 active_span_context false span_context = None
+
+-- the active span's context, the empty one where no span is active
+abbrev pub current_span_context : PlainContext → PlainSpanContext
+current_span_context cx = unwrap_or cx.span_context empty_span_context
 
 -- the baggage that is shared; the empty one where nothing is
 abbrev pub shared_baggage : {D : Type 0} → Option (Arc PlainBaggage D) → PlainBaggage

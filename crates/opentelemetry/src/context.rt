@@ -1,8 +1,8 @@
 //! What a new span starts in: the span that is active there, what an application hands on, and whether telemetry is
 //! suppressed. A context does not change: each `with_` makes another one. Contexts share what they have in common.
 
-ghost use Rattle.std.specs.Prelude.{◌≡◌, ◌↔◌, [], None, Some, true, false, IsTrue, IsSome, IfOk, unwrap_or};
-ghost use Rattle.opentelemetry.specs.PlainContexts.{active_span_context, empty_span_context};
+ghost use Rattle.std.specs.Prelude.{◌≡◌, ◌↔◌, [], None, Some, true, false, IsTrue, IsSome, IfOk};
+ghost use Rattle.opentelemetry.specs.PlainContexts.{current_span_context};
 
 use crate::baggage::Baggage;
 use crate::trace::SpanContext;
@@ -73,7 +73,7 @@ impl Context {
 
     /// The active span's context, the empty one where no span is active.
     pub fn span_context(&self) -> &SpanContext
-        ensures { result.now ≡ unwrap_or self.now.span_context empty_span_context }
+        ensures { result.now ≡ current_span_context self.now }
     {
         &self.span_context
     }

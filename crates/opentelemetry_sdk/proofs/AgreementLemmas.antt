@@ -4,7 +4,7 @@ use Rattle.std.specs.Prelude.{Option, None, Some, MatchOption, unwrap_or, ◌==�
 use Rattle.std.proofs.lemmas.Bool.{both_ways, eqb-true, eq-eqb}
 use Rattle.std.proofs.lemmas.List.Elements.{All-nil, All-cons}
 use Rattle.opentelemetry.specs.Plain.{PlainScope, PlainContext, PlainSpanContext}
-use Rattle.opentelemetry.specs.PlainContexts.{empty_span_context}
+use Rattle.opentelemetry.specs.PlainContexts.{current_span_context, empty_span_context}
 use Rattle.opentelemetry.specs.PlainSpanBuilder.{PlainSpanBuilder}
 use Rattle.otel_base.specs.Agreement.{Agrees}
 use Rattle.otel_base.specs.Sampler.{SamplerGives, SamplerPlan, active_in, built_in, parent_based, parent_decision}
@@ -18,7 +18,7 @@ use Rattle.otel_base.proofs.TraceparentLemmas.{injected_carries}
 use Rattle.opentelemetry_sdk.specs.Hops.{AreHops, GoesByParents, IsChild, IsPassedOn}
 use Rattle.opentelemetry_sdk.specs.Provider.{ProviderState}
 use Rattle.opentelemetry_sdk.specs.SpanHistory.{SpanHistory, SpanStart, over, span_of}
-use Rattle.opentelemetry_sdk.specs.Starting.{Decided, DrawsTraceId, Starts, StartsOpen, parent_in, start_flags, start_question, start_span_context}
+use Rattle.opentelemetry_sdk.specs.Starting.{Decided, DrawsTraceId, Starts, StartsOpen, start_flags, start_question, start_span_context}
 use Rattle.opentelemetry_sdk.specs.declared.trace.span_processor.SpanProcessor.{Ghosts}
 
 -- a child has its parent's sampled flag
@@ -90,7 +90,7 @@ module _ {P S G : Type 0} (calls : Ghosts P) (sampler : sampling.Ghosts S) (ids 
       let runs : (old.is_shut || cx.telemetry_suppressed) ≡ false = λ k. is_open k || unsuppressed k in
       let started : StartsOpen calls sampler ids old scope builder cx now history new =
       subst (λ (b : Bool). MatchBool b ((history ≡ over empty_span_context old.span_limits) × (new ≡ old)) (StartsOpen calls sampler ids old scope builder cx now history new)) runs starts in
-      let is_parent : parent_in cx ≡ parent = ap (λ (a : Option PlainSpanContext). unwrap_or a empty_span_context) active in
+      let is_parent : current_span_context cx ≡ parent = ap (λ (a : Option PlainSpanContext). unwrap_or a empty_span_context) active in
       let drawn : DrawsTraceId ids (Some parent) started.draws.between started.trace_id new.id_generator =
       subst (λ (a : Option PlainSpanContext). DrawsTraceId ids a started.draws.between started.trace_id new.id_generator) active started.draws.draws_trace_id in
       let answered = by_parents (start_question cx started.trace_id builder) started.answer parent active started.asks in (

@@ -1,7 +1,7 @@
 -- What a start makes.
 use Rattle.std.proofs.Common.{◌≡◌, ◌≢◌, ℕ, Bool, true, false, ◌||◌, List, [], MatchBool, refl, sym, subst, ap, ◌∙◌}
 use Rattle.opentelemetry.specs.Plain.{PlainScope, PlainContext}
-use Rattle.opentelemetry.specs.PlainContexts.{empty_span_context}
+use Rattle.opentelemetry.specs.PlainContexts.{current_span_context, empty_span_context}
 use Rattle.opentelemetry.specs.PlainSpanBuilder.{PlainSpanBuilder}
 use Rattle.otel_base.specs.declared.trace.sampler.SamplingDecision.{SamplingDecision}
 use Rattle.otel_base.specs.declared.trace.sampler.SamplingDecision.TheVariants as decisions
@@ -9,7 +9,7 @@ use Rattle.otel_base.specs.declared.trace.sampler.ShouldSample as sampling
 use Rattle.otel_base.specs.declared.trace.id_generator.IdGenerator as drawing
 use Rattle.otel_base.specs.Sampling.{PlainSamplingResult}
 use Rattle.opentelemetry_sdk.specs.Provider.{ProviderState}
-use Rattle.opentelemetry_sdk.specs.Starting.{DrawsIds, PassesThrough, Records, Decided, Starts, StartsOpen, parent_in, start_of, start_question, start_span_context}
+use Rattle.opentelemetry_sdk.specs.Starting.{DrawsIds, PassesThrough, Records, Decided, Starts, StartsOpen, start_of, start_question, start_span_context}
 use Rattle.opentelemetry_sdk.specs.SpanHistory.{PlainSpan, SpanStart, SpanHistory, begun, over, span_of, IsEdited, after, recording, not_recording}
 use Rattle.opentelemetry_sdk.specs.declared.trace.span_processor.SpanProcessor.{Ghosts}
 use Rattle.opentelemetry_sdk.proofs.SpanLaws.{after-recording}
@@ -43,11 +43,11 @@ module _ {P S G : Type 0} (calls : Ghosts P) (sampler : sampling.Ghosts S) (ids 
       → (old.is_shut || cx.telemetry_suppressed) ≡ false
       → DrawsIds ids cx.span_context old.id_generator trace_id span_id drawn.id_generator → drawn ≡ record old { id_generator = drawn.id_generator }
       → sampler.gives drawn.sampler (start_question cx trace_id builder) answer
-      → Decided calls answer.decision cx (start_of scope builder (parent_in cx) now old.span_limits (start_span_context (parent_in cx) trace_id span_id answer) answer.attributes) drawn.processors new.processors history
+      → Decided calls answer.decision cx (start_of scope builder (current_span_context cx) now old.span_limits (start_span_context (current_span_context cx) trace_id span_id answer) answer.attributes) drawn.processors new.processors history
       → new ≡ record drawn { processors = new.processors }
       → Starts calls sampler ids old scope builder cx now history new
   opened old drawn new scope builder cx now trace_id span_id answer history h draws d asked decided rest =
-      let start : SpanStart = start_of scope builder (parent_in cx) now old.span_limits (start_span_context (parent_in cx) trace_id span_id answer) answer.attributes in
+      let start : SpanStart = start_of scope builder (current_span_context cx) now old.span_limits (start_span_context (current_span_context cx) trace_id span_id answer) answer.attributes in
       let same : drawn.processors ≡ old.processors = ap (λ (p : ProviderState P S G). p.processors) d in
       let generator : new.id_generator ≡ drawn.id_generator = ap (λ (p : ProviderState P S G). p.id_generator) rest in
       let result : StartsOpen calls sampler ids old scope builder cx now history new = record {
@@ -68,11 +68,11 @@ module _ {P S G : Type 0} (calls : Ghosts P) (sampler : sampling.Ghosts S) (ids 
       → DrawsIds ids cx.span_context old.id_generator trace_id span_id drawn.id_generator → drawn ≡ record old { id_generator = drawn.id_generator }
       → sampler.gives drawn.sampler (start_question cx trace_id builder) answer
       → answer.decision ≡ decisions.Drop
-      → span ≡ not_recording (start_span_context (parent_in cx) trace_id span_id answer) old.span_limits
+      → span ≡ not_recording (start_span_context (current_span_context cx) trace_id span_id answer) old.span_limits
       → (history : SpanHistory) × (span ≡ span_of history) × Starts calls sampler ids old scope builder cx now history drawn
   starts_dropped old drawn scope builder cx now trace_id span_id answer span h draws d asked drops e =
-      let context = start_span_context (parent_in cx) trace_id span_id answer in
-      let start : SpanStart = start_of scope builder (parent_in cx) now old.span_limits context answer.attributes in
+      let context = start_span_context (current_span_context cx) trace_id span_id answer in
+      let start : SpanStart = start_of scope builder (current_span_context cx) now old.span_limits context answer.attributes in
       let history : SpanHistory = over context old.span_limits in
       let decided : Decided calls answer.decision cx start drawn.processors drawn.processors history =
       subst (λ (d : SamplingDecision). Decided calls d cx start drawn.processors drawn.processors history) (sym drops) (refl, refl) in
@@ -84,13 +84,13 @@ module _ {P S G : Type 0} (calls : Ghosts P) (sampler : sampling.Ghosts S) (ids 
       → DrawsIds ids cx.span_context old.id_generator trace_id span_id drawn.id_generator → drawn ≡ record old { id_generator = drawn.id_generator }
       → sampler.gives drawn.sampler (start_question cx trace_id builder) answer
       → answer.decision ≢ decisions.Drop
-      → first ≡ recording (start_of scope builder (parent_in cx) now old.span_limits (start_span_context (parent_in cx) trace_id span_id answer) answer.attributes) []
+      → first ≡ recording (start_of scope builder (current_span_context cx) now old.span_limits (start_span_context (current_span_context cx) trace_id span_id answer) answer.attributes) []
       → IsEdited first span
       → PassesThrough calls cx first drawn.processors new.processors span
       → new ≡ record drawn { processors = new.processors }
       → (history : SpanHistory) × (span ≡ span_of history) × Starts calls sampler ids old scope builder cx now history new
   starts_recording old drawn new scope builder cx now trace_id span_id answer first span h draws d asked kept e edited passed rest =
-      let start : SpanStart = start_of scope builder (parent_in cx) now old.span_limits (start_span_context (parent_in cx) trace_id span_id answer) answer.attributes in
+      let start : SpanStart = start_of scope builder (current_span_context cx) now old.span_limits (start_span_context (current_span_context cx) trace_id span_id answer) answer.attributes in
       let what = records calls cx start drawn.processors new.processors first span e edited passed in
       let decided = decided_to_record calls answer.decision cx start drawn.processors new.processors what.0 kept what.2 in
       (what.0, what.1, opened old drawn new scope builder cx now trace_id span_id answer what.0 h draws d asked decided rest)

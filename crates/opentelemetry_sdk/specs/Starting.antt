@@ -1,7 +1,7 @@
 -- What the start of a span makes, and what it does to its provider (OpenTelemetry specification, "Span Creation").
 use Rattle.std.specs.Prelude.{◌≡◌, ◌≢◌, ℕ, ◌+◌, ◌*◌, ◌/◌, ◌++◌, ◌&&◌, ◌||◌, Bool, false, List, [], ◌∷◌, Option, Some, None, MatchBool, nat_lt, unwrap_or}
 use Rattle.opentelemetry.specs.Plain.{PlainKeyValue, PlainSpanContext, PlainContext, PlainScope}
-use Rattle.opentelemetry.specs.PlainContexts.{empty_span_context}
+use Rattle.opentelemetry.specs.PlainContexts.{current_span_context, empty_span_context}
 use Rattle.opentelemetry.specs.PlainSpanBuilder.{PlainSpanBuilder}
 use Rattle.opentelemetry.specs.declared.trace.span_kind.SpanKind.TheVariants.{Internal}
 use Rattle.otel_base.specs.declared.trace.span_limit.SpanLimits.{SpanLimits}
@@ -17,10 +17,6 @@ use Rattle.opentelemetry_sdk.specs.declared.trace.span_processor.SpanProcessor.{
 -- the context in which no span is active
 abbrev pub root_cx : PlainContext
 root_cx = record { span_context = None; baggage = []; telemetry_suppressed = false }
-
--- the active span's context, the empty one where no span is active
-abbrev pub parent_in : PlainContext → PlainSpanContext
-parent_in cx = unwrap_or cx.span_context empty_span_context
 
 -- what the sampler is asked of a span that is to start in a context
 abbrev pub start_question : PlainContext → ℕ → PlainSpanBuilder → SamplingQuestion
@@ -134,8 +130,8 @@ module _ {P S G : Type 0} (calls : Ghosts P) (sampler : sampling.Ghosts S) (ids 
     pub draws : DrawsIds ids cx.span_context old.id_generator trace_id span_id new.id_generator
     pub asks : sampler.gives old.sampler (start_question cx trace_id builder) answer
     pub decided : Decided calls answer.decision cx
-        (start_of scope builder (parent_in cx) now old.span_limits
-        (start_span_context (parent_in cx) trace_id span_id answer) answer.attributes)
+        (start_of scope builder (current_span_context cx) now old.span_limits
+        (start_span_context (current_span_context cx) trace_id span_id answer) answer.attributes)
         old.processors new.processors history
     pub rest : new ≡ record old { processors = new.processors; id_generator = new.id_generator }
 

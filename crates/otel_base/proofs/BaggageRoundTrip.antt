@@ -96,36 +96,36 @@ metadata_tight : (e : PlainBaggageEntry) → HasTexts e → IsSaidUnchanged e �
 metadata_tight e texts unchanged = trim_pieces semicolon e.metadata (lit< tt) refl texts.metadata unchanged.parts
 
 -- the pair of an entry as its member has it
-abbrev pub pair_of : PlainBaggageEntry → List ℕ
-pair_of e = escaped e.key ++ (equals_sign ∷ escaped e.value)
+abbrev pub encoded_pair : PlainBaggageEntry → List ℕ
+encoded_pair e = escaped e.key ++ (equals_sign ∷ escaped e.value)
 
-pair_lacks_semicolon : (e : PlainBaggageEntry) → Lacks semicolon (pair_of e)
+pair_lacks_semicolon : (e : PlainBaggageEntry) → Lacks semicolon (encoded_pair e)
 pair_lacks_semicolon e =
     All-append (λ b. eqb b semicolon ≡ false) (escaped e.key) (equals_sign ∷ escaped e.value) (escaped_lacks semicolon e.key semicolon_is)
     (All-cons (λ b. eqb b semicolon ≡ false) equals_sign (escaped e.value) refl (escaped_lacks semicolon e.value semicolon_is))
 
-member_is : (e : PlainBaggageEntry) → trim e.metadata ≡ e.metadata → member_of e ≡ pair_of e ++ behind_semicolon e.metadata
+member_is : (e : PlainBaggageEntry) → trim e.metadata ≡ e.metadata → member_of e ≡ encoded_pair e ++ behind_semicolon e.metadata
 unfolding member_of
 member_is e tight =
     ap (λ m. escaped e.key ++ (equals_sign ∷ (escaped e.value ++ behind_semicolon m))) tight
     ∙ sym (append_assoc (escaped e.key) (equals_sign ∷ escaped e.value) (behind_semicolon e.metadata))
 
 -- the parts of a member are the pair and the pieces of metadata, if there is any
-member_parts : (e : PlainBaggageEntry) (metadata : List ℕ) → (properties : List (List ℕ)) × (pieces_at semicolon (pair_of e ++ behind_semicolon metadata) ≡ pair_of e ∷ properties)
+member_parts : (e : PlainBaggageEntry) (metadata : List ℕ) → (properties : List (List ℕ)) × (pieces_at semicolon (encoded_pair e ++ behind_semicolon metadata) ≡ encoded_pair e ∷ properties)
     × (metadata_of (pieces_at semicolon metadata) ≡ metadata → metadata_of properties ≡ metadata)
 unfolding metadata_of
 member_parts e [] = (
   [],
-  ap (pieces_at semicolon) (append-nil (pair_of e)) ∙ slice_split_none (λ b. eqb b semicolon) (pair_of e) (pair_lacks_semicolon e),
+  ap (pieces_at semicolon) (append-nil (encoded_pair e)) ∙ slice_split_none (λ b. eqb b semicolon) (encoded_pair e) (pair_lacks_semicolon e),
   λ _. refl,
 )
 member_parts e (b ∷ bs) = (
   pieces_at semicolon (b ∷ bs),
-  slice_split_at (λ b. eqb b semicolon) (pair_of e) semicolon (b ∷ bs) (pair_lacks_semicolon e) refl,
+  slice_split_at (λ b. eqb b semicolon) (encoded_pair e) semicolon (b ∷ bs) (pair_lacks_semicolon e) refl,
   λ is. is,
 )
 
-pair_pieces : (e : PlainBaggageEntry) → pieces_at equals_sign (pair_of e) ≡ escaped e.key ∷ escaped e.value ∷ []
+pair_pieces : (e : PlainBaggageEntry) → pieces_at equals_sign (encoded_pair e) ≡ escaped e.key ∷ escaped e.value ∷ []
 pair_pieces e =
     slice_split_at (λ b. eqb b equals_sign) (escaped e.key) equals_sign (escaped e.value) (escaped_lacks equals_sign e.key equals_sign_is) refl
     ∙ ap (λ l. escaped e.key ∷ l) (slice_split_none (λ b. eqb b equals_sign) (escaped e.value) (escaped_lacks equals_sign e.value equals_sign_is))
@@ -138,7 +138,7 @@ named_back (b ∷ key) value metadata some = refl
 member_back : (e : PlainBaggageEntry) → e.key ≢ [] → HasTexts e → IsSaidUnchanged e → entry_of_member (member_of e) ≡ Some e
 member_back e some texts unchanged =
     let (properties, parts, metadata) = member_parts e e.metadata in
-    member_says (member_of e) (pair_of e) properties (ap (pieces_at semicolon) (member_is e (metadata_tight e texts unchanged)) ∙ parts)
+    member_says (member_of e) (encoded_pair e) properties (ap (pieces_at semicolon) (member_is e (metadata_tight e texts unchanged)) ∙ parts)
     ∙ (λ i. paired_entry (pair_pieces e i) (metadata (metadata_back e texts unchanged) i))
     ∙ (λ i. named_entry (said_escaped e.key texts.key unchanged.key i) (said_escaped e.value texts.value unchanged.value i) e.metadata)
     ∙ named_back e.key e.value e.metadata some
@@ -152,7 +152,7 @@ members_back (e ∷ es) named texts unchanged =
 member_lacks_comma : (e : PlainBaggageEntry) → HasTexts e → IsSaidUnchanged e → Lacks comma (member_of e)
 member_lacks_comma e texts unchanged =
     subst (Lacks comma) (sym (member_is e (metadata_tight e texts unchanged)))
-    (All-append (λ b. eqb b comma ≡ false) (pair_of e) (behind_semicolon e.metadata)
+    (All-append (λ b. eqb b comma ≡ false) (encoded_pair e) (behind_semicolon e.metadata)
     (All-append (λ b. eqb b comma ≡ false) (escaped e.key) (equals_sign ∷ escaped e.value) (escaped_lacks comma e.key comma_is)
     (All-cons (λ b. eqb b comma ≡ false) equals_sign (escaped e.value) refl (escaped_lacks comma e.value comma_is)))
     (behind e.metadata unchanged.no_comma))

@@ -12,7 +12,7 @@ use Rattle.opentelemetry.specs.PlainValues.{plain_value}
 use Rattle.opentelemetry.specs.Same.{same_text, same_value, pointwise_map}
 use Rattle.opentelemetry.specs.declared.common.Value.{Value}
 use Rattle.otel_base.specs.Resource.{PlainResource, empty_resource, by_key}
-use Rattle.otel_base.specs.SameResource.{same_entry, same_description, same_attributes_decides, same_description_decides}
+use Rattle.otel_base.specs.SameResource.{same_attribute_entry, same_description, same_attributes_decides, same_description_decides}
 use Rattle.otel_base.proofs.AttributeLemmas.{key_cmp, entries-by_key}
 
 -- two maps are compared entry by entry
@@ -20,9 +20,9 @@ pub same_maps : (m n : BTreeMap (List ℕ) Value) (r : Bool) → tree.IsOrdered 
     → r ≡ pointwise (λ p q. same_text p.0 q.0 && same_value (plain_value p.1) (plain_value q.1)) m.entries n.entries → Decides r (by_key m ≡ by_key n)
 same_maps m n r om on e =
     let plain : List ℕ × Value → List ℕ × PlainValue = λ p. (p.0, plain_value p.1) in
-    Decides-at r (pointwise same_entry (fin.entries (by_key m)) (fin.entries (by_key n)))
-    (e ∙ sym (pointwise_map plain same_entry m.entries n.entries)
-    ∙ (λ i. pointwise same_entry (sym (entries-by_key m om) i) (sym (entries-by_key n on) i)))
+    Decides-at r (pointwise same_attribute_entry (fin.entries (by_key m)) (fin.entries (by_key n)))
+    (e ∙ sym (pointwise_map plain same_attribute_entry m.entries n.entries)
+    ∙ (λ i. pointwise same_attribute_entry (sym (entries-by_key m om) i) (sym (entries-by_key n on) i)))
     (same_attributes_decides (by_key m) (by_key n))
 
 -- a test that is true exactly at equal resources is the comparison

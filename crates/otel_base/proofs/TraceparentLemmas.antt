@@ -9,11 +9,12 @@ use Rattle.std.proofs.lemmas.Str.{chars-encodes, encode_ascii}
 use Rattle.std.proofs.lemmas.List.Elements.{All-append, All-cons, All-head, All-tail, All-weaker}
 use Rattle.std.proofs.lemmas.Bool.Decides.{nat_tests}
 use lib.Utf8.{low_scalar}
+use Rattle.opentelemetry.specs.PlainContexts.{current_span_context}
 use Rattle.opentelemetry.specs.Hex.{hex_text, IsHexDigit, IsHexText}
 use Rattle.opentelemetry.specs.Plain.{PlainSpanContext}
 use Rattle.opentelemetry.proofs.HexRead.{hex_text_injective, hex_text_IsHexText}
 use Rattle.otel_base.specs.Traceparent.{hyphen, traceparent_text, traceparent_of, IsTraceparent, IsValid, MayFollow, remote_copy}
-use Rattle.otel_base.specs.Traceparent.{span_of, header_text, traceparent_field, tracestate_field, CarriesSpan, IsSpanContext, SaysState, SetsHeaders, ExtractsTraceContext, InjectsTraceContext}
+use Rattle.otel_base.specs.Traceparent.{header_text, traceparent_field, tracestate_field, CarriesSpan, IsSpanContext, SaysState, SetsHeaders, ExtractsTraceContext, InjectsTraceContext}
 use Rattle.opentelemetry.specs.Carrier.{IsOtherName, SameTexts, SetsText, Texts}
 use Rattle.opentelemetry.specs.Plain.{PlainContext}
 use Rattle.opentelemetry.specs.Tracestate.{IsTracestate, members, tracestate_text}
@@ -227,6 +228,6 @@ headers_carry c texts is valid parent state cx found extracts =
     found_is ∙ ap (λ (p : List (List ℕ × List ℕ)). record cx { span_context = Some (record bare { trace_state = p }) }) pairs_are
 
 -- what was injected carries the span context
-pub injected_carries : (cx : PlainContext) (old new : Texts) → IsSpanContext (span_of cx) → IsValid (span_of cx)
-    → InjectsTraceContext cx old (Ok tt) new → CarriesSpan new (span_of cx)
-injected_carries cx old new is valid injects = let sets = injects.set valid in headers_carry (span_of cx) new is valid sets.parent sets.state
+pub injected_carries : (cx : PlainContext) (old new : Texts) → IsSpanContext (current_span_context cx) → IsValid (current_span_context cx)
+    → InjectsTraceContext cx old (Ok tt) new → CarriesSpan new (current_span_context cx)
+injected_carries cx old new is valid injects = let sets = injects.set valid in headers_carry (current_span_context cx) new is valid sets.parent sets.state

@@ -5,7 +5,7 @@ use Rattle.std.specs.Option.{option_map, option_or}
 use Rattle.std.specs.FinMap.{get}
 use Rattle.opentelemetry.specs.Plain.{PlainValue, text, PlainKeyValue}
 use Rattle.otel_base.specs.AttributesString.{IsAttributesString}
-use Rattle.otel_base.specs.Resource.{PlainResource, non_empty, pair_of, service_named, service_name_key}
+use Rattle.otel_base.specs.Resource.{PlainResource, non_empty, attribute_of, service_named, service_name_key}
 use Rattle.otel_base.specs.Resource.{of_attributes, attributes_of, all_attributes}
 
 -- the strings that may be handed in
@@ -53,9 +53,9 @@ IsSdkResource strings resource =
 
 -- this SDK's name, language and version
 abbrev pub telemetry_pairs : List PlainKeyValue
-telemetry_pairs = pair_of (codes "telemetry.sdk.name") (text (codes "opentelemetry"))
-    ∷ pair_of (codes "telemetry.sdk.language") (text (codes "rust"))
-    ∷ pair_of (codes "telemetry.sdk.version") (text (codes "0.33.0")) ∷ []
+telemetry_pairs = attribute_of (codes "telemetry.sdk.name") (text (codes "opentelemetry"))
+    ∷ attribute_of (codes "telemetry.sdk.language") (text (codes "rust"))
+    ∷ attribute_of (codes "telemetry.sdk.version") (text (codes "0.33.0")) ∷ []
 
 -- who made the telemetry: this SDK
 abbrev pub telemetry_resource : PlainResource

@@ -71,12 +71,12 @@ abbrev pub service_name_key : List ℕ
 service_name_key = codes "service.name"
 
 -- one attribute
-abbrev pub pair_of : List ℕ → PlainValue → PlainKeyValue
-pair_of key value = record { key = key; value = value }
+abbrev pub attribute_of : List ℕ → PlainValue → PlainKeyValue
+attribute_of key value = record { key = key; value = value }
 
 -- a resource that says the name of the service and nothing else
 abbrev pub service_named : PlainValue → PlainResource
-service_named name = of_attributes (attributes_of (pair_of service_name_key name ∷ []))
+service_named name = of_attributes (attributes_of (attribute_of service_name_key name ∷ []))
 
 -- the attributes of several resources, of which a later one wins
 abbrev pub all_attributes : List PlainResource → Attributes

@@ -8,7 +8,7 @@ use Rattle.std.specs.declared.alloc.AllocError.{AllocError}
 use Rattle.opentelemetry.specs.Carrier.{Texts, IsOtherName, SetsText, SameTexts}
 use Rattle.opentelemetry.specs.Hex.{hex_text}
 use Rattle.opentelemetry.specs.Plain.{PlainContext, PlainSpanContext}
-use Rattle.opentelemetry.specs.PlainContexts.{empty_span_context}
+use Rattle.opentelemetry.specs.PlainContexts.{current_span_context}
 use Rattle.opentelemetry.specs.Tracestate.{ArePairs, IsTracestate, tracestate_text}
 
 -- the names under which the headers travel
@@ -53,10 +53,6 @@ SaysState None state = state ≡ []
 SaysState (Some text) state =
     IsTracestate text state ⊎ (((pairs : List (List ℕ × List ℕ)) → ¬ (IsTracestate text pairs)) × (state ≡ []))
 
--- the span context of a context; the empty one where no span is active
-abbrev pub span_of : PlainContext → PlainSpanContext
-span_of cx = unwrap_or cx.span_context empty_span_context
-
 -- neither id is zero
 abbrev pub IsValid : PlainSpanContext → Type 0
 IsValid c = (0 < c.trace_id) × (0 < c.span_id)
@@ -81,9 +77,9 @@ pub record SetsHeaders (old new : Texts) (c : PlainSpanContext) : Type 0 where
 -- memory
 pub record InjectsTraceContext (cx : PlainContext) (old : Texts) (result : Result (Unit {0}) AllocError)
     (new : Texts) : Type 0 where
-  pub set : IsValid (span_of cx) → OnOk result (SetsHeaders old new (span_of cx))
-  pub nothing : ¬ (IsValid (span_of cx)) → IsOk result × SameTexts old new
-  pub err : OnErr result (SameTexts old new ⊎ SetsText old new traceparent_field (traceparent_of (span_of cx)))
+  pub set : IsValid (current_span_context cx) → OnOk result (SetsHeaders old new (current_span_context cx))
+  pub nothing : ¬ (IsValid (current_span_context cx)) → IsOk result × SameTexts old new
+  pub err : OnErr result (SameTexts old new ⊎ SetsText old new traceparent_field (traceparent_of (current_span_context cx)))
 
 -- the text of a header; the empty one without it
 abbrev pub header_text : Option (List ℕ) → List ℕ

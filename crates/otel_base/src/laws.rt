@@ -4,6 +4,7 @@
 ghost use Rattle.std.specs.Prelude.{◌≡◌, ◌≢◌, ◌*◌, ◌<◌, ◌≤◌, IsTrue, Some, ℕ, List, [], All, AllPairs};
 ghost use Rattle.std.specs.Option.{option_or};
 ghost use Rattle.std.specs.FinMap.{get, keys};
+ghost use Rattle.opentelemetry.specs.PlainContexts.{current_span_context};
 ghost use Rattle.opentelemetry.specs.Plain.{PlainContext, PlainKeyValue, PlainSpanContext};
 ghost use Rattle.otel_base.specs.AttributesString.{IsAttributesString};
 ghost use Rattle.opentelemetry.specs.Baggage.{PlainBaggage};
@@ -11,7 +12,7 @@ ghost use Rattle.opentelemetry.specs.Carrier.{Texts};
 ghost use Rattle.otel_base.specs.BaggageHeader.{entries_of, header_of, Carries, InjectsBaggage, IsBaggage};
 ghost use Rattle.otel_base.specs.BaggageHeader.{IsCarriedUnchanged, IsSaidUnchanged};
 ghost use Rattle.otel_base.specs.Ratio.{PlainRatio, low_half, samples};
-ghost use Rattle.otel_base.specs.Traceparent.{span_of, CarriesSpan, InjectsTraceContext, IsSpanContext};
+ghost use Rattle.otel_base.specs.Traceparent.{CarriesSpan, InjectsTraceContext, IsSpanContext};
 ghost use Rattle.otel_base.specs.Traceparent.{IsTraceparent, IsValid};
 ghost use Rattle.otel_base.specs.Resource.{PlainResource, empty_resource, non_empty, merge};
 
@@ -89,6 +90,6 @@ pub fn traceparents_read_once()
 /// What a propagator injects of a valid span context, another extracts: the ids, the sampled flag and the trace state,
 /// remote, over every carrier that gives back what was set.
 pub fn injected_span_context_is_carried()
-    ensures { (cx : PlainContext) (old new : Texts) → IsSpanContext (span_of cx) → IsValid (span_of cx)
-        → InjectsTraceContext cx old (Ok tt) new → CarriesSpan new (span_of cx) }
+    ensures { (cx : PlainContext) (old new : Texts) → IsSpanContext (current_span_context cx) → IsValid (current_span_context cx)
+        → InjectsTraceContext cx old (Ok tt) new → CarriesSpan new (current_span_context cx) }
 {}

@@ -5,11 +5,12 @@ use Rattle.std.specs.FinMap as fin
 use Rattle.std.specs.Ordering.{nat_cmp}
 use Rattle.std.specs.Cmp.Lexicographic.{slice_cmp}
 use Rattle.std.specs.Str.{str_to_ascii_lowercase}
+use Rattle.opentelemetry.specs.PlainContexts.{current_span_context}
 use Rattle.opentelemetry.specs.Carrier.{Texts, IsOtherName, SetsText}
 use Rattle.opentelemetry.specs.TextMap.{TextMap, texts_of}
 use Rattle.opentelemetry.specs.Plain.{PlainContext, PlainSpanContext}
 use Rattle.opentelemetry.specs.Tracestate.{tracestate_text}
-use Rattle.otel_base.specs.Traceparent.{ExtractsTraceContext, InjectsTraceContext, IsTraceparent, IsValid, SaysState, header_text, span_of, traceparent_field, traceparent_of, tracestate_field}
+use Rattle.otel_base.specs.Traceparent.{ExtractsTraceContext, InjectsTraceContext, IsTraceparent, IsValid, SaysState, header_text, traceparent_field, traceparent_of, tracestate_field}
 use Rattle.opentelemetry_sdk.specs.Starting.{root_cx}
 use Rattle.otel_session.specs.Headers.{SaysContext, child_cx}
 
@@ -36,11 +37,11 @@ no_text m name e = ap (λ (m : TextMap). texts_of m name) e ∙ fin.get-empty (s
 -- both headers that a carrier then has are those of a valid span context, where it had none
 pub headers_injected : (cx : PlainContext) (old new : Texts) (parent state : List ℕ) → InjectsTraceContext cx old (Ok tt) new
     → old traceparent_field ≡ None → Some parent ≡ new traceparent_field → Some state ≡ new tracestate_field
-    → IsValid (span_of cx) × (parent ≡ traceparent_of (span_of cx)) × (state ≡ tracestate_text (span_of cx).trace_state)
+    → IsValid (current_span_context cx) × (parent ≡ traceparent_of (current_span_context cx)) × (state ≡ tracestate_text (current_span_context cx).trace_state)
 headers_injected cx old new parent state injects none has_parent has_state =
-    by (valid_by (span_of cx).trace_id (span_of cx).span_id (some_or_none (span_of cx).trace_id) (some_or_none (span_of cx).span_id))
+    by (valid_by (current_span_context cx).trace_id (current_span_context cx).span_id (some_or_none (current_span_context cx).trace_id) (some_or_none (current_span_context cx).span_id))
   where
-    by : IsValid (span_of cx) ⊎ ¬ (IsValid (span_of cx)) → IsValid (span_of cx) × (parent ≡ traceparent_of (span_of cx)) × (state ≡ tracestate_text (span_of cx).trace_state)
+    by : IsValid (current_span_context cx) ⊎ ¬ (IsValid (current_span_context cx)) → IsValid (current_span_context cx) × (parent ≡ traceparent_of (current_span_context cx)) × (state ≡ tracestate_text (current_span_context cx).trace_state)
     by (inl valid) =
         let set = injects.set valid in
         (valid, some_is parent _ (has_parent ∙ set.parent), some_is state _ (has_state ∙ set.state))

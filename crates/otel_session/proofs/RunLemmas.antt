@@ -57,7 +57,7 @@ module _ {P S G : Type 0} (calls : Ghosts P) (keeps : keeping.Ghosts P) (sampler
   }
 
   -- one command, with a reply that shows what was left to show
-  pub record Answers (old : SessionState P S G) (command : Command) (reply : PlainReply) (new : SessionState P S G) : Type 0 where
+  pub record AnswersOne (old : SessionState P S G) (command : Command) (reply : PlainReply) (new : SessionState P S G) : Type 0 where
     pub carried : CarriesOutOne calls sampler ids old.scope old.provider old.spans (plain_command command) reply.answer new.provider new.spans
     pub shows : reply.exported ≡ unshown keeps new
     pub loses_none : IsFalse (may_lose (plain_command command)) → LosesNone keeps old new
@@ -70,7 +70,7 @@ module _ {P S G : Type 0} (calls : Ghosts P) (keeps : keeping.Ghosts P) (sampler
 
   -- one more command, with its reply
   demands_more : (old middle new : SessionState P S G) (histories : Histories) (done : List Command) (replies : List PlainReply) (command : Command) (reply : PlainReply)
-      → middle.scope ≡ old.scope → Describe histories old.spans → Demanded calls keeps sampler ids old histories (plain_commands done) replies middle → Answers middle command reply new
+      → middle.scope ≡ old.scope → Describe histories old.spans → Demanded calls keeps sampler ids old histories (plain_commands done) replies middle → AnswersOne middle command reply new
       → Demanded calls keeps sampler ids old histories (plain_commands (done ++ command ∷ [])) (replies ++ reply ∷ []) (marked new)
   demands_more old middle new histories done replies command reply scope describes first answers =
       let next = answers.carried first.after first.describes in
@@ -95,7 +95,7 @@ module _ {P S G : Type 0} (calls : Ghosts P) (keeps : keeping.Ghosts P) (sampler
       }
 
   carries_more : (old middle new : SessionState P S G) (done : List Command) (replies : List PlainReply) (command : Command) (reply : PlainReply)
-      → CarriesOut calls keeps sampler ids old done replies middle → Answers middle command reply new
+      → CarriesOut calls keeps sampler ids old done replies middle → AnswersOne middle command reply new
       → CarriesOut calls keeps sampler ids old (done ++ command ∷ []) (replies ++ reply ∷ []) (marked new)
   carries_more old middle new done replies command reply carried answers = record {
     scope = ap (λ (s : SessionState P S G). s.scope) answers.rest ∙ carried.scope;
@@ -135,7 +135,7 @@ module _ {P S G : Type 0} (calls : Ghosts P) (keeps : keeping.Ghosts P) (sampler
 
   -- one more, with its reply, which marks what it shows
   pub ran_more : (old middle answered new : SessionState P S G) (commands queue left : List Command) (replies : List PlainReply) (command : Command) (reply : PlainReply)
-      → queue ≡ command ∷ left → Ran old commands queue replies middle → Answers middle command reply answered → new ≡ marked answered
+      → queue ≡ command ∷ left → Ran old commands queue replies middle → AnswersOne middle command reply answered → new ≡ marked answered
       → Ran old commands left (replies ++ reply ∷ []) new
   ran_more old middle answered new commands queue left replies command reply popped ran answers e =
       let shown = shows_no_more keeps old middle answered replies ran.shown answers.appends (ap (λ (s : SessionState P S G). s.shown) answers.rest) in

@@ -1,7 +1,7 @@
 //! The headers by which another process continues a trace (W3C Trace Context).
 
+ghost use Rattle.opentelemetry.specs.PlainContexts.{current_span_context};
 ghost use Rattle.std.specs.Prelude.{IfOk, string_bytes};
-ghost use Rattle.otel_base.specs.Traceparent.{span_of};
 ghost use Rattle.otel_session.specs.Headers.{AnswersHeaders, SaysContext};
 
 use crate::reply::Answer;
@@ -21,7 +21,7 @@ pub(crate) fn remote_context(alloc: Global, traceparent: String) -> Result<Conte
 
 /// What is said of the headers of the span that is active in a context.
 pub(crate) fn answer_with_headers(alloc: Global, cx: &Context) -> Result<Answer, AllocError>
-    ensures { IfOk result (AnswersHeaders (span_of cx.now)) }
+    ensures { IfOk result (AnswersHeaders (current_span_context cx.now)) }
 {
     let mut carrier = MapCarrier::new(alloc);
     TraceContextPropagator::new().inject_context(alloc, cx, &mut carrier)?;

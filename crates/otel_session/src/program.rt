@@ -16,11 +16,13 @@ use crate::steps::{Sizes, answer_lines, machine_sized};
 use opentelemetry::trace::{Link, SpanKind, TraceState};
 use opentelemetry::{Context, KeyValue, TraceId};
 use opentelemetry_sdk::trace::{ProcessorOf, ProviderOf, SimpleSpanProcessor, SpanProcessor};
+use otel_base::error::OTelSdkResult;
+use otel_base::resource::Resource;
 use otel_base::trace::{
-    IdGenerator, RandomIdGenerator, SamplerOf, SamplingDecision, SamplingResult, ShouldSample,
-    SpanLimits,
+    ConfigOf, IdGenerator, RandomIdGenerator, SamplerOf, SamplingDecision, SamplingResult,
+    ShouldSample, SpanLimits,
 };
-use otel_batch::trace::{ExporterOf, InMemorySpanExporter};
+use otel_batch::trace::{ExporterOf, InMemorySpanExporter, SpanData, SpanExporter};
 use std::alloc::{AllocError, Global};
 use std::io;
 use std::io::{Read, Write};
@@ -36,12 +38,24 @@ const FAILED: u8 = 1;
 /// The exit status of a bad line or of wrong arguments.
 const REFUSED: u8 = 2;
 
-/// What the program's provider holds. It has no processor and no exporter of another's own, so that any type may stand
-/// for theirs.
+/// What the program's provider holds.
 pub type TraceProcessor = ProcessorOf<
-    SimpleSpanProcessor<ExporterOf<InMemorySpanExporter, InMemorySpanExporter>>,
-    SimpleSpanProcessor<InMemorySpanExporter>,
+    SimpleSpanProcessor<ExporterOf<InMemorySpanExporter, NoExporter>>,
+    SimpleSpanProcessor<NoExporter>,
 >;
+
+/// What stands for an exporter of another's own, and behind a processor of another's own, of which the program has
+/// none: it takes each batch and forgets it.
+#[derive(Drop)]
+pub struct NoExporter;
+
+impl SpanExporter for NoExporter {
+    ghost told = { λ _. None };
+
+    fn export(&mut self, _batch: Vec<SpanData>) -> OTelSdkResult {
+        Ok(())
+    }
+}
 
 /// What stands for a sampler of another's own, of which the program has none: it drops every span.
 #[derive(Drop)]
@@ -411,10 +425,11 @@ fn provider_of(alloc: Global, seed: u64) -> Result<TraceProvider, AllocError>
     let exporter = ExporterOf::Memory(InMemorySpanExporter::new(alloc));
     let mut processors = Vec::new(alloc);
     processors.push(ProcessorOf::Simple(SimpleSpanProcessor::new(alloc, exporter)))?;
-    Ok(ProviderOf::from_parts(
-        processors,
-        SamplerOf::ParentBased(Box::new(alloc, SamplerOf::AlwaysOn)?),
-        RandomIdGenerator::new(seed),
-        SpanLimits::default(),
-    ))
+    let config = ConfigOf {
+        sampler: SamplerOf::ParentBased(Box::new(alloc, SamplerOf::AlwaysOn)?),
+        id_generator: RandomIdGenerator::new(seed),
+        span_limits: SpanLimits::default(),
+        resource: Resource::builder_empty(alloc).build(),
+    };
+    Ok(ProviderOf::from_parts(processors, config))
 }

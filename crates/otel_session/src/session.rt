@@ -247,34 +247,17 @@ impl<P: KeepsBatches, S: ShouldSample, G: IdGenerator> Session<P, S, G> {
     {
         let ends_span = command.ends_span();
         let lost = self.lost_batches();
-        let answer = self.carry_out(command)?;
-        if ends_span && self.lost_batches() != lost {
-            return Err(AllocError);
-        }
-        Ok(answer)
-    }
-
-    /// Carries one command out; a lost batch is no error.
-    fn carry_out(&mut self, command: Command) -> Result<Answer, AllocError>
-        ensures ok { IfOk result (λ answer. CarriesOutOne P.SpanProcessor S.ShouldSample G.IdGenerator self.old.scope
-            self.old.provider self.old.spans
-            (plain_command command) answer self.new.provider self.new.spans) }
-        ensures err { OnErr result
-            (RefusesOne P.SpanProcessor S.ShouldSample G.IdGenerator self.old.scope self.old.provider self.old.spans
-            (plain_command command) self.new.provider self.new.spans) }
-        ensures rest { self.new ≡ record self.old { provider = self.new.provider; spans = self.new.spans } }
-        ensures keeps { Grows (session_batches P.KeepsBatches.own self.old)
-            (session_batches P.KeepsBatches.own self.new) }
-        ensures loses { IsFalse (is_end (plain_command command)) → IsFalse (may_lose (plain_command command))
-            → LosesNone P.KeepsBatches.own self.old self.new }
-    {
-        carry_out(
+        let answer = carry_out(
             self.alloc,
             &self.tracer,
             &mut self.provider,
             &mut self.spans,
             command,
-        )
+        )?;
+        if ends_span && self.lost_batches() != lost {
+            return Err(AllocError);
+        }
+        Ok(answer)
     }
 
     /// The batches that the first processor's exporter keeps and no reply has shown.
@@ -349,7 +332,7 @@ fn unshown_by_first<P: KeepsBatches>(processors: &[P], shown: usize) -> &[Vec<Sp
     batches_since(kept_by_first(processors), shown)
 }
 
-/// The same on the parts of a session.
+/// Carries one command out on the parts of a session; a lost batch is no error.
 fn carry_out<P: KeepsBatches, S: ShouldSample, G: IdGenerator>(
     alloc: Global,
     tracer: &SdkTracer,

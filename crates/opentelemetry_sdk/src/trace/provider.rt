@@ -16,7 +16,7 @@ ghost use Rattle.opentelemetry_sdk.specs.SpanHistory.{IsEdited, ended_at};
 use crate::trace::{Processor, SdkTracer, Span, SpanProcessor};
 use opentelemetry::{Context, InstrumentationScope, Moment, SpanId, TraceId};
 use otel_base::error::{OTelSdkError, OTelSdkResult};
-use otel_base::trace::{IdGenerator, IdSource, Sampler, SpanLimits};
+use otel_base::trace::{ConfigOf, IdGenerator, IdSource, Sampler, SpanLimits};
 use otel_batch::trace::SpanData;
 use std::alloc::{AllocError, Global};
 use std::marker::Model;
@@ -49,26 +49,22 @@ impl<P, S, G> Model for ProviderOf<P, S, G> {
 }
 
 impl<P, S, G> ProviderOf<P, S, G> {
-    /// An open provider of these parts; it calls no processor.
-    pub fn from_parts(
-        processors: Vec<P>,
-        sampler: S,
-        id_generator: G,
-        span_limits: SpanLimits,
-    ) -> ProviderOf<P, S, G>
+    /// An open provider over these processors; it calls none of them. The resource of the configuration is for whoever
+    /// makes the processors.
+    pub fn from_parts(processors: Vec<P>, config: ConfigOf<S, G>) -> ProviderOf<P, S, G>
         ensures { result ≡ record {
           processors = processors.items;
-          sampler = sampler;
-          id_generator = id_generator;
-          span_limits = span_limits;
+          sampler = config.sampler;
+          id_generator = config.id_generator;
+          span_limits = config.span_limits;
           is_shut = false;
         } }
     {
         ProviderOf {
             processors,
-            sampler,
-            id_generator,
-            span_limits,
+            sampler: config.sampler,
+            id_generator: config.id_generator,
+            span_limits: config.span_limits,
             is_shut: false,
         }
     }
@@ -118,7 +114,7 @@ impl<P, S, G> ProviderOf<P, S, G> {
     }
 
     /// The copies of what an ending span recorded: one for each processor but the last, which gets the original.
-    pub(crate) fn copies_of(
+    pub(crate) fn copies_for_end(
         &self,
         recorded: &SpanData,
         timestamp: Moment,
@@ -156,7 +152,7 @@ impl<P, S, G: IdGenerator> ProviderOf<P, S, G> {
 
 impl<P: SpanProcessor, S: Drop, G: Drop> ProviderOf<P, S, G> {
     /// A span has started: each processor is told in its turn.
-    pub(crate) fn start_each(&mut self, span: &mut Span, cx: &Context)
+    pub(crate) fn tell_start(&mut self, span: &mut Span, cx: &Context)
         ensures edits { IsEdited span.old span.new }
         ensures told { map P.told self.new.processors ≡ map P.told self.old.processors }
         ensures gives { PassesThrough P.SpanProcessor cx.now span.old self.old.processors self.new.processors span.new }
@@ -166,7 +162,7 @@ impl<P: SpanProcessor, S: Drop, G: Drop> ProviderOf<P, S, G> {
     }
 
     /// A span has ended: each processor gets its copy, the last one the original. The answer is how many refused.
-    pub(crate) fn end_each(&mut self, copies: Vec<SpanData>, original: SpanData) -> usize
+    pub(crate) fn deliver(&mut self, copies: Vec<SpanData>, original: SpanData) -> usize
         requires { copies.items ≡ replicate (length self.old.processors - 1) original }
         ensures asked { AskedAll (TakesAndTells P.SpanProcessor original) self.old.processors self.new.processors
             result }

@@ -239,7 +239,7 @@ impl Span {
         ensures not_recording { IsNone self.old.recorded → IsOk result }
 
         // A second end asks nobody.
-        ensures silent { IsNone self.old.recorded → provider.new ≡ provider.old }
+        ensures asks_nobody { IsNone self.old.recorded → provider.new ≡ provider.old }
 
         ensures shut { IsTrue provider.old.is_shut → IsOk result }
         ensures one { length provider.old.processors ≤ 1 → IsOk result }
@@ -251,12 +251,12 @@ impl Span {
             self.stop();
             return Ok(0);
         }
-        let copies = provider.copies_of(recorded, timestamp)?;
+        let copies = provider.copies_for_end(recorded, timestamp)?;
         let Some(mut recorded) = self.take_recorded() else {
             unreachable!();
         };
         recorded.end_time = timestamp;
-        Ok(provider.end_each(copies, recorded))
+        Ok(provider.deliver(copies, recorded))
     }
 
     /// Ends the span as `end_with_timestamp` does, and spends it. Where there is no memory for the copies it comes back
@@ -275,7 +275,7 @@ impl Span {
         ensures rest { provider.new ≡ record provider.old { processors = provider.new.processors } }
         ensures err { IfErr result (λ back. (back.0 ≡ self) × (provider.new ≡ provider.old)) }
         ensures not_recording { IsNone self.recorded → IsOk result }
-        ensures silent { IsNone self.recorded → provider.new ≡ provider.old }
+        ensures asks_nobody { IsNone self.recorded → provider.new ≡ provider.old }
         ensures shut { IsTrue provider.old.is_shut → IsOk result }
         ensures one { length provider.old.processors ≤ 1 → IsOk result }
     {

@@ -171,7 +171,7 @@ impl SdkTracer {
             now,
             span_limits,
         )?;
-        provider.start_each(&mut span, cx);
+        provider.tell_start(&mut span, cx);
         Ok(span)
     }
 }

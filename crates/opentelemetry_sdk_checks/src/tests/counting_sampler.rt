@@ -1,10 +1,11 @@
 //! How often a start asks its sampler, which no clause says: it answers a question, and may count them.
 
+use super::fixtures::provider_under;
 use opentelemetry::trace::{Link, SpanKind, TraceState};
 use opentelemetry::{Context, KeyValue, Moment, TraceId};
 use opentelemetry_sdk::trace::{ProviderOf, SimpleSpanProcessor};
 use otel_base::trace::{
-    RandomIdGenerator, SamplingDecision, SamplingResult, ShouldSample, SpanLimits,
+    RandomIdGenerator, SamplingDecision, SamplingResult, ShouldSample,
 };
 use otel_batch::trace::InMemorySpanExporter;
 use std::alloc::{AllocError, Global};
@@ -75,12 +76,7 @@ fn a_sampler_is_asked_once_and_only_at_an_open_start(rt: HostRuntime) -> Result<
     let alloc = rt.alloc();
     let asked = Cell::new(0);
     let sampler = CountingSampler { asked: &asked };
-    let mut provider = ProviderOf::from_parts(
-        Vec::new(alloc),
-        sampler,
-        RandomIdGenerator::new(0),
-        SpanLimits::default(),
-    );
+    let mut provider = provider_under(alloc, Vec::new(alloc), sampler);
     let started = start_thrice(alloc, &mut provider);
     let _ = provider.close();
     started?;

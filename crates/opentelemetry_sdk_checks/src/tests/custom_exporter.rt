@@ -8,7 +8,8 @@ ghost use Rattle.std.specs.Prelude.{None};
 use opentelemetry::Moment;
 use opentelemetry_sdk::trace::{ProviderOf, SimpleSpanProcessor};
 use otel_base::error::{OTelSdkError, OTelSdkResult};
-use otel_base::trace::{RandomIdGenerator, Sampler, SpanLimits};
+use otel_base::resource::Resource;
+use otel_base::trace::{ConfigOf, RandomIdGenerator, Sampler, SpanLimits};
 use otel_batch::trace::{SpanData, SpanExporter};
 use std::alloc::{AllocError, Global};
 use std::io::{self, Write};
@@ -72,12 +73,13 @@ fn provider_of_lines(alloc: Global) -> Result<LineProvider, AllocError> {
     let exporter = LineExporter::new(alloc, Vec::new(alloc));
     let mut processors = Vec::new(alloc);
     processors.push(SimpleSpanProcessor::new(alloc, exporter))?;
-    Ok(ProviderOf::from_parts(
-        processors,
-        Sampler::AlwaysOn,
-        RandomIdGenerator::new(0),
-        SpanLimits::default(),
-    ))
+    let config = ConfigOf {
+        sampler: Sampler::AlwaysOn,
+        id_generator: RandomIdGenerator::new(0),
+        span_limits: SpanLimits::default(),
+        resource: Resource::builder_empty(alloc).build(),
+    };
+    Ok(ProviderOf::from_parts(processors, config))
 }
 
 /// Starts a span of this name at a moment, and ends it later.

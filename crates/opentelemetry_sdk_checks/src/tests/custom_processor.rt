@@ -9,7 +9,7 @@ use opentelemetry::{Context, Key, KeyValue, Moment, Value};
 use opentelemetry_sdk::trace::{ProviderOf, SimpleSpanProcessor, Span, SpanProcessor};
 use otel_base::error::OTelSdkResult;
 use otel_base::resource::Resource;
-use otel_base::trace::{RandomIdGenerator, Sampler, SpanLimits};
+use otel_base::trace::{ConfigOf, RandomIdGenerator, Sampler, SpanLimits};
 use otel_batch::trace::{InMemorySpanExporter, SpanData};
 use std::alloc::{AllocError, Global};
 use std::test::Fail;
@@ -76,12 +76,13 @@ fn filtering_provider(alloc: Global) -> Result<FilteringProvider, AllocError> {
     let inner = SimpleSpanProcessor::new(alloc, InMemorySpanExporter::new(alloc));
     let mut processors = Vec::new(alloc);
     processors.push(FilteringProcessor { inner })?;
-    Ok(ProviderOf::from_parts(
-        processors,
-        Sampler::AlwaysOn,
-        RandomIdGenerator::new(0),
-        SpanLimits::default(),
-    ))
+    let config = ConfigOf {
+        sampler: Sampler::AlwaysOn,
+        id_generator: RandomIdGenerator::new(0),
+        span_limits: SpanLimits::default(),
+        resource: Resource::builder_empty(alloc).build(),
+    };
+    Ok(ProviderOf::from_parts(processors, config))
 }
 
 /// Starts a span at a moment, sets the mark to a value, and ends it.

@@ -10,8 +10,9 @@ ghost use Rattle.otel_base.specs.declared.trace.sampler.SamplingDecision.TheVari
 use opentelemetry::trace::{Link, SpanKind, TraceState};
 use opentelemetry::{Context, Key, KeyValue, Moment, TraceId, Value};
 use opentelemetry_sdk::trace::{ProviderOf, SimpleSpanProcessor, Span};
+use otel_base::resource::Resource;
 use otel_base::trace::{
-    RandomIdGenerator, SamplingDecision, SamplingResult, ShouldSample, SpanLimits,
+    ConfigOf, RandomIdGenerator, SamplingDecision, SamplingResult, ShouldSample, SpanLimits,
 };
 use otel_batch::trace::{InMemorySpanExporter, SpanData};
 use std::alloc::{AllocError, Global};
@@ -84,15 +85,16 @@ type ServerProvider = ProviderOf<
 /// A provider under the sampler, whose spans keep so many attributes. Among samplers of other kinds, this one is
 /// `Sampler::Custom(Box::new(alloc, ServerSampler { alloc })?)`.
 fn server_provider(alloc: Global, max_attributes_per_span: u32) -> ServerProvider {
-    ProviderOf::from_parts(
-        Vec::new(alloc),
-        ServerSampler { alloc },
-        RandomIdGenerator::new(0),
-        SpanLimits {
+    let config = ConfigOf {
+        sampler: ServerSampler { alloc },
+        id_generator: RandomIdGenerator::new(0),
+        span_limits: SpanLimits {
             max_attributes_per_span,
             ..SpanLimits::default()
         },
-    )
+        resource: Resource::builder_empty(alloc).build(),
+    };
+    ProviderOf::from_parts(Vec::new(alloc), config)
 }
 
 /// An attribute that is true.

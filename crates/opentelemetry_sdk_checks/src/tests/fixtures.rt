@@ -4,7 +4,8 @@ use opentelemetry::trace::{SpanContext, SpanKind, Status, TraceState};
 use opentelemetry::{Context, InstrumentationScope, Moment, SpanId, TraceFlags, TraceId};
 use opentelemetry_sdk::trace::{ProviderOf, Span, SpanProcessor};
 use otel_base::error::OTelSdkResult;
-use otel_base::trace::{RandomIdGenerator, Sampler, SpanLimits};
+use otel_base::resource::Resource;
+use otel_base::trace::{ConfigOf, RandomIdGenerator, Sampler, SpanLimits};
 use otel_batch::trace::{SpanData, SpanEvents, SpanLinks};
 use std::alloc::{AllocError, Global};
 use std::cell::Cell;
@@ -98,11 +99,28 @@ pub(super) fn three_writers(
 }
 
 /// An open provider over these processors, which samples every span and draws the ids of seed 0.
-pub(super) fn provider_over<P>(processors: Vec<P>) -> ProviderOf<P, Sampler, RandomIdGenerator> {
-    ProviderOf::from_parts(
-        processors,
-        Sampler::AlwaysOn,
-        RandomIdGenerator::new(0),
-        SpanLimits::default(),
-    )
+pub(super) fn provider_over<P>(
+    alloc: Global,
+    processors: Vec<P>,
+) -> ProviderOf<P, Sampler, RandomIdGenerator> {
+    provider_under(alloc, processors, Sampler::AlwaysOn)
+}
+
+/// An open provider over these processors, under this sampler.
+pub(super) fn provider_under<P, S>(
+    alloc: Global,
+    processors: Vec<P>,
+    sampler: S,
+) -> ProviderOf<P, S, RandomIdGenerator> {
+    ProviderOf::from_parts(processors, config_of(alloc, sampler))
+}
+
+/// What a provider has besides its processors: this sampler, the ids of seed 0, and nothing that was configured.
+pub(super) fn config_of<S>(alloc: Global, sampler: S) -> ConfigOf<S, RandomIdGenerator> {
+    ConfigOf {
+        sampler,
+        id_generator: RandomIdGenerator::new(0),
+        span_limits: SpanLimits::default(),
+        resource: Resource::builder_empty(alloc).build(),
+    }
 }

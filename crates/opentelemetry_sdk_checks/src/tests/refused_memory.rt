@@ -2,12 +2,12 @@
 //! that refuses shows it of starts. Edits and ends want memory of the machine alone, which an ordinary run has:
 //! `rt try --test --fail-alloc N` has the Nth allocation refused.
 
-use super::fixtures::{provider_over, three_writers};
+use super::fixtures::{provider_over, provider_under, three_writers};
 use opentelemetry::trace::{Event, Link, SpanContext, SpanKind, TraceState};
 use opentelemetry::{Context, Key, KeyValue, Moment, SpanId, TraceId, Value};
 use opentelemetry_sdk::trace::{ProviderOf, SimpleSpanProcessor, Span, SpanEdit, SpanProcessor};
 use otel_base::trace::{
-    RandomIdGenerator, Sampler, SamplingDecision, SamplingResult, ShouldSample, SpanLimits,
+    RandomIdGenerator, Sampler, SamplingDecision, SamplingResult, ShouldSample,
 };
 use otel_batch::trace::{InMemorySpanExporter, SpanData};
 use std::alloc::{AllocError, Global};
@@ -63,12 +63,8 @@ fn a_refused_start_tells_no_processor_and_succeeds_again(rt: HostRuntime) -> Res
     let sampler = RefusingOnce {
         was_asked: Cell::new(false),
     };
-    let mut provider = ProviderOf::from_parts(
-        three_writers(rt.alloc(), &board)?,
-        sampler,
-        RandomIdGenerator::new(0),
-        SpanLimits::default(),
-    );
+    let writers = three_writers(rt.alloc(), &board)?;
+    let mut provider = provider_under(rt.alloc(), writers, sampler);
     let refused = started(rt.alloc(), &mut provider);
     let told = board.get();
     let again = started(rt.alloc(), &mut provider);
@@ -187,7 +183,7 @@ fn refused_edits_and_ends_change_nothing_and_succeed_again(rt: HostRuntime) -> R
     for _i in 0..2 {
         processors.push(SimpleSpanProcessor::new(alloc, InMemorySpanExporter::new(alloc)))?;
     }
-    let mut provider = provider_over(processors);
+    let mut provider = provider_over(alloc, processors);
     let outcome = edit_and_finish(alloc, &mut provider);
     let exported = exported_by(&provider);
     for processor in provider.processors() {

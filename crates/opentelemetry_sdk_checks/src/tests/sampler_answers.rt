@@ -1,12 +1,13 @@
 //! What becomes of a sampler's whole answer at a start: a span that is recorded and not sampled, one whose delegate
 //! decides alone, and a trace state of the sampler's own.
 
+use super::fixtures::provider_under;
 use opentelemetry::trace::{Link, SpanContext, SpanKind, TraceState};
 use opentelemetry::{Context, Key, KeyValue, Moment, SpanId, TraceFlags, TraceId, Value};
 use opentelemetry_sdk::trace::{ProcessorOf, ProviderOf, SimpleSpanProcessor, Span, SpanProcessor};
 use otel_base::error::OTelSdkResult;
 use otel_base::trace::{
-    RandomIdGenerator, SamplerOf, SamplingDecision, SamplingResult, ShouldSample, SpanLimits,
+    RandomIdGenerator, SamplerOf, SamplingDecision, SamplingResult, ShouldSample,
 };
 use otel_batch::trace::{InMemorySpanExporter, SpanData};
 use std::alloc::{AllocError, Global};
@@ -88,12 +89,7 @@ fn provider_of(
     let exporter = InMemorySpanExporter::new(alloc);
     processors.push(ProcessorOf::Simple(SimpleSpanProcessor::new(alloc, exporter)))?;
     processors.push(ProcessorOf::Custom(Counting { given: 0 }))?;
-    Ok(ProviderOf::from_parts(
-        processors,
-        sampler,
-        RandomIdGenerator::new(0),
-        SpanLimits::default(),
-    ))
+    Ok(provider_under(alloc, processors, sampler))
 }
 
 /// A context in which a valid span with these flags and the trace state `foo=bar` is active.

@@ -28,7 +28,7 @@ fn starts_ends_flushes_and_shutdowns_ask_each_processor_in_its_turn(
     rt: HostRuntime,
 ) -> Result<(), Fail> {
     let board = Cell::new(0);
-    let mut provider = provider_over(three_writers(rt.alloc(), &board)?);
+    let mut provider = provider_over(rt.alloc(), three_writers(rt.alloc(), &board)?);
     let refused = start_and_end(rt.alloc(), &mut provider);
     let flushed = provider.force_flush();
     let shut = provider.shutdown();
@@ -79,7 +79,7 @@ fn a_flush_says_how_many_processors_failed(rt: HostRuntime) -> Result<(), Fail> 
     for fails in [false, true] {
         processors.push(Flushing { alloc, fails })?;
     }
-    let mut provider = provider_over(processors);
+    let mut provider = provider_over(rt.alloc(), processors);
     let flushed = provider.force_flush();
     let closed = provider.close();
     let Err(OTelSdkError::InternalFailure(reason)) = flushed else {
@@ -93,7 +93,7 @@ fn a_flush_says_how_many_processors_failed(rt: HostRuntime) -> Result<(), Fail> 
 #[test]
 fn closing_asks_each_processor_once(rt: HostRuntime) -> Result<(), Fail> {
     let board = Cell::new(0);
-    let provider = provider_over(three_writers(rt.alloc(), &board)?);
+    let provider = provider_over(rt.alloc(), three_writers(rt.alloc(), &board)?);
     let closed = provider.close();
     assert!(rt; closed.is_ok());
     assert_eq!(rt; board.get(), 123);

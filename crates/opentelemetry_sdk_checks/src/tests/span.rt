@@ -1,3 +1,4 @@
+use super::fixtures::config_of;
 use opentelemetry::trace::{Event, Link, SpanBuilder, SpanContext, Status};
 use opentelemetry::{Context, Key, KeyValue, Moment, Value};
 use opentelemetry_sdk::trace::{ProviderOf, SdkTracer, SimpleSpanProcessor, Span, SpanEdit};
@@ -14,15 +15,13 @@ type TestProvider = ProviderOf<
 
 /// An open provider over these processors, which samples every span.
 fn provider_over(
+    alloc: Global,
     processors: Vec<SimpleSpanProcessor<InMemorySpanExporter>>,
     limits: SpanLimits,
 ) -> TestProvider {
-    ProviderOf::from_parts(
-        processors,
-        Sampler::AlwaysOn,
-        RandomIdGenerator::new(0),
-        limits,
-    )
+    let mut config = config_of(alloc, Sampler::AlwaysOn);
+    config.span_limits = limits;
+    ProviderOf::from_parts(processors, config)
 }
 
 /// As many attributes, whose keys are a, b, ..
@@ -66,7 +65,7 @@ fn exported_after(
     given: u8,
     edits: Vec<SpanEdit>,
 ) -> Result<SpanData, AllocError> {
-    let mut provider = provider_over(Vec::new(alloc), limits);
+    let mut provider = provider_over(alloc, Vec::new(alloc), limits);
     let exported = export_after(alloc, &mut provider, given, edits);
     let _ = provider.close();
     exported?.ok_or(AllocError)
@@ -253,7 +252,7 @@ fn all_counts(alloc: Global, span: &SpanData) -> Result<Vec<(usize, u32)>, Alloc
 }
 
 fn counts_of_both(alloc: Global) -> Result<Vec<(usize, u32)>, AllocError> {
-    let mut provider = provider_over(Vec::new(alloc), SpanLimits::default());
+    let mut provider = provider_over(alloc, Vec::new(alloc), SpanLimits::default());
     let recorded = recorded_of_both(alloc, &mut provider);
     let _ = provider.close();
     match recorded? {
@@ -348,7 +347,7 @@ fn a_finished_span_is_exported_once_with_each_edit(rt: HostRuntime) -> Result<()
     let alloc = rt.alloc();
     let mut processors = Vec::new(alloc);
     processors.push(SimpleSpanProcessor::new(alloc, InMemorySpanExporter::new(alloc)))?;
-    let mut provider = provider_over(processors, SpanLimits::default());
+    let mut provider = provider_over(alloc, processors, SpanLimits::default());
     let refused = finished(alloc, &mut provider);
     let exported = exported_by(alloc, &provider);
     let closed = provider.close();

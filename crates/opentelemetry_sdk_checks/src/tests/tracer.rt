@@ -1,10 +1,11 @@
+use super::fixtures::provider_under;
 use opentelemetry::trace::{SpanBuilder, SpanContext};
 use opentelemetry::{Context, Key, KeyValue, Moment, SpanId, TraceId, Value};
 use opentelemetry_sdk::trace::{
     ProcessorOf, ProviderOf, SdkTracer, SimpleSpanProcessor, Span, SpanProcessor,
 };
 use otel_base::error::{OTelSdkError, OTelSdkResult};
-use otel_base::trace::{RandomIdGenerator, Sampler, SpanLimits};
+use otel_base::trace::{RandomIdGenerator, Sampler};
 use otel_batch::trace::{InMemorySpanExporter, SpanData};
 use std::alloc::{AllocError, Global};
 use std::test::Fail;
@@ -70,12 +71,7 @@ fn by_parents(alloc: Global) -> Result<Sampler, AllocError> {
 fn provider_of_two(alloc: Global) -> Result<TestProvider, AllocError> {
     let sampler = by_parents(alloc)?;
     let processors = two_processors(alloc)?;
-    Ok(ProviderOf::from_parts(
-        processors,
-        sampler,
-        RandomIdGenerator::new(0),
-        SpanLimits::default(),
-    ))
+    Ok(provider_under(alloc, processors, sampler))
 }
 
 /// Who a started span is, and whether it records.

@@ -4,9 +4,10 @@
 ghost use Rattle.std.specs.Prelude.{◌≡◌, ◌<◌, ◌≤◌, ◌^◌, ◌∷◌, ◌++◌, Some, List, ℕ, IfOk, IfSome, OnOk, MatchOption};
 ghost use Rattle.std.specs.Prelude.{string_bytes};
 ghost use Rattle.std.specs.Option.{option_copied};
+ghost use Rattle.opentelemetry.specs.PlainContexts.{current_span_context};
 ghost use Rattle.opentelemetry.specs.Hex.{hex_text};
 ghost use Rattle.opentelemetry.specs.Plain.{PlainSpanContext};
-ghost use Rattle.otel_base.specs.Traceparent.{hyphen, span_of, traceparent_of, CarriesSpan, InjectsTraceContext};
+ghost use Rattle.otel_base.specs.Traceparent.{hyphen, traceparent_of, CarriesSpan, InjectsTraceContext};
 ghost use Rattle.otel_base.specs.Traceparent.{IsTraceparent, IsValid, MayFollow, SaysState};
 
 use opentelemetry::laws::span_contexts_fit;
@@ -57,7 +58,7 @@ impl TextMapPropagator for TraceContextPropagator {
     ) -> Result<(), AllocError>
         ensures injects { InjectsTraceContext cx.now (I.texts injector.old) result (I.texts injector.new) }
         ensures carried { OnOk result
-            (IsValid (span_of cx.now) → CarriesSpan (I.texts injector.new) (span_of cx.now)) }
+            (IsValid (current_span_context cx.now) → CarriesSpan (I.texts injector.new) (current_span_context cx.now)) }
     {
         let span_context = cx.span_context();
         if !span_context.is_valid() {

@@ -164,33 +164,27 @@ impl BatchConfigBuilder {
     }
 
     /// So many spans may wait.
-    pub fn with_max_queue_size(self, max_queue_size: usize) -> BatchConfigBuilder
+    pub fn with_max_queue_size(mut self, max_queue_size: usize) -> BatchConfigBuilder
         ensures { result ≡ record self { max_queue_size = max_queue_size } }
     {
-        BatchConfigBuilder {
-            max_queue_size,
-            ..self
-        }
+        self.max_queue_size = max_queue_size;
+        self
     }
 
     /// A batch has so many spans at most, and no more than may wait.
-    pub fn with_max_export_batch_size(self, max_export_batch_size: usize) -> BatchConfigBuilder
+    pub fn with_max_export_batch_size(mut self, max_export_batch_size: usize) -> BatchConfigBuilder
         ensures { result ≡ record self { max_export_batch_size = max_export_batch_size } }
     {
-        BatchConfigBuilder {
-            max_export_batch_size,
-            ..self
-        }
+        self.max_export_batch_size = max_export_batch_size;
+        self
     }
 
     /// The time between two drains by the timer.
-    pub fn with_scheduled_delay(self, scheduled_delay: Duration) -> BatchConfigBuilder
+    pub fn with_scheduled_delay(mut self, scheduled_delay: Duration) -> BatchConfigBuilder
         ensures { result ≡ record self { scheduled_delay = as_nanos scheduled_delay } }
     {
-        BatchConfigBuilder {
-            scheduled_delay,
-            ..self
-        }
+        self.scheduled_delay = scheduled_delay;
+        self
     }
 
     /// The configuration. The size of a batch is cut to that of the queue.

@@ -5,8 +5,9 @@ use opentelemetry_sdk::trace::{
     Processor, ProviderOf, SdkTracerProvider, SimpleSpanProcessor, Span, SpanProcessor,
 };
 use otel_base::error::{OTelSdkError, OTelSdkResult};
+use otel_base::resource::Resource;
 use otel_base::trace::{
-    IdGenerator, IdSource, RandomIdGenerator, Sampler, ShouldSample, SpanLimits,
+    Config, IdGenerator, IdSource, RandomIdGenerator, Sampler, ShouldSample, SpanLimits,
 };
 use otel_batch::trace::{ExporterBox, InMemorySpanExporter, SpanData, SpanExporter};
 use otel_session::exported::KeepsBatches;
@@ -115,16 +116,20 @@ fn provider_of<P: SpanProcessor>(
 ) -> Result<ProviderOf<P, Sampler, IdSource>, AllocError> {
     let mut processors = Vec::new(alloc);
     processors.push(processor)?;
-    Ok(provider_with(processors))
+    Ok(provider_with(alloc, processors))
 }
 
-fn provider_with<P: SpanProcessor>(processors: Vec<P>) -> ProviderOf<P, Sampler, IdSource> {
-    ProviderOf::from_parts(
-        processors,
-        Sampler::AlwaysOn,
-        IdSource::Random(RandomIdGenerator::new(0)),
-        SpanLimits::default(),
-    )
+fn provider_with<P: SpanProcessor>(
+    alloc: Global,
+    processors: Vec<P>,
+) -> ProviderOf<P, Sampler, IdSource> {
+    let config = Config {
+        sampler: Sampler::AlwaysOn,
+        id_generator: IdSource::Random(RandomIdGenerator::new(0)),
+        span_limits: SpanLimits::default(),
+        resource: Resource::builder_empty(alloc).build(),
+    };
+    ProviderOf::from_parts(processors, config)
 }
 
 /// A session over a provider; where there is no memory for it, the provider is closed.
@@ -310,7 +315,7 @@ fn half_failing_provider(alloc: Global) -> Result<SdkTracerProvider, AllocError>
     let mut processors = Vec::new(alloc);
     processors.push(Processor::Simple(SimpleSpanProcessor::new(alloc, memory)))?;
     processors.push(Processor::Custom(Box::new(alloc, Failing)?))?;
-    Ok(provider_with(processors))
+    Ok(provider_with(alloc, processors))
 }
 
 #[test]

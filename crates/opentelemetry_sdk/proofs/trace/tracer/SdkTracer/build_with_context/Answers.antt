@@ -1,7 +1,8 @@
+use Rattle.opentelemetry.specs.PlainContexts.{current_span_context}
 use Rattle.std.proofs.Common.{◌≡◌, ◌≢◌, [], rules}
 use Rattle.otel_base.specs.Sampling.{PlainSamplingResult}
 use Rattle.otel_base.specs.declared.trace.sampler.SamplingDecision.TheVariants as decisions
-use Rattle.opentelemetry_sdk.specs.Starting.{parent_in, start_of, start_question, start_span_context}
+use Rattle.opentelemetry_sdk.specs.Starting.{start_of, start_question, start_span_context}
 use Rattle.opentelemetry_sdk.specs.SpanHistory.{recording, not_recording}
 use Rattle.opentelemetry_sdk.proofs.Starting.{starts_dropped, starts_none, starts_recording}
 use Rattle.opentelemetry_sdk.proofs.trace.tracer.SdkTracer.build_with_context.Goals as goal
@@ -16,7 +17,7 @@ returns-in-Drop-clause-ok g c =
     let drawn = c.draw_ids-trace_id.new.self in
     let asked : g.S.ShouldSample.gives drawn.sampler (start_question c.args.cx.now c.draw_ids-trace_id.result.0 c.args.builder) answer = search rules in
     let drops : answer.decision ≡ decisions.Drop = search rules in
-    let span_is : c.not_recording-in-Drop.result ≡ not_recording (start_span_context (parent_in c.args.cx.now) c.draw_ids-trace_id.result.0 c.draw_ids-trace_id.result.1 answer) c.args.provider.now.span_limits = search rules in
+    let span_is : c.not_recording-in-Drop.result ≡ not_recording (start_span_context (current_span_context c.args.cx.now) c.draw_ids-trace_id.result.0 c.draw_ids-trace_id.result.1 answer) c.args.provider.now.span_limits = search rules in
     starts_dropped g.P.SpanProcessor g.S.ShouldSample g.G.IdGenerator c.args.provider.now drawn c.args.self.now c.args.builder c.args.cx.now c.args.now.0
     c.draw_ids-trace_id.result.0 c.draw_ids-trace_id.result.1 answer c.not_recording-in-Drop.result (search rules) c.draw_ids-trace_id.ensures.draws c.draw_ids-trace_id.ensures.rest asked drops span_is
 
@@ -26,8 +27,8 @@ returns-clause-ok g c =
     let drawn = c.draw_ids-trace_id.new.self in
     let asked : g.S.ShouldSample.gives drawn.sampler (start_question c.args.cx.now c.draw_ids-trace_id.result.0 c.args.builder) answer = search rules in
     let kept : answer.decision ≢ decisions.Drop = search rules in
-    let span_is : c.in_ok-span.span ≡ recording (start_of c.args.self.now c.args.builder (parent_in c.args.cx.now) c.args.now.0 c.args.provider.now.span_limits
-    (start_span_context (parent_in c.args.cx.now) c.draw_ids-trace_id.result.0 c.draw_ids-trace_id.result.1 answer) answer.attributes) [] = search rules in
-    starts_recording g.P.SpanProcessor g.S.ShouldSample g.G.IdGenerator c.args.provider.now drawn c.start_each.new.self c.args.self.now c.args.builder c.args.cx.now c.args.now.0
-    c.draw_ids-trace_id.result.0 c.draw_ids-trace_id.result.1 answer c.in_ok-span.span c.start_each.new.span (search rules) c.draw_ids-trace_id.ensures.draws c.draw_ids-trace_id.ensures.rest asked kept span_is
-    c.start_each.ensures.edits c.start_each.ensures.gives c.start_each.ensures.rest
+    let span_is : c.in_ok-span.span ≡ recording (start_of c.args.self.now c.args.builder (current_span_context c.args.cx.now) c.args.now.0 c.args.provider.now.span_limits
+    (start_span_context (current_span_context c.args.cx.now) c.draw_ids-trace_id.result.0 c.draw_ids-trace_id.result.1 answer) answer.attributes) [] = search rules in
+    starts_recording g.P.SpanProcessor g.S.ShouldSample g.G.IdGenerator c.args.provider.now drawn c.tell_start.new.self c.args.self.now c.args.builder c.args.cx.now c.args.now.0
+    c.draw_ids-trace_id.result.0 c.draw_ids-trace_id.result.1 answer c.in_ok-span.span c.tell_start.new.span (search rules) c.draw_ids-trace_id.ensures.draws c.draw_ids-trace_id.ensures.rest asked kept span_is
+    c.tell_start.ensures.edits c.tell_start.ensures.gives c.tell_start.ensures.rest

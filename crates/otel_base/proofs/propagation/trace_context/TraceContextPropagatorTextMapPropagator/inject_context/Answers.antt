@@ -1,9 +1,10 @@
 use Rattle.std.proofs.Common.{inr, refl, ap, subst, ◌∙◌}
 use Rattle.std.proofs.lemmas.Result.{on_ok_weaker, on_err_weaker}
+use Rattle.opentelemetry.specs.PlainContexts.{current_span_context}
 use Rattle.opentelemetry.specs.Carrier.{Texts, SetsText}
 use Rattle.opentelemetry.specs.Plain.{PlainSpanContext}
 use Rattle.opentelemetry.specs.Tracestate.{tracestate_text}
-use Rattle.otel_base.specs.Traceparent.{span_of, traceparent_field, traceparent_of, tracestate_field, InjectsTraceContext, IsSpanContext, IsValid}
+use Rattle.otel_base.specs.Traceparent.{traceparent_field, traceparent_of, tracestate_field, InjectsTraceContext, IsSpanContext, IsValid}
 use Rattle.otel_base.proofs.TraceparentLemmas.{both_set, headers_carry, still_set}
 use Rattle.otel_base.proofs.propagation.trace_context.TraceContextPropagatorTextMapPropagator.inject_context.Goals as goal
 
@@ -12,7 +13,7 @@ returns-clause-injects g c =
     let old : Texts = g.I.Injector.texts c.args.injector.now in
     let between : Texts = g.I.Injector.texts c.set.new.self in
     let new : Texts = g.I.Injector.texts c.set-2.new.self in
-    let span : PlainSpanContext = span_of c.args.cx.now in
+    let span : PlainSpanContext = current_span_context c.args.cx.now in
     let span_is = c.span_context-span_context.ensures in
     let first : SetsText old between traceparent_field (traceparent_of span) =
     subst (SetsText old between traceparent_field) (c.in_ok-parent.ensures ∙ ap traceparent_of span_is) c.in_ok-set.ensures.ok in
@@ -34,5 +35,5 @@ returns-clause-carried g c =
     } in
     let injects : InjectsTraceContext c.args.cx.now (g.I.Injector.texts c.args.injector.now) c.set-2.result new = returns-clause-injects g c in
     on_ok_weaker c.set-2.result
-    (λ sets valid. headers_carry (span_of c.args.cx.now) new (subst IsSpanContext span_is is) valid sets.parent sets.state)
+    (λ sets valid. headers_carry (current_span_context c.args.cx.now) new (subst IsSpanContext span_is is) valid sets.parent sets.state)
     (injects.set (subst IsValid span_is (c.if-not-is_valid.ensures.0 refl)))
