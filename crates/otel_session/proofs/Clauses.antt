@@ -1,5 +1,5 @@
 -- Clauses that speak of one case of a result.
-use Rattle.std.proofs.Common.{◌≡◌, Bool, true, false, Result, Ok, Err, IfOk, OnOk, OnErr}
+use Rattle.std.proofs.Common.{◌≡◌, true, false, Result, Ok, Err, IfOk, OnOk, OnErr}
 
 -- what always holds holds on an error
 pub always_on_err : {T E : Type 0} {P : Type 0} (r : Result T E) → P → OnErr r P

@@ -8,11 +8,11 @@ use Rattle.std.specs.Str.{str_to_ascii_lowercase}
 use Rattle.opentelemetry.specs.PlainContexts.{current_span_context}
 use Rattle.opentelemetry.specs.Carrier.{Texts, IsOtherName, SetsText}
 use Rattle.opentelemetry.specs.TextMap.{TextMap, texts_of}
-use Rattle.opentelemetry.specs.Plain.{PlainContext, PlainSpanContext}
+use Rattle.opentelemetry.specs.Plain.{PlainContext}
 use Rattle.opentelemetry.specs.Tracestate.{tracestate_text}
 use Rattle.otel_base.specs.Traceparent.{ExtractsTraceContext, InjectsTraceContext, IsTraceparent, IsValid, SaysState, header_text, traceparent_field, traceparent_of, tracestate_field}
 use Rattle.opentelemetry_sdk.specs.Starting.{root_cx}
-use Rattle.otel_session.specs.Headers.{SaysContext, child_cx}
+use Rattle.otel_session.specs.Headers.{SaysContext}
 
 some_is : (x y : List ℕ) → Some x ≡ Some y → x ≡ y
 some_is x y e = ap (λ (o : Option (List ℕ)). unwrap_or o x) e

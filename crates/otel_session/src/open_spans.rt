@@ -159,7 +159,14 @@ impl OpenSpans {
         ensures ok { OnOk result (PutsSpan self.old (string_bytes name) span self.new) }
         ensures err { OnErr result (SameSpans self.old self.new) }
     {
-        put_in(&mut self.spans, name, span)
+        let refused = match self.spans.insert(name, span) {
+            Ok(None) => return Ok(()),
+            Ok(Some(_span)) => unreachable!(),
+            Err(refused) => refused,
+        };
+        let (_name, span) = refused.value;
+        span.abandon();
+        Err(AllocError)
     }
 
     /// Edits the span of a name.
@@ -168,7 +175,12 @@ impl OpenSpans {
             (named self.old name.now) answer self.new) }
         ensures err { OnErr result (SameSpans self.old self.new) }
     {
-        edit_in(&mut self.spans, name, edit)
+        let Some(span) = self.spans.get_mut(name) else {
+            return Ok(Answer::NoSuchSpan);
+        };
+        let is_recording = span.is_recording();
+        span.edit(edit)?;
+        Ok(answer_to_edit(is_recording))
     }
 
     /// Ends the span of a name.
@@ -183,30 +195,18 @@ impl OpenSpans {
         ensures asks { MayDeliver P.SpanProcessor provider.old.processors provider.new.processors }
         ensures err { OnErr result (SameSpans self.old self.new × (provider.new ≡ provider.old)) }
     {
-        end_in(&mut self.spans, name, provider, moment)
+        let Some(span) = self.spans.get_mut(name) else {
+            return Ok(Answer::NoSuchSpan);
+        };
+        let is_recording = span.is_recording();
+        let refused = span.end_with_timestamp(provider, moment)?;
+        Ok(answer_to_end(is_recording, refused))
     }
 
     /// Spends them: each span is abandoned.
     pub(crate) fn abandon(self) {
         let OpenSpans { spans } = self;
         abandon_all(spans);
-    }
-}
-
-fn put_in(spans: &mut BTreeMap<String, Span>, name: String, span: Span) -> Result<(), AllocError>
-    requires { named (by_name spans.old.entries) (string_bytes name) ≡ None }
-    ensures ok { OnOk result (PutsSpan (by_name spans.old.entries) (string_bytes name) span
-        (by_name spans.new.entries)) }
-    ensures err { OnErr result (SameSpans (by_name spans.old.entries) (by_name spans.new.entries)) }
-{
-    match spans.insert(name, span) {
-        Ok(None) => Ok(()),
-        Ok(Some(_span)) => unreachable!(),
-        Err(refused) => {
-            let (_name, span) = refused.value;
-            span.abandon();
-            Err(AllocError)
-        }
     }
 }
 
@@ -232,23 +232,6 @@ fn identity(span: &Span) -> SpanIdentity
     }
 }
 
-fn edit_in(
-    spans: &mut BTreeMap<String, Span>,
-    name: &str,
-    edit: SpanEdit,
-) -> Result<Answer, AllocError>
-    ensures ok { IfOk result (λ answer. EditsNamed (by_name spans.old.entries) name.now (plain_edit edit)
-        (named (by_name spans.old.entries) name.now) answer (by_name spans.new.entries)) }
-    ensures err { OnErr result (SameSpans (by_name spans.old.entries) (by_name spans.new.entries)) }
-{
-    let Some(span) = spans.get_mut(name) else {
-        return Ok(Answer::NoSuchSpan);
-    };
-    let is_recording = span.is_recording();
-    span.edit(edit)?;
-    Ok(answer_to_edit(is_recording))
-}
-
 /// What is said of an edit of a span that was recording or not.
 fn answer_to_edit(is_recording: bool) -> Answer
     ensures { result ≡ (if is_recording then Answer.Ok else Answer.Ignored) }
@@ -258,27 +241,6 @@ fn answer_to_edit(is_recording: bool) -> Answer
     } else {
         Answer::Ignored
     }
-}
-
-fn end_in<P: SpanProcessor, S: Drop, G: Drop>(
-    spans: &mut BTreeMap<String, Span>,
-    name: &str,
-    provider: &mut ProviderOf<P, S, G>,
-    moment: Moment,
-) -> Result<Answer, AllocError>
-    ensures ok { IfOk result (λ answer. EndsNamed P.SpanProcessor provider.old
-        (by_name spans.old.entries) name.now moment.0
-        (named (by_name spans.old.entries) name.now) answer provider.new (by_name spans.new.entries)) }
-    ensures asks { MayDeliver P.SpanProcessor provider.old.processors provider.new.processors }
-    ensures err { OnErr result
-        (SameSpans (by_name spans.old.entries) (by_name spans.new.entries) × (provider.new ≡ provider.old)) }
-{
-    let Some(span) = spans.get_mut(name) else {
-        return Ok(Answer::NoSuchSpan);
-    };
-    let is_recording = span.is_recording();
-    let refused = span.end_with_timestamp(provider, moment)?;
-    Ok(answer_to_end(is_recording, refused))
 }
 
 /// What is said of the end of a span that was recording or not, and that so many processors refused.

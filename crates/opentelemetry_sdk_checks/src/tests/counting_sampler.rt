@@ -1,12 +1,10 @@
 //! How often a start asks its sampler, which no clause says: it answers a question, and may count them.
 
-use super::fixtures::provider_under;
+use super::fixtures::{provider_under, start_span};
 use opentelemetry::trace::{Link, SpanKind, TraceState};
-use opentelemetry::{Context, KeyValue, Moment, TraceId};
+use opentelemetry::{Context, KeyValue, TraceId};
 use opentelemetry_sdk::trace::{ProviderOf, SimpleSpanProcessor};
-use otel_base::trace::{
-    RandomIdGenerator, SamplingDecision, SamplingResult, ShouldSample,
-};
+use otel_base::trace::{RandomIdGenerator, SamplingDecision, SamplingResult, ShouldSample};
 use otel_batch::trace::InMemorySpanExporter;
 use std::alloc::{AllocError, Global};
 use std::cell::Cell;
@@ -48,8 +46,7 @@ fn start_in(
     cx: &Context,
     provider: &mut CountingProvider<'_>,
 ) -> Result<(), AllocError> {
-    let tracer = provider.tracer(String::new(alloc))?;
-    let span = tracer.start_with_context(String::new(alloc), cx, provider, Moment(1))?;
+    let span = start_span(alloc, cx, provider, 1)?;
     span.abandon();
     Ok(())
 }

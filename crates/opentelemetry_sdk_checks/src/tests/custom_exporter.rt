@@ -6,7 +6,7 @@
 ghost use Rattle.std.specs.Prelude.{None};
 
 use opentelemetry::Moment;
-use opentelemetry_sdk::trace::{ProviderOf, SimpleSpanProcessor};
+use opentelemetry_sdk::trace::{ProviderOf, SimpleSpanProcessor, Span};
 use otel_base::error::{OTelSdkError, OTelSdkResult};
 use otel_base::resource::Resource;
 use otel_base::trace::{ConfigOf, RandomIdGenerator, Sampler, SpanLimits};
@@ -90,9 +90,21 @@ fn trace_span(
     moments: [u64; 2],
 ) -> Result<usize, AllocError> {
     let [start, end] = moments;
+    let span = start_span(alloc, provider, name, start)?;
+    end_span(span, provider, end)
+}
+
+fn start_span(
+    alloc: Global,
+    provider: &mut LineProvider,
+    name: &str,
+    start: u64,
+) -> Result<Span, AllocError> {
     let tracer = provider.tracer(String::from_str(alloc, "library")?)?;
-    let name = String::from_str(alloc, name)?;
-    let mut span = tracer.start(name, provider, Moment(start))?;
+    tracer.start(String::from_str(alloc, name)?, provider, Moment(start))
+}
+
+fn end_span(mut span: Span, provider: &mut LineProvider, end: u64) -> Result<usize, AllocError> {
     let refused = span.end_with_timestamp(provider, Moment(end));
     span.abandon();
     refused

@@ -92,13 +92,29 @@ fn trace_span(
     start: u64,
     mark: bool,
 ) -> Result<usize, AllocError> {
+    let mut span = start_span(alloc, provider, start)?;
+    let marked = set_mark(&mut span, mark);
+    let refused = end_span(span, provider);
+    marked?;
+    refused
+}
+
+fn start_span(
+    alloc: Global,
+    provider: &mut FilteringProvider,
+    start: u64,
+) -> Result<Span, AllocError> {
     let tracer = provider.tracer(String::from_str(alloc, "library")?)?;
-    let mut span = tracer.start(String::new(alloc), provider, Moment(start))?;
-    let key = Key::from_static_str(MARK);
-    let marked = span.set_attribute(KeyValue::new(key, Value::Bool(mark)));
+    tracer.start(String::new(alloc), provider, Moment(start))
+}
+
+fn set_mark(span: &mut Span, mark: bool) -> Result<(), AllocError> {
+    span.set_attribute(KeyValue::new(Key::from_static_str(MARK), Value::Bool(mark)))
+}
+
+fn end_span(mut span: Span, provider: &mut FilteringProvider) -> Result<usize, AllocError> {
     let refused = span.end_with_timestamp(provider, Moment(9));
     span.abandon();
-    marked?;
     refused
 }
 

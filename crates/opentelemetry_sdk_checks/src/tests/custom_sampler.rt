@@ -108,6 +108,18 @@ fn exported(
     provider: &mut ServerProvider,
     kind: SpanKind,
 ) -> Result<Option<SpanData>, AllocError> {
+    let mut span = start_span(alloc, provider, kind)?;
+    let edited = edit(&mut span);
+    let exported = exported_of(span);
+    edited?;
+    exported
+}
+
+fn start_span(
+    alloc: Global,
+    provider: &mut ServerProvider,
+    kind: SpanKind,
+) -> Result<Span, AllocError> {
     let tracer = provider.tracer(String::from_str(alloc, "library")?)?;
     let mut attributes = Vec::new(alloc);
     attributes.push(flag("a"))?;
@@ -115,11 +127,12 @@ fn exported(
         .span_builder(String::new(alloc))
         .with_kind(kind)
         .with_attributes(attributes);
-    let mut span = tracer.build_with_context(builder, &Context::new(), provider, Moment(7))?;
-    let edited = edit(&mut span);
+    tracer.build_with_context(builder, &Context::new(), provider, Moment(7))
+}
+
+fn exported_of(span: Span) -> Result<Option<SpanData>, AllocError> {
     let exported = span.exported_data();
     span.abandon();
-    edited?;
     exported
 }
 

@@ -5,7 +5,7 @@ use opentelemetry::{Context, InstrumentationScope, Moment, SpanId, TraceFlags, T
 use opentelemetry_sdk::trace::{ProviderOf, Span, SpanProcessor};
 use otel_base::error::OTelSdkResult;
 use otel_base::resource::Resource;
-use otel_base::trace::{ConfigOf, RandomIdGenerator, Sampler, SpanLimits};
+use otel_base::trace::{ConfigOf, RandomIdGenerator, Sampler, ShouldSample, SpanLimits};
 use otel_batch::trace::{SpanData, SpanEvents, SpanLinks};
 use std::alloc::{AllocError, Global};
 use std::cell::Cell;
@@ -123,4 +123,25 @@ pub(super) fn config_of<S>(alloc: Global, sampler: S) -> ConfigOf<S, RandomIdGen
         span_limits: SpanLimits::default(),
         resource: Resource::builder_empty(alloc).build(),
     }
+}
+
+/// Starts a span without a name in a context at a moment.
+pub(super) fn start_span<P: SpanProcessor, S: ShouldSample>(
+    alloc: Global,
+    cx: &Context,
+    provider: &mut ProviderOf<P, S, RandomIdGenerator>,
+    moment: u64,
+) -> Result<Span, AllocError> {
+    let tracer = provider.tracer(String::new(alloc))?;
+    tracer.start_with_context(String::new(alloc), cx, provider, Moment(moment))
+}
+
+/// Ends a span at moment 9, and spends it. The answer is how many processors refused it.
+pub(super) fn end_span<P: SpanProcessor, S: Drop>(
+    mut span: Span,
+    provider: &mut ProviderOf<P, S, RandomIdGenerator>,
+) -> Result<usize, AllocError> {
+    let refused = span.end_with_timestamp(provider, Moment(9));
+    span.abandon();
+    refused
 }

@@ -109,13 +109,23 @@ fn queue_of(alloc: Global, max_queue_size: usize) -> QueueingProcessor<InMemoryS
     QueueingProcessor::new(alloc, InMemorySpanExporter::new(alloc), max_queue_size)
 }
 
+/// Gives a processor a span that started at this moment and has these flags.
+fn end_one(
+    alloc: Global,
+    processor: &mut QueueingProcessor<InMemorySpanExporter>,
+    moment: u64,
+    flags: u8,
+) -> Result<(), AllocError> {
+    processor.on_end(span_data(alloc, moment, flags)?)
+}
+
 #[test]
 fn a_flush_exports_what_waits_in_one_batch(rt: HostRuntime) -> Result<(), Fail> {
     let alloc = rt.alloc();
     let mut processor = queue_of(alloc, 8);
-    processor.on_end(span_data(alloc, 7, 1)?)?;
-    processor.on_end(span_data(alloc, 8, 0)?)?;
-    processor.on_end(span_data(alloc, 9, 1)?)?;
+    end_one(alloc, &mut processor, 7, 1)?;
+    end_one(alloc, &mut processor, 8, 0)?;
+    end_one(alloc, &mut processor, 9, 1)?;
     assert_eq!(rt; processor.exporter.batches().len(), 0);
     assert!(rt; processor.force_flush().is_ok());
     assert!(rt; processor.force_flush().is_ok());
@@ -131,11 +141,11 @@ fn a_flush_exports_what_waits_in_one_batch(rt: HostRuntime) -> Result<(), Fail> 
 fn a_full_queue_counts_what_it_drops(rt: HostRuntime) -> Result<(), Fail> {
     let alloc = rt.alloc();
     let mut processor = queue_of(alloc, 1);
-    processor.on_end(span_data(alloc, 7, 1)?)?;
-    processor.on_end(span_data(alloc, 8, 1)?)?;
+    end_one(alloc, &mut processor, 7, 1)?;
+    end_one(alloc, &mut processor, 8, 1)?;
     assert_eq!(rt; processor.dropped, 1);
     assert!(rt; processor.shutdown().is_ok());
-    processor.on_end(span_data(alloc, 9, 1)?)?;
+    end_one(alloc, &mut processor, 9, 1)?;
     assert!(rt; processor.force_flush().is_ok());
     assert_eq!(rt; processor.dropped, 1);
     let batches = processor.exporter.batches();

@@ -2,7 +2,7 @@
 //! that refuses shows it of starts. Edits and ends want memory of the machine alone, which an ordinary run has:
 //! `rt try --test --fail-alloc N` has the Nth allocation refused.
 
-use super::fixtures::{provider_over, provider_under, three_writers};
+use super::fixtures::{provider_over, provider_under, start_span, three_writers};
 use opentelemetry::trace::{Event, Link, SpanContext, SpanKind, TraceState};
 use opentelemetry::{Context, Key, KeyValue, Moment, SpanId, TraceId, Value};
 use opentelemetry_sdk::trace::{ProviderOf, SimpleSpanProcessor, Span, SpanEdit, SpanProcessor};
@@ -47,8 +47,7 @@ fn started<P: SpanProcessor, S: ShouldSample>(
     alloc: Global,
     provider: &mut ProviderOf<P, S, RandomIdGenerator>,
 ) -> Result<SpanId, AllocError> {
-    let tracer = provider.tracer(String::new(alloc))?;
-    let span = tracer.start(String::new(alloc), provider, Moment(1))?;
+    let span = start_span(alloc, &Context::new(), provider, 1)?;
     let span_id = span.span_context().span_id();
     span.abandon();
     Ok(span_id)
@@ -101,11 +100,16 @@ fn one_link(alloc: Global) -> SpanEdit {
 /// Makes an edit, and makes it again where it was refused. The answer is whether the span was then as before, and the
 /// second time succeeded.
 fn edit_again(span: &mut Span, edit: SpanEdit, again: SpanEdit) -> bool {
-    let before = span.exported_data();
-    match span.edit(edit) {
-        Ok(()) => true,
-        Err(_) => before == span.exported_data() && span.edit(again).is_ok(),
-    }
+    let before = exported_of(span);
+    succeeds(span, edit) || (before == exported_of(span) && succeeds(span, again))
+}
+
+fn exported_of(span: &Span) -> Result<Option<SpanData>, AllocError> {
+    span.exported_data()
+}
+
+fn succeeds(span: &mut Span, edit: SpanEdit) -> bool {
+    span.edit(edit).is_ok()
 }
 
 /// The same of each edit.
@@ -161,8 +165,7 @@ fn edit_and_finish(
     provider: &mut MemoryProvider,
 ) -> Result<(bool, Option<u64>), AllocError> {
     let (edits, again) = (edits_of_each_kind(alloc)?, edits_of_each_kind(alloc)?);
-    let tracer = provider.tracer(String::new(alloc))?;
-    let mut span = tracer.start(String::new(alloc), provider, Moment(7))?;
+    let mut span = start_span(alloc, &Context::new(), provider, 7)?;
     let edited = edit_all(&mut span, edits, again);
     Ok((edited, finish(span, provider)))
 }

@@ -1,9 +1,9 @@
 //! What becomes of a sampler's whole answer at a start: a span that is recorded and not sampled, one whose delegate
 //! decides alone, and a trace state of the sampler's own.
 
-use super::fixtures::provider_under;
+use super::fixtures::{end_span, provider_under, start_span};
 use opentelemetry::trace::{Link, SpanContext, SpanKind, TraceState};
-use opentelemetry::{Context, Key, KeyValue, Moment, SpanId, TraceFlags, TraceId, Value};
+use opentelemetry::{Context, Key, KeyValue, SpanId, TraceFlags, TraceId, Value};
 use opentelemetry_sdk::trace::{ProcessorOf, ProviderOf, SimpleSpanProcessor, Span, SpanProcessor};
 use otel_base::error::OTelSdkResult;
 use otel_base::trace::{
@@ -107,11 +107,9 @@ fn started_in(
     cx: &Context,
     provider: &mut RecordingProvider,
 ) -> Result<String, AllocError> {
-    let tracer = provider.tracer(String::new(alloc))?;
-    let mut span = tracer.start_with_context(String::new(alloc), cx, provider, Moment(7))?;
+    let span = start_span(alloc, cx, provider, 7)?;
     let text = shown(alloc, &span);
-    let _ = span.end_with_timestamp(provider, Moment(9));
-    span.abandon();
+    let _ = end_span(span, provider);
     text
 }
 
@@ -133,8 +131,7 @@ fn root_and_child(
     alloc: Global,
     provider: &mut RecordingProvider,
 ) -> Result<(String, String), AllocError> {
-    let tracer = provider.tracer(String::new(alloc))?;
-    let root = tracer.start(String::new(alloc), provider, Moment(7))?;
+    let root = start_span(alloc, &Context::new(), provider, 7)?;
     let text = shown(alloc, &root);
     let cx = context_of(&root);
     root.abandon();

@@ -1,7 +1,7 @@
 //! That each of several processors is asked in its turn, which no clause says.
 
-use super::fixtures::{provider_over, three_writers};
-use opentelemetry::{Context, Moment};
+use super::fixtures::{end_span, provider_over, start_span, three_writers};
+use opentelemetry::Context;
 use opentelemetry_sdk::trace::{ProviderOf, Span, SpanProcessor};
 use otel_base::error::{OTelSdkError, OTelSdkResult};
 use otel_base::trace::{RandomIdGenerator, Sampler};
@@ -16,11 +16,8 @@ fn start_and_end<P: SpanProcessor>(
     alloc: Global,
     provider: &mut ProviderOf<P, Sampler, RandomIdGenerator>,
 ) -> Result<usize, AllocError> {
-    let tracer = provider.tracer(String::new(alloc))?;
-    let mut span = tracer.start(String::new(alloc), provider, Moment(7))?;
-    let refused = span.end_with_timestamp(provider, Moment(9));
-    span.abandon();
-    refused
+    let span = start_span(alloc, &Context::new(), provider, 7)?;
+    end_span(span, provider)
 }
 
 #[test]

@@ -77,15 +77,28 @@ fn export_after(
     given: u8,
     edits: Vec<SpanEdit>,
 ) -> Result<Option<SpanData>, AllocError> {
+    let mut span = start_with_attributes(alloc, provider, given)?;
+    let edited = edit_all(&mut span, edits);
+    let exported = exported_of(span);
+    edited?;
+    exported
+}
+
+fn start_with_attributes(
+    alloc: Global,
+    provider: &mut TestProvider,
+    given: u8,
+) -> Result<Span, AllocError> {
     let tracer = provider.tracer(String::new(alloc))?;
     let builder = tracer
         .span_builder(String::from_str(alloc, "GET")?)
         .with_attributes(attributes(alloc, b'a', given)?);
-    let mut span = tracer.build_with_context(builder, &Context::new(), provider, Moment(7))?;
-    let edited = edit_all(&mut span, edits);
+    tracer.build_with_context(builder, &Context::new(), provider, Moment(7))
+}
+
+fn exported_of(span: Span) -> Result<Option<SpanData>, AllocError> {
     let exported = span.exported_data();
     span.abandon();
-    edited?;
     exported
 }
 
@@ -230,17 +243,19 @@ fn builder_of_both(alloc: Global, tracer: &SdkTracer) -> Result<SpanBuilder, All
     )
 }
 
-/// What a span records of such a builder, under the default limits.
+/// Starts a span of such a builder.
+fn start_of_both(alloc: Global, provider: &mut TestProvider) -> Result<Span, AllocError> {
+    let tracer = provider.tracer(String::new(alloc))?;
+    let builder = builder_of_both(alloc, &tracer)?;
+    tracer.build_with_context(builder, &Context::new(), provider, Moment(7))
+}
+
+/// What it records under the default limits.
 fn recorded_of_both(
     alloc: Global,
     provider: &mut TestProvider,
 ) -> Result<Option<SpanData>, AllocError> {
-    let tracer = provider.tracer(String::new(alloc))?;
-    let builder = builder_of_both(alloc, &tracer)?;
-    let span = tracer.build_with_context(builder, &Context::new(), provider, Moment(7))?;
-    let exported = span.exported_data();
-    span.abandon();
-    exported
+    exported_of(start_of_both(alloc, provider)?)
 }
 
 /// The counts of a span's events and links, and of their attributes.

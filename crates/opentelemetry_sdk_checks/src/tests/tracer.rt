@@ -89,16 +89,29 @@ fn started_in(
     cx: &Context,
     provider: &mut TestProvider,
 ) -> Result<Started, AllocError> {
+    let span = started_by_a_clone(alloc, cx, provider)?;
+    let started = said_of(&span);
+    span.abandon();
+    Ok(started)
+}
+
+/// Starts a span in a context by the clone of a tracer.
+fn started_by_a_clone(
+    alloc: Global,
+    cx: &Context,
+    provider: &mut TestProvider,
+) -> Result<Span, AllocError> {
     let tracer = provider.tracer(String::new(alloc))?.clone()?;
-    let span = tracer.start_with_context(String::new(alloc), cx, provider, Moment(1))?;
-    let started = Started {
+    tracer.start_with_context(String::new(alloc), cx, provider, Moment(1))
+}
+
+fn said_of(span: &Span) -> Started {
+    Started {
         trace_id: span.span_context().trace_id(),
         span_id: span.span_context().span_id(),
         is_recording: span.is_recording(),
         is_sampled: span.span_context().is_sampled(),
-    };
-    span.abandon();
-    Ok(started)
+    }
 }
 
 #[test]

@@ -1,7 +1,7 @@
-use Rattle.std.proofs.Common.{◌≡◌, true, IsFalse, refl, subst, sym, ap, map, rules, string_bytes, List, ℕ, Option, inr}
+use Rattle.std.proofs.Common.{◌≡◌, true, IsFalse, refl, subst, sym, ap, map, rules, string_bytes, List, ℕ, inr}
 use Rattle.opentelemetry_sdk.specs.SpanEdits.{plain_edit}
 use Rattle.opentelemetry.specs.PlainValues.{plain_status}
-use Rattle.opentelemetry_sdk.specs.SpanHistory.{Edit, PlainSpan, set_status}
+use Rattle.opentelemetry_sdk.specs.SpanHistory.{Edit, set_status}
 use Rattle.otel_session.specs.Commands.{plain_command, is_end, may_lose}
 use Rattle.otel_session.specs.OpenSpans.{ChildMayStart, ChildStartsNamed, EditsNamed, EndsNamed, InjectsNamed, named}
 use Rattle.otel_session.specs.SessionDelivery.{CarriesOutOne, RefusesOne, batches_of_first, call_answer}
