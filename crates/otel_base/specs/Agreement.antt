@@ -1,6 +1,6 @@
 -- When a span context belongs to a trace as the trace's root does (OpenTelemetry specification, "Sampling" and
 -- "Propagators API"): a trace is kept whole only where each of its spans has the root's decision.
-use Rattle.std.specs.Prelude.{◌≡◌, ℕ, ◌%◌}
+use Rattle.std.specs.Prelude.{◌≡◌, ◌%◌}
 use Rattle.opentelemetry.specs.Plain.{PlainSpanContext}
 
 -- a span context has the trace id, the sampled flag and the trace state of a root

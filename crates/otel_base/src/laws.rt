@@ -90,6 +90,7 @@ pub fn traceparents_read_once()
 /// What a propagator injects of a valid span context, another extracts: the ids, the sampled flag and the trace state,
 /// remote, over every carrier that gives back what was set.
 pub fn injected_span_context_is_carried()
-    ensures { (cx : PlainContext) (old new : Texts) → IsSpanContext (current_span_context cx) → IsValid (current_span_context cx)
+    ensures { (cx : PlainContext) (old new : Texts) → IsSpanContext (current_span_context cx)
+        → IsValid (current_span_context cx)
         → InjectsTraceContext cx old (Ok tt) new → CarriesSpan new (current_span_context cx) }
 {}

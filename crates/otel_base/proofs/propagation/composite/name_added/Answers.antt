@@ -1,11 +1,11 @@
-use Rattle.std.proofs.Common.{rules, ◌≡◌, ◌≢◌, ◌≤◌, ◌<◌, ◌++◌, Bool, true, false, List, ℕ, [], length, take, get_or, map, sym, ap, subst, ◌∙◌, arith}
+use Rattle.std.proofs.Common.{◌≡◌, ◌≤◌, ◌<◌, Bool, true, false, List, ℕ, [], length, take, get_or, sym, ap, subst, ◌∙◌, arith}
 use Rattle.std.specs.Borrow.{Bor}
 use Rattle.std.specs.List.{list_any}
 use Rattle.std.specs.Str.{bytes_eq}
 use Rattle.std.proofs.lemmas.Bool.{both_ways}
 use Rattle.std.proofs.lemmas.List.{take-map, get_or-map, length-map}
 use Rattle.std.proofs.lemmas.Slice.Eq.{bytes_eq-Decides}
-use Rattle.otel_base.specs.Composite.{joined, joined_onto, names_of, with_name}
+use Rattle.otel_base.specs.Composite.{names_of}
 use Rattle.otel_base.proofs.CompositeLemmas.{any_names, known, next_is_new, next_is_another}
 use Rattle.otel_base.proofs.propagation.composite.name_added.Goals as goal
 

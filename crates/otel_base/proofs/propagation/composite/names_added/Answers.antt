@@ -1,4 +1,4 @@
-use Rattle.std.proofs.Common.{◌≡◌, List, ℕ, take, sym, ap, ◌∙◌}
+use Rattle.std.proofs.Common.{take, sym, ap, ◌∙◌}
 use Rattle.otel_base.specs.Composite.{joined_onto, names_of}
 use Rattle.otel_base.proofs.CompositeLemmas.{others_stay_away}
 use Rattle.otel_base.proofs.propagation.composite.names_added.Goals as goal

@@ -1,4 +1,4 @@
-use Rattle.std.proofs.Common.{◌≡◌, ◌≤◌, List, ℕ, length, take}
+use Rattle.std.proofs.Common.{◌≡◌, ◌≤◌, length, take}
 use Rattle.otel_base.specs.Composite.{joined_onto, names_of}
 use Rattle.otel_base.proofs.propagation.composite.names_added.Given as goal
 

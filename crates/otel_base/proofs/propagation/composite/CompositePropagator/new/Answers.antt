@@ -1,4 +1,4 @@
-use Rattle.std.proofs.Common.{◌≡◌, List, ℕ, [], ◌++◌, take, sym, ap, ◌∙◌, append-nil}
+use Rattle.std.proofs.Common.{[], ◌++◌, take, sym, ap, ◌∙◌, append-nil}
 use Rattle.otel_base.specs.Composite.{joined_onto, names_of}
 use Rattle.otel_base.proofs.CompositeLemmas.{goes_on}
 use Rattle.otel_base.proofs.propagation.composite.CompositePropagator.new.Goals as goal
