@@ -1,5 +1,6 @@
 -- What is said of headers, by what a propagator injects and extracts.
 use Rattle.std.proofs.Common.{◌≡◌, ℕ, ◌<◌, List, [], Option, None, Some, Ok, ◌⊎◌, inl, inr, zero, suc, refl, sym, ap, subst, ◌∙◌, arith, rules}
+use Rattle.std.proofs.lemmas.Option.{none-some, same_Some}
 use Rattle.std.specs.Prelude.{unwrap_or}
 use Rattle.std.specs.FinMap as fin
 use Rattle.std.specs.Ordering.{nat_cmp}
@@ -13,12 +14,6 @@ use Rattle.opentelemetry.specs.Tracestate.{tracestate_text}
 use Rattle.otel_base.specs.Traceparent.{ExtractsTraceContext, InjectsTraceContext, IsTraceparent, IsValid, SaysState, header_text, traceparent_field, traceparent_of, tracestate_field}
 use Rattle.opentelemetry_sdk.specs.Starting.{root_cx}
 use Rattle.otel_session.specs.Headers.{SaysContext}
-
-some_is : (x y : List ℕ) → Some x ≡ Some y → x ≡ y
-some_is x y e = ap (λ (o : Option (List ℕ)). unwrap_or o x) e
-
-none_is_no : (x : List ℕ) → None ≡ Some x → ⊥
-none_is_no x e = cc
 
 -- a span context is valid or not
 some_or_none : (n : ℕ) → (0 < n) ⊎ (n ≡ 0)
@@ -44,8 +39,8 @@ headers_injected cx old new parent state injects none has_parent has_state =
     by : IsValid (current_span_context cx) ⊎ ¬ (IsValid (current_span_context cx)) → IsValid (current_span_context cx) × (parent ≡ traceparent_of (current_span_context cx)) × (state ≡ tracestate_text (current_span_context cx).trace_state)
     by (inl valid) =
         let set = injects.set valid in
-        (valid, some_is parent _ (has_parent ∙ set.parent), some_is state _ (has_state ∙ set.state))
-    by (inr not_valid) = absurd (none_is_no parent (sym none ∙ sym ((injects.nothing not_valid).1 traceparent_field) ∙ sym has_parent))
+        (valid, same_Some parent _ (has_parent ∙ set.parent), same_Some state _ (has_state ∙ set.state))
+    by (inr not_valid) = absurd (none-some parent (sym none ∙ sym ((injects.nothing not_valid).1 traceparent_field) ∙ sym has_parent))
 
 names_differ : IsOtherName tracestate_field traceparent_field
 names_differ = search rules

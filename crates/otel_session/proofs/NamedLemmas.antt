@@ -1,5 +1,5 @@
 -- A map whose keys are texts, seen as the spans of their names.
-use Rattle.std.proofs.Common.{◌≡◌, ℕ, Bool, true, false, cond, if◌then◌else◌, List, [], ◌∷◌, string_bytes, String, Option, Some, None, is_some, refl, sym, ◌∙◌, ap}
+use Rattle.std.proofs.Common.{◌≡◌, ℕ, Bool, true, false, cond, if◌then◌else◌, List, [], ◌∷◌, string_bytes, String, Option, Some, None, is_some, refl, sym, ◌∙◌, ap, subst}
 use Rattle.std.specs.Ordering.{nat_cmp, is_eq}
 use Rattle.std.specs.declared.cmp.Ordering.{Ordering}
 use Rattle.std.specs.declared.cmp.Ordering.TheVariants.{Less, Equal, Greater}
@@ -17,7 +17,7 @@ use Rattle.opentelemetry_sdk.specs.Provider.{ProviderState}
 use Rattle.opentelemetry_sdk.specs.SpanHistory.{PlainSpan}
 use Rattle.opentelemetry_sdk.specs.declared.trace.span_processor.SpanProcessor.{Ghosts}
 use Rattle.otel_session.specs.declared.reply.Answer.TheVariants as answers
-use Rattle.otel_session.specs.OpenSpans.{NamedSpans, named, by_name, is_name, PutsSpan, SameSpans, StartsNamed}
+use Rattle.otel_session.specs.OpenSpans.{NamedSpans, named, by_name, is_name, PutsSpan, SameSpans, StartsNamed, MayStart}
 
 named-lookup : {Y : Type 0} (entries : List (String Y × PlainSpan)) (q : List ℕ) → named (by_name entries) q ≡ lookup (is_at (λ k. slice_cmp nat_cmp q (string_bytes k))) entries
 named-lookup [] q = refl
@@ -66,6 +66,20 @@ pub starts_taken : {P S G : Type 0} (calls : Ghosts P) (sampler : sampling.Ghost
 starts_taken calls sampler ids p scope old name cx called now None h = cc
 starts_taken calls sampler ids p scope old name cx called now (Some span) h = (refl, refl, λ q. refl)
 
-pub none_from_test : {X : Type 0} (o : Option X) (b : Bool) → b ≡ is_some o → b ≡ false → o ≡ None
+-- a start under a name that is free
+pub may_start_free : {P S G : Type 0} (calls : Ghosts P) (sampler : sampling.Ghosts S) (ids : drawing.Ghosts G) (p q : ProviderState P S G) (scope : PlainScope) (cx : PlainContext) (called : List ℕ) (now : ℕ) (found : Option PlainSpan)
+    → found ≡ None → MayStart calls sampler ids p scope cx called now None q → MayStart calls sampler ids p scope cx called now found q
+may_start_free calls sampler ids p q scope cx called now found free h = subst (λ (o : Option PlainSpan). MayStart calls sampler ids p scope cx called now o q) (sym free) h
+
+pub may_start_taken : {P S G : Type 0} (calls : Ghosts P) (sampler : sampling.Ghosts S) (ids : drawing.Ghosts G) (p : ProviderState P S G) (scope : PlainScope) (cx : PlainContext) (called : List ℕ) (now : ℕ) (found : Option PlainSpan)
+    → is_some found ≡ true → MayStart calls sampler ids p scope cx called now found p
+may_start_taken calls sampler ids p scope cx called now None h = cc
+may_start_taken calls sampler ids p scope cx called now (Some span) h = refl
+
+none_from_test : {X : Type 0} (o : Option X) (b : Bool) → b ≡ is_some o → b ≡ false → o ≡ None
 none_from_test None b e h = refl
 none_from_test (Some x) b e h = cc
+
+-- a name of which a test says that it is free
+pub is_free : (spans : NamedSpans) (name text : List ℕ) (b : Bool) → text ≡ name → b ≡ is_some (named spans text) → b ≡ false → named spans name ≡ None
+is_free spans name text b same test no = none_from_test (named spans name) b (test ∙ ap (λ (n : List ℕ). is_some (named spans n)) same) no

@@ -21,18 +21,18 @@ same_status text ok (error description) f g = cc
 same_status text ok ok f g = refl
 
 -- two forms agree: field by field, and at their ends where these are of one kind
-abbrev pub Agree : LineForm → LineForm → Type 0
-Agree (field front behind) (field other more) = (front ≡ other) × Agree behind more
-Agree (field front behind) (last_field last) = ⊥
-Agree (last_field last) (field front behind) = ⊥
-Agree (last_field last) (last_field other) = last ≡ other
-Agree (time moment) (time other) = moment ≡ other
-Agree (outcome how) (outcome other) = how ≡ other
-Agree (rest_of_line rest) (rest_of_line other) = rest ≡ other
-Agree _ _ = Unit {0}
+abbrev pub AreOneForm : LineForm → LineForm → Type 0
+AreOneForm (field front behind) (field other more) = (front ≡ other) × AreOneForm behind more
+AreOneForm (field front behind) (last_field last) = ⊥
+AreOneForm (last_field last) (field front behind) = ⊥
+AreOneForm (last_field last) (last_field other) = last ≡ other
+AreOneForm (time moment) (time other) = moment ≡ other
+AreOneForm (outcome how) (outcome other) = how ≡ other
+AreOneForm (rest_of_line rest) (rest_of_line other) = rest ≡ other
+AreOneForm _ _ = Unit {0}
 
 -- the forms of one text agree
-forms_agree : (text : List ℕ) (form other : LineForm) → IsOfForm text form → IsOfForm text other → Agree form other
+forms_agree : (text : List ℕ) (form other : LineForm) → IsOfForm text form → IsOfForm text other → AreOneForm form other
 forms_agree text (field front behind) (field other more) f g =
     let same = same_field text front f.1.0 other g.1.0 f.0 g.0 f.1.1 g.1.1 in
     (same.0, forms_agree g.1.0 behind more (rw (← same.1) f.1.2) g.1.2)
@@ -45,7 +45,7 @@ forms_agree text (rest_of_line rest) (rest_of_line other) f g = sym f ∙ g
 forms_agree text _ _ f g = tt
 
 -- commands whose forms agree are the same
-same_command : (command other : PlainCommand) → Agree (form_of command) (form_of other) → other ≡ command
+same_command : (command other : PlainCommand) → AreOneForm (form_of command) (form_of other) → other ≡ command
 same_command (start s n m) (start s' n' m') h = cc
 same_command (start s n m) _ h = search rules
 same_command (child s p n m) (child s' p' n' m') h = cc

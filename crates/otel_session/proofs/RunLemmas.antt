@@ -77,6 +77,7 @@ module _ {P S G : Type 0} (calls : Ghosts P) (keeps : keeping.Ghosts P) (sampler
       let shown : new.shown ≡ middle.shown = ap (λ (s : SessionState P S G). s.shown) answers.rest in
       let replied : Replies calls keeps sampler ids old.scope (course_of middle first.after) middle.shown (plain_command command) reply next.deliveries (course_of new next.after) = record {
         demands = subst (λ (s : PlainScope). Demands calls sampler ids s (course_of middle first.after) (plain_command command) reply.answer next.deliveries (course_of new next.after)) scope next.demands;
+        follows = next.follows;
         shows = answers.shows ∙ ap (λ (n : ℕ). spans_in (drop n (session_batches keeps new))) shown;
         loses_none = answers.loses_none;
       } in

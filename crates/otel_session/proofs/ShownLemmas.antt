@@ -141,16 +141,17 @@ module _ {P S G : Type 0} (calls : Ghosts P) (keeps : keeping.Ghosts P) (law : O
   started_keeps true old new scope builder cx now history h = stays_keeps old new old.id_generator h.1
   started_keeps false old new scope builder cx now history h = decided_keeps calls keeps law h.answer.decision cx _ old.processors new.processors history h.decided
 
-  pub may_start_keeps : (old new : ProviderState P S G) (scope : PlainScope) (cx : PlainContext) (called : List ℕ) (now : ℕ)
-      → MayStart calls sampler ids old scope cx called now new → LosesNothing keeps old.processors new.processors
-  may_start_keeps old new scope cx called now (inl e) = stays_keeps old new old.id_generator e
-  may_start_keeps old new scope cx called now (inr (inl h)) = stays_keeps old new new.id_generator h.rest
-  may_start_keeps old new scope cx called now (inr (inr h)) = started_keeps (old.is_shut || cx.telemetry_suppressed) old new scope (named_builder called) cx now h.0 h.1
+  pub may_start_keeps : (old new : ProviderState P S G) (scope : PlainScope) (cx : PlainContext) (called : List ℕ) (now : ℕ) (found : Option PlainSpan)
+      → MayStart calls sampler ids old scope cx called now found new → LosesNothing keeps old.processors new.processors
+  may_start_keeps old new scope cx called now (Some span) e = stays_keeps old new old.id_generator e
+  may_start_keeps old new scope cx called now None (inl e) = stays_keeps old new old.id_generator e
+  may_start_keeps old new scope cx called now None (inr (inl h)) = stays_keeps old new new.id_generator h.rest
+  may_start_keeps old new scope cx called now None (inr (inr h)) = started_keeps (old.is_shut || cx.telemetry_suppressed) old new scope (named_builder called) cx now h.0 h.1
 
-  pub child_may_start_keeps : (old new : ProviderState P S G) (scope : PlainScope) (parent : Option PlainSpan) (called : List ℕ) (now : ℕ)
-      → ChildMayStart calls sampler ids old scope parent called now new → LosesNothing keeps old.processors new.processors
-  child_may_start_keeps old new scope None called now e = stays_keeps old new old.id_generator e
-  child_may_start_keeps old new scope (Some parent) called now h = may_start_keeps old new scope (child_cx parent.span_context) called now h
+  pub child_may_start_keeps : (old new : ProviderState P S G) (scope : PlainScope) (parent : Option PlainSpan) (called : List ℕ) (now : ℕ) (found : Option PlainSpan)
+      → ChildMayStart calls sampler ids old scope parent called now found new → LosesNothing keeps old.processors new.processors
+  child_may_start_keeps old new scope None called now found e = stays_keeps old new old.id_generator e
+  child_may_start_keeps old new scope (Some parent) called now found h = may_start_keeps old new scope (child_cx parent.span_context) called now found h
 
 module _ {P : Type 0} (calls : Ghosts P) (keeps : keeping.Ghosts P) (law : OnlyAppends calls keeps.kept keeps.lost) where
   first_flushed : (ps qs : List P) (rs : List (Result (Unit {0}) OTelSdkError)) → Each (FlushesProcessor calls) ps rs qs → Grows (batches_of_first keeps ps) (batches_of_first keeps qs)

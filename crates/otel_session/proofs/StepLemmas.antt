@@ -135,24 +135,24 @@ module _ {P S G : Type 0} (calls : Ghosts P) (sampler : sampling.Ghosts S) (ids 
     demands : StartDemands calls sampler ids scope (course p histories) name cx called moment found answer [] (course q after)
     describes : Describe after new
 
-  start_found : (p q : ProviderState P S G) (histories : Histories) (old new : NamedSpans) (name : List ℕ) (cx : PlainContext) (called : List ℕ) (moment : ℕ) (found : Option SpanHistory) (answer : Answer) → Describe histories old
+  start_found : (p q : ProviderState P S G) (histories : Histories) (old new : NamedSpans) (name : List ℕ) (cx : PlainContext) (called : List ℕ) (moment : ℕ) (found : Option SpanHistory) (answer : Answer) → Describe histories old → map calls.told q.processors ≡ map calls.told p.processors
       → StartsNamed calls sampler ids p scope old name cx called moment (option_map span_of found) answer q new
       → StartsOne p histories name cx called moment found answer q new
-  start_found p q histories old new name cx called moment (Some history) answer describes h = record {
+  start_found p q histories old new name cx called moment (Some history) answer describes t h = record {
     after = histories;
     demands = record { says = h.0; delivers = refl; rest = ap (λ (r : ProviderState P S G). course r histories) h.1 };
     describes = describes_same histories old new describes h.2;
   }
-  start_found p q histories old new name cx called moment None answer describes h = record {
+  start_found p q histories old new name cx called moment None answer describes t h = record {
     after = with_history histories name h.history;
-    demands = record { history = h.history; starts = h.starts; says = h.says; delivers = refl; histories = refl };
+    demands = record { history = h.history; starts = h.starts; told = t; says = h.says; delivers = refl; histories = refl };
     describes = describes_put histories old new name h.history describes h.put;
   }
 
-  starts_one : (p q : ProviderState P S G) (histories : Histories) (old new : NamedSpans) (name : List ℕ) (cx : PlainContext) (called : List ℕ) (moment : ℕ) (answer : Answer) → Describe histories old
+  starts_one : (p q : ProviderState P S G) (histories : Histories) (old new : NamedSpans) (name : List ℕ) (cx : PlainContext) (called : List ℕ) (moment : ℕ) (answer : Answer) → Describe histories old → map calls.told q.processors ≡ map calls.told p.processors
       → StartsNamed calls sampler ids p scope old name cx called moment (named old name) answer q new
       → StartsOne p histories name cx called moment (histories name) answer q new
-  starts_one p q histories old new name cx called moment answer describes h = start_found p q histories old new name cx called moment (histories name) answer describes
+  starts_one p q histories old new name cx called moment answer describes t h = start_found p q histories old new name cx called moment (histories name) answer describes t
       (subst (λ (o : Option PlainSpan). StartsNamed calls sampler ids p scope old name cx called moment o answer q new) (describes name) h)
 
   pub carries_start : (p q : ProviderState P S G) (old new : NamedSpans) (name called : List ℕ) (moment : ℕ) (answer : Answer)
@@ -160,7 +160,7 @@ module _ {P S G : Type 0} (calls : Ghosts P) (sampler : sampling.Ghosts S) (ids 
       → StartsNamed calls sampler ids p scope old name root_cx called moment (named old name) answer q new
       → CarriesOutOne calls sampler ids scope p old (start name called moment) answer q new
   carries_start p q old new name called moment answer t h = λ histories describes.
-      let one = starts_one p q histories old new name root_cx called moment answer describes h in
+      let one = starts_one p q histories old new name root_cx called moment answer describes t h in
       record { deliveries = []; after = one.after; demands = one.demands; describes = one.describes; follows = EachFollows-same calls p.processors q.processors t }
 
   -- a start as a child
@@ -176,7 +176,7 @@ module _ {P S G : Type 0} (calls : Ghosts P) (sampler : sampling.Ghosts S) (ids 
     follows = EachFollows-same calls p.processors q.processors t;
   }
   child_found p q histories old new name parent called moment (Some history) answer e describes t h =
-      let one = starts_one p q histories old new name (child_cx (span_of history).span_context) called moment answer describes h in
+      let one = starts_one p q histories old new name (child_cx (span_of history).span_context) called moment answer describes t h in
       record { deliveries = []; after = one.after; demands = rw e one.demands; describes = one.describes; follows = EachFollows-same calls p.processors q.processors t }
 
   pub carries_child : (p q : ProviderState P S G) (old new : NamedSpans) (name parent called : List ℕ) (moment : ℕ) (answer : Answer)
@@ -192,7 +192,7 @@ module _ {P S G : Type 0} (calls : Ghosts P) (sampler : sampling.Ghosts S) (ids 
       → StartsNamed calls sampler ids p scope old name cx called moment (named old name) answer q new
       → CarriesOutOne calls sampler ids scope p old (remote name header called moment) answer q new
   carries_remote p q old new name header called moment cx answer says t h = λ histories describes.
-      let one = starts_one p q histories old new name cx called moment answer describes h in
+      let one = starts_one p q histories old new name cx called moment answer describes t h in
       record { deliveries = []; after = one.after; demands = record { cx = cx; says = says; starts = one.demands }; describes = one.describes; follows = EachFollows-same calls p.processors q.processors t }
 
   -- the headers of a span

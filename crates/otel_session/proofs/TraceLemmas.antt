@@ -1,5 +1,6 @@
 -- Each child that commands started agrees with its parent, as the session then stands, and so do theirs.
 use Rattle.std.proofs.Common.{◌≡◌, ℕ, Bool, true, false, if◌then◌else◌, ◌||◌, ◌&&◌, List, [], ◌∷◌, ◌++◌, Option, Some, None, MatchBool, length, ◌⊎◌, inl, inr, refl, sym, ◌∙◌, ap, subst}
+use Rattle.std.proofs.lemmas.Option.{none-some, same_Some}
 use Rattle.std.specs.Option.{option_map}
 use Rattle.opentelemetry.specs.Plain.{PlainContext, PlainScope, PlainSpanContext}
 use Rattle.opentelemetry.specs.PlainContexts.{empty_span_context}
@@ -41,16 +42,10 @@ persists_on old middle new first rest q h there =
     let two = rest q one.0 one.1 in
     (two.0, two.1, two.2 ∙ one.2)
 
-some_is : (x y : SpanHistory) → Some x ≡ Some y → x ≡ y
-some_is x y e = cc
-
-none_is_no : (x : SpanHistory) → None ≡ Some x → ⊥
-none_is_no x e = cc
-
 -- a history that is put under a new name
 beside_by : (histories : Histories) (name : List ℕ) (new h : SpanHistory) (q : List ℕ) (b : Bool) → is_name q name ≡ b → histories name ≡ None → histories q ≡ Some h
     → (if b then Some new else histories q) ≡ Some h
-beside_by histories name new h q true e none there = absurd (none_is_no h (sym none ∙ ap histories (sym (same_name q name e)) ∙ there))
+beside_by histories name new h q true e none there = absurd (none-some h (sym none ∙ ap histories (sym (same_name q name e)) ∙ there))
 beside_by histories name new h q false e none there = there
 
 put_persists : (histories : Histories) (name : List ℕ) (new : SpanHistory) → histories name ≡ None → Persists histories (with_history histories name new)
@@ -60,7 +55,7 @@ put_persists histories name new none q h there = (h, beside_by histories name ne
 again_by : (histories : Histories) (name : List ℕ) (old new h : SpanHistory) (q : List ℕ) (b : Bool) → is_name q name ≡ b → histories name ≡ Some old → context_of new ≡ context_of old → histories q ≡ Some h
     → (g : SpanHistory) × ((if b then Some new else histories q) ≡ Some g) × (context_of g ≡ context_of h)
 again_by histories name old new h q true e is context there =
-    let same = some_is old h (sym is ∙ ap histories (sym (same_name q name e)) ∙ there) in
+    let same = same_Some old h (sym is ∙ ap histories (sym (same_name q name e)) ∙ there) in
     (new, refl, context ∙ ap context_of same)
 again_by histories name old new h q false e is context there = (h, there, refl)
 
@@ -73,8 +68,8 @@ put_there true new found e = refl
 put_there false new found e = cc
 
 -- each of these names has a history whose span agrees with a root
-abbrev Agree : PlainSpanContext → (List ℕ → Bool) → Histories → Type 0
-Agree root is_in histories = (q : List ℕ) → is_in q ≡ true → (h : SpanHistory) × (histories q ≡ Some h) × Agrees root (context_of h)
+abbrev EachAgrees : PlainSpanContext → (List ℕ → Bool) → Histories → Type 0
+EachAgrees root is_in histories = (q : List ℕ) → is_in q ≡ true → (h : SpanHistory) × (histories q ≡ Some h) × Agrees root (context_of h)
 
 -- which way a name is of a trace
 which : (a b c d : Bool) → (a || (b && (c && d))) ≡ true → (a ≡ true) ⊎ ((b ≡ true) × (c ≡ true) × (d ≡ true))
@@ -89,8 +84,8 @@ true_is_no true e f = cc
 true_is_no false e f = cc
 
 -- a child that was not started joins no trace
-not_made : (root : PlainSpanContext) (is_in : List ℕ → Bool) (histories : Histories) (span parent called : List ℕ) (moment : ℕ) (answer : Answer) → made_span answer ≡ false → Agree root is_in histories
-    → Agree root (with_child is_in (child span parent called moment) answer) histories
+not_made : (root : PlainSpanContext) (is_in : List ℕ → Bool) (histories : Histories) (span parent called : List ℕ) (moment : ℕ) (answer : Answer) → made_span answer ≡ false → EachAgrees root is_in histories
+    → EachAgrees root (with_child is_in (child span parent called moment) answer) histories
 not_made root is_in histories span parent called moment answer none agree q e = by (which (is_in q) (is_name q span) (is_in parent) (made_span answer) e)
   where
     by : (is_in q ≡ true) ⊎ ((is_name q span ≡ true) × (is_in parent ≡ true) × (made_span answer ≡ true)) → (h : SpanHistory) × (histories q ≡ Some h) × Agrees root (context_of h)
@@ -99,15 +94,15 @@ not_made root is_in histories span parent called moment answer none agree q e = 
 
 -- one that was started, of what its parent and it came to be
 joined : (root : PlainSpanContext) (is_in : List ℕ → Bool) (histories : Histories) (span parent called : List ℕ) (moment : ℕ) (answer : Answer) (father new : SpanHistory)
-    → histories parent ≡ Some father → histories span ≡ Some new → (Agrees root (context_of father) → Agrees root (context_of new)) → Agree root is_in histories
-    → Agree root (with_child is_in (child span parent called moment) answer) histories
+    → histories parent ≡ Some father → histories span ≡ Some new → (Agrees root (context_of father) → Agrees root (context_of new)) → EachAgrees root is_in histories
+    → EachAgrees root (with_child is_in (child span parent called moment) answer) histories
 joined root is_in histories span parent called moment answer father new is_father is_new also agree q e = by (which (is_in q) (is_name q span) (is_in parent) (made_span answer) e)
   where
     by : (is_in q ≡ true) ⊎ ((is_name q span ≡ true) × (is_in parent ≡ true) × (made_span answer ≡ true)) → (h : SpanHistory) × (histories q ≡ Some h) × Agrees root (context_of h)
     by (inl is) = agree q is
     by (inr other) =
         let found = agree parent other.1 in
-        let same = some_is found.0 father (sym found.1 ∙ is_father) in
+        let same = same_Some found.0 father (sym found.1 ∙ is_father) in
         (new, ap histories (same_name q span other.0) ∙ is_new, also (subst (λ (h : SpanHistory). Agrees root (context_of h)) same found.2))
 
 module _ {P S G : Type 0} (calls : Ghosts P) (sampler : sampling.Ghosts S) (ids : drawing.Ghosts G) where
@@ -204,8 +199,8 @@ module _ {P S G : Type 0} (calls : Ghosts P) (sampler : sampling.Ghosts S) (ids 
 
   -- a child joins the traces of its parent
   taken_joins : (scope : PlainScope) (root : PlainSpanContext) (is_in : List ℕ → Bool) (last : Histories) (old new : Course P S G) (span parent called : List ℕ) (moment : ℕ) (found : Option SpanHistory) (father : SpanHistory) (answer : Answer) (ds : List Delivery)
-      → GoesByParents sampler old.provider.sampler → old.provider.is_shut ≡ false → old.histories parent ≡ Some father → Persists old.histories last → Persists new.histories last → Agree root is_in last
-      → StartDemands calls sampler ids scope old span (child_cx (span_of father).span_context) called moment found answer ds new → Agree root (with_child is_in (child span parent called moment) answer) last
+      → GoesByParents sampler old.provider.sampler → old.provider.is_shut ≡ false → old.histories parent ≡ Some father → Persists old.histories last → Persists new.histories last → EachAgrees root is_in last
+      → StartDemands calls sampler ids scope old span (child_cx (span_of father).span_context) called moment found answer ds new → EachAgrees root (with_child is_in (child span parent called moment) answer) last
   taken_joins scope root is_in last old new span parent called moment (Some history) father answer ds by_parents is_open there before behind agree h =
       not_made root is_in last span parent called moment answer (ap made_span h.says) agree
   taken_joins scope root is_in last old new span parent called moment None father answer ds by_parents is_open there before behind agree h =
@@ -218,16 +213,16 @@ module _ {P S G : Type 0} (calls : Ghosts P) (sampler : sampling.Ghosts S) (ids 
       (λ agrees. subst (Agrees root) (sym then_child.2) (child_agrees root (context_of father) (context_of h.history) (subst (Agrees root) then_father.2 agrees) is_child)) agree
 
   child_joins : (scope : PlainScope) (root : PlainSpanContext) (is_in : List ℕ → Bool) (last : Histories) (old new : Course P S G) (span parent called : List ℕ) (moment : ℕ) (found : Option SpanHistory) (answer : Answer) (ds : List Delivery)
-      → GoesByParents sampler old.provider.sampler → old.provider.is_shut ≡ false → old.histories parent ≡ found → Persists old.histories last → Persists new.histories last → Agree root is_in last
-      → ChildDemands calls sampler ids scope old span found called moment answer ds new → Agree root (with_child is_in (child span parent called moment) answer) last
+      → GoesByParents sampler old.provider.sampler → old.provider.is_shut ≡ false → old.histories parent ≡ found → Persists old.histories last → Persists new.histories last → EachAgrees root is_in last
+      → ChildDemands calls sampler ids scope old span found called moment answer ds new → EachAgrees root (with_child is_in (child span parent called moment) answer) last
   child_joins scope root is_in last old new span parent called moment None answer ds by_parents is_open e before behind agree h =
       not_made root is_in last span parent called moment answer (ap made_span h.says) agree
   child_joins scope root is_in last old new span parent called moment (Some father) answer ds by_parents is_open e before behind agree h =
       taken_joins scope root is_in last old new span parent called moment (old.histories span) father answer ds by_parents is_open e before behind agree h
 
   one_joins : (scope : PlainScope) (root : PlainSpanContext) (is_in : List ℕ → Bool) (last : Histories) (old new : Course P S G) (command : PlainCommand) (answer : Answer) (ds : List Delivery)
-      → GoesByParents sampler old.provider.sampler → old.provider.is_shut ≡ false → Persists old.histories last → Persists new.histories last → Agree root is_in last
-      → Demands calls sampler ids scope old command answer ds new → Agree root (with_child is_in command answer) last
+      → GoesByParents sampler old.provider.sampler → old.provider.is_shut ≡ false → Persists old.histories last → Persists new.histories last → EachAgrees root is_in last
+      → Demands calls sampler ids scope old command answer ds new → EachAgrees root (with_child is_in command answer) last
   one_joins scope root is_in last old new (start span name moment) answer ds by_parents is_open before behind agree h = agree
   one_joins scope root is_in last old new (child span parent name moment) answer ds by_parents is_open before behind agree h =
       child_joins scope root is_in last old new span parent name moment (old.histories parent) answer ds by_parents is_open refl before behind agree h
@@ -252,8 +247,8 @@ module _ {P S G : Type 0} (calls : Ghosts P) (keeps : keeping.Ghosts P) (sampler
       (all_persist scope h.0 new (length (batches_of_first keeps h.0.provider.processors)) shown commands replies h.2 h.4)
 
   all_join : (scope : PlainScope) (root : PlainSpanContext) (is_in : List ℕ → Bool) (old new : Course P S G) (before shown : ℕ) (commands : List PlainCommand) (replies : List PlainReply) (ds : List Delivery)
-      → GoesByParents sampler old.provider.sampler → old.provider.is_shut ≡ false → Agree root is_in new.histories
-      → DemandAll calls keeps sampler ids scope old before commands replies ds new shown → Agree root (with_children is_in commands replies) new.histories
+      → GoesByParents sampler old.provider.sampler → old.provider.is_shut ≡ false → EachAgrees root is_in new.histories
+      → DemandAll calls keeps sampler ids scope old before commands replies ds new shown → EachAgrees root (with_children is_in commands replies) new.histories
   all_join scope root is_in old new before shown [] [] ds by_parents is_open agree h = agree
   all_join scope root is_in old new before shown [] (r ∷ replies) ds by_parents is_open agree h = absurd h
   all_join scope root is_in old new before shown (c ∷ commands) [] ds by_parents is_open agree h = absurd h
@@ -264,8 +259,8 @@ module _ {P S G : Type 0} (calls : Ghosts P) (keeps : keeping.Ghosts P) (sampler
       behind = all_persist scope h.0 new (length (batches_of_first keeps h.0.provider.processors)) shown commands replies h.2 h.4
 
       by : (b : Bool) → is_shutdown c ≡ b
-          → ((next : List ℕ → Bool) → GoesByParents sampler h.0.provider.sampler → h.0.provider.is_shut ≡ false → Agree root next new.histories → Agree root (with_children next commands replies) new.histories)
-          → Agree root (if b then is_in else with_children (with_child is_in c r.answer) commands replies) new.histories
+          → ((next : List ℕ → Bool) → GoesByParents sampler h.0.provider.sampler → h.0.provider.is_shut ≡ false → EachAgrees root next new.histories → EachAgrees root (with_children next commands replies) new.histories)
+          → EachAgrees root (if b then is_in else with_children (with_child is_in c r.answer) commands replies) new.histories
       by true e goes = agree
       by false e goes =
           let stay = one_stays calls sampler ids scope old h.0 c r.answer h.1 e h.3.demands in
@@ -289,7 +284,7 @@ module _ {P S G : Type 0} (calls : Ghosts P) (keeps : keeping.Ghosts P) (sampler
       → Describe new.histories are → DemandAll calls keeps sampler ids scope old before commands replies ds new shown
       → GoesByParents sampler old.provider.sampler → old.provider.is_shut ≡ false → ChildrenAgree commands replies are
   children_agree scope old new before shown commands replies ds are last h by_parents is_open root is_in agree q e =
-      let agreed : Agree root is_in new.histories = λ p is.
+      let agreed : EachAgrees root is_in new.histories = λ p is.
       let there = agree p is in
       let found = by_history (new.histories p) there.0 (sym there.1 ∙ last p) in
       (found.0, found.1, subst (λ (s : PlainSpan). Agrees root s.span_context) (sym found.2) there.2) in

@@ -129,17 +129,17 @@ processor_stays keeps loses simple custom stays (kinds.Custom c) (kinds.Simple b
 processor_stays keeps loses simple custom stays (kinds.Custom c) (kinds.Custom d) h = (([], refl), refl)
 
 -- a call that leaves what it may keep as it was
-rests : (old : StoredBatches) (answer : Result (Unit {0}) OTelSdkError) (new : StoredBatches)
+leaves_batches : (old : StoredBatches) (answer : Result (Unit {0}) OTelSdkError) (new : StoredBatches)
     → RestsOr (λ m r n. (r ≡ Ok tt) × (n ≡ m)) old answer new → Grows old.batches new.batches
-rests old answer new (inl h) = nothing_more (λ (s : StoredBatches). s.batches) old new h.1
-rests old answer new (inr h) = nothing_more (λ (s : StoredBatches). s.batches) old new h.1
+leaves_batches old answer new (inl h) = nothing_more (λ (s : StoredBatches). s.batches) old new h.1
+leaves_batches old answer new (inr h) = nothing_more (λ (s : StoredBatches). s.batches) old new h.1
 
 -- a shutdown of an exporter of either kind
 kinds_shut : {C : Type 0} (custom : C → Result (Unit {0}) OTelSdkError → C → Type 0)
     (old : ExporterOf StoredBatches C) (answer : Result (Unit {0}) OTelSdkError) (new : ExporterOf StoredBatches C)
     → ExporterGives (λ m n. RestsOr (λ a r b. (r ≡ Ok tt) × (b ≡ a)) m answer n) (λ c d. custom c answer d) old new
     → Grows (exporter_keeps old) (exporter_keeps new)
-kinds_shut custom (exporters.Memory m) answer (exporters.Memory n) h = rests m answer n h
+kinds_shut custom (exporters.Memory m) answer (exporters.Memory n) h = leaves_batches m answer n h
 kinds_shut custom (exporters.Memory m) answer (exporters.Custom d) h = absurd h
 kinds_shut custom (exporters.Custom c) answer (exporters.Memory n) h = absurd h
 kinds_shut custom (exporters.Custom c) answer (exporters.Custom d) h = ([], refl)

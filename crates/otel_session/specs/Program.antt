@@ -1,6 +1,6 @@
 -- What the program does with its arguments and its three streams. Of the bytes of a stream it speaks where the stream
 -- tells them.
-use Rattle.std.specs.Prelude.{◌≡◌, ℕ, false, List, [], ◌∷◌, ◌++◌, length, Option, IfSome, codes}
+use Rattle.std.specs.Prelude.{◌≡◌, ℕ, false, List, [], ◌∷◌, ◌++◌, Option, IfSome, codes}
 use Rattle.std.specs.Fmt.{decimal}
 use Rattle.std.specs.Io.KnownBytes.{Appends, IsAtEnd}
 use Rattle.rand_xoshiro.specs.SplitMix64.{splitmix_seed}
@@ -13,7 +13,7 @@ use Rattle.otel_batch.specs.MachineState.{Machine}
 use Rattle.otel_batch.specs.StoredBatches.{StoredBatches}
 use Rattle.otel_batch.specs.declared.trace.exporter_box.ExporterOf.{ExporterOf}
 use Rattle.otel_batch.specs.declared.trace.exporter_box.ExporterOf.TheVariants as exporters
-use Rattle.opentelemetry_sdk.specs.Provider.{ProviderState, scope_named}
+use Rattle.opentelemetry_sdk.specs.Provider.{ProviderState}
 use Rattle.opentelemetry_sdk.specs.SimpleProcessor.{SimpleProcessor}
 use Rattle.opentelemetry_sdk.specs.declared.trace.processor.ProcessorOf.{ProcessorOf}
 use Rattle.opentelemetry_sdk.specs.declared.trace.processor.ProcessorOf.TheVariants as kinds
@@ -21,7 +21,7 @@ use Rattle.opentelemetry_sdk.specs.declared.trace.span_processor.SpanProcessor.{
 use Rattle.otel_session.specs.declared.exported.KeepsBatches as keeping
 use Rattle.otel_session.specs.KeptBatches.{exporter_keeps, exporter_loses, processor_keeps, processor_loses}
 use Rattle.otel_session.specs.Lines.{IsMoment}
-use Rattle.otel_session.specs.SessionDelivery.{SessionState, Finishes, batches_of_first}
+use Rattle.otel_session.specs.SessionDelivery.{Finishes, session_under}
 use Rattle.otel_session.specs.StepAnswers.{AnswersLines, machine_of}
 use Rattle.otel_session.specs.declared.steps.Sizes.{Sizes}
 
@@ -88,15 +88,6 @@ memory_batches = record {
 -- the whole of a stream's bytes, behind which the stream is at its end
 abbrev pub ReadsWhole : Option (List ℕ) → Option (List ℕ) → List ℕ → Type 0
 ReadsWhole before after bytes = IfSome before (λ all. bytes ≡ all) × IsAtEnd after
-
--- a session under a provider: it has no spans, and shows no batch from before it
-abbrev pub session_under : {P S G : Type 0} → keeping.Ghosts P → ProviderState P S G → SessionState P S G
-session_under keeps provider = record {
-  provider = provider;
-  scope = scope_named (codes "otel_trace");
-  spans = [];
-  shown = length (batches_of_first keeps provider.processors);
-}
 
 module _ {P S G : Type 0} (calls : Ghosts P) (keeps : keeping.Ghosts P) (sampler : sampling.Ghosts S)
     (ids : drawing.Ghosts G) where

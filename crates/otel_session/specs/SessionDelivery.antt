@@ -1,7 +1,7 @@
 -- What the commands of a session demand of its provider and its exporters. It speaks of each span as its history, a
 -- start and the edits since, and of what an end delivers as the data of that history: whole lists, each cut once. No
 -- history is stored.
-use Rattle.std.specs.Prelude.{◌≡◌, ◌≢◌, ℕ, List, [], ◌∷◌, ◌++◌, Option, Some, None, map, take, drop, slice_get, IsFalse, false, Result, Ok, Err, MatchBool, if◌then◌else◌, ◌⊎◌, ◌≤◌, length}
+use Rattle.std.specs.Prelude.{◌≡◌, ◌≢◌, ℕ, List, [], ◌∷◌, ◌++◌, Option, Some, None, map, take, drop, slice_get, IsFalse, false, Result, Ok, Err, MatchBool, if◌then◌else◌, ◌⊎◌, ◌≤◌, length, codes}
 use Rattle.std.specs.List.{flat_map}
 use Rattle.std.specs.Option.{option_map, option_map_or}
 use Rattle.opentelemetry.specs.Plain.{PlainContext, PlainScope, PlainSpanContext, text}
@@ -14,7 +14,7 @@ use Rattle.otel_batch.specs.PlainSpanData.{PlainSpanData, spans_in}
 use Rattle.opentelemetry_sdk.specs.SpanHistory.{SpanHistory, begun, over, SpanStart, Edit, set_attribute, add_event, set_status, data_of, span_of}
 use Rattle.opentelemetry_sdk.specs.Deliveries.{Delivery, EachFollows}
 use Rattle.opentelemetry_sdk.specs.Hops.{GoesByParents}
-use Rattle.opentelemetry_sdk.specs.Provider.{Flushes, ProviderState, ShutsDown}
+use Rattle.opentelemetry_sdk.specs.Provider.{Flushes, ProviderState, ShutsDown, scope_named}
 use Rattle.opentelemetry_sdk.specs.Starting.{Starts, root_cx}
 use Rattle.opentelemetry_sdk.specs.Ending.{Delivers, end_delivers}
 use Rattle.opentelemetry_sdk.specs.declared.trace.span_processor.SpanProcessor.{Ghosts}
@@ -105,6 +105,15 @@ pub record SessionState (P S G : Type 0) : Type 0 where
   pub spans : NamedSpans
   pub shown : ℕ
 
+-- a new session under a provider: it has no spans, and shows no batch from before it
+abbrev pub session_under : {P S G : Type 0} → keeping.Ghosts P → ProviderState P S G → SessionState P S G
+session_under keeps provider = record {
+  provider = provider;
+  scope = scope_named (codes "otel_trace");
+  spans = [];
+  shown = length (batches_of_first keeps provider.processors);
+}
+
 -- where a session stands, by histories of its spans
 abbrev pub course_of : {P S G : Type 0} → SessionState P S G → Histories → Course P S G
 course_of session histories = record { provider = session.provider; histories = histories }
@@ -154,6 +163,7 @@ module _ {P S G : Type 0} (calls : Ghosts P) (sampler : sampling.Ghosts S) (ids 
       (moment : ℕ) (answer : Answer) (ds : List Delivery) (new : Course P S G) : Type 0 where
     pub history : SpanHistory
     pub starts : Starts calls sampler ids old.provider scope (named_builder called) cx moment history new.provider
+    pub told : map calls.told new.provider.processors ≡ map calls.told old.provider.processors
     pub says : answer ≡ start_answer (span_of history)
     pub delivers : ds ≡ []
     pub histories : new.histories ≡ with_history old.histories name history
@@ -236,14 +246,16 @@ module _ {P S G : Type 0} (calls : Ghosts P) (sampler : sampling.Ghosts S) (ids 
   CarriesOutOne scope p old command answer q new =
       (histories : Histories) → Describe histories old → DemandsOne scope p histories command answer q new
 
-  -- what a command that is refused may do to the provider: nothing, but that a start may have drawn ids, or done all
-  -- that the start of a span does, where the span then found no place. The provider's own calls are not refused
+  -- what a command that is refused may do to the provider: nothing, but that a start under a new name may have drawn
+  -- ids, or done all that the start of a span does, where the span then found no place. The provider's own calls are
+  -- not refused
   abbrev pub MayAsk : PlainScope → ProviderState P S G → NamedSpans → PlainCommand → ProviderState P S G → Type 0
-  MayAsk scope p spans (start span name moment) q = MayStart calls sampler ids p scope root_cx name moment q
+  MayAsk scope p spans (start span name moment) q =
+      MayStart calls sampler ids p scope root_cx name moment (named spans span) q
   MayAsk scope p spans (child span parent name moment) q =
-      ChildMayStart calls sampler ids p scope (named spans parent) name moment q
+      ChildMayStart calls sampler ids p scope (named spans parent) name moment (named spans span) q
   MayAsk scope p spans (remote span header name moment) q =
-      RemoteMayStart calls sampler ids p scope header name moment q
+      RemoteMayStart calls sampler ids p scope header name moment (named spans span) q
   MayAsk scope p spans (attr span key value) q = q ≡ p
   MayAsk scope p spans (event span name moment) q = q ≡ p
   MayAsk scope p spans (status span how) q = q ≡ p
@@ -303,11 +315,13 @@ module _ {P S G : Type 0} (keeps : keeping.Ghosts P) where
 
 module _ {P S G : Type 0} (calls : Ghosts P) (keeps : keeping.Ghosts P) (sampler : sampling.Ghosts S)
     (ids : drawing.Ghosts G) where
-  -- one command with its reply: its answer is as demanded, it shows the spans of the batches that the first processor's
-  -- exporter took since the reply before, and that exporter lost none, unless it was flushed or shut down
+  -- one command with its reply: its answer is as demanded, each processor follows what it delivers, it shows the spans
+  -- of the batches that the first processor's exporter took since the reply before, and that exporter lost none, unless
+  -- it was flushed or shut down
   pub record Replies (scope : PlainScope) (old : Course P S G) (shown : ℕ) (command : PlainCommand)
       (reply : PlainReply) (ds : List Delivery) (new : Course P S G) : Type 0 where
     pub demands : Demands calls sampler ids scope old command reply.answer ds new
+    pub follows : EachFollows calls ds old.provider.processors new.provider.processors
     pub shows : reply.exported ≡ spans_in (drop shown (batches_of_first keeps new.provider.processors))
     pub loses_none : IsFalse (may_lose command)
         → losses_of_first keeps new.provider.processors ≡ losses_of_first keeps old.provider.processors

@@ -7,7 +7,7 @@ use Rattle.otel_batch.specs.MachineState.{Machine, first_machine}
 use Rattle.otel_batch.specs.MachineRun.{Stepped}
 use Rattle.otel_batch.specs.declared.machine.step.Outcome.{Outcome}
 use Rattle.otel_batch.specs.declared.trace.export.SpanExporter.{Ghosts}
-use Rattle.otel_session.specs.ReplyText.{line as ended}
+use Rattle.otel_session.specs.ReplyText.{line}
 use Rattle.otel_session.specs.StepLines.{IsBadOrder, ReadsOrder}
 use Rattle.otel_session.specs.StepTexts.{outcome_text, state_text}
 use Rattle.otel_session.specs.declared.steps.lines.Order.{Order}
@@ -34,18 +34,18 @@ memory_calls = record {
 -- what an order does, and its answer: a step is taken, and the question for the state changes nothing
 abbrev pub Obeys : Machine StoredBatches → Order → List ℕ → Machine StoredBatches → Type 0
 Obeys m (orders.Step step) text after =
-    (outcome : Outcome) × Stepped memory_calls m step outcome after × (text ≡ ended (outcome_text after.hand outcome))
-Obeys m orders.State text after = (after ≡ m) × (text ≡ ended (state_text m))
+    (outcome : Outcome) × Stepped memory_calls m step outcome after × (text ≡ line (outcome_text after.hand outcome))
+Obeys m orders.State text after = (after ≡ m) × (text ≡ line (state_text m))
 
 -- what lines do, one by one up to the first bad one, and their answers. Empty lines are left out, but counted: so many
 -- lines stand before these
 abbrev pub ObeysEach : Machine StoredBatches → ℕ → List (List ℕ) → Option ℕ → List ℕ → Machine StoredBatches → Type 0
 ObeysEach m number [] bad_line text after = (bad_line ≡ None) × (text ≡ []) × (after ≡ m)
 ObeysEach m number ([] ∷ more) bad_line text after = ObeysEach m (number + 1) more bad_line text after
-ObeysEach m number ((b ∷ line) ∷ more) bad_line text after =
-    (IsBadOrder (b ∷ line) × (bad_line ≡ Some (number + 1)) × (text ≡ []) × (after ≡ m))
+ObeysEach m number ((b ∷ bytes) ∷ more) bad_line text after =
+    (IsBadOrder (b ∷ bytes) × (bad_line ≡ Some (number + 1)) × (text ≡ []) × (after ≡ m))
     ⊎ ((order : Order) × (answer rest : List ℕ) × (next : Machine StoredBatches)
-    × ReadsOrder (b ∷ line) order × Obeys m order answer next
+    × ReadsOrder (b ∷ bytes) order × Obeys m order answer next
     × ObeysEach next (number + 1) more bad_line rest after × (text ≡ answer ++ rest))
 
 -- what a text does to a machine, and the text that answers it

@@ -68,7 +68,7 @@ impl OpenSpans {
             (string_bytes called) now.0 (named self.old (string_bytes name)) answer provider.new self.new) }
         ensures told { map P.told provider.new.processors ≡ map P.told provider.old.processors }
         ensures asks { MayStart P.SpanProcessor S.ShouldSample G.IdGenerator provider.old tracer.now root_cx
-            (string_bytes called) now.0 provider.new }
+            (string_bytes called) now.0 (named self.old (string_bytes name)) provider.new }
         ensures err { OnErr result (SameSpans self.old self.new) }
     {
         self.start_in(name, &Context::new(), tracer, provider, called, now)
@@ -89,7 +89,8 @@ impl OpenSpans {
             (string_bytes called) now.0 answer provider.new self.new) }
         ensures told { map P.told provider.new.processors ≡ map P.told provider.old.processors }
         ensures asks { ChildMayStart P.SpanProcessor S.ShouldSample G.IdGenerator provider.old tracer.now
-            (named self.old parent.now) (string_bytes called) now.0 provider.new }
+            (named self.old parent.now) (string_bytes called) now.0 (named self.old (string_bytes name))
+            provider.new }
         ensures err { OnErr result (SameSpans self.old self.new) }
     {
         let Some(cx) = self.context_of(parent)? else {
@@ -113,7 +114,7 @@ impl OpenSpans {
             (string_bytes called) now.0 (named self.old (string_bytes name)) answer provider.new self.new) }
         ensures told { map P.told provider.new.processors ≡ map P.told provider.old.processors }
         ensures asks { MayStart P.SpanProcessor S.ShouldSample G.IdGenerator provider.old tracer.now cx.now
-            (string_bytes called) now.0 provider.new }
+            (string_bytes called) now.0 (named self.old (string_bytes name)) provider.new }
         ensures err { OnErr result (SameSpans self.old self.new) }
     {
         if self.contains(name.as_str()) {

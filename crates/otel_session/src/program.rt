@@ -5,8 +5,8 @@ ghost use Rattle.std.specs.Prelude.{◌≡◌, ◌≢◌, ◌⊎◌, ◌≤◌, 
 ghost use Rattle.std.specs.Io.KnownBytes.{Appends, IsAtEnd};
 ghost use Rattle.otel_batch.specs.MachineState.{Machine};
 ghost use Rattle.otel_batch.specs.StoredBatches.{StoredBatches};
-ghost use Rattle.otel_session.specs.SessionDelivery.{Finishes};
-ghost use Rattle.otel_session.specs.Program.{AsksFor, AsksForNoTrace, AsksForNothing, AsksForSteps, IsProviderOfSeed, StepsSized, TracesSeed, TracesWhole, WriteSizes, WritesText, bad_line_text, session_under, usage_text};
+ghost use Rattle.otel_session.specs.SessionDelivery.{Finishes, session_under};
+ghost use Rattle.otel_session.specs.Program.{AsksFor, AsksForNoTrace, AsksForNothing, AsksForSteps, IsProviderOfSeed, StepsSized, TracesSeed, TracesWhole, WriteSizes, WritesText, bad_line_text, usage_text};
 ghost use Rattle.otel_session.specs.StepAnswers.{AnswersLines, machine_of};
 
 use crate::exported::KeepsBatches;
@@ -87,7 +87,7 @@ type TraceProvider = ProviderOf<TraceProcessor, TraceSampler, RandomIdGenerator>
 
 /// How a session or a batch queue over the whole input ended.
 #[derive(Debug, Drop)]
-struct Outcome {
+struct ProgramOutput {
     /// The texts of the replies, and the lines of closing.
     text: Vec<u8>,
     /// The first bad line.
@@ -221,12 +221,12 @@ fn step_input<R: Read, W: Write, F: Write>(
     if input.read_to_end(&mut bytes).is_err() {
         return FAILED;
     }
-    let outcome = step(alloc, sizes, &bytes);
+    let outcome = run_steps(alloc, sizes, &bytes);
     write_outcome(alloc, outcome, output, faults)
 }
 
 /// One batch queue, stepped by the lines of an input.
-fn step(alloc: Global, sizes: Sizes, input: &[u8]) -> Outcome
+fn run_steps(alloc: Global, sizes: Sizes, input: &[u8]) -> ProgramOutput
     ensures { result.has_failed ≡ false →
         (after : Machine StoredBatches)
         × AnswersLines (machine_of sizes) input.now result.bad_line result.text.items after }
@@ -236,12 +236,12 @@ fn step(alloc: Global, sizes: Sizes, input: &[u8]) -> Outcome
     };
     let mut text = Vec::new(alloc);
     match answer_lines(alloc, &mut machine, input, &mut text) {
-        Ok(bad_line) => Outcome {
+        Ok(bad_line) => ProgramOutput {
             text,
             bad_line,
             has_failed: false,
         },
-        Err(_) => Outcome {
+        Err(_) => ProgramOutput {
             text,
             bad_line: None,
             has_failed: true,
@@ -274,11 +274,11 @@ fn trace_input<P: KeepsBatches, S: ShouldSample, G: IdGenerator, R: Read, W: Wri
         let _ = provider.close();
         return FAILED;
     }
-    answer(alloc, provider, &bytes, output, faults)
+    answer_input(alloc, provider, &bytes, output, faults)
 }
 
 /// Answers an input by one session under a provider.
-fn answer<P: KeepsBatches, S: ShouldSample, G: IdGenerator, W: Write, F: Write>(
+fn answer_input<P: KeepsBatches, S: ShouldSample, G: IdGenerator, W: Write, F: Write>(
     alloc: Global,
     provider: ProviderOf<P, S, G>,
     input: &[u8],
@@ -295,14 +295,14 @@ fn answer<P: KeepsBatches, S: ShouldSample, G: IdGenerator, W: Write, F: Write>(
         (Some line) (W.contents output.old) (W.contents output.new)
         × Appends (F.contents faults.old) (F.contents faults.new) (bad_line_text line) }
 {
-    let outcome = trace(alloc, provider, input);
+    let outcome = run_session(alloc, provider, input);
     write_outcome(alloc, outcome, output, faults)
 }
 
 /// Writes what an input came to, and answers the status for it.
 fn write_outcome<W: Write, F: Write>(
     alloc: Global,
-    outcome: Outcome,
+    outcome: ProgramOutput,
     output: &mut W,
     faults: &mut F,
 ) -> u8
@@ -356,11 +356,11 @@ fn name_bad_line<F: Write>(alloc: Global, line: u64, faults: &mut F) -> u8
 }
 
 /// One session under a provider.
-fn trace<P: KeepsBatches, S: ShouldSample, G: IdGenerator>(
+fn run_session<P: KeepsBatches, S: ShouldSample, G: IdGenerator>(
     alloc: Global,
     provider: ProviderOf<P, S, G>,
     input: &[u8],
-) -> Outcome
+) -> ProgramOutput
     ensures { result.has_failed ≡ false →
         Finishes P.SpanProcessor P.KeepsBatches.own S.ShouldSample G.IdGenerator
         (session_under P.KeepsBatches.own provider)
@@ -376,10 +376,10 @@ fn trace<P: KeepsBatches, S: ShouldSample, G: IdGenerator>(
 }
 
 /// What a session that could not be made comes to.
-fn failed(alloc: Global) -> Outcome
+fn failed(alloc: Global) -> ProgramOutput
     ensures { result.has_failed ≡ true }
 {
-    Outcome {
+    ProgramOutput {
         text: Vec::new(alloc),
         bad_line: None,
         has_failed: true,
@@ -391,7 +391,7 @@ fn finish<P: KeepsBatches, S: ShouldSample, G: IdGenerator>(
     alloc: Global,
     mut session: Session<P, S, G>,
     input: &[u8],
-) -> Outcome
+) -> ProgramOutput
     ensures { result.has_failed ≡ false →
         Finishes P.SpanProcessor P.KeepsBatches.own S.ShouldSample G.IdGenerator
         session input.now result.bad_line result.text.items }
@@ -400,17 +400,17 @@ fn finish<P: KeepsBatches, S: ShouldSample, G: IdGenerator>(
     let fed = session.feed(input, &mut text);
     let has_closed = session.close(&mut text).is_ok();
     match fed {
-        Ok(()) => Outcome {
+        Ok(()) => ProgramOutput {
             text,
             bad_line: None,
             has_failed: !has_closed,
         },
-        Err(FeedError::Line(line)) => Outcome {
+        Err(FeedError::Line(line)) => ProgramOutput {
             text,
             bad_line: Some(line),
             has_failed: !has_closed,
         },
-        Err(FeedError::Memory) => Outcome {
+        Err(FeedError::Memory) => ProgramOutput {
             text,
             bad_line: None,
             has_failed: true,

@@ -1,7 +1,7 @@
 //! A session: commands against one provider, each with a reply. What its commands deliver to the exporters is stated by
 //! the histories of its spans, apart from the code that fills them.
 
-ghost use Rattle.std.specs.Prelude.{◌≡◌, ◌++◌, [], drop, false, length, map, IfErr, IfOk, IsFalse, MatchResult, OnOk, OnErr, codes, string_bytes};
+ghost use Rattle.std.specs.Prelude.{◌≡◌, ◌++◌, drop, false, length, map, IfErr, IfOk, IsFalse, MatchResult, OnOk, OnErr, codes, string_bytes};
 ghost use Rattle.std.specs.List.{flat_map};
 ghost use Rattle.opentelemetry.specs.Plain.{text};
 ghost use Rattle.otel_batch.specs.PlainSpanData.{spans_in};
@@ -32,6 +32,7 @@ ghost use Rattle.otel_session.specs.SessionDelivery.{
   or_no_memory,
   session_batches,
   session_losses,
+  session_under,
   unshown,
 };
 
@@ -100,12 +101,7 @@ impl<P: KeepsBatches, S: ShouldSample, G: IdGenerator> Session<P, S, G> {
         alloc: Global,
         provider: ProviderOf<P, S, G>,
     ) -> Result<Session<P, S, G>, (ProviderOf<P, S, G>, AllocError)>
-        ensures ok { IfOk result (λ session. session ≡ record {
-          provider = provider;
-          scope = scope_named (codes "otel_trace");
-          spans = [];
-          shown = length (batches_of_first P.KeepsBatches.own provider.processors);
-        }) }
+        ensures ok { IfOk result (λ session. session ≡ session_under P.KeepsBatches.own provider) }
         ensures err { IfErr result (λ e. e.0 ≡ provider) }
     {
         let tracer = match tracer_of(alloc, &provider) {

@@ -71,7 +71,7 @@ returns-in-Child-clause-err g c = on_err_map c.start_child.result (λ h.
     subst (λ (command : Command). RefusesOne g.P.SpanProcessor g.S.ShouldSample g.G.IdGenerator c.args.tracer.now c.args.provider.now c.args.spans.now (plain_command command) c.start_child.new.provider c.start_child.new.self) (sym c.in-Child.is)
     (record {
       spans = h;
-      asks = subst (λ (parent : List ℕ). ChildMayStart g.P.SpanProcessor g.S.ShouldSample g.G.IdGenerator c.args.provider.now c.args.tracer.now (named c.args.spans.now parent) (string_bytes c.in-Child.name) c.in-Child.moment.0 c.start_child.new.provider) c.as_str.ensures.value c.start_child.ensures.asks;
+      asks = subst (λ (parent : List ℕ). ChildMayStart g.P.SpanProcessor g.S.ShouldSample g.G.IdGenerator c.args.provider.now c.args.tracer.now (named c.args.spans.now parent) (string_bytes c.in-Child.name) c.in-Child.moment.0 (named c.args.spans.now (string_bytes c.in-Child.span)) c.start_child.new.provider) c.as_str.ensures.value c.start_child.ensures.asks;
       told = c.start_child.ensures.told;
     })) c.start_child.ensures.err
 
@@ -105,10 +105,10 @@ returns-in-End-clause-err g c = on_err_map c.end.result (λ h.
     (record { spans = h.0; asks = h.1; told = ap (λ r. map g.P.SpanProcessor.told r.processors) h.1 })) c.end.ensures.err
 
 pub returns-in-Start-clause-keeps : goal.returns-in-Start-clause-keeps
-returns-in-Start-clause-keeps g c = (may_start_keeps g.P.SpanProcessor g.P.KeepsBatches g.met.P.KeepsBatches.appends g.S.ShouldSample g.G.IdGenerator c.args.provider.now c.start.new.provider c.args.tracer.now _ (string_bytes c.in-Start.name) c.in-Start.moment.0 c.start.ensures.asks).0
+returns-in-Start-clause-keeps g c = (may_start_keeps g.P.SpanProcessor g.P.KeepsBatches g.met.P.KeepsBatches.appends g.S.ShouldSample g.G.IdGenerator c.args.provider.now c.start.new.provider c.args.tracer.now _ (string_bytes c.in-Start.name) c.in-Start.moment.0 _ c.start.ensures.asks).0
 
 pub returns-in-Child-clause-keeps : goal.returns-in-Child-clause-keeps
-returns-in-Child-clause-keeps g c = (child_may_start_keeps g.P.SpanProcessor g.P.KeepsBatches g.met.P.KeepsBatches.appends g.S.ShouldSample g.G.IdGenerator c.args.provider.now c.start_child.new.provider c.args.tracer.now _ (string_bytes c.in-Child.name) c.in-Child.moment.0 c.start_child.ensures.asks).0
+returns-in-Child-clause-keeps g c = (child_may_start_keeps g.P.SpanProcessor g.P.KeepsBatches g.met.P.KeepsBatches.appends g.S.ShouldSample g.G.IdGenerator c.args.provider.now c.start_child.new.provider c.args.tracer.now _ (string_bytes c.in-Child.name) c.in-Child.moment.0 _ c.start_child.ensures.asks).0
 
 pub returns-in-End-clause-keeps : goal.returns-in-End-clause-keeps
 returns-in-End-clause-keeps g c = may_deliver_keeps g.P.SpanProcessor g.P.KeepsBatches g.met.P.KeepsBatches.appends c.args.provider.now.processors c.end.new.provider.processors c.end.ensures.asks
@@ -120,10 +120,10 @@ pub returns-in-Shutdown-clause-keeps : goal.returns-in-Shutdown-clause-keeps
 returns-in-Shutdown-clause-keeps g c = shutdown_keeps g.P.SpanProcessor g.P.KeepsBatches g.met.P.KeepsBatches.appends c.args.provider.now c.shutdown.new.self 5_000_000_000 c.shutdown.result c.shutdown.ensures.again c.shutdown.ensures.first
 
 pub returns-in-Start-clause-loses : goal.returns-in-Start-clause-loses
-returns-in-Start-clause-loses g c = λ not_end keeps. (may_start_keeps g.P.SpanProcessor g.P.KeepsBatches g.met.P.KeepsBatches.appends g.S.ShouldSample g.G.IdGenerator c.args.provider.now c.start.new.provider c.args.tracer.now _ (string_bytes c.in-Start.name) c.in-Start.moment.0 c.start.ensures.asks).1
+returns-in-Start-clause-loses g c = λ not_end keeps. (may_start_keeps g.P.SpanProcessor g.P.KeepsBatches g.met.P.KeepsBatches.appends g.S.ShouldSample g.G.IdGenerator c.args.provider.now c.start.new.provider c.args.tracer.now _ (string_bytes c.in-Start.name) c.in-Start.moment.0 _ c.start.ensures.asks).1
 
 pub returns-in-Child-clause-loses : goal.returns-in-Child-clause-loses
-returns-in-Child-clause-loses g c = λ not_end keeps. (child_may_start_keeps g.P.SpanProcessor g.P.KeepsBatches g.met.P.KeepsBatches.appends g.S.ShouldSample g.G.IdGenerator c.args.provider.now c.start_child.new.provider c.args.tracer.now _ (string_bytes c.in-Child.name) c.in-Child.moment.0 c.start_child.ensures.asks).1
+returns-in-Child-clause-loses g c = λ not_end keeps. (child_may_start_keeps g.P.SpanProcessor g.P.KeepsBatches g.met.P.KeepsBatches.appends g.S.ShouldSample g.G.IdGenerator c.args.provider.now c.start_child.new.provider c.args.tracer.now _ (string_bytes c.in-Child.name) c.in-Child.moment.0 _ c.start_child.ensures.asks).1
 
 pub returns-in-End-clause-loses : goal.returns-in-End-clause-loses
 returns-in-End-clause-loses g c = λ not_end keeps. let e : is_end (plain_command c.args.command) ≡ true = ap (λ (command : Command). is_end (plain_command command)) c.in-End.is in
@@ -149,10 +149,10 @@ returns-in_ok-cx-in-Remote-clause-err g c = on_err_map c.start_in.result (λ h.
     (record { spans = h; asks = inr (c.in_ok-cx-in-Remote.cx, c.in_ok-cx-in-Remote.ensures, c.start_in.ensures.asks); told = c.start_in.ensures.told })) c.start_in.ensures.err
 
 pub returns-in_ok-cx-in-Remote-clause-keeps : goal.returns-in_ok-cx-in-Remote-clause-keeps
-returns-in_ok-cx-in-Remote-clause-keeps g c = (may_start_keeps g.P.SpanProcessor g.P.KeepsBatches g.met.P.KeepsBatches.appends g.S.ShouldSample g.G.IdGenerator c.args.provider.now c.start_in.new.provider c.args.tracer.now _ (string_bytes c.in-Remote.name) c.in-Remote.moment.0 c.start_in.ensures.asks).0
+returns-in_ok-cx-in-Remote-clause-keeps g c = (may_start_keeps g.P.SpanProcessor g.P.KeepsBatches g.met.P.KeepsBatches.appends g.S.ShouldSample g.G.IdGenerator c.args.provider.now c.start_in.new.provider c.args.tracer.now _ (string_bytes c.in-Remote.name) c.in-Remote.moment.0 _ c.start_in.ensures.asks).0
 
 pub returns-in_ok-cx-in-Remote-clause-loses : goal.returns-in_ok-cx-in-Remote-clause-loses
-returns-in_ok-cx-in-Remote-clause-loses g c = λ not_end keeps. (may_start_keeps g.P.SpanProcessor g.P.KeepsBatches g.met.P.KeepsBatches.appends g.S.ShouldSample g.G.IdGenerator c.args.provider.now c.start_in.new.provider c.args.tracer.now _ (string_bytes c.in-Remote.name) c.in-Remote.moment.0 c.start_in.ensures.asks).1
+returns-in_ok-cx-in-Remote-clause-loses g c = λ not_end keeps. (may_start_keeps g.P.SpanProcessor g.P.KeepsBatches g.met.P.KeepsBatches.appends g.S.ShouldSample g.G.IdGenerator c.args.provider.now c.start_in.new.provider c.args.tracer.now _ (string_bytes c.in-Remote.name) c.in-Remote.moment.0 _ c.start_in.ensures.asks).1
 
 pub returns-in-Inject-clause-ok : goal.returns-in-Inject-clause-ok
 returns-in-Inject-clause-ok g c = if_ok_map c.inject.result (λ answer h.
