@@ -42,8 +42,8 @@ abbrev pub key_cmp : List ℕ → List ℕ → Ordering
 key_cmp = slice_cmp nat_cmp
 
 -- maps that answer alike are equal
-pub same_attributes : (m n : Attributes) → ((q : List ℕ) → fin.get m q ≡ fin.get n q) → m ≡ n
-same_attributes m n is = same_map nat_list_cmp_total (slice_cmp-IsAntisymmetric nat_cmp-IsAntisymmetric) m n is
+pub attributes_by_name : (m n : Attributes) → ((q : List ℕ) → fin.get m q ≡ fin.get n q) → m ≡ n
+attributes_by_name m n is = same_map nat_list_cmp_total (slice_cmp-IsAntisymmetric nat_cmp-IsAntisymmetric) m n is
 
 or_cond : {X : Type 0} (b : Bool) (v : X) (o p : Option X) → option_or (cond b (Some v) o) p ≡ cond b (Some v) (option_or o p)
 or_cond true v o p = refl
@@ -77,22 +77,22 @@ get-union left right q =
     ∙ ap (λ o. option_or o (find key_cmp q (fin.entries left))) (sym (get-entries right q)) ∙ ap (option_or (fin.get right q)) (sym (get-entries left q))
 
 pub union-empty : (m : Attributes) → union m fin.empty ≡ m
-union-empty m = same_attributes _ _ (λ q. get-union m fin.empty q ∙ ap (λ o. option_or o (fin.get m q)) (get-empty key_cmp q))
+union-empty m = attributes_by_name _ _ (λ q. get-union m fin.empty q ∙ ap (λ o. option_or o (fin.get m q)) (get-empty key_cmp q))
 
 pub union-empty_left : (m : Attributes) → union fin.empty m ≡ m
-union-empty_left m = same_attributes _ _ (λ q. get-union fin.empty m q ∙ ap (option_or (fin.get m q)) (get-empty key_cmp q) ∙ or_none (fin.get m q))
+union-empty_left m = attributes_by_name _ _ (λ q. get-union fin.empty m q ∙ ap (option_or (fin.get m q)) (get-empty key_cmp q) ∙ or_none (fin.get m q))
 
 pub union_assoc : (a b c : Attributes) → union (union a b) c ≡ union a (union b c)
-union_assoc a b c = same_attributes _ _ (λ q.
+union_assoc a b c = attributes_by_name _ _ (λ q.
     get-union (union a b) c q ∙ ap (option_or (fin.get c q)) (get-union a b q) ∙ sym (or_assoc (fin.get c q) (fin.get b q) (fin.get a q))
     ∙ ap (λ o. option_or o (fin.get a q)) (sym (get-union b c q)) ∙ sym (get-union a (union b c) q))
 
 pub union_same : (m : Attributes) → union m m ≡ m
-union_same m = same_attributes _ _ (λ q. get-union m m q ∙ or_same (fin.get m q))
+union_same m = attributes_by_name _ _ (λ q. get-union m m q ∙ or_same (fin.get m q))
 
 -- one more pair in a union
 pub union-insert : (m n : Attributes) (k : List ℕ) (v : PlainValue) → union m (fin.insert n k v) ≡ fin.insert (union m n) k v
-union-insert m n k v = same_attributes _ _ (λ q.
+union-insert m n k v = attributes_by_name _ _ (λ q.
     get-union m (fin.insert n k v) q ∙ ap (λ o. option_or o (fin.get m q)) (get-insert nat_list_cmp_total n k v q)
     ∙ or_cond (eq_by_cmp key_cmp q k) v (fin.get n q) (fin.get m q)
     ∙ ap (cond (eq_by_cmp key_cmp q k) (Some v)) (sym (get-union m n q)) ∙ sym (get-insert nat_list_cmp_total (union m n) k v q))
@@ -111,7 +111,7 @@ attributes_of-append xs ys =
     let right : List (List ℕ × PlainValue) = reverse (map pair ys) in
     ap (λ (es : List (List ℕ × PlainValue)). from_entries {R = key_cmp} es)
     (ap reverse (map-append pair xs ys) ∙ reverse-append (map pair xs) (map pair ys))
-    ∙ same_attributes _ _ (λ q. get-from_entries nat_list_cmp_total (right ++ left) q ∙ find_append q right left
+    ∙ attributes_by_name _ _ (λ q. get-from_entries nat_list_cmp_total (right ++ left) q ∙ find_append q right left
     ∙ (λ i. option_or (sym (get-from_entries nat_list_cmp_total right q) i) (sym (get-from_entries nat_list_cmp_total left q) i))
     ∙ sym (get-union (attributes_of xs) (attributes_of ys) q))
 
@@ -120,22 +120,22 @@ pub all_attributes-push : (rs : List PlainResource) (r : PlainResource) → all_
 all_attributes-push [] r = union-empty r.attributes ∙ sym (union-empty_left r.attributes)
 all_attributes-push (s ∷ rs) r = ap (union s.attributes) (all_attributes-push rs r) ∙ sym (union_assoc s.attributes (all_attributes rs) r.attributes)
 
-plain_entries : List (List ℕ × Value) → List (List ℕ × PlainValue)
-plain_entries es = map (λ e. (e.0, plain_value e.1)) es
+with_plain_values : List (List ℕ × Value) → List (List ℕ × PlainValue)
+with_plain_values es = map (λ e. (e.0, plain_value e.1)) es
 
-find_plain : (es : List (List ℕ × Value)) (q : List ℕ) → find key_cmp q (plain_entries es) ≡ option_map plain_value (lookup (is_at (key_cmp q)) es)
-unfolding plain_entries
+find_plain : (es : List (List ℕ × Value)) (q : List ℕ) → find key_cmp q (with_plain_values es) ≡ option_map plain_value (lookup (is_at (key_cmp q)) es)
+unfolding with_plain_values
 find_plain [] q = refl
 find_plain (e ∷ es) q = ap (cond (is_at (key_cmp q) e.0) (Some (plain_value e.1))) (find_plain es q) ∙ sym (map_cond plain_value (is_at (key_cmp q) e.0) e.1 (lookup (is_at (key_cmp q)) es))
 
 -- what the map has at a key
 pub get-by_key : (m : BTreeMap (List ℕ) Value) (q : List ℕ) → fin.get (by_key m) q ≡ option_map plain_value (tree.get key_cmp m q)
-unfolding plain_entries
-get-by_key m q = get-from_entries nat_list_cmp_total (plain_entries m.entries) q ∙ find_plain m.entries q
+unfolding with_plain_values
+get-by_key m q = get-from_entries nat_list_cmp_total (with_plain_values m.entries) q ∙ find_plain m.entries q
 
 -- one key was given a value
 pub by_key-insert : (m n : BTreeMap (List ℕ) Value) (k : List ℕ) (v : Value) → tree.Updates key_cmp m n k (Some v) → by_key n ≡ fin.insert (by_key m) k (plain_value v)
-by_key-insert m n k v h = same_attributes _ _ (λ q.
+by_key-insert m n k v h = attributes_by_name _ _ (λ q.
     get-by_key n q ∙ ap (option_map plain_value) (h.0 q)
     ∙ map_cond plain_value (is_at (key_cmp k) q) v (tree.get key_cmp m q)
     ∙ ap (λ b. cond b (Some (plain_value v)) (option_map plain_value (tree.get key_cmp m q))) ((eq_by_cmp_equiv nat_list_cmp_total).symm k q)
@@ -148,24 +148,24 @@ by_key-same m n h = ap (λ (es : List (List ℕ × Value)). from_entries {R = ke
 pub by_key-empty : (m : BTreeMap (List ℕ) Value) → m.entries ≡ [] → by_key m ≡ fin.empty
 by_key-empty m h = ap (λ (es : List (List ℕ × Value)). from_entries {R = key_cmp} (map (λ e. (e.0, plain_value e.1)) es)) h
 
-below_plain : (k : List ℕ) (es : List (List ℕ × Value)) → AllByRecursion (λ y. key_cmp k y ≡ Less) (keys_of es) → T (below_all key_cmp k (plain_entries es))
-unfolding plain_entries
+below_plain : (k : List ℕ) (es : List (List ℕ × Value)) → AllByRecursion (λ y. key_cmp k y ≡ Less) (keys_of es) → T (below_all key_cmp k (with_plain_values es))
+unfolding with_plain_values
 below_plain k [] h = tt
-below_plain k (e ∷ es) h = subst (λ r. T (is_lt r && below_all key_cmp k (plain_entries es))) (sym h.0) (below_plain k es h.1)
+below_plain k (e ∷ es) h = subst (λ r. T (is_lt r && below_all key_cmp k (with_plain_values es))) (sym h.0) (below_plain k es h.1)
 
-sorted_plain : (es : List (List ℕ × Value)) → IsStrictlySortedBy key_cmp (keys_of es) → T (is_sorted key_cmp (plain_entries es))
-unfolding plain_entries IsStrictlySortedBy
+sorted_plain : (es : List (List ℕ × Value)) → IsStrictlySortedBy key_cmp (keys_of es) → T (is_sorted key_cmp (with_plain_values es))
+unfolding with_plain_values IsStrictlySortedBy
 sorted_plain [] h = tt
 sorted_plain (e ∷ es) h = both_true _ _ (below_plain e.0 es h.0) (sorted_plain es h.1)
 
 -- the entries of a map stay in their order
 pub entries-by_key : (m : BTreeMap (List ℕ) Value) → tree.IsOrdered key_cmp m → fin.entries (by_key m) ≡ map (λ e. (e.0, plain_value e.1)) m.entries
-unfolding plain_entries
+unfolding with_plain_values
 entries-by_key m ordered =
     let sorted = sorted_plain m.entries ordered in
-    let same : by_key m ≡ from_sorted {R = key_cmp} (plain_entries m.entries) =
-    same_attributes _ _ (λ q. get-from_entries nat_list_cmp_total (plain_entries m.entries) q ∙ sym (get-from_sorted key_cmp (plain_entries m.entries) q sorted)) in
-    ap fin.entries same ∙ entries-from_sorted key_cmp (plain_entries m.entries) sorted
+    let same : by_key m ≡ from_sorted {R = key_cmp} (with_plain_values m.entries) =
+    attributes_by_name _ _ (λ q. get-from_entries nat_list_cmp_total (with_plain_values m.entries) q ∙ sym (get-from_sorted key_cmp (with_plain_values m.entries) q sorted)) in
+    ap fin.entries same ∙ entries-from_sorted key_cmp (with_plain_values m.entries) sorted
 
 less_from : (r : Ordering) → T (is_lt r) → r ≡ Less
 less_from Less h = refl
@@ -199,7 +199,7 @@ last_wins-push es e = ap (λ (xs : List (List ℕ × PlainValue)). from_entries 
 
 -- the entries of a map make that map
 pub last_wins-entries : (m : Attributes) → last_wins (fin.entries m) ≡ m
-last_wins-entries m = same_attributes _ _ (λ q.
+last_wins-entries m = attributes_by_name _ _ (λ q.
     get-from_entries nat_list_cmp_total (reverse (fin.entries m)) q ∙ find-reverse q (fin.entries m) (entries_sorted m) ∙ sym (get-entries m q))
 
 pub len-by_key : (m : BTreeMap (List ℕ) Value) → tree.IsOrdered key_cmp m → fin.len (by_key m) ≡ tree.btree_map_len m
@@ -229,17 +229,17 @@ pub put_entry : (base m n : Attributes) (es : List (List ℕ × PlainValue)) (e 
 put_entry base m n es e put so_far =
     put ∙ ap (λ o. fin.insert o e.0 e.1) so_far ∙ sym (union-insert base (last_wins es) e.0 e.1) ∙ ap (union base) (sym (last_wins-push es e))
 
-plain_entries-clone : (es fs : List (List ℕ × Value)) → AllZip (λ p q. (q.0 ≡ p.0) × (plain_value q.1 ≡ plain_value p.1)) es fs → plain_entries fs ≡ plain_entries es
-unfolding plain_entries
-plain_entries-clone [] [] h = refl
-plain_entries-clone [] (f ∷ fs) h = absurd h
-plain_entries-clone (e ∷ es) [] h = absurd h
-plain_entries-clone (e ∷ es) (f ∷ fs) h = λ i. (h.0.0 i, h.0.1 i) ∷ plain_entries-clone es fs h.1 i
+with_plain_values-clone : (es fs : List (List ℕ × Value)) → AllZip (λ p q. (q.0 ≡ p.0) × (plain_value q.1 ≡ plain_value p.1)) es fs → with_plain_values fs ≡ with_plain_values es
+unfolding with_plain_values
+with_plain_values-clone [] [] h = refl
+with_plain_values-clone [] (f ∷ fs) h = absurd h
+with_plain_values-clone (e ∷ es) [] h = absurd h
+with_plain_values-clone (e ∷ es) (f ∷ fs) h = λ i. (h.0.0 i, h.0.1 i) ∷ with_plain_values-clone es fs h.1 i
 
 -- copies of the keys and values make the same map
 pub by_key-clone : (m n : BTreeMap (List ℕ) Value) → AllZip (λ p q. (q.0 ≡ p.0) × (plain_value q.1 ≡ plain_value p.1)) m.entries n.entries → by_key n ≡ by_key m
-unfolding plain_entries
-by_key-clone m n h = ap (λ (es : List (List ℕ × PlainValue)). from_entries {R = key_cmp} es) (plain_entries-clone m.entries n.entries h)
+unfolding with_plain_values
+by_key-clone m n h = ap (λ (es : List (List ℕ × PlainValue)). from_entries {R = key_cmp} es) (with_plain_values-clone m.entries n.entries h)
 
 -- two resources with equal parts
 pub same_resource : (a b : Attributes) (s t : List ℕ) → a ≡ b → s ≡ t

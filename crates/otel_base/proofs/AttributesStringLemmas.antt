@@ -110,12 +110,12 @@ unfolding Cut
 cut_behind c b bs other (inl free) = inl (other, free)
 cut_behind c b bs other (inr (before, behind, is, free)) = inr (b ∷ before, behind, ap (λ t. b ∷ t) is, (other, free))
 
-cut_at : (c : ℕ) (bs : List ℕ) → Cut c bs
+some_cut : (c : ℕ) (bs : List ℕ) → Cut c bs
 unfolding Cut
-cut_at c [] = inl tt
-cut_at c (b ∷ bs) = elim (eqb b c) as (λ r. eqb b c ≡ r → Cut c (b ∷ bs)) [
+some_cut c [] = inl tt
+some_cut c (b ∷ bs) = elim (eqb b c) as (λ r. eqb b c ≡ r → Cut c (b ∷ bs)) [
   | true ↦ λ same. inr ([], bs, ap (λ x. x ∷ bs) (eqb-true b c same), tt)
-  | false ↦ λ other. cut_behind c b bs (λ same. absurd (true_is_not_false (sym (eq-eqb b c same) ∙ other))) (cut_at c bs)
+  | false ↦ λ other. cut_behind c b bs (λ same. absurd (true_is_not_false (sym (eq-eqb b c same) ∙ other))) (some_cut c bs)
 ] refl
   where
     true_is_not_false : true ≡ false → ⊥
@@ -130,16 +130,16 @@ some_rest : (n : ℕ) (given : List ℕ) → length given < suc n → ((rest : L
     → Cut comma given → (pairs : List PlainKeyValue) × IsAttributesString given pairs
 unfolding Cut
 some_rest n given short others (inl free) =
-    let (first, is) = some_member given (cut_at equals_sign given) in (first, string_last given first free is)
+    let (first, is) = some_member given (some_cut equals_sign given) in (first, string_last given first free is)
 some_rest n given short others (inr (member, rest, is, free)) =
-    let (first, reads) = some_member member (cut_at equals_sign member) in
+    let (first, reads) = some_member member (some_cut equals_sign member) in
     let less = shorter_rest given member rest is in
     let (more, read) = others rest (omega arith) in
     (first ++ more, string_more given member rest first more is free reads read)
 
 some_reading : (n : ℕ) (given : List ℕ) → length given < n → (pairs : List PlainKeyValue) × IsAttributesString given pairs
 some_reading zero given short = absurd (omega arith)
-some_reading (suc n) given short = some_rest n given short (some_reading n) (cut_at comma given)
+some_reading (suc n) given short = some_rest n given short (some_reading n) (some_cut comma given)
 
 -- a text reads in some way
 pub string_reads_some : (given : List ℕ) → (pairs : List PlainKeyValue) × IsAttributesString given pairs

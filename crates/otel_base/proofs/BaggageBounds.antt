@@ -169,12 +169,12 @@ pub read_more : (members : List (List ℕ)) (member : List ℕ) (es next : Plain
 read_more members member es next so_far put = subst (IsReadFrom (members ++ member ∷ [])) (sym put) (read_cases members member (entry_of_member member) es refl so_far)
 
 -- there is room for each of the first 64 members of a short header
-pub record HasRoom (es : PlainBaggage) (member : List ℕ) : Type 0 where
+pub record HasRoomForMember (es : PlainBaggage) (member : List ℕ) : Type 0 where
   pub few : length es < 64
   pub small : baggage_bytes es + length member ≤ 8192
 
 pub room : (header : List ℕ) (n k : ℕ) (members : List (List ℕ)) (member : List ℕ) (es : PlainBaggage) → length header ≤ 8192 → n ≤ 64 → IsReadFrom members es
-    → members ≡ take k (take n (pieces_at comma header)) → k < length (take n (pieces_at comma header)) → member ≡ get_or (take n (pieces_at comma header)) k member → HasRoom es member
+    → members ≡ take k (take n (pieces_at comma header)) → k < length (take n (pieces_at comma header)) → member ≡ get_or (take n (pieces_at comma header)) k member → HasRoomForMember es member
 room header n k members member es short within so_far are inside is =
     let pieces = pieces_at comma header in
     let all = length-pieces_at comma header in

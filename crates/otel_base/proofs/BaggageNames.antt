@@ -45,8 +45,8 @@ last_push_other e (l ∷ more) x apart =
     (cases_Bool (bytes_eq e.key l.key))
 
 -- an entry of this name is left out, and one of another name stays
-left_out : (e y : PlainBaggageEntry) (es : PlainBaggage) → e.key ≡ y.key → of_other_names e (y ∷ es) ≡ of_other_names e es
-left_out e y es is = cond-false _ _ _ (ap not (is_same e.key y.key is))
+same_name_left_out : (e y : PlainBaggageEntry) (es : PlainBaggage) → e.key ≡ y.key → of_other_names e (y ∷ es) ≡ of_other_names e es
+same_name_left_out e y es is = cond-false _ _ _ (ap not (is_same e.key y.key is))
 
 stays : (e y : PlainBaggageEntry) (es : PlainBaggage) → e.key ≢ y.key → of_other_names e (y ∷ es) ≡ y ∷ of_other_names e es
 stays e y es apart = cond-true _ _ _ (ap not (is_other e.key y.key apart))
@@ -58,10 +58,10 @@ put_behind : (y x : PlainBaggageEntry) (es : PlainBaggage) → x.key ≢ y.key �
 put_behind y x es apart = cond-false _ _ _ (is_other x.key y.key apart)
 
 others_with_same : (e x : PlainBaggageEntry) (es : PlainBaggage) → e.key ≡ x.key → of_other_names e (with_entry es x) ≡ of_other_names e es
-others_with_same e x [] is = left_out e x [] is
+others_with_same e x [] is = same_name_left_out e x [] is
 others_with_same e x (y ∷ es) is =
     ⊎_elim
-    (λ here. ap (of_other_names e) (cond-true _ _ _ here) ∙ left_out e x es is ∙ sym (left_out e y es (is ∙ same x.key y.key here)))
+    (λ here. ap (of_other_names e) (cond-true _ _ _ here) ∙ same_name_left_out e x es is ∙ sym (same_name_left_out e y es (is ∙ same x.key y.key here)))
     (λ here. let apart = λ (e_y : e.key ≡ y.key). other x.key y.key here (sym is ∙ e_y) in
     ap (of_other_names e) (cond-false _ _ _ here) ∙ stays e y (with_entry es x) apart ∙ ap (λ l. y ∷ l) (others_with_same e x es is) ∙ sym (stays e y es apart))
     (cases_Bool (bytes_eq x.key y.key))
@@ -79,7 +79,7 @@ others_with_other e x (y ∷ es) apart =
     behind : of_other_names e (with_entry es x) ≡ with_entry (of_other_names e es) x → x.key ≢ y.key → (bytes_eq e.key y.key ≡ true) ⊎ (bytes_eq e.key y.key ≡ false) → of_other_names e (y ∷ with_entry es x) ≡ with_entry (of_other_names e (y ∷ es)) x
     behind rest apart_x (inl here) =
         let is = same e.key y.key here in
-        left_out e y (with_entry es x) is ∙ rest ∙ ap (λ l. with_entry l x) (sym (left_out e y es is))
+        same_name_left_out e y (with_entry es x) is ∙ rest ∙ ap (λ l. with_entry l x) (sym (same_name_left_out e y es is))
     behind rest apart_x (inr here) =
         let apart_y = other e.key y.key here in
         stays e y (with_entry es x) apart_y ∙ ap (λ l. y ∷ l) rest

@@ -195,5 +195,5 @@ header_carries es texts is carried set cx found extracts =
     ∙ header_back es is carried.entries
 
 -- what was injected carries its baggage
-pub injected_carries : (cx : PlainContext) (old new : Texts) → IsBaggage cx.baggage → IsCarriedUnchanged cx.baggage → InjectsBaggage cx old (Ok tt) new → Carries new cx.baggage
-injected_carries cx old new is carried injects = header_carries cx.baggage new is carried (injects.set carried.some).set
+pub injected_baggage_carries : (cx : PlainContext) (old new : Texts) → IsBaggage cx.baggage → IsCarriedUnchanged cx.baggage → InjectsBaggage cx old (Ok tt) new → Carries new cx.baggage
+injected_baggage_carries cx old new is carried injects = header_carries cx.baggage new is carried (injects.set carried.some).set

@@ -18,14 +18,14 @@ configured_by Reads text default None none = inr (none, refl)
 configured_by Reads text default (Some value) reads = inl reads
 
 -- none of the names that stand for another sampler than the default
-pub record IsOtherName (name : List ℕ) : Type 0 where
+pub record NamesNoOtherSampler (name : List ℕ) : Type 0 where
   pub always_on : name ≢ codes "always_on"
   pub always_off : name ≢ codes "always_off"
   pub ratio : name ≢ codes "traceidratio"
   pub parent_off : name ≢ codes "parentbased_always_off"
   pub parent_ratio : name ≢ codes "parentbased_traceidratio"
 
-not_named : {C : Type 0} (ratio : PlainRatio) (name : List ℕ) → IsOtherName name → name ≢ codes "parentbased_always_on"
+not_named : {C : Type 0} (ratio : PlainRatio) (name : List ℕ) → NamesNoOtherSampler name → name ≢ codes "parentbased_always_on"
     → (other : SamplerPlan C) → IsNamed (sampler_names ratio) name other → ⊥
 not_named ratio name others none other (inl is) = others.always_on is.0
 not_named ratio name others none other (inr (inl is)) = others.always_off is.0
@@ -36,7 +36,7 @@ not_named ratio name others none other (inr (inr (inr (inr (inr (inl is)))))) = 
 not_named ratio name others none other (inr (inr (inr (inr (inr (inr is)))))) = is
 
 -- a name that stands for no other sampler configures the default
-default_by_name : {C : Type 0} (ratio : PlainRatio) (name : List ℕ) → IsOtherName name
+default_by_name : {C : Type 0} (ratio : PlainRatio) (name : List ℕ) → NamesNoOtherSampler name
     → IsConfigured (IsNamed {C = C} (sampler_names ratio)) (Some name) (parent_based always_on) (parent_based always_on)
 default_by_name ratio name others =
     let test = bytes_decides name (codes "parentbased_always_on") in
@@ -46,7 +46,7 @@ default_by_name ratio name others =
     (cases_Bool (bytes_eq name (codes "parentbased_always_on")))
 
 pub configured_default : {C E : Type 0} (strings : PlainConfigStrings) (name : List ℕ) (ratio : PlainRatio) (r : Result (SamplerOf C) E)
-    → strings.sampler ≡ Some name → IsConfiguredRatio strings.sampler_arg ratio → IsOtherName name
+    → strings.sampler ≡ Some name → IsConfiguredRatio strings.sampler_arg ratio → NamesNoOtherSampler name
     → IfOk r (λ sampler. plan sampler ≡ parent_based always_on)
     → IfOk r (λ sampler. IsConfiguredSampler strings (plan sampler))
 configured_default strings name ratio (Ok sampler) given argument others is = rw (is, given) (ratio, argument, default_by_name ratio name others)

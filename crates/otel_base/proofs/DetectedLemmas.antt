@@ -9,7 +9,7 @@ use Rattle.std.specs.FinMap.{get-insert, slice_cmp-IsAntisymmetric, nat_cmp-IsAn
 use Rattle.opentelemetry.specs.Plain.{PlainValue, PlainKeyValue, text}
 use Rattle.otel_base.specs.Resource.{Attributes, PlainResource, service_named, non_empty, union, of_attributes, attributes_of, service_name_key}
 use Rattle.otel_base.specs.DetectedResource.{PlainResourceStrings, ReadsAs, IsEnvResource, IsDetected, name_over, name_of_service, unknown_service, telemetry_pairs}
-use Rattle.otel_base.proofs.AttributeLemmas.{key_cmp, same_attributes, get-union, union-empty, union_assoc}
+use Rattle.otel_base.proofs.AttributeLemmas.{key_cmp, attributes_by_name, get-union, union-empty, union_assoc}
 use Rattle.otel_base.proofs.AttributesStringLemmas.{string_reads_some}
 
 -- each string that may be handed in gives some resource
@@ -40,7 +40,7 @@ names_alike e v w q same none =
 -- a name over which another one comes does not count
 overwritten : (t e : Attributes) (v w : PlainValue) → (fin.get e service_name_key ≡ None → v ≡ w)
     → union (union (name_alone v) t) e ≡ union (union (name_alone w) t) e
-overwritten t e v w same = same_attributes _ _ (λ q.
+overwritten t e v w same = attributes_by_name _ _ (λ q.
     get-union (union (name_alone v) t) e q
     ∙ elim (fin.get e q) as (λ o. fin.get e q ≡ o
     → option_or o (fin.get (union (name_alone v) t) q) ≡ option_or o (fin.get (union (name_alone w) t) q)) [

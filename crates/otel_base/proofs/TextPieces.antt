@@ -176,13 +176,13 @@ trim_pieces c bs ascii visible (cs, (are, is)) tight =
     ∙ ap encode_utf8_all (ap drop_trailing_whitespace front ∙ back) ∙ is
 
 -- each piece of a text is a text
-texts_of : (parts : List (List ℕ)) → AllByRecursion (λ part. all_scalars part ≡ true) parts → All IsUtf8 (map encode_utf8_all parts)
-texts_of [] are = All-nil IsUtf8
-texts_of (part ∷ more) are = All-cons IsUtf8 (encode_utf8_all part) (map encode_utf8_all more) (part, (are.0, refl)) (texts_of more are.1)
+encoded_parts_are_texts : (parts : List (List ℕ)) → AllByRecursion (λ part. all_scalars part ≡ true) parts → All IsUtf8 (map encode_utf8_all parts)
+encoded_parts_are_texts [] are = All-nil IsUtf8
+encoded_parts_are_texts (part ∷ more) are = All-cons IsUtf8 (encode_utf8_all part) (map encode_utf8_all more) (part, (are.0, refl)) (encoded_parts_are_texts more are.1)
 
 pub pieces_are_texts : (c : ℕ) (bs : List ℕ) → c < 128 → IsUtf8 bs → All IsUtf8 (slice_split (at_byte c) bs)
 pieces_are_texts c bs ascii (cs, (are, is)) =
-    subst (All IsUtf8) (sym (ap (slice_split (at_byte c)) (sym is) ∙ split_encodes c cs ascii)) (texts_of (slice_split (at_byte c) cs) (parts_of_scalars c cs are))
+    subst (All IsUtf8) (sym (ap (slice_split (at_byte c)) (sym is) ∙ split_encodes c cs ascii)) (encoded_parts_are_texts (slice_split (at_byte c) cs) (parts_of_scalars c cs are))
 
 -- ---- bytes
 

@@ -49,8 +49,8 @@ field_once digits m n r s small smaller same =
     (hex_text_injective digits m n small smaller parts.0, parts.1)
 
 -- and so is what stands behind its hyphen
-pub cut_once : (digits m n : ℕ) (r s : List ℕ) → m < 16 ^ digits → n < 16 ^ digits → hex_text digits m ++ hyphen ∷ r ≡ hex_text digits n ++ hyphen ∷ s → (m ≡ n) × (r ≡ s)
-cut_once digits m n r s small smaller same =
+pub field_once_before_hyphen : (digits m n : ℕ) (r s : List ℕ) → m < 16 ^ digits → n < 16 ^ digits → hex_text digits m ++ hyphen ∷ r ≡ hex_text digits n ++ hyphen ∷ s → (m ≡ n) × (r ≡ s)
+field_once_before_hyphen digits m n r s small smaller same =
     let parts = field_once digits m n (hyphen ∷ r) (hyphen ∷ s) small smaller same in
     (parts.0, tails hyphen hyphen r s parts.1)
 
@@ -68,9 +68,9 @@ too_much version rest more (inr (behind, hyphened, only)) is zero = tails hyphen
 -- a text that says two span contexts says one
 pub read_once : (text : List ℕ) (a b : PlainSpanContext) → IsTraceparent text a → IsTraceparent text b → a ≡ b
 read_once text a b this that =
-    let version = cut_once 2 this.version that.version _ _ (omega (arith, this.is_version)) (omega (arith, that.is_version)) (sym this.spelled ∙ that.spelled) in
-    let trace_id = cut_once 32 a.trace_id b.trace_id _ _ this.is_trace_id.1 that.is_trace_id.1 version.1 in
-    let span_id = cut_once 16 a.span_id b.span_id _ _ this.is_span_id.1 that.is_span_id.1 trace_id.1 in
+    let version = field_once_before_hyphen 2 this.version that.version _ _ (omega (arith, this.is_version)) (omega (arith, that.is_version)) (sym this.spelled ∙ that.spelled) in
+    let trace_id = field_once_before_hyphen 32 a.trace_id b.trace_id _ _ this.is_trace_id.1 that.is_trace_id.1 version.1 in
+    let span_id = field_once_before_hyphen 16 a.span_id b.span_id _ _ this.is_span_id.1 that.is_span_id.1 trace_id.1 in
     let flags = field_once 2 this.flags that.flags this.rest that.rest this.are_flags that.are_flags span_id.1 in
     let sampled = this.sampled ∙ ap (λ (n : ℕ). n % 2) flags.0 ∙ sym that.sampled in
     let remote = this.remote ∙ sym that.remote in
@@ -86,42 +86,42 @@ read_once text a b this that =
 -- ---- white space
 
 -- a byte that shows
-abbrev pub Shows : ℕ → Type 0
-Shows b = (32 < b) × (b < 127)
+abbrev pub IsVisible : ℕ → Type 0
+IsVisible b = (32 < b) × (b < 127)
 
-digit_shows : (b : ℕ) → IsHexDigit b → Shows b
+digit_shows : (b : ℕ) → IsHexDigit b → IsVisible b
 digit_shows b is = ⊎_elim (λ low. (omega (arith, low.0), omega (arith, low.1))) (λ high. (omega (arith, high.0), omega (arith, high.1))) is
 
-pub hex_shows : (digits number : ℕ) → All Shows (hex_text digits number)
-hex_shows digits number = All-weaker IsHexDigit Shows digit_shows (hex_text digits number) (hex_text_IsHexText digits number).1
+pub hex_shows : (digits number : ℕ) → All IsVisible (hex_text digits number)
+hex_shows digits number = All-weaker IsHexDigit IsVisible digit_shows (hex_text digits number) (hex_text_IsHexText digits number).1
 
-no_white : (b : ℕ) → Shows b → is_whitespace b ≡ false
+no_white : (b : ℕ) → IsVisible b → is_whitespace b ≡ false
 no_white b shows = grind (arith, nat_tests)
 
-encodes_shown : (bs : List ℕ) → All Shows bs → encode_utf8_all bs ≡ bs
+encodes_shown : (bs : List ℕ) → All IsVisible bs → encode_utf8_all bs ≡ bs
 encodes_shown [] shown = refl
 encodes_shown (b ∷ bs) shown =
-    let head = All-head Shows b bs shown in
-    ap (λ t. t ++ encode_utf8_all bs) (encode_ascii b (omega (arith, head.1))) ∙ ap (λ l. b ∷ l) (encodes_shown bs (All-tail Shows b bs shown))
+    let head = All-head IsVisible b bs shown in
+    ap (λ t. t ++ encode_utf8_all bs) (encode_ascii b (omega (arith, head.1))) ∙ ap (λ l. b ∷ l) (encodes_shown bs (All-tail IsVisible b bs shown))
 
-scalars_shown : (bs : List ℕ) → All Shows bs → all_scalars bs ≡ true
+scalars_shown : (bs : List ℕ) → All IsVisible bs → all_scalars bs ≡ true
 scalars_shown [] shown = refl
 scalars_shown (b ∷ bs) shown =
-    let head = All-head Shows b bs shown in
-    (λ i. low_scalar b (omega (arith, head.1)) i && scalars_shown bs (All-tail Shows b bs shown) i)
+    let head = All-head IsVisible b bs shown in
+    (λ i. low_scalar b (omega (arith, head.1)) i && scalars_shown bs (All-tail IsVisible b bs shown) i)
 
-skips_none : (bs : List ℕ) → All Shows bs → skip_leading_whitespace bs ≡ bs
+skips_none : (bs : List ℕ) → All IsVisible bs → skip_leading_whitespace bs ≡ bs
 skips_none [] shown = refl
-skips_none (b ∷ bs) shown = cond-false _ _ _ (no_white b (All-head Shows b bs shown))
+skips_none (b ∷ bs) shown = cond-false _ _ _ (no_white b (All-head IsVisible b bs shown))
 
-drops_none : (bs : List ℕ) → All Shows bs → drop_trailing_whitespace bs ≡ bs
+drops_none : (bs : List ℕ) → All IsVisible bs → drop_trailing_whitespace bs ≡ bs
 drops_none [] shown = refl
 drops_none (b ∷ bs) shown =
-    cond-false _ _ _ (ap (λ white. white && eqb (length (drop_trailing_whitespace bs)) 0) (no_white b (All-head Shows b bs shown)))
-    ∙ ap (λ l. b ∷ l) (drops_none bs (All-tail Shows b bs shown))
+    cond-false _ _ _ (ap (λ white. white && eqb (length (drop_trailing_whitespace bs)) 0) (no_white b (All-head IsVisible b bs shown)))
+    ∙ ap (λ l. b ∷ l) (drops_none bs (All-tail IsVisible b bs shown))
 
 -- a text of bytes that show has no white space around it
-pub trim_shown : (bs : List ℕ) → All Shows bs → trim bs ≡ bs
+pub trim_shown : (bs : List ℕ) → All IsVisible bs → trim bs ≡ bs
 trim_shown bs shown =
     let encodes = encodes_shown bs shown in
     let scalars = scalars_shown bs shown in
@@ -182,9 +182,9 @@ still_set old between new name text first same = record {
   others = λ other apart. same other ∙ first.others other apart;
 }
 
-field_shows : (digits number : ℕ) (tail : List ℕ) → All Shows tail → All Shows (hex_text digits number ++ hyphen ∷ tail)
+field_shows : (digits number : ℕ) (tail : List ℕ) → All IsVisible tail → All IsVisible (hex_text digits number ++ hyphen ∷ tail)
 field_shows digits number tail shown =
-    All-append Shows (hex_text digits number) (hyphen ∷ tail) (hex_shows digits number) (All-cons Shows hyphen tail (lit< tt, lit< tt) shown)
+    All-append IsVisible (hex_text digits number) (hyphen ∷ tail) (hex_shows digits number) (All-cons IsVisible hyphen tail (lit< tt, lit< tt) shown)
 
 version_shown : (tail : List ℕ) → codes "00-" ++ tail ≡ hex_text 2 0 ++ hyphen ∷ tail
 unfolding hex_text

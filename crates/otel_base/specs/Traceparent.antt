@@ -79,7 +79,8 @@ pub record InjectsTraceContext (cx : PlainContext) (old : Texts) (result : Resul
     (new : Texts) : Type 0 where
   pub set : IsValid (current_span_context cx) → OnOk result (SetsHeaders old new (current_span_context cx))
   pub nothing : ¬ (IsValid (current_span_context cx)) → IsOk result × SameTexts old new
-  pub err : OnErr result (SameTexts old new ⊎ SetsText old new traceparent_field (traceparent_of (current_span_context cx)))
+  pub err : OnErr result (SameTexts old new
+      ⊎ SetsText old new traceparent_field (traceparent_of (current_span_context cx)))
 
 -- the text of a header; the empty one without it
 abbrev pub header_text : Option (List ℕ) → List ℕ

@@ -239,14 +239,14 @@ fn put_members(
 {
     let mut rest = text;
     'members: while let Some((member, more)) = rest.split_once(',') {
-        put_member(&mut attributes, alloc, member)?;
+        put_pair_of(&mut attributes, alloc, member)?;
         rest = more;
     }
-    put_member(&mut attributes, alloc, rest)?;
+    put_pair_of(&mut attributes, alloc, rest)?;
     Ok(attributes)
 }
 
-fn put_member(
+fn put_pair_of(
     attributes: &mut BTreeMap<Key, Value>,
     alloc: Global,
     member: &str,

@@ -7,7 +7,7 @@ use Rattle.otel_base.specs.Resource.{by_key}
 use Rattle.otel_base.specs.AttributesString.{IsMember, trimmed_pair}
 use Rattle.otel_base.proofs.AttributeLemmas.{union-empty, put_pair}
 use Rattle.otel_base.proofs.AttributesStringLemmas.{has_no_from_places}
-use Rattle.otel_base.proofs.resource.env.put_member.Goals as goal
+use Rattle.otel_base.proofs.resource.env.put_pair_of.Goals as goal
 
 -- the pair of a member with an equals sign
 one_pair : (c : goal.After-put_text) → IsMember c.args.member.now (trimmed_pair c.in-Some.key.now c.in-Some.value.now ∷ [])
