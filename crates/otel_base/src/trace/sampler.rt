@@ -3,7 +3,7 @@
 
 ghost use Rattle.std.specs.Prelude.{◌≡◌, ◌↔◌, [], IfOk, IsFalse, IsOk, IsTrue, OnErr, option_map};
 ghost use Rattle.otel_base.specs.SameSamplingResult.{same_answer, same_decision};
-ghost use Rattle.otel_base.specs.Sampling.{PlainSamplingResult, SamplingQuestion, question_of};
+ghost use Rattle.otel_base.specs.Sampling.{PlainSamplingResult, SamplingQuestion, added_attributes, question_of};
 ghost use Rattle.otel_base.specs.Sampler.{IsTryOf, active_in, built_in, has_custom, has_delegate, passed_trace_state};
 ghost use Rattle.otel_base.specs.Sampler.{plan, ratio_decision};
 
@@ -58,15 +58,31 @@ impl SamplingResult {
     }
 }
 
+// A copy of an answer's attributes. No list stands for an empty one, which takes no memory.
+fn copied_attributes(
+    attributes: &Option<Vec<KeyValue>>,
+) -> Result<Option<Vec<KeyValue>>, AllocError>
+    ensures ok { IfOk result (λ copy. added_attributes copy ≡ added_attributes attributes.now) }
+    ensures free { added_attributes attributes.now ≡ [] → IsOk result }
+{
+    match attributes {
+        Some(attributes) if !attributes.is_empty() => Ok(Some(attributes.clone()?)),
+        _ => Ok(None),
+    }
+}
+
 impl Clone for SamplingResult {
-    ghost use Rattle.std.specs.Prelude.{◌≡◌};
+    ghost use Rattle.std.specs.Prelude.{◌≡◌, []};
 
     ghost is_clone = { λ answer copy. copy ≡ answer };
 
+    ghost is_infallible = { λ answer. (answer.attributes ≡ []) × (answer.trace_state ≡ []) };
+
+    /// A clone of an answer without attributes, with the empty trace state, takes no memory.
     fn clone(&self) -> Result<SamplingResult, AllocError> {
         Ok(SamplingResult {
             decision: self.decision,
-            attributes: self.attributes.clone()?,
+            attributes: copied_attributes(&self.attributes)?,
             trace_state: self.trace_state.clone()?,
         })
     }
