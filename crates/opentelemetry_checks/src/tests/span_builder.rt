@@ -45,13 +45,23 @@ fn events_and_links_are_copied(rt: HostRuntime) -> Result<(), Fail> {
     Ok(())
 }
 
-/// A copy of a scope for which each of these was set.
-fn copied_scope(alloc: Global) -> Result<InstrumentationScope, AllocError> {
+/// A scope for which each of these is set.
+fn set_scope(alloc: Global) -> Result<InstrumentationScope, AllocError> {
     InstrumentationScope::builder(alloc, String::from_str(alloc, "lib")?)
         .with_version(String::from_str(alloc, "1.2")?)
         .with_attributes(attributes(alloc)?)
-        .build()?
-        .clone()
+        .build()
+}
+
+fn copied_scope(alloc: Global) -> Result<InstrumentationScope, AllocError> {
+    set_scope(alloc)?.clone()
+}
+
+#[test]
+fn a_copy_of_a_scope_takes_no_memory(rt: HostRuntime) -> Result<(), Fail> {
+    let scope = set_scope(rt.alloc())?;
+    assert!(rt; scope.clone().is_ok());
+    Ok(())
 }
 
 #[test]

@@ -45,9 +45,8 @@ fn errors_print_their_texts(rt: HostRuntime) -> Result<(), Fail> {
         ),
         (OTelSdkError::OutOfMemory, "Operation found no memory"),
     ];
-    for row in &table {
-        let error = &row.0;
-        assert_eq!(rt; format!(in alloc; "{error}")?.as_str(), row.1);
+    for (error, text) in &table {
+        assert_eq!(rt; format!(in alloc; "{error}")?.as_str(), *text);
     }
     Ok(())
 }
@@ -75,9 +74,9 @@ fn durations_print_in_their_largest_unit(rt: HostRuntime) -> Result<(), Fail> {
             "Operation timed out after 100.02µs",
         ),
     ];
-    for row in &table {
-        let error = OTelSdkError::Timeout(row.0);
-        assert_eq!(rt; format!(in alloc; "{error}")?.as_str(), row.1);
+    for (duration, text) in table {
+        let error = OTelSdkError::Timeout(duration);
+        assert_eq!(rt; format!(in alloc; "{error}")?.as_str(), text);
     }
     Ok(())
 }

@@ -65,11 +65,20 @@ fn says(low: u64, numerator: u64, denominator: u64) -> bool {
     place * u128::from(denominator) <= u128::from(numerator) << 63
 }
 
-fn sampled_by(ratio: Ratio, trace_id: u128) -> Result<bool, AllocError> {
+/// The decision that stands for what the inequality says.
+fn decision_of(sampled: bool) -> SamplingDecision {
+    if sampled {
+        SamplingDecision::RecordAndSample
+    } else {
+        SamplingDecision::Drop
+    }
+}
+
+fn decided_by(ratio: Ratio, trace_id: u128) -> Result<SamplingDecision, AllocError> {
     let mut sampler = Sampler::TraceIdRatioBased(ratio);
     let trace_id = TraceId::from(trace_id);
     let answer = sampler.should_sample(None, trace_id, "", &SpanKind::Internal, &[], &[])?;
-    Ok(answer.decision == SamplingDecision::RecordAndSample)
+    Ok(answer.decision)
 }
 
 #[test]
@@ -94,10 +103,10 @@ fn samples_up_to_its_share_of_the_low_halves(rt: HostRuntime) -> Result<(), Fail
         let other_half = u128::from(low) | (7 << 64);
         assert_eq!(rt; says(low, numerator, denominator), sampled, "{case}");
         let answers = [
-            sampled_by(ratio, u128::from(low))?,
-            sampled_by(ratio, other_half)?,
+            decided_by(ratio, u128::from(low))?,
+            decided_by(ratio, other_half)?,
         ];
-        assert_eq!(rt; answers, [sampled, sampled], "{case}");
+        assert_eq!(rt; answers, [decision_of(sampled); 2], "{case}");
     }
     Ok(())
 }
@@ -142,12 +151,13 @@ fn samples_the_trace_ids_of_other_specifications_by_the_inequality(
         ("of 64 bits", 0x00f067aa0ba902b7, [true, true, true]),
     ];
     for (case, trace_id, sampled) in cases {
-        let answers = [
-            sampled_by(Ratio::new(1, 2)?, trace_id)?,
-            sampled_by(Ratio::new(1, 3)?, trace_id)?,
-            sampled_by(Ratio::new(1, 10)?, trace_id)?,
-        ];
-        assert_eq!(rt; answers, sampled, "{case}");
+        let low = u64::try_from(trace_id & u128::from(u64::MAX))?;
+        let [half, third, tenth] = sampled;
+        for (denominator, sampled) in [(2, half), (3, third), (10, tenth)] {
+            let answer = decided_by(Ratio::new(1, denominator)?, trace_id)?;
+            assert_eq!(rt; says(low, 1, denominator), sampled, "{case}");
+            assert_eq!(rt; answer, decision_of(sampled), "{case}");
+        }
     }
     Ok(())
 }

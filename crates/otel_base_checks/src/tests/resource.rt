@@ -321,8 +321,8 @@ fn attributes_strings_are_read_member_by_member(rt: HostRuntime) -> Result<(), F
         ("=empty key,a=%20,", "=empty key;a=%20;"),
         ("", ""),
     ];
-    for row in &table {
-        assert_eq!(rt; env_shown(alloc, row.0)?.as_str(), row.1);
+    for (given, shown) in table {
+        assert_eq!(rt; env_shown(alloc, given)?.as_str(), shown);
     }
     Ok(())
 }
@@ -391,8 +391,8 @@ fn attributes_merge_to_the_right(rt: HostRuntime) -> Result<(), Fail> {
 fn a_builder_wins_over_what_a_schema_brings(rt: HostRuntime) -> Result<(), Fail> {
     let alloc = rt.alloc();
     let table = [(SCHEMA_A, "k=a;m=c;http://schema/a"), ("", "k=a;m=c;")];
-    for row in &table {
-        assert_eq!(rt; builder_over_given(alloc, row.0)?.as_str(), row.1);
+    for (given_schema, shown) in table {
+        assert_eq!(rt; builder_over_given(alloc, given_schema)?.as_str(), shown);
     }
     Ok(())
 }
@@ -407,8 +407,8 @@ fn schemas_merge_where_they_agree(rt: HostRuntime) -> Result<(), Fail> {
         (SCHEMA_A, SCHEMA_A, "k=a;m=c;http://schema/a"),
         ("", "", "k=a;m=c;"),
     ];
-    for row in &table {
-        assert_eq!(rt; schemas_merged(alloc, row.0, row.1)?.as_str(), row.2);
+    for (left, right, shown) in table {
+        assert_eq!(rt; schemas_merged(alloc, left, right)?.as_str(), shown);
     }
     Ok(())
 }
@@ -453,9 +453,9 @@ fn the_first_source_with_a_name_names_the_service(rt: HostRuntime) -> Result<(),
         ),
         (None, None, None, "service.name=unknown_service;"),
     ];
-    for row in &table {
-        let strings = strings_of(alloc, row.0, row.1, row.2)?;
-        assert_eq!(rt; sdk_shown(alloc, &strings)?.as_str(), row.3);
+    for (service_name, attributes, program_name, shown) in table {
+        let strings = strings_of(alloc, service_name, attributes, program_name)?;
+        assert_eq!(rt; sdk_shown(alloc, &strings)?.as_str(), shown);
     }
     Ok(())
 }
@@ -483,9 +483,9 @@ fn a_builder_begins_with_what_is_detected(rt: HostRuntime) -> Result<(), Fail> {
             "service.name=unknown_service;telemetry.sdk.language=rust;telemetry.sdk.name=opentelemetry;telemetry.sdk.version=0.33.0;",
         ),
     ];
-    for row in &table {
-        let strings = strings_of(alloc, row.0, row.1, row.2)?;
-        assert_eq!(rt; detected_shown(alloc, &strings)?.as_str(), row.3);
+    for (service_name, attributes, program_name, shown) in table {
+        let strings = strings_of(alloc, service_name, attributes, program_name)?;
+        assert_eq!(rt; detected_shown(alloc, &strings)?.as_str(), shown);
     }
     Ok(())
 }
@@ -515,8 +515,8 @@ fn a_later_call_of_a_builder_wins(rt: HostRuntime) -> Result<(), Fail> {
 fn a_resource_gives_back_its_values(rt: HostRuntime) -> Result<(), Fail> {
     let alloc = rt.alloc();
     let resource = of_pairs(alloc, &[("k", "a"), ("m", "c")])?.build();
-    for row in &[("k", "a"), ("m", "c"), ("l", "nothing")] {
-        assert_eq!(rt; got(alloc, &resource, row.0)?.as_str(), row.1);
+    for (key, value) in [("k", "a"), ("m", "c"), ("l", "nothing")] {
+        assert_eq!(rt; got(alloc, &resource, key)?.as_str(), value);
     }
     Ok(())
 }

@@ -149,8 +149,12 @@ fn over_on(alloc: Global) -> Result<Tree, AllocError> {
     over(alloc, Tree::AlwaysOn)
 }
 
+fn over_off(alloc: Global) -> Result<Tree, AllocError> {
+    over(alloc, Tree::AlwaysOff)
+}
+
 fn twice_over_off(alloc: Global) -> Result<Tree, AllocError> {
-    over(alloc, over(alloc, Tree::AlwaysOff)?)
+    over(alloc, over_off(alloc)?)
 }
 
 #[test]
@@ -171,6 +175,10 @@ fn decides_by_the_parent_and_passes_its_trace_state_on(rt: HostRuntime) -> Resul
             "{case}"
         );
         assert!(rt;
+            decides(alloc, &over_off(alloc)?, parent, from_off, state)?,
+            "{case}"
+        );
+        assert!(rt;
             decides(alloc, &twice_over_off(alloc)?, parent, from_off, state)?,
             "{case}"
         );
@@ -178,20 +186,26 @@ fn decides_by_the_parent_and_passes_its_trace_state_on(rt: HostRuntime) -> Resul
     Ok(())
 }
 
-/// Whether a sampler samples the trace whose id has this low half.
-fn samples(alloc: Global, sampler: &Tree, parent: Parent, low: u64) -> Result<bool, Fail> {
+/// What a sampler decides on the trace whose id has this low half.
+fn decision_on(
+    alloc: Global,
+    sampler: &Tree,
+    parent: Parent,
+    low: u64,
+) -> Result<SamplingDecision, Fail> {
     let cx = context_of(alloc, parent)?;
     let answer = ask_in(sampler, cx.as_ref(), trace_of(low), "")?;
-    Ok(answer.decision == SamplingDecision::RecordAndSample)
+    Ok(answer.decision)
 }
 
 #[test]
 fn a_ratio_decides_by_the_trace_id_alone(rt: HostRuntime) -> Result<(), Fail> {
     let alloc = rt.alloc();
+    let (on, off) = (SamplingDecision::RecordAndSample, SamplingDecision::Drop);
     let sampler = Tree::TraceIdRatioBased(Ratio::new(1, 4)?);
     for parent in [Parent::NoContext, Parent::Sampled, Parent::OtherFlags] {
-        assert!(rt; samples(alloc, &sampler, parent, (1 << 62) - 1)?);
-        assert!(rt; !samples(alloc, &sampler, parent, 1 << 62)?);
+        assert_eq!(rt; decision_on(alloc, &sampler, parent, (1 << 62) - 1)?, on);
+        assert_eq!(rt; decision_on(alloc, &sampler, parent, 1 << 62)?, off);
     }
     Ok(())
 }
@@ -199,10 +213,15 @@ fn a_ratio_decides_by_the_trace_id_alone(rt: HostRuntime) -> Result<(), Fail> {
 #[test]
 fn a_ratio_decides_at_roots_where_parents_come_first(rt: HostRuntime) -> Result<(), Fail> {
     let alloc = rt.alloc();
+    let (on, off) = (SamplingDecision::RecordAndSample, SamplingDecision::Drop);
     let sampler = over(alloc, Tree::TraceIdRatioBased(Ratio::new(1, 4)?))?;
-    assert!(rt; !samples(alloc, &sampler, Parent::NoContext, 1 << 62)?);
-    assert!(rt; samples(alloc, &sampler, Parent::Sampled, 1 << 62)?);
-    assert!(rt; !samples(alloc, &sampler, Parent::OtherFlags, 0)?);
+    for (parent, low, decision) in [
+        (Parent::NoContext, 1 << 62, off),
+        (Parent::Sampled, 1 << 62, on),
+        (Parent::OtherFlags, 0, off),
+    ] {
+        assert_eq!(rt; decision_on(alloc, &sampler, parent, low)?, decision);
+    }
     Ok(())
 }
 
@@ -297,6 +316,14 @@ fn copy_decisions(alloc: Global, sampler: &Tree) -> Result<[SamplingDecision; 3]
     Ok([root, child, other])
 }
 
+fn quarter() -> Result<Tree, Fail> {
+    Ok(Tree::TraceIdRatioBased(Ratio::new(1, 4)?))
+}
+
+fn nought() -> Result<Tree, Fail> {
+    Ok(Tree::TraceIdRatioBased(Ratio::new(0, 1)?))
+}
+
 #[test]
 fn copies_trees_without_a_custom_sampler(rt: HostRuntime) -> Result<(), Fail> {
     let alloc = rt.alloc();
@@ -305,6 +332,8 @@ fn copies_trees_without_a_custom_sampler(rt: HostRuntime) -> Result<(), Fail> {
     assert_eq!(rt; copy_decisions(alloc, &Tree::AlwaysOn)?, [on, on, on]);
     assert_eq!(rt; copy_decisions(alloc, &Tree::AlwaysOff)?, [off, off, off]);
     assert_eq!(rt; copy_decisions(alloc, &over_on(alloc)?)?, [on, on, off]);
+    assert_eq!(rt; copy_decisions(alloc, &quarter()?)?, [on, on, on]);
+    assert_eq!(rt; copy_decisions(alloc, &nought()?)?, [off, off, off]);
     assert_eq!(rt;
         copy_decisions(alloc, &twice_over_off(alloc)?)?,
         [off, on, off]
