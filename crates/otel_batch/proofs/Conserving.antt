@@ -15,7 +15,7 @@ use Rattle.otel_batch.specs.declared.machine.step.Step.{Step}
 use Rattle.otel_batch.specs.declared.machine.step.Step.TheVariants as step
 use Rattle.otel_batch.specs.declared.trace.export.SpanExporter.{Ghosts}
 use Rattle.otel_batch.proofs.Tellings.{tells_append, tells_same}
-use Rattle.otel_batch.proofs.Holding.{Agrees, agrees_at, agrees_first, permitted-holds, accepts-agrees}
+use Rattle.otel_batch.proofs.Holding.{AreHeldIn, held_at_slots, held_at_first, permitted-holds, accepts-held}
 use Rattle.otel_batch.proofs.TableFacts.{permitted-leaves, dropped_after}
 
 -- the sizes of a step's batches stand before those of the steps behind it
@@ -118,16 +118,16 @@ module _ {E : Type 0} (calls : Ghosts E) where
 
   -- a run loses no span, where the producers hold at its start what they are said to hold
   pub run-conserves_from : (h : ℕ → List PlainSpanData) (s : Machine E) (xs : List Step) (os : List Outcome)
-      (t : Machine E) → Agrees h s.control.slots → Run calls s xs os t →
+      (t : Machine E) → AreHeldIn h s.control.slots → Run calls s xs os t →
       Conserves calls s (accepted h xs os) (batch_sizes os) t
   run-conserves_from h s [] [] t a run = rests s t (ap (λ m. calls.told m.exporter) run)
       (both_same s t (ap (λ m. m.hand) run) (ap (λ m. m.waiting) run))
   run-conserves_from h s (x ∷ xs) (o ∷ os) t a run =
       let between = run.0 in
       let row = run.1.permitted in
-      let agrees = permitted-holds h (counts s) x o (counts between) row a in
-      let rest = run-conserves_from (λ q. holds_after h x o q) between xs os t agrees run.2 in
-      rw (← accepts-agrees h (counts s) x o (counts between) row a, sizes-first o os)
+      let are_held = permitted-holds h (counts s) x o (counts between) row a in
+      let rest = run-conserves_from (λ q. holds_after h x o q) between xs os t are_held run.2 in
+      rw (← accepts-held h (counts s) x o (counts between) row a, sizes-first o os)
       (conserves_then s between t (accepts (holds_at s.control.slots) x o) (accepted (λ q. holds_after h x o q) xs os)
       (batch_sizes (o ∷ [])) (batch_sizes os) (moved-conserves s x o between row run.1.moved) rest)
   run-conserves_from h s [] (o ∷ os) t a run = absurd run
@@ -137,14 +137,14 @@ module _ {E : Type 0} (calls : Ghosts E) where
   pub run-conserves : (s : Machine E) (xs : List Step) (os : List Outcome) (t : Machine E) → Run calls s xs os t →
       Conserves calls s (accepted (holds_at s.control.slots) xs os) (batch_sizes os) t
   run-conserves s xs os t run =
-      run-conserves_from (holds_at s.control.slots) s xs os t (agrees_at s.control.slots) run
+      run-conserves_from (holds_at s.control.slots) s xs os t (held_at_slots s.control.slots) run
 
   -- a run from a new machine
   pub run-loses_none : (s : Machine E) (xs : List Step) (os : List Outcome) (t : Machine E) → IsFirst s →
       Run calls s xs os t → LosesNoSpan calls s xs os t
   run-loses_none s xs os t first run =
-      let a : Agrees (λ p. []) s.control.slots =
-      rw (ap (λ m. m.control.slots) first.made) (agrees_first first.producers) in
+      let a : AreHeldIn (λ p. []) s.control.slots =
+      rw (ap (λ m. m.control.slots) first.made) (held_at_first first.producers) in
       let c = run-conserves_from (λ p. []) s xs os t a run in
       let none : s.hand ++ s.waiting ≡ [] =
       ap (λ l. l ++ s.waiting) (ap (λ m. m.hand) first.made) ∙ ap (λ m. m.waiting) first.made in

@@ -25,13 +25,14 @@ use Rattle.otel_batch.specs.declared.machine.step.Outcome.{Outcome}
 use Rattle.otel_batch.specs.declared.machine.step.Outcome.TheVariants as outcome
 use Rattle.otel_batch.specs.declared.machine.step.Step.{Step}
 use Rattle.otel_batch.specs.declared.machine.step.Step.TheVariants as step
+use Rattle.otel_batch.proofs.TableFacts.{slots_of}
 
--- what the producers are said to hold is what their slots hold
-pub record Agrees (holds : ℕ → List PlainSpanData) (slots : List Slot) : Type 0 where
+-- what the producers are said to hold is what these slots hold
+pub record AreHeldIn (holds : ℕ → List PlainSpanData) (slots : List Slot) : Type 0 where
   pub each : (p : ℕ) (span : PlainSpanData) → held (slice_get slots p) ≡ span ∷ [] → holds p ≡ span ∷ []
 
-pub agrees_at : (slots : List Slot) → Agrees (holds_at slots) slots
-agrees_at slots = record { each = λ p span e. e }
+pub held_at_slots : (slots : List Slot) → AreHeldIn (holds_at slots) slots
+held_at_slots slots = record { each = λ p span e. e }
 
 idle_holds : (n p : ℕ) → held (slice_get (replicate n slot.Idle) p) ≡ []
 idle_holds zero p = refl
@@ -39,24 +40,24 @@ idle_holds (suc n) zero = refl
 idle_holds (suc n) (suc p) = idle_holds n p
 
 -- where all are idle nothing is held
-pub agrees_first : (n : ℕ) → Agrees (λ p. []) (replicate n slot.Idle)
-agrees_first n = record {
+pub held_at_first : (n : ℕ) → AreHeldIn (λ p. []) (replicate n slot.Idle)
+held_at_first n = record {
   each = λ p span e. absurd (let none : held (slice_get (replicate n slot.Idle) p) ≡ [] =
       idle_holds n p in cc);
 }
 
-same_slots : (h : ℕ → List PlainSpanData) (s t : Counts) → t ≡ s → Agrees h s.control.slots → Agrees h t.control.slots
+same_slots : (h : ℕ → List PlainSpanData) (s t : Counts) → t ≡ s → AreHeldIn h s.control.slots → AreHeldIn h t.control.slots
 same_slots h s t e a = rw e a
 
 -- the slots are the same
-same_list : (h : ℕ → List PlainSpanData) (slots slots' : List Slot) → slots' ≡ slots → Agrees h slots → Agrees h slots'
+same_list : (h : ℕ → List PlainSpanData) (slots slots' : List Slot) → slots' ≡ slots → AreHeldIn h slots → AreHeldIn h slots'
 same_list h slots slots' e a = rw e a
 
 -- one slot changed
 set_slots : (h h' : ℕ → List PlainSpanData) (slots slots' : List Slot) (p : ℕ) (new : Slot) →
     slots' ≡ slice_set slots p new → ((q : ℕ) → q ≢ p → h' q ≡ h q) →
     ((span : PlainSpanData) → held (Some new) ≡ span ∷ [] → h' p ≡ span ∷ []) →
-    Agrees h slots → Agrees h' slots'
+    AreHeldIn h slots → AreHeldIn h' slots'
 set_slots h h' slots slots' p new e others own a = rw e (record {
   each = λ q span g. elim (eqb_tells q p) [
     | inl same ↦ elim (slice_get_cases (slice_set slots p new) p).1 [
@@ -75,7 +76,7 @@ set_slots h h' slots slots' p new e others own a = rw e (record {
 
 -- one slot changed to one that holds no span
 frees : (h : ℕ → List PlainSpanData) (slots slots' : List Slot) (p : ℕ) (new : Slot) →
-    slots' ≡ slice_set slots p new → held (Some new) ≡ [] → Agrees h slots → Agrees h slots'
+    slots' ≡ slice_set slots p new → held (Some new) ≡ [] → AreHeldIn h slots → AreHeldIn h slots'
 frees h slots slots' p new e free a =
     set_slots h h slots slots' p new e (λ q n. refl)
     (λ span g. absurd (let f : held (Some new) ≡ [] = free in cc)) a
@@ -87,12 +88,9 @@ free-after batch_size n = either _
     either true = refl
     either false = refl
 
-slots_of : (t s : Counts) → t ≡ s → t.control.slots ≡ s.control.slots
-slots_of t s e = ap (λ c. c.control.slots) e
-
 offer_holds : (h : ℕ → List PlainSpanData) (s : Counts) (p : ℕ) (span : PlainSpanData) (o : Outcome) (t : Counts) →
-    OfferRow s p span o t → Agrees h s.control.slots →
-    Agrees (λ q. holds_after h (step.Offer p span) o q) t.control.slots
+    OfferRow s p span o t → AreHeldIn h s.control.slots →
+    AreHeldIn (λ q. holds_after h (step.Offer p span) o q) t.control.slots
 offer_holds h s p span outcome.Skipped t row a = same_slots h s t row.2 a
 offer_holds h s p span (outcome.Counted n) t row a =
     set_slots h (λ q. if q == p then span ∷ [] else h q) s.control.slots t.control.slots p (slot.Holding span n)
@@ -121,7 +119,7 @@ dropped_held zero old new span d e = ap held (sym d) ∙ e
 dropped_held (suc n) old new span d e = absurd (let none = says_dropped-held new d in cc)
 
 finished_holds : (h : ℕ → List PlainSpanData) (y : Why) (s : Counts) (e : Option OTelSdkError) (t : Counts) →
-    FinishRowFor y s e t → Agrees h s.control.slots → Agrees h t.control.slots
+    FinishRowFor y s e t → AreHeldIn h s.control.slots → AreHeldIn h t.control.slots
 finished_holds h why.Asked s e t row a = same_list h _ _ (slots_of _ _ row.1) a
 finished_holds h why.Timer s e t row a = same_list h _ _ (slots_of _ _ row.1) a
 finished_holds h (why.Flush p) s e t row a = frees h _ _ p _ (slots_of _ _ row.1) refl a
@@ -129,18 +127,18 @@ finished_holds h (why.Shutdown p) s e t row a = shut s.control.refused row.1
   where
     shut : (b : Bool) → t ≡ (if b
         then put_slot (finished s worker.Ready) p (slot.Answered (Err OutOfMemory))
-        else finished s (worker.Closing p)) → Agrees h t.control.slots
+        else finished s (worker.Closing p)) → AreHeldIn h t.control.slots
     shut true eq = frees h s.control.slots t.control.slots p (slot.Answered (Err OutOfMemory)) (slots_of _ _ eq) refl a
     shut false eq = same_list h s.control.slots t.control.slots (slots_of _ _ eq) a
 
 finish_holds : (h : ℕ → List PlainSpanData) (s : Counts) (o : Outcome) (t : Counts) → FinishRow s o t →
-    Agrees h s.control.slots → Agrees h t.control.slots
+    AreHeldIn h s.control.slots → AreHeldIn h t.control.slots
 finish_holds h s (outcome.Finished e) t row a = finished_holds h s.control.why s e t row.1 a
 finish_holds h s outcome.NotEnabled t row a = same_slots h s t row.1 a
 finish_holds h s _ t row a = absurd row
 
 close_holds : (h : ℕ → List PlainSpanData) (s : Counts) (o : Outcome) (t : Counts) → CloseRow s o t →
-    Agrees h s.control.slots → Agrees h t.control.slots
+    AreHeldIn h s.control.slots → AreHeldIn h t.control.slots
 close_holds h s outcome.ShutDown t row a =
     let p = closing_of s.control.worker in
     let before = frees h s.control.slots (slice_set s.control.slots p (slot.Answered (Ok tt))) p (slot.Answered (Ok tt))
@@ -153,7 +151,7 @@ close_holds h s outcome.NotEnabled t row a = same_slots h s t row.1 a
 close_holds h s _ t row a = absurd row
 
 send_holds : (h : ℕ → List PlainSpanData) (s : Counts) (p : ℕ) (o : Outcome) (t : Counts) → SendRow s p o t →
-    Agrees h s.control.slots → Agrees h t.control.slots
+    AreHeldIn h s.control.slots → AreHeldIn h t.control.slots
 send_holds h s p outcome.Accepted t row a = frees h _ _ p _ (slots_of _ _ row.3) (free-after _ _) a
 send_holds h s p outcome.Full t row a = frees h _ _ p _ (slots_of _ _ row.3) refl a
 send_holds h s p outcome.Closed t row a = frees h _ _ p _ (slots_of _ _ row.2) refl a
@@ -161,20 +159,20 @@ send_holds h s p outcome.NotEnabled t row a = same_list h _ _ (slots_of _ _ row.
 send_holds h s p _ t row a = absurd row
 
 undo_holds : (h : ℕ → List PlainSpanData) (s : Counts) (p : ℕ) (o : Outcome) (t : Counts) → UndoRow s p o t →
-    Agrees h s.control.slots → Agrees h t.control.slots
+    AreHeldIn h s.control.slots → AreHeldIn h t.control.slots
 undo_holds h s p outcome.Undone t row a = frees h _ _ p _ (slots_of _ _ row.1) refl a
 undo_holds h s p outcome.NotEnabled t row a = same_list h _ _ (slots_of _ _ row.1) a
 undo_holds h s p _ t row a = absurd row
 
 ask_holds : (h : ℕ → List PlainSpanData) (s : Counts) (p : ℕ) (o : Outcome) (t : Counts) → AskRow s p o t →
-    Agrees h s.control.slots → Agrees h t.control.slots
+    AreHeldIn h s.control.slots → AreHeldIn h t.control.slots
 ask_holds h s p outcome.AlreadyAsked t row a = frees h _ _ p _ (slots_of _ _ row.2) refl a
 ask_holds h s p outcome.MayPost t row a = frees h _ _ p _ (slots_of _ _ row.2) refl a
 ask_holds h s p outcome.NotEnabled t row a = same_list h _ _ (slots_of _ _ row.1) a
 ask_holds h s p _ t row a = absurd row
 
 post_holds : (h : ℕ → List PlainSpanData) (s : Counts) (p : ℕ) (o : Outcome) (t : Counts) → PostRow s p o t →
-    Agrees h s.control.slots → Agrees h t.control.slots
+    AreHeldIn h s.control.slots → AreHeldIn h t.control.slots
 post_holds h s p outcome.Closed t row a = frees h _ _ p _ (slots_of _ _ row.2) refl a
 post_holds h s p outcome.Full t row a = frees h _ _ p _ (slots_of _ _ row.3) refl a
 post_holds h s p outcome.Posted t row a = frees h _ _ p _ (slots_of _ _ row.3) refl a
@@ -182,13 +180,13 @@ post_holds h s p outcome.NotEnabled t row a = same_list h _ _ (slots_of _ _ row.
 post_holds h s p _ t row a = absurd row
 
 reset_holds : (h : ℕ → List PlainSpanData) (s : Counts) (p : ℕ) (o : Outcome) (t : Counts) → ResetRow s p o t →
-    Agrees h s.control.slots → Agrees h t.control.slots
+    AreHeldIn h s.control.slots → AreHeldIn h t.control.slots
 reset_holds h s p outcome.ResetDone t row a = frees h _ _ p _ (slots_of _ _ row.1) refl a
 reset_holds h s p outcome.NotEnabled t row a = same_list h _ _ (slots_of _ _ row.1) a
 reset_holds h s p _ t row a = absurd row
 
 request_holds : (h : ℕ → List PlainSpanData) (s : Counts) (r : Request) (p : ℕ) (o : Outcome) (t : Counts) → RequestRow s r p o t →
-    Agrees h s.control.slots → Agrees h t.control.slots
+    AreHeldIn h s.control.slots → AreHeldIn h t.control.slots
 request_holds h s r p outcome.Closed t row a = same_list h _ _ (slots_of _ _ row.2) a
 request_holds h s r p outcome.Full t row a = same_list h _ _ (slots_of _ _ row.3) a
 request_holds h s r p outcome.Requested t row a = frees h _ _ p _ (slots_of _ _ row.3) refl a
@@ -196,20 +194,20 @@ request_holds h s r p outcome.NotEnabled t row a = same_list h _ _ (slots_of _ _
 request_holds h s r p _ t row a = absurd row
 
 collect_holds : (h : ℕ → List PlainSpanData) (s : Counts) (p : ℕ) (o : Outcome) (t : Counts) → CollectRow s p o t →
-    Agrees h s.control.slots → Agrees h t.control.slots
+    AreHeldIn h s.control.slots → AreHeldIn h t.control.slots
 collect_holds h s p (outcome.Collected answer) t row a = frees h _ _ p _ (slots_of _ _ row.1) refl a
 collect_holds h s p outcome.NotEnabled t row a = same_list h _ _ (slots_of _ _ row.1) a
 collect_holds h s p _ t row a = absurd row
 
 post_resource_holds : (h : ℕ → List PlainSpanData) (s : Counts) (resource : PlainResource) (o : Outcome) (t : Counts) → ResourceRow s resource o t →
-    Agrees h s.control.slots → Agrees h t.control.slots
+    AreHeldIn h s.control.slots → AreHeldIn h t.control.slots
 post_resource_holds h s resource outcome.Closed t row a = same_list h _ _ (slots_of _ _ row.1) a
 post_resource_holds h s resource outcome.Full t row a = same_list h _ _ (slots_of _ _ row.2) a
 post_resource_holds h s resource outcome.Posted t row a = same_list h _ _ (slots_of _ _ row.2) a
 post_resource_holds h s resource _ t row a = absurd row
 
 take_holds : (h : ℕ → List PlainSpanData) (s : Counts) (o : Outcome) (t : Counts) → TakeRow s o t →
-    Agrees h s.control.slots → Agrees h t.control.slots
+    AreHeldIn h s.control.slots → AreHeldIn h t.control.slots
 take_holds h s outcome.Nothing t row a = same_list h _ _ (slots_of _ _ row.2) a
 take_holds h s outcome.TookExport t row a = same_list h _ _ (slots_of _ _ row.2) a
 take_holds h s (outcome.TookFlush p) t row a = same_list h _ _ (slots_of _ _ row.2) a
@@ -219,25 +217,25 @@ take_holds h s outcome.NotEnabled t row a = same_list h _ _ (slots_of _ _ row.1)
 take_holds h s _ t row a = absurd row
 
 tick_holds : (h : ℕ → List PlainSpanData) (s : Counts) (o : Outcome) (t : Counts) → TickRow s o t →
-    Agrees h s.control.slots → Agrees h t.control.slots
+    AreHeldIn h s.control.slots → AreHeldIn h t.control.slots
 tick_holds h s outcome.Ticked t row a = same_list h _ _ (slots_of _ _ row.1) a
 tick_holds h s outcome.NotEnabled t row a = same_list h _ _ (slots_of _ _ row.1) a
 tick_holds h s _ t row a = absurd row
 
 clear_holds : (h : ℕ → List PlainSpanData) (s : Counts) (o : Outcome) (t : Counts) → ClearRow s o t →
-    Agrees h s.control.slots → Agrees h t.control.slots
+    AreHeldIn h s.control.slots → AreHeldIn h t.control.slots
 clear_holds h s outcome.Cleared t row a = same_list h _ _ (slots_of _ _ row.1) a
 clear_holds h s outcome.NotEnabled t row a = same_list h _ _ (slots_of _ _ row.1) a
 clear_holds h s _ t row a = absurd row
 
 load_holds : (h : ℕ → List PlainSpanData) (s : Counts) (o : Outcome) (t : Counts) → LoadRow s o t →
-    Agrees h s.control.slots → Agrees h t.control.slots
+    AreHeldIn h s.control.slots → AreHeldIn h t.control.slots
 load_holds h s (outcome.Loaded n) t row a = same_list h _ _ (slots_of _ _ row.3) a
 load_holds h s outcome.NotEnabled t row a = same_list h _ _ (slots_of _ _ row.1) a
 load_holds h s _ t row a = absurd row
 
 pull_holds : (h : ℕ → List PlainSpanData) (s : Counts) (o : Outcome) (t : Counts) → PullRow s o t →
-    Agrees h s.control.slots → Agrees h t.control.slots
+    AreHeldIn h s.control.slots → AreHeldIn h t.control.slots
 pull_holds h s outcome.Empty t row a = same_list h _ _ (slots_of _ _ row.2) a
 pull_holds h s outcome.NoMemory t row a = same_list h _ _ (slots_of _ _ row.3) a
 pull_holds h s outcome.Pulled t row a = same_list h _ _ (slots_of _ _ row.2) a
@@ -245,20 +243,20 @@ pull_holds h s outcome.NotEnabled t row a = same_list h _ _ (slots_of _ _ row.1)
 pull_holds h s _ t row a = absurd row
 
 hand_over_holds : (h : ℕ → List PlainSpanData) (s : Counts) (o : Outcome) (t : Counts) → HandOverRow s o t →
-    Agrees h s.control.slots → Agrees h t.control.slots
+    AreHeldIn h s.control.slots → AreHeldIn h t.control.slots
 hand_over_holds h s (outcome.HandedOver k e) t row a = same_list h _ _ (slots_of _ _ row.3) a
 hand_over_holds h s outcome.NotEnabled t row a = same_list h _ _ (slots_of _ _ row.1) a
 hand_over_holds h s _ t row a = absurd row
 
 subtract_holds : (h : ℕ → List PlainSpanData) (s : Counts) (o : Outcome) (t : Counts) → SubtractRow s o t →
-    Agrees h s.control.slots → Agrees h t.control.slots
+    AreHeldIn h s.control.slots → AreHeldIn h t.control.slots
 subtract_holds h s outcome.Subtracted t row a = same_list h _ _ (slots_of _ _ row.2) a
 subtract_holds h s outcome.NotEnabled t row a = same_list h _ _ (slots_of _ _ row.1) a
 subtract_holds h s _ t row a = absurd row
 
 -- what the producers are said to hold stays what their slots hold
 pub permitted-holds : (h : ℕ → List PlainSpanData) (s : Counts) (x : Step) (o : Outcome) (t : Counts) →
-    Permitted s x o t → Agrees h s.control.slots → Agrees (λ q. holds_after h x o q) t.control.slots
+    Permitted s x o t → AreHeldIn h s.control.slots → AreHeldIn (λ q. holds_after h x o q) t.control.slots
 permitted-holds h s (step.Offer p span) o t row a = offer_holds h s p span o t row a
 permitted-holds h s (step.Send p) o t row a = send_holds h s p o t row a
 permitted-holds h s (step.Undo p) o t row a = undo_holds h s p o t row a
@@ -292,9 +290,9 @@ held-holding (Some (slot.Waiting r)) e = cc
 held-holding (Some (slot.Answered r)) e = cc
 
 -- a send accepts what its producer is said to hold
-pub accepts-agrees : (h : ℕ → List PlainSpanData) (s : Counts) (x : Step) (o : Outcome) (t : Counts) →
-    Permitted s x o t → Agrees h s.control.slots → accepts (holds_at s.control.slots) x o ≡ accepts h x o
-accepts-agrees h s (step.Send p) outcome.Accepted t row a =
+pub accepts-held : (h : ℕ → List PlainSpanData) (s : Counts) (x : Step) (o : Outcome) (t : Counts) →
+    Permitted s x o t → AreHeldIn h s.control.slots → accepts (holds_at s.control.slots) x o ≡ accepts h x o
+accepts-held h s (step.Send p) outcome.Accepted t row a =
     let x = held-holding (slice_get s.control.slots p) row.0 in
     x.1 ∙ sym (a.each p x.0 x.1)
-accepts-agrees h s _ _ t row a = refl
+accepts-held h s _ _ t row a = refl

@@ -1,34 +1,36 @@
 -- Along a run of the batch queue each request is pending up to its answer.
-use Rattle.std.proofs.Common.{◌≡◌, inl, inr, ◌∙◌, ap, refl, zero, suc, ℕ, ◌<◌, true, List, [], ◌∷◌, length, Option, Some, None, slice_get, slice_set, arith}
+use Rattle.std.proofs.Common.{◌≡◌, inl, inr, ◌∙◌, ap, refl, zero, suc, ℕ, ◌<◌, true, List, [], ◌∷◌, length, Some, None, Result, slice_get, slice_set, arith}
 use Rattle.std.proofs.lemmas.Option.{slice_get_within}
 use Rattle.circular_buffer.proofs.Places.{slice_get-set_same}
-use Rattle.otel_batch.specs.Slots.{is_answered, slot_waits}
+use Rattle.otel_base.specs.declared.error.OTelSdkError.{OTelSdkError}
+use Rattle.otel_batch.specs.Slots.{slot_waits}
 use Rattle.otel_batch.specs.Workers.{is_gone}
 use Rattle.otel_batch.specs.MachineState.{Machine, Counts, counts}
 use Rattle.otel_batch.specs.SoundMachine.{IsSound}
 use Rattle.otel_batch.specs.PermittedStep.{Permitted, RequestRow, slot_at}
 use Rattle.otel_batch.specs.MachineRun.{Run}
-use Rattle.otel_batch.specs.KnownRequests.{step_of, requests_of, IsPending, StaysKnown, IsKnownBehind, KnowsRequests}
+use Rattle.otel_batch.specs.KnownRequests.{step_of, requests_of, IsPending, IsAnswered, StaysAnswered, StaysKnown, IsKnownBehind, KnowsRequests}
 use Rattle.otel_batch.specs.declared.machine.state.Request.{Request}
 use Rattle.otel_batch.specs.declared.machine.state.Request.TheVariants as request
-use Rattle.otel_batch.specs.declared.machine.state.Slot.{Slot}
 use Rattle.otel_batch.specs.declared.machine.state.Slot.TheVariants as slot
 use Rattle.otel_batch.specs.declared.machine.state.Worker.TheVariants as worker
 use Rattle.otel_batch.specs.declared.machine.step.Outcome.{Outcome}
 use Rattle.otel_batch.specs.declared.machine.step.Outcome.TheVariants as outcome
 use Rattle.otel_batch.specs.declared.machine.step.Step.{Step}
 use Rattle.otel_batch.specs.declared.trace.export.SpanExporter.{Ghosts}
+use Rattle.otel_batch.proofs.SlotSums.{is_answered-slot}
+use Rattle.otel_batch.proofs.Requests.{answered-left}
 use Rattle.otel_batch.proofs.Silence.{gone_is}
-
-answered-waits : (o : Option Slot) → is_answered o ≡ true → slot_waits o ≡ 0
-answered-waits None e = refl
-answered-waits (Some (slot.Waiting r)) e = cc
-answered-waits (Some _) e = refl
 
 -- a request that is waited for is pending
 pending : (p : ℕ) (asked : Request) (s : Counts) → IsSound s → slot_at s p ≡ Some (slot.Waiting asked) →
     IsPending p asked s
 pending p asked s sound waits = record { waits = waits; once = sound.awaited.each p ∙ ap slot_waits waits }
+
+-- an answer that is there is that of no other request
+answered : (p : ℕ) (answer : Result (Unit {0}) OTelSdkError) (s : Counts) → IsSound s →
+    slot_at s p ≡ Some (slot.Answered answer) → IsAnswered p answer s
+answered p answer s sound has = record { has = has; left = answered-left p answer s sound has }
 
 -- who has made a request waits for its answer
 requested-waits : (s : Counts) (asked : Request) (p : ℕ) (t : Counts) → RequestRow s asked p outcome.Requested t →
@@ -54,6 +56,24 @@ gone-waits s sound gone p =
     omega (arith, each, here)
 
 module _ {E : Type 0} (calls : Ghosts E) where
+  -- an answer that is there at the start of a run stays along it
+  stays-answered : (p : ℕ) (answer : Result (Unit {0}) OTelSdkError) (s : Machine E) (xs : List Step)
+      (os : List Outcome) (t : Machine E) → IsSound (counts s) →
+      slot_at (counts s) p ≡ Some (slot.Answered answer) → Run calls s xs os t →
+      StaysAnswered calls p answer s xs os t
+  stays-answered p answer s [] [] t sound has run = (answered p answer (counts s) sound has, run)
+  stays-answered p answer s (x ∷ xs) (o ∷ os) t sound has run = (
+    answered p answer (counts s) sound has,
+    run.0,
+    run.1,
+    elim (run.1.requests.answered p answer has) [
+      | inl still ↦ inl (stays-answered p answer run.0 xs os t run.1.sound still run.2)
+      | inr collected ↦ inr (collected, run.2)
+    ],
+  )
+  stays-answered p answer s [] (o ∷ os) t sound has run = absurd run
+  stays-answered p answer s (x ∷ xs) [] t sound has run = absurd run
+
   -- a request that is pending at the start of a run is known along it
   stays-known : (p : ℕ) (asked : Request) (s : Machine E) (xs : List Step) (os : List Outcome) (t : Machine E) →
       IsSound (counts s) → slot_at (counts s) p ≡ Some (slot.Waiting asked) → Run calls s xs os t →
@@ -65,14 +85,9 @@ module _ {E : Type 0} (calls : Ghosts E) where
     run.1,
     elim (run.1.requests.each p asked waits) [
       | inl still ↦ inl (stays-known p asked run.0 xs os t run.1.sound still run.2)
-      | inr done ↦ inr (
-        record {
-          own = done.1;
-          answered = done.0;
-          left = run.1.sound.awaited.each p ∙ answered-waits (slot_at (counts run.0) p) done.0;
-        },
-        run.2,
-      )
+      | inr done ↦
+          let given = is_answered-slot (slot_at (counts run.0) p) done.0 in
+          inr (done.1, given.0, stays-answered p given.0 run.0 xs os t run.1.sound given.1 run.2)
     ],
   )
   stays-known p asked s [] (o ∷ os) t sound waits run = absurd run
@@ -114,4 +129,5 @@ module _ {E : Type 0} (calls : Ghosts E) where
   run-knows s xs os t sound run = record {
     earlier = λ p asked waits. stays-known p asked s xs os t sound waits run;
     made = λ n p asked at e. made-known n p asked s xs os t run at e;
+    answered = λ p answer has. stays-answered p answer s xs os t sound has run;
   }

@@ -41,6 +41,10 @@ abbrev pub dropped_after : Step → Outcome → ℕ → ℕ
 dropped_after (step.Send p) outcome.Full dropped = one_more dropped
 dropped_after x o dropped = dropped
 
+-- the slots of a state that is another
+pub slots_of : (t s : Counts) → t ≡ s → t.control.slots ≡ s.control.slots
+slots_of t s e = ap (λ c. c.control.slots) e
+
 -- what a step leaves as it was, or counts
 pub record Leaves (x : Step) (o : Outcome) (s t : Counts) : Type 0 where
   pub queue_size : t.control.queue_size ≡ s.control.queue_size

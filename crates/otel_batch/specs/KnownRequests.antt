@@ -1,12 +1,12 @@
--- Along a run of the batch queue no request is lost: at each point it is in the control queue or with the worker, up to
--- the step that answers it.
-use Rattle.std.specs.Prelude.{◌≡◌, ℕ, suc, ◌+◌, ◌⊎◌, true, List, [], ◌∷◌, take, drop, Some, slice_get, sum_by}
-use Rattle.otel_batch.specs.Slots.{is_answered}
+-- Along a run of the batch queue no request is lost: at each point it is in the control queue, with the worker, or
+-- answered, one of the three, up to the step that collects its answer.
+use Rattle.std.specs.Prelude.{◌≡◌, ℕ, suc, ◌+◌, ◌⊎◌, List, [], ◌∷◌, take, drop, Some, Result, slice_get, sum_by}
+use Rattle.otel_base.specs.declared.error.OTelSdkError.{OTelSdkError}
 use Rattle.otel_batch.specs.Messages.{message_names}
 use Rattle.otel_batch.specs.Workers.{worker_names}
 use Rattle.otel_batch.specs.MachineState.{Machine, Counts, counts}
 use Rattle.otel_batch.specs.PermittedStep.{slot_at}
-use Rattle.otel_batch.specs.KeptRequests.{AnswersTo}
+use Rattle.otel_batch.specs.KeptRequests.{AnswersTo, Collects}
 use Rattle.otel_batch.specs.MachineRun.{Run, Stepped}
 use Rattle.otel_batch.specs.declared.machine.state.Request.{Request}
 use Rattle.otel_batch.specs.declared.machine.state.Request.TheVariants as request
@@ -31,15 +31,27 @@ pub record IsPending (p : ℕ) (asked : Request) (s : Counts) : Type 0 where
   pub waits : slot_at s p ≡ Some (slot.Waiting asked)
   pub once : requests_of p s ≡ 1
 
--- the step answers the request of p, which is then neither in the control queue nor with the worker
-pub record Answers (p : ℕ) (s : Counts) (x : Step) (o : Outcome) (t : Counts) : Type 0 where
-  pub own : AnswersTo s x o p
-  pub answered : is_answered (slot_at t p) ≡ true
-  pub left : requests_of p t ≡ 0
+-- p has this answer to its request, which is neither in the control queue nor with the worker
+pub record IsAnswered (p : ℕ) (answer : Result (Unit {0}) OTelSdkError) (s : Counts) : Type 0 where
+  pub has : slot_at s p ≡ Some (slot.Answered answer)
+  pub left : requests_of p s ≡ 0
 
 module _ {E : Type 0} (calls : Ghosts E) where
+  -- a run in which p has this answer at the start and at each point, to the end or up to the step by which it collects
+  -- it
+  abbrev pub StaysAnswered : ℕ → Result (Unit {0}) OTelSdkError → Machine E → List Step → List Outcome → Machine E →
+      Type 0
+  StaysAnswered p answer s [] [] t = IsAnswered p answer (counts s) × (t ≡ s)
+  StaysAnswered p answer s (x ∷ xs) (o ∷ os) t =
+      IsAnswered p answer (counts s)
+      × (between : Machine E)
+      × Stepped calls s x o between
+      × (StaysAnswered p answer between xs os t ⊎ Collects x o p answer × Run calls between xs os t)
+  StaysAnswered p answer s [] (o ∷ os) t = ⊥
+  StaysAnswered p answer s (x ∷ xs) [] t = ⊥
+
   -- a run in which the request of p is pending at the start and at each point, to the end or up to a step that
-  -- answers it
+  -- answers it, behind which p has that answer
   abbrev pub StaysKnown : ℕ → Request → Machine E → List Step → List Outcome → Machine E → Type 0
   StaysKnown p asked s [] [] t = IsPending p asked (counts s) × (t ≡ s)
   StaysKnown p asked s (x ∷ xs) (o ∷ os) t =
@@ -47,7 +59,7 @@ module _ {E : Type 0} (calls : Ghosts E) where
       × (between : Machine E)
       × Stepped calls s x o between
       × (StaysKnown p asked between xs os t
-      ⊎ Answers p (counts s) x o (counts between) × Run calls between xs os t)
+      ⊎ AnswersTo (counts s) x o p × (answer : Result (Unit {0}) OTelSdkError) × StaysAnswered p answer between xs os t)
   StaysKnown p asked s [] (o ∷ os) t = ⊥
   StaysKnown p asked s (x ∷ xs) [] t = ⊥
 
@@ -61,9 +73,12 @@ module _ {E : Type 0} (calls : Ghosts E) where
     pub posts : Run calls before (take 1 (drop n xs)) (take 1 (drop n os)) posted
     pub behind : StaysKnown p asked posted (drop (suc n) xs) (drop (suc n) os) t
 
-  -- no request is lost: neither one that is pending at the start of a run, nor one that was made in it
+  -- no request is lost: neither one that is pending at the start of a run, nor one that was made in it, nor one whose
+  -- answer was not collected before
   pub record KnowsRequests (s : Machine E) (xs : List Step) (os : List Outcome) (t : Machine E) : Type 0 where
     pub earlier : (p : ℕ) (asked : Request) → slot_at (counts s) p ≡ Some (slot.Waiting asked) →
         StaysKnown p asked s xs os t
     pub made : (n p : ℕ) (asked : Request) → slice_get xs n ≡ Some (step_of asked p) →
         slice_get os n ≡ Some outcome.Requested → IsKnownBehind n p asked s xs os t
+    pub answered : (p : ℕ) (answer : Result (Unit {0}) OTelSdkError) →
+        slot_at (counts s) p ≡ Some (slot.Answered answer) → StaysAnswered p answer s xs os t

@@ -68,7 +68,8 @@ pub fn runs_bound_drains<E: SpanExporter>()
         → IsSound (counts s) → Run E.SpanExporter s xs os t → FitBatches (largest_batch s.control) (batch_sizes os) }
 {}
 
-/// Each request is in the control queue or with the worker, up to the step that answers it.
+/// Each request is in the control queue, with the worker or answered, in one of the three and once, up to the step that
+/// collects its answer.
 pub fn runs_lose_no_request<E: SpanExporter>()
     ensures { (s t : Machine E) (xs : List Step) (os : List Outcome)
         → IsSound (counts s) → Run E.SpanExporter s xs os t → KnowsRequests E.SpanExporter s xs os t }

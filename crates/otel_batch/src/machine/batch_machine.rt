@@ -12,8 +12,9 @@ use otel_base::error::OTelSdkResult;
 use std::alloc::{AllocError, Global};
 use std::marker::Model;
 
-/// A batch queue with its producers, its worker and its exporter. All memory but that of a batch is taken when it is
-/// made.
+/// A batch queue with its producers, its worker and its exporter. All memory is taken when it is made, but that of a
+/// batch, and that of the reason that a shutdown writes to each request that it drops, which is empty where there is
+/// none.
 #[derive(Drop)]
 pub struct BatchMachine<E> {
     pub(super) alloc: Global,
@@ -227,12 +228,13 @@ impl<E: SpanExporter> BatchMachine<E> {
     pub fn step(&mut self, step: Step) -> Outcome
         ensures permitted { Permitted (counts self.old) step result (counts self.new) }
         ensures moved { Moved E.SpanExporter self.old step result self.new }
-        // Who waits for an answer goes on waiting until one that is its own.
+        // Who waits for an answer goes on waiting until one that is its own, and has that until it collects it.
         ensures requests { KeepsRequests (counts self.old) step result (counts self.new) }
         // The worker can go on until it is gone.
         ensures goes_on { GoesOn (counts self.old) step result }
         ensures sound { IsSound (counts self.new) }
     {
+        self.is_sound();
         let outcome = self.dispatch(step);
         self.is_sound();
         outcome
@@ -270,7 +272,8 @@ impl<E: SpanExporter> BatchMachine<E> {
         // No batch is empty or too large.
         ensures batches { OnOk result (FitBatches (largest_batch self.old.control)
             (batch_sizes (added outcomes.old.items outcomes.new.items))) }
-        // Each request is in the control queue or with the worker, up to the step that answers it.
+        // Each request is in the control queue, with the worker or answered, in one of the three and once, up to the
+        // step that collects its answer.
         ensures requests { OnOk result (KnowsRequests E.SpanExporter self.old steps.items
             (added outcomes.old.items outcomes.new.items) self.new) }
         // Once the worker is gone nobody waits for an answer.
