@@ -21,6 +21,7 @@ use Rattle.otel_batch.specs.declared.machine.step.Outcome.TheVariants as outcome
 use Rattle.otel_batch.specs.declared.machine.step.Step.{Step}
 use Rattle.otel_batch.specs.declared.machine.step.Step.TheVariants as step
 use Rattle.otel_batch.specs.declared.trace.export.SpanExporter.{Ghosts}
+use Rattle.otel_batch.proofs.SlotSums.{counts_le}
 use Rattle.otel_batch.proofs.TableFacts.{is_producers, LeavesWorker, permitted-alone, permitted-leaves}
 use Rattle.otel_batch.proofs.Conserving.{run-conserves, conserves_then}
 use Rattle.otel_batch.proofs.Runs.{run-splits}
@@ -381,6 +382,24 @@ next_in w given (outcome.Finished e) t plain d = absurd (cc)
 next_in w given outcome.NoMemory t plain d = absurd (cc)
 next_in w given _ t plain d = d
 
+-- the target of a drain is what waits and what the producers hold
+load_target : (s : Counts) (target : ℕ) (t : Counts) → IsSound s → LoadRow s (outcome.Loaded target) t →
+    target ≡ s.waiting + sum_by slot_counts s.control.slots
+load_target s target t sound row =
+    let none : s.hand ≡ 0 = sound.drain.hand_empty (rw row.1 refl) in
+    let total : target ≡ s.waiting + s.hand + 0 + sum_by slot_counts s.control.slots =
+    row.2 ∙ (rw row.1 at sound.counted.total) in
+    omega (arith, none, total)
+
+pub load-covers : (s t : Counts) (target : ℕ) → IsSound s → Permitted s step.Load (outcome.Loaded target) t →
+    s.waiting ≤ target
+load-covers s t target sound row = omega (arith, load_target s target t sound row)
+
+pub load-fits : (s t : Counts) (target : ℕ) → IsSound s → Permitted s step.Load (outcome.Loaded target) t →
+    target ≤ s.control.queue_size + length s.control.slots
+load-fits s t target sound row =
+    omega (arith, load_target s target t sound row, counts_le s.control.slots, sound.fits.waiting_fits)
+
 -- the machine right behind a load
 pub record StartsDrain (target : ℕ) (t : Counts) : Type 0 where
   pub drain : InDrain t.waiting 0 t
@@ -393,8 +412,7 @@ load_drain : (s : Counts) (x : Step) (target : ℕ) (t : Counts) → IsSound s �
     Permitted s x (outcome.Loaded target) t → StartsDrain target t
 load_drain s step.Load target t sound row =
     let none : s.hand ≡ 0 = sound.drain.hand_empty (rw row.1 refl) in
-    let total : target ≡ s.waiting + s.hand + 0 + sum_by slot_counts s.control.slots =
-    row.2 ∙ (rw row.1 at sound.counted.total) in
+    let total = load_target s target t sound row in
     let to = ap (λ c. c.control.worker) row.3 in
     let hand : t.hand ≡ s.hand = ap (λ c. c.hand) row.3 in
     let waiting : t.waiting ≡ s.waiting = ap (λ c. c.waiting) row.3 in

@@ -3,18 +3,21 @@
 //! and runs are joined: so a caller that takes its steps one at a time has of them all together what
 //! `BatchMachine::run` promises.
 
-ghost use Rattle.std.specs.Prelude.{◌≡◌, ℕ, List, [], ◌∷◌, ◌++◌, true, slice_get};
+ghost use Rattle.std.specs.Prelude.{◌≡◌, ℕ, ◌≤◌, ◌+◌, List, [], ◌∷◌, ◌++◌, true, length, slice_get};
 ghost use Rattle.otel_batch.specs.MachineState.{Machine, Counts, counts};
 ghost use Rattle.otel_batch.specs.Slots.{slot_waits};
 ghost use Rattle.otel_batch.specs.Workers.{is_gone};
 ghost use Rattle.otel_batch.specs.SoundMachine.{IsSound};
+ghost use Rattle.otel_batch.specs.PermittedStep.{Permitted};
 ghost use Rattle.otel_batch.specs.MachineRun.{Run, Stepped, accepted, batch_sizes, counted_up, full_sends, holds_at};
 ghost use Rattle.otel_batch.specs.Conservation.{Conserves, IsFirst, LosesNoSpan};
 ghost use Rattle.otel_batch.specs.KnownRequests.{KnowsRequests};
 ghost use Rattle.otel_batch.specs.ShutdownSilence.{SilentAfterShutdown, StaysSilent};
 ghost use Rattle.otel_batch.specs.Drains.{BoundsDrains, CompletesDrains, FitBatches, largest_batch};
 ghost use Rattle.otel_batch.specs.declared.machine.step.Outcome.{Outcome};
+ghost use Rattle.otel_batch.specs.declared.machine.step.Outcome.TheVariants as outcome;
 ghost use Rattle.otel_batch.specs.declared.machine.step.Step.{Step};
+ghost use Rattle.otel_batch.specs.declared.machine.step.Step.TheVariants as step;
 
 use crate::trace::SpanExporter;
 
@@ -66,6 +69,14 @@ pub fn runs_bound_drains<E: SpanExporter>()
         → IsSound (counts s) → Run E.SpanExporter s xs os t → BoundsDrains s.control xs os }
     ensures batches { (s t : Machine E) (xs : List Step) (os : List Outcome)
         → IsSound (counts s) → Run E.SpanExporter s xs os t → FitBatches (largest_batch s.control) (batch_sizes os) }
+{}
+
+/// The target of a drain is at least what waited at its load, and at most the size of the queue and the number of
+/// producers.
+pub fn targets_cover_what_waits()
+    ensures covers { (s t : Counts) (n : ℕ) → IsSound s → Permitted s step.Load (outcome.Loaded n) t → s.waiting ≤ n }
+    ensures fits { (s t : Counts) (n : ℕ) → IsSound s → Permitted s step.Load (outcome.Loaded n) t
+        → n ≤ s.control.queue_size + length s.control.slots }
 {}
 
 /// Each request is in the control queue, with the worker or answered, in one of the three and once, up to the step that
