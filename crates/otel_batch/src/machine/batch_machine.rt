@@ -1,6 +1,6 @@
 //! The batch queue itself: what it is made of, how it is made and read, and its steps.
 
-ghost use Rattle.std.specs.Prelude.{◌≡◌, ◌++◌, ℕ, true, IfOk, IfErr, OnOk, length, slice_get};
+ghost use Rattle.std.specs.Prelude.{◌≡◌, ◌++◌, ℕ, true, [], IsOk, IfOk, IfErr, OnOk, length, slice_get};
 
 use crate::machine::slots::idle_slots;
 use crate::machine::state::{Message, Request, Slot, Why, Worker};
@@ -289,6 +289,8 @@ impl<E: SpanExporter> BatchMachine<E> {
         ensures err { IfErr result (λ e. (e.0 ≡ steps)
             × (self.new ≡ self.old)
             × (outcomes.new.items ≡ outcomes.old.items)) }
+        // No steps need no memory.
+        ensures free { steps.items ≡ [] → IsOk result }
     {
         self.is_sound();
         if let Err(error) = outcomes.reserve(steps.len()) {
