@@ -1,5 +1,6 @@
-//! The steps of the worker. Only `pull` takes memory, and only with an empty hand where spans wait: room for a whole
-//! batch. What an exporter itself takes is its own.
+//! The steps of the worker. Only `pull` needs memory, and only with an empty hand where spans wait: room for a whole
+//! batch. `close` writes a reason to each request that it drops, which is empty where there is no memory. What an
+//! exporter itself takes is its own.
 
 ghost use Rattle.std.specs.Prelude.{◌≡◌};
 
