@@ -48,6 +48,9 @@ slot_counts-le (Answered r) = omega arith
 pub counts_le : (xs : List Slot) → sum_by slot_counts xs ≤ length xs
 counts_le xs = omega (arith, sum_by-le slot_counts 1 xs (λ k d h. slot_counts-le _))
 
+-- what a step that changes one slot needs of the sums
+pub ruleset slot_sums = (counts_slot, asks_slot, counts_le)
+
 -- a slot that holds a span, with the span
 pub is_holding-slot : (o : Option Slot) → is_holding o ≡ true → (span : PlainSpanData) × (n : ℕ) × (o ≡ Some (Holding span n))
 is_holding-slot None h = cc

@@ -21,7 +21,7 @@ impl<E: SpanExporter> BatchMachine<E> {
     ghost use Rattle.otel_batch.specs.MovedSpans.{Keeps, Moved};
     ghost use Rattle.otel_batch.specs.declared.machine.step.Step.TheVariants as step;
 
-    #[tactic(auto, using(crate::proofs::SlotSums::counts_slot, crate::proofs::SlotSums::asks_slot, crate::proofs::SlotSums::counts_le,))]
+    #[tactic(auto, using(crate::proofs::SlotSums::slot_sums))]
     pub(super) fn offer(&mut self, p: usize, span: SpanData) -> Outcome
         ensures row { OfferRow (counts self.old) p span result (counts self.new) }
         ensures moved { Keeps self.old self.new }

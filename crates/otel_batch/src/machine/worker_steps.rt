@@ -71,7 +71,7 @@ impl<E: SpanExporter> BatchMachine<E> {
         Outcome::Cleared
     }
 
-    #[tactic(auto, using(crate::proofs::SlotSums::counts_slot, crate::proofs::SlotSums::asks_slot, crate::proofs::SlotSums::counts_le,))]
+    #[tactic(auto, using(crate::proofs::SlotSums::slot_sums))]
     pub(super) fn load(&mut self) -> Outcome
         ensures row { LoadRow (counts self.old) result (counts self.new) }
         ensures moved { Keeps self.old self.new }
