@@ -36,7 +36,7 @@ fn shows(
     }
 }
 
-/// Three spans of producer 0 behind a request of producer 1, and the drain of that request up to the first pull of its
+/// Four spans of producer 0 behind a request of producer 1, and the drain of that request up to the first pull of its
 /// second batch: whether that was refused its room.
 fn is_second_batch_refused(
     alloc: Global,
@@ -54,8 +54,11 @@ fn is_second_batch_refused(
         ("offer 0 c", "counted 3"),
         ("send 0", "accepted"),
         ("ask 0", "already asked"),
+        ("offer 0 d", "counted 4"),
+        ("send 0", "accepted"),
+        ("ask 0", "already asked"),
         ("take", request.1),
-        ("load", "loaded 3"),
+        ("load", "loaded 4"),
         ("pull", "pulled"),
         ("pull", "pulled"),
         ("hand", "handed over 2"),
@@ -69,8 +72,8 @@ fn is_second_batch_refused(
     }
 }
 
-/// Behind the refusal the first batch stays handed over, the rest waits, the answer says so and the machine stays open.
-/// What was posted before hands the rest over, and the same request made again finds nothing left.
+/// Behind the refusal the first batch stays handed over, the rest waits in its order, the answer says so and the machine
+/// stays open. What was posted before hands the rest over, and the same request made again finds nothing left.
 fn goes_on_behind_a_refusal(
     alloc: Global,
     queue: &mut BatchMachine<ExporterBox>,
@@ -81,15 +84,16 @@ fn goes_on_behind_a_refusal(
         ("collect 1", "collected Operation found no memory"),
     ];
     take_all(alloc, queue, &script)?;
-    let spans = "waiting [c] hand [] told [a,b]";
-    shows(alloc, queue, spans, "counter 1 dropped 0 open")?;
+    let spans = "waiting [c,d] hand [] told [a,b]";
+    shows(alloc, queue, spans, "counter 2 dropped 0 open")?;
     let script = [
         (request.0, "requested"),
         ("take", "took export"),
         ("clear", "cleared"),
-        ("load", "loaded 1"),
+        ("load", "loaded 2"),
         ("pull", "pulled"),
-        ("hand", "handed over 1"),
+        ("pull", "pulled"),
+        ("hand", "handed over 2"),
         ("subtract", "subtracted"),
         ("finish", "finished"),
         ("take", request.1),
@@ -107,7 +111,11 @@ fn drain_to_its_finish(
     if is_second_batch_refused(alloc, queue, request)? {
         goes_on_behind_a_refusal(alloc, queue, request)?;
     } else {
-        let script = [("hand", "handed over 1"), ("subtract", "subtracted")];
+        let script = [
+            ("pull", "pulled"),
+            ("hand", "handed over 2"),
+            ("subtract", "subtracted"),
+        ];
         take_all(alloc, queue, &script)?;
     }
     take_all(alloc, queue, &[("finish", "finished")])
@@ -119,7 +127,7 @@ fn a_flush_refused_its_room_leaves_the_rest_to_the_next(rt: HostRuntime) -> Resu
     let mut queue = machine(alloc, 4, 2, 2)?;
     drain_to_its_finish(alloc, &mut queue, ("flush 1", "took flush 1"))?;
     take_all(alloc, &mut queue, &[("collect 1", "collected ok")])?;
-    let spans = "waiting [] hand [] told [a,b] [c]";
+    let spans = "waiting [] hand [] told [a,b] [c,d]";
     shows(alloc, &queue, spans, "counter 0 dropped 0 open")
 }
 
@@ -130,6 +138,6 @@ fn a_shutdown_refused_its_room_leaves_the_machine_open(rt: HostRuntime) -> Resul
     drain_to_its_finish(alloc, &mut queue, ("shutdown 1", "took shutdown 1"))?;
     let script = [("close", "shut down"), ("collect 1", "collected ok")];
     take_all(alloc, &mut queue, &script)?;
-    let spans = "waiting [] hand [] told [a,b] [c]";
+    let spans = "waiting [] hand [] told [a,b] [c,d]";
     shows(alloc, &queue, spans, "counter 0 dropped 0 closed")
 }
