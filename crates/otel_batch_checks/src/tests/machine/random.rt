@@ -34,9 +34,9 @@ struct Ledger {
     /// How many spans are accounted for, and how many of them the last batch had.
     counter: u128,
     batch: usize,
-    /// The target of the drain that goes on, how many spans waited at its load, and what it did since.
+    /// The target of the drain that goes on, how many spans were accepted before its load, and what it did since.
     target: u128,
-    waited: usize,
+    owed: usize,
     drained: usize,
     steps: u128,
     /// An outcome was not what those before it demand.
@@ -66,7 +66,7 @@ impl Ledger {
             counter: 0,
             batch: 0,
             target: 0,
-            waited: 0,
+            owed: 0,
             drained: 0,
             steps: 0,
             wrong: false,
@@ -147,9 +147,10 @@ impl Ledger {
         self.wrong = self.wrong || self.steps > most;
     }
 
-    /// A drain has finished: it handed over at least what waited at its load.
+    /// A drain has finished, and no pull of it was refused its room: all that was accepted before its load was handed
+    /// over by now.
     fn note_finish(&mut self) {
-        self.wrong = self.wrong || self.drained < self.waited;
+        self.wrong = self.wrong || self.handed < self.owed;
     }
 
     fn note_worker(&mut self, outcome: &Outcome) {
@@ -157,7 +158,7 @@ impl Ledger {
             Outcome::Loaded(target) => {
                 self.wrong = self.wrong || *target != self.counter;
                 self.target = *target;
-                self.waited = self.waiting();
+                self.owed = self.accepted.len();
                 self.drained = 0;
                 self.steps = 0;
             }
@@ -312,7 +313,8 @@ fn list_agrees(words: &mut RandomIdGenerator, alloc: Global) -> Result<bool, All
     let batch_size = below(words, 4) as usize;
     let producers = (below(words, 3) as usize).saturating_add(1);
     let mut queue = machine(alloc, queue_size, batch_size, producers)?;
-    let mut ledger = Ledger::new(alloc, queue_size, batch_size, producers)?;
+    let cut_size = batch_size.min(queue_size);
+    let mut ledger = Ledger::new(alloc, queue_size, cut_size, producers)?;
     for moment in 0..200 {
         take_step(words, alloc, &mut queue, &mut ledger, moment)?;
     }
