@@ -62,7 +62,8 @@ pub(crate) fn attributes_within(
     joined_within(given, added, limit)
 }
 
-/// Two lists joined and cut at a limit, and how many items were left out.
+/// Two lists joined and cut at a limit, and how many items were left out. Where one is empty the other one comes back as
+/// it was made, with its room.
 fn joined_within<T: Drop>(
     mut front: Vec<T>,
     mut back: Vec<T>,
@@ -72,6 +73,10 @@ fn joined_within<T: Drop>(
     ensures left_out { IfOk result (λ answer. answer.1 ≡ left_out limit (front.items ++ back.items)) }
     ensures free { (front.items ≡ []) ⊎ (back.items ≡ []) → IsOk result }
 {
+    if back.is_empty() {
+        let left_out = cut(&mut front, limit);
+        return Ok((front, left_out));
+    }
     if front.is_empty() {
         let left_out = cut(&mut back, limit);
         return Ok((back, left_out));
