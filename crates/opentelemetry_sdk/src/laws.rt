@@ -31,6 +31,13 @@ pub fn starts_under_parents_make_children<P: SpanProcessor, S: ShouldSample, G: 
         → IsChild parent (span_of history).span_context }
 {}
 
+/// What a root hands down: where a span context agrees with it, so does each of a list of hops from there, be that one
+/// child alone, or one header passed on.
+pub fn hops_keep_agreement()
+    ensures { (root before : PlainSpanContext) (hops : List PlainSpanContext)
+        → Agrees root before → AreHops before hops → All (Agrees root) hops }
+{}
+
 /// A trace is sampled whole: over every list of hops each span context agrees with the root.
 pub fn hops_agree_with_their_root()
     ensures { (root : PlainSpanContext) (hops : List PlainSpanContext)
