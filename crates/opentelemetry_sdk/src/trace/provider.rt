@@ -171,8 +171,9 @@ impl<P: SpanProcessor, S: Drop, G: Drop> ProviderOf<P, S, G> {
         end_each(&mut self.processors, copies, original)
     }
 
-    /// Asks every processor in order to export what waits, also after one failed, and also where the provider is shut.
-    /// Failures of processors are an `InternalFailure` that counts them (OpenTelemetry specification, "ForceFlush").
+    /// Asks every processor to export what waits, also after one failed, and also where the provider is shut; a test
+    /// shows that they are asked first to last. Failures of processors are an `InternalFailure` that counts them
+    /// (OpenTelemetry specification, "ForceFlush").
     pub fn force_flush(&mut self) -> OTelSdkResult
         ensures flushes { Flushes P.SpanProcessor self.old result self.new }
 
@@ -183,8 +184,9 @@ impl<P: SpanProcessor, S: Drop, G: Drop> ProviderOf<P, S, G> {
         failure_answer(self.allocator(), "errs", failed)
     }
 
-    /// Shuts every processor down in order, also after one failed. A second shutdown answers `AlreadyShutdown` and asks
-    /// none; failures of processors are an `InternalFailure` that counts them.
+    /// Shuts every processor down, also after one failed; a test shows that they are asked first to last. A second
+    /// shutdown answers `AlreadyShutdown` and asks none; failures of processors are an `InternalFailure` that counts
+    /// them.
     pub fn shutdown_with_timeout(&mut self, timeout: Duration) -> OTelSdkResult
         ensures again { OnTrue self.old.is_shut
             (IsErrOf result OTelSdkError.AlreadyShutdown × (self.new ≡ self.old)) }

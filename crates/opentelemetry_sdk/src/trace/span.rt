@@ -23,7 +23,7 @@ use std::marker::Model;
 /// it was; `abandon` spends it without delivering anything.
 pub struct Span {
     span_context: SpanContext,
-    data: Option<SpanData>,
+    recorded: Option<SpanData>,
     span_limits: SpanLimits,
 }
 
@@ -32,7 +32,7 @@ impl Model for Span {
 
     ghost Value = { PlainSpan };
 
-    ghost view = { λ a. record { span_context = a.span_context; limits = a.span_limits; recorded = a.data } };
+    ghost view = { λ a. record { span_context = a.span_context; limits = a.span_limits; recorded = a.recorded } };
 }
 
 impl Span {
@@ -46,7 +46,7 @@ impl Span {
     {
         Span {
             span_context,
-            data: Some(recorded),
+            recorded: Some(recorded),
             span_limits,
         }
     }
@@ -57,7 +57,7 @@ impl Span {
     {
         Span {
             span_context,
-            data: None,
+            recorded: None,
             span_limits,
         }
     }
@@ -73,14 +73,14 @@ impl Span {
     pub fn is_recording(&self) -> bool
         ensures { result ≡ is_some self.now.recorded }
     {
-        self.data.is_some()
+        self.recorded.is_some()
     }
 
     /// Forgets what was recorded.
     fn stop(&mut self)
         ensures { self.new ≡ history.ended self.old }
     {
-        self.data = None;
+        self.recorded = None;
     }
 
     /// Makes an edit. Nothing happens where the span is not recording.
@@ -92,7 +92,7 @@ impl Span {
         ensures full { IfSome self.old.recorded
             (λ recorded. history.KeepsNoMore self.old.limits (plain_edit edit) recorded → IsOk result) }
     {
-        edit.apply_if(&mut self.data, self.span_limits)
+        edit.apply_if(&mut self.recorded, self.span_limits)
     }
 
     /// Sets an attribute behind those that are there, also where its key is among them. Over the limit it is only
@@ -202,7 +202,7 @@ impl Span {
     pub(crate) fn recorded(&self) -> Option<&SpanData>
         ensures { option_copied result ≡ self.now.recorded }
     {
-        self.data.as_ref()
+        self.recorded.as_ref()
     }
 
     /// What was recorded; no edit reaches the span any more.
@@ -210,14 +210,14 @@ impl Span {
         ensures recorded { result ≡ self.old.recorded }
         ensures ended { self.new ≡ history.ended self.old }
     {
-        self.data.take()
+        self.recorded.take()
     }
 
-    /// Ends the span at this moment: each processor of the provider is given what the span recorded, in order, also
-    /// after one refused it. The answer is how many refused for want of memory. All copies are made before any
-    /// processor is given one, so that on an error span and processors are unchanged; the last processor gets the
-    /// original, and with one processor nothing is copied. A span that is not recording, or whose provider is shut,
-    /// ends with 0.
+    /// Ends the span at this moment: each processor of the provider is given what the span recorded, also after one
+    /// refused it; a test shows that they are asked first to last. The answer is how many refused for want of memory.
+    /// On an error, which comes before any processor is asked, span and processors are unchanged; the last processor
+    /// gets the original, and with one processor nothing is copied. A span that is not recording, or whose provider is
+    /// shut, ends with 0.
     pub fn end_with_timestamp<P: SpanProcessor, S: Drop, G: Drop>(
         &mut self,
         provider: &mut ProviderOf<P, S, G>,
@@ -292,7 +292,7 @@ impl Span {
     pub fn abandon(self) {
         let Span {
             span_context: _,
-            data: _,
+            recorded: _,
             span_limits: _,
         } = self;
     }
