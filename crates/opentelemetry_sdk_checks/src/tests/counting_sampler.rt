@@ -1,10 +1,13 @@
-//! How often a start asks its sampler, which no clause says: it answers a question, and may count them.
+//! How often a start asks its sampler, and that one its delegate, which no clause says: it answers a question, and may
+//! count them.
 
-use super::fixtures::{provider_under, start_span};
-use opentelemetry::trace::{Link, SpanKind, TraceState};
+use super::fixtures::{context_of, provider_under, start_span};
+use opentelemetry::trace::{Link, SpanContext, SpanKind, TraceState};
 use opentelemetry::{Context, KeyValue, TraceId};
 use opentelemetry_sdk::trace::{ProviderOf, SimpleSpanProcessor};
-use otel_base::trace::{RandomIdGenerator, SamplingDecision, SamplingResult, ShouldSample};
+use otel_base::trace::{
+    RandomIdGenerator, SamplerOf, SamplingDecision, SamplingResult, ShouldSample,
+};
 use otel_batch::trace::InMemorySpanExporter;
 use std::alloc::{AllocError, Global};
 use std::cell::Cell;
@@ -35,16 +38,14 @@ impl ShouldSample for CountingSampler<'_> {
     }
 }
 
-type CountingProvider<'a> = ProviderOf<
-    SimpleSpanProcessor<InMemorySpanExporter>,
-    CountingSampler<'a>,
-    RandomIdGenerator,
->;
+type ProviderUnder<S> = ProviderOf<SimpleSpanProcessor<InMemorySpanExporter>, S, RandomIdGenerator>;
 
-fn start_in(
+type CountingProvider<'a> = ProviderUnder<CountingSampler<'a>>;
+
+fn start_in<S: ShouldSample>(
     alloc: Global,
     cx: &Context,
-    provider: &mut CountingProvider<'_>,
+    provider: &mut ProviderUnder<S>,
 ) -> Result<(), AllocError> {
     let span = start_span(alloc, cx, provider, 1)?;
     span.abandon();
@@ -78,5 +79,34 @@ fn a_sampler_is_asked_once_and_only_at_an_open_start(rt: HostRuntime) -> Result<
     let _ = provider.close();
     started?;
     assert_eq!(rt; asked.get(), 1);
+    Ok(())
+}
+
+/// How often the delegate of a sampler by parents is asked by a start in a context.
+fn delegate_asked_in(alloc: Global, cx: &Context) -> Result<u64, AllocError> {
+    let asked = Cell::new(0);
+    let counting = SamplerOf::Custom(CountingSampler { asked: &asked });
+    let sampler = SamplerOf::ParentBased(Box::new(alloc, counting)?);
+    let mut provider = provider_under(alloc, Vec::new(alloc), sampler);
+    let started = start_in(alloc, cx, &mut provider);
+    let _ = provider.close();
+    started?;
+    Ok(asked.get())
+}
+
+/// The same where this span context is active.
+fn delegate_asked_under(alloc: Global, parent: SpanContext) -> Result<u64, AllocError> {
+    let cx = Context::new().with_span_context(parent)?;
+    delegate_asked_in(alloc, &cx)
+}
+
+#[test]
+fn a_delegate_is_asked_only_where_no_span_is_active(rt: HostRuntime) -> Result<(), Fail> {
+    let alloc = rt.alloc();
+    let empty = SpanContext::empty_context();
+    assert_eq!(rt; delegate_asked_under(alloc, context_of(1)), Ok(0));
+    assert_eq!(rt; delegate_asked_under(alloc, context_of(0)), Ok(0));
+    assert_eq!(rt; delegate_asked_under(alloc, empty), Ok(0));
+    assert_eq!(rt; delegate_asked_in(alloc, &Context::new()), Ok(1));
     Ok(())
 }

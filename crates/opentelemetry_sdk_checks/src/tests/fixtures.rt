@@ -1,8 +1,10 @@
 //! Span data, processors and a provider that several tests use.
 
-use opentelemetry::trace::{SpanContext, SpanKind, Status, TraceState};
-use opentelemetry::{Context, InstrumentationScope, Moment, SpanId, TraceFlags, TraceId};
-use opentelemetry_sdk::trace::{ProviderOf, Span, SpanProcessor};
+use opentelemetry::trace::{SpanBuilder, SpanContext, SpanKind, Status, TraceState};
+use opentelemetry::{
+    Context, InstrumentationScope, Key, KeyValue, Moment, SpanId, TraceFlags, TraceId, Value,
+};
+use opentelemetry_sdk::trace::{ProviderOf, SdkTracer, Span, SpanProcessor};
 use otel_base::error::OTelSdkResult;
 use otel_base::resource::Resource;
 use otel_base::trace::{ConfigOf, RandomIdGenerator, Sampler, ShouldSample, SpanLimits};
@@ -134,6 +136,48 @@ pub(super) fn start_span<P: SpanProcessor, S: ShouldSample>(
 ) -> Result<Span, AllocError> {
     let tracer = provider.tracer(String::new(alloc))?;
     tracer.start_with_context(String::new(alloc), cx, provider, Moment(moment))
+}
+
+/// An attribute of this key.
+pub(super) fn attribute_of(key: &'static str) -> KeyValue {
+    KeyValue::new(Key::from_static_str(key), Value::Bool(true))
+}
+
+/// A builder with the attribute `given`.
+fn builder_of(alloc: Global, tracer: &SdkTracer) -> Result<SpanBuilder, AllocError> {
+    let attributes = vec![in alloc; attribute_of("given")]?;
+    Ok(
+        tracer
+            .span_builder(String::new(alloc))
+            .with_attributes(attributes),
+    )
+}
+
+/// Starts a span of that builder as a root.
+pub(super) fn start_given<P: SpanProcessor, S: ShouldSample>(
+    alloc: Global,
+    provider: &mut ProviderOf<P, S, RandomIdGenerator>,
+) -> Result<Span, AllocError> {
+    let tracer = provider.tracer(String::new(alloc))?;
+    let builder = builder_of(alloc, &tracer)?;
+    tracer.build_with_context(builder, &Context::new(), provider, Moment(1))
+}
+
+/// The keys of the attributes that a span has recorded, each with a comma behind it.
+pub(super) fn recorded_keys(alloc: Global, span: &Span) -> Result<String, AllocError> {
+    let mut keys = String::new(alloc);
+    if let Some(data) = span.exported_data()? {
+        push_keys(&mut keys, &data.attributes)?;
+    }
+    Ok(keys)
+}
+
+fn push_keys(keys: &mut String, attributes: &[KeyValue]) -> Result<(), AllocError> {
+    for attribute in attributes {
+        keys.push_str(attribute.key.as_str())?;
+        keys.push(',')?;
+    }
+    Ok(())
 }
 
 /// Ends a span at moment 9, and spends it. The answer is how many processors refused it.

@@ -16,11 +16,12 @@
 
 ghost use Rattle.std.specs.Prelude.{◌≡◌, []};
 
-use super::fixtures::span_data;
+use super::fixtures::{end_span, provider_over, span_data, start_span};
 use opentelemetry::Context;
-use opentelemetry_sdk::trace::{Span, SpanProcessor};
+use opentelemetry_sdk::trace::{ProviderOf, Span, SpanProcessor};
 use otel_base::error::OTelSdkResult;
 use otel_base::resource::Resource;
+use otel_base::trace::{RandomIdGenerator, Sampler};
 use otel_batch::trace::{InMemorySpanExporter, SpanData, SpanExporter};
 use std::alloc::{AllocError, Global};
 use std::mem;
@@ -152,5 +153,64 @@ fn a_full_queue_counts_what_it_drops(rt: HostRuntime) -> Result<(), Fail> {
     assert_eq!(rt; batches.len(), 1);
     assert_eq!(rt; batches[0].len(), 1);
     assert_eq!(rt; batches[0][0].start_time.0, 7);
+    Ok(())
+}
+
+type QueueingProvider = ProviderOf<
+    QueueingProcessor<InMemorySpanExporter>,
+    Sampler,
+    RandomIdGenerator,
+>;
+
+/// A provider over one queue.
+fn queueing_provider(alloc: Global) -> Result<QueueingProvider, AllocError> {
+    let mut processors = Vec::new(alloc);
+    processors.push(queue_of(alloc, 8))?;
+    Ok(provider_over(alloc, processors))
+}
+
+/// Starts a span at a moment and ends it. The answer is how many processors refused it.
+fn trace_one(
+    alloc: Global,
+    provider: &mut QueueingProvider,
+    moment: u64,
+) -> Result<usize, AllocError> {
+    let span = start_span(alloc, &Context::new(), provider, moment)?;
+    end_span(span, provider)
+}
+
+/// How many batches the queues of a provider have exported.
+fn batch_count(provider: &QueueingProvider) -> usize {
+    let mut count = 0;
+    for processor in provider.processors() {
+        count = processor.exporter.batches().len();
+    }
+    count
+}
+
+#[test]
+fn a_flush_of_its_provider_exports_the_ended_spans_in_one_batch(
+    rt: HostRuntime,
+) -> Result<(), Fail> {
+    let alloc = rt.alloc();
+    let mut provider = queueing_provider(alloc)?;
+    let ended = [
+        trace_one(alloc, &mut provider, 7),
+        trace_one(alloc, &mut provider, 8),
+    ];
+    let before = batch_count(&provider);
+    let flushed = provider.force_flush();
+    for processor in provider.processors() {
+        let batches = processor.exporter.batches();
+        assert_eq!(rt; batches.len(), 1);
+        assert_eq!(rt; batches[0].len(), 2);
+        assert_eq!(rt; batches[0][0].start_time.0, 7);
+        assert_eq!(rt; batches[0][1].start_time.0, 8);
+    }
+    let closed = provider.close();
+    assert_eq!(rt; ended, [Ok(0), Ok(0)]);
+    assert_eq!(rt; before, 0);
+    assert!(rt; flushed.is_ok());
+    assert!(rt; closed.is_ok());
     Ok(())
 }

@@ -1,10 +1,13 @@
 //! What a call that finds no memory leaves behind, and that the same call succeeds when it is made again. A sampler
-//! that refuses shows it of starts. Edits and ends want memory of the machine alone, which an ordinary run has:
-//! `rt try --test --fail-alloc N` has the Nth allocation refused.
+//! that refuses shows it of starts. Edits, ends, and starts whose builder and sampler both bring attributes want memory
+//! of the machine alone, which an ordinary run has: `rt try --test --fail-alloc N` has the Nth allocation refused.
 
-use super::fixtures::{provider_over, provider_under, start_span, three_writers};
+use super::fixtures::{
+    attribute_of, provider_over, provider_under, recorded_keys, start_given, start_span,
+    three_writers,
+};
 use opentelemetry::trace::{Event, Link, SpanContext, SpanKind, TraceState};
-use opentelemetry::{Context, Key, KeyValue, Moment, SpanId, TraceId, Value};
+use opentelemetry::{Context, KeyValue, Moment, SpanId, TraceId};
 use opentelemetry_sdk::trace::{ProviderOf, SimpleSpanProcessor, Span, SpanEdit, SpanProcessor};
 use otel_base::trace::{
     RandomIdGenerator, Sampler, SamplingDecision, SamplingResult, ShouldSample,
@@ -77,14 +80,85 @@ fn a_refused_start_tells_no_processor_and_succeeds_again(rt: HostRuntime) -> Res
     Ok(())
 }
 
+/// Samples every span, and adds an attribute.
+#[derive(Drop)]
+struct Adding {
+    alloc: Global,
+}
+
+impl ShouldSample for Adding {
+    fn should_sample(
+        &self,
+        _parent_context: Option<&Context>,
+        _trace_id: TraceId,
+        _name: &str,
+        _span_kind: &SpanKind,
+        _attributes: &[KeyValue],
+        _links: &[Link],
+    ) -> Result<SamplingResult, AllocError> {
+        Ok(SamplingResult {
+            decision: SamplingDecision::RecordAndSample,
+            attributes: Some(vec![in self.alloc; attribute_of("added")]?),
+            trace_state: TraceState::new(),
+        })
+    }
+}
+
+/// Starts a span of a builder that has an attribute. The answer is what then stands on the board, and the keys that the
+/// span recorded, where it started.
+fn start_keys<P: SpanProcessor, S: ShouldSample>(
+    alloc: Global,
+    provider: &mut ProviderOf<P, S, RandomIdGenerator>,
+    board: &Cell<u64>,
+) -> (u64, Option<String>) {
+    let started = start_given(alloc, provider);
+    let told = board.get();
+    let Ok(span) = started else {
+        return (told, None);
+    };
+    let keys = keys_of(alloc, &span);
+    span.abandon();
+    (told, keys)
+}
+
+/// The keys that a span recorded, also where the first look at them finds no memory.
+fn keys_of(alloc: Global, span: &Span) -> Option<String> {
+    match recorded_keys(alloc, span) {
+        Ok(keys) => Some(keys),
+        Err(_) => recorded_keys(alloc, span).ok(),
+    }
+}
+
+#[test]
+fn a_refused_start_of_a_list_that_grows_tells_no_processor_and_succeeds_again(
+    rt: HostRuntime,
+) -> Result<(), Fail> {
+    let alloc = rt.alloc();
+    let board = Cell::new(0);
+    let writers = three_writers(alloc, &board)?;
+    let mut provider = provider_under(alloc, writers, Adding { alloc });
+    let mut started = start_keys(alloc, &mut provider, &board);
+    let mut told_in_vain = 0;
+    if started.1.is_none() {
+        told_in_vain = started.0;
+        started = start_keys(alloc, &mut provider, &board);
+    }
+    let closed = provider.close();
+    let (told, keys) = started;
+    assert_eq!(rt; told_in_vain, 0);
+    assert_eq!(rt; told, 123);
+    assert_eq!(rt; keys.ok_or(AllocError)?.as_str(), "given,added,");
+    assert!(rt; closed.is_ok());
+    Ok(())
+}
+
 /// One edit of each kind that wants memory.
 fn edits_of_each_kind(alloc: Global) -> Result<Vec<SpanEdit>, AllocError> {
     Ok(vec![in alloc; one_attribute(), one_event(alloc), one_link(alloc)]?)
 }
 
 fn one_attribute() -> SpanEdit {
-    let attribute = KeyValue::new(Key::from_static_str("k"), Value::Bool(true));
-    SpanEdit::SetAttribute(attribute)
+    SpanEdit::SetAttribute(attribute_of("k"))
 }
 
 fn one_event(alloc: Global) -> SpanEdit {

@@ -1,9 +1,9 @@
 //! What becomes of a sampler's whole answer at a start: a span that is recorded and not sampled, one whose delegate
 //! decides alone, and a trace state of the sampler's own.
 
-use super::fixtures::{end_span, provider_under, start_span};
+use super::fixtures::{attribute_of, end_span, provider_under, recorded_keys, start_span};
 use opentelemetry::trace::{Link, SpanContext, SpanKind, TraceState};
-use opentelemetry::{Context, Key, KeyValue, SpanId, TraceFlags, TraceId, Value};
+use opentelemetry::{Context, KeyValue, SpanId, TraceFlags, TraceId};
 use opentelemetry_sdk::trace::{ProcessorOf, ProviderOf, SimpleSpanProcessor, Span, SpanProcessor};
 use otel_base::error::OTelSdkResult;
 use otel_base::trace::{
@@ -30,11 +30,9 @@ impl ShouldSample for Recording {
         _attributes: &[KeyValue],
         _links: &[Link],
     ) -> Result<SamplingResult, AllocError> {
-        let mut attributes = Vec::new(self.alloc);
-        attributes.push(KeyValue::new(Key::from_static_str("marked"), Value::Bool(true)))?;
         Ok(SamplingResult {
             decision: SamplingDecision::RecordOnly,
-            attributes: Some(attributes),
+            attributes: Some(vec![in self.alloc; attribute_of("marked")]?),
             trace_state: edited_state(self.alloc, parent_context)?,
         })
     }
@@ -100,8 +98,8 @@ fn parent_of(alloc: Global, flags: u8) -> Result<Context, Fail> {
     Ok(Context::new().with_span_context(parent)?)
 }
 
-/// Starts a span in a context, ends it, and shows its flags, how many attributes it recorded, and what `foo` is in its
-/// trace state.
+/// Starts a span in a context, ends it, and shows its flags, the keys of the attributes that it recorded, and what `foo`
+/// is in its trace state.
 fn started_in(
     alloc: Global,
     cx: &Context,
@@ -120,10 +118,11 @@ fn shown(alloc: Global, span: &Span) -> Result<String, AllocError> {
         .trace_state()
         .get("foo")
         .unwrap_or("none");
-    match span.exported_data()? {
-        Some(data) => format!(in alloc; "{flags} {} {foo}", data.attributes.len()),
-        None => format!(in alloc; "{flags} dropped {foo}"),
+    if !span.is_recording() {
+        return format!(in alloc; "{flags} dropped {foo}");
     }
+    let keys = recorded_keys(alloc, span)?;
+    format!(in alloc; "{flags} [{keys}] {foo}")
 }
 
 /// Starts a root and a child of it: what is shown of both.
@@ -166,7 +165,7 @@ fn a_recorded_span_keeps_its_parents_other_flags_and_is_not_exported(
     let started = started_in(alloc, &parent, &mut provider);
     let (exported, given) = delivered(&provider);
     let _ = provider.close();
-    assert_eq!(rt; started?.as_str(), "fe 1 notbar");
+    assert_eq!(rt; started?.as_str(), "fe [marked,] notbar");
     assert_eq!(rt; exported, 0);
     assert_eq!(rt; given, 1);
     Ok(())
@@ -180,7 +179,7 @@ fn a_delegate_decides_on_a_root_alone(rt: HostRuntime) -> Result<(), Fail> {
     let started = root_and_child(alloc, &mut provider);
     let _ = provider.close();
     let (root, child) = started?;
-    assert_eq!(rt; root.as_str(), "00 0 none");
+    assert_eq!(rt; root.as_str(), "00 [] none");
     assert_eq!(rt; child.as_str(), "00 dropped none");
     Ok(())
 }

@@ -43,14 +43,23 @@ fn starts_ends_flushes_and_shutdowns_ask_each_processor_in_its_turn(
     Ok(())
 }
 
-/// A processor whose flush fails or does not.
+/// A processor whose flush and shutdown both fail, or neither.
 #[derive(Drop)]
-struct Flushing {
+struct Failing {
     alloc: Global,
     fails: bool,
 }
 
-impl SpanProcessor for Flushing {
+impl Failing {
+    fn answer(&self) -> OTelSdkResult {
+        if self.fails {
+            return Err(OTelSdkError::InternalFailure(String::new(self.alloc)));
+        }
+        Ok(())
+    }
+}
+
+impl SpanProcessor for Failing {
     fn on_start(&mut self, _span: &mut Span, _cx: &Context) {}
 
     fn on_end(&mut self, _span: SpanData) -> Result<(), AllocError> {
@@ -58,31 +67,37 @@ impl SpanProcessor for Flushing {
     }
 
     fn force_flush(&mut self) -> OTelSdkResult {
-        if self.fails {
-            return Err(OTelSdkError::InternalFailure(String::new(self.alloc)));
-        }
-        Ok(())
+        self.answer()
     }
 
     fn shutdown_with_timeout(&mut self, _timeout: Duration) -> OTelSdkResult {
-        Ok(())
+        self.answer()
     }
 }
 
-#[test]
-fn a_flush_says_how_many_processors_failed(rt: HostRuntime) -> Result<(), Fail> {
-    let alloc = rt.alloc();
+/// Three processors, of which the first and the last fail.
+fn two_of_three_fail(alloc: Global) -> Result<Vec<Failing>, AllocError> {
     let mut processors = Vec::new(alloc);
-    for fails in [false, true] {
-        processors.push(Flushing { alloc, fails })?;
+    for fails in [true, false, true] {
+        processors.push(Failing { alloc, fails })?;
     }
-    let mut provider = provider_over(rt.alloc(), processors);
+    Ok(processors)
+}
+
+#[test]
+fn a_flush_and_a_shutdown_say_how_many_processors_failed(rt: HostRuntime) -> Result<(), Fail> {
+    let alloc = rt.alloc();
+    let mut provider = provider_over(alloc, two_of_three_fail(alloc)?);
     let flushed = provider.force_flush();
+    let shut = provider.shutdown();
     let closed = provider.close();
-    let Err(OTelSdkError::InternalFailure(reason)) = flushed else {
-        return Err(Fail::new("another answer"));
-    };
-    assert_eq!(rt; reason.as_str(), "errs: 1");
+    for (answer, text) in [
+        (flushed, "Operation failed: errs: 2"),
+        (shut, "Operation failed: Shutdown errors: 2"),
+    ] {
+        let error = answer.err().ok_or(AllocError)?;
+        assert_eq!(rt; error.to_string(alloc)?.as_str(), text);
+    }
     assert!(rt; closed.is_ok());
     Ok(())
 }

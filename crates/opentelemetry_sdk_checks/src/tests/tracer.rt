@@ -1,10 +1,8 @@
-use super::fixtures::provider_under;
-use opentelemetry::trace::{SpanBuilder, SpanContext};
-use opentelemetry::{Context, Key, KeyValue, Moment, SpanId, TraceId, Value};
-use opentelemetry_sdk::trace::{
-    ProcessorOf, ProviderOf, SdkTracer, SimpleSpanProcessor, Span, SpanProcessor,
-};
-use otel_base::error::{OTelSdkError, OTelSdkResult};
+use super::fixtures::{attribute_of, provider_under, recorded_keys, start_given};
+use opentelemetry::trace::SpanContext;
+use opentelemetry::{Context, Moment, SpanId, TraceId};
+use opentelemetry_sdk::trace::{ProcessorOf, ProviderOf, SimpleSpanProcessor, Span, SpanProcessor};
+use otel_base::error::OTelSdkResult;
 use otel_base::trace::{RandomIdGenerator, Sampler};
 use otel_batch::trace::{InMemorySpanExporter, SpanData};
 use std::alloc::{AllocError, Global};
@@ -14,11 +12,9 @@ use std::time::Duration;
 /// The first span id under seed 0.
 const FIRST_SPAN_ID: u64 = 0x5317_5d61_490b_23df;
 
-/// A processor that stamps each span that starts, and refuses what it is asked otherwise.
+/// A processor that stamps each span that starts, and refuses each that ends.
 #[derive(Drop)]
-struct Stamping {
-    alloc: Global,
-}
+struct Stamping;
 
 impl Stamping {
     ghost use Rattle.opentelemetry_sdk.specs.SpanHistory.{IsEdited};
@@ -26,8 +22,7 @@ impl Stamping {
     fn stamp(&self, span: &mut Span) -> Result<(), AllocError>
         ensures { IsEdited span.old span.new }
     {
-        let key = Key::from_static_str("stamp");
-        span.set_attribute(KeyValue::new(key, Value::Bool(true)))
+        span.set_attribute(attribute_of("stamp"))
     }
 }
 
@@ -41,11 +36,11 @@ impl SpanProcessor for Stamping {
     }
 
     fn force_flush(&mut self) -> OTelSdkResult {
-        Err(OTelSdkError::Timeout(Duration::from_secs(1)))
+        Ok(())
     }
 
-    fn shutdown_with_timeout(&mut self, timeout: Duration) -> OTelSdkResult {
-        Err(OTelSdkError::Timeout(timeout))
+    fn shutdown_with_timeout(&mut self, _timeout: Duration) -> OTelSdkResult {
+        Ok(())
     }
 }
 
@@ -57,7 +52,7 @@ type TestProvider = ProviderOf<TestProcessor, Sampler, RandomIdGenerator>;
 fn two_processors(alloc: Global) -> Result<Vec<TestProcessor>, AllocError> {
     let exporter = InMemorySpanExporter::new(alloc);
     let mut processors = Vec::new(alloc);
-    processors.push(ProcessorOf::Custom(Stamping { alloc }))?;
+    processors.push(ProcessorOf::Custom(Stamping))?;
     processors.push(ProcessorOf::Simple(SimpleSpanProcessor::new(alloc, exporter)))?;
     Ok(processors)
 }
@@ -145,41 +140,6 @@ fn the_child_of_the_empty_span_context_is_dropped(rt: HostRuntime) -> Result<(),
     Ok(())
 }
 
-/// A builder with an attribute.
-fn builder_of(alloc: Global, tracer: &SdkTracer) -> Result<SpanBuilder, AllocError> {
-    let given = KeyValue::new(Key::from_static_str("given"), Value::Bool(true));
-    let attributes = vec![in alloc; given]?;
-    Ok(
-        tracer
-            .span_builder(String::new(alloc))
-            .with_attributes(attributes),
-    )
-}
-
-/// Starts a span of that builder.
-fn started_of(alloc: Global, provider: &mut TestProvider) -> Result<Span, AllocError> {
-    let tracer = provider.tracer(String::new(alloc))?;
-    let builder = builder_of(alloc, &tracer)?;
-    tracer.build_with_context(builder, &Context::new(), provider, Moment(1))
-}
-
-/// The keys of the attributes that a span has recorded, each with a comma behind it.
-fn recorded_keys(alloc: Global, span: &Span) -> Result<String, AllocError> {
-    let mut keys = String::new(alloc);
-    if let Some(data) = span.exported_data()? {
-        push_keys(&mut keys, &data.attributes)?;
-    }
-    Ok(keys)
-}
-
-fn push_keys(keys: &mut String, attributes: &[KeyValue]) -> Result<(), AllocError> {
-    for attribute in attributes {
-        keys.push_str(attribute.key.as_str())?;
-        keys.push(',')?;
-    }
-    Ok(())
-}
-
 /// What two ends of a span answer.
 fn end_twice(mut span: Span, provider: &mut TestProvider) -> [Result<usize, AllocError>; 2] {
     let first = span.end_with_timestamp(provider, Moment(2));
@@ -188,50 +148,58 @@ fn end_twice(mut span: Span, provider: &mut TestProvider) -> [Result<usize, Allo
     [first, second]
 }
 
-/// What a started span has recorded, and what two ends of it answer.
-fn ended_twice(
-    alloc: Global,
-    provider: &mut TestProvider,
-) -> Result<(String, [Result<usize, AllocError>; 2]), AllocError> {
-    let span = started_of(alloc, provider)?;
+/// What a span of a builder with an attribute has recorded.
+fn keys_of_a_start(alloc: Global, provider: &mut TestProvider) -> Result<String, AllocError> {
+    let span = start_given(alloc, provider)?;
     let keys = recorded_keys(alloc, &span);
-    let answers = end_twice(span, provider);
-    Ok((keys?, answers))
-}
-
-/// How many batches the processors exported into memory.
-fn batch_count(provider: &TestProvider) -> usize {
-    let mut count = 0;
-    for processor in provider.processors() {
-        if let ProcessorOf::Simple(simple) = processor {
-            count = simple.exporter().batches().len();
-        }
-    }
-    count
+    span.abandon();
+    keys
 }
 
 #[test]
-fn what_one_processor_stamps_and_refuses_the_other_exports_once(
+fn what_a_processor_stamps_at_a_start_is_recorded_behind_the_builders(
     rt: HostRuntime,
 ) -> Result<(), Fail> {
     let alloc = rt.alloc();
     let mut provider = provider_of_two(alloc)?;
-    let ended = ended_twice(alloc, &mut provider);
-    let batches = batch_count(&provider);
-    let flushed = provider.force_flush();
-    let shut = provider.shutdown();
-    let closed = provider.close();
-    let (keys, answers) = ended?;
-    assert_eq!(rt; keys.as_str(), "given,stamp,");
-    assert_eq!(rt; answers, [Ok(1), Ok(0)]);
-    assert_eq!(rt; batches, 1);
-    for (answer, text) in [
-        (flushed, "Operation failed: errs: 1"),
-        (shut, "Operation failed: Shutdown errors: 1"),
-    ] {
-        let error = answer.err().ok_or(AllocError)?;
-        assert_eq!(rt; error.to_string(alloc)?.as_str(), text);
+    let keys = keys_of_a_start(alloc, &mut provider);
+    let _ = provider.close();
+    assert_eq!(rt; keys?.as_str(), "given,stamp,");
+    Ok(())
+}
+
+/// What two ends of a started span answer.
+fn started_and_ended_twice(
+    alloc: Global,
+    provider: &mut TestProvider,
+) -> Result<[Result<usize, AllocError>; 2], AllocError> {
+    let span = start_given(alloc, provider)?;
+    Ok(end_twice(span, provider))
+}
+
+/// Whose the one span of the one batch is that was exported into memory.
+fn exported_span_id(provider: &TestProvider) -> Option<SpanId> {
+    for processor in provider.processors() {
+        if let ProcessorOf::Simple(simple) = processor {
+            let batches = simple.exporter().batches();
+            if batches.len() == 1 && batches[0].len() == 1 {
+                return Some(batches[0][0].span_context.span_id());
+            }
+        }
     }
-    assert!(rt; closed.is_ok());
+    None
+}
+
+#[test]
+fn a_span_that_one_processor_refuses_is_exported_once_by_the_other(
+    rt: HostRuntime,
+) -> Result<(), Fail> {
+    let alloc = rt.alloc();
+    let mut provider = provider_of_two(alloc)?;
+    let ended = started_and_ended_twice(alloc, &mut provider);
+    let exported = exported_span_id(&provider);
+    let _ = provider.close();
+    assert_eq!(rt; ended?, [Ok(1), Ok(0)]);
+    assert_eq!(rt; exported, Some(SpanId::from(FIRST_SPAN_ID)));
     Ok(())
 }
