@@ -442,8 +442,24 @@ fn shown_or_refused(replies: &[Reply]) -> usize {
     count
 }
 
-/// `rt try --test --fail-alloc N` has the Nth allocation refused: then the command that wanted it is run again. Each of
-/// both ended spans is shown by one reply, or its batch is counted as refused or lost.
+/// Whether an answer is that of the command of this line, or that of one which was carried out already, and lost its
+/// reply.
+fn answers_line(line: usize, answer: &Answer) -> bool {
+    match line {
+        0..=2 => matches!(answer, Answer::Started(_) | Answer::SpanExists),
+        6 => matches!(answer, Answer::Headers { .. }),
+        7 | 8 => matches!(answer, Answer::Ended(_) | Answer::Ignored),
+        10 => matches!(
+            answer,
+            Answer::Ok | Answer::Failed(OTelSdkError::AlreadyShutdown)
+        ),
+        _ => matches!(answer, Answer::Ok),
+    }
+}
+
+/// `rt try --test --fail-alloc N` has the Nth allocation refused: then the command that wanted it is run again, and
+/// answers as it would have, or as a second one of its kind does. Each of both ended spans is shown by one reply, or its
+/// batch is counted as refused or lost.
 #[test]
 fn a_run_that_found_no_memory_succeeds_again(rt: HostRuntime) -> Result<(), Fail> {
     let alloc = rt.alloc();
@@ -456,6 +472,9 @@ fn a_run_that_found_no_memory_succeeds_again(rt: HostRuntime) -> Result<(), Fail
     let _ = session.close(&mut Vec::new(alloc));
     assert_eq!(rt; run, Ok(()));
     assert_eq!(rt; replies.len(), LIVES.len());
+    for (line, reply) in replies.iter().enumerate() {
+        assert!(rt; answers_line(line, &reply.answer));
+    }
     let shown_or_refused = shown_or_refused(&replies) as u64;
     assert_eq!(rt; shown_or_refused.saturating_add(lost), 2);
     Ok(())

@@ -1,4 +1,4 @@
-use Rattle.std.proofs.Common.{refl, sym, ◌∙◌, ap, subst, string_bytes, is_some, ℕ, List, Option, inl, inr}
+use Rattle.std.proofs.Common.{sym, ◌∙◌, ap, subst, string_bytes, is_some, ℕ, List, Option, inl, inr}
 use Rattle.opentelemetry_sdk.specs.SpanHistory.{PlainSpan}
 use Rattle.otel_session.specs.OpenSpans.{PutsSpan, StartsNamed, named, start_answer}
 use Rattle.otel_session.proofs.NamedLemmas.{is_free, may_start_free, may_start_taken, starts_taken}
