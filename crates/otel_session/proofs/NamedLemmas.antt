@@ -82,4 +82,4 @@ none_from_test (Some x) b e h = cc
 
 -- a name of which a test says that it is free
 pub is_free : (spans : NamedSpans) (name text : List ℕ) (b : Bool) → text ≡ name → b ≡ is_some (named spans text) → b ≡ false → named spans name ≡ None
-is_free spans name text b same test no = none_from_test (named spans name) b (test ∙ ap (λ (n : List ℕ). is_some (named spans n)) same) no
+is_free spans name text b same test fails = none_from_test (named spans name) b (test ∙ ap (λ (n : List ℕ). is_some (named spans n)) same) fails
