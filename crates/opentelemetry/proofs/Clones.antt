@@ -1,5 +1,5 @@
 -- Lists whose elements are clones of each other.
-use Rattle.std.proofs.Common.{◌≡◌, List, [], ◌∷◌, map, refl, Result, Ok, Err, OnErr}
+use Rattle.std.proofs.Common.{◌≡◌, List, [], ◌∷◌, map, refl}
 use Rattle.std.specs.List.{AllZip}
 
 -- elements that look alike through f make equal lists through f
@@ -8,8 +8,3 @@ map_all_zip f [] [] h = refl
 map_all_zip f [] (y ∷ ys) h = absurd h
 map_all_zip f (x ∷ xs) [] h = absurd h
 map_all_zip f (x ∷ xs) (y ∷ ys) h = let others : map f ys ≡ map f xs = map_all_zip f xs ys h.1 in let first : f y ≡ f x = h.0 in cc
-
--- what holds whatever the answer holds on an error
-pub always_on_err : {T E P : Type 0} (r : Result T E) → P → OnErr r P
-always_on_err (Ok _) p = tt
-always_on_err (Err _) p = p

@@ -60,7 +60,18 @@ AllLowerNames-insert_entry (e ∷ es) k v low all = elim (string_cmp k e.0) as (
   | Greater ↦ (all.0, AllLowerNames-insert_entry es k v low all.1)
 ]
 
-equal_from : (r : Ordering) → is_eq r ≡ true → r ≡ Equal
+-- names that stay in lower case, whatever texts they have
+pub AllLowerNames-same_keys : {Y X : Type 0} (es fs : List (String Y × X)) → keys_of fs ≡ keys_of es → AllLowerNames es → AllLowerNames fs
+AllLowerNames-same_keys [] [] same all = all
+AllLowerNames-same_keys [] (f ∷ fs) same all = cc
+AllLowerNames-same_keys (e ∷ es) [] same all = tt
+AllLowerNames-same_keys (e ∷ es) (f ∷ fs) same all =
+    let first : f.0 ≡ e.0 = cc in
+    let rest : keys_of fs ≡ keys_of es = cc in
+    (subst (λ k. IsLowerName (string_bytes k)) (sym first) all.0, AllLowerNames-same_keys es fs rest all.1)
+
+-- what compares as equal is Equal
+pub equal_from : (r : Ordering) → is_eq r ≡ true → r ≡ Equal
 equal_from Less h = cc
 equal_from Equal h = refl
 equal_from Greater h = cc
@@ -68,6 +79,27 @@ equal_from Greater h = cc
 false_unless : (b : Bool) → (b ≡ true → ⊥) → b ≡ false
 false_unless true h = absurd (h refl)
 false_unless false h = refl
+
+found_first : (q name : List ℕ) (b : Bool) → is_at (slice_cmp nat_cmp q) name ≡ b → IsLowerName name → (b ≡ false → IsLowerName q) → IsLowerName q
+found_first q name true at low rest = subst IsLowerName (sym (slice_cmp-IsAntisymmetric nat_cmp-IsAntisymmetric q name (equal_from _ at))) low
+found_first q name false at low rest = rest refl
+
+-- what is found among names in lower case is in lower case
+pub IsLowerName-found : {Y X : Type 0} (es : List (String Y × X)) (q : List ℕ) → AllLowerNames es → IsSome (lookup (is_at (λ k. slice_cmp nat_cmp q (string_bytes k))) es) → IsLowerName q
+IsLowerName-found [] q low found = cc
+IsLowerName-found (e ∷ es) q low found = found_first q (string_bytes e.0) (is_at (slice_cmp nat_cmp q) (string_bytes e.0)) refl low.0
+    (λ apart. IsLowerName-found es q low.1 (subst (λ b. IsSome (cond b (Some e.1) (lookup (is_at (λ k. slice_cmp nat_cmp q (string_bytes k))) es))) apart found))
+
+some_or_none : {A : Type 0} (o : Option A) → o ≡ None → IsSome o → ⊥
+some_or_none None none some = cc
+some_or_none (Some x) none some = cc
+
+-- a name in lower case that is not found has no text
+pub no_text : {Y Z : Type 0} (m : BTreeMap (String Y) (String Z)) (carrier : TextMap) (name : List ℕ) → text_map m ≡ carrier → IsLowerName name → get_by_text m name ≡ None → IsSome (texts_of carrier name) → ⊥
+no_text m carrier name seen low absent there =
+    some_or_none (texts_of carrier name)
+    (ap (λ (c : TextMap). texts_of c name) (sym seen) ∙ ap (fin.get (text_map m)) low ∙ get-text_map m name ∙ ap (option_map string_bytes) absent)
+    there
 
 -- what a carrier has after a text was put under a name in lower case
 pub texts_of-insert : (m n : TextMap) (key text : List ℕ) → n ≡ fin.insert m (str_to_ascii_lowercase key) text → SetsText (texts_of m) (texts_of n) key text

@@ -1,5 +1,5 @@
 -- What contracts see of the values: numbers, lists, and texts as their bytes. A plain value lies nowhere in memory.
-use Rattle.std.specs.Prelude.{ℕ, ℤ, Bool, List, Option}
+use Rattle.std.specs.Prelude.{ℕ, ℤ, Bool, List, [], Option, None}
 use Rattle.opentelemetry.specs.Baggage.{PlainBaggage}
 
 -- a value of an attribute: a truth value, an integer, a text, or a list of one of these
@@ -22,6 +22,10 @@ pub record PlainScope : Type 0 where
   pub version : Option (List ℕ)
   pub schema_url : Option (List ℕ)
   pub attributes : List PlainKeyValue
+
+-- the library of a name alone
+abbrev pub scope_named : List ℕ → PlainScope
+scope_named name = record { name = name; version = None; schema_url = None; attributes = [] }
 
 -- the identity of a span, and what travels with it
 pub record PlainSpanContext : Type 0 where

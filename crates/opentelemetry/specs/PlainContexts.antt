@@ -1,5 +1,5 @@
 -- What contracts see of a context's parts.
-use Rattle.std.specs.Prelude.{Bool, true, false, [], Option, Some, None, unwrap_or}
+use Rattle.std.specs.Prelude.{◌≡◌, Bool, true, false, [], Option, Some, None, unwrap_or}
 use Rattle.std.specs.Arc.{arc_value}
 use Rattle.std.specs.declared.sync.Arc.{Arc}
 use Rattle.opentelemetry.specs.Baggage.{PlainBaggage}
@@ -22,3 +22,11 @@ current_span_context cx = unwrap_or cx.span_context empty_span_context
 abbrev pub shared_baggage : {D : Type 0} → Option (Arc PlainBaggage D) → PlainBaggage
 shared_baggage None = []
 shared_baggage (Some shared) = arc_value shared
+
+-- the context in which no span is active, nothing is handed on and nothing is suppressed
+abbrev pub root_cx : PlainContext
+root_cx = record { span_context = None; baggage = []; telemetry_suppressed = false }
+
+-- neither a trace state nor a baggage, which copies share
+abbrev pub SharesNothing : PlainContext → Type 0
+SharesNothing cx = ((current_span_context cx).trace_state ≡ []) × (cx.baggage ≡ [])

@@ -149,7 +149,7 @@ impl Eq for KeyValueMetadata {
 }
 
 /// Entries in order of insertion, within the limits.
-#[derive(Clone, Debug, Drop)]
+#[derive(Debug, Drop)]
 pub struct Baggage {
     entries: Option<Entries>,
 }
@@ -204,7 +204,7 @@ impl Baggage {
         ensures err { OnErr result (self.new ≡ self.old) }
     {
         let none = String::new(*name.allocator());
-        insert_in(&mut self.entries, name, value, BaggageMetadata(none))
+        self.insert_with_metadata(name, value, BaggageMetadata(none))
     }
 
     /// Puts a name with its value and metadata: in the place of the entry of that name, else last. Gives back what it
@@ -223,7 +223,15 @@ impl Baggage {
         ensures memory { IsErrOf result BaggageError.Memory → entry_at self.old (string_bytes name) ≡ None }
         ensures err { OnErr result (self.new ≡ self.old) }
     {
-        insert_in(&mut self.entries, name, value, metadata)
+        match &mut self.entries {
+            Some(kept) => kept.insert(name, value, metadata),
+            None => {
+                let mut kept = Entries::new(*name.allocator());
+                let replaced = kept.insert(name, value, metadata)?;
+                self.entries = Some(kept);
+                Ok(replaced)
+            }
+        }
     }
 
     pub fn get(&self, name: &str) -> Option<&str>
@@ -249,7 +257,10 @@ impl Baggage {
         ensures left { self.new ≡ without_entry self.old name.now }
         ensures removed { handed_out result ≡ found_at self.old name.now }
     {
-        remove_in(&mut self.entries, name)
+        match &mut self.entries {
+            Some(kept) => kept.remove(name),
+            None => None,
+        }
     }
 
     pub fn len(&self) -> usize
@@ -280,6 +291,21 @@ impl Baggage {
     }
 }
 
+impl Clone for Baggage {
+    ghost use Rattle.std.specs.Prelude.{◌≡◌, []};
+
+    ghost is_clone = { λ baggage copy. copy ≡ baggage };
+
+    ghost is_infallible = { λ baggage. baggage ≡ [] };
+
+    /// Copies the entries. A clone of the empty baggage takes no memory.
+    fn clone(&self) -> Result<Baggage, AllocError> {
+        Ok(Baggage {
+            entries: self.entries.clone()?,
+        })
+    }
+}
+
 impl PartialEq for Baggage {
     ghost use Rattle.std.specs.Prelude.{◌≡◌, ◌↔◌, IsTrue};
     ghost use Rattle.opentelemetry.specs.Same.{partial_equivalence_from_decides};
@@ -307,43 +333,4 @@ impl Eq for Baggage {
     ghost use Rattle.opentelemetry.specs.SameParts.{same_baggage, same_baggage_decides};
 
     ghost laws = { equivalence_from_decides same_baggage same_baggage_decides };
-}
-
-/// As `Baggage::insert_with_metadata`.
-fn insert_in(
-    entries: &mut Option<Entries>,
-    name: String,
-    value: String,
-    metadata: BaggageMetadata,
-) -> Result<Option<(String, BaggageMetadata)>, BaggageError>
-    ensures ok { OnOk result (entries_or_none entries.new
-        ≡ with_entry (entries_or_none entries.old) (entry_of (string_bytes name) (string_bytes value) metadata)) }
-    ensures replaced { IfOk result (λ old.
-        handed_out old ≡ found_at (entries_or_none entries.old) (string_bytes name)) }
-    ensures limit { IsErrOf result BaggageError.Limit
-        ↔ BreaksLimit (entries_or_none entries.old) (entry_of (string_bytes name) (string_bytes value) metadata) }
-    ensures memory { IsErrOf result BaggageError.Memory
-        → entry_at (entries_or_none entries.old) (string_bytes name) ≡ None }
-    ensures err { OnErr result (entries_or_none entries.new ≡ entries_or_none entries.old) }
-{
-    match entries {
-        Some(kept) => kept.insert(name, value, metadata),
-        None => {
-            let mut kept = Entries::new(*name.allocator());
-            let replaced = kept.insert(name, value, metadata)?;
-            *entries = Some(kept);
-            Ok(replaced)
-        }
-    }
-}
-
-/// As `Baggage::remove`.
-fn remove_in(entries: &mut Option<Entries>, name: &str) -> Option<(String, BaggageMetadata)>
-    ensures left { entries_or_none entries.new ≡ without_entry (entries_or_none entries.old) name.now }
-    ensures removed { handed_out result ≡ found_at (entries_or_none entries.old) name.now }
-{
-    match entries {
-        Some(kept) => kept.remove(name),
-        None => None,
-    }
 }

@@ -4,6 +4,7 @@
 ghost use Rattle.std.specs.Prelude.{◌≡◌, ◌↔◌, None, Some, [], string_bytes, IfOk, IsOk, IsTrue};
 ghost use Rattle.std.specs.Option.{option_copied};
 ghost use Rattle.std.specs.Cow.{cow_str_bytes, IsBorrowedStr};
+ghost use Rattle.opentelemetry.specs.Plain.{scope_named};
 ghost use Rattle.opentelemetry.specs.PlainValues.{plain_value};
 
 mod display;
@@ -49,7 +50,7 @@ impl Key {
     }
 }
 
-// A copy of a key's text. A constant stays one, which takes no memory.
+/// A copy of a key's text. A constant stays one, which takes no memory.
 fn copy_of(text: &CowStr<'static, Global>) -> Result<CowStr<'static, Global>, AllocError>
     ensures ok { IfOk result (λ copy. cow_str_bytes copy ≡ cow_str_bytes text.now) }
     ensures free { IsBorrowedStr text.now → IsOk result }
@@ -404,7 +405,7 @@ impl Model for InstrumentationScopeBuilder {
 impl InstrumentationScope {
     /// Begins a scope with a name and nothing else.
     pub fn builder(alloc: Global, name: String) -> InstrumentationScopeBuilder
-        ensures { result ≡ record { name = string_bytes name; version = None; schema_url = None; attributes = [] } }
+        ensures { result ≡ scope_named (string_bytes name) }
     {
         InstrumentationScopeBuilder {
             parts: ScopeParts {

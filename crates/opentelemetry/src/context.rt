@@ -1,8 +1,8 @@
 //! What a new span starts in: the span that is active there, what an application hands on, and whether telemetry is
 //! suppressed. A context does not change: each `with_` makes another one. Contexts share what they have in common.
 
-ghost use Rattle.std.specs.Prelude.{◌≡◌, ◌↔◌, [], None, Some, true, false, IsTrue, IsSome, IfOk};
-ghost use Rattle.opentelemetry.specs.PlainContexts.{current_span_context};
+ghost use Rattle.std.specs.Prelude.{◌≡◌, ◌↔◌, [], Some, true, IsTrue, IsSome, IsOk, IfOk};
+ghost use Rattle.opentelemetry.specs.PlainContexts.{SharesNothing, current_span_context, root_cx, shared_baggage};
 
 use crate::baggage::Baggage;
 use crate::trace::SpanContext;
@@ -40,7 +40,7 @@ impl Model for Context {
 impl Context {
     /// The context in which no span is active, nothing is handed on and nothing is suppressed.
     pub fn new() -> Context
-        ensures { result ≡ record { span_context = None; baggage = []; telemetry_suppressed = false } }
+        ensures { result ≡ root_cx }
     {
         Context {
             span_context: SpanContext::empty_context(),
@@ -51,14 +51,16 @@ impl Context {
         }
     }
 
-    /// The context with the span of this span context active, even where that is the empty one.
+    /// The context with the span of this span context active, even where that is the empty one. `AllocError` where
+    /// the baggage cannot be shared for want of memory.
     pub fn with_span_context(&self, span_context: SpanContext) -> Result<Context, AllocError>
-        ensures { IfOk result (λ cx. cx ≡ record self.now { span_context = Some span_context }) }
+        ensures ok { IfOk result (λ cx. cx ≡ record self.now { span_context = Some span_context }) }
+        ensures free { self.now.baggage ≡ [] → IsOk result }
     {
         Ok(Context {
             span_context,
             has_active_span: true,
-            baggage: self.baggage.clone()?,
+            baggage: share(&self.baggage)?,
             no_baggage: Baggage::empty(),
             telemetry_suppressed: self.telemetry_suppressed,
         })
@@ -66,7 +68,8 @@ impl Context {
 
     /// As `with_span_context`: whether the span is remote stands in the span context.
     pub fn with_remote_span_context(&self, span_context: SpanContext) -> Result<Context, AllocError>
-        ensures { IfOk result (λ cx. cx ≡ record self.now { span_context = Some span_context }) }
+        ensures ok { IfOk result (λ cx. cx ≡ record self.now { span_context = Some span_context }) }
+        ensures free { self.now.baggage ≡ [] → IsOk result }
     {
         self.with_span_context(span_context)
     }
@@ -84,12 +87,15 @@ impl Context {
         self.has_active_span
     }
 
+    /// The context that hands on this baggage in place of its own. `AllocError` where there is no memory for the copy
+    /// that contexts share; the empty baggage needs none.
     pub fn with_baggage(&self, baggage: Baggage) -> Result<Context, AllocError>
-        ensures { IfOk result (λ cx. cx ≡ record self.now { baggage = baggage }) }
+        ensures ok { IfOk result (λ cx. cx ≡ record self.now { baggage = baggage }) }
+        ensures free { (current_span_context self.now).trace_state ≡ [] → baggage ≡ [] → IsOk result }
     {
         let shared = match baggage.allocator() {
-            Some(alloc) => Some(Arc::new(alloc, baggage)?),
-            None => None,
+            Some(alloc) if !baggage.is_empty() => Some(Arc::new(alloc, baggage)?),
+            _ => None,
         };
         Ok(Context {
             span_context: self.span_context.clone()?,
@@ -109,9 +115,10 @@ impl Context {
         }
     }
 
-    /// The context in which no telemetry is recorded.
+    /// The context in which no telemetry is recorded. `AllocError` as at a clone.
     pub fn with_telemetry_suppressed(&self) -> Result<Context, AllocError>
-        ensures { IfOk result (λ cx. cx ≡ record self.now { telemetry_suppressed = true }) }
+        ensures ok { IfOk result (λ cx. cx ≡ record self.now { telemetry_suppressed = true }) }
+        ensures free { SharesNothing self.now → IsOk result }
     {
         let mut cx = self.clone()?;
         cx.telemetry_suppressed = true;
@@ -127,16 +134,31 @@ impl Context {
 
 impl Clone for Context {
     ghost use Rattle.std.specs.Prelude.{◌≡◌};
+    ghost use Rattle.opentelemetry.specs.PlainContexts.{SharesNothing};
 
     ghost is_clone = { λ cx copy. copy ≡ cx };
 
+    ghost is_infallible = { SharesNothing };
+
+    /// A clone shares the trace state and the baggage. Where there is neither it takes no memory.
     fn clone(&self) -> Result<Context, AllocError> {
         Ok(Context {
             span_context: self.span_context.clone()?,
             has_active_span: self.has_active_span,
-            baggage: self.baggage.clone()?,
+            baggage: share(&self.baggage)?,
             no_baggage: Baggage::empty(),
             telemetry_suppressed: self.telemetry_suppressed,
         })
+    }
+}
+
+/// The same baggage once more. The empty one is not shared, and takes no memory.
+fn share(baggage: &Option<Arc<Baggage>>) -> Result<Option<Arc<Baggage>>, AllocError>
+    ensures ok { IfOk result (λ copy. shared_baggage copy ≡ shared_baggage baggage.now) }
+    ensures free { shared_baggage baggage.now ≡ [] → IsOk result }
+{
+    match baggage {
+        Some(shared) if !shared.is_empty() => Ok(Some(shared.clone()?)),
+        _ => Ok(None),
     }
 }

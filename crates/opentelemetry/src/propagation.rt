@@ -19,7 +19,8 @@ use std::marker::Model;
 pub trait Injector {
     ghost texts: { Self → Texts };
 
-    /// Gives a name a text, in place of the one that it had.
+    /// Gives a name a text, in place of the one that it had. `AllocError` where there is no memory for it: then each
+    /// name has the text that it had.
     fn set(&mut self, key: &str, value: String) -> Result<(), AllocError>
         ensures ok { OnOk result (SetsText (texts self.old) (texts self.new) key.now (string_bytes value)) }
         ensures err { OnErr result (SameTexts (texts self.old) (texts self.new)) };
@@ -52,7 +53,8 @@ pub trait TextMapPropagator {
 
     ghost field_names: { Self → List (List ℕ) };
 
-    /// Sets the texts of the context in the carrier. `alloc` says where they lie.
+    /// Sets the texts of the context in the carrier. `alloc` says where they lie. `AllocError` where there is no memory
+    /// for a text, or the carrier finds none; texts that were set before stay.
     fn inject_context<I: Injector>(
         &self,
         alloc: Global,
@@ -61,7 +63,8 @@ pub trait TextMapPropagator {
     ) -> Result<(), AllocError>
         ensures { inject_gives self.now cx.now (I.texts injector.old) result (I.texts injector.new) };
 
-    /// The context with what the carrier's texts say in place of what it had. `alloc` says where that lies.
+    /// The context with what the carrier's texts say in place of what it had. `alloc` says where that lies. A text that
+    /// is not valid says nothing; `AllocError` comes from want of memory alone.
     fn extract_with_context<X: Extractor>(
         &self,
         alloc: Global,

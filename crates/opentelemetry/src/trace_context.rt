@@ -1,4 +1,4 @@
-//! The ids of traces and spans, and the flags that travel with them (W3C Trace Context, section 2.2.2). Each is a
+//! The ids of traces and spans, and the flags that travel with them (W3C Trace Context, section 3.2.2). Each is a
 //! number to contracts; an id is invalid exactly where it is zero.
 
 ghost use Rattle.std.specs.Prelude.{◌≡◌, ℕ, ◌+◌, ◌*◌, ◌/◌, ◌%◌, ◌^◌, ◌<◌, ◌≤◌};
@@ -16,7 +16,7 @@ use thiserror::Error;
 #[error("an id is written in exactly as many digits 0-9 a-f as it has half bytes")]
 pub struct ParseIdError;
 
-// The number that a lower-case digit stands for.
+/// The number that a lower-case digit stands for.
 fn digit_value(byte: u8) -> Option<u8>
     ensures value { IfSome result (λ d. (d < 16) × (byte ≡ hex_digit d)) }
     ensures only { IsSome result ↔ IsHexDigit byte }

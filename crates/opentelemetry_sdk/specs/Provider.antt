@@ -1,6 +1,5 @@
 -- What contracts see of a provider, and what a shutdown does to it.
-use Rattle.std.specs.Prelude.{◌≡◌, ℕ, ◌↔◌, Bool, true, List, [], None, Result, IsOk, IfErr}
-use Rattle.opentelemetry.specs.Plain.{PlainScope}
+use Rattle.std.specs.Prelude.{◌≡◌, ℕ, ◌↔◌, Bool, true, List, Result, IsOk, IfErr}
 use Rattle.otel_base.specs.declared.error.OTelSdkError.{OTelSdkError}
 use Rattle.otel_base.specs.declared.error.OTelSdkError.TheVariants as errors
 use Rattle.otel_base.specs.declared.trace.span_limit.SpanLimits.{SpanLimits}
@@ -15,10 +14,6 @@ pub record ProviderState (P S G : Type 0) : Type 0 where
   pub id_generator : G
   pub span_limits : SpanLimits
   pub is_shut : Bool
-
--- the library of a name alone
-abbrev pub scope_named : List ℕ → PlainScope
-scope_named name = record { name = name; version = None; schema_url = None; attributes = [] }
 
 -- a failure of the SDK that is not one of the named ones
 abbrev pub IsInternalFailure : OTelSdkError → Type 0

@@ -14,10 +14,6 @@ use Rattle.opentelemetry_sdk.specs.SpanHistory.{PlainSpan, SpanStart, SpanHistor
 use Rattle.opentelemetry_sdk.specs.Provider.{ProviderState}
 use Rattle.opentelemetry_sdk.specs.declared.trace.span_processor.SpanProcessor.{Ghosts}
 
--- the context in which no span is active
-abbrev pub root_cx : PlainContext
-root_cx = record { span_context = None; baggage = []; telemetry_suppressed = false }
-
 -- what the sampler is asked of a span that is to start in a context
 abbrev pub start_question : PlainContext → ℕ → PlainSpanBuilder → SamplingQuestion
 start_question cx trace_id builder = record {

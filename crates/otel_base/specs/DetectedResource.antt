@@ -2,8 +2,9 @@
 -- "SDK-provided resource attributes", and semantic conventions, "Telemetry SDK").
 use Rattle.std.specs.Prelude.{◌≡◌, ℕ, List, [], ◌∷◌, ◌++◌, Option, Some, None, unwrap_or, option_and_then, codes}
 use Rattle.std.specs.Option.{option_map, option_or}
-use Rattle.std.specs.FinMap.{get}
+use Rattle.std.specs.FinMap.{empty, get}
 use Rattle.opentelemetry.specs.Plain.{PlainValue, text, PlainKeyValue}
+use Rattle.otel_base.specs.declared.resource.detector.ResourceDetector.{Ghosts}
 use Rattle.otel_base.specs.AttributesString.{IsAttributesString}
 use Rattle.otel_base.specs.Resource.{PlainResource, non_empty, attribute_of, service_named, service_name_key}
 use Rattle.otel_base.specs.Resource.{of_attributes, attributes_of, all_attributes}
@@ -30,6 +31,11 @@ IsEnvResource given resource =
 -- the string gives no attribute
 abbrev pub GivesNoAttribute : Option (List ℕ) → Type 0
 GivesNoAttribute given = ReadsAs given []
+
+-- a detector that needs no memory, and sees no attribute
+pub record SeesNothing {D : Type 0} (calls : Ghosts D) (detector : D) : Type 0 where
+  pub infallible : calls.is_infallible detector
+  pub nothing : (seen : PlainResource) → calls.detects detector seen → seen.attributes ≡ empty
 
 -- the name of a service that nobody named, by its program where that is known
 abbrev pub unknown_service : Option (List ℕ) → PlainValue

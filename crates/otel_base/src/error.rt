@@ -94,7 +94,7 @@ impl DurationUnit {
     }
 }
 
-// Writes the duration in the largest unit of which it holds a whole one, as `Debug` of `Duration` does.
+/// Writes the duration in the largest unit of which it holds a whole one, as `Debug` of `Duration` does.
 fn write_duration<W: fmt::Write>(f: &mut fmt::Formatter<W>, duration: Duration) -> fmt::Result
     ensures { WritesOnOk W.write_str_gives f.old result (printed.duration_text duration) f.new }
 {
@@ -128,7 +128,7 @@ fn write_in_unit<W: fmt::Write>(
     f.write_str(unit.symbol())
 }
 
-// Writes digit after digit until nothing remains, so that no zero stands at the end.
+/// Writes digit after digit until nothing remains, so that no zero stands at the end.
 fn write_fraction<W: fmt::Write>(
     f: &mut fmt::Formatter<W>,
     remainder: u32,

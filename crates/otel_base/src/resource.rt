@@ -2,12 +2,12 @@
 //! (OpenTelemetry specification, "Resource SDK"). A resource never changes; a builder merges descriptions into one.
 //! Where two of them have a key, the one merged last has the word.
 
-ghost use Rattle.std.specs.Prelude.{◌≡◌, ◌≢◌, ◌↔◌, List, [], ◌∷◌, map, IfOk, IfSome, IsOk, IsTrue, string_bytes};
+ghost use Rattle.std.specs.Prelude.{◌≡◌, ◌≢◌, ◌↔◌, All, List, [], ◌∷◌, map, IfOk, IfSome, IsOk, IsTrue, string_bytes};
 ghost use Rattle.std.specs.Option.{option_map};
 ghost use Rattle.std.specs.FinMap as fin;
 ghost use Rattle.otel_base.specs.Resource as meaning;
 ghost use Rattle.otel_base.specs.Resource.{PlainResource, NeedsNoMemory, by_key};
-ghost use Rattle.otel_base.specs.DetectedResource.{IsDetected};
+ghost use Rattle.otel_base.specs.DetectedResource.{IsDetected, SeesNothing};
 ghost use Rattle.std.specs.List.{AllZip};
 ghost use Rattle.opentelemetry.specs.PlainValues.{plain_value};
 
@@ -361,8 +361,8 @@ impl ResourceBuilder {
         ResourceBuilder::of_parts(alloc, parts)
     }
 
-    /// Merges the attributes of the detected resource over the builder's. Its schema is lost. Where the
-    /// detector needs no memory and sees no attribute, none is needed here.
+    /// Merges the attributes of the detected resource over the builder's. Its schema is lost. `AllocError` where the
+    /// detector or the merge finds no memory; the merge of a resource without attributes needs none.
     pub fn with_detector(
         self,
         detector: Box<dyn ResourceDetector>,
@@ -370,22 +370,14 @@ impl ResourceBuilder {
         ensures ok { IfOk result (λ built. (seen : PlainResource)
             × ⟦<Box<dyn ResourceDetector> as ResourceDetector>⟧.detects detector seen
             × (built ≡ meaning.merge self (meaning.of_attributes seen.attributes))) }
-        ensures free { ⟦<Box<dyn ResourceDetector> as ResourceDetector>⟧.is_infallible detector
-            → ((seen : PlainResource) → ⟦<Box<dyn ResourceDetector> as ResourceDetector>⟧.detects detector seen
-            → seen.attributes ≡ fin.empty)
-            → IsOk result }
+        ensures free { SeesNothing ⟦<Box<dyn ResourceDetector> as ResourceDetector>⟧ detector → IsOk result }
     {
         let seen = detector.detect()?;
-        if seen.is_empty() {
-            return Ok(self);
-        }
-        let ResourceBuilder { resource, alloc } = self;
-        let parts = resource.into_parts(alloc)?.with_attributes_of(alloc, seen)?;
-        ResourceBuilder::of_parts(alloc, parts)
+        self.with_seen(seen)
     }
 
     /// Merges the attributes of the detected resources over the builder's, later ones winning. Their schemas are
-    /// lost.
+    /// lost. `AllocError` as for each detector by itself.
     pub fn with_detectors(
         self,
         detectors: &[Box<dyn ResourceDetector>],
@@ -393,14 +385,10 @@ impl ResourceBuilder {
         ensures ok { IfOk result (λ built. (seen : List PlainResource)
             × AllZip ⟦<Box<dyn ResourceDetector> as ResourceDetector>⟧.detects detectors.now seen
             × (built ≡ meaning.merge self (meaning.of_attributes (meaning.all_attributes seen)))) }
-        ensures free { detectors.now ≡ [] → IsOk result }
+        ensures free { All (SeesNothing ⟦<Box<dyn ResourceDetector> as ResourceDetector>⟧) detectors.now
+            → IsOk result }
     {
-        if detectors.is_empty() {
-            return Ok(self);
-        }
-        let ResourceBuilder { resource, alloc } = self;
-        let parts = with_detected(alloc, resource.into_parts(alloc)?, detectors)?;
-        ResourceBuilder::of_parts(alloc, parts)
+        with_detected(self, detectors)
     }
 
     /// The resource.
@@ -408,6 +396,19 @@ impl ResourceBuilder {
         ensures { result ≡ self }
     {
         self.resource
+    }
+
+    /// Merges the attributes of a resource over the builder's.
+    fn with_seen(self, seen: Resource) -> Result<ResourceBuilder, AllocError>
+        ensures ok { IfOk result (λ built. built ≡ meaning.merge self (meaning.of_attributes seen.attributes)) }
+        ensures free { seen.attributes ≡ fin.empty → IsOk result }
+    {
+        if seen.is_empty() {
+            return Ok(self);
+        }
+        let ResourceBuilder { resource, alloc } = self;
+        let parts = resource.into_parts(alloc)?.with_attributes_of(alloc, seen)?;
+        ResourceBuilder::of_parts(alloc, parts)
     }
 
     fn of_parts(alloc: Global, parts: ResourceParts) -> Result<ResourceBuilder, AllocError>
@@ -419,7 +420,7 @@ impl ResourceBuilder {
 }
 
 impl Resource {
-    // One that says nothing needs no memory.
+    /// One that says nothing needs no memory.
     fn of_parts(alloc: Global, parts: ResourceParts) -> Result<Resource, AllocError>
         ensures ok { IfOk result (λ resource. resource ≡ parts) }
         ensures free { parts ≡ meaning.empty_resource → IsOk result }
@@ -432,7 +433,7 @@ impl Resource {
         })
     }
 
-    // A resource with these attributes and no schema.
+    /// A resource with these attributes and no schema.
     fn of_attributes(
         alloc: Global,
         attributes: BTreeMap<Key, Value>,
@@ -443,7 +444,7 @@ impl Resource {
         Resource::of_parts(alloc, ResourceParts::of_attributes(alloc, attributes))
     }
 
-    // What it says, as a value of its own: moved where nobody shares it, and else copied.
+    /// What it says, as a value of its own: moved where nobody shares it, and else copied.
     fn into_parts(self, alloc: Global) -> Result<ResourceParts, AllocError>
         ensures { IfOk result (λ parts. parts ≡ self) }
     {
@@ -477,7 +478,7 @@ impl ResourceParts {
         }
     }
 
-    // Merges the pairs over these.
+    /// Merges the pairs over these.
     fn with_pairs(self, pairs: Vec<KeyValue>) -> Result<ResourceParts, AllocError>
         ensures { IfOk result (λ parts. parts ≡ meaning.with_pairs self pairs.items) }
     {
@@ -487,7 +488,7 @@ impl ResourceParts {
         })
     }
 
-    // Merges the attributes of a resource over these; its schema is lost.
+    /// Merges the attributes of a resource over these; its schema is lost.
     fn with_attributes_of(self, alloc: Global, seen: Resource) -> Result<ResourceParts, AllocError>
         ensures { IfOk result (λ parts. parts ≡ meaning.merge self (meaning.of_attributes seen.attributes)) }
     {
@@ -498,7 +499,7 @@ impl ResourceParts {
         })
     }
 
-    // Merges the right parts over these.
+    /// Merges the right parts over these.
     fn merge(self, alloc: Global, right: ResourceParts) -> Result<ResourceParts, AllocError>
         ensures { IfOk result (λ parts. parts ≡ meaning.merge self right) }
     {
@@ -510,21 +511,21 @@ impl ResourceParts {
 }
 
 fn with_detected<D: ResourceDetector>(
-    alloc: Global,
-    mut parts: ResourceParts,
+    mut builder: ResourceBuilder,
     detectors: &[D],
-) -> Result<ResourceParts, AllocError>
-    ensures { IfOk result (λ all. (seen : List PlainResource) × AllZip D.detects detectors.now seen
-        × (all ≡ meaning.merge parts (meaning.of_attributes (meaning.all_attributes seen)))) }
+) -> Result<ResourceBuilder, AllocError>
+    ensures ok { IfOk result (λ built. (seen : List PlainResource) × AllZip D.detects detectors.now seen
+        × (built ≡ meaning.merge builder (meaning.of_attributes (meaning.all_attributes seen)))) }
+    ensures free { All (SeesNothing D.ResourceDetector) detectors.now → IsOk result }
 {
     for detector in detectors {
         let seen = detector.detect()?;
-        parts = parts.with_attributes_of(alloc, seen)?;
+        builder = builder.with_seen(seen)?;
     }
-    Ok(parts)
+    Ok(builder)
 }
 
-// One empty schema gives the other, equal ones stay, and different ones give the empty one.
+/// One empty schema gives the other, equal ones stay, and different ones give the empty one.
 fn merged_schema(alloc: Global, left: String, right: String) -> String
     ensures { string_bytes result ≡ meaning.merged_schema (string_bytes left) (string_bytes right) }
 {

@@ -74,7 +74,8 @@ pub fn runs_bound_drains<E: SpanExporter>()
 /// The target of a drain is at least what waited at its load, and at most the size of the queue and the number of
 /// producers.
 pub fn targets_cover_what_waits()
-    ensures covers { (s t : Counts) (n : ℕ) → IsSound s → Permitted s step.Load (outcome.Loaded n) t → s.waiting ≤ n }
+    ensures covers { (s t : Counts) (n : ℕ) → IsSound s → Permitted s step.Load (outcome.Loaded n) t
+        → s.waiting ≤ n }
     ensures fits { (s t : Counts) (n : ℕ) → IsSound s → Permitted s step.Load (outcome.Loaded n) t
         → n ≤ s.control.queue_size + length s.control.slots }
 {}

@@ -1,11 +1,6 @@
 -- Clauses that speak of one case of a result.
 use Rattle.std.proofs.Common.{◌≡◌, true, false, Result, Ok, Err, IfOk, OnOk, OnErr}
 
--- what always holds holds on an error
-pub always_on_err : {T E : Type 0} {P : Type 0} (r : Result T E) → P → OnErr r P
-always_on_err (Ok _) p = tt
-always_on_err (Err _) p = p
-
 -- what follows on Ok
 pub if_ok_map : {T E : Type 0} {A B : T → Type 0} (r : Result T E) → ((x : T) → A x → B x) → IfOk r A → IfOk r B
 if_ok_map (Ok x) f h = f x h

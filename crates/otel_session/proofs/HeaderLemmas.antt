@@ -5,13 +5,12 @@ use Rattle.std.specs.FinMap as fin
 use Rattle.std.specs.Ordering.{nat_cmp}
 use Rattle.std.specs.Cmp.Lexicographic.{slice_cmp}
 use Rattle.std.specs.Str.{str_to_ascii_lowercase}
-use Rattle.opentelemetry.specs.PlainContexts.{current_span_context}
+use Rattle.opentelemetry.specs.PlainContexts.{current_span_context, root_cx}
 use Rattle.opentelemetry.specs.Carrier.{Texts, IsOtherName, SetsText}
 use Rattle.opentelemetry.specs.TextMap.{TextMap, texts_of}
 use Rattle.opentelemetry.specs.Plain.{PlainContext}
 use Rattle.opentelemetry.specs.Tracestate.{tracestate_text}
 use Rattle.otel_base.specs.Traceparent.{ExtractsTraceContext, InjectsTraceContext, IsTraceparent, IsValid, SaysState, header_text, traceparent_field, traceparent_of, tracestate_field}
-use Rattle.opentelemetry_sdk.specs.Starting.{root_cx}
 use Rattle.otel_session.specs.Headers.{SaysContext}
 
 -- a span context is valid or not

@@ -10,7 +10,7 @@ use Rattle.opentelemetry_sdk.specs.SpanHistory.{PlainSpan, SpanHistory, begun, o
 use Rattle.otel_base.specs.declared.trace.sampler.ShouldSample as sampling
 use Rattle.otel_base.specs.declared.trace.id_generator.IdGenerator as drawing
 use Rattle.opentelemetry_sdk.specs.Provider.{Flushes, ProviderState, ShutsDown}
-use Rattle.opentelemetry_sdk.specs.Starting.{root_cx}
+use Rattle.opentelemetry.specs.PlainContexts.{root_cx}
 use Rattle.opentelemetry_sdk.specs.Deliveries.{EachFollows}
 use Rattle.opentelemetry_sdk.specs.Ending.{end_delivers}
 use Rattle.opentelemetry_sdk.proofs.Following.{EachFollows-same, delivered_follows}

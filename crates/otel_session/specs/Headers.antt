@@ -3,7 +3,7 @@ use Rattle.std.specs.Prelude.{◌≡◌, ℕ, List, Some, string_bytes}
 use Rattle.opentelemetry.specs.Plain.{PlainContext, PlainSpanContext}
 use Rattle.opentelemetry.specs.Tracestate.{tracestate_text}
 use Rattle.otel_base.specs.Traceparent.{IsTraceparent, IsValid, traceparent_of}
-use Rattle.opentelemetry_sdk.specs.Starting.{root_cx}
+use Rattle.opentelemetry.specs.PlainContexts.{root_cx}
 use Rattle.otel_session.specs.declared.reply.Answer.{Answer}
 use Rattle.otel_session.specs.declared.reply.Answer.TheVariants as answers
 

@@ -4,7 +4,8 @@
 use Rattle.std.specs.Prelude.{◌≡◌, ◌≢◌, ℕ, List, [], ◌∷◌, ◌++◌, Option, Some, None, map, take, drop, slice_get, IsFalse, false, Result, Ok, Err, MatchBool, if◌then◌else◌, ◌⊎◌, ◌≤◌, length, codes}
 use Rattle.std.specs.List.{flat_map}
 use Rattle.std.specs.Option.{option_map, option_map_or}
-use Rattle.opentelemetry.specs.Plain.{PlainContext, PlainScope, PlainSpanContext, text}
+use Rattle.opentelemetry.specs.Plain.{PlainContext, PlainScope, PlainSpanContext, scope_named, text}
+use Rattle.opentelemetry.specs.PlainContexts.{root_cx}
 use Rattle.opentelemetry.specs.PlainSpanBuilder.{named_builder}
 use Rattle.otel_base.specs.declared.error.OTelSdkError.{OTelSdkError}
 use Rattle.otel_base.specs.declared.error.OTelSdkError.TheVariants as errors
@@ -14,8 +15,8 @@ use Rattle.otel_batch.specs.PlainSpanData.{PlainSpanData, spans_in}
 use Rattle.opentelemetry_sdk.specs.SpanHistory.{SpanHistory, begun, over, SpanStart, Edit, set_attribute, add_event, set_status, data_of, span_of}
 use Rattle.opentelemetry_sdk.specs.Deliveries.{Delivery, EachFollows}
 use Rattle.opentelemetry_sdk.specs.Hops.{GoesByParents}
-use Rattle.opentelemetry_sdk.specs.Provider.{Flushes, ProviderState, ShutsDown, scope_named}
-use Rattle.opentelemetry_sdk.specs.Starting.{Starts, root_cx}
+use Rattle.opentelemetry_sdk.specs.Provider.{Flushes, ProviderState, ShutsDown}
+use Rattle.opentelemetry_sdk.specs.Starting.{Starts}
 use Rattle.opentelemetry_sdk.specs.Ending.{Delivers, end_delivers}
 use Rattle.opentelemetry_sdk.specs.declared.trace.span_processor.SpanProcessor.{Ghosts}
 use Rattle.otel_session.specs.declared.exported.KeepsBatches as keeping

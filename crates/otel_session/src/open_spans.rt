@@ -3,7 +3,7 @@
 ghost use Rattle.std.specs.Prelude.{◌≡◌, [], None, IfOk, OnOk, OnErr, is_some, string_bytes, map, if◌then◌else◌};
 ghost use Rattle.std.specs.Option.{option_map};
 ghost use Rattle.opentelemetry_sdk.specs.SpanEdits.{plain_edit};
-ghost use Rattle.opentelemetry_sdk.specs.Starting.{root_cx};
+ghost use Rattle.opentelemetry.specs.PlainContexts.{root_cx};
 ghost use Rattle.otel_session.specs.Headers.{child_cx};
 ghost use Rattle.otel_session.specs.OpenSpans.{
   ChildMayStart,

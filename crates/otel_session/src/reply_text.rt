@@ -3,7 +3,7 @@
 
 ghost use Rattle.std.specs.Prelude.{◌≡◌, ◌++◌, ◌∷◌, [], IfOk, IsOk, OnOk, OnErr, string_bytes};
 ghost use Rattle.std.specs.List.{flat_map};
-ghost use Rattle.opentelemetry.specs.Text.{Appends};
+ghost use Rattle.opentelemetry.specs.Text.{TextGrows};
 ghost use Rattle.opentelemetry.specs.PlainValues.{plain_status};
 ghost use Rattle.otel_base.specs.Traceparent.{context_text};
 ghost use Rattle.otel_session.specs.AnswerText.{answer_line};
@@ -18,7 +18,7 @@ use std::fmt::Write;
 
 /// `unset`, `ok`, or `error` and the description in parentheses.
 fn push_status(text: &mut String, status: &Status) -> Result<(), AllocError>
-    ensures { OnOk result (Appends text.old (status_text (plain_status status.now)) text.new) }
+    ensures { OnOk result (TextGrows text.old (status_text (plain_status status.now)) text.new) }
 {
     match status {
         Status::Unset => text.push_str("unset"),
@@ -29,7 +29,7 @@ fn push_status(text: &mut String, status: &Status) -> Result<(), AllocError>
 
 /// The event's name, `@` and its moment.
 fn push_event(text: &mut String, event: &Event) -> Result<(), AllocError>
-    ensures { OnOk result (Appends text.old (event_text event.now) text.new) }
+    ensures { OnOk result (TextGrows text.old (event_text event.now) text.new) }
 {
     let name = event.name.as_str();
     let moment = event.timestamp.0;
@@ -38,14 +38,14 @@ fn push_event(text: &mut String, event: &Event) -> Result<(), AllocError>
 
 /// A comma before each item but the first.
 pub(crate) fn push_comma(text: &mut String, i: usize) -> Result<(), AllocError>
-    ensures { OnOk result (Appends text.old (comma_before i) text.new) }
+    ensures { OnOk result (TextGrows text.old (comma_before i) text.new) }
 {
     if i == 0 { Ok(()) } else { text.push(',') }
 }
 
 /// The attribute's key, `=` and its value.
 fn push_attribute(text: &mut String, attribute: &KeyValue) -> Result<(), AllocError>
-    ensures { OnOk result (Appends text.old (attribute_text attribute.now) text.new) }
+    ensures { OnOk result (TextGrows text.old (attribute_text attribute.now) text.new) }
 {
     let key = attribute.key.as_str();
     let value = &attribute.value;
@@ -54,7 +54,7 @@ fn push_attribute(text: &mut String, attribute: &KeyValue) -> Result<(), AllocEr
 
 /// The attributes in brackets.
 fn push_attribute_list(text: &mut String, attributes: &[KeyValue]) -> Result<(), AllocError>
-    ensures { OnOk result (Appends text.old (listed attribute_text attributes.now) text.new) }
+    ensures { OnOk result (TextGrows text.old (listed attribute_text attributes.now) text.new) }
 {
     text.push('[')?;
     for (i, attribute) in attributes.iter().enumerate() {
@@ -67,7 +67,7 @@ fn push_attribute_list(text: &mut String, attributes: &[KeyValue]) -> Result<(),
 /// The attributes that were kept, and how many were not.
 #[tactic(auto, using(std::proofs::lemmas::List::append_assoc))]
 fn push_attributes(text: &mut String, span: &SpanData) -> Result<(), AllocError>
-    ensures { OnOk result (Appends text.old (attributes_text span.now) text.new) }
+    ensures { OnOk result (TextGrows text.old (attributes_text span.now) text.new) }
 {
     let dropped = span.dropped_attributes_count;
     text.push_str("attrs ")?;
@@ -77,7 +77,7 @@ fn push_attributes(text: &mut String, span: &SpanData) -> Result<(), AllocError>
 
 /// The events in brackets.
 fn push_event_list(text: &mut String, events: &[Event]) -> Result<(), AllocError>
-    ensures { OnOk result (Appends text.old (listed event_text events.now) text.new) }
+    ensures { OnOk result (TextGrows text.old (listed event_text events.now) text.new) }
 {
     text.push('[')?;
     for (i, event) in events.iter().enumerate() {
@@ -90,7 +90,7 @@ fn push_event_list(text: &mut String, events: &[Event]) -> Result<(), AllocError
 /// The events that were kept, and how many were not.
 #[tactic(auto, using(std::proofs::lemmas::List::append_assoc))]
 fn push_events(text: &mut String, events: &SpanEvents) -> Result<(), AllocError>
-    ensures { OnOk result (Appends text.old (events_text events.now) text.new) }
+    ensures { OnOk result (TextGrows text.old (events_text events.now) text.new) }
 {
     let dropped = events.dropped_count;
     text.push_str("events ")?;
@@ -100,7 +100,7 @@ fn push_events(text: &mut String, events: &SpanEvents) -> Result<(), AllocError>
 
 /// How many links were kept, and how many were not.
 fn push_links(text: &mut String, links: &SpanLinks) -> Result<(), AllocError>
-    ensures { OnOk result (Appends text.old (links_text links.now) text.new) }
+    ensures { OnOk result (TextGrows text.old (links_text links.now) text.new) }
 {
     let kept = links.links.len();
     let dropped = links.dropped_count;
@@ -110,7 +110,7 @@ fn push_links(text: &mut String, links: &SpanLinks) -> Result<(), AllocError>
 /// The events and links of a span.
 #[tactic(auto, using(std::proofs::lemmas::List::append_assoc))]
 fn push_events_and_links(text: &mut String, span: &SpanData) -> Result<(), AllocError>
-    ensures { OnOk result (Appends text.old
+    ensures { OnOk result (TextGrows text.old
         (spaced (events_text span.now.events ∷ links_text span.now.links ∷ [])) text.new) }
 {
     push_events(text, &span.events)?;
@@ -121,7 +121,7 @@ fn push_events_and_links(text: &mut String, span: &SpanData) -> Result<(), Alloc
 /// Which span it is, what it is called, when it ran and how it went.
 #[tactic(auto, using(std::proofs::lemmas::List::append_assoc))]
 fn push_identity(text: &mut String, span: &SpanData) -> Result<(), AllocError>
-    ensures { OnOk result (Appends text.old (identity_text span.now) text.new) }
+    ensures { OnOk result (TextGrows text.old (identity_text span.now) text.new) }
 {
     let trace_id = span.span_context.trace_id();
     let span_id = span.span_context.span_id();
@@ -140,7 +140,7 @@ fn push_identity(text: &mut String, span: &SpanData) -> Result<(), AllocError>
 /// The line of one exported span.
 #[tactic(auto, using(std::proofs::lemmas::List::append_assoc))]
 fn push_span(text: &mut String, span: &SpanData) -> Result<(), AllocError>
-    ensures { OnOk result (Appends text.old (span_line span.now) text.new) }
+    ensures { OnOk result (TextGrows text.old (span_line span.now) text.new) }
 {
     push_identity(text, span)?;
     text.push(' ')?;
@@ -152,7 +152,7 @@ fn push_span(text: &mut String, span: &SpanData) -> Result<(), AllocError>
 
 /// The lines of the spans of a batch, in order.
 fn push_spans(text: &mut String, spans: &[SpanData]) -> Result<(), AllocError>
-    ensures { OnOk result (Appends text.old (span_lines spans.now) text.new) }
+    ensures { OnOk result (TextGrows text.old (span_lines spans.now) text.new) }
 {
     for span in spans {
         push_span(text, span)?;
@@ -162,7 +162,7 @@ fn push_spans(text: &mut String, spans: &[SpanData]) -> Result<(), AllocError>
 
 /// The lines of the spans of batches, in order.
 fn push_batches(text: &mut String, batches: &[Vec<SpanData>]) -> Result<(), AllocError>
-    ensures { OnOk result (Appends text.old (span_lines (flat_map (λ batch. batch.items) batches.now)) text.new) }
+    ensures { OnOk result (TextGrows text.old (span_lines (flat_map (λ batch. batch.items) batches.now)) text.new) }
 {
     for batch in batches {
         push_spans(text, batch)?;
@@ -177,7 +177,7 @@ fn push_context(
     span_id: SpanId,
     trace_flags: TraceFlags,
 ) -> Result<(), AllocError>
-    ensures { OnOk result (Appends text.old (context_text trace_id span_id trace_flags) text.new) }
+    ensures { OnOk result (TextGrows text.old (context_text trace_id span_id trace_flags) text.new) }
 {
     write!(text, "00-{trace_id}-{span_id}-{trace_flags}")
 }
@@ -190,7 +190,7 @@ fn push_started(
     span_id: SpanId,
     trace_flags: TraceFlags,
 ) -> Result<(), AllocError>
-    ensures { OnOk result (Appends text.old (started_line trace_id span_id trace_flags) text.new) }
+    ensures { OnOk result (TextGrows text.old (started_line trace_id span_id trace_flags) text.new) }
 {
     text.push_str("started ")?;
     push_context(text, trace_id, span_id, trace_flags)?;
@@ -205,7 +205,7 @@ fn push_dropped(
     span_id: SpanId,
     trace_flags: TraceFlags,
 ) -> Result<(), AllocError>
-    ensures { OnOk result (Appends text.old (dropped_line trace_id span_id trace_flags) text.new) }
+    ensures { OnOk result (TextGrows text.old (dropped_line trace_id span_id trace_flags) text.new) }
 {
     text.push_str("dropped ")?;
     push_context(text, trace_id, span_id, trace_flags)?;
@@ -215,7 +215,7 @@ fn push_dropped(
 /// The line of a header: its name, `=` and its text.
 #[tactic(auto, using(std::proofs::lemmas::List::append_assoc))]
 fn push_header(text: &mut String, name: &str, value: &str) -> Result<(), AllocError>
-    ensures { OnOk result (Appends text.old (header_line name.now value.now) text.new) }
+    ensures { OnOk result (TextGrows text.old (header_line name.now value.now) text.new) }
 {
     write!(text, "{name}={value}")?;
     text.push('\n')
@@ -224,7 +224,7 @@ fn push_header(text: &mut String, name: &str, value: &str) -> Result<(), AllocEr
 /// A line for each of both headers.
 #[tactic(auto, using(std::proofs::lemmas::List::append_assoc))]
 fn push_headers(text: &mut String, parent: &str, state: &str) -> Result<(), AllocError>
-    ensures { OnOk result (Appends text.old (headers_lines parent.now state.now) text.new) }
+    ensures { OnOk result (TextGrows text.old (headers_lines parent.now state.now) text.new) }
 {
     push_header(text, "traceparent", parent)?;
     push_header(text, "tracestate", state)
@@ -232,7 +232,7 @@ fn push_headers(text: &mut String, parent: &str, state: &str) -> Result<(), Allo
 
 /// The line of an answer.
 fn push_answer(text: &mut String, answer: Answer) -> Result<(), AllocError>
-    ensures { OnOk result (Appends text.old (answer_line answer) text.new) }
+    ensures { OnOk result (TextGrows text.old (answer_line answer) text.new) }
 {
     match answer {
         Answer::Started(span) => push_started(text, span.trace_id, span.span_id, span.trace_flags),

@@ -3,9 +3,8 @@
 
 ghost use Rattle.std.specs.Prelude.{◌≡◌, ◌++◌, drop, false, length, map, IfErr, IfOk, IsFalse, MatchResult, OnOk, OnErr, codes, string_bytes};
 ghost use Rattle.std.specs.List.{flat_map};
-ghost use Rattle.opentelemetry.specs.Plain.{text};
+ghost use Rattle.opentelemetry.specs.Plain.{scope_named, text};
 ghost use Rattle.otel_batch.specs.PlainSpanData.{spans_in};
-ghost use Rattle.opentelemetry_sdk.specs.Provider.{scope_named};
 ghost use Rattle.opentelemetry_sdk.specs.SpanEdits.{plain_edit};
 ghost use Rattle.opentelemetry_sdk.specs.SpanHistory.{set_attribute};
 ghost use Rattle.otel_session.specs.Commands.{is_end, may_lose, plain_command};

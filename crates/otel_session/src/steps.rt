@@ -2,7 +2,7 @@
 //! each is answered by a line.
 
 ghost use Rattle.std.specs.Prelude.{◌≡◌, ◌++◌, List, ℕ, IfOk, OnOk};
-ghost use Rattle.opentelemetry.specs.Text.{Appends};
+ghost use Rattle.opentelemetry.specs.Text.{TextGrows};
 ghost use Rattle.otel_batch.specs.MachineRun.{Stepped};
 ghost use Rattle.otel_session.specs.StepAnswers.{AnswersLines, Obeys, machine_of, memory_calls};
 ghost use Rattle.otel_session.specs.StepTexts.{outcome_text};
@@ -101,7 +101,7 @@ fn take_step(
     answer: &mut String,
 ) -> Result<(), AllocError>
     ensures { OnOk result ((outcome : Outcome) × Stepped memory_calls machine.old step outcome machine.new
-        × Appends answer.old (outcome_text machine.new.hand outcome) answer.new) }
+        × TextGrows answer.old (outcome_text machine.new.hand outcome) answer.new) }
 {
     let outcome = machine.step(step);
     push_outcome(answer, &outcome, machine.hand())

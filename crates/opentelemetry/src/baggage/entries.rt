@@ -180,11 +180,16 @@ impl Entries {
 }
 
 impl Clone for Entries {
-    ghost use Rattle.std.specs.Prelude.{◌≡◌};
+    ghost use Rattle.std.specs.Prelude.{◌≡◌, []};
 
     ghost is_clone = { λ entries copy. copy ≡ entries };
 
+    ghost is_infallible = { λ entries. entries ≡ [] };
+
     fn clone(&self) -> Result<Entries, AllocError> {
+        if self.map.is_empty() {
+            return Ok(Entries::new(self.alloc));
+        }
         Ok(Entries {
             map: copy_of(&self.map)?,
             bytes: self.bytes,

@@ -9,7 +9,7 @@ ghost use Rattle.opentelemetry.specs.ValueText.{list_text, truth_text, value_tex
 use super::{Array, Value};
 use std::fmt;
 
-// What a list of values holds.
+/// What a list of values holds.
 trait ListItem {
     // The text of the item within a list.
     ghost item_text: { Self → List ℕ };
@@ -56,7 +56,7 @@ impl ListItem for String {
     }
 }
 
-// Writes the item at an index: behind a comma where others stand before it.
+/// Writes the item at an index: behind a comma where others stand before it.
 fn write_at<T: ListItem, W: fmt::Write>(
     index: usize,
     item: &T,
@@ -71,7 +71,7 @@ fn write_at<T: ListItem, W: fmt::Write>(
     item.write_item(f)
 }
 
-// Writes items between brackets, joined by commas.
+/// Writes items between brackets, joined by commas.
 fn write_list<T: ListItem, W: fmt::Write>(items: &[T], f: &mut fmt::Formatter<W>) -> fmt::Result
     ensures { WritesOnOk W.write_str_gives f.old result (list_text (map T.item_text items.now)) f.new }
 {
@@ -82,7 +82,7 @@ fn write_list<T: ListItem, W: fmt::Write>(items: &[T], f: &mut fmt::Formatter<W>
     f.write_str("]")
 }
 
-// Writes a list of any kind.
+/// Writes a list of any kind.
 fn write_array<W: fmt::Write>(array: &Array, f: &mut fmt::Formatter<W>) -> fmt::Result
     ensures { WritesOnOk W.write_str_gives f.old result (value_text (plain_array array.now)) f.new }
 {

@@ -1,7 +1,8 @@
 //! A carrier in memory: a finite map from names in ASCII lower case to texts. As HTTP headers have it, names that
 //! differ in ASCII case alone are one name.
 
-ghost use Rattle.std.specs.Prelude.{◌≡◌, OnOk, OnErr, IfOk, IsSome, IsTrue, ◌↔◌, All, map, string_bytes};
+ghost use Rattle.std.specs.Prelude.{◌≡◌, ◌↔◌, All, IfNone, IfOk, IfSome, IsOk, IsSome, IsTrue, OnErr, OnOk, OnSome};
+ghost use Rattle.std.specs.Prelude.{None, map, string_bytes};
 ghost use Rattle.std.specs.FinMap as fin;
 ghost use Rattle.std.specs.Option.{option_copied, option_map};
 ghost use Rattle.std.specs.BTreeMap.{get_by_text};
@@ -53,13 +54,19 @@ impl MapCarrier {
 impl Injector for MapCarrier {
     ghost texts = { texts_of };
 
+    /// `AllocError` where there is no memory for a new name, or for a copy of the name in lower case. A text in the
+    /// place of one under a name in lower case takes none.
     fn set(&mut self, key: &str, value: String) -> Result<(), AllocError>
         ensures ok { OnOk result (SetsText (texts_of self.old) (texts_of self.new) key.now (string_bytes value)) }
         ensures err { OnErr result (SameTexts (texts_of self.old) (texts_of self.new)) }
         ensures inserted { OnOk result
             (self.new ≡ fin.insert self.old (str_to_ascii_lowercase key.now) (string_bytes value)) }
         ensures unchanged { OnErr result (self.new ≡ self.old) }
+        ensures free { IsLowerName key.now → IsSome (texts_of self.old key.now) → IsOk result }
     {
+        let Some(value) = put_in_place(&mut self.texts, key, value) else {
+            return Ok(());
+        };
         let name = key.to_ascii_lowercase(self.alloc)?;
         self.texts.insert(name, value)?;
         Ok(())
@@ -104,6 +111,25 @@ fn copy_of(texts: &BTreeMap<String, String>) -> Result<BTreeMap<String, String>,
 {
     let copy = texts.clone()?;
     Ok(copy)
+}
+
+/// Puts a text in the place of the one under exactly this name. Where there is none it comes back.
+fn put_in_place(texts: &mut BTreeMap<String, String>, name: &str, text: String) -> Option<String>
+    ensures put { IfNone result
+        (text_map texts.new ≡ fin.insert (text_map texts.old) name.now (string_bytes text)) }
+    ensures found { AllLowerNames texts.old.entries → IfNone result (IsLowerName name.now) }
+    ensures absent { OnSome result (get_by_text texts.old name.now ≡ None) }
+    ensures back { IfSome result (λ given. (string_bytes given ≡ string_bytes text)
+        × (texts.new.entries ≡ texts.old.entries)) }
+    ensures lower { AllLowerNames texts.old.entries → AllLowerNames texts.new.entries }
+{
+    match texts.get_mut(name) {
+        Some(place) => {
+            *place = text;
+            None
+        }
+        None => Some(text),
+    }
 }
 
 /// The names, in the order of their bytes.

@@ -1,4 +1,4 @@
-//! The part of a span that travels: its ids, its flags and its trace state (W3C Trace Context, section 2).
+//! The part of a span that travels: its ids, its flags and its trace state (W3C Trace Context, section 3).
 
 ghost use Rattle.std.specs.Prelude.{◌≡◌, ◌<◌, ◌%◌, ◌↔◌, IsTrue};
 ghost use Rattle.opentelemetry.specs.PlainContexts.{empty_span_context};
@@ -117,10 +117,13 @@ impl SpanContext {
 }
 
 impl Clone for SpanContext {
-    ghost use Rattle.std.specs.Prelude.{◌≡◌};
+    ghost use Rattle.std.specs.Prelude.{◌≡◌, []};
 
     ghost is_clone = { λ context copy. copy ≡ context };
 
+    ghost is_infallible = { λ context. context.trace_state ≡ [] };
+
+    /// A clone shares the trace state. Where that is empty it takes no memory.
     fn clone(&self) -> Result<SpanContext, AllocError> {
         Ok(SpanContext {
             trace_id: self.trace_id,

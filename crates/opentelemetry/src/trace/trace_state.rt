@@ -157,7 +157,7 @@ impl TraceState {
         header(alloc, self.entries())
     }
 
-    // The pairs, where they lie.
+    /// The pairs, where they lie.
     pub(crate) fn entries(&self) -> &[(String, String)]
         ensures value { map (λ p. (string_bytes p.0, string_bytes p.1)) result.now ≡ self.now }
         ensures pairs { ArePairs self.now }
@@ -169,7 +169,7 @@ impl TraceState {
     }
 }
 
-// A trace state whose clones will share these pairs.
+/// A trace state whose clones will share these pairs.
 fn shared(alloc: Global, pairs: Vec<(String, String)>) -> Result<TraceState, AllocError>
     requires { ArePairs (map plain_pair pairs.items) }
     ensures ok { IfOk result (λ state. state ≡ map plain_pair pairs.items) }

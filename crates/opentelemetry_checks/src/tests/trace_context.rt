@@ -1,7 +1,7 @@
 use opentelemetry::{ParseIdError, SpanId, TraceFlags, TraceId};
 use std::test::Fail;
 
-// The ids of the example in W3C Trace Context, section 3.2.
+/// The ids of the example in W3C Trace Context, section 3.2.
 const TRACE: u128 = 0x4bf92f3577b34da6a3ce929d0e0e4736;
 
 const SPAN: u64 = 0x00f067aa0ba902b7;

@@ -23,8 +23,8 @@ pub(crate) fn cut<T: Drop>(items: &mut Vec<T>, limit: u32) -> u32
     u32::try_from(left_out).unwrap_or(u32::MAX)
 }
 
-/// Adds an item where there is room under the limit, and else drops it, which takes no memory. The answer is how many were
-/// dropped.
+/// Adds an item where there is room under the limit, and else drops it, which takes no memory. The answer is how many
+/// were dropped.
 pub(crate) fn push_within<T: Drop>(
     items: &mut Vec<T>,
     limit: u32,
@@ -62,8 +62,8 @@ pub(crate) fn attributes_within(
     joined_within(given, added, limit)
 }
 
-/// Two lists joined and cut at a limit, and how many items were left out. Where one is empty the other one comes back as
-/// it was made, with its room.
+/// Two lists joined and cut at a limit, and how many items were left out. Where one is empty the other one comes back
+/// as it was made, with its room.
 fn joined_within<T: Drop>(
     mut front: Vec<T>,
     mut back: Vec<T>,

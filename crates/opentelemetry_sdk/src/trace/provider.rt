@@ -6,10 +6,11 @@ ghost use Rattle.std.specs.Prelude.{◌≡◌, ◌-◌, ◌≤◌, ◌↔◌, []
 ghost use Rattle.std.specs.Bool.{OnTrue, OnFalse};
 ghost use Rattle.std.specs.Duration.{as_nanos};
 ghost use Rattle.otel_batch.specs.PlainSpanData.{PlainSpanData};
+ghost use Rattle.opentelemetry.specs.Plain.{scope_named};
 ghost use Rattle.opentelemetry_sdk.specs.Deliveries.{EachFollows};
 ghost use Rattle.opentelemetry_sdk.specs.Each.{AskedAll};
 ghost use Rattle.opentelemetry_sdk.specs.Ending.{TakesAndTells};
-ghost use Rattle.opentelemetry_sdk.specs.Provider.{Flushes, FlushesProcessor, IsInternalFailure, ShutsDown, ShutsProcessor, scope_named};
+ghost use Rattle.opentelemetry_sdk.specs.Provider.{Flushes, FlushesProcessor, IsInternalFailure, ShutsDown, ShutsProcessor};
 ghost use Rattle.opentelemetry_sdk.specs.Starting.{DrawsIds, PassesThrough};
 ghost use Rattle.opentelemetry_sdk.specs.SpanHistory.{IsEdited, ended_at};
 

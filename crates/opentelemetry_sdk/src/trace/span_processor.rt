@@ -65,18 +65,19 @@ pub trait SpanProcessor: Drop {
         ensures edits { IsEdited span.old span.new }
         ensures gives { start_gives self.old span.old cx.now span.new self.new };
 
-    /// A span has ended, with this data. An error says that there was no memory to take it.
+    /// A span has ended, with this data. `AllocError` where there is no memory to take it.
     fn on_end(&mut self, span: SpanData) -> Result<(), AllocError>
         ensures told { TakesSpan (told self.old) span result (told self.new) }
         ensures gives { end_gives self.old span result self.new };
 
-    /// Exports what waits.
+    /// Exports what waits. It answers what its exporter answered (`SpanExporter::force_flush`).
     fn force_flush(&mut self) -> OTelSdkResult
         ensures told { TakesNothing (told self.old) (told self.new) }
         ensures is_open { (told self.new).is_open ≡ (told self.old).is_open }
         ensures gives { flush_gives self.old result self.new };
 
-    /// Exports what waits, and nothing afterwards.
+    /// Exports what waits, and nothing afterwards. It answers what its exporter answered, and `Timeout` where that took
+    /// longer.
     fn shutdown_with_timeout(&mut self, timeout: Duration) -> OTelSdkResult
         ensures told { TakesNothing (told self.old) (told self.new) }
         ensures gives { shutdown_gives self.old (as_nanos timeout) result self.new };
@@ -89,7 +90,7 @@ pub trait SpanProcessor: Drop {
         self.shutdown_with_timeout(Duration::from_secs(5))
     }
 
-    /// The spans to come are of this resource. An error says that there was no memory to keep it.
+    /// The spans to come are of this resource. `AllocError` where there is no memory to keep it.
     fn set_resource(&mut self, _resource: &Resource) -> Result<(), AllocError>
         ensures told { told self.new ≡ told self.old }
         ensures gives { RestsOr

@@ -2,13 +2,13 @@
 
 ghost use Rattle.std.specs.Prelude.{◌≡◌, ◌||◌, [], map, IfOk, IsOk, IsTrue, OnErr, string_bytes, unwrap_or};
 ghost use Rattle.std.specs.Option.{option_map};
+ghost use Rattle.opentelemetry.specs.PlainContexts.{root_cx};
 ghost use Rattle.opentelemetry.specs.PlainSpanBuilder.{named_builder};
 ghost use Rattle.otel_base.specs.Sampling.{added_attributes};
 ghost use Rattle.opentelemetry_sdk.specs.Starting.{
   Drops,
   OnlyDraws,
   Starts,
-  root_cx,
   start_flags,
   start_of,
   start_question,
@@ -35,7 +35,7 @@ pub struct SdkTracer {
 impl Model for SdkTracer {
     ghost use Rattle.std.specs.Prelude.{◌≡◌};
     ghost use Rattle.opentelemetry.specs.Plain.{PlainScope};
-    ghost use Rattle.opentelemetry_sdk.specs.Starting.{root_cx};
+    ghost use Rattle.opentelemetry.specs.PlainContexts.{root_cx};
 
     ghost Value = { PlainScope };
 

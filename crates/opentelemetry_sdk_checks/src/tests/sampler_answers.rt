@@ -98,8 +98,8 @@ fn parent_of(alloc: Global, flags: u8) -> Result<Context, Fail> {
     Ok(Context::new().with_span_context(parent)?)
 }
 
-/// Starts a span in a context, ends it, and shows its flags, the keys of the attributes that it recorded, and what `foo`
-/// is in its trace state.
+/// Starts a span in a context, ends it, and shows its flags, the keys of the attributes that it recorded, and what
+/// `foo` is in its trace state.
 fn started_in(
     alloc: Global,
     cx: &Context,

@@ -21,7 +21,7 @@ use std::alloc::{AllocError, Global};
 use std::collections::BTreeMap;
 use std::marker::Model;
 
-// Stands in front of the name of a program, where nobody named its service.
+/// Stands in front of the name of a program, where nobody named its service.
 const UNKNOWN_SERVICE_OF: &str = "unknown_service:";
 
 /// The strings from which a resource is found out. An absent string is one that nobody set.
@@ -65,6 +65,7 @@ impl Model for EnvResourceDetector {
 }
 
 impl EnvResourceDetector {
+    /// Keeps a copy of the attributes string. `AllocError` where there is no memory for it.
     pub fn new(strings: &ResourceStrings) -> Result<EnvResourceDetector, AllocError>
         ensures ok { IfOk result (λ detector. detector ≡ strings.now.attributes) }
         ensures free { strings.now.attributes ≡ None → IsOk result }
@@ -111,6 +112,7 @@ impl Model for SdkProvidedResourceDetector {
 }
 
 impl SdkProvidedResourceDetector {
+    /// Keeps a copy of the strings. `AllocError` where there is no memory for them.
     pub fn new(
         alloc: Global,
         strings: &ResourceStrings,
@@ -152,7 +154,7 @@ pub(super) fn detected_attributes(
     put_string(attributes, alloc, &strings.attributes)
 }
 
-// The attributes string is read only where the service's own string does not name it.
+/// The attributes string is read only where the service's own string does not name it.
 fn service_name(alloc: Global, strings: &ResourceStrings) -> Result<Value, AllocError>
     ensures { IfOk result (λ name. (env : PlainResource) × detected.IsEnvResource strings.now.attributes env
         × (plain_value name ≡ detected.name_over strings.now env)) }
@@ -166,7 +168,7 @@ fn service_name(alloc: Global, strings: &ResourceStrings) -> Result<Value, Alloc
     }
 }
 
-// The name of the service where the attributes have none.
+/// The name of the service where the attributes have none.
 fn name_besides_attributes(alloc: Global, strings: &ResourceStrings) -> Result<Value, AllocError>
     ensures { IfOk result (λ name.
         plain_value name ≡ detected.name_of_service strings.now.service_name None strings.now.program_name) }
@@ -177,7 +179,7 @@ fn name_besides_attributes(alloc: Global, strings: &ResourceStrings) -> Result<V
     }
 }
 
-// The service's own string, if it is set and not empty.
+/// The service's own string, if it is set and not empty.
 fn own_name(strings: &ResourceStrings) -> Option<&str>
     ensures { option_map (λ s. s.now) result ≡ option_and_then non_empty strings.now.service_name }
 {
@@ -187,7 +189,7 @@ fn own_name(strings: &ResourceStrings) -> Option<&str>
     }
 }
 
-// The name of the service that the attributes string has.
+/// The name of the service that the attributes string has.
 fn name_in(alloc: Global, given: &Option<String>) -> Result<Option<Value>, AllocError>
     ensures { IfOk result (λ found. (pairs : List PlainKeyValue) × ReadsAs (option_map string_bytes given.now) pairs
         × (option_map plain_value found ≡ fin.get (attributes_of pairs) service_name_key)) }
@@ -212,7 +214,7 @@ fn unknown_service(alloc: Global, program_name: &Option<String>) -> Result<Value
     }
 }
 
-// The pairs of an attributes string, if there is one, over the attributes.
+/// The pairs of an attributes string, if there is one, over the attributes.
 fn put_string(
     attributes: BTreeMap<Key, Value>,
     alloc: Global,
@@ -227,7 +229,7 @@ fn put_string(
     }
 }
 
-// The pairs of an attributes string over the attributes, member by member.
+/// The pairs of an attributes string over the attributes, member by member.
 fn put_members(
     mut attributes: BTreeMap<Key, Value>,
     alloc: Global,

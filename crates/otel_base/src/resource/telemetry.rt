@@ -50,7 +50,7 @@ pub(super) fn put_telemetry(
     Ok(())
 }
 
-// A text for a key that is a constant.
+/// A text for a key that is a constant.
 fn put_constant(
     attributes: &mut BTreeMap<Key, Value>,
     alloc: Global,

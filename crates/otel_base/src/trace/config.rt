@@ -111,7 +111,7 @@ impl ConfigOf<Sampler, IdSource> {
     }
 }
 
-// The sampler of the configured name.
+/// The sampler of the configured name.
 fn configured_sampler(alloc: Global, strings: &ConfigStrings) -> Result<Sampler, AllocError>
     ensures { IfOk result (λ sampler. IsConfiguredSampler strings.now (plan sampler)) }
 {
@@ -136,7 +136,7 @@ fn parent_based(alloc: Global, delegate: Sampler) -> Result<Sampler, AllocError>
     Ok(Sampler::ParentBased(Box::new(alloc, delegate)?))
 }
 
-// The ratio of the sampler's argument.
+/// The ratio of the sampler's argument.
 fn configured_ratio(given: &Option<String>) -> Ratio
     ensures { IsConfiguredRatio (option_map string_bytes given.now) result }
 {
@@ -146,7 +146,7 @@ fn configured_ratio(given: &Option<String>) -> Ratio
     }
 }
 
-// How much a span keeps.
+/// How much a span keeps.
 fn configured_limits(strings: &ConfigStrings) -> SpanLimits
     ensures { AreConfiguredLimits strings.now result }
 {
@@ -162,7 +162,7 @@ fn configured_limits(strings: &ConfigStrings) -> SpanLimits
     }
 }
 
-// The number that a string writes, and else this one.
+/// The number that a string writes, and else this one.
 fn count_or(given: &Option<String>, default: u32) -> u32
     ensures { IsConfiguredNumber 32 (option_map string_bytes given.now) default result }
 {

@@ -103,7 +103,7 @@ impl Ratio {
     }
 }
 
-// The last 8 bytes of a trace id.
+/// The last 8 bytes of a trace id.
 fn low_half(trace_id: TraceId) -> u64
     ensures { result ≡ low_half trace_id }
 {
@@ -111,7 +111,7 @@ fn low_half(trace_id: TraceId) -> u64
     u64::from_be_bytes([a, b, c, d, e, f, g, h])
 }
 
-// The ratio that a decimal without a sign writes.
+/// The ratio that a decimal without a sign writes.
 fn decimal(text: &str) -> Option<Ratio>
     ensures { MatchOption result
         ((ratio : PlainRatio) → IsDecimal text.now ratio → ⊥)
@@ -123,7 +123,7 @@ fn decimal(text: &str) -> Option<Ratio>
     }
 }
 
-// The ratio that the digits of a decimal write, those in front of its point and those behind it.
+/// The ratio that the digits of a decimal write, those in front of its point and those behind it.
 fn ratio_of(whole: &[u8], fraction: &[u8]) -> Option<Ratio>
     ensures { MatchOption result
         ((ratio : PlainRatio) → WritesRatio whole.now fraction.now ratio → ⊥)
@@ -141,7 +141,7 @@ fn ratio_of(whole: &[u8], fraction: &[u8]) -> Option<Ratio>
     })
 }
 
-// The number that digits write behind those of another number; none where a byte is no digit.
+/// The number that digits write behind those of another number; none where a byte is no digit.
 fn number_after(start: u64, digits: &[u8]) -> Option<u64>
     requires { (start + 1) * 10 ^ length digits.now ≤ 10 ^ 19 }
     ensures value { MatchOption result

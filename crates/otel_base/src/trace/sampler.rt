@@ -47,7 +47,7 @@ impl Model for SamplingResult {
 }
 
 impl SamplingResult {
-    // The attributes, in a list of none where there is none.
+    /// The attributes, in a list of none where there is none.
     fn added_attributes(&self) -> &[KeyValue]
         ensures { result.now ≡ self.now.attributes }
     {
@@ -58,7 +58,7 @@ impl SamplingResult {
     }
 }
 
-// A copy of an answer's attributes. No list stands for an empty one, which takes no memory.
+/// A copy of an answer's attributes. No list stands for an empty one, which takes no memory.
 fn copied_attributes(
     attributes: &Option<Vec<KeyValue>>,
 ) -> Result<Option<Vec<KeyValue>>, AllocError>
@@ -263,7 +263,7 @@ impl<C: Drop> SamplerOf<C> {
     }
 }
 
-// The context of the span that is active in a context.
+/// The context of the span that is active in a context.
 fn active_in<'a>(context: Option<&'a Context>) -> Option<&'a SpanContext>
     ensures { option_map (λ span. span.now) result ≡ active_in (option_map (λ cx. cx.now) context.entry) }
 {
@@ -273,7 +273,7 @@ fn active_in<'a>(context: Option<&'a Context>) -> Option<&'a SpanContext>
     }
 }
 
-// What becomes of the spans of a trace under a ratio.
+/// What becomes of the spans of a trace under a ratio.
 fn ratio_decision(ratio: &Ratio, trace_id: TraceId) -> SamplingDecision
     ensures { result ≡ ratio_decision ratio.now trace_id }
 {
@@ -284,7 +284,7 @@ fn ratio_decision(ratio: &Ratio, trace_id: TraceId) -> SamplingDecision
     }
 }
 
-// The answer of a sampler of the SDK.
+/// The answer of a sampler of the SDK.
 fn built_in(
     decision: SamplingDecision,
     active: Option<&SpanContext>,

@@ -97,7 +97,7 @@ fn merged_shown(
     shown(alloc, &builder.build())
 }
 
-// The builder merged over the given attributes and schema.
+/// The builder merged over the given attributes and schema.
 fn under_schema(
     alloc: Global,
     builder: ResourceBuilder,
@@ -124,7 +124,7 @@ fn builder_over_given(alloc: Global, schema: &str) -> Result<String, AllocError>
     shown(alloc, &built.build())
 }
 
-// The second one merged over the first one.
+/// The second one merged over the first one.
 fn merged(
     alloc: Global,
     first: ResourceBuilder,
@@ -215,7 +215,7 @@ fn equals_one(alloc: Global, given: &[(&str, &str)], schema: &str) -> Result<boo
     Ok(of_schema(alloc, SCHEMA_A)?.build() == other)
 }
 
-// The key of an attribute out of many.
+/// The key of an attribute out of many.
 fn numbered(alloc: Global, number: u8) -> Result<Key, AllocError> {
     let mut key = String::from_str(alloc, "key")?;
     key.push(char::from(b'0' + number / 10 % 10))?;
@@ -240,7 +240,7 @@ fn one_by_one(alloc: Global, count: u8) -> Result<Resource, AllocError> {
     Ok(builder.build())
 }
 
-// As many members of an attributes string.
+/// As many members of an attributes string.
 fn many_members(alloc: Global, count: u8) -> Result<String, AllocError> {
     let mut text = String::new(alloc);
     for number in 0..count {
@@ -334,7 +334,7 @@ fn no_string_gives_no_attributes(rt: HostRuntime) -> Result<(), Fail> {
     Ok(())
 }
 
-// Each `unwrap` is proved: there is no answer but Ok.
+/// Each `unwrap` is proved: there is no answer but Ok.
 fn detected_of_nothing(alloc: Global) -> usize {
     let unset = ResourceStrings::default();
     let _sdk = SdkProvidedResourceDetector::new(alloc, &unset).unwrap();

@@ -240,8 +240,8 @@ impl<E: SpanExporter> BatchMachine<E> {
         outcome
     }
 
-    /// Takes these steps, one after another, and appends their outcomes. The room for the outcomes is taken first; where
-    /// there is no memory for it the steps come back, and nothing has changed.
+    /// Takes these steps, one after another, and appends their outcomes. The room for the outcomes is taken first;
+    /// where there is no memory for it the steps come back, and nothing has changed.
     pub fn run(
         &mut self,
         steps: Vec<Step>,

@@ -145,8 +145,8 @@ impl Default for BatchConfigBuilder {
 }
 
 impl BatchConfigBuilder {
-    /// What the strings say, and else the defaults. The size of a batch is cut to that of the queue already here, so that
-    /// a longer queue set afterwards does not lengthen it.
+    /// What the strings say, and else the defaults. The size of a batch is cut to that of the queue already here, so
+    /// that a longer queue set afterwards does not lengthen it.
     pub fn from_strings(strings: &BatchStrings) -> BatchConfigBuilder
         ensures { IsBatchConfigOf strings.now result }
     {
@@ -200,7 +200,7 @@ impl BatchConfigBuilder {
     }
 }
 
-// The size that a string writes, and else this one.
+/// The size that a string writes, and else this one.
 fn size_or(given: &Option<String>, default: usize) -> usize
     ensures { IsConfiguredNumber 64 (option_map string_bytes given.now) default result }
 {
@@ -210,7 +210,7 @@ fn size_or(given: &Option<String>, default: usize) -> usize
     }
 }
 
-// The time of so many milliseconds as a string writes, and else of this many.
+/// The time of so many milliseconds as a string writes, and else of this many.
 fn time_or(given: &Option<String>, default: u64) -> Duration
     ensures { IsConfiguredTime (option_map string_bytes given.now) default (as_nanos result) }
 {

@@ -36,12 +36,13 @@ pub trait SpanExporter: Drop {
     /// What it does with the resource, where it does anything.
     ghost resource_gives: { Self → PlainResource → Self → Type 0 } = { λ _ _ _. Unit {0} };
 
-    /// Takes a batch over. It ends the telling, or appends the batch to it.
+    /// Takes a batch over. It ends the telling, or appends the batch to it. `AlreadyShutdown` behind a shutdown,
+    /// `Timeout` where it took too long, and `InternalFailure` with its reason where it failed otherwise.
     fn export(&mut self, batch: Vec<SpanData>) -> OTelSdkResult
         ensures told { Tells (told self.old) (batch.items ∷ []) (told self.new) }
         ensures gives { export_gives self.old batch.items result self.new };
 
-    /// No batch comes after it.
+    /// No batch comes after it. Errors as those of `export`; `AlreadyShutdown` at a second one.
     fn shutdown_with_timeout(&mut self, _timeout: Duration) -> OTelSdkResult
         ensures told { told self.new ≡ told self.old }
         ensures gives { RestsOr
@@ -61,7 +62,7 @@ pub trait SpanExporter: Drop {
         self.shutdown_with_timeout(Duration::from_secs(5))
     }
 
-    /// Sends on what was taken over and not sent yet.
+    /// Sends on what was taken over and not sent yet. Errors as those of `export`.
     fn force_flush(&mut self) -> OTelSdkResult
         ensures told { told self.new ≡ told self.old }
         ensures gives { RestsOr flush_gives self.old result self.new }

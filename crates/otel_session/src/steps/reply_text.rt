@@ -1,7 +1,7 @@
 //! The texts that answer the steps of a batch queue.
 
 ghost use Rattle.std.specs.Prelude.{◌≡◌, ◌++◌, OnOk, map, codes};
-ghost use Rattle.opentelemetry.specs.Text.{Appends};
+ghost use Rattle.opentelemetry.specs.Text.{TextGrows};
 ghost use Rattle.otel_session.specs.StepTexts.{counts_text, pulled_name, names_text, outcome_text, state_text, told_text};
 
 use crate::reply_text::push_comma;
@@ -16,7 +16,7 @@ pub fn push_outcome(
     outcome: &Outcome,
     hand: &[SpanData],
 ) -> Result<(), AllocError>
-    ensures { OnOk result (Appends text.old (outcome_text hand.now outcome.now) text.new) }
+    ensures { OnOk result (TextGrows text.old (outcome_text hand.now outcome.now) text.new) }
 {
     match outcome {
         Outcome::Skipped => text.push_str("skipped"),
@@ -54,7 +54,7 @@ pub fn push_outcome(
 
 /// `pulled` and the name of the span, which is the last one in hand.
 fn push_pulled(text: &mut String, hand: &[SpanData]) -> Result<(), AllocError>
-    ensures { OnOk result (Appends text.old (codes "pulled " ++ pulled_name hand.now) text.new) }
+    ensures { OnOk result (TextGrows text.old (codes "pulled " ++ pulled_name hand.now) text.new) }
 {
     text.push_str("pulled ")?;
     match hand.last() {
@@ -65,7 +65,7 @@ fn push_pulled(text: &mut String, hand: &[SpanData]) -> Result<(), AllocError>
 
 /// The names of spans, in brackets.
 fn push_names(text: &mut String, spans: &[SpanData]) -> Result<(), AllocError>
-    ensures { OnOk result (Appends text.old (names_text spans.now) text.new) }
+    ensures { OnOk result (TextGrows text.old (names_text spans.now) text.new) }
 {
     text.push('[')?;
     for (i, span) in spans.iter().enumerate() {
@@ -80,7 +80,7 @@ fn push_waiting(
     text: &mut String,
     machine: &BatchMachine<InMemorySpanExporter>,
 ) -> Result<(), AllocError>
-    ensures { OnOk result (Appends text.old (names_text machine.now.waiting) text.new) }
+    ensures { OnOk result (TextGrows text.old (names_text machine.now.waiting) text.new) }
 {
     text.push('[')?;
     for i in 0..machine.waiting_len() {
@@ -95,7 +95,7 @@ fn push_waiting(
 
 /// The batches that an exporter kept, each behind a space, or a dash.
 fn push_told(text: &mut String, batches: &[Vec<SpanData>]) -> Result<(), AllocError>
-    ensures { OnOk result (Appends text.old (told_text (map (λ batch. batch.items) batches.now)) text.new) }
+    ensures { OnOk result (TextGrows text.old (told_text (map (λ batch. batch.items) batches.now)) text.new) }
 {
     if batches.is_empty() {
         return text.push_str(" -");
@@ -113,7 +113,7 @@ fn push_counts(
     text: &mut String,
     machine: &BatchMachine<InMemorySpanExporter>,
 ) -> Result<(), AllocError>
-    ensures { OnOk result (Appends text.old (counts_text machine.now) text.new) }
+    ensures { OnOk result (TextGrows text.old (counts_text machine.now) text.new) }
 {
     let counter = machine.counter();
     let dropped = machine.dropped_count();
@@ -131,7 +131,7 @@ pub fn push_state(
     text: &mut String,
     machine: &BatchMachine<InMemorySpanExporter>,
 ) -> Result<(), AllocError>
-    ensures { OnOk result (Appends text.old (state_text machine.now) text.new) }
+    ensures { OnOk result (TextGrows text.old (state_text machine.now) text.new) }
 {
     text.push_str("waiting ")?;
     push_waiting(text, machine)?;

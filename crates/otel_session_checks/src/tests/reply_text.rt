@@ -38,7 +38,7 @@ fn attribute(alloc: Global, key: &str, value: Value) -> Result<KeyValue, AllocEr
     Ok(KeyValue::new(Key::new(String::from_str(alloc, key)?), value))
 }
 
-// `GET`, without a parent, with two attributes and events and others that were left out.
+/// `GET`, without a parent, with two attributes and events and others that were left out.
 fn root(alloc: Global) -> Result<SpanData, AllocError> {
     let method = Value::String(String::from_str(alloc, "GET")?);
     let mut attributes = Vec::new(alloc);
@@ -70,7 +70,7 @@ fn root(alloc: Global) -> Result<SpanData, AllocError> {
     })
 }
 
-// `db`, which failed, with one event.
+/// `db`, which failed, with one event.
 fn failed(alloc: Global) -> Result<SpanData, AllocError> {
     let mut events = Vec::new(alloc);
     events.push(event(alloc, "row", 1200)?)?;
@@ -112,7 +112,7 @@ span 5c0fdf91ec9a7bfc61da6f3dc380d507 02eebf8c3bbe5e1a 0000000000000000 01 1000 
 ended
 ";
 
-// Two batches of one span.
+/// Two batches of one span.
 fn batches(alloc: Global) -> Result<Vec<Vec<SpanData>>, AllocError> {
     let mut batches = Vec::new(alloc);
     for span in [failed(alloc)?, root(alloc)?] {

@@ -458,8 +458,8 @@ fn answers_line(line: usize, answer: &Answer) -> bool {
 }
 
 /// `rt try --test --fail-alloc N` has the Nth allocation refused: then the command that wanted it is run again, and
-/// answers as it would have, or as a second one of its kind does. Each of both ended spans is shown by one reply, or its
-/// batch is counted as refused or lost.
+/// answers as it would have, or as a second one of its kind does. Each of both ended spans is shown by one reply, or
+/// its batch is counted as refused or lost.
 #[test]
 fn a_run_that_found_no_memory_succeeds_again(rt: HostRuntime) -> Result<(), Fail> {
     let alloc = rt.alloc();

@@ -33,7 +33,7 @@ fn are_key_bytes(bytes: &[u8]) -> bool
     bytes.iter().all(|byte| is_key_byte(*byte))
 }
 
-// Whether a text is a key: 1 to 256 bytes.
+/// Whether a text is a key: 1 to 256 bytes.
 pub fn is_key(key: &str) -> bool
     ensures { result ≡ is_key key.now }
 {
@@ -65,7 +65,7 @@ fn ends_with_space(bytes: &[u8]) -> bool
     }
 }
 
-// Whether a text is a value: at most 256 bytes, no space at the end.
+/// Whether a text is a value: at most 256 bytes, no space at the end.
 pub fn is_value(value: &str) -> bool
     ensures { result ≡ is_value value.now }
 {
@@ -73,7 +73,7 @@ pub fn is_value(value: &str) -> bool
     bytes.len() <= 256 && are_value_bytes(bytes) && !ends_with_space(bytes)
 }
 
-// What is wrong with a pair, the key first.
+/// What is wrong with a pair, the key first.
 pub fn pair_fault(key: &str, value: &str) -> Option<TraceStateError>
     ensures { result ≡ pair_fault (key.now, value.now) }
 {
@@ -86,7 +86,7 @@ pub fn pair_fault(key: &str, value: &str) -> Option<TraceStateError>
     None
 }
 
-// The key and the value of a member, cut at its first equals sign.
+/// The key and the value of a member, cut at its first equals sign.
 pub fn split_member(member: &str) -> Option<(&str, &str)>
     ensures { MatchOption result
         (position_or_len is_equals member.now ≡ length member.now)
@@ -96,7 +96,7 @@ pub fn split_member(member: &str) -> Option<(&str, &str)>
     member.split_once('=')
 }
 
-// What is wrong with a trimmed piece; nothing where it is empty.
+/// What is wrong with a trimmed piece; nothing where it is empty.
 fn piece_fault(piece: &str) -> Option<TraceStateError>
     ensures { result ≡ first_fault (filter is_some_text (piece.now ∷ [])) }
 {
@@ -132,7 +132,7 @@ fn without_last_blank(text: &str) -> Option<&str>
     }
 }
 
-// A text without the spaces and tabs around it.
+/// A text without the spaces and tabs around it.
 pub fn trim_blanks(text: &str) -> &str
     ensures { result.now ≡ trimmed text.now }
 {
@@ -147,7 +147,7 @@ pub fn trim_blanks(text: &str) -> &str
     back
 }
 
-// What stands before the first comma, and what stands behind it, where there is one.
+/// What stands before the first comma, and what stands behind it, where there is one.
 pub fn cut_at_comma(text: &str) -> (&str, Option<&str>)
     ensures pieces { MatchOption result.1
         (slice_split (λ b. b == 44) text.now ≡ result.0.now ∷ [])
@@ -160,7 +160,7 @@ pub fn cut_at_comma(text: &str) -> (&str, Option<&str>)
     }
 }
 
-// The first fault of the members of a text.
+/// The first fault of the members of a text.
 pub fn text_fault(text: &str) -> Option<TraceStateError>
     ensures { result ≡ first_fault (members text.now) }
 {

@@ -4,7 +4,7 @@ ghost use Rattle.std.specs.Prelude.{◌≡◌, ◌≢◌, ◌-◌, ◌^◌, min,
 ghost use Rattle.std.specs.Prelude.{length, map, string_bytes, IfOk, OnOk, OnErr, option_map};
 ghost use Rattle.std.specs.List.{filter};
 ghost use Rattle.opentelemetry.specs.PlainValues.{plain_pair};
-ghost use Rattle.opentelemetry.specs.Text.{Appends};
+ghost use Rattle.opentelemetry.specs.Text.{TextGrows};
 ghost use Rattle.opentelemetry.specs.Tracestate.{first_fault, first_pair_fault, is_some_text, members};
 ghost use Rattle.opentelemetry.specs.Tracestate.{next_member_text, pair_of, tracestate_text, value_of_key};
 ghost use Rattle.opentelemetry.specs.Tracestate.{without_key};
@@ -13,7 +13,7 @@ use super::TraceStateError;
 use super::grammar::{cut_at_comma, pair_fault, split_member, trim_blanks};
 use std::alloc::{AllocError, Global};
 
-// The first fault of a list of pairs.
+/// The first fault of a list of pairs.
 pub fn first_pair_fault(pairs: &[(String, String)]) -> Option<TraceStateError>
     ensures { result ≡ first_pair_fault (map plain_pair pairs.now) }
 {
@@ -25,7 +25,7 @@ pub fn first_pair_fault(pairs: &[(String, String)]) -> Option<TraceStateError>
     None
 }
 
-// The first value of a key.
+/// The first value of a key.
 pub fn value_of_key<'a>(pairs: &'a [(String, String)], key: &str) -> Option<&'a str>
     ensures { option_map (λ value. value.now) result ≡ value_of_key key.now (map plain_pair pairs.now) }
 {
@@ -46,7 +46,7 @@ fn copied_pair(alloc: Global, key: &str, value: &str) -> Result<(String, String)
     ))
 }
 
-// Puts the pair of a trimmed piece behind the others; an empty piece has none, and takes no memory.
+/// Puts the pair of a trimmed piece behind the others; an empty piece has none, and takes no memory.
 fn push_piece(
     pairs: &mut Vec<(String, String)>,
     alloc: Global,
@@ -66,7 +66,7 @@ fn push_piece(
     }
 }
 
-// The pairs of a text without fault. A text without members takes no memory.
+/// The pairs of a text without fault. A text without members takes no memory.
 pub fn read_members(alloc: Global, text: &str) -> Result<Vec<(String, String)>, AllocError>
     requires { first_fault (members text.now) ≡ None }
     ensures ok { IfOk result (λ pairs. map plain_pair pairs.items ≡ map pair_of (members text.now)) }
@@ -82,7 +82,7 @@ pub fn read_members(alloc: Global, text: &str) -> Result<Vec<(String, String)>, 
     Ok(pairs)
 }
 
-// Puts a copy of a pair behind the others, unless it has the key, which takes no memory.
+/// Puts a copy of a pair behind the others, unless it has the key, which takes no memory.
 fn push_unless_key(
     pairs: &mut Vec<(String, String)>,
     alloc: Global,
@@ -100,7 +100,7 @@ fn push_unless_key(
     Ok(())
 }
 
-// Puts copies of the pairs that have another key behind those of a list.
+/// Puts copies of the pairs that have another key behind those of a list.
 fn push_others(
     list: &mut Vec<(String, String)>,
     alloc: Global,
@@ -117,7 +117,7 @@ fn push_others(
     Ok(())
 }
 
-// Copies of the pairs that have another key. Where there are none, this takes no memory.
+/// Copies of the pairs that have another key. Where there are none, this takes no memory.
 pub fn without_key(
     alloc: Global,
     pairs: &[(String, String)],
@@ -132,7 +132,7 @@ pub fn without_key(
     Ok(others)
 }
 
-// The new pair, and behind it copies of the pairs that have another key.
+/// The new pair, and behind it copies of the pairs that have another key.
 pub fn with_pair(
     alloc: Global,
     pairs: &[(String, String)],
@@ -150,7 +150,7 @@ pub fn with_pair(
     Ok(all)
 }
 
-// How long a member is, with the comma in front where others stand before it.
+/// How long a member is, with the comma in front where others stand before it.
 fn next_member_len(index: usize, pair: &(String, String)) -> usize
     ensures { result ≡ min (length (next_member_text index (plain_pair pair.now))) (2 ^ 64 - 1) }
 {
@@ -161,7 +161,7 @@ fn next_member_len(index: usize, pair: &(String, String)) -> usize
     member
 }
 
-// How long the header of the pairs is.
+/// How long the header of the pairs is.
 fn header_len(pairs: &[(String, String)]) -> usize
     ensures { result ≡ min (length (tracestate_text (map plain_pair pairs.now))) (2 ^ 64 - 1) }
 {
@@ -172,9 +172,9 @@ fn header_len(pairs: &[(String, String)]) -> usize
     len
 }
 
-// Writes a member, behind a comma where others stand before it.
+/// Writes a member, behind a comma where others stand before it.
 fn push_member(text: &mut String, index: usize, pair: &(String, String)) -> Result<(), AllocError>
-    ensures { OnOk result (Appends text.old (next_member_text index (plain_pair pair.now)) text.new) }
+    ensures { OnOk result (TextGrows text.old (next_member_text index (plain_pair pair.now)) text.new) }
 {
     if index > 0 {
         text.push_str(",")?;
@@ -184,7 +184,7 @@ fn push_member(text: &mut String, index: usize, pair: &(String, String)) -> Resu
     text.push_str(pair.1.as_str())
 }
 
-// The members of the pairs, joined by commas. Room for all is taken at once, and none where there are no pairs.
+/// The members of the pairs, joined by commas. Room for all is taken at once, and none where there are no pairs.
 pub fn header(alloc: Global, pairs: &[(String, String)]) -> Result<String, AllocError>
     ensures ok { IfOk result (λ text. string_bytes text ≡ tracestate_text (map plain_pair pairs.now)) }
     ensures err { OnErr result (map plain_pair pairs.now ≢ []) }

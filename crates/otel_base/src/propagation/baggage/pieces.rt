@@ -1,7 +1,7 @@
 //! Texts that are written one behind another, with a separator between two.
 
 ghost use Rattle.std.specs.Prelude.{OnOk};
-ghost use Rattle.opentelemetry.specs.Text.{Appends};
+ghost use Rattle.opentelemetry.specs.Text.{TextGrows};
 ghost use Rattle.otel_base.specs.BaggagePieces.{unless_first};
 
 use std::alloc::AllocError;
@@ -12,7 +12,7 @@ pub fn push_unless_first(
     is_first: bool,
     separator: &str,
 ) -> Result<(), AllocError>
-    ensures { OnOk result (Appends text.old (unless_first is_first separator.now) text.new) }
+    ensures { OnOk result (TextGrows text.old (unless_first is_first separator.now) text.new) }
 {
     if is_first {
         return Ok(());

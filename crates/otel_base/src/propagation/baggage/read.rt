@@ -10,7 +10,7 @@ ghost use Rattle.otel_base.specs.AttributesString.{equals_sign};
 ghost use Rattle.otel_base.specs.BaggageHeader.{entries_of, entry_of_member, metadata_of, paired_entry, pieces_at};
 ghost use Rattle.otel_base.specs.BaggageHeader.{said_by, semicolon};
 ghost use Rattle.otel_base.specs.BaggagePieces.{entry_with, next_property, properties_behind};
-ghost use Rattle.opentelemetry.specs.Text.{Appends};
+ghost use Rattle.opentelemetry.specs.Text.{TextGrows};
 
 use super::pieces::push_unless_first;
 use opentelemetry::baggage::{Baggage, BaggageError, BaggageMetadata, KeyValueMetadata};
@@ -129,14 +129,15 @@ fn read_metadata(alloc: Global, properties: Option<&str>) -> Result<String, Allo
     Ok(metadata)
 }
 
-/// Puts what a property says behind the others, unless it is not UTF-8. Answers whether the next one is the first still.
+/// Puts what a property says behind the others, unless it is not UTF-8. Answers whether the next one is the first
+/// still.
 fn push_property(
     metadata: &mut String,
     alloc: Global,
     property: &str,
     is_first: bool,
 ) -> Result<bool, AllocError>
-    ensures text { OnOk result (Appends metadata.old (next_property is_first (said_by property.now)) metadata.new) }
+    ensures text { OnOk result (TextGrows metadata.old (next_property is_first (said_by property.now)) metadata.new) }
     ensures first { IfOk result (λ still. still ≡ (is_first && is_none (said_by property.now))) }
 {
     let Some(said) = decoded(alloc, property)? else {

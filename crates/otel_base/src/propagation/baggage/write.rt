@@ -2,7 +2,7 @@
 
 ghost use Rattle.std.specs.Prelude.{◌≡◌, ◌-◌, ◌^◌, ◌≤◌, ◌∷◌, [], All, IfOk, OnOk, length, min, string_bytes};
 ghost use Rattle.opentelemetry.specs.Baggage.{entry_of};
-ghost use Rattle.opentelemetry.specs.Text.{Appends};
+ghost use Rattle.opentelemetry.specs.Text.{TextGrows};
 ghost use Rattle.otel_base.specs.BaggageHeader.{behind_semicolon, escaped, header_of, member_of, HasTexts};
 
 use super::pieces::push_unless_first;
@@ -54,7 +54,7 @@ fn push_member(
     metadata: &str,
 ) -> Result<(), AllocError>
     ensures text { OnOk result
-        (Appends header.old (member_of (entry_of name.now value.now metadata.now)) header.new) }
+        (TextGrows header.old (member_of (entry_of name.now value.now metadata.now)) header.new) }
     ensures texts { HasTexts (entry_of name.now value.now metadata.now) }
 {
     push_escaped(header, name)?;
@@ -65,14 +65,14 @@ fn push_member(
 
 /// Writes a name or a value.
 fn push_escaped(header: &mut String, text: &str) -> Result<(), AllocError>
-    ensures { OnOk result (Appends header.old (escaped text.now) header.new) }
+    ensures { OnOk result (TextGrows header.old (escaped text.now) header.new) }
 {
     utf8_percent_encode(text.trim(), ESCAPED).append_to(header)
 }
 
 /// Writes metadata behind a semicolon, unless it is empty.
 fn push_metadata(header: &mut String, metadata: &str) -> Result<(), AllocError>
-    ensures { OnOk result (Appends header.old (behind_semicolon metadata.now) header.new) }
+    ensures { OnOk result (TextGrows header.old (behind_semicolon metadata.now) header.new) }
 {
     if metadata.is_empty() {
         return Ok(());

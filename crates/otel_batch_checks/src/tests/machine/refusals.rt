@@ -72,8 +72,8 @@ fn is_second_batch_refused(
     }
 }
 
-/// Behind the refusal the first batch stays handed over, the rest waits in its order, the answer says so and the machine
-/// stays open. What was posted before hands the rest over, and the same request made again finds nothing left.
+/// Behind the refusal the first batch stays handed over, the rest waits in its order, the answer says so and the
+/// machine stays open. What was posted before hands the rest over, and the same request made again finds nothing left.
 fn goes_on_behind_a_refusal(
     alloc: Global,
     queue: &mut BatchMachine<ExporterBox>,

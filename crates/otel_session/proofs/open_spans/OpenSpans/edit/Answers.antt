@@ -3,7 +3,7 @@ use Rattle.opentelemetry_sdk.specs.SpanEdits.{plain_edit}
 use Rattle.opentelemetry_sdk.specs.SpanHistory.{PlainSpan}
 use Rattle.otel_session.specs.declared.reply.Answer.TheVariants as answers
 use Rattle.otel_session.specs.OpenSpans.{EditsNamed, NamedSpans, PutsSpan, SameSpans, named, by_name}
-use Rattle.otel_session.proofs.Clauses.{always_on_err}
+use Rattle.opentelemetry.proofs.Results.{always_on_err}
 use Rattle.otel_session.proofs.NamedLemmas.{named-get, puts_span, put_same, same_entries}
 use Rattle.otel_session.proofs.open_spans.OpenSpans.edit.Goals as goal
 

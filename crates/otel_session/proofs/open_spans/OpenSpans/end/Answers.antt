@@ -2,7 +2,7 @@ use Rattle.std.proofs.Common.{◌≡◌, ◌∙◌, sym, ap, Some, None, refl, s
 use Rattle.opentelemetry_sdk.specs.SpanHistory.{PlainSpan}
 use Rattle.otel_session.specs.declared.reply.Answer.TheVariants as answers
 use Rattle.otel_session.specs.OpenSpans.{EndsNamed, NamedSpans, PutsSpan, SameSpans, named, by_name}
-use Rattle.otel_session.proofs.Clauses.{always_on_err}
+use Rattle.opentelemetry.proofs.Results.{always_on_err}
 use Rattle.otel_session.proofs.NamedLemmas.{named-get, puts_span, put_same, same_entries}
 use Rattle.otel_session.proofs.open_spans.OpenSpans.end.Goals as goal
 

@@ -33,4 +33,4 @@ returns g c =
     }) in
     IfOk-weaker c.with_remote_span_context.result _ _
     (λ found is. subst (ExtractsTraceContext cx texts) (sym is) (extracted cx texts c.unwrap_or.result.now c.in-Some.parent c.new.result c.in_ok-state.state text c.in-Some.ensures says made))
-    c.with_remote_span_context.ensures
+    c.with_remote_span_context.ensures.ok
