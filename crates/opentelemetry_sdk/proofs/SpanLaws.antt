@@ -95,9 +95,9 @@ same_name start edits edit e = ap (last_name start.name) (brings_none name_in []
 same_status : (edits : List Edit) (edit : Edit) → status_in edit ≡ [] → greatest_status unset (flat_map status_in edits) ≡ greatest_status unset (flat_map status_in (edits ++ edit ∷ []))
 same_status edits edit e = ap (greatest_status unset) (brings_none status_in [] edits edit e)
 
-same_attributes : (start : SpanStart) (edits : List Edit) (edit : Edit) → attribute_in edit ≡ [] → (cut_at start.limits.max_attributes_per_span (start.attributes ++ flat_map attribute_in edits) ≡ cut_at start.limits.max_attributes_per_span (start.attributes ++ flat_map attribute_in (edits ++ edit ∷ [])))
+attributes_stay : (start : SpanStart) (edits : List Edit) (edit : Edit) → attribute_in edit ≡ [] → (cut_at start.limits.max_attributes_per_span (start.attributes ++ flat_map attribute_in edits) ≡ cut_at start.limits.max_attributes_per_span (start.attributes ++ flat_map attribute_in (edits ++ edit ∷ [])))
     × (left_out start.limits.max_attributes_per_span (start.attributes ++ flat_map attribute_in edits) ≡ left_out start.limits.max_attributes_per_span (start.attributes ++ flat_map attribute_in (edits ++ edit ∷ [])))
-same_attributes start edits edit e =
+attributes_stay start edits edit e =
     let same = brings_none attribute_in start.attributes edits edit e in
     (ap (cut_at start.limits.max_attributes_per_span) same, ap (left_out start.limits.max_attributes_per_span) same)
 
@@ -152,24 +152,24 @@ edited-recording start edits (set_attribute attribute) =
     (same_events start edits e refl) (same_links start edits e refl) (same_status edits e refl)
 edited-recording start edits (add_event event) =
     let e : Edit = add_event event in
-    let same = same_attributes start edits e refl in
+    let same = attributes_stay start edits e refl in
     made_same start (same_name start edits e refl) same.0 same.1
     (more_events start.limits (start.events ++ flat_map event_in edits) event _ (brings event_in start.events edits e (event ∷ []) refl))
     (same_links start edits e refl) (same_status edits e refl)
 edited-recording start edits (add_link link) =
     let e : Edit = add_link link in
-    let same = same_attributes start edits e refl in
+    let same = attributes_stay start edits e refl in
     made_same start (same_name start edits e refl) same.0 same.1 (same_events start edits e refl)
     (more_links start.limits (start.links ++ flat_map link_in edits) link _ (brings link_in start.links edits e (link ∷ []) refl))
     (same_status edits e refl)
 edited-recording start edits (set_status status) =
     let e : Edit = set_status status in
-    let same = same_attributes start edits e refl in
+    let same = attributes_stay start edits e refl in
     made_same start (same_name start edits e refl) same.0 same.1 (same_events start edits e refl) (same_links start edits e refl)
     (greatest-push unset status (flat_map status_in edits) ∙ ap (greatest_status unset) (brings status_in [] edits e (status ∷ []) refl))
 edited-recording start edits (update_name name) =
     let e : Edit = update_name name in
-    let same = same_attributes start edits e refl in
+    let same = attributes_stay start edits e refl in
     made_same start (last-push start.name name (flat_map name_in edits) ∙ ap (last_name start.name) (brings name_in [] edits e (name ∷ []) refl))
     same.0 same.1 (same_events start edits e refl) (same_links start edits e refl) (same_status edits e refl)
 

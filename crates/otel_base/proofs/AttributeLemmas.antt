@@ -1,5 +1,5 @@
 -- Finite maps of attributes, by what they answer at a key.
-use Rattle.std.proofs.Common.{◌≡◌, ◌≢◌, AllPairs, ℕ, Bool, true, false, cond, T, ◌&&◌, List, [], ◌∷◌, ◌++◌, map, reverse, length, Option, Some, None, Result, Ok, Err, IfOk, refl, sym, ap, subst, ◌∙◌, arith}
+use Rattle.std.proofs.Common.{◌≡◌, ◌≢◌, AllPairs, ℕ, Bool, true, false, cond, T, ◌&&◌, List, [], ◌∷◌, ◌++◌, map, reverse, length, Option, Some, None, refl, sym, ap, subst, ◌∙◌, arith}
 use Rattle.std.proofs.lemmas.List.{map-append, length-map, reverse-append}
 use Rattle.std.proofs.lemmas.Map.Keys.{IsDistinct-from_sorted}
 use Rattle.std.proofs.lemmas.Map.Made.{AllPairs-from_IsDistinct}
@@ -278,13 +278,6 @@ pub with_pairs-one : (r : PlainResource) (a : PlainKeyValue)
 with_pairs-one r a =
     same_resource _ _ _ _ (put_pair r.attributes r.attributes _ [] a refl (sym (union-empty r.attributes)))
     (sym (merged_schema-none r.schema_url))
-
--- what was built holds what the detector saw
-pub built_as_seen : {E : Type 0} (detects : PlainResource → Type 0) (self parts : PlainResource) (r : Result PlainResource E) (seen : PlainResource)
-    → detects seen → parts ≡ merge self (of_attributes seen.attributes) → IfOk r (λ built. built ≡ parts)
-    → IfOk r (λ built. (s : PlainResource) × detects s × (built ≡ merge self (of_attributes s.attributes)))
-built_as_seen detects self parts (Ok built) seen saw e h = (seen, saw, h ∙ e)
-built_as_seen detects self parts (Err x) seen saw e h = tt
 
 -- attributes merged over nothing
 pub merge_nothing-attributes : (a : Attributes) → merge empty_resource (of_attributes a) ≡ of_attributes a

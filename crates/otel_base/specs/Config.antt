@@ -4,6 +4,7 @@ use Rattle.rand_xoshiro.specs.SplitMix64.{splitmix_seed}
 use Rattle.rand_xoshiro.specs.Xoshiro256.{of_seed}
 use Rattle.otel_base.specs.ConfigStrings.{PlainConfigStrings, IsConfigured, IsConfiguredNumber, IsConfiguredRatio}
 use Rattle.otel_base.specs.DetectedResource.{IsDetected}
+use Rattle.otel_base.specs.Limits.{default_limits}
 use Rattle.otel_base.specs.Ratio.{PlainRatio}
 use Rattle.otel_base.specs.Sampler.{SamplerPlan, plan, always_on, always_off, parent_based, trace_id_ratio_based}
 use Rattle.otel_base.specs.declared.trace.config.ConfigOf.{ConfigOf}
@@ -34,13 +35,16 @@ IsConfiguredSampler strings sampler =
     (ratio : PlainRatio) × IsConfiguredRatio strings.sampler_arg ratio
     × IsConfigured (IsNamed (sampler_names ratio)) strings.sampler (parent_based always_on) sampler
 
--- the limits that are configured, 128 of each where nothing else is said
+-- the limits that are configured, the default ones where nothing else is said
 pub record AreConfiguredLimits (strings : PlainConfigStrings) (limits : SpanLimits) : Type 0 where
-  pub attributes : IsConfiguredNumber 32 strings.attribute_count_limit 128 limits.max_attributes_per_span
-  pub events : IsConfiguredNumber 32 strings.event_count_limit 128 limits.max_events_per_span
-  pub links : IsConfiguredNumber 32 strings.link_count_limit 128 limits.max_links_per_span
-  pub attributes_per_event : limits.max_attributes_per_event ≡ 128
-  pub attributes_per_link : limits.max_attributes_per_link ≡ 128
+  pub attributes : IsConfiguredNumber 32 strings.attribute_count_limit default_limits.max_attributes_per_span
+      limits.max_attributes_per_span
+  pub events : IsConfiguredNumber 32 strings.event_count_limit default_limits.max_events_per_span
+      limits.max_events_per_span
+  pub links : IsConfiguredNumber 32 strings.link_count_limit default_limits.max_links_per_span
+      limits.max_links_per_span
+  pub attributes_per_event : limits.max_attributes_per_event ≡ default_limits.max_attributes_per_event
+  pub attributes_per_link : limits.max_attributes_per_link ≡ default_limits.max_attributes_per_link
 
 -- what strings and a seed configure
 pub record IsConfigOf {C G : Type 0} (strings : PlainConfigStrings) (seed : ℕ)

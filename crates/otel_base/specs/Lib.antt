@@ -9,6 +9,7 @@ pub mod DetectedResource
 pub mod ErrorText
 pub mod IdSource
 pub mod Ids
+pub mod Limits
 pub mod Ratio
 pub mod Resource
 pub mod SameResource

@@ -41,12 +41,19 @@ four_items h (x ∷ more) a b c d p q r s least most ea eb ec ed ep eq er es =
 pub four_ask : (words : List (List ℕ)) (queue batch producers : List ℕ) (found : Option Sizes) → words ≡ codes "steps" ∷ queue ∷ batch ∷ producers ∷ []
     → MatchOption found ((sizes : Sizes) → WriteSizes queue batch producers sizes → ⊥) (λ sizes. WriteSizes queue batch producers sizes)
     → MatchOption found ((sizes : Sizes) → AsksForSteps words sizes → ⊥) (λ sizes. AsksForSteps words sizes)
-four_ask words queue batch producers (Some sizes) e is = (queue, batch, producers, is, e)
+four_ask words queue batch producers (Some sizes) e is = record {
+  queue = queue;
+  batch = batch;
+  producers = producers;
+  written = is;
+  words_are = e;
+}
 four_ask words queue batch producers None e isnt = λ sizes asks.
-    let one : queue ≡ asks.0 = cc in
-    let two : batch ≡ asks.1 = cc in
-    let three : producers ≡ asks.2 = cc in
-    isnt sizes (rw (one, two, three) asks.3)
+    let said : words ≡ codes "steps" ∷ asks.queue ∷ asks.batch ∷ asks.producers ∷ [] = asks.words_are in
+    let one : queue ≡ asks.queue = cc in
+    let two : batch ≡ asks.batch = cc in
+    let three : producers ≡ asks.producers = cc in
+    isnt sizes (rw (one, two, three) asks.written)
 
 -- sizes, one by one
 abbrev sizes_of : ℕ → ℕ → ℕ → Sizes
@@ -55,12 +62,14 @@ sizes_of queue batch producers = record { queue = queue; batch = batch; producer
 -- words ask for one machine's sizes
 steps_once : (words : List (List ℕ)) (sizes other : Sizes) → AsksForSteps words sizes → AsksForSteps words other → sizes ≡ other
 steps_once words sizes other asks more =
-    let one : asks.0 ≡ more.0 = cc in
-    let two : asks.1 ≡ more.1 = cc in
-    let three : asks.2 ≡ more.2 = cc in
-    let queue : sizes.queue ≡ other.queue = asks.3.0.1 ∙ ap (λ d. digits_value 10 d) one ∙ sym more.3.0.1 in
-    let batch : sizes.batch ≡ other.batch = asks.3.1.1 ∙ ap (λ d. digits_value 10 d) two ∙ sym more.3.1.1 in
-    let producers : sizes.producers ≡ other.producers = asks.3.2.1 ∙ ap (λ d. digits_value 10 d) three ∙ sym more.3.2.1 in
+    let said : words ≡ codes "steps" ∷ asks.queue ∷ asks.batch ∷ asks.producers ∷ [] = asks.words_are in
+    let too : words ≡ codes "steps" ∷ more.queue ∷ more.batch ∷ more.producers ∷ [] = more.words_are in
+    let one : asks.queue ≡ more.queue = cc in
+    let two : asks.batch ≡ more.batch = cc in
+    let three : asks.producers ≡ more.producers = cc in
+    let queue : sizes.queue ≡ other.queue = asks.written.0.1 ∙ ap (λ d. digits_value 10 d) one ∙ sym more.written.0.1 in
+    let batch : sizes.batch ≡ other.batch = asks.written.1.1 ∙ ap (λ d. digits_value 10 d) two ∙ sym more.written.1.1 in
+    let producers : sizes.producers ≡ other.producers = asks.written.2.1 ∙ ap (λ d. digits_value 10 d) three ∙ sym more.written.2.1 in
     let same : sizes_of sizes.queue sizes.batch sizes.producers ≡ sizes_of other.queue other.batch other.producers = rw (queue, batch, producers) refl in
     same
 
@@ -72,7 +81,8 @@ steps_sized words sizes other input input_after bad_line output output_after ask
 
 -- no words ask for both
 pub one_mode : (words : List (List ℕ)) (seed : ℕ) (sizes : Sizes) → AsksFor words seed → AsksForSteps words sizes → ⊥
-one_mode words seed sizes asks more = let same : codes "trace" ∷ asks.0 ∷ codes "simple" ∷ [] ≡ codes "steps" ∷ more.0 ∷ more.1 ∷ more.2 ∷ [] = cc in cc
+one_mode words seed sizes asks more =
+    let same : codes "trace" ∷ asks.0 ∷ codes "simple" ∷ [] ≡ codes "steps" ∷ more.queue ∷ more.batch ∷ more.producers ∷ [] = sym asks.2 ∙ more.words_are in cc
 
 -- what was read onto nothing is the whole
 pub whole_read : (stream : Option (List ℕ)) (before now bytes : List ℕ) → before ≡ [] → bytes ≡ now

@@ -22,24 +22,24 @@ module _ {P S G : Type 0} (calls : Ghosts P) (keeps : keeping.Ghosts P) (sampler
   DemandAll-push : (scope : PlainScope) (old middle new : Course P S G) (before shown : ℕ) (commands : List PlainCommand) (replies : List PlainReply) (ds d : List Delivery) (command : PlainCommand) (reply : PlainReply)
       → DemandAll calls keeps sampler ids scope old before commands replies ds middle shown → Replies calls keeps sampler ids scope middle shown command reply d new
       → DemandAll calls keeps sampler ids scope old before (commands ++ command ∷ []) (replies ++ reply ∷ []) (ds ++ d) new (length (batches_of_first keeps new.provider.processors))
-  DemandAll-push scope old middle new before shown [] [] ds d command reply h k = (
-    new,
-    d,
-    [],
-    subst (λ (n : ℕ). Replies calls keeps sampler ids scope old n command reply d new) h.2 (subst (λ (m : Course P S G). Replies calls keeps sampler ids scope m shown command reply d new) h.1 k),
-    (refl, refl, refl),
-    ap (λ (l : List Delivery). l ++ d) h.0 ∙ sym (append-nil d),
-  )
+  DemandAll-push scope old middle new before shown [] [] ds d command reply h k = record {
+    middle = new;
+    first = d;
+    rest = [];
+    replied = subst (λ (n : ℕ). Replies calls keeps sampler ids scope old n command reply d new) h.2 (subst (λ (m : Course P S G). Replies calls keeps sampler ids scope m shown command reply d new) h.1 k);
+    others = (refl, refl, refl);
+    joined = ap (λ (l : List Delivery). l ++ d) h.0 ∙ sym (append-nil d);
+  }
   DemandAll-push scope old middle new before shown [] (r ∷ replies) ds d command reply h k = absurd h
   DemandAll-push scope old middle new before shown (c ∷ commands) [] ds d command reply h k = absurd h
-  DemandAll-push scope old middle new before shown (c ∷ commands) (r ∷ replies) ds d command reply h k = (
-    h.0,
-    h.1,
-    h.2 ++ d,
-    h.3,
-    DemandAll-push scope h.0 middle new (length (batches_of_first keeps h.0.provider.processors)) shown commands replies h.2 d command reply h.4 k,
-    ap (λ (l : List Delivery). l ++ d) h.5 ∙ append_assoc h.1 h.2 d,
-  )
+  DemandAll-push scope old middle new before shown (c ∷ commands) (r ∷ replies) ds d command reply h k = record {
+    middle = h.middle;
+    first = h.first;
+    rest = h.rest ++ d;
+    replied = h.replied;
+    others = DemandAll-push scope h.middle middle new (length (batches_of_first keeps h.middle.provider.processors)) shown commands replies h.rest d command reply h.others k;
+    joined = ap (λ (l : List Delivery). l ++ d) h.joined ∙ append_assoc h.first h.rest d;
+  }
 
   -- no command
   carries_nothing : (session : SessionState P S G) → CarriesOut calls keeps sampler ids session [] [] session

@@ -48,24 +48,32 @@ none_shown batches n h = ap spans_in (sym (drop_of_length-le (take n batches) (s
 
 -- no reply
 pub shows_nothing : {P S G : Type 0} (keeps : keeping.Ghosts P) (session : SessionState P S G) → Shows keeps session [] session
-shows_nothing keeps session = (appends_none _ _ refl, λ within. (omega arith, within, none_shown (session_batches keeps session) session.shown within))
+shows_nothing keeps session = record {
+  grows = appends_none _ _ refl;
+  in_order = λ within. record {
+    not_fewer = omega arith;
+    no_more_than_kept = within;
+    exported = none_shown (session_batches keeps session) session.shown within;
+  };
+}
 
 -- batches came, and no reply
 pub shows_no_more : {P S G : Type 0} (keeps : keeping.Ghosts P) (old middle new : SessionState P S G) (replies : List PlainReply)
     → Shows keeps old replies middle → Grows (session_batches keeps middle) (session_batches keeps new) → new.shown ≡ middle.shown
     → Shows keeps old replies new
-shows_no_more keeps old middle new replies h k e = (
-  appends_more _ _ _ h.0 k,
-  λ within.
-      let shown = h.1 within in
-      let longer = appends_length _ _ k in (
-        subst (λ (n : ℕ). old.shown ≤ n) (sym e) shown.0,
-        omega (arith, e, shown.1, longer),
-        shown.2
+shows_no_more keeps old middle new replies h k e = record {
+  grows = appends_more _ _ _ h.grows k;
+  in_order = λ within.
+      let shown = h.in_order within in
+      let all : middle.shown ≤ length (session_batches keeps middle) = shown.no_more_than_kept in
+      let longer = appends_length _ _ k in record {
+        not_fewer = subst (λ (n : ℕ). old.shown ≤ n) (sym e) shown.not_fewer;
+        no_more_than_kept = omega (arith, e, all, longer);
+        exported = shown.exported
             ∙ ap (λ (l : Batches). spans_in (drop old.shown l))
-            (sym (take-append-le middle.shown (session_batches keeps middle) k.0 shown.1) ∙ ap (take middle.shown) (sym k.1) ∙ ap (λ (n : ℕ). take n (session_batches keeps new)) (sym e)),
-      ),
-)
+            (sym (take-append-le middle.shown (session_batches keeps middle) k.0 all) ∙ ap (take middle.shown) (sym k.1) ∙ ap (λ (n : ℕ). take n (session_batches keeps new)) (sym e));
+      };
+}
 
 split_drop : (batches : Batches) (a b : ℕ) → a ≤ b → b ≤ length batches → drop a (take b batches) ++ drop b batches ≡ drop a batches
 split_drop batches a b h k =
@@ -77,20 +85,22 @@ pub shows_reply : {P S G : Type 0} (keeps : keeping.Ghosts P) (old middle new : 
     → Shows keeps old replies middle → reply.exported ≡ unshown keeps middle → new ≡ record middle { shown = length (session_batches keeps middle) }
     → Shows keeps old (replies ++ reply ∷ []) new
 shows_reply {P} {S} {G} keeps old middle new replies reply h e n =
-    subst (λ (s : SessionState P S G). Shows keeps old (replies ++ reply ∷ []) s) (sym n) (
-      h.0,
-      λ within.
-          let shown = h.1 within in
-          let batches = session_batches keeps middle in (
-            omega (arith, shown.0, shown.1),
-            omega arith,
-            flat_map-append (λ r. r.exported) replies (reply ∷ [])
+    subst (λ (s : SessionState P S G). Shows keeps old (replies ++ reply ∷ []) s) (sym n) (record {
+      grows = h.grows;
+      in_order = λ within.
+          let shown = h.in_order within in
+          let less : old.shown ≤ middle.shown = shown.not_fewer in
+          let all : middle.shown ≤ length (session_batches keeps middle) = shown.no_more_than_kept in
+          let batches = session_batches keeps middle in record {
+            not_fewer = omega (arith, less, all);
+            no_more_than_kept = omega arith;
+            exported = flat_map-append (λ r. r.exported) replies (reply ∷ [])
                 ∙ ap (λ (l : List PlainSpanData). exported_in replies ++ l) (append-nil reply.exported ∙ e)
-                ∙ ap (λ (l : List PlainSpanData). l ++ spans_in (drop middle.shown batches)) shown.2
+                ∙ ap (λ (l : List PlainSpanData). l ++ spans_in (drop middle.shown batches)) shown.exported
                 ∙ sym (flat_map-append (λ b. b) (drop old.shown (take middle.shown batches)) (drop middle.shown batches))
-                ∙ ap spans_in (split_drop batches old.shown middle.shown shown.0 shown.1 ∙ ap (drop old.shown) (sym (take_all (length batches) batches (omega arith)))),
-          ),
-    )
+                ∙ ap spans_in (split_drop batches old.shown middle.shown less all ∙ ap (drop old.shown) (sym (take_all (length batches) batches (omega arith))));
+          };
+    })
 
 pub none_left : {P S G : Type 0} (keeps : keeping.Ghosts P) (middle new : SessionState P S G) (replies : List PlainReply) → new ≡ record middle { shown = length (session_batches keeps middle) } → NoneLeft keeps replies new
 none_left {P} {S} {G} keeps middle new replies e = subst (λ (s : SessionState P S G). NoneLeft keeps replies s) (sym e) (inr refl)

@@ -32,7 +32,16 @@ follow_more : (now next : Machine StoredBatches) (line : List ℕ) (more : List 
     → line ≢ [] → ReadsOrder line order → Obeys now order answer next → ObeysEach next (number + 1) more bad_line answers after → ObeysEach now number (line ∷ more) bad_line (answer ++ answers) after
 follow_more now next [] more number order answer bad_line answers after some reads obeys f = absurd (some refl)
 follow_more now next (b ∷ line) more number order answer bad_line answers after some reads obeys f =
-    inr (order, answer, answers, next, reads, obeys, f, refl)
+    inr (record {
+      order = order;
+      answer = answer;
+      rest = answers;
+      next = next;
+      reads = reads;
+      obeys = obeys;
+      others = f;
+      joined = refl;
+    })
 
 -- a line that reads as an order
 pub followed_more : (start now next : Machine StoredBatches) (text rest line behind before out longer : List ℕ) (number : ℕ) (order : Order) (answer : List ℕ) → HasFollowed start now text rest before out number
@@ -63,7 +72,7 @@ followed_all start now text rest before out number h none =
 -- one bad line in front
 follow_bad : (now : Machine StoredBatches) (line : List ℕ) (more : List (List ℕ)) (number : ℕ) → line ≢ [] → ((order : Order) → ReadsOrder line order → ⊥) → ObeysEach now number (line ∷ more) (Some (number + 1)) [] now
 follow_bad now [] more number some bad = absurd (some refl)
-follow_bad now (b ∷ line) more number some bad = inl ((some, bad), refl, refl, refl)
+follow_bad now (b ∷ line) more number some bad = inl (record { is_bad = (some, bad); named = refl; says_nothing = refl; stays = refl })
 
 -- the next line is bad
 pub followed_bad : (start now : Machine StoredBatches) (text rest line behind before out : List ℕ) (number : ℕ) → HasFollowed start now text rest before out number → lines rest ≡ line ∷ lines behind → line ≢ []

@@ -243,8 +243,8 @@ module _ {P S G : Type 0} (calls : Ghosts P) (keeps : keeping.Ghosts P) (sampler
   all_persist scope old new before shown [] (r ∷ replies) ds h = absurd h
   all_persist scope old new before shown (c ∷ commands) [] ds h = absurd h
   all_persist scope old new before shown (c ∷ commands) (r ∷ replies) ds h =
-      persists_on old.histories h.0.histories new.histories (one_persists calls sampler ids scope old h.0 c r.answer h.1 h.3.demands)
-      (all_persist scope h.0 new (length (batches_of_first keeps h.0.provider.processors)) shown commands replies h.2 h.4)
+      persists_on old.histories h.middle.histories new.histories (one_persists calls sampler ids scope old h.middle c r.answer h.first h.replied.demands)
+      (all_persist scope h.middle new (length (batches_of_first keeps h.middle.provider.processors)) shown commands replies h.rest h.others)
 
   all_join : (scope : PlainScope) (root : PlainSpanContext) (is_in : List ℕ → Bool) (old new : Course P S G) (before shown : ℕ) (commands : List PlainCommand) (replies : List PlainReply) (ds : List Delivery)
       → GoesByParents sampler old.provider.sampler → old.provider.is_shut ≡ false → EachAgrees root is_in new.histories
@@ -253,20 +253,20 @@ module _ {P S G : Type 0} (calls : Ghosts P) (keeps : keeping.Ghosts P) (sampler
   all_join scope root is_in old new before shown [] (r ∷ replies) ds by_parents is_open agree h = absurd h
   all_join scope root is_in old new before shown (c ∷ commands) [] ds by_parents is_open agree h = absurd h
   all_join scope root is_in old new before shown (c ∷ commands) (r ∷ replies) ds by_parents is_open agree h = by (is_shutdown c) refl
-      (λ next still stays_open joins. all_join scope root next h.0 new (length (batches_of_first keeps h.0.provider.processors)) shown commands replies h.2 still stays_open joins h.4)
+      (λ next still stays_open joins. all_join scope root next h.middle new (length (batches_of_first keeps h.middle.provider.processors)) shown commands replies h.rest still stays_open joins h.others)
     where
-      behind : Persists h.0.histories new.histories
-      behind = all_persist scope h.0 new (length (batches_of_first keeps h.0.provider.processors)) shown commands replies h.2 h.4
+      behind : Persists h.middle.histories new.histories
+      behind = all_persist scope h.middle new (length (batches_of_first keeps h.middle.provider.processors)) shown commands replies h.rest h.others
 
       by : (b : Bool) → is_shutdown c ≡ b
-          → ((next : List ℕ → Bool) → GoesByParents sampler h.0.provider.sampler → h.0.provider.is_shut ≡ false → EachAgrees root next new.histories → EachAgrees root (with_children next commands replies) new.histories)
+          → ((next : List ℕ → Bool) → GoesByParents sampler h.middle.provider.sampler → h.middle.provider.is_shut ≡ false → EachAgrees root next new.histories → EachAgrees root (with_children next commands replies) new.histories)
           → EachAgrees root (if b then is_in else with_children (with_child is_in c r.answer) commands replies) new.histories
       by true e goes = agree
       by false e goes =
-          let stay = one_stays calls sampler ids scope old h.0 c r.answer h.1 e h.3.demands in
-          let one = one_persists calls sampler ids scope old h.0 c r.answer h.1 h.3.demands in
+          let stay = one_stays calls sampler ids scope old h.middle c r.answer h.first e h.replied.demands in
+          let one = one_persists calls sampler ids scope old h.middle c r.answer h.first h.replied.demands in
           goes (with_child is_in c r.answer) (subst (GoesByParents sampler) (sym stay.1) by_parents) (stay.0 ∙ is_open)
-          (one_joins calls sampler ids scope root is_in new.histories old h.0 c r.answer h.1 by_parents is_open (persists_on old.histories h.0.histories new.histories one behind) behind agree h.3.demands)
+          (one_joins calls sampler ids scope root is_in new.histories old h.middle c r.answer h.first by_parents is_open (persists_on old.histories h.middle.histories new.histories one behind) behind agree h.replied.demands)
 
   -- the spans of names, by histories that they have
   by_history : (found : Option SpanHistory) (span : PlainSpan) → Some span ≡ option_map span_of found → (h : SpanHistory) × (found ≡ Some h) × (span_of h ≡ span)

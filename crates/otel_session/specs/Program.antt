@@ -5,6 +5,7 @@ use Rattle.std.specs.Fmt.{decimal}
 use Rattle.std.specs.Io.KnownBytes.{Appends, IsAtEnd}
 use Rattle.rand_xoshiro.specs.SplitMix64.{splitmix_seed}
 use Rattle.rand_xoshiro.specs.Xoshiro256.{of_seed}
+use Rattle.otel_base.specs.Limits.{default_limits}
 use Rattle.otel_base.specs.Sampler.{plan, always_on, parent_based}
 use Rattle.otel_base.specs.declared.trace.sampler.SamplerOf.{SamplerOf}
 use Rattle.otel_base.specs.declared.trace.sampler.ShouldSample as sampling
@@ -39,9 +40,12 @@ WriteSizes queue batch producers sizes =
     IsMoment queue sizes.queue × IsMoment batch sizes.batch × IsMoment producers sizes.producers
 
 -- the words `steps Q B P`, where the sizes are written as a moment is
-abbrev pub AsksForSteps : List (List ℕ) → Sizes → Type 0
-AsksForSteps words sizes = (queue batch producers : List ℕ) × WriteSizes queue batch producers sizes
-    × (words ≡ codes "steps" ∷ queue ∷ batch ∷ producers ∷ [])
+pub record AsksForSteps (words : List (List ℕ)) (sizes : Sizes) : Type 0 where
+  pub queue : List ℕ
+  pub batch : List ℕ
+  pub producers : List ℕ
+  pub written : WriteSizes queue batch producers sizes
+  pub words_are : words ≡ codes "steps" ∷ queue ∷ batch ∷ producers ∷ []
 
 -- words of neither kind
 abbrev pub AsksForNothing : List (List ℕ) → Type 0
@@ -69,13 +73,7 @@ pub record IsProviderOfSeed {C D E : Type 0} (seed : ℕ)
   }) ∷ []
   pub sampler : plan provider.sampler ≡ parent_based always_on
   pub id_generator : provider.id_generator ≡ of_seed (splitmix_seed 32 seed)
-  pub span_limits : provider.span_limits ≡ record {
-    max_events_per_span = 128;
-    max_attributes_per_span = 128;
-    max_links_per_span = 128;
-    max_attributes_per_event = 128;
-    max_attributes_per_link = 128;
-  }
+  pub span_limits : provider.span_limits ≡ default_limits
   pub is_open : provider.is_shut ≡ false
 
 -- what a processor in the place of that one keeps: the batches of its exporter in memory
@@ -112,8 +110,11 @@ TracesSeed {C} {D} {E} calls sampler ids seed input input_after bad_line output 
     × TracesWhole calls memory_batches sampler ids provider input input_after bad_line output output_after
 
 -- the whole input was read, and the output was given what answers its lines, as they step a new batch queue
-abbrev pub StepsSized : Sizes → Option (List ℕ) → Option (List ℕ) → Option ℕ → Option (List ℕ) → Option (List ℕ)
-    → Type 0
-StepsSized sizes input input_after bad_line output output_after = (bytes answers : List ℕ)
-    × (after : Machine StoredBatches) × ReadsWhole input input_after bytes
-    × AnswersLines (machine_of sizes) bytes bad_line answers after × Appends output output_after answers
+pub record StepsSized (sizes : Sizes) (input input_after : Option (List ℕ)) (bad_line : Option ℕ)
+    (output output_after : Option (List ℕ)) : Type 0 where
+  pub bytes : List ℕ
+  pub answers : List ℕ
+  pub after : Machine StoredBatches
+  pub read : ReadsWhole input input_after bytes
+  pub answered : AnswersLines (machine_of sizes) bytes bad_line answers after
+  pub written : Appends output output_after answers

@@ -299,12 +299,16 @@ module _ {P S G : Type 0} (keeps : keeping.Ghosts P) where
   abbrev pub unshown : SessionState P S G → List PlainSpanData
   unshown session = spans_in (unshown_batches session)
 
-  -- batches are kept behind those that were kept, and the replies show them in order and each once: the spans of the
-  -- batches behind those that were shown before, up to those that are shown now
-  abbrev pub Shows : SessionState P S G → List PlainReply → SessionState P S G → Type 0
-  Shows old replies new = Grows (session_batches old) (session_batches new)
-      × (old.shown ≤ length (session_batches old) → (old.shown ≤ new.shown) × (new.shown ≤ length (session_batches new))
-      × (exported_in replies ≡ spans_in (drop old.shown (take new.shown (session_batches new)))))
+  -- the replies show the spans of the batches behind so many, up to those that are shown now
+  pub record ShowsFrom (before : ℕ) (replies : List PlainReply) (new : SessionState P S G) : Type 0 where
+    pub not_fewer : before ≤ new.shown
+    pub no_more_than_kept : new.shown ≤ length (session_batches new)
+    pub exported : exported_in replies ≡ spans_in (drop before (take new.shown (session_batches new)))
+
+  -- batches are kept behind those that were kept, and the replies show them in order and each once
+  pub record Shows (old : SessionState P S G) (replies : List PlainReply) (new : SessionState P S G) : Type 0 where
+    pub grows : Grows (session_batches old) (session_batches new)
+    pub in_order : old.shown ≤ length (session_batches old) → ShowsFrom old.shown replies new
 
   -- behind a reply nothing is left to show
   abbrev pub NoneLeft : List PlainReply → SessionState P S G → Type 0
@@ -327,19 +331,26 @@ module _ {P S G : Type 0} (calls : Ghosts P) (keeps : keeping.Ghosts P) (sampler
     pub loses_none : IsFalse (may_lose command)
         → losses_of_first keeps new.provider.processors ≡ losses_of_first keeps old.provider.processors
 
-  -- commands one after another, each with its reply, which begins behind the batches that were shown before it: the
-  -- deliveries join
+  -- one command with its reply, and then others, which begin behind the batches that the reply shows: the deliveries
+  -- join
+  pub record RepliesThen (scope : PlainScope) (old : Course P S G) (shown : ℕ) (command : PlainCommand)
+      (reply : PlainReply) (ds : List Delivery) (go_on : Course P S G → ℕ → List Delivery → Type 0) : Type 0 where
+    pub middle : Course P S G
+    pub first : List Delivery
+    pub rest : List Delivery
+    pub replied : Replies scope old shown command reply first middle
+    pub others : go_on middle (length (batches_of_first keeps middle.provider.processors)) rest
+    pub joined : ds ≡ first ++ rest
+
+  -- commands one after another, each with its reply
   abbrev pub DemandAll : PlainScope → Course P S G → ℕ → List PlainCommand → List PlainReply → List Delivery
       → Course P S G → ℕ → Type 0
   DemandAll scope old before [] [] ds new shown = (ds ≡ []) × (new ≡ old) × (shown ≡ before)
   DemandAll scope old before [] (reply ∷ replies) ds new shown = ⊥
   DemandAll scope old before (command ∷ commands) [] ds new shown = ⊥
   DemandAll scope old before (command ∷ commands) (reply ∷ replies) ds new shown =
-      (middle : Course P S G) × (first : List Delivery) × (rest : List Delivery)
-      × Replies scope old before command reply first middle
-      × DemandAll scope middle (length (batches_of_first keeps middle.provider.processors)) commands replies rest new
-      shown
-      × (ds ≡ first ++ rest)
+      RepliesThen scope old before command reply ds
+      (λ middle next rest. DemandAll scope middle next commands replies rest new shown)
 
   -- what commands demand of the histories that the spans of a session had; each processor follows all that was
   -- delivered, in order; and at an open provider under a sampler that goes by parents each trace is sampled whole
@@ -410,11 +421,22 @@ module _ {P S G : Type 0} (calls : Ghosts P) (keeps : keeping.Ghosts P) (sampler
       (commands : List Command) × TextSpells bytes (plain_commands commands) bad_line
       × WritesAll old commands before now new
 
-  -- memory ran out: nothing was carried out of a text that says something, or a beginning of the commands that it spells
+  -- memory ran out before the text was read, so it says something, and nothing was carried out
+  pub record FeedsNothing (old : SessionState P S G) (bytes before now : List ℕ)
+      (new : SessionState P S G) : Type 0 where
+    pub says_something : bytes ≢ []
+    pub nothing_written : now ≡ before
+    pub nothing_done : new ≡ old
+
+  -- memory ran out behind a beginning of the commands that the text spells
+  pub record FeedsSome (old : SessionState P S G) (bytes before now : List ℕ) (new : SessionState P S G) : Type 0 where
+    pub commands : List Command
+    pub bad_line : Option ℕ
+    pub spelled : TextSpells bytes (plain_commands commands) bad_line
+    pub wrote : WritesBeginning old commands before now new
+
   abbrev pub FeedsBeginning : SessionState P S G → List ℕ → List ℕ → List ℕ → SessionState P S G → Type 0
-  FeedsBeginning old bytes before now new = ((bytes ≢ []) × (now ≡ before) × (new ≡ old))
-      ⊎ ((commands : List Command) × (bad_line : Option ℕ) × TextSpells bytes (plain_commands commands) bad_line
-      × WritesBeginning old commands before now new)
+  FeedsBeginning old bytes before now new = FeedsNothing old bytes before now new ⊎ FeedsSome old bytes before now new
 
   -- what feeding a text does, by its answer
   abbrev pub Feeds : {T : Type 0} → SessionState P S G → List ℕ → List ℕ → Result T FeedError → List ℕ

@@ -37,16 +37,34 @@ Obeys m (orders.Step step) text after =
     (outcome : Outcome) × Stepped memory_calls m step outcome after × (text ≡ line (outcome_text after.hand outcome))
 Obeys m orders.State text after = (after ≡ m) × (text ≡ line (state_text m))
 
+-- the line of this number is bad: nothing is done, and nothing answered
+pub record StopsAt (m : Machine StoredBatches) (number : ℕ) (bytes : List ℕ) (bad_line : Option ℕ) (text : List ℕ)
+    (after : Machine StoredBatches) : Type 0 where
+  pub is_bad : IsBadOrder bytes
+  pub named : bad_line ≡ Some number
+  pub says_nothing : text ≡ []
+  pub stays : after ≡ m
+
+-- a line is obeyed and answered, and then others
+pub record ObeysThen (m : Machine StoredBatches) (bytes text : List ℕ)
+    (go_on : Machine StoredBatches → List ℕ → Type 0) : Type 0 where
+  pub order : Order
+  pub answer : List ℕ
+  pub rest : List ℕ
+  pub next : Machine StoredBatches
+  pub reads : ReadsOrder bytes order
+  pub obeys : Obeys m order answer next
+  pub others : go_on next rest
+  pub joined : text ≡ answer ++ rest
+
 -- what lines do, one by one up to the first bad one, and their answers. Empty lines are left out, but counted: so many
 -- lines stand before these
 abbrev pub ObeysEach : Machine StoredBatches → ℕ → List (List ℕ) → Option ℕ → List ℕ → Machine StoredBatches → Type 0
 ObeysEach m number [] bad_line text after = (bad_line ≡ None) × (text ≡ []) × (after ≡ m)
 ObeysEach m number ([] ∷ more) bad_line text after = ObeysEach m (number + 1) more bad_line text after
 ObeysEach m number ((b ∷ bytes) ∷ more) bad_line text after =
-    (IsBadOrder (b ∷ bytes) × (bad_line ≡ Some (number + 1)) × (text ≡ []) × (after ≡ m))
-    ⊎ ((order : Order) × (answer rest : List ℕ) × (next : Machine StoredBatches)
-    × ReadsOrder (b ∷ bytes) order × Obeys m order answer next
-    × ObeysEach next (number + 1) more bad_line rest after × (text ≡ answer ++ rest))
+    StopsAt m (number + 1) (b ∷ bytes) bad_line text after
+    ⊎ ObeysThen m (b ∷ bytes) text (λ next rest. ObeysEach next (number + 1) more bad_line rest after)
 
 -- what a text does to a machine, and the text that answers it
 abbrev pub AnswersLines : Machine StoredBatches → List ℕ → Option ℕ → List ℕ → Machine StoredBatches → Type 0

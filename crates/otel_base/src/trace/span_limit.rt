@@ -12,14 +12,9 @@ pub struct SpanLimits {
 
 impl Default for SpanLimits {
     ghost use Rattle.std.specs.Prelude.{◌≡◌};
+    ghost use Rattle.otel_base.specs.Limits.{default_limits};
 
-    ghost is_default = { λ limits. limits ≡ record {
-      max_events_per_span = 128;
-      max_attributes_per_span = 128;
-      max_links_per_span = 128;
-      max_attributes_per_event = 128;
-      max_attributes_per_link = 128;
-    } };
+    ghost is_default = { λ limits. limits ≡ default_limits };
 
     /// 128 of each.
     fn default() -> SpanLimits {

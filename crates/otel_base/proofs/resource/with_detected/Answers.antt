@@ -6,7 +6,7 @@ use Rattle.otel_base.proofs.AttributeLemmas.{merge-nothing, merge_attributes-mer
 use Rattle.otel_base.proofs.resource.with_detected.Goals as goal
 
 pub loop-detector-init : goal.loop-detector-init
-loop-detector-init g c = ([], tt, sym (merge-nothing c.args.parts))
+loop-detector-init g c = ([], tt, sym (merge-nothing c.args.builder))
 
 pub loop-detector-preserved : goal.loop-detector-preserved
 loop-detector-preserved g c =
@@ -19,7 +19,7 @@ loop-detector-preserved g c =
       seen ++ found ∷ [],
       subst (λ ds. AllZip g.D.ResourceDetector.detects ds (seen ++ found ∷ [])) (sym more)
           (all_zip_push g.D.ResourceDetector.detects _ _ _ _ zipped c.in_ok-seen.ensures.ok),
-      c.in_ok-parts.ensures ∙ ap (λ (r : PlainResource). merge r (of_attributes found.attributes)) so_far
-          ∙ merge_attributes-merge c.args.parts (all_attributes seen) found.attributes
-          ∙ ap (λ a. merge c.args.parts (of_attributes a)) (sym (all_attributes-push seen found)),
+      c.in_ok-builder.ensures.ok ∙ ap (λ (r : PlainResource). merge r (of_attributes found.attributes)) so_far
+          ∙ merge_attributes-merge c.args.builder (all_attributes seen) found.attributes
+          ∙ ap (λ a. merge c.args.builder (of_attributes a)) (sym (all_attributes-push seen found)),
     )

@@ -5,4 +5,4 @@ use Rattle.otel_base.proofs.resource.with_detected.Given as goal
 
 abbrev pub invariant-loop-detector : goal.invariant-loop-detector
 invariant-loop-detector g l =
-    (seen : List PlainResource) × AllZip g.D.ResourceDetector.detects (take l.detector-index l.detectors) seen × (l.parts ≡ merge l.fn.parts (of_attributes (all_attributes seen)))
+    (seen : List PlainResource) × AllZip g.D.ResourceDetector.detects (take l.detector-index l.detectors) seen × (l.builder ≡ merge l.fn.builder (of_attributes (all_attributes seen)))

@@ -5,10 +5,19 @@ use Rattle.otel_session.proofs.Clauses.{fails_on_err}
 use Rattle.otel_session.proofs.session.Session.feed.Goals as goal
 
 pub returns-in_default : goal.returns-in_default
-returns-in_default g c = inl (fails_on_err c.in_default.ensures.free, refl, refl)
+returns-in_default g c = inl (record {
+  says_something = fails_on_err c.in_default.ensures.free;
+  nothing_written = refl;
+  nothing_done = refl;
+})
 
 pub returns-in_default-run_and_write : goal.returns-in_default-run_and_write
-returns-in_default-run_and_write g c = inr (c.in-Ok.script.commands.items, c.in-Ok.script.bad_line, c.in-Ok.ensures.spelled, c.in_default-run_and_write.ensures.err)
+returns-in_default-run_and_write g c = inr (record {
+  commands = c.in-Ok.script.commands.items;
+  bad_line = c.in-Ok.script.bad_line;
+  spelled = c.in-Ok.ensures.spelled;
+  wrote = c.in_default-run_and_write.ensures.err;
+})
 
 pub returns-in-Some : goal.returns-in-Some
 returns-in-Some g c = (
