@@ -1,6 +1,6 @@
 -- The batches that the in-memory exporter of a processor keeps, and how many it lost. A call of a processor only adds
 -- batches behind those that are kept.
-use Rattle.std.specs.Prelude.{◌≡◌, ◌++◌, ◌&&◌, not, ℕ, List, [], ◌∷◌, ◌⊎◌, Bool, true, false, Result, Ok, Err, refl}
+use Rattle.std.specs.Prelude.{◌≡◌, ◌++◌, ◌&&◌, not, ℕ, List, [], ◌∷◌, Bool, true, false, Result, Ok, Err, refl}
 use Rattle.std.specs.declared.alloc.AllocError.{AllocError}
 use Rattle.std.proofs.Common.{ap, sym, ◌∙◌, append-nil, inl, inr}
 use Rattle.opentelemetry.specs.Plain.{PlainContext}
