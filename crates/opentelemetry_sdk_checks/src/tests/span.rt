@@ -140,10 +140,16 @@ fn attributes_at(alloc: Global, limit: u32) -> Result<(String, u32), AllocError>
 
 #[test]
 fn attributes_over_the_limit_are_counted(rt: HostRuntime) -> Result<(), Fail> {
-    for (limit, kept, dropped) in [(2, "ab", 2), (0, "", 4), (3, "abc", 1), (4, "abcd", 0)] {
+    let cases = [
+        ("the builder's fill the limit", 2, "ab", 2),
+        ("none is kept", 0, "", 4),
+        ("one that was set has room", 3, "abc", 1),
+        ("all have room", 4, "abcd", 0),
+    ];
+    for (case, limit, kept, dropped) in cases {
         let (keys, dropped_count) = attributes_at(rt.alloc(), limit)?;
-        assert_eq!(rt; keys.as_str(), kept);
-        assert_eq!(rt; dropped_count, dropped);
+        assert_eq!(rt; keys.as_str(), kept, "{case}");
+        assert_eq!(rt; dropped_count, dropped, "{case}");
     }
     Ok(())
 }
@@ -186,10 +192,16 @@ fn counts_at(alloc: Global, limit: u32) -> Result<[(usize, u32); 2], AllocError>
 
 #[test]
 fn events_and_links_over_their_limits_are_counted(rt: HostRuntime) -> Result<(), Fail> {
-    for (limit, kept, dropped) in [(0, 0, 2), (1, 1, 1), (2, 2, 0)] {
+    let cases = [
+        ("none is kept", 0, 0, 2),
+        ("the second has no room", 1, 1, 1),
+        ("both have room", 2, 2, 0),
+    ];
+    for (case, limit, kept, dropped) in cases {
         assert_eq!(rt;
             counts_at(rt.alloc(), limit)?,
-            [(kept, dropped), (kept, dropped)]
+            [(kept, dropped), (kept, dropped)],
+            "{case}"
         );
     }
     Ok(())
@@ -221,11 +233,17 @@ fn cut_at_one(alloc: Global, given: u8, count: u32) -> Result<Vec<(usize, u32)>,
 #[test]
 fn attributes_of_events_and_links_are_cut_and_counted_anew(rt: HostRuntime) -> Result<(), Fail> {
     // The attributes that are handed in, the count beside them, how many are kept, and the count then.
-    for (given, count, kept, dropped) in [(3, 0, 1, 2), (1, 7, 1, 0), (0, 7, 0, 0)] {
+    let cases = [
+        ("three are cut", 3, 0, 1, 2),
+        ("one stays, and the count of its maker goes", 1, 7, 1, 0),
+        ("none stays, and the count of its maker goes", 0, 7, 0, 0),
+    ];
+    for (case, given, count, kept, dropped) in cases {
         let counts = cut_at_one(rt.alloc(), given, count)?;
         assert_eq!(rt;
             counts.as_slice(),
-            [(kept, dropped), (kept, dropped)].as_slice()
+            [(kept, dropped), (kept, dropped)].as_slice(),
+            "{case}"
         );
     }
     Ok(())
@@ -299,23 +317,30 @@ fn ends_with(alloc: Global, set: [Status; 3], status: &Status) -> Result<bool, A
 #[test]
 fn the_greatest_status_stays(rt: HostRuntime) -> Result<(), Fail> {
     let alloc = rt.alloc();
-    let rows = [
+    let cases = [
         (
+            "the greater error comes first",
             [error_of(alloc, "b")?, error_of(alloc, "a")?, Status::Unset],
             error_of(alloc, "b")?,
         ),
         (
+            "the greater error comes last",
             [error_of(alloc, "a")?, Status::Unset, error_of(alloc, "b")?],
             error_of(alloc, "b")?,
         ),
         (
+            "an error comes behind Ok",
             [Status::Ok, error_of(alloc, "z")?, Status::Unset],
             Status::Ok,
         ),
-        ([Status::Unset, Status::Unset, Status::Unset], Status::Unset),
+        (
+            "none is set",
+            [Status::Unset, Status::Unset, Status::Unset],
+            Status::Unset,
+        ),
     ];
-    for (set, status) in rows {
-        assert!(rt; ends_with(alloc, set, &status)?);
+    for (case, set, status) in cases {
+        assert!(rt; ends_with(alloc, set, &status)?, "{case}");
     }
     Ok(())
 }
