@@ -3,7 +3,6 @@
 ghost use Rattle.std.specs.Prelude.{◌≡◌, [], None, IfOk, OnOk, OnErr, is_some, string_bytes, map, if◌then◌else◌};
 ghost use Rattle.std.specs.Option.{option_map};
 ghost use Rattle.opentelemetry_sdk.specs.SpanEdits.{plain_edit};
-ghost use Rattle.opentelemetry.specs.PlainContexts.{root_cx};
 ghost use Rattle.otel_session.specs.Headers.{child_cx};
 ghost use Rattle.otel_session.specs.OpenSpans.{
   ChildMayStart,
@@ -53,25 +52,32 @@ impl OpenSpans {
         }
     }
 
-    /// Starts a span under a name, where no other is active. Where there is no memory for the name, the span that was
-    /// started is abandoned: the provider did what it does at any start, and nothing was delivered.
-    pub(crate) fn start<P: SpanProcessor, S: ShouldSample, G: IdGenerator>(
+    /// Starts a span under a name in a context. Where there is no memory for the name, the span that was started is
+    /// abandoned: the provider did what it does at any start, and nothing was delivered.
+    pub(crate) fn start_in<P: SpanProcessor, S: ShouldSample, G: IdGenerator>(
         &mut self,
         name: String,
+        cx: &Context,
         tracer: &SdkTracer,
         provider: &mut ProviderOf<P, S, G>,
         called: String,
         now: Moment,
     ) -> Result<Answer, AllocError>
         ensures ok { IfOk result (λ answer. StartsNamed P.SpanProcessor S.ShouldSample G.IdGenerator provider.old
-            tracer.now self.old (string_bytes name) root_cx
+            tracer.now self.old (string_bytes name) cx.now
             (string_bytes called) now.0 (named self.old (string_bytes name)) answer provider.new self.new) }
         ensures told { map P.told provider.new.processors ≡ map P.told provider.old.processors }
-        ensures asks { MayStart P.SpanProcessor S.ShouldSample G.IdGenerator provider.old tracer.now root_cx
+        ensures asks { MayStart P.SpanProcessor S.ShouldSample G.IdGenerator provider.old tracer.now cx.now
             (string_bytes called) now.0 (named self.old (string_bytes name)) provider.new }
         ensures err { OnErr result (SameSpans self.old self.new) }
     {
-        self.start_in(name, &Context::new(), tracer, provider, called, now)
+        if self.contains(name.as_str()) {
+            return Ok(Answer::SpanExists);
+        }
+        let span = tracer.start_with_context(called, cx, provider, now)?;
+        let answer = answer_to_start(&span);
+        self.put(name, span)?;
+        Ok(answer)
     }
 
     /// Starts a span under a name, as a child of the span of another name.
@@ -97,33 +103,6 @@ impl OpenSpans {
             return Ok(Answer::NoSuchSpan);
         };
         self.start_in(name, &cx, tracer, provider, called, now)
-    }
-
-    /// The same in a context.
-    pub(crate) fn start_in<P: SpanProcessor, S: ShouldSample, G: IdGenerator>(
-        &mut self,
-        name: String,
-        cx: &Context,
-        tracer: &SdkTracer,
-        provider: &mut ProviderOf<P, S, G>,
-        called: String,
-        now: Moment,
-    ) -> Result<Answer, AllocError>
-        ensures ok { IfOk result (λ answer. StartsNamed P.SpanProcessor S.ShouldSample G.IdGenerator provider.old
-            tracer.now self.old (string_bytes name) cx.now
-            (string_bytes called) now.0 (named self.old (string_bytes name)) answer provider.new self.new) }
-        ensures told { map P.told provider.new.processors ≡ map P.told provider.old.processors }
-        ensures asks { MayStart P.SpanProcessor S.ShouldSample G.IdGenerator provider.old tracer.now cx.now
-            (string_bytes called) now.0 (named self.old (string_bytes name)) provider.new }
-        ensures err { OnErr result (SameSpans self.old self.new) }
-    {
-        if self.contains(name.as_str()) {
-            return Ok(Answer::SpanExists);
-        }
-        let span = tracer.start_with_context(called, cx, provider, now)?;
-        let answer = answer_to_start(&span);
-        self.put(name, span)?;
-        Ok(answer)
     }
 
     /// The context in which the span of a name is active.

@@ -4,6 +4,7 @@
 ghost use Rattle.std.specs.Prelude.{◌≡◌, ◌++◌, drop, false, length, map, IfErr, IfOk, IsFalse, MatchResult, OnOk, OnErr, codes, string_bytes};
 ghost use Rattle.std.specs.List.{flat_map};
 ghost use Rattle.opentelemetry.specs.Plain.{scope_named, text};
+ghost use Rattle.opentelemetry.specs.PlainContexts.{root_cx};
 ghost use Rattle.otel_batch.specs.PlainSpanData.{spans_in};
 ghost use Rattle.opentelemetry_sdk.specs.SpanEdits.{plain_edit};
 ghost use Rattle.opentelemetry_sdk.specs.SpanHistory.{set_attribute};
@@ -43,7 +44,7 @@ use crate::open_spans::OpenSpans;
 use crate::reply::{Answer, Reply};
 use crate::reply_text::{write_batches, write_reply};
 use opentelemetry::trace::Event;
-use opentelemetry::{Key, KeyValue, Moment, Value};
+use opentelemetry::{Context, Key, KeyValue, Moment, Value};
 use opentelemetry_sdk::trace::{ProviderOf, SdkTracer, SpanEdit, SpanProcessor};
 use otel_base::error::{OTelSdkError, OTelSdkResult};
 use otel_base::trace::{IdGenerator, ShouldSample};
@@ -51,6 +52,7 @@ use otel_batch::trace::SpanData;
 use std::alloc::{AllocError, Global};
 use std::collections::VecDeque;
 use std::marker::Model;
+use std::mem;
 use thiserror::Error;
 
 /// Why a text was not carried out to its end.
@@ -71,17 +73,25 @@ const SCOPE_NAME: &str = "otel_trace";
 pub struct Session<P, S, G> {
     provider: ProviderOf<P, S, G>,
     tracer: SdkTracer,
+    // Where a root span starts.
+    root: Context,
     spans: OpenSpans,
     shown: usize,
+    // Room for the texts of replies, one after another.
+    text: String,
     alloc: Global,
 }
 
 impl<P, S, G> Model for Session<P, S, G> {
+    ghost use Rattle.std.specs.Prelude.{◌≡◌};
+    ghost use Rattle.opentelemetry.specs.PlainContexts.{root_cx};
     ghost use Rattle.otel_session.specs.SessionDelivery.{SessionState};
 
     ghost Value = { SessionState P S G };
 
     ghost view = { λ a. record { provider = a.provider; scope = a.tracer; spans = a.spans; shown = a.shown } };
+
+    ghost invariant = { λ a. a.root ≡ root_cx };
 }
 
 fn tracer_of<P, S, G>(
@@ -111,8 +121,10 @@ impl<P: KeepsBatches, S: ShouldSample, G: IdGenerator> Session<P, S, G> {
         Ok(Session {
             provider,
             tracer,
+            root: Context::new(),
             spans: OpenSpans::new(alloc),
             shown,
+            text: String::new(alloc),
             alloc,
         })
     }
@@ -173,8 +185,10 @@ impl<P: KeepsBatches, S: ShouldSample, G: IdGenerator> Session<P, S, G> {
         let Session {
             mut provider,
             tracer: _,
+            root: _,
             spans,
             shown,
+            text: _,
             alloc,
         } = self;
         spans.abandon();
@@ -198,31 +212,29 @@ impl<P: KeepsBatches, S: ShouldSample, G: IdGenerator> Session<P, S, G> {
             self.old commands.items output.old.items output.new.items self.new) }
     {
         let mut queue = VecDeque::from_vec(commands);
-        let mut text = String::new(self.alloc);
         while let Some(command) = queue.pop_front() {
             let answer = self.answer(command)?;
-            self.write_unrefused(answer, &mut text, output)?;
+            self.write_unrefused(answer, output)?;
             self.mark_shown();
         }
         Ok(())
     }
 
-    /// Writes a reply whose answer counts no refusal, or nothing. `text` is room for it.
-    fn write_unrefused(
-        &self,
-        answer: Answer,
-        text: &mut String,
-        output: &mut Vec<u8>,
-    ) -> Result<(), AllocError>
+    /// Writes a reply whose answer counts no refusal, or nothing.
+    fn write_unrefused(&mut self, answer: Answer, output: &mut Vec<u8>) -> Result<(), AllocError>
         ensures ok { OnOk result ((counts_refusals answer ≡ false)
             × (output.new.items ≡ output.old.items ++
-            (span_lines (unshown P.KeepsBatches.own self.now) ++ answer_line answer))) }
+            (span_lines (unshown P.KeepsBatches.own self.old) ++ answer_line answer))) }
         ensures err { OnErr result (output.new.items ≡ output.old.items) }
+        ensures rest { self.new ≡ self.old }
     {
         if answer.counts_refusals() {
             return Err(AllocError);
         }
-        write_reply(text, output, self.unshown(), answer)
+        let mut text = mem::replace(&mut self.text, String::new(self.alloc));
+        let written = write_reply(&mut text, output, self.unshown(), answer);
+        self.text = text;
+        written
     }
 
     /// Carries one command out. It is also an error where the first processor's exporter lost the batch of an ended
@@ -245,6 +257,7 @@ impl<P: KeepsBatches, S: ShouldSample, G: IdGenerator> Session<P, S, G> {
         let answer = carry_out(
             self.alloc,
             &self.tracer,
+            &self.root,
             &mut self.provider,
             &mut self.spans,
             command,
@@ -331,10 +344,12 @@ fn unshown_by_first<P: KeepsBatches>(processors: &[P], shown: usize) -> &[Vec<Sp
 fn carry_out<P: KeepsBatches, S: ShouldSample, G: IdGenerator>(
     alloc: Global,
     tracer: &SdkTracer,
+    root: &Context,
     provider: &mut ProviderOf<P, S, G>,
     spans: &mut OpenSpans,
     command: Command,
 ) -> Result<Answer, AllocError>
+    requires { root.now ≡ root_cx }
     ensures ok { IfOk result (λ answer. CarriesOutOne P.SpanProcessor S.ShouldSample G.IdGenerator tracer.now
         provider.old spans.old
         (plain_command command) answer provider.new spans.new) }
@@ -348,7 +363,9 @@ fn carry_out<P: KeepsBatches, S: ShouldSample, G: IdGenerator>(
         ≡ losses_of_first P.KeepsBatches.own provider.old.processors }
 {
     match command {
-        Command::Start { span, name, moment } => spans.start(span, tracer, provider, name, moment),
+        Command::Start { span, name, moment } => {
+            spans.start_in(span, root, tracer, provider, name, moment)
+        }
         Command::Child {
             span,
             parent,

@@ -1,9 +1,10 @@
 use Rattle.std.proofs.Common.{◌≡◌, true, IsFalse, refl, subst, sym, ap, map, rules, string_bytes, List, ℕ, inr}
+use Rattle.opentelemetry.specs.Plain.{PlainContext}
 use Rattle.opentelemetry_sdk.specs.SpanEdits.{plain_edit}
 use Rattle.opentelemetry.specs.PlainValues.{plain_status}
 use Rattle.opentelemetry_sdk.specs.SpanHistory.{Edit, set_status}
 use Rattle.otel_session.specs.Commands.{plain_command, is_end, may_lose}
-use Rattle.otel_session.specs.OpenSpans.{ChildMayStart, ChildStartsNamed, EditsNamed, EndsNamed, InjectsNamed, named}
+use Rattle.otel_session.specs.OpenSpans.{ChildMayStart, ChildStartsNamed, EditsNamed, EndsNamed, InjectsNamed, MayStart, StartsNamed, named}
 use Rattle.otel_session.specs.SessionDelivery.{CarriesOutOne, RefusesOne, batches_of_first, call_answer}
 use Rattle.otel_session.specs.declared.command.Command.{Command}
 use Rattle.otel_session.specs.declared.reply.Answer.{Answer}
@@ -13,9 +14,10 @@ use Rattle.otel_session.proofs.ShownLemmas.{appends_none, may_start_keeps, child
 use Rattle.otel_session.proofs.session.carry_out.Goals as goal
 
 pub returns-in-Start-clause-ok : goal.returns-in-Start-clause-ok
-returns-in-Start-clause-ok g c = if_ok_map c.start.result (λ answer h.
-    subst (λ (command : Command). CarriesOutOne g.P.SpanProcessor g.S.ShouldSample g.G.IdGenerator c.args.tracer.now c.args.provider.now c.args.spans.now (plain_command command) answer c.start.new.provider c.start.new.self) (sym c.in-Start.is)
-    (carries_start g.P.SpanProcessor g.S.ShouldSample g.G.IdGenerator c.args.tracer.now c.args.provider.now c.start.new.provider c.args.spans.now c.start.new.self (string_bytes c.in-Start.span) (string_bytes c.in-Start.name) c.in-Start.moment.0 answer c.start.ensures.told h)) c.start.ensures.ok
+returns-in-Start-clause-ok g c = if_ok_map c.start_in.result (λ answer h.
+    subst (λ (command : Command). CarriesOutOne g.P.SpanProcessor g.S.ShouldSample g.G.IdGenerator c.args.tracer.now c.args.provider.now c.args.spans.now (plain_command command) answer c.start_in.new.provider c.start_in.new.self) (sym c.in-Start.is)
+    (carries_start g.P.SpanProcessor g.S.ShouldSample g.G.IdGenerator c.args.tracer.now c.args.provider.now c.start_in.new.provider c.args.spans.now c.start_in.new.self (string_bytes c.in-Start.span) (string_bytes c.in-Start.name) c.in-Start.moment.0 answer c.start_in.ensures.told
+    (subst (λ (cx : PlainContext). StartsNamed g.P.SpanProcessor g.S.ShouldSample g.G.IdGenerator c.args.provider.now c.args.tracer.now c.args.spans.now (string_bytes c.in-Start.span) cx (string_bytes c.in-Start.name) c.in-Start.moment.0 (named c.args.spans.now (string_bytes c.in-Start.span)) answer c.start_in.new.provider c.start_in.new.self) c.requires h))) c.start_in.ensures.ok
 
 pub returns-in-Child-clause-ok : goal.returns-in-Child-clause-ok
 returns-in-Child-clause-ok g c = if_ok_map c.start_child.result (λ answer h.
@@ -62,9 +64,13 @@ returns-in-Shutdown-clause-ok g c =
     (carries_shutdown g.P.SpanProcessor g.S.ShouldSample g.G.IdGenerator c.args.tracer.now c.args.provider.now c.shutdown.new.self c.args.spans.now c.shutdown.result c.shutdown.ensures.again c.shutdown.ensures.first c.shutdown.ensures.told))
 
 pub returns-in-Start-clause-err : goal.returns-in-Start-clause-err
-returns-in-Start-clause-err g c = on_err_map c.start.result (λ h.
-    subst (λ (command : Command). RefusesOne g.P.SpanProcessor g.S.ShouldSample g.G.IdGenerator c.args.tracer.now c.args.provider.now c.args.spans.now (plain_command command) c.start.new.provider c.start.new.self) (sym c.in-Start.is)
-    (record { spans = h; asks = c.start.ensures.asks; told = c.start.ensures.told })) c.start.ensures.err
+returns-in-Start-clause-err g c = on_err_map c.start_in.result (λ h.
+    subst (λ (command : Command). RefusesOne g.P.SpanProcessor g.S.ShouldSample g.G.IdGenerator c.args.tracer.now c.args.provider.now c.args.spans.now (plain_command command) c.start_in.new.provider c.start_in.new.self) (sym c.in-Start.is)
+    (record {
+      spans = h;
+      asks = subst (λ (cx : PlainContext). MayStart g.P.SpanProcessor g.S.ShouldSample g.G.IdGenerator c.args.provider.now c.args.tracer.now cx (string_bytes c.in-Start.name) c.in-Start.moment.0 (named c.args.spans.now (string_bytes c.in-Start.span)) c.start_in.new.provider) c.requires c.start_in.ensures.asks;
+      told = c.start_in.ensures.told;
+    })) c.start_in.ensures.err
 
 pub returns-in-Child-clause-err : goal.returns-in-Child-clause-err
 returns-in-Child-clause-err g c = on_err_map c.start_child.result (λ h.
@@ -105,7 +111,7 @@ returns-in-End-clause-err g c = on_err_map c.end.result (λ h.
     (record { spans = h.0; asks = h.1; told = ap (λ r. map g.P.SpanProcessor.told r.processors) h.1 })) c.end.ensures.err
 
 pub returns-in-Start-clause-keeps : goal.returns-in-Start-clause-keeps
-returns-in-Start-clause-keeps g c = (may_start_keeps g.P.SpanProcessor g.P.KeepsBatches g.met.P.KeepsBatches.appends g.S.ShouldSample g.G.IdGenerator c.args.provider.now c.start.new.provider c.args.tracer.now _ (string_bytes c.in-Start.name) c.in-Start.moment.0 _ c.start.ensures.asks).0
+returns-in-Start-clause-keeps g c = (may_start_keeps g.P.SpanProcessor g.P.KeepsBatches g.met.P.KeepsBatches.appends g.S.ShouldSample g.G.IdGenerator c.args.provider.now c.start_in.new.provider c.args.tracer.now _ (string_bytes c.in-Start.name) c.in-Start.moment.0 _ c.start_in.ensures.asks).0
 
 pub returns-in-Child-clause-keeps : goal.returns-in-Child-clause-keeps
 returns-in-Child-clause-keeps g c = (child_may_start_keeps g.P.SpanProcessor g.P.KeepsBatches g.met.P.KeepsBatches.appends g.S.ShouldSample g.G.IdGenerator c.args.provider.now c.start_child.new.provider c.args.tracer.now _ (string_bytes c.in-Child.name) c.in-Child.moment.0 _ c.start_child.ensures.asks).0
@@ -120,7 +126,7 @@ pub returns-in-Shutdown-clause-keeps : goal.returns-in-Shutdown-clause-keeps
 returns-in-Shutdown-clause-keeps g c = shutdown_keeps g.P.SpanProcessor g.P.KeepsBatches g.met.P.KeepsBatches.appends c.args.provider.now c.shutdown.new.self 5_000_000_000 c.shutdown.result c.shutdown.ensures.again c.shutdown.ensures.first
 
 pub returns-in-Start-clause-loses : goal.returns-in-Start-clause-loses
-returns-in-Start-clause-loses g c = λ not_end keeps. (may_start_keeps g.P.SpanProcessor g.P.KeepsBatches g.met.P.KeepsBatches.appends g.S.ShouldSample g.G.IdGenerator c.args.provider.now c.start.new.provider c.args.tracer.now _ (string_bytes c.in-Start.name) c.in-Start.moment.0 _ c.start.ensures.asks).1
+returns-in-Start-clause-loses g c = λ not_end keeps. (may_start_keeps g.P.SpanProcessor g.P.KeepsBatches g.met.P.KeepsBatches.appends g.S.ShouldSample g.G.IdGenerator c.args.provider.now c.start_in.new.provider c.args.tracer.now _ (string_bytes c.in-Start.name) c.in-Start.moment.0 _ c.start_in.ensures.asks).1
 
 pub returns-in-Child-clause-loses : goal.returns-in-Child-clause-loses
 returns-in-Child-clause-loses g c = λ not_end keeps. (child_may_start_keeps g.P.SpanProcessor g.P.KeepsBatches g.met.P.KeepsBatches.appends g.S.ShouldSample g.G.IdGenerator c.args.provider.now c.start_child.new.provider c.args.tracer.now _ (string_bytes c.in-Child.name) c.in-Child.moment.0 _ c.start_child.ensures.asks).1
@@ -138,21 +144,21 @@ returns-in-Shutdown-clause-loses g c = λ not_end keeps. let e : may_lose (plain
     let never : IsFalse true = subst IsFalse e keeps in search rules
 
 pub returns-in_ok-cx-in-Remote-clause-ok : goal.returns-in_ok-cx-in-Remote-clause-ok
-returns-in_ok-cx-in-Remote-clause-ok g c = if_ok_map c.start_in.result (λ answer h.
-    subst (λ (command : Command). CarriesOutOne g.P.SpanProcessor g.S.ShouldSample g.G.IdGenerator c.args.tracer.now c.args.provider.now c.args.spans.now (plain_command command) answer c.start_in.new.provider c.start_in.new.self) (sym c.in-Remote.is)
-    (carries_remote g.P.SpanProcessor g.S.ShouldSample g.G.IdGenerator c.args.tracer.now c.args.provider.now c.start_in.new.provider c.args.spans.now c.start_in.new.self (string_bytes c.in-Remote.span) (string_bytes c.in-Remote.traceparent) (string_bytes c.in-Remote.name) c.in-Remote.moment.0 c.in_ok-cx-in-Remote.cx answer
-    c.in_ok-cx-in-Remote.ensures c.start_in.ensures.told h)) c.start_in.ensures.ok
+returns-in_ok-cx-in-Remote-clause-ok g c = if_ok_map c.start_in-in-Remote.result (λ answer h.
+    subst (λ (command : Command). CarriesOutOne g.P.SpanProcessor g.S.ShouldSample g.G.IdGenerator c.args.tracer.now c.args.provider.now c.args.spans.now (plain_command command) answer c.start_in-in-Remote.new.provider c.start_in-in-Remote.new.self) (sym c.in-Remote.is)
+    (carries_remote g.P.SpanProcessor g.S.ShouldSample g.G.IdGenerator c.args.tracer.now c.args.provider.now c.start_in-in-Remote.new.provider c.args.spans.now c.start_in-in-Remote.new.self (string_bytes c.in-Remote.span) (string_bytes c.in-Remote.traceparent) (string_bytes c.in-Remote.name) c.in-Remote.moment.0 c.in_ok-cx-in-Remote.cx answer
+    c.in_ok-cx-in-Remote.ensures c.start_in-in-Remote.ensures.told h)) c.start_in-in-Remote.ensures.ok
 
 pub returns-in_ok-cx-in-Remote-clause-err : goal.returns-in_ok-cx-in-Remote-clause-err
-returns-in_ok-cx-in-Remote-clause-err g c = on_err_map c.start_in.result (λ h.
-    subst (λ (command : Command). RefusesOne g.P.SpanProcessor g.S.ShouldSample g.G.IdGenerator c.args.tracer.now c.args.provider.now c.args.spans.now (plain_command command) c.start_in.new.provider c.start_in.new.self) (sym c.in-Remote.is)
-    (record { spans = h; asks = inr (c.in_ok-cx-in-Remote.cx, c.in_ok-cx-in-Remote.ensures, c.start_in.ensures.asks); told = c.start_in.ensures.told })) c.start_in.ensures.err
+returns-in_ok-cx-in-Remote-clause-err g c = on_err_map c.start_in-in-Remote.result (λ h.
+    subst (λ (command : Command). RefusesOne g.P.SpanProcessor g.S.ShouldSample g.G.IdGenerator c.args.tracer.now c.args.provider.now c.args.spans.now (plain_command command) c.start_in-in-Remote.new.provider c.start_in-in-Remote.new.self) (sym c.in-Remote.is)
+    (record { spans = h; asks = inr (c.in_ok-cx-in-Remote.cx, c.in_ok-cx-in-Remote.ensures, c.start_in-in-Remote.ensures.asks); told = c.start_in-in-Remote.ensures.told })) c.start_in-in-Remote.ensures.err
 
 pub returns-in_ok-cx-in-Remote-clause-keeps : goal.returns-in_ok-cx-in-Remote-clause-keeps
-returns-in_ok-cx-in-Remote-clause-keeps g c = (may_start_keeps g.P.SpanProcessor g.P.KeepsBatches g.met.P.KeepsBatches.appends g.S.ShouldSample g.G.IdGenerator c.args.provider.now c.start_in.new.provider c.args.tracer.now _ (string_bytes c.in-Remote.name) c.in-Remote.moment.0 _ c.start_in.ensures.asks).0
+returns-in_ok-cx-in-Remote-clause-keeps g c = (may_start_keeps g.P.SpanProcessor g.P.KeepsBatches g.met.P.KeepsBatches.appends g.S.ShouldSample g.G.IdGenerator c.args.provider.now c.start_in-in-Remote.new.provider c.args.tracer.now _ (string_bytes c.in-Remote.name) c.in-Remote.moment.0 _ c.start_in-in-Remote.ensures.asks).0
 
 pub returns-in_ok-cx-in-Remote-clause-loses : goal.returns-in_ok-cx-in-Remote-clause-loses
-returns-in_ok-cx-in-Remote-clause-loses g c = λ not_end keeps. (may_start_keeps g.P.SpanProcessor g.P.KeepsBatches g.met.P.KeepsBatches.appends g.S.ShouldSample g.G.IdGenerator c.args.provider.now c.start_in.new.provider c.args.tracer.now _ (string_bytes c.in-Remote.name) c.in-Remote.moment.0 _ c.start_in.ensures.asks).1
+returns-in_ok-cx-in-Remote-clause-loses g c = λ not_end keeps. (may_start_keeps g.P.SpanProcessor g.P.KeepsBatches g.met.P.KeepsBatches.appends g.S.ShouldSample g.G.IdGenerator c.args.provider.now c.start_in-in-Remote.new.provider c.args.tracer.now _ (string_bytes c.in-Remote.name) c.in-Remote.moment.0 _ c.start_in-in-Remote.ensures.asks).1
 
 pub returns-in-Inject-clause-ok : goal.returns-in-Inject-clause-ok
 returns-in-Inject-clause-ok g c = if_ok_map c.inject.result (λ answer h.
