@@ -57,6 +57,9 @@ pub(crate) fn attributes_within(
         ≡ left_out limit (added_attributes given ++ added_attributes added)) }
     ensures free { (added_attributes given ≡ []) ⊎ (added_attributes added ≡ []) → IsOk result }
 {
+    if given.is_none() && added.is_none() {
+        return Ok((Vec::new(alloc), 0));
+    }
     let given = given.unwrap_or(Vec::new(alloc));
     let added = added.unwrap_or(Vec::new(alloc));
     joined_within(given, added, limit)

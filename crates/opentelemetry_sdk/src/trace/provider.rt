@@ -124,12 +124,11 @@ impl<P, S, G> ProviderOf<P, S, G> {
             ≡ replicate (length self.now.processors - 1) (ended_at timestamp.0 recorded.now)) }
         ensures one { length self.now.processors ≤ 1 → IsOk result }
     {
-        copies_of(
-            self.allocator(),
-            recorded,
-            timestamp,
-            self.processors.len().saturating_sub(1),
-        )
+        let count = self.processors.len().saturating_sub(1);
+        if count == 0 {
+            return Ok(Vec::new(self.allocator()));
+        }
+        copies_of(self.allocator(), recorded, timestamp, count)
     }
 }
 

@@ -11,6 +11,7 @@ ghost use Rattle.opentelemetry_sdk.specs.Ending.{DeliversIf, deliveries};
 ghost use Rattle.opentelemetry_sdk.specs.SpanEdits.{plain_edit};
 ghost use Rattle.opentelemetry_sdk.specs.SpanHistory as history;
 
+use super::span_edit;
 use crate::trace::{ProviderOf, SpanEdit, SpanProcessor};
 use opentelemetry::trace::{Event, Link, SpanContext, Status};
 use opentelemetry::{KeyValue, Moment};
@@ -92,7 +93,7 @@ impl Span {
         ensures full { IfSome self.old.recorded
             (λ recorded. history.KeepsNoMore self.old.limits (plain_edit edit) recorded → IsOk result) }
     {
-        edit.apply_if(&mut self.recorded, self.span_limits)
+        edit.apply(&mut self.recorded, self.span_limits)
     }
 
     /// Sets an attribute behind those that are there, also where its key is among them. Over the limit it is only
@@ -106,7 +107,7 @@ impl Span {
         ensures full { IfSome self.old.recorded
             (λ recorded. self.old.limits.max_attributes_per_span ≤ length recorded.attributes → IsOk result) }
     {
-        self.edit(SpanEdit::SetAttribute(attribute))
+        span_edit::set_attribute(&mut self.recorded, self.span_limits, attribute)
     }
 
     /// Adds an event that happened at this moment. Its attributes are cut at their own limit; over the limit of events
@@ -129,7 +130,8 @@ impl Span {
         ensures full { IfSome self.old.recorded
             (λ recorded. self.old.limits.max_events_per_span ≤ length recorded.events.events → IsOk result) }
     {
-        self.edit(SpanEdit::AddEvent(Event::new(name, timestamp, attributes, 0)))
+        let event = Event::new(name, timestamp, attributes, 0);
+        span_edit::add_event(&mut self.recorded, self.span_limits, event)
     }
 
     /// Points to another span. The attributes of the link are cut at their own limit; over the limit of links it is
@@ -150,7 +152,8 @@ impl Span {
         ensures full { IfSome self.old.recorded
             (λ recorded. self.old.limits.max_links_per_span ≤ length recorded.links.links → IsOk result) }
     {
-        self.edit(SpanEdit::AddLink(Link::new(span_context, attributes, 0)))
+        let link = Link::new(span_context, attributes, 0);
+        span_edit::add_link(&mut self.recorded, self.span_limits, link)
     }
 
     /// Says how the operation went; the greatest status stays, in whatever order they come. It takes no memory
@@ -281,7 +284,12 @@ impl Span {
     {
         match self.end_with_timestamp(provider, timestamp) {
             Ok(refused) => {
-                self.abandon();
+                // `abandon` would move the span once more.
+                let Span {
+                    span_context: _,
+                    recorded: _,
+                    span_limits: _,
+                } = self;
                 Ok(refused)
             }
             Err(error) => Err((self, error)),

@@ -12,6 +12,15 @@ use std::time::Duration;
 /// The first span id under seed 0.
 const FIRST_SPAN_ID: u64 = 0x5317_5d61_490b_23df;
 
+/// The trace id of a first root under it, drawn behind the span id, its low half first.
+const TRACE_ID: u128 = 0x5c0f_df91_ec9a_7bfc_61da_6f3d_c380_d507;
+
+/// The span id that is drawn behind a root.
+const SECOND_SPAN_ID: u64 = 0x02ee_bf8c_3bbe_5e1a;
+
+/// The span id that is drawn behind a first span id alone: the low half of what a root's trace id would be.
+const SECOND_WORD: u64 = 0x61da_6f3d_c380_d507;
+
 /// A processor that stamps each span that starts, and refuses each that ends.
 #[derive(Drop)]
 struct Stamping;
@@ -109,34 +118,55 @@ fn said_of(span: &Span) -> Started {
     }
 }
 
-#[test]
-fn a_suppressed_context_draws_no_id(rt: HostRuntime) -> Result<(), Fail> {
-    let alloc = rt.alloc();
-    let suppressed = Context::new().with_telemetry_suppressed()?;
+/// What a start in a context makes of a new provider, and the span id of a start behind it where nothing is active.
+fn started_before_another(alloc: Global, cx: &Context) -> Result<(Started, SpanId), AllocError> {
     let mut provider = provider_of_two(alloc)?;
-    let silent = started_in(alloc, &suppressed, &mut provider);
-    let plain = started_in(alloc, &Context::new(), &mut provider);
+    let started = started_in(alloc, cx, &mut provider);
+    let next = started_in(alloc, &Context::new(), &mut provider);
     let _ = provider.close();
-    let (silent, plain) = (silent?, plain?);
-    assert_eq!(rt; silent.trace_id, TraceId::INVALID);
-    assert_eq!(rt; silent.span_id, SpanId::INVALID);
-    assert!(rt; !silent.is_recording);
-    assert_eq!(rt; plain.span_id, SpanId::from(FIRST_SPAN_ID));
-    assert!(rt; plain.is_recording && plain.is_sampled);
-    Ok(())
+    Ok((started?, next?.span_id))
 }
 
 #[test]
-fn the_child_of_the_empty_span_context_is_dropped(rt: HostRuntime) -> Result<(), Fail> {
+fn a_start_draws_and_records_as_its_context_has_it(rt: HostRuntime) -> Result<(), Fail> {
     let alloc = rt.alloc();
-    let cx = Context::new().with_span_context(SpanContext::empty_context())?;
-    let mut provider = provider_of_two(alloc)?;
-    let child = started_in(alloc, &cx, &mut provider);
-    let _ = provider.close();
-    let child = child?;
-    assert_eq!(rt; child.trace_id, TraceId::INVALID);
-    assert_eq!(rt; child.span_id, SpanId::from(FIRST_SPAN_ID));
-    assert!(rt; !child.is_recording && !child.is_sampled);
+    let of_nobody = Context::new().with_span_context(SpanContext::empty_context())?;
+    let suppressed = Context::new().with_telemetry_suppressed()?;
+    // Its ids, whether it records and is sampled, and the next span id.
+    let cases = [
+        (
+            "nothing is active",
+            Context::new(),
+            TRACE_ID,
+            FIRST_SPAN_ID,
+            true,
+            SECOND_SPAN_ID,
+        ),
+        (
+            "the empty span context is active",
+            of_nobody,
+            0,
+            FIRST_SPAN_ID,
+            false,
+            SECOND_WORD,
+        ),
+        (
+            "telemetry is suppressed",
+            suppressed,
+            0,
+            0,
+            false,
+            FIRST_SPAN_ID,
+        ),
+    ];
+    for (case, cx, trace_id, span_id, records, next_id) in cases {
+        let (started, next) = started_before_another(alloc, &cx)?;
+        assert_eq!(rt; started.trace_id, TraceId::from(trace_id), "{case}");
+        assert_eq!(rt; started.span_id, SpanId::from(span_id), "{case}");
+        assert_eq!(rt; started.is_recording, records, "{case}");
+        assert_eq!(rt; started.is_sampled, records, "{case}");
+        assert_eq!(rt; next, SpanId::from(next_id), "{case}");
+    }
     Ok(())
 }
 
