@@ -68,6 +68,16 @@ fn a_65th_name_breaks_the_limit(rt: HostRuntime) -> Result<(), Fail> {
 }
 
 #[test]
+fn a_copy_has_every_entry(rt: HostRuntime) -> Result<(), Fail> {
+    let baggage = full(rt.alloc())?;
+    let copy = baggage.clone()?;
+    assert_eq!(rt; copy.len(), 64);
+    assert_eq!(rt; copy.get("name63"), Some("vvv"));
+    assert!(rt; copy == baggage);
+    Ok(())
+}
+
+#[test]
 fn a_new_value_keeps_its_place(rt: HostRuntime) -> Result<(), Fail> {
     let mut baggage = full(rt.alloc())?;
     let old = replaced(&mut baggage, rt.alloc(), "name0", "new")?;

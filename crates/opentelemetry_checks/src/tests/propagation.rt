@@ -91,3 +91,23 @@ fn names_that_differ_in_case_alone_are_one(rt: HostRuntime) -> Result<(), Fail> 
     assert_eq!(rt; names.as_slice(), ["baggage", "traceparent"].as_slice());
     Ok(())
 }
+
+/// A carrier of so many names.
+fn carrier_of(alloc: Global, count: u32) -> Result<MapCarrier, AllocError> {
+    let mut carrier = MapCarrier::new(alloc);
+    for number in 0..count {
+        let name = format!(in alloc; "name{number}")?;
+        carrier.set(name.as_str(), String::from_str(alloc, "x")?)?;
+    }
+    Ok(carrier)
+}
+
+#[test]
+fn a_carrier_holds_33_names(rt: HostRuntime) -> Result<(), Fail> {
+    let carrier = carrier_of(rt.alloc(), 33)?;
+    assert_eq!(rt; carrier.keys(rt.alloc())?.len(), 33);
+    assert_eq!(rt; carrier.get("NAME32"), Some("x"));
+    let copy = carrier.clone()?;
+    assert_eq!(rt; copy.get("name32"), Some("x"));
+    Ok(())
+}

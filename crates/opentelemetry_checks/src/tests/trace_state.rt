@@ -79,12 +79,24 @@ fn members(alloc: Global, count: u32) -> Result<String, AllocError> {
     Ok(header)
 }
 
+/// The pairs of the same members.
+fn pairs(alloc: Global, count: u32) -> Result<Vec<(String, String)>, AllocError> {
+    let mut pairs = Vec::new(alloc);
+    for number in 0..count {
+        let key = format!(in alloc; "k{number}")?;
+        pairs.push((key, String::from_str(alloc, "v")?))?;
+    }
+    Ok(pairs)
+}
+
 #[test]
 fn takes_any_number_of_members(rt: HostRuntime) -> Result<(), Fail> {
     let header = members(rt.alloc(), 33)?;
     let state = TraceState::from_str(rt.alloc(), header.as_str())?;
     assert_eq!(rt; state.get("k32"), Some("v"));
     assert_eq!(rt; state.header(rt.alloc())?.as_str(), header.as_str());
+    let of_pairs = TraceState::from_key_value(rt.alloc(), pairs(rt.alloc(), 33)?)?;
+    assert!(rt; of_pairs == state);
     Ok(())
 }
 
@@ -159,5 +171,18 @@ fn finds_inserts_and_deletes(rt: HostRuntime) -> Result<(), Fail> {
         deleted(rt.alloc(), &state, "B")?,
         Err(TraceStateError::Key)
     );
+    Ok(())
+}
+
+#[test]
+fn changes_one_of_many_members(rt: HostRuntime) -> Result<(), Fail> {
+    let state = TraceState::from_key_value(rt.alloc(), pairs(rt.alloc(), 33)?)?;
+    let others = members(rt.alloc(), 32)?;
+    let without_one = deleted(rt.alloc(), &state, "k32")??;
+    assert_eq!(rt; without_one.as_str(), others.as_str());
+    let mut moved = text(rt.alloc(), "k32=w,")?;
+    moved.push_str(others.as_str())?;
+    let with_another = inserted(rt.alloc(), &state, "k32", "w")??;
+    assert_eq!(rt; with_another.as_str(), moved.as_str());
     Ok(())
 }

@@ -173,10 +173,15 @@ fn attributes_at(alloc: Global, limit: u32) -> Result<Option<(String, u32)>, All
 fn the_samplers_attribute_stands_between_the_builders_and_those_set_later(
     rt: HostRuntime,
 ) -> Result<(), Fail> {
-    for (limit, kept, dropped) in [(2, "ab", 2), (0, "", 4), (4, "abcd", 0)] {
+    let cases = [
+        ("the builder's and the sampler's fill the limit", 2, "ab", 2),
+        ("none is kept", 0, "", 4),
+        ("all have room", 4, "abcd", 0),
+    ];
+    for (case, limit, kept, dropped) in cases {
         let (keys, dropped_count) = attributes_at(rt.alloc(), limit)?.ok_or("a span")?;
-        assert_eq!(rt; keys.as_str(), kept);
-        assert_eq!(rt; dropped_count, dropped);
+        assert_eq!(rt; keys.as_str(), kept, "{case}");
+        assert_eq!(rt; dropped_count, dropped, "{case}");
     }
     Ok(())
 }

@@ -1,10 +1,10 @@
 //! Span data, processors and a provider that several tests use.
 
-use opentelemetry::trace::{SpanBuilder, SpanContext, SpanKind, Status, TraceState};
+use opentelemetry::trace::{Event, Link, SpanBuilder, SpanContext, SpanKind, Status, TraceState};
 use opentelemetry::{
     Context, InstrumentationScope, Key, KeyValue, Moment, SpanId, TraceFlags, TraceId, Value,
 };
-use opentelemetry_sdk::trace::{ProviderOf, SdkTracer, Span, SpanProcessor};
+use opentelemetry_sdk::trace::{ProviderOf, SdkTracer, Span, SpanEdit, SpanProcessor};
 use otel_base::error::OTelSdkResult;
 use otel_base::resource::Resource;
 use otel_base::trace::{ConfigOf, RandomIdGenerator, Sampler, ShouldSample, SpanLimits};
@@ -178,6 +178,32 @@ fn push_keys(keys: &mut String, attributes: &[KeyValue]) -> Result<(), AllocErro
         keys.push(',')?;
     }
     Ok(())
+}
+
+/// Makes an edit by its own call, which takes no count of dropped attributes.
+pub(super) fn edit_by_call(span: &mut Span, edit: SpanEdit) -> Result<(), AllocError> {
+    match edit {
+        SpanEdit::SetAttribute(attribute) => span.set_attribute(attribute),
+        SpanEdit::AddEvent(event) => {
+            let Event {
+                name,
+                timestamp,
+                attributes,
+                dropped_attributes_count: _,
+            } = event;
+            span.add_event_with_timestamp(name, timestamp, attributes)
+        }
+        SpanEdit::AddLink(link) => {
+            let Link {
+                span_context,
+                attributes,
+                dropped_attributes_count: _,
+            } = link;
+            span.add_link(span_context, attributes)
+        }
+        SpanEdit::SetStatus(status) => span.set_status(status),
+        SpanEdit::UpdateName(name) => span.update_name(name),
+    }
 }
 
 /// Ends a span at moment 9, and spends it. The answer is how many processors refused it.

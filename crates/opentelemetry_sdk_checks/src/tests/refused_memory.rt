@@ -3,8 +3,8 @@
 //! of the machine alone, which an ordinary run has: `rt try --test --fail-alloc N` has the Nth allocation refused.
 
 use super::fixtures::{
-    attribute_of, provider_over, provider_under, recorded_keys, start_given, start_span,
-    three_writers,
+    attribute_of, edit_by_call, provider_over, provider_under, recorded_keys, start_given,
+    start_span, three_writers,
 };
 use opentelemetry::trace::{Event, Link, SpanContext, SpanKind, TraceState};
 use opentelemetry::{Context, KeyValue, Moment, SpanId, TraceId};
@@ -183,7 +183,7 @@ fn exported_of(span: &Span) -> Result<Option<SpanData>, AllocError> {
 }
 
 fn succeeds(span: &mut Span, edit: SpanEdit) -> bool {
-    span.edit(edit).is_ok()
+    edit_by_call(span, edit).is_ok()
 }
 
 /// The same of each edit.
@@ -217,11 +217,12 @@ fn exported_by(provider: &MemoryProvider) -> u64 {
 /// Finishes a span, and finishes it again where it came back, which it must do as it was. The answer is how many
 /// processors refused it.
 fn finish(span: Span, provider: &mut MemoryProvider) -> Option<u64> {
+    let before = exported_of(&span);
     let (span, _) = match span.finish(provider, Moment(9)) {
         Ok(refused) => return Some(refused as u64),
         Err(back) => back,
     };
-    let holds = span.is_recording() && exported_by(provider) == 0;
+    let holds = before == exported_of(&span) && exported_by(provider) == 0;
     match span.finish(provider, Moment(9)) {
         Ok(refused) if holds => Some(refused as u64),
         Ok(_) => None,

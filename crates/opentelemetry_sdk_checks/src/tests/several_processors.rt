@@ -75,30 +75,56 @@ impl SpanProcessor for Failing {
     }
 }
 
-/// Three processors, of which the first and the last fail.
-fn two_of_three_fail(alloc: Global) -> Result<Vec<Failing>, AllocError> {
+/// A processor for each of these, which say whether it fails.
+fn processors_that_fail(alloc: Global, each_fails: &[bool]) -> Result<Vec<Failing>, AllocError> {
     let mut processors = Vec::new(alloc);
-    for fails in [true, false, true] {
-        processors.push(Failing { alloc, fails })?;
+    for fails in each_fails {
+        processors.push(Failing {
+            alloc,
+            fails: *fails,
+        })?;
     }
     Ok(processors)
 }
 
-#[test]
-fn a_flush_and_a_shutdown_say_how_many_processors_failed(rt: HostRuntime) -> Result<(), Fail> {
-    let alloc = rt.alloc();
-    let mut provider = provider_over(alloc, two_of_three_fail(alloc)?);
+/// What a flush and then a shutdown answer where these processors fail, as a text.
+fn failures_of(alloc: Global, each_fails: &[bool]) -> Result<[String; 2], AllocError> {
+    let mut provider = provider_over(alloc, processors_that_fail(alloc, each_fails)?);
     let flushed = provider.force_flush();
     let shut = provider.shutdown();
-    let closed = provider.close();
-    for (answer, text) in [
-        (flushed, "Operation failed: errs: 2"),
-        (shut, "Operation failed: Shutdown errors: 2"),
-    ] {
-        let error = answer.err().ok_or(AllocError)?;
-        assert_eq!(rt; error.to_string(alloc)?.as_str(), text);
+    let _ = provider.close();
+    Ok([text_of(alloc, flushed)?, text_of(alloc, shut)?])
+}
+
+fn text_of(alloc: Global, answer: OTelSdkResult) -> Result<String, AllocError> {
+    match answer {
+        Ok(()) => String::from_str(alloc, "ok"),
+        Err(error) => error.to_string(alloc),
     }
-    assert!(rt; closed.is_ok());
+}
+
+#[test]
+fn a_flush_and_a_shutdown_say_how_many_processors_failed(rt: HostRuntime) -> Result<(), Fail> {
+    let cases: [(&str, &[bool], &str, &str); 3] = [
+        ("neither of two fails", &[false, false], "ok", "ok"),
+        (
+            "the second of two fails",
+            &[false, true],
+            "Operation failed: errs: 1",
+            "Operation failed: Shutdown errors: 1",
+        ),
+        (
+            "the first and the last of three fail",
+            &[true, false, true],
+            "Operation failed: errs: 2",
+            "Operation failed: Shutdown errors: 2",
+        ),
+    ];
+    for (case, each_fails, flushed, shut) in cases {
+        let [flush_text, shutdown_text] = failures_of(rt.alloc(), each_fails)?;
+        assert_eq!(rt; flush_text.as_str(), flushed, "{case}");
+        assert_eq!(rt; shutdown_text.as_str(), shut, "{case}");
+    }
     Ok(())
 }
 

@@ -1,4 +1,4 @@
-use super::fixtures::config_of;
+use super::fixtures::{config_of, edit_by_call};
 use opentelemetry::trace::{Event, Link, SpanBuilder, SpanContext, Status};
 use opentelemetry::{Context, Key, KeyValue, Moment, Value};
 use opentelemetry_sdk::trace::{ProviderOf, SdkTracer, SimpleSpanProcessor, Span, SpanEdit};
@@ -102,11 +102,25 @@ fn exported_of(span: Span) -> Result<Option<SpanData>, AllocError> {
     exported
 }
 
+/// Makes each edit by its own call, but for those of events and links that have a count.
 fn edit_all(span: &mut Span, edits: Vec<SpanEdit>) -> Result<(), AllocError> {
     for edit in edits {
-        span.edit(edit)?;
+        if has_count(&edit) {
+            span.edit(edit)?;
+        } else {
+            edit_by_call(span, edit)?;
+        }
     }
     Ok(())
+}
+
+/// Whether it adds what says that attributes were dropped before.
+fn has_count(edit: &SpanEdit) -> bool {
+    match edit {
+        SpanEdit::AddEvent(event) => event.dropped_attributes_count > 0,
+        SpanEdit::AddLink(link) => link.dropped_attributes_count > 0,
+        _ => false,
+    }
 }
 
 /// The keys, one behind the other.
@@ -179,27 +193,30 @@ fn events_and_links(
     Ok(edits)
 }
 
-/// What is kept and counted of two events and of two links.
-fn counts_at(alloc: Global, limit: u32) -> Result<[(usize, u32); 2], AllocError> {
+/// What is kept and counted of so many events and as many links.
+fn counts_at(alloc: Global, number: u8, limit: u32) -> Result<[(usize, u32); 2], AllocError> {
     let limits = SpanLimits {
         max_events_per_span: limit,
         max_links_per_span: limit,
         ..SpanLimits::default()
     };
-    let exported = exported_after(alloc, limits, 0, events_and_links(alloc, 2, 0, 0)?)?;
+    let edits = events_and_links(alloc, number, 0, 0)?;
+    let exported = exported_after(alloc, limits, 0, edits)?;
     Ok([events_of(&exported.events), links_of(&exported.links)])
 }
 
 #[test]
 fn events_and_links_over_their_limits_are_counted(rt: HostRuntime) -> Result<(), Fail> {
     let cases = [
-        ("none is kept", 0, 0, 2),
-        ("the second has no room", 1, 1, 1),
-        ("both have room", 2, 2, 0),
+        ("none of two is kept", 2, 0, 0, 2),
+        ("the second has no room", 2, 1, 1, 1),
+        ("both have room", 2, 2, 2, 0),
+        ("33 have room", 33, 128, 33, 0),
+        ("the 33rd has no room", 33, 32, 32, 1),
     ];
-    for (case, limit, kept, dropped) in cases {
+    for (case, number, limit, kept, dropped) in cases {
         assert_eq!(rt;
-            counts_at(rt.alloc(), limit)?,
+            counts_at(rt.alloc(), number, limit)?,
             [(kept, dropped), (kept, dropped)],
             "{case}"
         );

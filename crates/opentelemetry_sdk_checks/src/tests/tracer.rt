@@ -1,8 +1,10 @@
 use super::fixtures::{attribute_of, provider_under, recorded_keys, start_given};
+use opentelemetry::propagation::{Extractor, Injector, MapCarrier, TextMapPropagator};
 use opentelemetry::trace::SpanContext;
 use opentelemetry::{Context, Moment, SpanId, TraceId};
 use opentelemetry_sdk::trace::{ProcessorOf, ProviderOf, SimpleSpanProcessor, Span, SpanProcessor};
 use otel_base::error::OTelSdkResult;
+use otel_base::propagation::TraceContextPropagator;
 use otel_base::trace::{RandomIdGenerator, Sampler};
 use otel_batch::trace::{InMemorySpanExporter, SpanData};
 use std::alloc::{AllocError, Global};
@@ -231,5 +233,54 @@ fn a_span_that_one_processor_refuses_is_exported_once_by_the_other(
     let _ = provider.close();
     assert_eq!(rt; ended?, [Ok(1), Ok(0)]);
     assert_eq!(rt; exported, Some(SpanId::from(FIRST_SPAN_ID)));
+    Ok(())
+}
+
+/// The text of 33 members.
+fn long_tracestate(alloc: Global) -> Result<String, AllocError> {
+    let mut text = String::from_str(alloc, "k0=v")?;
+    for number in 1..33u32 {
+        text.push_str(format!(in alloc; ",k{number}=v")?.as_str())?;
+    }
+    Ok(text)
+}
+
+/// The context that a request with this trace state brings.
+fn received(alloc: Global, tracestate: String) -> Result<Context, AllocError> {
+    let traceparent = "00-4bf92f3577b34da6a3ce929d0e0e4736-00f067aa0ba902b7-01";
+    let mut carrier = MapCarrier::new(alloc);
+    carrier.set("traceparent", String::from_str(alloc, traceparent)?)?;
+    carrier.set("tracestate", tracestate)?;
+    TraceContextPropagator::new().extract_with_context(alloc, &Context::new(), &carrier)
+}
+
+/// The trace state that goes on from a span.
+fn sent_by(alloc: Global, span: &Span) -> Result<String, AllocError> {
+    let cx = Context::new().with_span_context(span.span_context().clone()?)?;
+    let mut carrier = MapCarrier::new(alloc);
+    TraceContextPropagator::new().inject_context(alloc, &cx, &mut carrier)?;
+    String::from_str(alloc, carrier.get("tracestate").unwrap_or(""))
+}
+
+/// The trace state that goes on from a span that is started in a context.
+fn sent_from(
+    alloc: Global,
+    cx: &Context,
+    provider: &mut TestProvider,
+) -> Result<String, AllocError> {
+    let span = started_by_a_clone(alloc, cx, provider)?;
+    let sent = sent_by(alloc, &span);
+    span.abandon();
+    sent
+}
+
+#[test]
+fn a_trace_state_of_33_members_goes_on_from_a_child(rt: HostRuntime) -> Result<(), Fail> {
+    let alloc = rt.alloc();
+    let cx = received(alloc, long_tracestate(alloc)?)?;
+    let mut provider = provider_of_two(alloc)?;
+    let sent = sent_from(alloc, &cx, &mut provider);
+    let _ = provider.close();
+    assert_eq!(rt; sent?.as_str(), long_tracestate(alloc)?.as_str());
     Ok(())
 }

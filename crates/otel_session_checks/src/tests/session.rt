@@ -52,10 +52,18 @@ impl SpanProcessor for Refusing {
     }
 }
 
-/// A processor that loses each batch.
+/// A processor that loses as many batches at each end, and at each flush and shutdown.
 #[derive(Drop)]
 struct Losing {
+    at_an_end: u64,
+    at_a_flush: u64,
     lost: u64,
+}
+
+impl Losing {
+    fn lose(&mut self, count: u64) {
+        self.lost = self.lost.saturating_add(count);
+    }
 }
 
 impl SpanProcessor for Losing {
@@ -66,15 +74,17 @@ impl SpanProcessor for Losing {
     fn on_start(&mut self, _span: &mut Span, _cx: &Context) {}
 
     fn on_end(&mut self, _span: SpanData) -> Result<(), AllocError> {
-        self.lost = self.lost.saturating_add(1);
+        self.lose(self.at_an_end);
         Ok(())
     }
 
     fn force_flush(&mut self) -> OTelSdkResult {
+        self.lose(self.at_a_flush);
         Ok(())
     }
 
     fn shutdown_with_timeout(&mut self, _timeout: Duration) -> OTelSdkResult {
+        self.lose(self.at_a_flush);
         Ok(())
     }
 }
@@ -237,16 +247,80 @@ fn a_refused_span_is_counted_in_a_reply_and_stops_a_text(rt: HostRuntime) -> Res
     Ok(())
 }
 
+/// Two spans are started, the provider is flushed and shut down, and one of them is ended.
+fn flushed_and_shut_before_an_end(alloc: Global) -> Result<Vec<Command>, AllocError> {
+    let mut commands = two_started_and_one_ended(alloc)?;
+    commands.insert(2, Command::Flush)?;
+    commands.insert(3, Command::Shutdown)?;
+    Ok(commands)
+}
+
+/// What a run over one processor answers, and how many replies it made.
+fn run_over(
+    alloc: Global,
+    processor: Losing,
+    commands: Vec<Command>,
+) -> Result<(Result<(), AllocError>, usize), AllocError> {
+    let mut replies = Vec::new(alloc);
+    let mut session = session_over(alloc, provider_of(alloc, processor)?)?;
+    let run = session.run(commands, &mut replies);
+    let _ = session.close(&mut Vec::new(alloc));
+    Ok((run, replies.len()))
+}
+
 #[test]
-fn a_lost_batch_stops_a_run(rt: HostRuntime) -> Result<(), Fail> {
-    let commands = two_started_and_one_ended(rt.alloc())?;
-    let provider = provider_of(rt.alloc(), Losing { lost: 0 })?;
+fn a_lost_batch_stops_a_run_at_an_end_alone(rt: HostRuntime) -> Result<(), Fail> {
+    let alloc = rt.alloc();
+    let cases = [
+        (
+            "lost at an end",
+            (1, 0),
+            two_started_and_one_ended(alloc)?,
+            (Err(AllocError), 2),
+        ),
+        (
+            "lost at a flush and at a shutdown",
+            (0, 1),
+            flushed_and_shut_before_an_end(alloc)?,
+            (Ok(()), 5),
+        ),
+    ];
+    for (case, (at_an_end, at_a_flush), commands, answer) in cases {
+        let processor = Losing {
+            at_an_end,
+            at_a_flush,
+            lost: 0,
+        };
+        assert_eq!(rt; run_over(alloc, processor, commands)?, answer, "{case}");
+    }
+    Ok(())
+}
+
+/// So many spans are started.
+fn many_started(alloc: Global, count: u32) -> Result<Vec<Command>, AllocError> {
+    let mut commands = Vec::new(alloc);
+    for number in 0..count {
+        commands.push(Command::Start {
+            span: format!(in alloc; "s{number}")?,
+            name: String::from_str(alloc, "a")?,
+            moment: Moment(1),
+        })?;
+    }
+    Ok(commands)
+}
+
+#[test]
+fn a_session_holds_33_spans(rt: HostRuntime) -> Result<(), Fail> {
+    let commands = many_started(rt.alloc(), 33)?;
     let mut replies = Vec::new(rt.alloc());
-    let mut session = session_over(rt.alloc(), provider)?;
+    let mut session = refusing_session(rt.alloc())?;
     let run = session.run(commands, &mut replies);
     let _ = session.close(&mut Vec::new(rt.alloc()));
-    assert_eq!(rt; run, Err(AllocError));
-    assert_eq!(rt; replies.len(), 2);
+    assert!(rt; run.is_ok());
+    assert_eq!(rt; replies.len(), 33);
+    for reply in &replies {
+        assert!(rt; matches!(reply.answer, Answer::Started(_)));
+    }
     Ok(())
 }
 
