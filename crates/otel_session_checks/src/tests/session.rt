@@ -247,12 +247,9 @@ fn a_refused_span_is_counted_in_a_reply_and_stops_a_text(rt: HostRuntime) -> Res
     Ok(())
 }
 
-/// Two spans are started, the provider is flushed and shut down, and one of them is ended.
-fn flushed_and_shut_before_an_end(alloc: Global) -> Result<Vec<Command>, AllocError> {
-    let mut commands = two_started_and_one_ended(alloc)?;
-    commands.insert(2, Command::Flush)?;
-    commands.insert(3, Command::Shutdown)?;
-    Ok(commands)
+/// The provider is flushed and shut down.
+fn flushed_and_shut(alloc: Global) -> Result<Vec<Command>, AllocError> {
+    Ok(vec![in alloc; Command::Flush, Command::Shutdown]?)
 }
 
 /// What a run over one processor answers, and how many replies it made.
@@ -281,8 +278,8 @@ fn a_lost_batch_stops_a_run_at_an_end_alone(rt: HostRuntime) -> Result<(), Fail>
         (
             "lost at a flush and at a shutdown",
             (0, 1),
-            flushed_and_shut_before_an_end(alloc)?,
-            (Ok(()), 5),
+            flushed_and_shut(alloc)?,
+            (Ok(()), 2),
         ),
     ];
     for (case, (at_an_end, at_a_flush), commands, answer) in cases {
