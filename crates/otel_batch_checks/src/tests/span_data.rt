@@ -8,7 +8,7 @@ use otel_batch::trace::{SpanData, SpanEvents, SpanLinks};
 use std::alloc::{AllocError, Global};
 use std::test::Fail;
 
-/// To a caller a copy of events is what was copied, though its `clone` is derived: the clause is tested by its proof.
+/// To a caller a copy of events is what was copied: the clause is tested by its proof.
 fn copy_of_events(events: &SpanEvents) -> Result<SpanEvents, AllocError>
     ensures { IfOk result (λ copy. copy ≡ events.now) }
 {
