@@ -1,13 +1,14 @@
 -- What each processor of a list was told, after one end and after many.
 use Rattle.std.proofs.Common.{◌≡◌, ℕ, ◌+◌, ◌<◌, ◌≤◌, Bool, true, false, ◌&&◌, List, [], ◌∷◌, ◌++◌, map, Option, Some, None, Result, Ok, Err, refl, sym, ◌∙◌, ap, subst, append_assoc, append-nil, arith, inl, inr}
 use Rattle.std.specs.Bool.{IsTrue}
+use Rattle.std.specs.List.{AllZip}
 use Rattle.std.proofs.lemmas.List.{map-append}
 use Rattle.otel_batch.specs.PlainSpanData.{PlainSpanData, is_sampled}
 use Rattle.otel_batch.specs.Telling.{Tells}
 use Rattle.otel_batch.proofs.Tellings.{tells_append, tells_same}
 use Rattle.std.specs.declared.alloc.AllocError.{AllocError}
 use Rattle.opentelemetry_sdk.specs.ProcessorTelling.{ProcessorTelling, CountsUp, TakesSpan, TakesNothing, HandsOver, HearsNothing}
-use Rattle.opentelemetry_sdk.specs.Deliveries.{Delivery, Follows, EachFollows, Reaches, ReachesFirst, spans_of}
+use Rattle.opentelemetry_sdk.specs.Deliveries.{Delivery, Hears, Follows, EachFollows, EachOpenHears, Reaches, ReachesFirst, spans_of}
 use Rattle.opentelemetry_sdk.specs.declared.trace.span_processor.SpanProcessor.{Ghosts}
 use Rattle.opentelemetry_sdk.specs.Each.{Each, AskedAll, error_count}
 use Rattle.opentelemetry_sdk.specs.Ending.{TakesAndTells, DeliversIf, deliveries}
@@ -58,21 +59,26 @@ abbrev pub IsCounted : {T E : Type 0} → Result T E → ℕ → Type 0
 IsCounted (Ok _) n = Unit {0}
 IsCounted (Err _) n = 0 < n
 
--- nothing more is told to be heard, and none to be dropped
-abbrev StaysHeard : ProcessorTelling → ProcessorTelling → Type 0
-StaysHeard before after = Tells before.heard [] after.heard × CountsUp before.dropped 0 after.dropped
-
 -- what one delivery leads to, at a processor that was open, and at one that was shut
 abbrev FollowsOne : Bool → Bool → ProcessorTelling → Delivery → ProcessorTelling → Type 0
 FollowsOne true sampled before delivery after =
     (reached : List PlainSpanData) × (missed : ℕ) × ReachesFirst sampled delivery (Reaches []) reached missed
     × Tells before.heard reached after.heard × CountsUp before.dropped missed after.dropped
-FollowsOne false sampled before delivery after = StaysHeard before after
+FollowsOne false sampled before delivery after = Hears before [] after
 
 -- nothing more was heard
-hears_nothing : (before after : ProcessorTelling) → HearsNothing before after → StaysHeard before after
-hears_nothing before after h =
-    (tells_same before.heard after.heard h.heard, counts_nothing before.dropped after.dropped h.dropped)
+hears_nothing : (before after : ProcessorTelling) → Tells before.heard [] after.heard → after.dropped ≡ before.dropped → Hears before [] after
+hears_nothing before after heard dropped = record {
+  reached = [];
+  missed = 0;
+  reaches = (refl, refl);
+  heard = heard;
+  dropped = counts_nothing before.dropped after.dropped dropped;
+}
+
+-- a span that is not due is not heard
+hears_none : (before after : ProcessorTelling) → HearsNothing before after → Hears before [] after
+hears_none before after h = hears_nothing before after (tells_same before.heard after.heard h.heard) h.dropped
 
 -- a span that was handed over reaches the processor, or it was refused or missed
 handed_over : {T E : Type 0} (is_open sampled : Bool) (before : ProcessorTelling) (span : PlainSpanData)
@@ -84,12 +90,10 @@ handed_over true true before span (Ok _) n after (inl h) counted =
 handed_over true true before span (Ok _) n after (inr h) counted =
     ([], 1, inr (inr (0, refl, (refl, refl))), tells_same before.heard after.heard h.heard, h.dropped)
 handed_over true true before span (Err _) n after h counted =
-    let nothing = hears_nothing before after h in
-    ([], 0, inr (inl (counted, (refl, refl))), nothing.0, nothing.1)
+    ([], 0, inr (inl (counted, (refl, refl))), tells_same before.heard after.heard h.heard, counts_nothing before.dropped after.dropped h.dropped)
 handed_over true false before span answer n after h counted =
-    let nothing = hears_nothing before after h in
-    ([], 0, (refl, refl), nothing.0, nothing.1)
-handed_over false sampled before span answer n after h counted = hears_nothing before after h
+    ([], 0, (refl, refl), tells_same before.heard after.heard h.heard, counts_nothing before.dropped after.dropped h.dropped)
+handed_over false sampled before span answer n after h counted = hears_none before after h
 
 -- a delivery that leads from one telling to another is followed
 follows_by : (is_open : Bool) (before : ProcessorTelling) (delivery : Delivery) (after : ProcessorTelling)
@@ -103,11 +107,7 @@ follows_by true before delivery after e spans (reached, missed, reaches, heard, 
   whole = refl;
   still_open = λ _. refl;
   was_shut = λ shut. cc;
-  reached = reached;
-  missed = missed;
-  reaches = reaches;
-  heard = heard;
-  dropped = dropped;
+  hears = record { reached = reached; missed = missed; reaches = reaches; heard = heard; dropped = dropped };
   never_reopens = λ open_now. cc;
 }
 follows_by false before delivery after e spans h stays = record {
@@ -117,11 +117,7 @@ follows_by false before delivery after e spans h stays = record {
   whole = refl;
   still_open = λ open_now. cc;
   was_shut = λ _. refl;
-  reached = [];
-  missed = 0;
-  reaches = (refl, refl);
-  heard = h.0;
-  dropped = h.1;
+  hears = h;
   never_reopens = λ open_now. cc;
 }
 
@@ -141,11 +137,7 @@ follows_nothing before after h = record {
   whole = refl;
   still_open = λ _. refl;
   was_shut = λ _. refl;
-  reached = [];
-  missed = 0;
-  reaches = (refl, refl);
-  heard = h.heard;
-  dropped = counts_nothing before.dropped after.dropped h.dropped;
+  hears = hears_nothing before after h.heard h.dropped;
   never_reopens = h.never_reopens;
 }
 
@@ -158,11 +150,15 @@ takes_nothing telling = record {
   never_reopens = λ is_open. is_open;
 }
 
--- a telling behind which nothing is told
-tells_nothing_behind : {D : Type 0} (a : Option (List D)) (xs : List D) (b c : Option (List D))
-    → Tells a xs b → Tells b [] c → Tells a xs c
-tells_nothing_behind {D} a xs b c h k =
-    subst (λ (l : List D). Tells a l c) (append-nil xs) (tells_append a xs b [] c h k)
+-- one list of deliveries after another, at a processor that was open for both
+hears_append : (a b c : ProcessorTelling) (xs ys : List Delivery) → Hears a xs b → Hears b ys c → Hears a (xs ++ ys) c
+hears_append a b c xs ys h k = record {
+  reached = h.reached ++ k.reached;
+  missed = h.missed + k.missed;
+  reaches = Reaches-append xs ys h.reached k.reached h.missed k.missed h.reaches k.reaches;
+  heard = tells_append a.heard h.reached b.heard k.reached c.heard h.heard k.heard;
+  dropped = counts_both a.dropped h.missed b.dropped k.missed c.dropped h.dropped k.dropped;
+}
 
 -- the spans of one list of deliveries after another
 spans_both : (a b c : Option (List PlainSpanData)) (xs ys : List Delivery)
@@ -187,16 +183,12 @@ follows_both true a b c xs ys e h k =
           ap (λ (l : List Delivery). l ++ ys) first ∙ ap behind k.whole ∙ regrouped;
       still_open = k.still_open;
       was_shut = λ shut. let was : IsTrue a.is_open = h.never_reopens e in cc;
-      reached = h.reached ++ k.reached;
-      missed = h.missed + k.missed;
-      reaches = Reaches-append h.while_open k.while_open h.reached k.reached h.missed k.missed h.reaches k.reaches;
-      heard = tells_append a.heard h.reached b.heard k.reached c.heard h.heard k.heard;
-      dropped = counts_both a.dropped h.missed b.dropped k.missed c.dropped h.dropped k.dropped;
+      hears = hears_append a b c h.while_open k.while_open h.hears k.hears;
       never_reopens = λ is_open. h.never_reopens (k.never_reopens is_open);
     }
 follows_both false a b c xs ys e h k =
     let none : k.while_open ≡ [] = k.was_shut e in
-    let nothing : Reaches [] k.reached k.missed = subst (λ (l : List Delivery). Reaches l k.reached k.missed) none k.reaches in
+    let nothing : Hears b [] c = subst (λ (l : List Delivery). Hears b l c) none k.hears in
     record {
       spans = spans_both a.spans b.spans c.spans xs ys h.spans k.spans;
       while_open = h.while_open;
@@ -204,18 +196,7 @@ follows_both false a b c xs ys e h k =
       whole = ap (λ (l : List Delivery). l ++ ys) h.whole ∙ append_assoc h.while_open h.while_shut ys;
       still_open = λ is_open. let was : IsTrue b.is_open = k.never_reopens is_open in cc;
       was_shut = h.was_shut;
-      reached = h.reached;
-      missed = h.missed;
-      reaches = h.reaches;
-      heard =
-          let after : Tells b.heard [] c.heard = subst (λ (l : List PlainSpanData). Tells b.heard l c.heard) nothing.0 k.heard in
-          tells_nothing_behind a.heard h.reached b.heard c.heard h.heard after;
-      dropped =
-          let more : ℕ → Type 0 = λ m. CountsUp b.dropped m c.dropped in
-          let after : CountsUp b.dropped 0 c.dropped = subst more nothing.1 k.dropped in
-          let both = counts_both a.dropped h.missed b.dropped 0 c.dropped h.dropped after in
-          let same : h.missed + 0 ≡ h.missed = omega arith in
-          subst (λ (m : ℕ). CountsUp a.dropped m c.dropped) same both;
+      hears = subst (λ (l : List Delivery). Hears a l c) (append-nil h.while_open) (hears_append a b c h.while_open [] h.hears nothing);
       never_reopens = λ is_open. h.never_reopens (k.never_reopens is_open);
     }
 
@@ -285,3 +266,70 @@ pub delivered_follows : {P : Type 0} (calls : Ghosts P) (shut : Bool) (moment : 
 delivered_follows calls shut moment None ps qs n h = EachFollows-same calls ps qs (ap (map calls.told) h.0)
 delivered_follows calls true moment (Some recorded) ps qs n h = EachFollows-same calls ps qs (ap (map calls.told) h.0)
 delivered_follows calls false moment (Some recorded) ps qs n h = each_follows calls (ended_at moment recorded) n ps h.0 qs (omega (arith, h.1)) h.2
+
+-- a processor that stays open hears all that it follows
+follows_open : (before after : ProcessorTelling) (deliveries : List Delivery) → Follows before deliveries after → IsTrue after.is_open → Hears before deliveries after
+follows_open before after deliveries h is_open =
+    let all : deliveries ≡ h.while_open = h.whole ∙ ap (λ (l : List Delivery). h.while_open ++ l) (h.still_open is_open) ∙ append-nil h.while_open in
+    subst (λ (l : List Delivery). Hears before l after) (sym all) h.hears
+
+-- one that follows no delivery hears none
+follows_none : (before after : ProcessorTelling) → Follows before [] after → Hears before [] after
+follows_none before after h = subst (λ (l : List Delivery). Hears before l after) (none_first h.while_open h.while_shut h.whole) h.hears
+  where
+    none_first : (xs ys : List Delivery) → [] ≡ xs ++ ys → xs ≡ []
+    none_first [] ys e = refl
+    none_first (x ∷ xs) ys e = cc
+
+-- each processor is as open or shut as it was
+abbrev pub EachStays : {P : Type 0} → Ghosts P → List P → List P → Type 0
+EachStays calls ps qs = AllZip (λ p q. (calls.told q).is_open ≡ (calls.told p).is_open) ps qs
+
+-- where no processor closes, each open one hears what it follows
+pub hears_first : {P : Type 0} (calls : Ghosts P) (deliveries : List Delivery) (ps qs : List P) → EachFollows calls deliveries ps qs → EachStays calls ps qs → EachOpenHears calls deliveries ps qs
+hears_first calls deliveries [] [] h s = tt
+hears_first calls deliveries [] (q ∷ qs) h s = absurd h
+hears_first calls deliveries (p ∷ ps) [] h s = absurd h
+hears_first calls deliveries (p ∷ ps) (q ∷ qs) h s =
+    (λ is_open. follows_open (calls.told p) (calls.told q) deliveries h.0 (s.0 ∙ is_open), hears_first calls deliveries ps qs h.1 s.1)
+
+-- where nothing is delivered, each open processor hears nothing, also one that closes
+pub hears_no_delivery : {P : Type 0} (calls : Ghosts P) (ps qs : List P) → EachFollows calls [] ps qs → EachOpenHears calls [] ps qs
+hears_no_delivery calls [] [] h = tt
+hears_no_delivery calls [] (q ∷ qs) h = absurd h
+hears_no_delivery calls (p ∷ ps) [] h = absurd h
+hears_no_delivery calls (p ∷ ps) (q ∷ qs) h = (λ _. follows_none (calls.told p) (calls.told q) h.0, hears_no_delivery calls ps qs h.1)
+
+-- one list of deliveries, over which no processor closes, and then another
+pub hears_on : {P : Type 0} (calls : Ghosts P) (xs ys : List Delivery) (ps qs us : List P) → EachOpenHears calls xs ps qs → EachStays calls ps qs → EachOpenHears calls ys qs us → EachOpenHears calls (xs ++ ys) ps us
+hears_on calls xs ys [] [] [] h s k = tt
+hears_on calls xs ys [] [] (u ∷ us) h s k = absurd k
+hears_on calls xs ys [] (q ∷ qs) us h s k = absurd h
+hears_on calls xs ys (p ∷ ps) [] us h s k = absurd h
+hears_on calls xs ys (p ∷ ps) (q ∷ qs) [] h s k = absurd k
+hears_on calls xs ys (p ∷ ps) (q ∷ qs) (u ∷ us) h s k =
+    (λ is_open. hears_append (calls.told p) (calls.told q) (calls.told u) xs ys (h.0 is_open) (k.0 (s.0 ∙ is_open)), hears_on calls xs ys ps qs us h.1 s.1 k.1)
+
+-- processors that tell what they told stay open or shut
+pub stays_same : {P : Type 0} (calls : Ghosts P) (ps qs : List P) → map calls.told qs ≡ map calls.told ps → EachStays calls ps qs
+stays_same calls [] [] e = tt
+stays_same calls [] (q ∷ qs) e = cc
+stays_same calls (p ∷ ps) [] e = cc
+stays_same calls (p ∷ ps) (q ∷ qs) e =
+    let first : calls.told q ≡ calls.told p = cc in
+    let others : map calls.told qs ≡ map calls.told ps = cc in
+    (ap (λ (t : ProcessorTelling). t.is_open) first, stays_same calls ps qs others)
+
+-- and so do those of which each was asked what closes none
+pub stays_asked : {P T E : Type 0} (calls : Ghosts P) (G : P → Result T E → P → Type 0)
+    → ((p : P) (r : Result T E) (q : P) → G p r q → (calls.told q).is_open ≡ (calls.told p).is_open)
+    → (ps qs : List P) (n : ℕ) → AskedAll G ps qs n → EachStays calls ps qs
+stays_asked {P} {T} {E} calls G stays ps qs n h = each ps h.0 qs h.2
+  where
+    each : (ps : List P) (rs : List (Result T E)) (qs : List P) → Each G ps rs qs → EachStays calls ps qs
+    each [] [] [] h = tt
+    each [] [] (q ∷ qs) h = absurd h
+    each [] (r ∷ rs) qs h = absurd h
+    each (p ∷ ps) [] qs h = absurd h
+    each (p ∷ ps) (r ∷ rs) [] h = absurd h
+    each (p ∷ ps) (r ∷ rs) (q ∷ qs) h = (stays p r q h.0, each ps rs qs h.1)

@@ -31,8 +31,16 @@ Reaches [] reached missed = (reached ≡ []) × (missed ≡ 0)
 Reaches (delivery ∷ deliveries) reached missed =
     ReachesFirst (is_sampled delivery.span) delivery (Reaches deliveries) reached missed
 
--- a processor before and after deliveries. It tells their spans. It was open for the first of them and shut for the
--- others: the first ones reached it and are heard or count as dropped, and of the others nothing is heard
+-- an open processor before and after deliveries: what reached it is heard, and what it missed counts as dropped
+pub record Hears (before : ProcessorTelling) (deliveries : List Delivery) (after : ProcessorTelling) : Type 0 where
+  pub reached : List PlainSpanData
+  pub missed : ℕ
+  pub reaches : Reaches deliveries reached missed
+  pub heard : Tells before.heard reached after.heard
+  pub dropped : CountsUp before.dropped missed after.dropped
+
+-- a processor before and after deliveries. It tells their spans. It was open for the first of them, which it hears, and
+-- shut for the others, of which it hears nothing
 pub record Follows (before : ProcessorTelling) (deliveries : List Delivery) (after : ProcessorTelling) : Type 0 where
   pub spans : Tells before.spans (spans_of deliveries) after.spans
   pub while_open : List Delivery
@@ -40,13 +48,14 @@ pub record Follows (before : ProcessorTelling) (deliveries : List Delivery) (aft
   pub whole : deliveries ≡ while_open ++ while_shut
   pub still_open : IsTrue after.is_open → while_shut ≡ []
   pub was_shut : IsFalse before.is_open → while_open ≡ []
-  pub reached : List PlainSpanData
-  pub missed : ℕ
-  pub reaches : Reaches while_open reached missed
-  pub heard : Tells before.heard reached after.heard
-  pub dropped : CountsUp before.dropped missed after.dropped
+  pub hears : Hears before while_open after
   pub never_reopens : IsTrue after.is_open → IsTrue before.is_open
 
 -- each processor was given the same deliveries
 abbrev pub EachFollows : {P : Type 0} → Ghosts P → List Delivery → List P → List P → Type 0
 EachFollows calls deliveries ps qs = AllZip (λ p q. Follows (calls.told p) deliveries (calls.told q)) ps qs
+
+-- each processor that was open before them hears all of these deliveries
+abbrev pub EachOpenHears : {P : Type 0} → Ghosts P → List Delivery → List P → List P → Type 0
+EachOpenHears calls deliveries ps qs =
+    AllZip (λ p q. IsTrue (calls.told p).is_open → Hears (calls.told p) deliveries (calls.told q)) ps qs

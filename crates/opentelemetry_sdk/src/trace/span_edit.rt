@@ -37,7 +37,7 @@ impl SpanEdit {
         ensures err { OnErr result (recorded.new ≡ recorded.old) }
         ensures free { IsNone recorded.old → IsOk result }
         ensures full { IfSome recorded.old
-            (λ kept. history.KeepsNoMore limits (plain_edit self) kept → IsOk result) }
+            (λ recorded. history.KeepsNoMore limits (plain_edit self) recorded → IsOk result) }
     {
         match self {
             SpanEdit::SetAttribute(attribute) => set_attribute(recorded, limits, attribute),
@@ -70,7 +70,7 @@ pub(crate) fn set_attribute(
     ensures err { OnErr result (recorded.new ≡ recorded.old) }
     ensures free { IsNone recorded.old → IsOk result }
     ensures full { IfSome recorded.old
-        (λ kept. limits.max_attributes_per_span ≤ length kept.attributes → IsOk result) }
+        (λ recorded. limits.max_attributes_per_span ≤ length recorded.attributes → IsOk result) }
 {
     let Some(recorded) = recorded else {
         return Ok(());
@@ -92,7 +92,7 @@ pub(crate) fn add_event(
     ensures err { OnErr result (recorded.new ≡ recorded.old) }
     ensures free { IsNone recorded.old → IsOk result }
     ensures full { IfSome recorded.old
-        (λ kept. limits.max_events_per_span ≤ length kept.events.events → IsOk result) }
+        (λ recorded. limits.max_events_per_span ≤ length recorded.events.events → IsOk result) }
 {
     let Some(recorded) = recorded else {
         return Ok(());
@@ -114,7 +114,7 @@ pub(crate) fn add_link(
     ensures err { OnErr result (recorded.new ≡ recorded.old) }
     ensures free { IsNone recorded.old → IsOk result }
     ensures full { IfSome recorded.old
-        (λ kept. limits.max_links_per_span ≤ length kept.links.links → IsOk result) }
+        (λ recorded. limits.max_links_per_span ≤ length recorded.links.links → IsOk result) }
 {
     let Some(recorded) = recorded else {
         return Ok(());
