@@ -2,6 +2,7 @@ pub mod ProgramLemmas
 pub mod Clauses
 pub mod CloseLemmas
 pub mod FeedLemmas
+pub mod HeardLemmas
 pub mod RunLemmas
 pub mod ShownLemmas
 pub mod StepLemmas

@@ -6,7 +6,7 @@ use Rattle.otel_base.specs.declared.trace.sampler.ShouldSample as sampling
 use Rattle.otel_base.specs.declared.trace.id_generator.IdGenerator as drawing
 use Rattle.opentelemetry_sdk.specs.Deliveries.{Delivery}
 use Rattle.opentelemetry_sdk.specs.declared.trace.span_processor.SpanProcessor.{Ghosts}
-use Rattle.opentelemetry_sdk.proofs.Following.{EachFollows-same, EachFollows-append}
+use Rattle.opentelemetry_sdk.proofs.Following.{EachFollows-same, hears_no_delivery}
 use Rattle.otel_session.specs.declared.exported.KeepsBatches as keeping
 use Rattle.otel_session.specs.KeptBatches.{Grows}
 use Rattle.otel_session.specs.Commands.{PlainCommand, may_lose, plain_command, plain_commands}
@@ -14,6 +14,7 @@ use Rattle.otel_session.specs.PlainReply.{PlainReply}
 use Rattle.otel_batch.specs.PlainSpanData.{spans_in}
 use Rattle.otel_session.specs.SessionDelivery.{Histories, Course, course_of, Describe, Demands, Replies, DemandAll, Demanded, SessionState, CarriesOutOne, session_batches, batches_of_first, unshown, CarriesOut, Shows, NoneLeft, LosesNone, RunsAll, Refuses, RunsBeginning}
 use Rattle.otel_session.specs.declared.command.Command.{Command}
+use Rattle.otel_session.proofs.HeardLemmas.{all_follow, all_heard}
 use Rattle.otel_session.proofs.TraceLemmas.{children_agree, contexts_kept}
 use Rattle.otel_session.proofs.ShownLemmas.{shows_nothing, shows_no_more, shows_reply, none_left}
 
@@ -51,6 +52,8 @@ module _ {P S G : Type 0} (calls : Ghosts P) (keeps : keeping.Ghosts P) (sampler
       demands = (refl, refl, refl);
       describes = describes;
       follows = EachFollows-same calls session.provider.processors session.provider.processors refl;
+      heard = hears_no_delivery calls session.provider.processors session.provider.processors
+          (EachFollows-same calls session.provider.processors session.provider.processors refl);
       contexts = λ q was there. (was, there, refl);
       traces = λ by_parents is_open root is_in agree. agree;
     };
@@ -90,7 +93,8 @@ module _ {P S G : Type 0} (calls : Ghosts P) (keeps : keeping.Ghosts P) (sampler
         after = next.after;
         demands = demands;
         describes = next.describes;
-        follows = EachFollows-append calls first.deliveries next.deliveries old.provider.processors middle.provider.processors new.provider.processors first.follows next.follows;
+        follows = all_follow calls keeps sampler ids old.scope (course_of old histories) (course_of new next.after) old.shown _ commands (replies ++ reply ∷ []) _ demands;
+        heard = all_heard calls keeps sampler ids old.scope (course_of old histories) (course_of new next.after) old.shown _ commands (replies ++ reply ∷ []) _ demands;
         contexts = contexts_kept calls keeps sampler ids old.scope (course_of old histories) (course_of new next.after) old.shown _ commands (replies ++ reply ∷ []) _ old.spans new.spans describes next.describes demands;
         traces = children_agree calls keeps sampler ids old.scope (course_of old histories) (course_of new next.after) old.shown _ commands (replies ++ reply ∷ []) _ new.spans next.describes demands;
       }

@@ -184,7 +184,7 @@ module _ {P S G : Type 0} (calls : Ghosts P) (sampler : sampling.Ghosts S) (ids 
   end_stays old new name moment (Some (begun from edits)) answer ds h = stays old.provider new.provider (record old.provider { processors = new.provider.processors }) h.provider (refl, refl)
 
   -- over any command but a shutdown
-  one_stays : (scope : PlainScope) (old new : Course P S G) (command : PlainCommand) (answer : Answer) (ds : List Delivery) → is_shutdown command ≡ false → Demands calls sampler ids scope old command answer ds new
+  pub one_stays : (scope : PlainScope) (old new : Course P S G) (command : PlainCommand) (answer : Answer) (ds : List Delivery) → is_shutdown command ≡ false → Demands calls sampler ids scope old command answer ds new
       → Stays old.provider new.provider
   one_stays scope old new (start span name moment) answer ds e h = start_stays scope old new span _ name moment (old.histories span) answer ds h
   one_stays scope old new (child span parent name moment) answer ds e h = child_stays scope old new span (old.histories parent) name moment answer ds h

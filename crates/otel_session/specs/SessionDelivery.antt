@@ -13,7 +13,7 @@ use Rattle.otel_base.specs.declared.trace.sampler.ShouldSample as sampling
 use Rattle.otel_base.specs.declared.trace.id_generator.IdGenerator as drawing
 use Rattle.otel_batch.specs.PlainSpanData.{PlainSpanData, spans_in}
 use Rattle.opentelemetry_sdk.specs.SpanHistory.{SpanHistory, begun, over, SpanStart, Edit, set_attribute, add_event, set_status, data_of, span_of}
-use Rattle.opentelemetry_sdk.specs.Deliveries.{Delivery, EachFollows}
+use Rattle.opentelemetry_sdk.specs.Deliveries.{Delivery, EachFollows, EachOpenHears}
 use Rattle.opentelemetry_sdk.specs.Hops.{GoesByParents}
 use Rattle.opentelemetry_sdk.specs.Provider.{Flushes, ProviderState, ShutsDown}
 use Rattle.opentelemetry_sdk.specs.Starting.{Starts}
@@ -353,7 +353,8 @@ module _ {P S G : Type 0} (calls : Ghosts P) (keeps : keeping.Ghosts P) (sampler
       (λ middle next rest. DemandAll scope middle next commands replies rest new shown)
 
   -- what commands demand of the histories that the spans of a session had; each processor follows all that was
-  -- delivered, in order; and at an open provider under a sampler that goes by parents each trace is sampled whole
+  -- delivered, in order, and one that was open hears all of it, also where commands shut it down, since nothing is
+  -- delivered behind that; and at an open provider under a sampler that goes by parents each trace is sampled whole
   pub record Demanded (old : SessionState P S G) (histories : Histories) (commands : List PlainCommand)
       (replies : List PlainReply) (new : SessionState P S G) : Type 0 where
     pub deliveries : List Delivery
@@ -362,6 +363,7 @@ module _ {P S G : Type 0} (calls : Ghosts P) (keeps : keeping.Ghosts P) (sampler
         (course_of new after) new.shown
     pub describes : Describe after new.spans
     pub follows : EachFollows calls deliveries old.provider.processors new.provider.processors
+    pub heard : EachOpenHears calls deliveries old.provider.processors new.provider.processors
     pub contexts : KeepsContexts old.spans new.spans
     pub traces : GoesByParents sampler old.provider.sampler → old.provider.is_shut ≡ false
         → ChildrenAgree commands replies new.spans
