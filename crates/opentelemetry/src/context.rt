@@ -88,7 +88,7 @@ impl Context {
     }
 
     /// The context that hands on this baggage in place of its own. `AllocError` where there is no memory for the copy
-    /// that contexts share; the empty baggage needs none.
+    /// that contexts share, or to share the trace state; without either it needs none.
     pub fn with_baggage(&self, baggage: Baggage) -> Result<Context, AllocError>
         ensures ok { IfOk result (λ cx. cx ≡ record self.now { baggage = baggage }) }
         ensures free { (current_span_context self.now).trace_state ≡ [] → baggage ≡ [] → IsOk result }

@@ -1,8 +1,8 @@
 //! The batch queue as a machine of small steps: producers offer ended spans to a queue of bounded length, and one worker
 //! drains it into batches for an exporter. A caller takes one step at a time, or a list of them, in any order and
 //! interleaving; a step that is not enabled changes nothing. What is proved of lists of steps holds of steps taken
-//! singly too: a step is a run of one step, runs are joined, and each clause of `BatchMachine::run` is a law of runs
-//! (`laws`).
+//! singly too: a step is a run of one step, runs are joined, and what `BatchMachine::run` says of its steps is a law of
+//! runs (`laws`).
 
 pub mod batch_machine;
 mod producer_steps;

@@ -154,14 +154,14 @@ module _ {P S G : Type 0} (calls : Ghosts P) (keeps : keeping.Ghosts P) (law : O
   pub may_start_keeps : (old new : ProviderState P S G) (scope : PlainScope) (cx : PlainContext) (called : List ℕ) (now : ℕ) (found : Option PlainSpan)
       → MayStart calls sampler ids old scope cx called now found new → LosesNothing keeps old.processors new.processors
   may_start_keeps old new scope cx called now (Some span) e = stays_keeps old new old.id_generator e
-  may_start_keeps old new scope cx called now None (inl e) = stays_keeps old new old.id_generator e
-  may_start_keeps old new scope cx called now None (inr (inl h)) = stays_keeps old new new.id_generator h.rest
-  may_start_keeps old new scope cx called now None (inr (inr h)) = started_keeps (old.is_shut || cx.telemetry_suppressed) old new scope (named_builder called) cx now h.0 h.1
+  may_start_keeps old new scope cx called now None (inl h) = stays_keeps old new new.id_generator h.rest
+  may_start_keeps old new scope cx called now None (inr h) = started_keeps (old.is_shut || cx.telemetry_suppressed) old new scope (named_builder called) cx now h.0 h.1
 
   pub child_may_start_keeps : (old new : ProviderState P S G) (scope : PlainScope) (parent : Option PlainSpan) (called : List ℕ) (now : ℕ) (found : Option PlainSpan)
       → ChildMayStart calls sampler ids old scope parent called now found new → LosesNothing keeps old.processors new.processors
   child_may_start_keeps old new scope None called now found e = stays_keeps old new old.id_generator e
-  child_may_start_keeps old new scope (Some parent) called now found h = may_start_keeps old new scope (child_cx parent.span_context) called now found h
+  child_may_start_keeps old new scope (Some parent) called now found (inl e) = stays_keeps old new old.id_generator e
+  child_may_start_keeps old new scope (Some parent) called now found (inr h) = may_start_keeps old new scope (child_cx parent.span_context) called now found h
 
 module _ {P : Type 0} (calls : Ghosts P) (keeps : keeping.Ghosts P) (law : OnlyAppends calls keeps.kept keeps.lost) where
   first_flushed : (ps qs : List P) (rs : List (Result (Unit {0}) OTelSdkError)) → Each (FlushesProcessor calls) ps rs qs → Grows (batches_of_first keeps ps) (batches_of_first keeps qs)

@@ -105,22 +105,23 @@ module _ {P S G : Type 0} (calls : Ghosts P) (sampler : sampling.Ghosts S) (ids 
 
 module _ {P S G : Type 0} (calls : Ghosts P) (sampler : sampling.Ghosts S) (ids : drawing.Ghosts G) where
   -- what a start in a context may do to a provider, also where it found no memory: nothing where the name has a span;
-  -- else nothing, or ids are drawn, or all that the start of a span does
+  -- else ids are drawn, or all that the start of a span does
   abbrev pub MayStart : ProviderState P S G → PlainScope → PlainContext → List ℕ → ℕ → Option PlainSpan
       → ProviderState P S G → Type 0
   MayStart p scope cx called moment (Some _) q = q ≡ p
   MayStart p scope cx called moment None q =
-      (q ≡ p) ⊎ (OnlyDraws sampler ids p (named_builder called) cx q
-      ⊎ ((history : SpanHistory) × Starts calls sampler ids p scope (named_builder called) cx moment history q))
+      OnlyDraws sampler ids p (named_builder called) cx q
+      ⊎ ((history : SpanHistory) × Starts calls sampler ids p scope (named_builder called) cx moment history q)
 
-  -- the same as a child of the span of another name: nothing where no start made that
+  -- the same as a child of the span of another name: nothing where no start made that, or where there is no memory for
+  -- the context in which that is active
   abbrev pub ChildMayStart : ProviderState P S G → PlainScope → Option PlainSpan → List ℕ → ℕ → Option PlainSpan
       → ProviderState P S G → Type 0
   ChildMayStart p scope None called moment found q = q ≡ p
   ChildMayStart p scope (Some parent) called moment found q =
-      MayStart p scope (child_cx parent.span_context) called moment found q
+      (q ≡ p) ⊎ MayStart p scope (child_cx parent.span_context) called moment found q
 
-  -- the same in the context that a header says
+  -- the same in the context that a header says: nothing where there is no memory for that
   abbrev pub RemoteMayStart : ProviderState P S G → PlainScope → List ℕ → List ℕ → ℕ → Option PlainSpan
       → ProviderState P S G → Type 0
   RemoteMayStart p scope header called moment found q =

@@ -1,4 +1,5 @@
--- The texts of replies. Each reply is one line of its own, behind the lines of the spans that were exported.
+-- The texts of replies. Each reply has a line of its own, or two for headers, behind the lines of the spans that were
+-- exported.
 use Rattle.std.specs.Prelude.{ℕ, List, [], ◌∷◌, ◌++◌, length, map, codes, if◌then◌else◌, ◌==◌}
 use Rattle.std.specs.List.{join_with_byte, flat_map}
 use Rattle.std.specs.Fmt.{decimal}

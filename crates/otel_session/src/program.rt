@@ -88,7 +88,7 @@ type TraceProvider = ProviderOf<TraceProcessor, TraceSampler, RandomIdGenerator>
 /// How a session or a batch queue over the whole input ended.
 #[derive(Debug, Drop)]
 struct ProgramOutput {
-    /// The texts of the replies, and the lines of closing.
+    /// The texts of the replies and the lines of closing, or the answers to steps.
     text: Vec<u8>,
     /// The first bad line.
     bad_line: Option<u64>,
@@ -375,7 +375,7 @@ fn run_session<P: KeepsBatches, S: ShouldSample, G: IdGenerator>(
     }
 }
 
-/// What a session that could not be made comes to.
+/// What a session or a batch queue that could not be made comes to.
 fn failed(alloc: Global) -> ProgramOutput
     ensures { result.has_failed ≡ true }
 {

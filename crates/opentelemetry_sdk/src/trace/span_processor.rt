@@ -70,7 +70,7 @@ pub trait SpanProcessor: Drop {
         ensures told { TakesSpan (told self.old) span result (told self.new) }
         ensures gives { end_gives self.old span result self.new };
 
-    /// Exports what waits. It answers what its exporter answered (`SpanExporter::force_flush`).
+    /// Exports what waits. Where it asks its exporter (`SpanExporter::force_flush`) it answers what that answered.
     fn force_flush(&mut self) -> OTelSdkResult
         ensures told { TakesNothing (told self.old) (told self.new) }
         ensures is_open { (told self.new).is_open ≡ (told self.old).is_open }

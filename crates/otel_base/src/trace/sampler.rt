@@ -125,7 +125,8 @@ fn same_decision(this: SamplingDecision, that: SamplingDecision) -> bool
     }
 }
 
-/// Decides on the spans of a provider. A sampler does not change: what it answers depends on itself and the question.
+/// Decides on the spans of a provider. What a sampler answers depends on what its contracts know of it and on the
+/// question.
 pub trait ShouldSample: Drop {
     /// The answers that it can give to a question.
     ghost gives: { Self → SamplingQuestion → PlainSamplingResult → Type 0 } = { λ _ _ _. Unit {0} };

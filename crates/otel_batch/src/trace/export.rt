@@ -36,13 +36,14 @@ pub trait SpanExporter: Drop {
     /// What it does with the resource, where it does anything.
     ghost resource_gives: { Self → PlainResource → Self → Type 0 } = { λ _ _ _. Unit {0} };
 
-    /// Takes a batch over. It ends the telling, or appends the batch to it. `AlreadyShutdown` behind a shutdown,
-    /// `Timeout` where it took too long, and `InternalFailure` with its reason where it failed otherwise.
+    /// Takes a batch over. It ends the telling, or appends the batch to it. An exporter may answer `OutOfMemory` for
+    /// want of memory, `AlreadyShutdown` behind a shutdown, `Timeout` where it took too long, and otherwise
+    /// `InternalFailure` with its reason.
     fn export(&mut self, batch: Vec<SpanData>) -> OTelSdkResult
         ensures told { Tells (told self.old) (batch.items ∷ []) (told self.new) }
         ensures gives { export_gives self.old batch.items result self.new };
 
-    /// No batch comes after it. Errors as those of `export`; `AlreadyShutdown` at a second one.
+    /// No batch comes after it. Errors as those of `export`; a second one may be `AlreadyShutdown`.
     fn shutdown_with_timeout(&mut self, _timeout: Duration) -> OTelSdkResult
         ensures told { told self.new ≡ told self.old }
         ensures gives { RestsOr

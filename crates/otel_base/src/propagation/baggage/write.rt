@@ -10,7 +10,8 @@ use opentelemetry::baggage::Baggage;
 use percent_encoding::{AsciiSet, CONTROLS, ascii_set, utf8_percent_encode};
 use std::alloc::{AllocError, Global};
 
-/// What names and values have percent-encoded, beside all that is not ASCII: what parts members, and percent signs.
+/// What names and values have percent-encoded, beside all that is not ASCII: controls, spaces, double quotes, percent
+/// signs, and what parts members.
 pub const ESCAPED: AsciiSet = ascii_set!(
     CONTROLS
         .add(b' ')

@@ -29,12 +29,12 @@ returns-then-contains-clause-asks g c = may_start_taken g.P.SpanProcessor g.S.Sh
 
 pub returns-in_err-span-clause-asks : goal.returns-in_err-span-clause-asks
 returns-in_err-span-clause-asks g c = may_start_free g.P.SpanProcessor g.S.ShouldSample g.G.IdGenerator c.args.provider.now c.start_with_context.new.provider c.args.tracer.now c.args.cx.now (string_bytes c.args.called) c.args.now.0 (named c.args.self.now (string_bytes c.args.name))
-    (is_free c.args.self.now (string_bytes c.args.name) _ c.contains.result c.as_str.ensures.value c.contains.ensures c.if-contains.false) (inr (inl c.in_err-span.ensures.err))
+    (is_free c.args.self.now (string_bytes c.args.name) _ c.contains.result c.as_str.ensures.value c.contains.ensures c.if-contains.false) (inl c.in_err-span.ensures.err)
 
 pub returns-in_err-put-clause-asks : goal.returns-in_err-put-clause-asks
 returns-in_err-put-clause-asks g c = may_start_free g.P.SpanProcessor g.S.ShouldSample g.G.IdGenerator c.args.provider.now c.start_with_context.new.provider c.args.tracer.now c.args.cx.now (string_bytes c.args.called) c.args.now.0 (named c.args.self.now (string_bytes c.args.name))
-    (is_free c.args.self.now (string_bytes c.args.name) _ c.contains.result c.as_str.ensures.value c.contains.ensures c.if-contains.false) (inr (inr (c.in_ok-span.ensures.ok.0, c.in_ok-span.ensures.ok.2)))
+    (is_free c.args.self.now (string_bytes c.args.name) _ c.contains.result c.as_str.ensures.value c.contains.ensures c.if-contains.false) (inr (c.in_ok-span.ensures.ok.0, c.in_ok-span.ensures.ok.2))
 
 pub returns-clause-asks : goal.returns-clause-asks
 returns-clause-asks g c = may_start_free g.P.SpanProcessor g.S.ShouldSample g.G.IdGenerator c.args.provider.now c.start_with_context.new.provider c.args.tracer.now c.args.cx.now (string_bytes c.args.called) c.args.now.0 (named c.args.self.now (string_bytes c.args.name))
-    (is_free c.args.self.now (string_bytes c.args.name) _ c.contains.result c.as_str.ensures.value c.contains.ensures c.if-contains.false) (inr (inr (c.in_ok-span.ensures.ok.0, c.in_ok-span.ensures.ok.2)))
+    (is_free c.args.self.now (string_bytes c.args.name) _ c.contains.result c.as_str.ensures.value c.contains.ensures c.if-contains.false) (inr (c.in_ok-span.ensures.ok.0, c.in_ok-span.ensures.ok.2))
