@@ -132,9 +132,16 @@ no_items : {X : Type 0} (xs : List X) → length xs ≡ 0 → xs ≡ []
 no_items [] h = refl
 no_items (x ∷ xs) h = absurd (omega arith)
 
+no_entries : fin.entries (fin.empty {K = List ℕ} {X = List ℕ} {R = slice_cmp nat_cmp}) ≡ []
+no_entries = no_items _ (sym (len-entries fin.empty) ∙ len-empty (slice_cmp nat_cmp) (List ℕ))
+
+-- an empty carrier has no names
+pub no_names : (m : TextMap) → m ≡ fin.empty → fin.keys m ≡ []
+no_names m none = ap (λ (c : TextMap). fin.keys c) none ∙ ap (map (λ e. e.0)) no_entries
+
 entries-texts : {Y Z : Type 0} (es : List (String Y × String Z)) → IsStrictlySortedBy string_cmp (keys_of es) → fin.entries (from_entries {R = slice_cmp nat_cmp} (text_entries es)) ≡ text_entries es
 unfolding IsStrictlySortedBy
-entries-texts [] h = no_items _ (sym (len-entries fin.empty) ∙ len-empty (slice_cmp nat_cmp) (List ℕ))
+entries-texts [] h = no_entries
 entries-texts (e ∷ es) h =
     entries-insert nat_list_cmp_total (from_entries (text_entries es)) (string_bytes e.0) (string_bytes e.1)
     ∙ ap (put (slice_cmp nat_cmp) (string_bytes e.0) (string_bytes e.1)) (entries-texts es h.1)
@@ -147,6 +154,14 @@ keys-text_map m h = ap (map (λ e. e.0)) (entries-texts m.entries h) ∙ names_o
     names_of_texts : {Y Z : Type 0} (es : List (String Y × String Z)) → map (λ e. e.0) (text_entries es) ≡ map (λ name. string_bytes name) (keys_of es)
     names_of_texts [] = refl
     names_of_texts (e ∷ es) = ap (λ rest. string_bytes e.0 ∷ rest) (names_of_texts es)
+
+-- a map without names is empty
+pub no_names_no_texts : {Y Z : Type 0} (m : BTreeMap (String Y) (String Z)) → IsStrictlySortedBy string_cmp (keys_of m.entries) → fin.keys (text_map m) ≡ [] → length m.entries ≡ 0
+no_names_no_texts m ordered none = empty m.entries (sym (keys-text_map m ordered) ∙ none)
+  where
+    empty : {Y Z : Type 0} (es : List (String Y × String Z)) → map (λ name. string_bytes name) (keys_of es) ≡ [] → length es ≡ 0
+    empty [] h = refl
+    empty (e ∷ es) h = absurd cc
 
 has_text : {Y Z : Type 0} (m : BTreeMap (String Y) (String Z)) (k : String Y) → IsLowerName (string_bytes k) → IsSome (get string_cmp m k) → IsSome (texts_of (text_map m) (string_bytes k))
 has_text m k low there =
@@ -179,6 +194,12 @@ first_text-texts_of m name low = first_text-find name m.entries low ∙ sym (get
 -- nothing is left
 pub all_gathered : {A X : Type 0} (f : A → X) (xs ys : List X) (left : List A) → left ≡ [] → xs ++ map f left ≡ ys → xs ≡ ys
 all_gathered f xs ys left none same = sym (append-nil xs) ∙ ap (λ rest. xs ++ map f rest) (sym none) ∙ same
+
+-- what is gathered of something is not nothing
+pub something_left : {A X : Type 0} (f : A → X) (xs : List X) (left more : List A) (x : A) → left ≡ x ∷ more → xs ++ map f left ≡ [] → ⊥
+something_left f xs [] more x is none = absurd cc
+something_left f [] (y ∷ left) more x is none = absurd cc
+something_left f (z ∷ xs) (y ∷ left) more x is none = absurd cc
 
 copied_texts : {Y Z : Type 0} (es fs : List (String Y × String Z)) → AllZip (λ p q. (string_bytes q.0 ≡ string_bytes p.0) × (string_bytes q.1 ≡ string_bytes p.1)) es fs → text_entries fs ≡ text_entries es
 copied_texts [] [] h = refl

@@ -1,13 +1,13 @@
 //! A carrier in memory: a finite map from names in ASCII lower case to texts. As HTTP headers have it, names that
 //! differ in ASCII case alone are one name.
 
-ghost use Rattle.std.specs.Prelude.{◌≡◌, ◌↔◌, All, IfNone, IfOk, IfSome, IsOk, IsSome, IsTrue, OnErr, OnOk, OnSome};
-ghost use Rattle.std.specs.Prelude.{None, map, string_bytes};
+ghost use Rattle.std.specs.Prelude.{◌≡◌, ◌↔◌, ℕ, List, [], All, IfNone, IfOk, IfSome, IsOk, IsSome, IsTrue, OnErr};
+ghost use Rattle.std.specs.Prelude.{None, OnOk, OnSome, map, string_bytes};
 ghost use Rattle.std.specs.FinMap as fin;
 ghost use Rattle.std.specs.Option.{option_copied, option_map};
 ghost use Rattle.std.specs.BTreeMap.{get_by_text};
 ghost use Rattle.std.specs.Str.{str_to_ascii_lowercase};
-ghost use Rattle.opentelemetry.specs.Carrier.{SetsText, SameTexts};
+ghost use Rattle.opentelemetry.specs.Carrier.{HasName, SetsText, SameTexts};
 ghost use Rattle.opentelemetry.specs.TextMap.{IsLowerName, AllLowerNames, text_map, texts_of, first_text};
 
 use super::{Extractor, Injector};
@@ -86,8 +86,13 @@ impl Extractor for MapCarrier {
         }
     }
 
-    /// In the order of their bytes.
-    fn keys(&self, alloc: Global) -> Result<Vec<&str>, AllocError> {
+    /// In the order of their bytes. A carrier without texts wants no memory.
+    fn keys(&self, alloc: Global) -> Result<Vec<&str>, AllocError>
+        ensures named { IfOk result (λ keys. map (λ key. key.now) keys.items ≡ fin.keys self.now) }
+        ensures read { IfOk result (λ keys. All (λ key. IsSome (texts_of self.now key.now)) keys.items) }
+        ensures complete { (name : List ℕ) → IsSome (texts_of self.now name) → HasName name (fin.keys self.now) }
+        ensures free { self.now ≡ fin.empty → IsOk result }
+    {
         names_of(alloc, &self.texts)
     }
 }
@@ -132,13 +137,14 @@ fn put_in_place(texts: &mut BTreeMap<String, String>, name: &str, text: String) 
     }
 }
 
-/// The names, in the order of their bytes.
+/// The names, in the order of their bytes. Room for all is taken at once, and none where there are none.
 fn names_of(alloc: Global, texts: &BTreeMap<String, String>) -> Result<Vec<&str>, AllocError>
     ensures named { IfOk result (λ names. map (λ name. name.now) names.items ≡ fin.keys (text_map texts.now)) }
     ensures read { AllLowerNames texts.now.entries → IfOk result (λ names.
         All (λ name. IsSome (texts_of (text_map texts.now) name.now)) names.items) }
+    ensures free { fin.keys (text_map texts.now) ≡ [] → IsOk result }
 {
-    let mut names = Vec::new(alloc);
+    let mut names = Vec::with_capacity(alloc, texts.len())?;
     for name in texts.keys() {
         names.push(name.as_str())?;
     }
