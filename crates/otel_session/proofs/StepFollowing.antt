@@ -72,7 +72,7 @@ followed_all start now text rest before out number h none =
 -- one bad line in front
 follow_bad : (now : Machine StoredBatches) (line : List ℕ) (more : List (List ℕ)) (number : ℕ) → line ≢ [] → ((order : Order) → ReadsOrder line order → ⊥) → ObeysEach now number (line ∷ more) (Some (number + 1)) [] now
 follow_bad now [] more number some bad = absurd (some refl)
-follow_bad now (b ∷ line) more number some bad = inl (record { is_bad = (some, bad); named = refl; says_nothing = refl; stays = refl })
+follow_bad now (b ∷ line) more number some bad = inl (record { is_bad = (some, bad); numbered = refl; says_nothing = refl; stays = refl })
 
 -- the next line is bad
 pub followed_bad : (start now : Machine StoredBatches) (text rest line behind before out : List ℕ) (number : ℕ) → HasFollowed start now text rest before out number → lines rest ≡ line ∷ lines behind → line ≢ []

@@ -41,7 +41,7 @@ Obeys m orders.State text after = (after ≡ m) × (text ≡ line (state_text m)
 pub record StopsAt (m : Machine StoredBatches) (number : ℕ) (bytes : List ℕ) (bad_line : Option ℕ) (text : List ℕ)
     (after : Machine StoredBatches) : Type 0 where
   pub is_bad : IsBadOrder bytes
-  pub named : bad_line ≡ Some number
+  pub numbered : bad_line ≡ Some number
   pub says_nothing : text ≡ []
   pub stays : after ≡ m
 

@@ -247,7 +247,7 @@ impl<E: SpanExporter> BatchMachine<E> {
         steps: Vec<Step>,
         outcomes: &mut Vec<Outcome>,
     ) -> Result<(), (Vec<Step>, AllocError)>
-        ensures kept { OnOk result (outcomes.new.items
+        ensures appended { OnOk result (outcomes.new.items
             ≡ outcomes.old.items ++ added outcomes.old.items outcomes.new.items) }
         // Each step has its outcome, and is permitted.
         ensures ran { OnOk result
