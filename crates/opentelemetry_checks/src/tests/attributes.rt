@@ -80,3 +80,30 @@ fn attributes_are_the_same_by_key_and_value(rt: HostRuntime) -> Result<(), Fail>
     }
     Ok(())
 }
+
+/// A list of each kind, of so many values.
+fn lists(alloc: Global, count: i64) -> Result<[Array; 3], AllocError> {
+    let mut truths = Vec::new(alloc);
+    let mut numbers = Vec::new(alloc);
+    let mut texts = Vec::new(alloc);
+    for number in 0..count {
+        truths.push(number < 7)?;
+        numbers.push(number)?;
+        texts.push(format!(in alloc; "v{number}")?)?;
+    }
+    Ok([
+        Array::Bool(truths),
+        Array::I64(numbers),
+        Array::String(texts),
+    ])
+}
+
+#[test]
+fn lists_of_33_values_are_copied(rt: HostRuntime) -> Result<(), Fail> {
+    for list in lists(rt.alloc(), 33)? {
+        assert!(rt; list.clone()? == list);
+        let value = Value::Array(list);
+        assert!(rt; value.clone()? == value);
+    }
+    Ok(())
+}

@@ -24,6 +24,7 @@ fn writes_and_reads_ids(rt: HostRuntime) -> Result<(), Fail> {
         TraceId::from_hex("00000000000000000000000000000000")?,
         TraceId::INVALID
     );
+    assert_eq!(rt; SpanId::from_hex("0000000000000000")?, SpanId::INVALID);
     assert_eq!(rt;
         span.to_bytes(),
         [0x00, 0xf0, 0x67, 0xaa, 0x0b, 0xa9, 0x02, 0xb7]

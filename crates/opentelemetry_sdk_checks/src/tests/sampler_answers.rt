@@ -3,7 +3,7 @@
 
 use super::fixtures::{attribute_of, end_span, provider_under, recorded_keys, start_span};
 use opentelemetry::trace::{Link, SpanContext, SpanKind, TraceState};
-use opentelemetry::{Context, KeyValue, SpanId, TraceFlags, TraceId};
+use opentelemetry::{Context, KeyValue, Moment, SpanId, TraceFlags, TraceId};
 use opentelemetry_sdk::trace::{ProcessorOf, ProviderOf, SimpleSpanProcessor, Span, SpanProcessor};
 use otel_base::error::OTelSdkResult;
 use otel_base::trace::{
@@ -14,10 +14,11 @@ use std::alloc::{AllocError, Global};
 use std::test::Fail;
 use std::time::Duration;
 
-/// Records every span without sampling it, adds an attribute, and sets `foo=notbar` in the parent's trace state.
+/// Records every span without sampling it, adds so many attributes, and sets `foo=notbar` in the parent's trace state.
 #[derive(Drop)]
 struct Recording {
     alloc: Global,
+    marks: usize,
 }
 
 impl ShouldSample for Recording {
@@ -32,10 +33,19 @@ impl ShouldSample for Recording {
     ) -> Result<SamplingResult, AllocError> {
         Ok(SamplingResult {
             decision: SamplingDecision::RecordOnly,
-            attributes: Some(vec![in self.alloc; attribute_of("marked")]?),
+            attributes: Some(marks(self.alloc, self.marks)?),
             trace_state: edited_state(self.alloc, parent_context)?,
         })
     }
+}
+
+/// So many attributes.
+fn marks(alloc: Global, count: usize) -> Result<Vec<KeyValue>, AllocError> {
+    let mut attributes = Vec::with_capacity(alloc, count)?;
+    for _ in 0..count {
+        attributes.push(attribute_of("marked"))?;
+    }
+    Ok(attributes)
 }
 
 /// The parent's trace state, in which `foo` is `notbar`.
@@ -161,7 +171,7 @@ fn a_recorded_span_keeps_its_parents_other_flags_and_is_not_exported(
 ) -> Result<(), Fail> {
     let alloc = rt.alloc();
     let parent = parent_of(alloc, 0xff)?;
-    let mut provider = provider_of(alloc, SamplerOf::Custom(Recording { alloc }))?;
+    let mut provider = provider_of(alloc, SamplerOf::Custom(Recording { alloc, marks: 1 }))?;
     let started = started_in(alloc, &parent, &mut provider);
     let (exported, given) = delivered(&provider);
     let _ = provider.close();
@@ -174,12 +184,40 @@ fn a_recorded_span_keeps_its_parents_other_flags_and_is_not_exported(
 #[test]
 fn a_delegate_decides_on_a_root_alone(rt: HostRuntime) -> Result<(), Fail> {
     let alloc = rt.alloc();
-    let delegate = Box::new(alloc, SamplerOf::Custom(Recording { alloc }))?;
+    let delegate = Box::new(alloc, SamplerOf::Custom(Recording { alloc, marks: 1 }))?;
     let mut provider = provider_of(alloc, SamplerOf::ParentBased(delegate))?;
     let started = root_and_child(alloc, &mut provider);
     let _ = provider.close();
     let (root, child) = started?;
     assert_eq!(rt; root.as_str(), "00 [] none");
     assert_eq!(rt; child.as_str(), "00 dropped none");
+    Ok(())
+}
+
+/// How many attributes a span records whose builder has so many.
+fn recorded_of(
+    alloc: Global,
+    provider: &mut RecordingProvider,
+    given: usize,
+) -> Result<usize, AllocError> {
+    let tracer = provider.tracer(String::new(alloc))?;
+    let builder = tracer
+        .span_builder(String::new(alloc))
+        .with_attributes(marks(alloc, given)?);
+    let span = tracer.build_with_context(builder, &Context::new(), provider, Moment(1))?;
+    let recorded = span.exported_data();
+    span.abandon();
+    Ok(recorded?.map_or(0, |data| data.attributes.len()))
+}
+
+#[test]
+fn a_start_holds_33_attributes_of_its_builder_and_as_many_of_its_sampler(
+    rt: HostRuntime,
+) -> Result<(), Fail> {
+    let alloc = rt.alloc();
+    let mut provider = provider_of(alloc, SamplerOf::Custom(Recording { alloc, marks: 33 }))?;
+    let recorded = recorded_of(alloc, &mut provider, 33);
+    let _ = provider.close();
+    assert_eq!(rt; recorded?, 66);
     Ok(())
 }

@@ -207,6 +207,22 @@ fn writes_members_in_order(rt: HostRuntime) -> Result<(), Fail> {
     Ok(())
 }
 
+/// The header that is written of what was read of one.
+fn written_again(alloc: Global, header: &str) -> Result<String, AllocError> {
+    let carrier = carrier_of(alloc, &[("baggage", Some(header))])?;
+    let found = extracted::<BaggagePropagator>(alloc, &Context::new(), &carrier)?;
+    injected_from(alloc, &found)
+}
+
+#[test]
+fn writes_33_members_as_they_were_read(rt: HostRuntime) -> Result<(), Fail> {
+    let header = numbered(rt.alloc(), "", 33)?;
+    let mut written = written_again(rt.alloc(), header.as_str())?;
+    written.push_str(",")?;
+    assert_eq!(rt; written.as_str(), header.as_str());
+    Ok(())
+}
+
 /// How long the header of a value of so many commas is, and how much is shown of what is read of it.
 fn commas_across(alloc: Global, count: usize) -> Result<(usize, usize), Fail> {
     let commas = repeated(alloc, "", ",", count)?;

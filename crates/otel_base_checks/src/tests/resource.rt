@@ -173,11 +173,21 @@ fn own_shown(alloc: Global, value: &'static str) -> Result<String, AllocError> {
     shown(alloc, &builder.with_detector(detector)?.build())
 }
 
-fn two_shown(alloc: Global, a: &'static str, b: &'static str) -> Result<String, AllocError> {
-    let first = Box::new(alloc, own(alloc, a))?;
-    let second = Box::new(alloc, own(alloc, b))?;
+/// What is shown behind so many detectors, of which the last one gives another value.
+fn many_shown(
+    alloc: Global,
+    count: usize,
+    value: &'static str,
+    last: &'static str,
+) -> Result<String, AllocError> {
+    let mut detectors = Vec::new(alloc);
+    for number in 1..=count {
+        let value = if number < count { value } else { last };
+        let detector: Box<dyn ResourceDetector> = Box::new(alloc, own(alloc, value))?;
+        detectors.push(detector)?;
+    }
     let builder = of_pairs(alloc, &[("b", "b-value"), ("k", "old")])?;
-    shown(alloc, &builder.with_detectors(&[first, second])?.build())
+    shown(alloc, &builder.with_detectors(&detectors)?.build())
 }
 
 fn env_and_name(
@@ -495,8 +505,12 @@ fn a_detector_of_ones_own_gives_attributes_alone(rt: HostRuntime) -> Result<(), 
     let alloc = rt.alloc();
     assert_eq!(rt; own_shown(alloc, "own")?.as_str(), "b=b-value;k=own;");
     assert_eq!(rt;
-        two_shown(alloc, "first", "second")?.as_str(),
+        many_shown(alloc, 2, "first", "second")?.as_str(),
         "b=b-value;k=second;"
+    );
+    assert_eq!(rt;
+        many_shown(alloc, 33, "first", "last")?.as_str(),
+        "b=b-value;k=last;"
     );
     Ok(())
 }

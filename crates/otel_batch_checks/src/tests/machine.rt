@@ -7,7 +7,7 @@ mod script;
 mod watching;
 
 use crate::tests::machine::script::{
-    counts_text, first_difference, machine, sizes, step_of, text_of,
+    counts_text, first_difference, machine, sizes, span, step_of, text_of,
 };
 use otel_base::error::{OTelSdkError, OTelSdkResult};
 use otel_batch::machine::{BatchMachine, Outcome, Slot, Step, Worker};
@@ -272,5 +272,33 @@ fn a_run_appends_its_outcomes(rt: HostRuntime) -> Result<(), Fail> {
     assert!(rt; matches!(queue.slot(0), Some(Slot::Posting)));
     assert!(rt; queue.slot(1).is_none());
     assert_eq!(rt; *queue.worker(), Worker::Ready);
+    Ok(())
+}
+
+/// An offer and a send of each of so many producers.
+fn offers_and_sends(alloc: Global, producers: usize) -> Result<Vec<Step>, Fail> {
+    let mut steps = Vec::new(alloc);
+    for producer in 0..producers {
+        steps.push(Step::Offer(producer, span(alloc, "a", 1)?))?;
+        steps.push(Step::Send(producer))?;
+    }
+    Ok(steps)
+}
+
+#[test]
+fn a_run_takes_the_steps_of_33_producers(rt: HostRuntime) -> Result<(), Fail> {
+    let alloc = rt.alloc();
+    let mut queue = machine(alloc, 33, 33, 33)?;
+    let mut outcomes = Vec::new(alloc);
+    assert!(rt;
+        queue
+            .run(offers_and_sends(alloc, 33)?, &mut outcomes)
+            .is_ok()
+    );
+    assert_eq!(rt; outcomes.len(), 66);
+    assert_eq!(rt;
+        counts_text(alloc, &queue)?.as_str(),
+        "counter 33 dropped 0 open"
+    );
     Ok(())
 }

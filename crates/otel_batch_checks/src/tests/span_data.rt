@@ -36,27 +36,36 @@ fn context(alloc: Global, span_id: u64) -> Result<SpanContext, Fail> {
     ))
 }
 
+/// How long each list of a full span is, more than any small number that a copy might tell apart.
+const COUNT: usize = 33;
+
 fn attributes(alloc: Global, key: &str) -> Result<Vec<KeyValue>, AllocError> {
-    Ok(vec![in alloc; KeyValue::new(Key::new(text(alloc, key)?), Value::I64(7))]?)
+    let mut attributes = Vec::with_capacity(alloc, COUNT)?;
+    for _ in 0..COUNT {
+        attributes.push(KeyValue::new(Key::new(text(alloc, key)?), Value::I64(7)))?;
+    }
+    Ok(attributes)
 }
 
-fn one_event(alloc: Global) -> Result<SpanEvents, AllocError> {
-    let event = Event::new(
-        text(alloc, "sent")?,
-        Moment(5),
-        attributes(alloc, "size")?,
-        1,
-    );
+fn full_events(alloc: Global) -> Result<SpanEvents, AllocError> {
+    let mut events = Vec::with_capacity(alloc, COUNT)?;
+    for _ in 0..COUNT {
+        let attributes = attributes(alloc, "size")?;
+        events.push(Event::new(text(alloc, "sent")?, Moment(5), attributes, 1))?;
+    }
     Ok(SpanEvents {
-        events: vec![in alloc; event]?,
+        events,
         dropped_count: 4,
     })
 }
 
-fn one_link(alloc: Global) -> Result<SpanLinks, Fail> {
-    let link = Link::new(context(alloc, 9)?, attributes(alloc, "why")?, 2);
+fn full_links(alloc: Global) -> Result<SpanLinks, Fail> {
+    let mut links = Vec::with_capacity(alloc, COUNT)?;
+    for _ in 0..COUNT {
+        links.push(Link::new(context(alloc, 9)?, attributes(alloc, "why")?, 2))?;
+    }
     Ok(SpanLinks {
-        links: vec![in alloc; link]?,
+        links,
         dropped_count: 5,
     })
 }
@@ -86,8 +95,8 @@ fn full_span(alloc: Global) -> Result<SpanData, Fail> {
     let mut span = bare_span(alloc)?;
     span.name = text(alloc, "GET /")?;
     span.attributes = attributes(alloc, "method")?;
-    span.events = one_event(alloc)?;
-    span.links = one_link(alloc)?;
+    span.events = full_events(alloc)?;
+    span.links = full_links(alloc)?;
     span.status = Status::Error {
         description: text(alloc, "late")?,
     };
