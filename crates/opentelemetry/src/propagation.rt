@@ -2,7 +2,7 @@
 //! back (OpenTelemetry specification, "Propagators API"). A carrier is a finite map from names to texts, as the
 //! headers of an HTTP request are. Names that differ in ASCII case alone may be one name or two, as the carrier has it.
 
-ghost use Rattle.std.specs.Prelude.{◌≡◌, ℕ, List, OnOk, OnErr, IfOk, IsSome, All, map, string_bytes};
+ghost use Rattle.std.specs.Prelude.{◌≡◌, ℕ, List, OnOk, OnErr, IfOk, IsOk, IsSome, All, map, string_bytes};
 ghost use Rattle.std.specs.Option.{option_copied};
 ghost use Rattle.std.specs.Iterator.{YieldsFirstBy, item_count};
 ghost use Rattle.opentelemetry.specs.Carrier.{Texts, Injection, SetsText, SameTexts, HasName};
@@ -51,6 +51,9 @@ pub trait TextMapPropagator {
 
     ghost extract_gives: { Self → PlainContext → Texts → PlainContext → Type 0 } = { λ _ _ _ _. Unit {0} };
 
+    /// The contexts and texts from which it extracts even where no memory is left.
+    ghost extract_is_infallible: { Self → PlainContext → Texts → Type 0 } = { λ _ _ _. ⊥ };
+
     ghost field_names: { Self → List (List ℕ) };
 
     /// Sets the texts of the context in the carrier. `alloc` says where they lie. `AllocError` where there is no memory
@@ -71,7 +74,8 @@ pub trait TextMapPropagator {
         cx: &Context,
         extractor: &X,
     ) -> Result<Context, AllocError>
-        ensures { IfOk result (λ found. extract_gives self.now cx.now (X.reads extractor.now) found) };
+        ensures gives { IfOk result (λ found. extract_gives self.now cx.now (X.reads extractor.now) found) }
+        ensures infallible { extract_is_infallible self.now cx.now (X.reads extractor.now) → IsOk result };
 
     /// The names under which the propagator sets and reads texts.
     fn fields(&self) -> FieldIter

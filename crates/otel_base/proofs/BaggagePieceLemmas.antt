@@ -1,17 +1,17 @@
 -- Texts cut at a byte: by `split_once`, and joined again.
-use Rattle.std.proofs.Common.{◌≡◌, ◌≢◌, ℕ, ◌<◌, Bool, true, false, ◌&&◌, is_none, List, [], ◌∷◌, ◌++◌, length, get_or, eqb, All, Option, Some, None, sym, ap, ◌∙◌, arith, append-nil, append_assoc, eq-eqb, ne_eqb, refl, subst}
+use Rattle.std.proofs.Common.{◌≡◌, ◌≢◌, ℕ, ◌<◌, Bool, true, false, ◌&&◌, is_none, List, [], ◌∷◌, ◌++◌, length, get_or, eqb, All, Option, Some, None, sym, ap, ◌∙◌, ⊎_elim, arith, append-nil, append_assoc, eq-eqb, ne_eqb, refl, subst}
 use Rattle.std.specs.Borrow.{Bor}
-use Rattle.std.proofs.lemmas.List.Elements.{All-from_get_or}
+use Rattle.std.proofs.lemmas.List.Elements.{All-nil, All-cons, All-head, All-tail, All-from_get_or}
 use Rattle.std.proofs.lemmas.List.Splits.{slice_split_none, slice_split_at}
 use Rattle.std.proofs.lemmas.Str.Pattern.{IsSplitOnceResult, split_parts}
 use Rattle.opentelemetry.proofs.Joins.{join_push}
 use Rattle.std.proofs.Math.Bool.{and-false, and-true}
-use Rattle.std.proofs.lemmas.Bool.{cond-true}
+use Rattle.std.proofs.lemmas.Bool.{cond-true, cond-false, cases_Bool}
 use Rattle.std.proofs.lemmas.List.Elements.{filter_map-append}
 use borrow.Author.Tests.{lt-ltb}
-use Rattle.std.specs.List.{cons_option, filter_map, join_with_byte}
+use Rattle.std.specs.List.{cons_option, filter_map, join_with_byte, onto_first}
 use Rattle.otel_base.specs.BaggageHeader.{pieces_at, semicolon, said_by, metadata_of, entry_of_member, entry_of_parts, paired_entry}
-use Rattle.otel_base.specs.AttributesString.{equals_sign}
+use Rattle.otel_base.specs.AttributesString.{HasNo, equals_sign}
 use Rattle.otel_base.specs.BaggagePieces.{next_property, unless_first}
 
 all_others : (c : ℕ) (bs : List ℕ) → ((i : ℕ) → i < length bs → get_or bs i 0 ≢ c) → All (λ b. eqb b c ≡ false) bs
@@ -32,6 +32,27 @@ pub property_added : (first : Bool) (old between new : List ℕ) (said : Option 
     → between ≡ old ++ unless_first first (semicolon ∷ []) → new ≡ between ++ text → new ≡ old ++ next_property first said
 property_added first old between new said text is parted written =
     written ∙ ap (λ t. t ++ text) parted ∙ append_assoc old (unless_first first (semicolon ∷ [])) text ∙ ap (λ s. old ++ next_property first s) (sym is)
+
+-- no byte of a text is this one
+abbrev pub Lacks : ℕ → List ℕ → Type 0
+Lacks c bs = All (λ b. eqb b c ≡ false) bs
+
+pub lacks : (c : ℕ) (bs : List ℕ) → HasNo c bs → Lacks c bs
+lacks c [] none = All-nil (λ b. eqb b c ≡ false)
+lacks c (b ∷ bs) none = All-cons (λ b. eqb b c ≡ false) b bs (ne_eqb b c none.0) (lacks c bs none.1)
+
+-- a byte that a text lacks is in none of its pieces
+pub pieces_lack : (c d : ℕ) (text : List ℕ) → HasNo d text → All (HasNo d) (pieces_at c text)
+pieces_lack c d [] none = All-cons (HasNo d) [] [] tt (All-nil (HasNo d))
+pieces_lack c d (b ∷ bs) none =
+    ⊎_elim
+    (λ here. subst (All (HasNo d)) (sym (cond-true _ _ _ here)) (All-cons (HasNo d) [] (pieces_at c bs) tt (pieces_lack c d bs none.1)))
+    (λ behind. subst (All (HasNo d)) (sym (cond-false _ _ _ behind)) (onto (pieces_at c bs) (pieces_lack c d bs none.1)))
+    (cases_Bool (eqb b c))
+  where
+    onto : (pieces : List (List ℕ)) → All (HasNo d) pieces → All (HasNo d) (onto_first b pieces)
+    onto [] rest = All-cons (HasNo d) (b ∷ []) [] (none.0, tt) rest
+    onto (piece ∷ more) rest = All-cons (HasNo d) (b ∷ piece) more (none.0, All-head (HasNo d) piece more rest) (All-tail (HasNo d) piece more rest)
 
 -- no text stands yet
 abbrev pub none_yet : List (List ℕ) → Bool

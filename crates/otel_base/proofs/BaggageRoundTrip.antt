@@ -1,8 +1,8 @@
 -- The header of a baggage reads back as it.
-use Rattle.std.proofs.Common.{◌≡◌, ◌≢◌, ℕ, true, false, eqb, List, [], ◌∷◌, ◌++◌, length, take, map, All, Some, Ok, unwrap_or, refl, sym, ap, subst, ◌∙◌, ⊎_elim, arith, append-nil, append_assoc, ne_eqb, eq-eqb, lit<}
-use Rattle.std.specs.List.{cons_option, filter_map, join_with_byte, onto_first}
+use Rattle.std.proofs.Common.{◌≡◌, ◌≢◌, ℕ, true, false, eqb, List, [], ◌∷◌, ◌++◌, length, take, map, All, Some, Ok, unwrap_or, refl, sym, ap, subst, ◌∙◌, arith, append-nil, append_assoc, ne_eqb, eq-eqb, lit<}
+use Rattle.std.specs.List.{cons_option, filter_map, join_with_byte}
 use Rattle.std.specs.Str.{IsUtf8, trim}
-use Rattle.std.proofs.lemmas.Bool.{both_ways, cond-true, cond-false, cases_Bool}
+use Rattle.std.proofs.lemmas.Bool.{both_ways, cond-true}
 use borrow.Author.Tests.{le-leb}
 use Rattle.std.proofs.lemmas.List.{length-map, take_all}
 use Rattle.std.proofs.lemmas.List.Elements.{All-nil, All-cons, All-head, All-tail, All-append}
@@ -17,17 +17,9 @@ use Rattle.otel_base.specs.BaggageHeader.{behind_semicolon, entries_of, entry_of
 use Rattle.opentelemetry.specs.Carrier.{Texts}
 use Rattle.opentelemetry.specs.Plain.{PlainContext}
 use Rattle.otel_base.proofs.BaggageNames.{one_a_name_distinct}
-use Rattle.otel_base.proofs.BaggagePieceLemmas.{member_says}
+use Rattle.otel_base.proofs.BaggagePieceLemmas.{Lacks, lacks, member_says, pieces_lack}
 use Rattle.otel_base.proofs.BaggageTextLemmas.{escaped_is, needs_escape_is, said}
 use Rattle.otel_base.proofs.TextPieces.{pieces_are_texts, text_bytes, trim_pieces}
-
--- no byte of a text is this one
-abbrev pub Lacks : ℕ → List ℕ → Type 0
-Lacks c bs = All (λ b. eqb b c ≡ false) bs
-
-lacks : (c : ℕ) (bs : List ℕ) → HasNo c bs → Lacks c bs
-lacks c [] none = All-nil (λ b. eqb b c ≡ false)
-lacks c (b ∷ bs) none = All-cons (λ b. eqb b c ≡ false) b bs (ne_eqb b c none.0) (lacks c bs none.1)
 
 -- a byte that a header escapes, and that stands in no escape
 record IsEscaped (c : ℕ) : Type 0 where
@@ -65,19 +57,6 @@ said_as_is : (text : List ℕ) → IsUtf8 text → trim text ≡ text → HasNo 
 said_as_is text utf8 tight none =
     let decoded = decoded_as_is text none in
     sym (said text (subst IsUtf8 (sym decoded) utf8)) ∙ ap (λ t. Some (trim t)) decoded ∙ ap Some tight
-
--- a byte that a text lacks is in none of its pieces
-pieces_lack : (c d : ℕ) (text : List ℕ) → HasNo d text → All (HasNo d) (pieces_at c text)
-pieces_lack c d [] none = All-cons (HasNo d) [] [] tt (All-nil (HasNo d))
-pieces_lack c d (b ∷ bs) none =
-    ⊎_elim
-    (λ here. subst (All (HasNo d)) (sym (cond-true _ _ _ here)) (All-cons (HasNo d) [] (pieces_at c bs) tt (pieces_lack c d bs none.1)))
-    (λ behind. subst (All (HasNo d)) (sym (cond-false _ _ _ behind)) (onto (pieces_at c bs) (pieces_lack c d bs none.1)))
-    (cases_Bool (eqb b c))
-  where
-    onto : (pieces : List (List ℕ)) → All (HasNo d) pieces → All (HasNo d) (onto_first b pieces)
-    onto [] rest = All-cons (HasNo d) (b ∷ []) [] (none.0, tt) rest
-    onto (piece ∷ more) rest = All-cons (HasNo d) (b ∷ piece) more (none.0, All-head (HasNo d) piece more rest) (All-tail (HasNo d) piece more rest)
 
 all_said : (texts : List (List ℕ)) → All IsUtf8 texts → All (λ text. trim text ≡ text) texts → All (HasNo percent_sign) texts → filter_map said_by texts ≡ texts
 all_said [] utf8 tight none = refl

@@ -2,6 +2,7 @@ pub mod AttributeLemmas
 pub mod AttributesStringLemmas
 pub mod BaggageBounds
 pub mod BaggageNames
+pub mod BaggageNoEntries
 pub mod BaggagePieceLemmas
 pub mod BaggageRoundTrip
 pub mod BaggageTextLemmas

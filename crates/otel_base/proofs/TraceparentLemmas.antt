@@ -1,5 +1,5 @@
 -- Texts of digits between hyphens: cut in one way alone, and no white space around them.
-use Rattle.std.proofs.Common.{◌≡◌, ◌≢◌, inl, inr, ℕ, ◌%◌, ◌^◌, ◌<◌, true, false, ◌&&◌, eqb, Ok, List, [], ◌∷◌, ◌++◌, length, get_or, All, Option, Some, None, IfSome, IsSome, codes, refl, sym, ap, subst, ◌∙◌, ⊎_elim, arith, append-nil, lit<}
+use Rattle.std.proofs.Common.{◌≡◌, ◌≢◌, inl, inr, ℕ, ◌%◌, ◌^◌, ◌<◌, Bool, true, false, cond, ◌&&◌, ◌⊎◌, eqb, Result, Ok, Err, IsOk, MatchResult, MatchOption, List, [], ◌∷◌, ◌++◌, length, map, get_or, All, Option, Some, None, IfSome, IsSome, codes, refl, sym, ap, subst, ◌∙◌, ⊎_elim, arith, append-nil, lit<}
 use Rattle.std.specs.Borrow.{Bor}
 use Rattle.std.specs.Char.{is_whitespace}
 use Rattle.std.specs.Option.{option_copied, unwrap_or}
@@ -17,8 +17,11 @@ use Rattle.otel_base.specs.Traceparent.{hyphen, traceparent_text, traceparent_of
 use Rattle.otel_base.specs.Traceparent.{header_text, traceparent_field, tracestate_field, CarriesSpan, IsSpanContext, SaysState, SetsHeaders, ExtractsTraceContext, InjectsTraceContext}
 use Rattle.opentelemetry.specs.Carrier.{IsOtherName, SameTexts, SetsText, Texts}
 use Rattle.opentelemetry.specs.Plain.{PlainContext}
-use Rattle.opentelemetry.specs.Tracestate.{IsTracestate, members, tracestate_text}
-use Rattle.opentelemetry.proofs.Tracestates.{spells_only}
+use Rattle.std.specs.List.{AllZip, position_or_len}
+use Rattle.opentelemetry.specs.declared.trace.trace_state.TraceStateError.{TraceStateError}
+use Rattle.opentelemetry.specs.declared.trace.trace_state.TraceStateError.TheVariants as faults
+use Rattle.opentelemetry.specs.Tracestate.{IsTracestate, SpellsPair, first_fault, first_of_two, is_equals, is_key, is_value, member_fault, members, pair_of, tracestate_text}
+use Rattle.opentelemetry.proofs.Tracestates.{spells_members, spells_only}
 use Rattle.opentelemetry.proofs.WellFormed.{header_reads_back}
 use Rattle.otel_base.proofs.TrimLemmas.{trim_is}
 
@@ -231,3 +234,45 @@ headers_carry c texts is valid parent state cx found extracts =
 pub injected_carries : (cx : PlainContext) (old new : Texts) → IsSpanContext (current_span_context cx) → IsValid (current_span_context cx)
     → InjectsTraceContext cx old (Ok tt) new → CarriesSpan new (current_span_context cx)
 injected_carries cx old new is valid injects = let sets = injects.set valid in headers_carry (current_span_context cx) new is valid sets.parent sets.state
+
+-- ---- the empty trace state
+
+-- a member's fault is no want of memory
+member_fault_said : (uncut key value : Bool) → cond uncut (Some faults.List) (cond key (cond value None (Some faults.Value)) (Some faults.Key)) ≡ Some faults.Memory → ⊥
+member_fault_said true key value is = absurd cc
+member_fault_said false true true is = absurd cc
+member_fault_said false true false is = absurd cc
+member_fault_said false false value is = absurd cc
+
+first_said : (fault others : Option TraceStateError) → (fault ≡ Some faults.Memory → ⊥) → (others ≡ Some faults.Memory → ⊥) → first_of_two fault others ≡ Some faults.Memory → ⊥
+first_said None others one rest is = rest is
+first_said (Some fault) others one rest is = one is
+
+fault_said : (ms : List (List ℕ)) → first_fault ms ≡ Some faults.Memory → ⊥
+fault_said [] is = absurd cc
+fault_said (m ∷ ms) is =
+    first_said (member_fault m) (first_fault ms)
+    (member_fault_said (eqb (position_or_len is_equals m) (length m)) (is_key (pair_of m).0) (is_value (pair_of m).1)) (fault_said ms) is
+
+-- a text that says the empty trace state has no members, or a fault that is no want of memory
+pub says_none : (text : List ℕ) → SaysState (Some text) [] → (members text ≡ []) ⊎ ((fault : TraceStateError) × (first_fault (members text) ≡ Some fault) × (fault ≢ faults.Memory))
+says_none text (inl spelled) = inl (no_members (members text) spelled)
+  where
+    no_members : (ms : List (List ℕ)) → AllZip SpellsPair ms [] → ms ≡ []
+    no_members [] spelled = refl
+    no_members (m ∷ ms) spelled = absurd spelled
+says_none text (inr unspelled) = inr (by (first_fault (members text)) refl)
+  where
+    by : (fault : Option TraceStateError) → first_fault (members text) ≡ fault → (fault : TraceStateError) × (first_fault (members text) ≡ Some fault) × (fault ≢ faults.Memory)
+    by None is = absurd (unspelled.0 (map pair_of (members text)) (spells_members (members text) is))
+    by (Some fault) is = (fault, is, λ memory. fault_said (members text) (is ∙ ap Some memory))
+
+-- the fault that is found is the one that is answered
+pub found_fault : (T N : Type 0) (found : Option TraceStateError) (fault answered : TraceStateError) → found ≡ Some fault → MatchOption found N (λ said. ◌≡◌ {A = Result T TraceStateError} (Err answered) (Err said)) → fault ≡ answered
+found_fault T N found fault answered is clause =
+    let same : ◌≡◌ {A = Result T TraceStateError} (Err answered) (Err fault) = subst (λ f. MatchOption f N (λ said. ◌≡◌ {A = Result T TraceStateError} (Err answered) (Err said))) is clause in cc
+
+-- what fails only for a reason that is not there is well
+pub ok_unless : {T E P : Type 0} (Q : T → Type 0) (r : Result T E) → MatchResult r Q (λ _. ¬ P) → P → IsOk r
+ok_unless Q (Ok _) clause holds = refl
+ok_unless Q (Err _) clause holds = absurd (clause holds)

@@ -10,6 +10,7 @@ use Rattle.percent_encoding.specs.Percent.{percent_encode_byte, percent_decode, 
 use Rattle.opentelemetry.specs.Baggage.{PlainBaggage, PlainBaggageEntry, entry_of, HasDistinctNames, IsWithinLimits}
 use Rattle.opentelemetry.specs.Carrier.{Texts, SetsText, SameTexts}
 use Rattle.opentelemetry.specs.Plain.{PlainContext}
+use Rattle.opentelemetry.specs.PlainContexts.{current_span_context}
 use Rattle.otel_base.specs.AttributesString.{HasNo, comma, equals_sign}
 
 -- a semicolon parts a member's properties
@@ -113,6 +114,14 @@ pub record InjectsBaggage (cx : PlainContext) (old : Texts) (result : Result (Un
 abbrev pub ExtractsBaggage : PlainContext → Texts → PlainContext → Type 0
 ExtractsBaggage cx texts found =
     found ≡ record cx { baggage = unwrap_or (read_baggage (texts baggage_field)) cx.baggage }
+
+-- reading wants no memory: there is no trace state to share; a header that is read has no equals sign, and so says no
+-- entry; and where none is read, there is no baggage to share
+pub record BaggageIsInfallible (cx : PlainContext) (texts : Texts) : Type 0 where
+  pub shares_no_state : (current_span_context cx).trace_state ≡ []
+  pub reads_no_entry : (header : List ℕ) → texts baggage_field ≡ Some header → length header ≤ 8192
+      → HasNo equals_sign header
+  pub shares_no_baggage : read_baggage (texts baggage_field) ≡ None → cx.baggage ≡ []
 
 -- an entry is of texts
 pub record HasTexts (e : PlainBaggageEntry) : Type 0 where

@@ -20,6 +20,15 @@ Extraction = PlainContext → Texts → PlainContext → Type 0
 abbrev pub ExtractsBoth : Extraction → Extraction → Extraction
 ExtractsBoth these those cx texts found = (between : PlainContext) × these cx texts between × those between texts found
 
+-- where a propagator wants no memory to extract
+abbrev pub Infallible : Type 1
+Infallible = PlainContext → Texts → Type 0
+
+-- the first one wants none, nor the second one in whatever context the first one finds
+abbrev pub BothAreInfallible : Extraction → Infallible → Infallible → Infallible
+BothAreInfallible these first second cx texts =
+    first cx texts × ((between : PlainContext) → these cx texts between → second between texts)
+
 -- the texts of a list of names
 abbrev pub names_of : List (Bor (List ℕ)) → List (List ℕ)
 names_of names = map (λ name. name.now) names

@@ -94,6 +94,15 @@ pub record ExtractsTraceContext (cx : PlainContext) (texts : Texts) (found : Pla
       × (found ≡ record cx { span_context = Some (record c { trace_state = state }) })
   pub as_it_was : ((c : PlainSpanContext) → ¬ (IsTraceparent (header_text (texts traceparent_field)) c)) → found ≡ cx
 
+-- reading wants no memory: there is no baggage to share; texts that say a span context say the empty trace state with
+-- it, and where they say none, there is no trace state to share
+pub record TraceContextIsInfallible (cx : PlainContext) (texts : Texts) : Type 0 where
+  pub shares_no_baggage : cx.baggage ≡ []
+  pub reads_no_state : (c : PlainSpanContext) → IsTraceparent (header_text (texts traceparent_field)) c
+      → SaysState (texts tracestate_field) []
+  pub shares_no_state : ((c : PlainSpanContext) → ¬ (IsTraceparent (header_text (texts traceparent_field)) c))
+      → (current_span_context cx).trace_state ≡ []
+
 -- a span context as another process has it: remote, and of its flags the sampled one
 abbrev pub remote_copy : PlainSpanContext → PlainSpanContext
 remote_copy c = record c { trace_flags = c.trace_flags % 2; is_remote = true }

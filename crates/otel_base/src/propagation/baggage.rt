@@ -1,8 +1,7 @@
 //! The baggage of a context as the header `baggage` (W3C Baggage). A program hands a `BaggagePropagator` the context
 //! and a carrier on each side of a call: what a header can say of the one's baggage the other reads back, in order.
 
-ghost use Rattle.std.specs.Prelude.{◌≡◌, None, IfOk, IsOk, OnOk};
-ghost use Rattle.opentelemetry.specs.PlainContexts.{SharesNothing};
+ghost use Rattle.std.specs.Prelude.{◌≡◌, OnOk};
 ghost use Rattle.otel_base.specs.BaggageHeader.{Carries, InjectsBaggage, IsCarriedUnchanged, baggage_field};
 
 mod pieces;
@@ -31,11 +30,13 @@ impl BaggagePropagator {
 
 impl TextMapPropagator for BaggagePropagator {
     ghost use Rattle.std.specs.Prelude.{[], ◌∷◌};
-    ghost use Rattle.otel_base.specs.BaggageHeader.{baggage_field, InjectsBaggage, ExtractsBaggage};
+    ghost use Rattle.otel_base.specs.BaggageHeader.{baggage_field, InjectsBaggage, ExtractsBaggage, BaggageIsInfallible};
 
     ghost inject_gives = { λ _. InjectsBaggage };
 
     ghost extract_gives = { λ _. ExtractsBaggage };
+
+    ghost extract_is_infallible = { λ _. BaggageIsInfallible };
 
     ghost field_names = { λ _. baggage_field ∷ [] };
 
@@ -65,12 +66,7 @@ impl TextMapPropagator for BaggagePropagator {
         alloc: Global,
         cx: &Context,
         extractor: &X,
-    ) -> Result<Context, AllocError>
-        ensures extracts { IfOk result (λ found. ExtractsBaggage cx.now (X.reads extractor.now) found) }
-
-        // Without a header, and where nothing is to be shared, no memory is needed.
-        ensures free { SharesNothing cx.now → X.reads extractor.now baggage_field ≡ None → IsOk result }
-    {
+    ) -> Result<Context, AllocError> {
         match extractor.get(BAGGAGE_HEADER) {
             Some(header) if header.len() <= MAX_HEADER_BYTES => {
                 cx.with_baggage(read::entries_of(alloc, header)?)

@@ -71,11 +71,14 @@ impl Default for CompositePropagator<TraceContextPropagator, BaggagePropagator> 
 }
 
 impl<A: TextMapPropagator, B: TextMapPropagator> TextMapPropagator for CompositePropagator<A, B> {
-    ghost use Rattle.otel_base.specs.Composite.{names_of, InjectsBoth, ExtractsBoth};
+    ghost use Rattle.otel_base.specs.Composite.{names_of, InjectsBoth, ExtractsBoth, BothAreInfallible};
 
     ghost inject_gives = { λ both. InjectsBoth (A.inject_gives both.first) (B.inject_gives both.second) };
 
     ghost extract_gives = { λ both. ExtractsBoth (A.extract_gives both.first) (B.extract_gives both.second) };
+
+    ghost extract_is_infallible = { λ both. BothAreInfallible (A.extract_gives both.first)
+        (A.extract_is_infallible both.first) (B.extract_is_infallible both.second) };
 
     ghost field_names = { λ both. names_of both.fields.now };
 

@@ -1,10 +1,10 @@
 //! The context of a span as the headers `traceparent` and `tracestate` (W3C Trace Context). A program hands a
 //! `TraceContextPropagator` the context and a carrier on each side of a call: the spans of both sides are of one trace.
 
-ghost use Rattle.std.specs.Prelude.{◌≡◌, ◌<◌, ◌≤◌, ◌^◌, ◌∷◌, ◌++◌, None, Some, List, ℕ, IfOk, IfSome, IsOk, OnOk};
+ghost use Rattle.std.specs.Prelude.{◌≡◌, ◌<◌, ◌≤◌, ◌^◌, [], ◌∷◌, ◌++◌, Some, List, ℕ, IfOk, IfSome, IsOk, OnOk};
 ghost use Rattle.std.specs.Prelude.{MatchOption, string_bytes};
 ghost use Rattle.std.specs.Option.{option_copied};
-ghost use Rattle.opentelemetry.specs.PlainContexts.{current_span_context, SharesNothing};
+ghost use Rattle.opentelemetry.specs.PlainContexts.{current_span_context};
 ghost use Rattle.opentelemetry.specs.Hex.{hex_text};
 ghost use Rattle.opentelemetry.specs.Plain.{PlainSpanContext};
 ghost use Rattle.otel_base.specs.Traceparent.{hyphen, traceparent_of, CarriesSpan, InjectsTraceContext};
@@ -41,11 +41,13 @@ impl TraceContextPropagator {
 impl TextMapPropagator for TraceContextPropagator {
     ghost use Rattle.std.specs.Prelude.{[], ◌∷◌};
     ghost use Rattle.otel_base.specs.Traceparent.{traceparent_field, tracestate_field};
-    ghost use Rattle.otel_base.specs.Traceparent.{InjectsTraceContext, ExtractsTraceContext};
+    ghost use Rattle.otel_base.specs.Traceparent.{InjectsTraceContext, ExtractsTraceContext, TraceContextIsInfallible};
 
     ghost inject_gives = { λ _. InjectsTraceContext };
 
     ghost extract_gives = { λ _. ExtractsTraceContext };
+
+    ghost extract_is_infallible = { λ _. TraceContextIsInfallible };
 
     ghost field_names = { λ _. traceparent_field ∷ tracestate_field ∷ [] };
 
@@ -79,14 +81,7 @@ impl TextMapPropagator for TraceContextPropagator {
         alloc: Global,
         cx: &Context,
         extractor: &X,
-    ) -> Result<Context, AllocError>
-        ensures extracts { IfOk result (λ found. ExtractsTraceContext cx.now (X.reads extractor.now) found) }
-
-        // Where nothing is to be shared, no memory is needed without a trace state, nor where no span context is read.
-        ensures stateless { SharesNothing cx.now → X.reads extractor.now tracestate_field ≡ None → IsOk result }
-        ensures unread { SharesNothing cx.now → ((c : PlainSpanContext)
-            → ¬ (IsTraceparent (header_text (X.reads extractor.now traceparent_field)) c)) → IsOk result }
-    {
+    ) -> Result<Context, AllocError> {
         let Some(parent) = read_parent(extractor.get(TRACEPARENT_HEADER).unwrap_or("")) else {
             return cx.clone();
         };
@@ -170,7 +165,7 @@ fn read_flags(text: &str, version: u128) -> Option<u128>
 /// The trace state that a header says; the empty one without a header, and where it does not read.
 fn read_state(alloc: Global, header: Option<&str>) -> Result<TraceState, AllocError>
     ensures state { IfOk result (λ state. SaysState (option_copied header.entry) state) }
-    ensures free { option_copied header.entry ≡ None → IsOk result }
+    ensures free { SaysState (option_copied header.entry) [] → IsOk result }
 {
     let Some(text) = header else {
         return Ok(TraceState::new());

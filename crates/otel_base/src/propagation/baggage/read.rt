@@ -1,12 +1,12 @@
 //! A header read into a baggage: its members in turn, and of each the name, the value and the properties.
 
 ghost use Rattle.std.specs.Prelude.{◌≡◌, ◌+◌, ◌<◌, ◌≤◌, ◌∷◌, [], None, Some, length, List, ℕ, MatchOption};
-ghost use Rattle.std.specs.Prelude.{IfOk, OnOk, option_map, string_bytes, is_none, ◌&&◌};
+ghost use Rattle.std.specs.Prelude.{IfOk, IsOk, OnOk, option_map, string_bytes, is_none, ◌&&◌};
 ghost use Rattle.std.specs.Cow.{cow_str_bytes};
 ghost use Rattle.std.specs.Option.{option_map_or};
 ghost use Rattle.std.specs.Str.{trim};
 ghost use Rattle.opentelemetry.specs.Baggage.{baggage_bytes, with_entry, BreaksLimit};
-ghost use Rattle.otel_base.specs.AttributesString.{equals_sign};
+ghost use Rattle.otel_base.specs.AttributesString.{HasNo, equals_sign};
 ghost use Rattle.otel_base.specs.BaggageHeader.{entries_of, entry_of_member, metadata_of, paired_entry, pieces_at};
 ghost use Rattle.otel_base.specs.BaggageHeader.{said_by, semicolon};
 ghost use Rattle.otel_base.specs.BaggagePieces.{entry_with, next_property, properties_behind};
@@ -24,7 +24,8 @@ const MAX_MEMBERS: usize = 64;
 /// The baggage of a header. One member is read at a time, and none behind the last that counts is looked for.
 pub fn entries_of(alloc: Global, header: &str) -> Result<Baggage, AllocError>
     requires { length header.now ≤ 8192 }
-    ensures { IfOk result (λ baggage. baggage ≡ entries_of header.now) }
+    ensures read { IfOk result (λ baggage. baggage ≡ entries_of header.now) }
+    ensures free { HasNo equals_sign header.now → IsOk result }
 {
     let mut baggage = Baggage::new(alloc);
     'members: for member in header.split(',').take(MAX_MEMBERS) {
@@ -37,8 +38,9 @@ pub fn entries_of(alloc: Global, header: &str) -> Result<Baggage, AllocError>
 fn put_member(baggage: &mut Baggage, alloc: Global, member: &str) -> Result<(), AllocError>
     requires few { length baggage.old < 64 }
     requires small { baggage_bytes baggage.old + length member.now ≤ 8192 }
-    ensures { OnOk result (baggage.new
+    ensures put { OnOk result (baggage.new
         ≡ option_map_or (λ entry. with_entry baggage.old entry) (entry_of_member member.now) baggage.old) }
+    ensures free { HasNo equals_sign member.now → IsOk result }
 {
     match read_member(alloc, member)? {
         Some(entry) => put(baggage, entry),
@@ -60,7 +62,8 @@ fn put(baggage: &mut Baggage, entry: KeyValueMetadata) -> Result<(), AllocError>
 
 /// The entry that a member says, if it reads.
 fn read_member(alloc: Global, member: &str) -> Result<Option<KeyValueMetadata>, AllocError>
-    ensures { IfOk result (λ entry. entry ≡ entry_of_member member.now) }
+    ensures read { IfOk result (λ entry. entry ≡ entry_of_member member.now) }
+    ensures free { HasNo equals_sign member.now → IsOk result }
 {
     let (pair, properties) = split_properties(member);
     let Some((name, value)) = read_pair(alloc, pair)? else {
@@ -82,8 +85,9 @@ fn split_properties(member: &str) -> (&str, Option<&str>)
 
 /// The name and the value of a pair; none where there is no equals sign, one is not UTF-8, or the name is empty.
 fn read_pair(alloc: Global, pair: &str) -> Result<Option<(String, String)>, AllocError>
-    ensures { IfOk result (λ read. (metadata : List ℕ) → option_map (λ both. entry_with metadata both) read
+    ensures read { IfOk result (λ read. (metadata : List ℕ) → option_map (λ both. entry_with metadata both) read
         ≡ paired_entry (pieces_at equals_sign pair.now) metadata) }
+    ensures free { HasNo equals_sign pair.now → IsOk result }
 {
     let Some((name, value)) = split_pair(pair) else {
         return Ok(None);
