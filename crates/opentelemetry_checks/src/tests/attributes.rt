@@ -107,3 +107,32 @@ fn lists_of_33_values_are_copied(rt: HostRuntime) -> Result<(), Fail> {
     }
     Ok(())
 }
+
+/// An empty text, a short one, and one of so many bytes.
+fn texts(alloc: Global, count: usize) -> Result<[String; 3], AllocError> {
+    let mut long = String::new(alloc);
+    for _ in 0..count {
+        long.push('v')?;
+    }
+    Ok([String::new(alloc), String::from_str(alloc, "v")?, long])
+}
+
+#[test]
+fn keys_of_any_length_are_copied(rt: HostRuntime) -> Result<(), Fail> {
+    for (text, length) in texts(rt.alloc(), 1000)?.into_iter().zip([0, 1, 1000]) {
+        let key = Key::new(text);
+        let copy = key.clone()?;
+        assert!(rt; copy == key);
+        assert_eq!(rt; copy.as_str().len(), length);
+    }
+    Ok(())
+}
+
+#[test]
+fn texts_of_any_length_are_copied(rt: HostRuntime) -> Result<(), Fail> {
+    for text in texts(rt.alloc(), 1000)? {
+        let value = Value::String(text);
+        assert!(rt; value.clone()? == value);
+    }
+    Ok(())
+}

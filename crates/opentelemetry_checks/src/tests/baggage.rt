@@ -161,3 +161,23 @@ fn one_entry_is_copied(rt: HostRuntime) -> Result<(), Fail> {
     assert!(rt; entry.clone()? == entry);
     Ok(())
 }
+
+/// Metadata of so many bytes.
+fn metadata(alloc: Global, count: usize) -> Result<BaggageMetadata, AllocError> {
+    let mut text = String::new(alloc);
+    for _ in 0..count {
+        text.push('m')?;
+    }
+    Ok(BaggageMetadata::new(text))
+}
+
+#[test]
+fn metadata_of_any_length_is_copied(rt: HostRuntime) -> Result<(), Fail> {
+    for count in [0, 33, 1000] {
+        let metadata = metadata(rt.alloc(), count)?;
+        let copy = metadata.clone()?;
+        assert!(rt; copy == metadata);
+        assert_eq!(rt; copy.as_str().len(), count);
+    }
+    Ok(())
+}

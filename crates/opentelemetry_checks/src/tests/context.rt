@@ -1,6 +1,6 @@
-use opentelemetry::Context;
 use opentelemetry::baggage::Baggage;
-use opentelemetry::trace::SpanContext;
+use opentelemetry::trace::{SpanContext, TraceState};
+use opentelemetry::{Context, SpanId, TraceFlags, TraceId};
 use std::alloc::{AllocError, Global};
 use std::test::Fail;
 
@@ -61,5 +61,86 @@ fn the_empty_baggage_of_a_context_can_grow(rt: HostRuntime) -> Result<(), Fail> 
     let name = String::from_str(rt.alloc(), "a")?;
     let _new = baggage.insert(name, String::from_str(rt.alloc(), "b")?)?;
     assert_eq!(rt; baggage.get("a"), Some("b"));
+    Ok(())
+}
+
+/// How many entries a baggage and how many members a trace state has, more than any small number that a context might
+/// tell apart.
+const COUNT: u32 = 33;
+
+/// A baggage of many entries.
+fn many(alloc: Global) -> Result<Baggage, Fail> {
+    let mut baggage = Baggage::new(alloc);
+    for number in 0..COUNT {
+        let name = format!(in alloc; "name{number}")?;
+        let _new = baggage.insert(name, String::from_str(alloc, "1")?)?;
+    }
+    Ok(baggage)
+}
+
+/// The text of a trace state of many members, each with this value.
+fn members(alloc: Global, value: &str) -> Result<String, AllocError> {
+    let mut text = String::new(alloc);
+    for number in 0..COUNT {
+        write!(text, "k{number}={value},")?;
+    }
+    Ok(text)
+}
+
+/// The context of the span of this id, whose trace state has its id at each key.
+fn span_of(alloc: Global, span_id: u64) -> Result<SpanContext, Fail> {
+    let value = format!(in alloc; "{span_id}")?;
+    let members = members(alloc, value.as_str())?;
+    Ok(SpanContext::new(
+        TraceId::from(7),
+        SpanId::from(span_id),
+        TraceFlags::SAMPLED,
+        true,
+        TraceState::from_str(alloc, members.as_str())?,
+    ))
+}
+
+/// A context of a span that hands on many entries.
+fn full(alloc: Global) -> Result<Context, Fail> {
+    let cx = Context::new().with_span_context(span_of(alloc, 8)?)?;
+    Ok(with(&cx, many(alloc)?)?)
+}
+
+/// The same with another span active.
+fn under_another(alloc: Global, is_remote: bool) -> Result<Context, Fail> {
+    let cx = full(alloc)?;
+    let span_context = span_of(alloc, 9)?;
+    if is_remote {
+        Ok(cx.with_remote_span_context(span_context)?)
+    } else {
+        Ok(cx.with_span_context(span_context)?)
+    }
+}
+
+/// Whether a context has the span of this id and hands on many entries.
+fn is_whole(alloc: Global, cx: &Context, span_id: u64) -> Result<bool, Fail> {
+    let has_span = cx.has_active_span() && *cx.span_context() == span_of(alloc, span_id)?;
+    Ok(has_span && *cx.baggage() == many(alloc)?)
+}
+
+#[test]
+fn another_span_leaves_the_baggage(rt: HostRuntime) -> Result<(), Fail> {
+    assert!(rt; is_whole(rt.alloc(), &full(rt.alloc())?, 8)?);
+    for is_remote in [false, true] {
+        let cx = under_another(rt.alloc(), is_remote)?;
+        assert!(rt; is_whole(rt.alloc(), &cx, 9)?);
+    }
+    Ok(())
+}
+
+/// Whether a copy of a whole context is whole, also where telemetry is suppressed.
+fn copies_are_whole(alloc: Global, cx: &Context, span_id: u64) -> Result<bool, Fail> {
+    let suppressed = is_whole(alloc, &cx.with_telemetry_suppressed()?, span_id)?;
+    Ok(suppressed && is_whole(alloc, &cx.clone()?, span_id)?)
+}
+
+#[test]
+fn a_copy_has_the_span_and_the_baggage(rt: HostRuntime) -> Result<(), Fail> {
+    assert!(rt; copies_are_whole(rt.alloc(), &full(rt.alloc())?, 8)?);
     Ok(())
 }

@@ -111,3 +111,14 @@ fn a_carrier_holds_33_names(rt: HostRuntime) -> Result<(), Fail> {
     assert_eq!(rt; copy.get("name32"), Some("x"));
     Ok(())
 }
+
+#[test]
+fn an_empty_name_is_one_of_its_own(rt: HostRuntime) -> Result<(), Fail> {
+    let mut carrier = carrier_of(rt.alloc(), 33)?;
+    assert_eq!(rt; carrier.get(""), None);
+    carrier.set("", String::from_str(rt.alloc(), "y")?)?;
+    assert_eq!(rt; carrier.get(""), Some("y"));
+    assert_eq!(rt; carrier.get("name32"), Some("x"));
+    assert_eq!(rt; carrier.keys(rt.alloc())?.len(), 34);
+    Ok(())
+}

@@ -1,4 +1,5 @@
 use opentelemetry::trace::Status;
+use std::alloc::{AllocError, Global};
 use std::test::Fail;
 
 #[test]
@@ -19,6 +20,24 @@ fn errors_stand_between_unset_and_ok(rt: HostRuntime) -> Result<(), Fail> {
             assert_eq!(rt; lower < upper, i < j);
             assert_eq!(rt; lower == upper, i == j);
         }
+    }
+    Ok(())
+}
+
+/// An error whose description has so many bytes.
+fn error(alloc: Global, count: usize) -> Result<Status, AllocError> {
+    let mut description = String::new(alloc);
+    for _ in 0..count {
+        description.push('d')?;
+    }
+    Ok(Status::Error { description })
+}
+
+#[test]
+fn descriptions_of_any_length_are_copied(rt: HostRuntime) -> Result<(), Fail> {
+    for count in [0, 33, 1000] {
+        let error = error(rt.alloc(), count)?;
+        assert!(rt; error.clone()? == error);
     }
     Ok(())
 }

@@ -50,6 +50,15 @@ fn refuses_other_texts(rt: HostRuntime) -> Result<(), Fail> {
 }
 
 #[test]
+fn an_error_says_what_an_id_is(rt: HostRuntime) -> Result<(), Fail> {
+    assert_eq!(rt;
+        ParseIdError.to_string(rt.alloc())?.as_str(),
+        "an id is written in exactly as many digits 0-9 a-f as it has half bytes"
+    );
+    Ok(())
+}
+
+#[test]
 fn sets_and_clears_the_sampled_bit(rt: HostRuntime) -> Result<(), Fail> {
     let flags = TraceFlags::new(0xfe);
     assert_eq!(rt; flags.with_sampled(true).to_u8(), 0xff);
