@@ -2,7 +2,7 @@
 
 use super::crossing::{carrier_of, extracted, inject};
 use opentelemetry::baggage::Baggage;
-use opentelemetry::propagation::{Extractor, FieldIter, TextMapPropagator};
+use opentelemetry::propagation::{Extractor, FieldIter, MapCarrier, TextMapPropagator};
 use opentelemetry::trace::{SpanContext, TraceState};
 use opentelemetry::{Context, SpanId, TraceFlags, TraceId};
 use otel_base::propagation::{
@@ -106,5 +106,79 @@ fn fields_are_each_propagators_own_in_their_order(rt: HostRuntime) -> Result<(),
     for fields in refused {
         assert_eq!(rt; turned(fields).err(), Some(FieldsError));
     }
+    Ok(())
+}
+
+#[test]
+fn an_error_says_what_the_fields_are(rt: HostRuntime) -> Result<(), Fail> {
+    assert_eq!(rt;
+        FieldsError.to_string(rt.alloc())?.as_str(),
+        "the fields are not those of the first propagator and then those of the second, each once"
+    );
+    Ok(())
+}
+
+/// How many entries a baggage and how many members a trace state has, more than any small number that a propagator
+/// might tell apart.
+const COUNT: u32 = 33;
+
+/// The header of many members.
+fn members(alloc: Global) -> Result<String, AllocError> {
+    let mut header = String::from_str(alloc, "k0=v0")?;
+    for number in 1..COUNT {
+        write!(header, ",k{number}=v{number}")?;
+    }
+    Ok(header)
+}
+
+/// A baggage of the same entries.
+fn entries(alloc: Global) -> Result<Baggage, Fail> {
+    let mut baggage = Baggage::new(alloc);
+    for number in 0..COUNT {
+        let name = format!(in alloc; "k{number}")?;
+        let _ = baggage.insert(name, format!(in alloc; "v{number}")?)?;
+    }
+    Ok(baggage)
+}
+
+/// A sampled span context with the same trace state.
+fn with_members(alloc: Global, is_remote: bool) -> Result<SpanContext, Fail> {
+    let members = members(alloc)?;
+    Ok(SpanContext::new(
+        TraceId::from(1),
+        SpanId::from(2),
+        TraceFlags::SAMPLED,
+        is_remote,
+        TraceState::from_str(alloc, members.as_str())?,
+    ))
+}
+
+/// A context with many of both.
+fn context_of_many(alloc: Global) -> Result<Context, Fail> {
+    let cx = Context::new().with_span_context(with_members(alloc, false)?)?;
+    Ok(cx.with_baggage(entries(alloc)?)?)
+}
+
+/// What a carrier has of it.
+fn sent(alloc: Global) -> Result<MapCarrier, Fail> {
+    let mut carrier = carrier_of(alloc, &[])?;
+    inject::<BuiltIn>(alloc, &context_of_many(alloc)?, &mut carrier)?;
+    Ok(carrier)
+}
+
+/// Whether many of both are read of a carrier.
+fn received(alloc: Global, carrier: &MapCarrier) -> Result<bool, Fail> {
+    let found = extracted::<BuiltIn>(alloc, &Context::new(), carrier)?;
+    let has_span = *found.span_context() == with_members(alloc, true)?;
+    Ok(has_span && *found.baggage() == entries(alloc)?)
+}
+
+#[test]
+fn many_members_and_entries_cross_a_carrier(rt: HostRuntime) -> Result<(), Fail> {
+    let carrier = sent(rt.alloc())?;
+    let header = members(rt.alloc())?;
+    assert_eq!(rt; carrier.get("tracestate"), Some(header.as_str()));
+    assert_eq!(rt; carrier.get("baggage"), Some(header.as_str()));
+    assert!(rt; received(rt.alloc(), &carrier)?);
     Ok(())
 }

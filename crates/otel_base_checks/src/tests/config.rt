@@ -1,5 +1,7 @@
 //! What strings configure: samplers by name, ratios and limits.
 
+use opentelemetry::{Key, Value};
+use otel_base::resource::{Resource, ResourceStrings};
 use otel_base::trace::{Config, ConfigStrings, Ratio, Sampler};
 use std::alloc::{AllocError, Global};
 use std::test::Fail;
@@ -161,5 +163,49 @@ fn each_limit_has_a_string_of_its_own(rt: HostRuntime) -> Result<(), Fail> {
     assert_eq!(rt; limits.max_links_per_span, 3);
     assert_eq!(rt; limits.max_attributes_per_event, 128);
     assert_eq!(rt; limits.max_attributes_per_link, 128);
+    Ok(())
+}
+
+/// Strings with a service's name and so many attributes.
+fn resource_strings(alloc: Global, count: u32) -> Result<ResourceStrings, AllocError> {
+    let mut attributes = String::new(alloc);
+    for number in 0..count {
+        write!(attributes, "k{number}=v{number},")?;
+    }
+    Ok(ResourceStrings {
+        attributes: Some(attributes),
+        service_name: text(alloc, Some("shop"))?,
+        program_name: text(alloc, Some("p"))?,
+    })
+}
+
+fn configured_resource(alloc: Global, count: u32) -> Result<Resource, AllocError> {
+    let strings = ConfigStrings {
+        resource: resource_strings(alloc, count)?,
+        ..ConfigStrings::default()
+    };
+    Ok(Config::from_strings(alloc, &strings, 0)?.resource)
+}
+
+/// The text that a resource has at a key.
+fn text_at<'a>(resource: &'a Resource, key: &'static str) -> Option<&'a str> {
+    match resource.get_ref(&Key::from_static_str(key))? {
+        Value::String(text) => Some(text.as_str()),
+        _ => None,
+    }
+}
+
+#[test]
+fn strings_configure_the_resource(rt: HostRuntime) -> Result<(), Fail> {
+    let resource = configured_resource(rt.alloc(), 33)?;
+    assert_eq!(rt; resource.len(), 37);
+    for (key, value) in [
+        ("k0", "v0"),
+        ("k32", "v32"),
+        ("service.name", "shop"),
+        ("telemetry.sdk.language", "rust"),
+    ] {
+        assert_eq!(rt; text_at(&resource, key), Some(value));
+    }
     Ok(())
 }

@@ -58,6 +58,15 @@ fn refuses_a_denominator_of_zero(rt: HostRuntime) {
     assert!(rt; Ratio::new(0, 1).is_ok());
 }
 
+#[test]
+fn an_error_says_what_is_wrong(rt: HostRuntime) -> Result<(), Fail> {
+    assert_eq!(rt;
+        RatioError::ZeroDenominator.to_string(rt.alloc())?.as_str(),
+        "a ratio's denominator is zero"
+    );
+    Ok(())
+}
+
 /// What the inequality of whole numbers says, in numbers of 128 bits: the low half without its last bit, counted from
 /// one, times the denominator is at most the numerator times 2^63.
 fn says(low: u64, numerator: u64, denominator: u64) -> bool {

@@ -1,5 +1,7 @@
 //! Tables of resources. Expected texts show each pair as `key=value;`, in the order of the keys, and then the schema.
 
+mod many;
+
 use opentelemetry::{Array, Key, KeyValue, Value};
 use otel_base::resource::{
     EnvResourceDetector, Resource, ResourceBuilder, ResourceDetector, ResourceStrings,

@@ -6,24 +6,40 @@ use otel_base::trace::{Ratio, Sampler, SamplerOf, SamplingDecision, SamplingResu
 use std::alloc::{AllocError, Global};
 use std::test::Fail;
 
-/// Records without sampling, adds an attribute, and has a trace state of its own. It refuses spans without a name.
+/// Records without sampling, adds attributes, and has a trace state of its own. It refuses spans without a name.
 #[derive(Drop)]
 struct Own {
     alloc: Global,
 }
 
-fn own_answer(alloc: Global) -> Result<SamplingResult, AllocError> {
-    let key = Key::new(String::from_str(alloc, "sampler")?);
+/// How much of each an answer has, and how deep a tree is: more than any small number that a copy might tell apart.
+const COUNT: u32 = 33;
+
+fn own_attributes(alloc: Global) -> Result<Vec<KeyValue>, AllocError> {
     let mut attributes = Vec::new(alloc);
-    attributes.push(KeyValue::new(key, Value::I64(7)))?;
-    let trace_state = match TraceState::from_str(alloc, "own=1") {
-        Ok(trace_state) => trace_state,
-        Err(_) => return Err(AllocError),
-    };
+    for number in 0..COUNT {
+        let key = Key::new(format!(in alloc; "sampler{number}")?);
+        attributes.push(KeyValue::new(key, Value::I64(i64::from(number))))?;
+    }
+    Ok(attributes)
+}
+
+fn own_state(alloc: Global) -> Result<TraceState, AllocError> {
+    let mut members = String::new(alloc);
+    for number in 0..COUNT {
+        write!(members, "own{number}=1,")?;
+    }
+    match TraceState::from_str(alloc, members.as_str()) {
+        Ok(trace_state) => Ok(trace_state),
+        Err(_) => Err(AllocError),
+    }
+}
+
+fn own_answer(alloc: Global) -> Result<SamplingResult, AllocError> {
     Ok(SamplingResult {
         decision: SamplingDecision::RecordOnly,
-        attributes: Some(attributes),
-        trace_state,
+        attributes: Some(own_attributes(alloc)?),
+        trace_state: own_state(alloc)?,
     })
 }
 
@@ -292,6 +308,8 @@ fn a_custom_sampler_is_not_asked_under_a_parent(rt: HostRuntime) -> Result<(), F
 fn a_clone_of_an_answer_is_equal(rt: HostRuntime) -> Result<(), Fail> {
     let own = own_answer(rt.alloc())?;
     assert!(rt; own.clone()? == own);
+    assert_eq!(rt; own.trace_state.get("own32"), Some("1"));
+    assert_eq!(rt; own.attributes.ok_or("attributes")?.len(), 33);
     Ok(())
 }
 
@@ -338,6 +356,32 @@ fn copies_trees_without_a_custom_sampler(rt: HostRuntime) -> Result<(), Fail> {
         copy_decisions(alloc, &twice_over_off(alloc)?)?,
         [off, on, off]
     );
+    Ok(())
+}
+
+/// A sampler deep below others, each of which decides by the parent.
+fn deep(alloc: Global, leaf: Tree) -> Result<Tree, AllocError> {
+    let mut tree = leaf;
+    for _ in 0..COUNT {
+        tree = over(alloc, tree)?;
+    }
+    Ok(tree)
+}
+
+/// What copies decide of a tree deep above a leaf.
+fn deep_decisions(alloc: Global, leaf: Tree) -> Result<[SamplingDecision; 3], Fail> {
+    copy_decisions(alloc, &deep(alloc, leaf)?)
+}
+
+#[test]
+fn copies_deep_trees(rt: HostRuntime) -> Result<(), Fail> {
+    let alloc = rt.alloc();
+    let (on, off) = (SamplingDecision::RecordAndSample, SamplingDecision::Drop);
+    let decisions = deep_decisions(alloc, Tree::AlwaysOn)?;
+    assert_eq!(rt; decisions, [on, on, off]);
+    assert_eq!(rt; deep_decisions(alloc, nought()?)?, [off, on, off]);
+    let custom = deep(alloc, Tree::Custom(Own { alloc }))?;
+    assert!(rt; custom.try_clone()?.is_none());
     Ok(())
 }
 
