@@ -56,10 +56,9 @@ fn seconds_of(answer: OTelSdkResult) -> Option<u64> {
     }
 }
 
-/// One span that started at this moment.
-fn batch_from(alloc: Global, moment: u64) -> Result<Vec<SpanData>, AllocError> {
-    let mut batch = Vec::new(alloc);
-    batch.push(SpanData {
+/// A span that started at this moment.
+fn span_from(alloc: Global, moment: u64) -> Result<SpanData, AllocError> {
+    Ok(SpanData {
         span_context: SpanContext::new(
             TraceId::from(1),
             SpanId::from(2),
@@ -79,23 +78,51 @@ fn batch_from(alloc: Global, moment: u64) -> Result<Vec<SpanData>, AllocError> {
         links: SpanLinks::new(alloc),
         status: Status::Unset,
         instrumentation_scope: InstrumentationScope::builder(alloc, String::new(alloc)).build()?,
-    })?;
+    })
+}
+
+/// So many spans, of which the first one started at this moment and each further one a moment later.
+fn batch_from(alloc: Global, moment: u64, count: u64) -> Result<Vec<SpanData>, AllocError> {
+    let mut batch = Vec::new(alloc);
+    for later in 0..count {
+        batch.push(span_from(alloc, moment.saturating_add(later))?)?;
+    }
     Ok(batch)
+}
+
+/// The moments at which the spans of a batch started.
+fn moments_of(alloc: Global, batch: &[SpanData]) -> Result<Vec<u64>, AllocError> {
+    let mut moments = Vec::new(alloc);
+    for span in batch {
+        moments.push(span.start_time.0)?;
+    }
+    Ok(moments)
+}
+
+/// So many moments in turn.
+fn moments_from(alloc: Global, moment: u64, count: u64) -> Result<Vec<u64>, AllocError> {
+    let mut moments = Vec::new(alloc);
+    for later in 0..count {
+        moments.push(moment.saturating_add(later))?;
+    }
+    Ok(moments)
 }
 
 #[test]
 fn batches_are_kept_in_order(rt: HostRuntime) -> Result<(), Fail> {
     let mut exporter = ExporterBox::Memory(InMemorySpanExporter::new(rt.alloc()));
-    exporter.export(batch_from(rt.alloc(), 7)?)?;
-    exporter.export(batch_from(rt.alloc(), 8)?)?;
+    exporter.export(batch_from(rt.alloc(), 7, 1)?)?;
+    exporter.export(batch_from(rt.alloc(), 8, 33)?)?;
     let ExporterOf::Memory(memory) = &exporter else {
         return Err(Fail::new("another exporter"));
     };
     let batches = memory.batches();
     assert_eq!(rt; batches.len(), 2);
-    for (batch, moment) in batches.iter().zip([7, 8]) {
-        assert_eq!(rt; batch.len(), 1);
-        assert_eq!(rt; batch[0].start_time.0, moment);
+    for (batch, (moment, count)) in batches.iter().zip([(7, 1), (8, 33)]) {
+        assert_eq!(rt;
+            moments_of(rt.alloc(), batch)?.as_slice(),
+            moments_from(rt.alloc(), moment, count)?.as_slice()
+        );
     }
     assert_eq!(rt; memory.lost_batches(), 0);
     Ok(())
@@ -117,7 +144,7 @@ fn an_exporter_in_memory_has_nothing_to_send(rt: HostRuntime) -> Result<(), Fail
 #[test]
 fn an_exporter_of_the_callers_is_reached(rt: HostRuntime) -> Result<(), Fail> {
     let mut exporter = ExporterBox::Custom(Box::new(rt.alloc(), Echo { asked: 0 })?);
-    let exported = exporter.export(batch_from(rt.alloc(), 7)?);
+    let exported = exporter.export(batch_from(rt.alloc(), 7, 1)?);
     assert_eq!(rt; seconds_of(exported), Some(7));
     assert_eq!(rt; seconds_of(exporter.force_flush()), Some(100));
     let shut = exporter.shutdown_with_timeout(Duration::from_secs(7));

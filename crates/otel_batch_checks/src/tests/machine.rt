@@ -7,12 +7,12 @@ mod script;
 mod watching;
 
 use crate::tests::machine::script::{
-    counts_text, first_difference, machine, sizes, span, step_of, text_of,
+    counts_text, first_difference, machine, sizes, span, spans_text, step_of, text_of,
 };
 use otel_base::error::{OTelSdkError, OTelSdkResult};
 use otel_batch::machine::{BatchMachine, Outcome, Slot, Step, Worker};
 use otel_batch::trace::{ExporterBox, SpanData, SpanExporter};
-use std::alloc::Global;
+use std::alloc::{AllocError, Global};
 use std::test::Fail;
 use std::time::Duration;
 
@@ -279,7 +279,8 @@ fn a_run_appends_its_outcomes(rt: HostRuntime) -> Result<(), Fail> {
 fn offers_and_sends(alloc: Global, producers: usize) -> Result<Vec<Step>, Fail> {
     let mut steps = Vec::new(alloc);
     for producer in 0..producers {
-        steps.push(Step::Offer(producer, span(alloc, "a", 1)?))?;
+        let name = format!(in alloc; "a{producer}")?;
+        steps.push(Step::Offer(producer, span(alloc, name.as_str(), 1)?))?;
         steps.push(Step::Send(producer))?;
     }
     Ok(steps)
@@ -299,6 +300,55 @@ fn a_run_takes_the_steps_of_33_producers(rt: HostRuntime) -> Result<(), Fail> {
     assert_eq!(rt;
         counts_text(alloc, &queue)?.as_str(),
         "counter 33 dropped 0 open"
+    );
+    Ok(())
+}
+
+/// The steps of the worker up to a hand of so many spans.
+fn pulls(alloc: Global, count: usize) -> Result<Vec<Step>, AllocError> {
+    let mut steps = vec![in alloc; Step::Tick, Step::Load]?;
+    for _ in 0..count {
+        steps.push(Step::Pull)?;
+    }
+    Ok(steps)
+}
+
+/// What `spans_text` says once all that was offered went in one batch.
+fn one_batch(alloc: Global, count: usize) -> Result<String, AllocError> {
+    let mut text = String::from_str(alloc, "waiting [] hand [] told [a0")?;
+    for number in 1..count {
+        write!(text, ",a{number}")?;
+    }
+    text.push_str("]")?;
+    Ok(text)
+}
+
+/// A machine in whose hand a span of each of so many producers is.
+fn in_hand(alloc: Global, producers: usize) -> Result<BatchMachine<ExporterBox>, Fail> {
+    let mut queue = machine(alloc, producers, producers, producers)?;
+    let mut outcomes = Vec::new(alloc);
+    for steps in [
+        offers_and_sends(alloc, producers)?,
+        pulls(alloc, producers)?,
+    ] {
+        if queue.run(steps, &mut outcomes).is_err() {
+            return Err(Fail::new("no memory for the outcomes"));
+        }
+    }
+    Ok(queue)
+}
+
+#[test]
+fn a_batch_has_the_spans_of_33_producers(rt: HostRuntime) -> Result<(), Fail> {
+    let alloc = rt.alloc();
+    let mut queue = in_hand(alloc, 33)?;
+    assert_eq!(rt; queue.hand().len(), 33);
+    assert_eq!(rt; queue.step(Step::HandOver), Outcome::HandedOver(33, None));
+    assert_eq!(rt; queue.step(Step::Subtract), Outcome::Subtracted);
+    assert_eq!(rt; queue.step(Step::Finish), Outcome::Finished(None));
+    assert_eq!(rt;
+        spans_text(alloc, &queue)?.as_str(),
+        one_batch(alloc, 33)?.as_str()
     );
     Ok(())
 }
