@@ -266,10 +266,32 @@ fn attributes_of_events_and_links_are_cut_and_counted_anew(rt: HostRuntime) -> R
     Ok(())
 }
 
-/// A builder with an event and a link, each with one attribute and a count of seven.
-fn builder_of_both(alloc: Global, tracer: &SdkTracer) -> Result<SpanBuilder, AllocError> {
-    let events = vec![in alloc; event(alloc, 1, 7)?]?;
-    let links = vec![in alloc; link(alloc, 1, 7)?]?;
+/// So many events with a count of seven, the first with one attribute and each further one with one more.
+fn rising_events(alloc: Global, number: u8) -> Result<Vec<Event>, AllocError> {
+    let mut events = Vec::new(alloc);
+    for given in 1..=number {
+        events.push(event(alloc, given, 7)?)?;
+    }
+    Ok(events)
+}
+
+/// So many links of the same kind.
+fn rising_links(alloc: Global, number: u8) -> Result<Vec<Link>, AllocError> {
+    let mut links = Vec::new(alloc);
+    for given in 1..=number {
+        links.push(link(alloc, given, 7)?)?;
+    }
+    Ok(links)
+}
+
+/// A builder with so many of both.
+fn builder_of_both(
+    alloc: Global,
+    tracer: &SdkTracer,
+    number: u8,
+) -> Result<SpanBuilder, AllocError> {
+    let events = rising_events(alloc, number)?;
+    let links = rising_links(alloc, number)?;
     Ok(
         tracer
             .span_builder(String::new(alloc))
@@ -279,9 +301,13 @@ fn builder_of_both(alloc: Global, tracer: &SdkTracer) -> Result<SpanBuilder, All
 }
 
 /// Starts a span of such a builder.
-fn start_of_both(alloc: Global, provider: &mut TestProvider) -> Result<Span, AllocError> {
+fn start_of_both(
+    alloc: Global,
+    provider: &mut TestProvider,
+    number: u8,
+) -> Result<Span, AllocError> {
     let tracer = provider.tracer(String::new(alloc))?;
-    let builder = builder_of_both(alloc, &tracer)?;
+    let builder = builder_of_both(alloc, &tracer, number)?;
     tracer.build_with_context(builder, &Context::new(), provider, Moment(7))
 }
 
@@ -289,8 +315,9 @@ fn start_of_both(alloc: Global, provider: &mut TestProvider) -> Result<Span, All
 fn recorded_of_both(
     alloc: Global,
     provider: &mut TestProvider,
+    number: u8,
 ) -> Result<Option<SpanData>, AllocError> {
-    exported_of(start_of_both(alloc, provider)?)
+    exported_of(start_of_both(alloc, provider, number)?)
 }
 
 /// The counts of a span's events and links, and of their attributes.
@@ -301,9 +328,9 @@ fn all_counts(alloc: Global, span: &SpanData) -> Result<Vec<(usize, u32)>, Alloc
     Ok(counts)
 }
 
-fn counts_of_both(alloc: Global) -> Result<Vec<(usize, u32)>, AllocError> {
+fn counts_of_both(alloc: Global, number: u8) -> Result<Vec<(usize, u32)>, AllocError> {
     let mut provider = provider_over(alloc, Vec::new(alloc), SpanLimits::default());
-    let recorded = recorded_of_both(alloc, &mut provider);
+    let recorded = recorded_of_both(alloc, &mut provider, number);
     let _ = provider.close();
     match recorded? {
         Some(recorded) => all_counts(alloc, &recorded),
@@ -313,10 +340,33 @@ fn counts_of_both(alloc: Global) -> Result<Vec<(usize, u32)>, AllocError> {
 
 #[test]
 fn a_builders_events_and_links_are_counted_anew(rt: HostRuntime) -> Result<(), Fail> {
-    let counts = counts_of_both(rt.alloc())?;
+    let counts = counts_of_both(rt.alloc(), 1)?;
     assert_eq!(rt;
         counts.as_slice(),
         [(1, 0), (1, 0), (1, 0), (1, 0)].as_slice()
+    );
+    Ok(())
+}
+
+/// The counts of a span that has so many of both, none of them cut.
+fn rising_counts(alloc: Global, number: u8) -> Result<Vec<(usize, u32)>, AllocError> {
+    let mut counts = Vec::new(alloc);
+    for _ in 0..2 {
+        for given in 1..=number {
+            counts.push((usize::from(given), 0))?;
+        }
+    }
+    for _ in 0..2 {
+        counts.push((usize::from(number), 0))?;
+    }
+    Ok(counts)
+}
+
+#[test]
+fn a_builders_33_events_and_33_links_are_recorded_in_order(rt: HostRuntime) -> Result<(), Fail> {
+    assert_eq!(rt;
+        counts_of_both(rt.alloc(), 33)?.as_slice(),
+        rising_counts(rt.alloc(), 33)?.as_slice()
     );
     Ok(())
 }
