@@ -343,9 +343,12 @@ fn a_batch_has_the_spans_of_33_producers(rt: HostRuntime) -> Result<(), Fail> {
     let alloc = rt.alloc();
     let mut queue = in_hand(alloc, 33)?;
     assert_eq!(rt; queue.hand().len(), 33);
-    assert_eq!(rt; queue.step(Step::HandOver), Outcome::HandedOver(33, None));
-    assert_eq!(rt; queue.step(Step::Subtract), Outcome::Subtracted);
-    assert_eq!(rt; queue.step(Step::Finish), Outcome::Finished(None));
+    let script = [
+        ("hand", "handed over 33"),
+        ("subtract", "subtracted"),
+        ("finish", "finished"),
+    ];
+    assert_eq!(rt; first_difference(alloc, &mut queue, &script)?.as_str(), "");
     assert_eq!(rt;
         spans_text(alloc, &queue)?.as_str(),
         one_batch(alloc, 33)?.as_str()
