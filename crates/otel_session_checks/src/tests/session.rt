@@ -16,6 +16,8 @@ use std::alloc::{AllocError, Global};
 use std::test::Fail;
 use std::time::Duration;
 
+mod many;
+
 /// An exporter that fails to shut down.
 #[derive(Drop)]
 struct Stuck;
@@ -299,7 +301,7 @@ fn many_started(alloc: Global, count: u32) -> Result<Vec<Command>, AllocError> {
     for number in 0..count {
         commands.push(Command::Start {
             span: format!(in alloc; "s{number}")?,
-            name: String::from_str(alloc, "a")?,
+            name: format!(in alloc; "a{number}")?,
             moment: Moment(1),
         })?;
     }
@@ -318,6 +320,15 @@ fn a_session_holds_33_spans(rt: HostRuntime) -> Result<(), Fail> {
     for reply in &replies {
         assert!(rt; matches!(reply.answer, Answer::Started(_)));
     }
+    Ok(())
+}
+
+#[test]
+fn a_want_of_memory_says_so(rt: HostRuntime) -> Result<(), Fail> {
+    assert_eq!(rt;
+        FeedError::Memory.to_string(rt.alloc())?.as_str(),
+        "no memory"
+    );
     Ok(())
 }
 

@@ -165,7 +165,23 @@ const ALL_THAT_WAITS: Script = &[
     ("finish", "finished"),
 ];
 
-const RUNS: [Run; 8] = [
+/// A name of 33 bytes comes back whole.
+const A_LONG_NAME: Script = &[
+    ("offer 0 abcdefghijklmnopqrstuvwxyz0123456", "counted 1"),
+    ("send 0", "accepted"),
+    ("tick", "ticked"),
+    ("load", "loaded 1"),
+    ("pull", "pulled abcdefghijklmnopqrstuvwxyz0123456"),
+    ("hand", "handed over 1"),
+    ("subtract", "subtracted"),
+    ("finish", "finished"),
+    (
+        "state",
+        "waiting [] hand [] told [abcdefghijklmnopqrstuvwxyz0123456] counter 0 dropped 0 open",
+    ),
+];
+
+const RUNS: [Run; 9] = [
     Run {
         name: "a full queue, a wish and two batches",
         words: &["steps", "3", "2", "1"],
@@ -195,6 +211,11 @@ const RUNS: [Run; 8] = [
         name: "a batch of all that waits",
         words: &["steps", "3", "0", "1"],
         script: ALL_THAT_WAITS,
+    },
+    Run {
+        name: "a span of a long name",
+        words: &["steps", "1", "1", "1"],
+        script: A_LONG_NAME,
     },
     Run {
         name: "no producer",
