@@ -12,7 +12,7 @@ use Rattle.opentelemetry.specs.PlainValues.{plain_value}
 use Rattle.opentelemetry.specs.Same.{same_text, same_value, pointwise_map}
 use Rattle.opentelemetry.specs.declared.common.Value.{Value}
 use Rattle.otel_base.specs.Resource.{PlainResource, empty_resource, by_key}
-use Rattle.otel_base.specs.SameResource.{same_attribute_entry, same_description, same_attributes_decides, same_description_decides}
+use Rattle.otel_base.specs.SameResource.{same_attribute_entry, same_description, same_by_key_decides, same_description_decides}
 use Rattle.otel_base.proofs.AttributeLemmas.{key_cmp, entries-by_key}
 
 -- two maps are compared entry by entry
@@ -23,7 +23,7 @@ same_maps m n r om on e =
     Decides-at r (pointwise same_attribute_entry (fin.entries (by_key m)) (fin.entries (by_key n)))
     (e ∙ sym (pointwise_map plain same_attribute_entry m.entries n.entries)
     ∙ (λ i. pointwise same_attribute_entry (sym (entries-by_key m om) i) (sym (entries-by_key n on) i)))
-    (same_attributes_decides (by_key m) (by_key n))
+    (same_by_key_decides (by_key m) (by_key n))
 
 -- a test that is true exactly at equal resources is the comparison
 pub compared : (r : Bool) (a b x y : PlainResource) → a ≡ x → b ≡ y → Decides r (a ≡ b) → r ≡ same_description x y

@@ -23,9 +23,9 @@ same_attribute_entry_decides p q =
     Decides-like (same_attribute_entry p q) (λ e. λ i. (e.0 i, e.1 i)) (λ e. (ap (λ x. x.0) e, ap (λ x. x.1) e))
     (Decides-and (same_text p.0 q.0) (same_value p.1 q.1) (same_text_decides p.0 q.0) (same_value_decides p.1 q.1))
 
-pub same_attributes_decides : (a b : Attributes)
+pub same_by_key_decides : (a b : Attributes)
     → Decides (pointwise same_attribute_entry (entries a) (entries b)) (a ≡ b)
-same_attributes_decides a b =
+same_by_key_decides a b =
     Decides-like (pointwise same_attribute_entry (entries a) (entries b)) (same_entries_map a b)
     (ap (λ (m : Attributes). entries m)) (pointwise_decides same_attribute_entry_decides (entries a) (entries b))
 
@@ -35,4 +35,4 @@ same_description_decides a b =
     (λ e. (ap (λ x. x.attributes) e, ap (λ x. x.schema_url) e))
     (Decides-and (pointwise same_attribute_entry (entries a.attributes) (entries b.attributes))
     (same_text a.schema_url b.schema_url)
-    (same_attributes_decides a.attributes b.attributes) (same_text_decides a.schema_url b.schema_url))
+    (same_by_key_decides a.attributes b.attributes) (same_text_decides a.schema_url b.schema_url))

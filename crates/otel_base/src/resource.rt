@@ -11,7 +11,7 @@ ghost use Rattle.otel_base.specs.DetectedResource.{IsDetected, SeesNothing};
 ghost use Rattle.std.specs.List.{AllZip};
 ghost use Rattle.opentelemetry.specs.PlainValues.{plain_value};
 
-use attributes::{put, put_all, put_pairs, same_attributes};
+use attributes::{put, put_all, put_pairs, same_by_key};
 use opentelemetry::{Key, KeyValue, Value};
 use std::alloc::{AllocError, Global};
 use std::collections::{BTreeMap, btree_map};
@@ -206,7 +206,7 @@ impl ResourceParts {
     fn says_same(&self, other: &ResourceParts) -> bool
         ensures { IsTrue result ↔ (self.now ≡ other.now) }
     {
-        same_attributes(&self.attributes, &other.attributes) && self.schema_url == other.schema_url
+        same_by_key(&self.attributes, &other.attributes) && self.schema_url == other.schema_url
     }
 
     fn says_nothing(&self) -> bool

@@ -66,7 +66,7 @@ pub(super) fn put_all(
     Ok(left)
 }
 
-pub(super) fn same_attributes(these: &BTreeMap<Key, Value>, those: &BTreeMap<Key, Value>) -> bool
+pub(super) fn same_by_key(these: &BTreeMap<Key, Value>, those: &BTreeMap<Key, Value>) -> bool
     ensures { IsTrue result ↔ (by_key these.now ≡ by_key those.now) }
 {
     these.len() == those.len() && these == those

@@ -4,7 +4,7 @@ use Rattle.std.specs.FinMap as fin
 use Rattle.otel_base.specs.Resource.{Attributes}
 use Rattle.otel_base.proofs.AttributeLemmas.{len-by_key}
 use Rattle.otel_base.proofs.SameLemmas.{same_maps}
-use Rattle.otel_base.proofs.resource.attributes.same_attributes.Goals as goal
+use Rattle.otel_base.proofs.resource.attributes.same_by_key.Goals as goal
 
 pub returns-then-len : goal.returns-then-len
 returns-then-len c = same_maps c.args.these.now c.args.those.now c.eq.result c.len.ensures.ordered c.len-2.ensures.ordered c.eq.ensures
