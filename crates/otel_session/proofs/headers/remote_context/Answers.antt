@@ -7,4 +7,4 @@ use Rattle.otel_session.proofs.headers.remote_context.Goals as goal
 pub returns : goal.returns
 returns c = if_ok_map c.extract_with_context-2.result
     (λ found extracts. says_alone (string_bytes c.args.traceparent) _ _ _ found c.new-2.ensures
-    (no_text c.new-carrier.result tracestate_field c.new-carrier.ensures) c.in_ok-set.ensures.ok extracts) c.extract_with_context-2.ensures.extracts
+    (no_text c.new-carrier.result tracestate_field c.new-carrier.ensures) c.in_ok-set.ensures.ok extracts) c.extract_with_context-2.ensures.gives
