@@ -5,7 +5,7 @@ use Rattle.std.proofs.lemmas.Str.Parse.{not_in_digits, numerals_by_value, tells_
 use Rattle.std.specs.Str.Parse.{AllDigits}
 use Rattle.otel_batch.specs.declared.machine.step.Step.TheVariants as steps
 use Rattle.otel_session.specs.Lines.{IsField, IsMoment}
-use Rattle.otel_session.specs.StepLines.{Finds, IsWord, ReadsOrder, TakesFields, TakesName, TakesProducer}
+use Rattle.otel_session.specs.StepLines.{Finds, IsWord, ReadsOrder, SomeOffer, TakesFields, TakesName, TakesProducer}
 use Rattle.otel_session.specs.declared.steps.lines.Order.{Order}
 use Rattle.otel_session.specs.declared.steps.lines.Order.TheVariants as orders
 use Rattle.otel_session.proofs.Fields.{same_field, no_last_field}
@@ -26,6 +26,10 @@ reads_name word fields digits name is e order none (inr t) =
 pub name_found : (word fields digits name : List ℕ) → IsField digits → fields ≡ digits ++ 32 ∷ name → (found : Option Order) → Finds (TakesName word digits name) found → Finds (TakesFields word fields) found
 name_found word fields digits name is e None h = λ order t. reads_name word fields digits name is e order (h order) t
 name_found word fields digits name is e (Some order) h = inr (digits, name, e, h)
+
+-- an offer of the name is one of the fields
+pub name_offer : (word fields digits name : List ℕ) → fields ≡ digits ++ 32 ∷ name → SomeOffer (TakesName word digits name) → SomeOffer (TakesFields word fields)
+name_offer word fields digits name e offer = (offer.0, (offer.1.0, inr (digits, name, e, offer.1.1)))
 
 -- where no field is followed by a space
 reads_producer : (word fields : List ℕ) → ((first rest : List ℕ) → IsField first → fields ≡ first ++ 32 ∷ rest → ⊥) → (order : Order) → (TakesProducer word fields order → ⊥) → TakesFields word fields order → ⊥
@@ -67,3 +71,7 @@ reads_fields line word fields is e order none (text, inr h) =
 pub fields_found : (line word fields : List ℕ) → IsUtf8 line → IsField word → line ≡ word ++ 32 ∷ fields → (found : Option Order) → Finds (TakesFields word fields) found → Finds (ReadsOrder line) found
 fields_found line word fields text is e None h = λ order r. reads_fields line word fields is e order (h order) r
 fields_found line word fields text is e (Some order) h = (text, inr (word, fields, is, e, h))
+
+-- an offer of the fields is one in the line
+pub fields_offer : (line word fields : List ℕ) → IsUtf8 line → IsField word → line ≡ word ++ 32 ∷ fields → SomeOffer (TakesFields word fields) → SomeOffer (ReadsOrder line)
+fields_offer line word fields text is e offer = (offer.0, (offer.1.0, (text, inr (word, fields, is, e, offer.1.1))))

@@ -6,7 +6,9 @@ use Rattle.otel_batch.specs.MachineState.{Machine}
 use Rattle.otel_batch.specs.StoredBatches.{StoredBatches}
 use Rattle.otel_session.specs.StepAnswers.{AnswersLines, ObeysEach, Obeys}
 use Rattle.otel_session.specs.StepLines.{ReadsOrder}
+use Rattle.otel_session.specs.StepTexts.{outcome_text, state_text}
 use Rattle.otel_session.specs.declared.steps.lines.Order.{Order}
+use Rattle.otel_session.specs.declared.steps.lines.Order.TheVariants as orders
 
 -- so many lines of a text were followed, and rest stands behind them: whatever follows the rest follows the whole
 pub record HasFollowed (start now : Machine StoredBatches) (text rest before out : List ℕ) (number : ℕ) : Type 0 where
@@ -79,3 +81,28 @@ pub followed_bad : (start now : Machine StoredBatches) (text rest line behind be
     → ((order : Order) → ReadsOrder line order → ⊥) → (answers : List ℕ) × (out ≡ before ++ answers) × AnswersLines start text (Some (number + 1)) answers now
 followed_bad start now text rest line behind before out number h parts some bad =
     nothing_more start now text rest before out number (Some (number + 1)) h (subst (λ all. ObeysEach now number all (Some (number + 1)) [] now) (sym parts) (follow_bad now line (lines behind) number some bad))
+
+-- an answer is not empty
+says_something : (text rest : List ℕ) → [] ≡ (text ++ 10 ∷ []) ++ rest → ⊥
+says_something [] rest e = cc
+says_something (b ∷ text) rest e = cc
+
+obeys_aloud : (m next : Machine StoredBatches) (order : Order) (answer rest : List ℕ) → Obeys m order answer next → [] ≡ answer ++ rest → ⊥
+obeys_aloud m next (orders.Step step) answer rest h e = says_something (outcome_text next.hand h.0) rest (e ∙ ap (λ a. a ++ rest) h.2)
+obeys_aloud m next orders.State answer rest h e = says_something (state_text m) rest (e ∙ ap (λ a. a ++ rest) h.1)
+
+-- a line that reads as an order is answered by something
+answered_aloud : (m after : Machine StoredBatches) (line : List ℕ) (more : List (List ℕ)) (number : ℕ) (bad_line : Option ℕ) (order : Order) → line ≢ [] → ReadsOrder line order → ObeysEach m number (line ∷ more) bad_line [] after → ⊥
+answered_aloud m after [] more number bad_line order some reads h = some refl
+answered_aloud m after (b ∷ line) more number bad_line order some reads (inl h) = h.is_bad.1 order reads
+answered_aloud m after (b ∷ line) more number bad_line order some reads (inr h) = obeys_aloud m h.next h.order h.answer h.rest h.obeys h.joined
+
+-- so where nothing answers a text, its next line reads as no order, unless it is empty
+pub silent_not_read : (m after : Machine StoredBatches) (rest line behind : List ℕ) (number : ℕ) (bad_line : Option ℕ) → lines rest ≡ line ∷ lines behind → line ≢ [] → ObeysEach m number (lines rest) bad_line [] after → (order : Order) → ReadsOrder line order → ⊥
+silent_not_read m after rest line behind number bad_line next some h order reads =
+    answered_aloud m after line (lines behind) number bad_line order some reads (subst (λ all. ObeysEach m number all bad_line [] after) next h)
+
+-- and behind an empty line nothing answers either
+pub silent_blank : (m after : Machine StoredBatches) (rest line behind : List ℕ) (number : ℕ) (bad_line : Option ℕ) → lines rest ≡ line ∷ lines behind → line ≡ [] → ObeysEach m number (lines rest) bad_line [] after → ObeysEach m (number + 1) (lines behind) bad_line [] after
+silent_blank m after rest line behind number bad_line next blank h =
+    subst (λ all. ObeysEach m number all bad_line [] after) (next ∙ ap (λ l. l ∷ lines behind) blank) h

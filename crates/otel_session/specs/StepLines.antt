@@ -88,6 +88,10 @@ ReadsOrder line order = IsUtf8 line × (IsWord line order
 abbrev pub Finds : (Order → Type 0) → Option Order → Type 0
 Finds reads found = MatchOption found ((order : Order) → reads order → ⊥) reads
 
+-- one of the orders of this kind offers a span
+abbrev pub SomeOffer : (Order → Type 0) → Type 0
+SomeOffer reads = (producer : ℕ) × ((span : PlainSpanData) × reads (orders.Step (steps.Offer producer span)))
+
 -- a bad line: not empty, and it reads as no order
 abbrev pub IsBadOrder : List ℕ → Type 0
 IsBadOrder line = (line ≢ []) × ((order : Order) → ReadsOrder line order → ⊥)

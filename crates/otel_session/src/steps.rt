@@ -1,7 +1,7 @@
 //! The mode `steps`: the lines of a text are steps of a batch queue over an exporter in memory, taken one by one, and
 //! each is answered by a line.
 
-ghost use Rattle.std.specs.Prelude.{◌≡◌, ◌++◌, List, ℕ, IfOk, OnOk};
+ghost use Rattle.std.specs.Prelude.{◌≡◌, ◌++◌, List, [], Option, ℕ, IfOk, IsOk, OnOk};
 ghost use Rattle.opentelemetry.specs.Text.{TextGrows};
 ghost use Rattle.otel_batch.specs.MachineRun.{Stepped};
 ghost use Rattle.otel_session.specs.StepAnswers.{AnswersLines, Obeys, machine_of, memory_calls};
@@ -47,15 +47,17 @@ pub fn machine_sized(
 
 /// Takes the steps that the lines of a text spell, one by one, and appends the line that answers each. At its end and
 /// at a bad line no further step is taken; a bad line's number is answered, from 1 and with empty lines
-/// counted. Where memory runs out, the steps before were taken and answered, and perhaps one more was taken.
+/// counted. Where memory runs out, the steps before were taken and answered, and perhaps one more was taken; a text
+/// whose answer is empty wants none.
 pub fn answer_lines(
     alloc: Global,
     machine: &mut BatchMachine<InMemorySpanExporter>,
     text: &[u8],
     out: &mut Vec<u8>,
 ) -> Result<Option<u64>, AllocError>
-    ensures { IfOk result (λ bad_line. (answers : List ℕ) × (out.new.items ≡ out.old.items ++ answers)
+    ensures answered { IfOk result (λ bad_line. (answers : List ℕ) × (out.new.items ≡ out.old.items ++ answers)
         × AnswersLines machine.old text.now bad_line answers machine.new) }
+    ensures free { (bad_line : Option ℕ) → AnswersLines machine.old text.now bad_line [] machine.old → IsOk result }
 {
     let mut answer = String::new(alloc);
     let mut number: u64 = 0;

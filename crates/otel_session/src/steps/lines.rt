@@ -1,9 +1,9 @@
 //! The lines of the mode `steps`, read as steps of a batch queue. A line is a word alone, a word and a producer, or a
 //! word, a producer and the name of a span.
 
-ghost use Rattle.std.specs.Prelude.{◌≡◌, ◌≢◌, IfOk, IfSome, IsTrue, ◌↔◌};
+ghost use Rattle.std.specs.Prelude.{◌≡◌, ◌≢◌, IfOk, IfSome, IsOk, IsTrue, ◌↔◌};
 ghost use Rattle.otel_session.specs.Lines.{IsField};
-ghost use Rattle.otel_session.specs.StepLines.{Finds, IsWord, ReadsOrder, TakesFields, TakesName, TakesProducer, named_span};
+ghost use Rattle.otel_session.specs.StepLines.{Finds, IsWord, ReadsOrder, SomeOffer, TakesFields, TakesName, TakesProducer, named_span};
 
 use crate::lines::{first_field, number_of};
 use opentelemetry::trace::{SpanContext, SpanKind, Status, TraceState};
@@ -22,9 +22,11 @@ pub enum Order {
     State,
 }
 
-/// The order as which a line reads; none where it is a bad line. Fails only where memory runs out.
+/// The order as which a line reads; none where it is a bad line. Fails only where memory runs out, which is wanted for
+/// the span of an offer alone.
 pub fn order_of(alloc: Global, line: &[u8]) -> Result<Option<Order>, AllocError>
-    ensures { IfOk result (Finds (ReadsOrder line.now)) }
+    ensures found { IfOk result (Finds (ReadsOrder line.now)) }
+    ensures free { ¬ SomeOffer (ReadsOrder line.now) → IsOk result }
 {
     let Ok(text) = str::from_utf8(line) else {
         return Ok(None);
@@ -58,7 +60,8 @@ fn order_of_word(alloc: Global, word: &str) -> Option<Order>
 
 /// The order of a word and the fields behind it.
 fn order_with_fields(alloc: Global, word: &str, fields: &str) -> Result<Option<Order>, AllocError>
-    ensures { IfOk result (Finds (TakesFields word.now fields.now)) }
+    ensures found { IfOk result (Finds (TakesFields word.now fields.now)) }
+    ensures free { ¬ SomeOffer (TakesFields word.now fields.now) → IsOk result }
 {
     match first_field(fields) {
         Some((producer, name)) => offer_of(alloc, word, producer, name),
@@ -92,7 +95,8 @@ fn offer_of(
     digits: &str,
     name: &str,
 ) -> Result<Option<Order>, AllocError>
-    ensures { IfOk result (Finds (TakesName word.now digits.now name.now)) }
+    ensures found { IfOk result (Finds (TakesName word.now digits.now name.now)) }
+    ensures free { ¬ SomeOffer (TakesName word.now digits.now name.now) → IsOk result }
 {
     let flags = match word {
         "offer" => TraceFlags::SAMPLED,
