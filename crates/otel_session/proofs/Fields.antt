@@ -4,7 +4,7 @@ use Rattle.std.proofs.lemmas.List.Elements.{All-tail, All-from_recursion}
 use Rattle.otel_session.specs.Commands.{PlainCommand, plain_command, start, child, remote, attr, event, status, inject, end, flush, shutdown}
 use Rattle.opentelemetry.specs.Plain.{PlainStatus, unset, error, ok}
 use Rattle.otel_session.specs.declared.command.Command.{Command}
-use Rattle.otel_session.specs.Lines.{IsField, IsStatus, LineForm, field, last_field, time, outcome, rest_of_line, IsOfForm, form_of, LineGives, HasFields, FieldsGive, WordGives}
+use Rattle.otel_session.specs.Lines.{IsField, IsStatus, LineForm, field, last_field, time, outcome, rest_of_line, IsOfForm, form_of, LineGives, HasFields, AreFields, IsCommand, FieldsGive, WordGives}
 use Rattle.otel_session.proofs.Cuts.{no_field}
 
 -- what stands in front of the first space, and behind it, is determined
@@ -57,6 +57,10 @@ pub only_attr : (fields : List ℕ) → ((s k v : List ℕ) → IsOfForm fields 
 only_attr fields none (attr s k v) h = none s k v h.1
 only_attr fields none _ h = search rules
 
+-- behind `attr` two fields and a rest are of an attribute
+pub attr_there : (fields span rest key value : List ℕ) → IsField span × (fields ≡ span ++ 32 ∷ rest) → IsField key × (rest ≡ key ++ 32 ∷ value) → AreFields (codes "attr") fields
+attr_there fields span rest key value first second = (attr span key value, (refl, (first.0, (rest, first.1, (second.0, (value, second.1, refl))))))
+
 pub only_event : (fields : List ℕ) → ((s n : List ℕ) (m : ℕ) → IsOfForm fields (field s (field n (time m))) → ⊥) → (command : PlainCommand) → HasFields (codes "event") fields (form_of command) → ⊥
 only_event fields none (event s n m) h = none s n m h.1
 only_event fields none _ h = search rules
@@ -90,6 +94,10 @@ with_fields line word fields is e _ h = absurd h
 pub fields_give_line : (line word fields : List ℕ) → IsUtf8 line → IsField word → line ≡ word ++ 32 ∷ fields → (found : Option Command) → FieldsGive word fields found → LineGives line found
 fields_give_line line word fields text is e None h = λ command reads. h command (fields_behind line word fields is e command reads.1)
 fields_give_line line word fields text is e (Some command) h = (text, with_fields line word fields is e (form_of (plain_command command)) h)
+
+-- fields of a command behind the word make the line one
+pub fields_make_line : (line word fields : List ℕ) → IsUtf8 line → IsField word → line ≡ word ++ 32 ∷ fields → AreFields word fields → IsCommand line
+fields_make_line line word fields text is e h = (h.0, (text, with_fields line word fields is e (form_of h.0) h.1))
 
 -- a line in which no field is followed by a space is the word of each command as which it reads
 word_alone : (line : List ℕ) → ((first rest : List ℕ) → IsField first → line ≡ first ++ 32 ∷ rest → ⊥) → (command : PlainCommand) → IsOfForm line (form_of command) → form_of command ≡ last_field line

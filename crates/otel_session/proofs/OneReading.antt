@@ -1,5 +1,5 @@
 -- A line reads as one command at most, so a text spells one list of commands and has one first bad line or none.
-use Rattle.std.proofs.Common.{◌≡◌, ℕ, List, [], ◌∷◌, ◌++◌, length, suc, Option, Some, None, refl, sym, ap, ◌∙◌, arith, rules}
+use Rattle.std.proofs.Common.{◌≡◌, ◌≢◌, ℕ, List, [], ◌∷◌, ◌++◌, length, suc, Option, Some, None, refl, sym, ap, ◌∙◌, arith, rules}
 use Rattle.std.specs.Str.Lines.{lines}
 use Rattle.std.specs.Str.Parse.{digits_value}
 use Rattle.opentelemetry.specs.Plain.{PlainStatus, unset, error, ok}
@@ -132,3 +132,28 @@ one_reading text cs ds (Some n) (Some k) f g =
     let same = one_stop f.before f.line f.behind g.before g.line g.behind cs ds (sym f.parts ∙ g.parts) f.spelled g.spelled f.bad g.bad in
     let numbers : k ≡ n = omega (arith, f.number, g.number, same.1) in
     (same.0, ap (λ i. Some i) numbers)
+
+-- lines that spell nothing are empty
+pub none_filled : (before : List (List ℕ)) (line : List ℕ) (more : List (List ℕ)) → Spell (before ++ line ∷ more) [] → line ≢ [] → ⊥
+none_filled [] [] more h some = some refl
+none_filled [] (b ∷ line) more h some = h
+none_filled ([] ∷ before) line more h some = none_filled before line more h some
+none_filled ((b ∷ first) ∷ before) line more h some = h
+
+-- where the lines in front of the first bad one spell nothing, no line that reads stands behind lines that spell commands
+pub none_read : (before : List (List ℕ)) (line : List ℕ) (more before' : List (List ℕ)) (line' : List ℕ) (more' : List (List ℕ)) (cs : List PlainCommand) (command : PlainCommand) → before ++ line ∷ more ≡ before' ++ line' ∷ more' → Spell before cs → line ≢ [] → Reads line command → Spell before' [] → IsBad line' → ⊥
+none_read [] line more [] line' more' cs command e f some reads g bad =
+    let heads : line' ≡ line = cc in
+    bad.1 command (rw heads reads)
+none_read [] line more (first ∷ before') line' more' cs command e f some reads g bad =
+    let heads : first ≡ line = cc in
+    none_filled [] first before' g (rw heads some)
+none_read (first ∷ before) line more [] line' more' cs command e f some reads g bad =
+    let heads : line' ≡ first = cc in
+    bad_head first before cs f (rw (← heads) bad)
+none_read ([] ∷ before) line more ([] ∷ before') line' more' cs command e f some reads g bad =
+    let tails : before ++ line ∷ more ≡ before' ++ line' ∷ more' = cc in
+    none_read before line more before' line' more' cs command tails f some reads g bad
+none_read ([] ∷ before) line more ((b ∷ first) ∷ before') line' more' cs command e f some reads g bad = g
+none_read ((b ∷ first) ∷ before) line more ([] ∷ before') line' more' cs command e f some reads g bad = cc
+none_read ((b ∷ first) ∷ before) line more ((c ∷ other) ∷ before') line' more' cs command e f some reads g bad = g

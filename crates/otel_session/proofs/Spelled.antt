@@ -1,9 +1,10 @@
 -- Reading line by line: what the lines so far spell, and one line more.
-use Rattle.std.proofs.Common.{◌≡◌, ◌≢◌, ℕ, ◌+◌, List, [], ◌∷◌, ◌++◌, length, refl, sym, ap, ◌∙◌, arith}
+use Rattle.std.proofs.Common.{◌≡◌, ◌≢◌, ℕ, ◌+◌, List, [], ◌∷◌, ◌++◌, length, Option, None, Some, refl, sym, ap, subst, ◌∙◌, arith}
 use Rattle.std.proofs.lemmas.List.{append_assoc, append-nil, length_push}
 use Rattle.std.specs.Str.Lines.{lines}
 use Rattle.otel_session.specs.Commands.{PlainCommand}
-use Rattle.otel_session.specs.Lines.{Reads, Spell, StopsAt}
+use Rattle.otel_session.specs.Lines.{Reads, Spell, SpellsNothing, StopsAt, TextSpells}
+use Rattle.otel_session.proofs.OneReading.{none_filled, none_read}
 
 -- an empty line more spells nothing more
 spell_blank : (before : List (List ℕ)) (commands : List PlainCommand) → Spell before commands → Spell (before ++ [] ∷ []) commands
@@ -67,3 +68,14 @@ read_bad text rest line behind commands number h next some bad = record {
   spelled = h.spelled;
   bad = (some, bad);
 }
+
+-- a text whose next line reads as a command spells one
+spells_by : (text rest line behind : List ℕ) (commands : List PlainCommand) (command : PlainCommand) (number : ℕ) → HasRead text rest commands number → lines rest ≡ line ∷ lines behind → line ≢ [] → Reads line command → (bad_line : Option ℕ) → TextSpells text [] bad_line → ⊥
+spells_by text rest line behind commands command number h next some reads None all =
+    none_filled h.before line (lines behind) (subst (λ (ls : List (List ℕ)). Spell ls []) (h.parts ∙ ap (λ more. h.before ++ more) next) all) some
+spells_by text rest line behind commands command number h next some reads (Some n) stops =
+    none_read h.before line (lines behind) stops.before stops.line stops.behind commands command (sym (h.parts ∙ ap (λ more. h.before ++ more) next) ∙ stops.parts) h.spelled some reads stops.spelled stops.bad
+
+pub spells_something : (text rest line behind : List ℕ) (commands : List PlainCommand) (command : PlainCommand) (number : ℕ) → HasRead text rest commands number → lines rest ≡ line ∷ lines behind → line ≢ [] → Reads line command → SpellsNothing text → ⊥
+spells_something text rest line behind commands command number h next some reads nothing =
+    spells_by text rest line behind commands command number h next some reads nothing.0 nothing.1

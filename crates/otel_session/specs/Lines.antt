@@ -95,15 +95,31 @@ SpellUpTo all commands (Some n) = StopsAt all commands n
 abbrev pub TextSpells : List ℕ → List PlainCommand → Option ℕ → Type 0
 TextSpells text commands bad_line = SpellUpTo (lines text) commands bad_line
 
--- what is found in a line: a command as which it reads, and none only where it reads as none
-abbrev pub LineGives : List ℕ → Option Command → Type 0
-LineGives line None = (command : PlainCommand) → Reads line command → ⊥
-LineGives line (Some command) = Reads line (plain_command command)
+-- a text that spells no command: its lines up to the first bad one are empty
+abbrev pub SpellsNothing : List ℕ → Type 0
+SpellsNothing text = (bad_line : Option ℕ) × TextSpells text [] bad_line
 
 -- a form that begins with a word, and these fields are of the form behind its space
 abbrev pub HasFields : List ℕ → List ℕ → LineForm → Type 0
 HasFields word fields (field front behind) = (front ≡ word) × IsOfForm fields behind
 HasFields word fields _ = ⊥
+
+-- a line that reads as a command
+abbrev pub IsCommand : List ℕ → Type 0
+IsCommand line = (command : PlainCommand) × Reads line command
+
+-- behind this word's space these fields are a command's
+abbrev pub AreFields : List ℕ → List ℕ → Type 0
+AreFields word fields = (command : PlainCommand) × HasFields word fields (form_of command)
+
+-- a text that spells a status
+abbrev pub SpellsStatus : List ℕ → Type 0
+SpellsStatus text = (how : PlainStatus) × IsStatus text how
+
+-- what is found in a line: a command as which it reads, and none only where it reads as none
+abbrev pub LineGives : List ℕ → Option Command → Type 0
+LineGives line None = (command : PlainCommand) → Reads line command → ⊥
+LineGives line (Some command) = Reads line (plain_command command)
 
 -- what is found behind a word: a command of that word whose fields stand there, and none only where there is none
 abbrev pub FieldsGive : List ℕ → List ℕ → Option Command → Type 0

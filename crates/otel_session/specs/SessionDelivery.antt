@@ -25,7 +25,7 @@ use Rattle.otel_session.specs.KeptBatches.{Grows}
 use Rattle.otel_session.specs.Headers.{AnswersHeaders, SaysContext, child_cx}
 use Rattle.otel_session.specs.OpenSpans.{NamedSpans, SameSpans, MayStart, ChildMayStart, RemoteMayStart, named, is_name, start_answer}
 use Rattle.otel_session.specs.AnswerText.{replies_text}
-use Rattle.otel_session.specs.Lines.{TextSpells}
+use Rattle.otel_session.specs.Lines.{SpellsNothing, TextSpells}
 use Rattle.otel_session.specs.PlainReply.{PlainReply, NoneRefused}
 use Rattle.otel_session.specs.ReplyText.{span_lines}
 use Rattle.otel_session.specs.Traces.{ChildrenAgree, KeepsContexts}
@@ -423,10 +423,10 @@ module _ {P S G : Type 0} (calls : Ghosts P) (keeps : keeping.Ghosts P) (sampler
       (commands : List Command) × TextSpells bytes (plain_commands commands) bad_line
       × WritesAll old commands before now new
 
-  -- memory ran out before the text was read, so it says something, and nothing was carried out
+  -- memory ran out before the text was read, so it spells a command, and nothing was carried out
   pub record FeedsNothing (old : SessionState P S G) (bytes before now : List ℕ)
       (new : SessionState P S G) : Type 0 where
-    pub says_something : bytes ≢ []
+    pub says_something : ¬ SpellsNothing bytes
     pub nothing_written : now ≡ before
     pub nothing_done : new ≡ old
 

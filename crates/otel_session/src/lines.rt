@@ -4,11 +4,15 @@ ghost use Rattle.std.specs.Prelude.{◌≡◌, ℕ, ◌<◌, List, [], ◌∷◌
 ghost use Rattle.std.specs.Str.Lines.{lines as lines_of, strip_carriage_return};
 ghost use Rattle.otel_session.specs.Commands.{PlainCommand, plain_commands};
 ghost use Rattle.otel_session.specs.Lines.{
+  AreFields,
   FieldsGive,
+  IsCommand,
   IsField,
   IsMoment,
   IsOfForm,
   LineGives,
+  SpellsNothing,
+  SpellsStatus,
   StatusGives,
   TextSpells,
   WordGives,
@@ -30,7 +34,8 @@ pub struct Script {
     pub bad_line: Option<u64>,
 }
 
-/// Reads the lines of a text up to the first that is no command. Fails only where memory runs out.
+/// Reads the lines of a text up to the first that is no command. Fails only where memory runs out, which is wanted for
+/// commands alone.
 pub fn parse(alloc: Global, text: &[u8]) -> Result<Script, AllocError>
     ensures spelled { IfOk result (λ script.
         TextSpells text.now (plain_commands script.commands.items) script.bad_line) }
@@ -38,7 +43,7 @@ pub fn parse(alloc: Global, text: &[u8]) -> Result<Script, AllocError>
     ensures only { IfOk result (λ script. (commands : List PlainCommand) (bad_line : Option ℕ)
         → TextSpells text.now commands bad_line
         → (commands ≡ plain_commands script.commands.items) × (bad_line ≡ script.bad_line)) }
-    ensures free { text.now ≡ [] → IsOk result }
+    ensures free { SpellsNothing text.now → IsOk result }
 {
     let mut commands = Vec::new(alloc);
     let mut number: u64 = 0;
@@ -65,9 +70,10 @@ pub fn parse(alloc: Global, text: &[u8]) -> Result<Script, AllocError>
     })
 }
 
-/// The command as which a line reads.
+/// The command as which a line reads. Memory is wanted for the texts of a command alone.
 fn command_of(alloc: Global, line: &[u8]) -> Result<Option<Command>, AllocError>
-    ensures { IfOk result (LineGives line.now) }
+    ensures found { IfOk result (LineGives line.now) }
+    ensures free { ¬ IsCommand line.now → IsOk result }
 {
     let Ok(text) = str::from_utf8(line) else {
         return Ok(None);
@@ -95,7 +101,8 @@ fn command_with_fields(
     word: &str,
     fields: &str,
 ) -> Result<Option<Command>, AllocError>
-    ensures { IfOk result (FieldsGive word.now fields.now) }
+    ensures found { IfOk result (FieldsGive word.now fields.now) }
+    ensures free { ¬ AreFields word.now fields.now → IsOk result }
 {
     match word {
         "start" => start_of(alloc, fields),
@@ -112,7 +119,8 @@ fn command_with_fields(
 
 /// The fields of `start SPAN NAME MOMENT`.
 fn start_of(alloc: Global, fields: &str) -> Result<Option<Command>, AllocError>
-    ensures { IfOk result (FieldsGive (codes "start") fields.now) }
+    ensures found { IfOk result (FieldsGive (codes "start") fields.now) }
+    ensures free { ¬ AreFields (codes "start") fields.now → IsOk result }
 {
     let Some((span, name, moment)) = two_fields_and_moment(fields) else {
         return Ok(None);
@@ -126,7 +134,8 @@ fn start_of(alloc: Global, fields: &str) -> Result<Option<Command>, AllocError>
 
 /// The fields of `child SPAN PARENT NAME MOMENT`.
 fn child_of(alloc: Global, fields: &str) -> Result<Option<Command>, AllocError>
-    ensures { IfOk result (FieldsGive (codes "child") fields.now) }
+    ensures found { IfOk result (FieldsGive (codes "child") fields.now) }
+    ensures free { ¬ AreFields (codes "child") fields.now → IsOk result }
 {
     let Some((span, parent, name, moment)) = three_fields_and_moment(fields) else {
         return Ok(None);
@@ -141,7 +150,8 @@ fn child_of(alloc: Global, fields: &str) -> Result<Option<Command>, AllocError>
 
 /// The fields of `remote SPAN TRACEPARENT NAME MOMENT`.
 fn remote_of(alloc: Global, fields: &str) -> Result<Option<Command>, AllocError>
-    ensures { IfOk result (FieldsGive (codes "remote") fields.now) }
+    ensures found { IfOk result (FieldsGive (codes "remote") fields.now) }
+    ensures free { ¬ AreFields (codes "remote") fields.now → IsOk result }
 {
     let Some((span, traceparent, name, moment)) = three_fields_and_moment(fields) else {
         return Ok(None);
@@ -156,7 +166,8 @@ fn remote_of(alloc: Global, fields: &str) -> Result<Option<Command>, AllocError>
 
 /// The fields of `attr SPAN KEY VALUE`. The value is the rest of the line and may be empty or have spaces in it.
 fn attr_of(alloc: Global, fields: &str) -> Result<Option<Command>, AllocError>
-    ensures { IfOk result (FieldsGive (codes "attr") fields.now) }
+    ensures found { IfOk result (FieldsGive (codes "attr") fields.now) }
+    ensures free { ¬ AreFields (codes "attr") fields.now → IsOk result }
 {
     let Some((span, rest)) = first_field(fields) else {
         return Ok(None);
@@ -173,7 +184,8 @@ fn attr_of(alloc: Global, fields: &str) -> Result<Option<Command>, AllocError>
 
 /// The fields of `event SPAN NAME MOMENT`.
 fn event_of(alloc: Global, fields: &str) -> Result<Option<Command>, AllocError>
-    ensures { IfOk result (FieldsGive (codes "event") fields.now) }
+    ensures found { IfOk result (FieldsGive (codes "event") fields.now) }
+    ensures free { ¬ AreFields (codes "event") fields.now → IsOk result }
 {
     let Some((span, name, moment)) = two_fields_and_moment(fields) else {
         return Ok(None);
@@ -187,7 +199,8 @@ fn event_of(alloc: Global, fields: &str) -> Result<Option<Command>, AllocError>
 
 /// The fields of `status SPAN STATUS`.
 fn status_of(alloc: Global, fields: &str) -> Result<Option<Command>, AllocError>
-    ensures { IfOk result (FieldsGive (codes "status") fields.now) }
+    ensures found { IfOk result (FieldsGive (codes "status") fields.now) }
+    ensures free { ¬ AreFields (codes "status") fields.now → IsOk result }
 {
     let Some((span, rest)) = first_field(fields) else {
         return Ok(None);
@@ -203,7 +216,8 @@ fn status_of(alloc: Global, fields: &str) -> Result<Option<Command>, AllocError>
 
 /// The field of `inject SPAN`.
 fn inject_of(alloc: Global, field: &str) -> Result<Option<Command>, AllocError>
-    ensures { IfOk result (FieldsGive (codes "inject") field.now) }
+    ensures found { IfOk result (FieldsGive (codes "inject") field.now) }
+    ensures free { ¬ AreFields (codes "inject") field.now → IsOk result }
 {
     if !is_field(field) {
         return Ok(None);
@@ -215,7 +229,8 @@ fn inject_of(alloc: Global, field: &str) -> Result<Option<Command>, AllocError>
 
 /// The fields of `end SPAN MOMENT`.
 fn end_of(alloc: Global, fields: &str) -> Result<Option<Command>, AllocError>
-    ensures { IfOk result (FieldsGive (codes "end") fields.now) }
+    ensures found { IfOk result (FieldsGive (codes "end") fields.now) }
+    ensures free { ¬ AreFields (codes "end") fields.now → IsOk result }
 {
     let Some((span, moment)) = field_and_moment(fields) else {
         return Ok(None);
@@ -263,7 +278,8 @@ fn field_and_moment(text: &str) -> Option<(&str, Moment)>
 
 /// The status that a text spells: `ok`, or `error`, a space and the description, maybe empty or with spaces in it.
 fn read_status(alloc: Global, text: &str) -> Result<Option<Status>, AllocError>
-    ensures { IfOk result (StatusGives text.now) }
+    ensures found { IfOk result (StatusGives text.now) }
+    ensures free { ¬ SpellsStatus text.now → IsOk result }
 {
     if text == "ok" {
         return Ok(Some(Status::Ok));
