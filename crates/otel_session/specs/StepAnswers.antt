@@ -38,7 +38,7 @@ Obeys m (orders.Step step) text after =
 Obeys m orders.State text after = (after ≡ m) × (text ≡ line (state_text m))
 
 -- the line of this number is bad: nothing is done, and nothing answered
-pub record StopsAt (m : Machine StoredBatches) (number : ℕ) (bytes : List ℕ) (bad_line : Option ℕ) (text : List ℕ)
+pub record RefusesOrder (m : Machine StoredBatches) (number : ℕ) (bytes : List ℕ) (bad_line : Option ℕ) (text : List ℕ)
     (after : Machine StoredBatches) : Type 0 where
   pub is_bad : IsBadOrder bytes
   pub numbered : bad_line ≡ Some number
@@ -63,7 +63,7 @@ abbrev pub ObeysEach : Machine StoredBatches → ℕ → List (List ℕ) → Opt
 ObeysEach m number [] bad_line text after = (bad_line ≡ None) × (text ≡ []) × (after ≡ m)
 ObeysEach m number ([] ∷ more) bad_line text after = ObeysEach m (number + 1) more bad_line text after
 ObeysEach m number ((b ∷ bytes) ∷ more) bad_line text after =
-    StopsAt m (number + 1) (b ∷ bytes) bad_line text after
+    RefusesOrder m (number + 1) (b ∷ bytes) bad_line text after
     ⊎ ObeysThen m (b ∷ bytes) text (λ next rest. ObeysEach next (number + 1) more bad_line rest after)
 
 -- what a text does to a machine, and the text that answers it
