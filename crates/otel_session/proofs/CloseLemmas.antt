@@ -1,5 +1,5 @@
 -- What closing a session does, by the answers of its parts.
-use Rattle.std.proofs.Common.{◌≡◌, ◌++◌, ℕ, List, [], ◌∷◌, Result, Ok, Err, IsOk, OnOk, OnErr, MatchResult, drop, map, inl, inr, refl}
+use Rattle.std.proofs.Common.{◌≡◌, ◌++◌, ℕ, List, [], Result, Ok, Err, IsOk, OnOk, OnErr, MatchResult, drop, inl, inr}
 use Rattle.std.specs.declared.alloc.AllocError.{AllocError}
 use Rattle.otel_base.specs.declared.error.OTelSdkError.{OTelSdkError}
 use Rattle.otel_base.specs.declared.trace.sampler.ShouldSample as sampling
@@ -12,16 +12,11 @@ use Rattle.otel_batch.specs.PlainSpanData.{spans_in}
 use Rattle.otel_session.proofs.Clauses.{fails_on_err}
 use Rattle.otel_session.specs.SessionDelivery.{SessionState, Closes, ShutsIfOpen, batches_of_first, or_no_memory}
 
--- a list whose images are none is empty
-pub nil_from_map : {A B : Type 0} (v : A → B) (xs : List A) → map v xs ≡ [] → xs ≡ []
-nil_from_map v [] e = refl
-nil_from_map v (x ∷ xs) e = cc
-
 pub closes : {P S G : Type 0} (calls : Ghosts P) (batches : keeping.Ghosts P) (sampler : sampling.Ghosts S) (ids : drawing.Ghosts G) (session : SessionState P S G) (provider : ProviderState P S G)
     (shutdown : Result (Unit {0}) OTelSdkError) (written : Result (Unit {0}) AllocError) (answer : Result (Unit {0}) OTelSdkError) (before now : List ℕ)
     → ShutsIfOpen calls session.provider 5_000_000_000 shutdown provider
     → OnOk written (now ≡ before ++ span_lines (spans_in (drop session.shown (batches_of_first batches provider.processors)))) → OnErr written (now ≡ before)
-    → (drop session.shown (batches_of_first batches provider.processors) ≡ [] → IsOk written)
+    → (spans_in (drop session.shown (batches_of_first batches provider.processors)) ≡ [] → IsOk written)
     → MatchResult written (λ _. answer ≡ shutdown) (λ _. answer ≡ or_no_memory shutdown)
     → Closes calls batches sampler ids session before answer now
 closes calls batches sampler ids session provider shutdown (Ok _) answer before now shuts ok err free answers = record { provider = provider; shutdown = shutdown; shuts = shuts; writes = inl (answers, ok) }

@@ -1,7 +1,8 @@
--- A list in brackets, written item by item.
+-- A list in brackets, written item by item, and lists that are joined.
 use Rattle.std.proofs.Common.{◌≡◌, ℕ, ◌+◌, ◌<◌, List, [], ◌∷◌, ◌++◌, length, take, get_or, map, refl, sym, ap, ◌∙◌, arith}
-use Rattle.std.specs.List.{join_with_byte}
-use Rattle.std.proofs.lemmas.List.{append_assoc, map_more, length-take-le, length-map}
+use Rattle.std.specs.List.{flat_map, join_with_byte}
+use Rattle.std.proofs.lemmas.List.{append_assoc, map_more, nil_from_length, length-take-le, length-map}
+use Rattle.std.proofs.lemmas.List.Folds.{length-flat_map-take}
 use Rattle.std.proofs.lemmas.Bool.Decides.{nat_tests}
 use Rattle.otel_session.specs.ReplyText.{comma_before}
 
@@ -32,3 +33,10 @@ pub item_written : {X : Type 0} (text : X → List ℕ) (items : List X) (i : �
     → t ≡ before ++ (91 ∷ join_with_byte 44 (map text (take i items))) → u ≡ t ++ comma_before i → v ≡ u ++ text item → v ≡ before ++ (91 ∷ join_with_byte 44 (map text (take (i + 1) items)))
 item_written {X} text items i item before t u v within is e f g =
     rw (g, f, e, listed_more text items i item within is) (simp append_assoc)
+
+-- where lists that are joined have nothing, none of them has
+pub none_among : {X Y : Type 0} (list_of : X → List Y) (xs : List X) (i : ℕ) (x : X) → i < length xs → x ≡ get_or xs i x → flat_map list_of xs ≡ [] → list_of x ≡ []
+none_among list_of xs i x within is none =
+    let short = length-flat_map-take list_of xs i x within in
+    let empty : length (list_of (get_or xs i x)) ≡ 0 = omega (arith, short, ap length none) in
+    ap list_of is ∙ nil_from_length (list_of (get_or xs i x)) empty

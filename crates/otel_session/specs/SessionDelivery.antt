@@ -457,7 +457,7 @@ module _ {P S G : Type 0} (calls : Ghosts P) (keeps : keeping.Ghosts P) (sampler
     pub writes : ((answer ≡ shutdown)
         × (now ≡ before ++ span_lines (unshown keeps (record session { provider = provider }))))
         ⊎ ((answer ≡ or_no_memory shutdown) × (now ≡ before)
-        × (unshown_batches keeps (record session { provider = provider }) ≢ []))
+        × (unshown keeps (record session { provider = provider }) ≢ []))
 
   -- a text was fed to a session, whole or up to its first bad line, and the session closed well
   pub record Finishes (session : SessionState P S G) (bytes : List ℕ) (bad_line : Option ℕ)

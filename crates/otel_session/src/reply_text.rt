@@ -152,7 +152,8 @@ fn push_span(text: &mut String, span: &SpanData) -> Result<(), AllocError>
 
 /// The lines of the spans of a batch, in order.
 fn push_spans(text: &mut String, spans: &[SpanData]) -> Result<(), AllocError>
-    ensures { OnOk result (TextGrows text.old (span_lines spans.now) text.new) }
+    ensures grown { OnOk result (TextGrows text.old (span_lines spans.now) text.new) }
+    ensures free { spans.now ≡ [] → IsOk result }
 {
     for span in spans {
         push_span(text, span)?;
@@ -162,7 +163,9 @@ fn push_spans(text: &mut String, spans: &[SpanData]) -> Result<(), AllocError>
 
 /// The lines of the spans of batches, in order.
 fn push_batches(text: &mut String, batches: &[Vec<SpanData>]) -> Result<(), AllocError>
-    ensures { OnOk result (TextGrows text.old (span_lines (flat_map (λ batch. batch.items) batches.now)) text.new) }
+    ensures grown { OnOk result
+        (TextGrows text.old (span_lines (flat_map (λ batch. batch.items) batches.now)) text.new) }
+    ensures free { flat_map (λ batch. batch.items) batches.now ≡ [] → IsOk result }
 {
     for batch in batches {
         push_spans(text, batch)?;
@@ -265,7 +268,7 @@ fn put_reply(
     push_answer(text, answer)
 }
 
-/// Writes the lines of exported batches, or nothing where memory runs out.
+/// Writes the lines of exported batches, or nothing where memory runs out. Where they have no span, none is wanted.
 pub fn write_batches(
     alloc: Global,
     out: &mut Vec<u8>,
@@ -274,11 +277,8 @@ pub fn write_batches(
     ensures ok { OnOk result (out.new.items
         ≡ out.old.items ++ span_lines (flat_map (λ batch. batch.items) exported.now)) }
     ensures err { OnErr result (out.new.items ≡ out.old.items) }
-    ensures free { exported.now ≡ [] → IsOk result }
+    ensures free { flat_map (λ batch. batch.items) exported.now ≡ [] → IsOk result }
 {
-    if exported.is_empty() {
-        return Ok(());
-    }
     let mut text = String::new(alloc);
     push_batches(&mut text, exported)?;
     write_text(out, text.as_str())
@@ -304,6 +304,7 @@ pub fn write_reply(
 pub(crate) fn write_text(out: &mut Vec<u8>, text: &str) -> Result<(), AllocError>
     ensures ok { OnOk result (out.new.items ≡ out.old.items ++ text.now) }
     ensures err { OnErr result (out.new.items ≡ out.old.items) }
+    ensures free { text.now ≡ [] → IsOk result }
 {
     out.extend_from_slice(text.as_bytes())
 }

@@ -3,7 +3,7 @@ use Rattle.std.proofs.lemmas.List.Folds.{flat_map-map}
 use Rattle.otel_batch.specs.PlainSpanData.{PlainSpanData, spans_in}
 use Rattle.otel_session.specs.ReplyText.{span_lines}
 use Rattle.otel_session.specs.SessionDelivery.{SessionState, Closes, batches_of_first}
-use Rattle.otel_session.proofs.CloseLemmas.{closes, nil_from_map}
+use Rattle.otel_session.proofs.CloseLemmas.{closes}
 use Rattle.otel_session.proofs.session.Session.close.Goals as goal
 
 pub returns : goal.returns
@@ -18,4 +18,4 @@ returns g c =
     subst (λ (s : SessionState g.row.P.Denot g.row.S.Denot g.row.G.Denot). Closes g.P.SpanProcessor g.P.KeepsBatches g.S.ShouldSample g.G.IdGenerator s before c.close_answer.result now) c.self.view_is
     (closes g.P.SpanProcessor g.P.KeepsBatches g.S.ShouldSample g.G.IdGenerator session c.shut_down-shutdown.new.provider c.shut_down-shutdown.result c.write_batches-written.result c.close_answer.result before now
     c.shut_down-shutdown.ensures lines c.write_batches-written.ensures.err
-    (λ none. c.write_batches-written.ensures.free (nil_from_map (λ batch. batch.items) c.unshown_by_first-unshown.result.now (batches ∙ none))) c.close_answer.ensures)
+    (λ none. c.write_batches-written.ensures.free (shown ∙ none)) c.close_answer.ensures)
