@@ -57,7 +57,8 @@ pub fn answer_lines(
 ) -> Result<Option<u64>, AllocError>
     ensures answered { IfOk result (λ bad_line. (answers : List ℕ) × (out.new.items ≡ out.old.items ++ answers)
         × AnswersLines machine.old text.now bad_line answers machine.new) }
-    ensures free { (bad_line : Option ℕ) → AnswersLines machine.old text.now bad_line [] machine.old → IsOk result }
+    ensures free { (bad_line : Option ℕ) → AnswersLines machine.old text.now bad_line [] machine.old
+        → IsOk result }
 {
     let mut answer = String::new(alloc);
     let mut number: u64 = 0;
