@@ -1,7 +1,7 @@
 //! What a span keeps within its limits: the first items of each list. Those over a limit are only counted
 //! (OpenTelemetry specification, "Span Limits"). Lists are cut in place.
 
-ghost use Rattle.std.specs.Prelude.{◌≡◌, ◌≤◌, ◌⊎◌, ◌++◌, [], if◌then◌else◌, length, map, nat_lt, IfOk, IsOk, OnErr, OnOk, unwrap_or};
+ghost use Rattle.std.specs.Prelude.{◌≡◌, ◌≤◌, ◌⊎◌, ◌++◌, [], length, map, nat_lt, IfOk, IsOk, OnErr, OnOk, unwrap_or};
 ghost use Rattle.std.specs.Option.{option_map};
 ghost use Rattle.otel_base.specs.Sampling.{added_attributes};
 ghost use Rattle.otel_batch.specs.PlainSpanData.{cut_at, left_out};
@@ -23,23 +23,24 @@ pub(crate) fn cut<T: Drop>(items: &mut Vec<T>, limit: u32) -> u32
     u32::try_from(left_out).unwrap_or(u32::MAX)
 }
 
-/// Adds an item where there is room under the limit, and else drops it, which takes no memory. The answer is how many
-/// were dropped.
+/// Adds an item where there is room under the limit, and else drops it, which takes no memory. The answer is whether it
+/// was kept.
 pub(crate) fn push_within<T: Drop>(
     items: &mut Vec<T>,
     limit: u32,
     item: T,
-) -> Result<u32, AllocError>
+) -> Result<bool, AllocError>
     ensures grown { OnOk result (items.new.items ≡ history.grown_within limit items.old.items item) }
-    ensures dropped { IfOk result (λ dropped. dropped ≡ (if nat_lt (length items.old.items) limit then 0 else 1)) }
+    ensures kept { IfOk result (λ kept. kept ≡ nat_lt (length items.old.items) limit) }
     ensures err { OnErr result (items.new.items ≡ items.old.items) }
     ensures full { limit ≤ length items.old.items → IsOk result }
 {
     if items.len() < limit as usize {
-        items.push(item)?;
-        Ok(0)
+        items.reserve(1)?;
+        items.push_reserved(item);
+        Ok(true)
     } else {
-        Ok(1)
+        Ok(false)
     }
 }
 

@@ -93,6 +93,6 @@ fn batch_of(alloc: Global, span: SpanData) -> Result<Vec<SpanData>, AllocError>
     ensures { IfOk result (λ batch. batch.items ≡ span ∷ []) }
 {
     let mut batch = Vec::with_capacity(alloc, 1)?;
-    batch.push(span)?;
+    batch.push_reserved(span);
     Ok(batch)
 }

@@ -1,7 +1,7 @@
 //! A span: one operation within a trace. It records until its end; its end delivers what it recorded to the processors
 //! of its provider. A span must be spent, so that none is forgotten.
 
-ghost use Rattle.std.specs.Prelude.{◌≡◌, ◌≤◌, [], length, List, OnOk, OnErr, IfErr, IfOk, IfSome, IsOk, IsNone, IsTrue, Some, is_some, option_copied, string_bytes};
+ghost use Rattle.std.specs.Prelude.{◌≡◌, ◌≤◌, [], length, List, OnOk, OnErr, IfErr, IfOk, IfSome, IsOk, IsNone, IsTrue, Some, is_some, string_bytes};
 ghost use Rattle.std.specs.List.Sorted.{IsPermutation};
 ghost use Rattle.opentelemetry.specs.Order.{greatest_status};
 ghost use Rattle.opentelemetry.specs.Plain.{PlainStatus, unset};
@@ -75,13 +75,6 @@ impl Span {
         ensures { result ≡ is_some self.now.recorded }
     {
         self.recorded.is_some()
-    }
-
-    /// Forgets what was recorded.
-    fn stop(&mut self)
-        ensures { self.new ≡ history.ended self.old }
-    {
-        self.recorded = None;
     }
 
     /// Makes an edit. Nothing happens where the span is not recording.
@@ -195,17 +188,10 @@ impl Span {
             → IsPermutation (history.statuses_set edits) statuses
             → IfOk result (λ found. IfSome found (λ span. span.status ≡ greatest_status unset statuses)) }
     {
-        match self.recorded() {
+        match &self.recorded {
             Some(recorded) => Ok(Some(recorded.clone()?)),
             None => Ok(None),
         }
-    }
-
-    /// What is recorded so far.
-    pub(crate) fn recorded(&self) -> Option<&SpanData>
-        ensures { option_copied result ≡ self.now.recorded }
-    {
-        self.recorded.as_ref()
     }
 
     /// What was recorded; no edit reaches the span any more.
@@ -247,19 +233,22 @@ impl Span {
         ensures shut { IsTrue provider.old.is_shut → IsOk result }
         ensures one { length provider.old.processors ≤ 1 → IsOk result }
     {
-        let Some(recorded) = self.recorded() else {
+        let Some(mut recorded) = self.take_recorded() else {
             return Ok(0);
         };
         if provider.is_shut() {
-            self.stop();
             return Ok(0);
         }
-        let copies = provider.copies_for_end(recorded, timestamp)?;
-        let Some(mut recorded) = self.take_recorded() else {
-            unreachable!();
-        };
-        recorded.end_time = timestamp;
-        Ok(provider.deliver(copies, recorded))
+        match provider.copies_for_end(&recorded, timestamp) {
+            Ok(copies) => {
+                recorded.end_time = timestamp;
+                Ok(provider.deliver(copies, recorded))
+            }
+            Err(error) => {
+                self.recorded = Some(recorded);
+                Err(error)
+            }
+        }
     }
 
     /// Ends the span as `end_with_timestamp` does, and spends it. Where there is no memory for the copies it comes back

@@ -76,9 +76,11 @@ pub(crate) fn set_attribute(
         return Ok(());
     };
     let limit = limits.max_attributes_per_span;
-    let dropped = push_within(&mut recorded.attributes, limit, attribute)?;
-    let count = recorded.dropped_attributes_count;
-    recorded.dropped_attributes_count = count.saturating_add(dropped);
+    let kept = push_within(&mut recorded.attributes, limit, attribute)?;
+    if !kept {
+        let count = recorded.dropped_attributes_count;
+        recorded.dropped_attributes_count = count.saturating_add(1);
+    }
     Ok(())
 }
 
@@ -99,8 +101,10 @@ pub(crate) fn add_event(
     };
     cut_event(&mut event, limits);
     let events = &mut recorded.events;
-    let dropped = push_within(&mut events.events, limits.max_events_per_span, event)?;
-    events.dropped_count = events.dropped_count.saturating_add(dropped);
+    let kept = push_within(&mut events.events, limits.max_events_per_span, event)?;
+    if !kept {
+        events.dropped_count = events.dropped_count.saturating_add(1);
+    }
     Ok(())
 }
 
@@ -121,8 +125,10 @@ pub(crate) fn add_link(
     };
     cut_link(&mut link, limits);
     let links = &mut recorded.links;
-    let dropped = push_within(&mut links.links, limits.max_links_per_span, link)?;
-    links.dropped_count = links.dropped_count.saturating_add(dropped);
+    let kept = push_within(&mut links.links, limits.max_links_per_span, link)?;
+    if !kept {
+        links.dropped_count = links.dropped_count.saturating_add(1);
+    }
     Ok(())
 }
 

@@ -161,7 +161,7 @@ impl SdkTracer {
             return Ok(Span::not_recording(span_context, span_limits));
         }
         let alloc = provider.allocator();
-        let mut span = begin(
+        let mut started = begin(
             alloc,
             &self.scope,
             builder,
@@ -170,9 +170,11 @@ impl SdkTracer {
             span_context,
             now,
             span_limits,
-        )?;
-        provider.tell_start(&mut span, cx);
-        Ok(span)
+        );
+        if let Ok(span) = &mut started {
+            provider.tell_start(span, cx);
+        }
+        started
     }
 }
 

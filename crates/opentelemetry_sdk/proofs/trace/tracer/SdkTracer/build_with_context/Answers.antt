@@ -21,14 +21,21 @@ returns-in-Drop-clause-ok g c =
     starts_dropped g.P.SpanProcessor g.S.ShouldSample g.G.IdGenerator c.args.provider.now drawn c.args.self.now c.args.builder c.args.cx.now c.args.now.0
     c.draw_ids-trace_id.result.0 c.draw_ids-trace_id.result.1 answer c.not_recording-in-Drop.result (search rules) c.draw_ids-trace_id.ensures.draws c.draw_ids-trace_id.ensures.rest asked drops span_is
 
-pub returns-clause-ok : goal.returns-clause-ok
-returns-clause-ok g c =
+pub returns-in-Ok : goal.returns-in-Ok
+returns-in-Ok g c =
     let answer : PlainSamplingResult = c.in_ok-decision.field-0 in
     let drawn = c.draw_ids-trace_id.new.self in
     let asked : g.S.ShouldSample.gives drawn.sampler (start_question c.args.cx.now c.draw_ids-trace_id.result.0 c.args.builder) answer = search rules in
     let kept : answer.decision ≢ decisions.Drop = search rules in
-    let span_is : c.in_ok-span.span ≡ recording (start_of c.args.self.now c.args.builder (current_span_context c.args.cx.now) c.args.now.0 c.args.provider.now.span_limits
+    let span_is : c.in-Ok.span ≡ recording (start_of c.args.self.now c.args.builder (current_span_context c.args.cx.now) c.args.now.0 c.args.provider.now.span_limits
     (start_span_context (current_span_context c.args.cx.now) c.draw_ids-trace_id.result.0 c.draw_ids-trace_id.result.1 answer) answer.attributes) [] = search rules in
-    starts_recording g.P.SpanProcessor g.S.ShouldSample g.G.IdGenerator c.args.provider.now drawn c.tell_start.new.self c.args.self.now c.args.builder c.args.cx.now c.args.now.0
-    c.draw_ids-trace_id.result.0 c.draw_ids-trace_id.result.1 answer c.in_ok-span.span c.tell_start.new.span (search rules) c.draw_ids-trace_id.ensures.draws c.draw_ids-trace_id.ensures.rest asked kept span_is
-    c.tell_start.ensures.edits c.tell_start.ensures.gives c.tell_start.ensures.rest
+    record {
+      ok = starts_recording g.P.SpanProcessor g.S.ShouldSample g.G.IdGenerator c.args.provider.now drawn c.tell_start.new.self c.args.self.now c.args.builder c.args.cx.now c.args.now.0
+          c.draw_ids-trace_id.result.0 c.draw_ids-trace_id.result.1 answer c.in-Ok.span c.tell_start.new.span (search rules) c.draw_ids-trace_id.ensures.draws c.draw_ids-trace_id.ensures.rest asked kept span_is
+          c.tell_start.ensures.edits c.tell_start.ensures.gives c.tell_start.ensures.rest;
+      told = search rules;
+      rest = search rules;
+      err = search rules;
+      shut = search rules;
+      dropped = search rules;
+    }
