@@ -49,6 +49,7 @@ impl<S: SpanProcessor, C: SpanProcessor> SpanProcessor for ProcessorOf<S, C> {
         }
     }
 
+    #[inline(always)]
     fn on_end(&mut self, span: SpanData) -> Result<(), AllocError> {
         match self {
             ProcessorOf::Simple(simple) => simple.on_end(span),

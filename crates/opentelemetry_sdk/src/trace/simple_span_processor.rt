@@ -64,6 +64,7 @@ impl<E: SpanExporter> SpanProcessor for SimpleSpanProcessor<E> {
 
     fn on_start(&mut self, _span: &mut Span, _cx: &Context) {}
 
+    #[inline(always)]
     fn on_end(&mut self, span: SpanData) -> Result<(), AllocError> {
         if self.is_shut || !span.span_context.trace_flags().is_sampled() {
             return Ok(());
@@ -89,6 +90,7 @@ impl<E: SpanExporter> SpanProcessor for SimpleSpanProcessor<E> {
 }
 
 /// A batch of one span.
+#[inline(always)]
 fn batch_of(alloc: Global, span: SpanData) -> Result<Vec<SpanData>, AllocError>
     ensures { IfOk result (λ batch. batch.items ≡ span ∷ []) }
 {

@@ -194,8 +194,15 @@ impl Span {
         }
     }
 
+    /// Drops what was recorded; no edit reaches the span any more.
+    fn stop(&mut self)
+        ensures { self.new ≡ history.ended self.old }
+    {
+        self.recorded = None;
+    }
+
     /// What was recorded; no edit reaches the span any more.
-    pub(crate) fn take_recorded(&mut self) -> Option<SpanData>
+    fn take_recorded(&mut self) -> Option<SpanData>
         ensures recorded { result ≡ self.old.recorded }
         ensures ended { self.new ≡ history.ended self.old }
     {
@@ -233,26 +240,24 @@ impl Span {
         ensures shut { IsTrue provider.old.is_shut → IsOk result }
         ensures one { length provider.old.processors ≤ 1 → IsOk result }
     {
-        let Some(mut recorded) = self.take_recorded() else {
+        let Some(recorded) = &self.recorded else {
             return Ok(0);
         };
         if provider.is_shut() {
+            self.stop();
             return Ok(0);
         }
-        match provider.copies_for_end(&recorded, timestamp) {
-            Ok(copies) => {
-                recorded.end_time = timestamp;
-                Ok(provider.deliver(copies, recorded))
-            }
-            Err(error) => {
-                self.recorded = Some(recorded);
-                Err(error)
-            }
-        }
+        let copies = provider.copies_for_end(recorded, timestamp)?;
+        let Some(mut recorded) = self.take_recorded() else {
+            unreachable!();
+        };
+        recorded.end_time = timestamp;
+        Ok(provider.deliver(copies, recorded))
     }
 
     /// Ends the span as `end_with_timestamp` does, and spends it. Where there is no memory for the copies it comes back
     /// as it was, and no processor has been given anything.
+    #[inline(always)]
     pub fn finish<P: SpanProcessor, S: Drop, G: Drop>(
         mut self,
         provider: &mut ProviderOf<P, S, G>,
@@ -286,6 +291,7 @@ impl Span {
     }
 
     /// Spends the span; nothing is delivered.
+    #[inline(always)]
     pub fn abandon(self) {
         let Span {
             span_context: _,

@@ -9,14 +9,14 @@ returns-in_default-clause-told g c = delivered_follows g.P.SpanProcessor c.args.
 pub returns-then-is_shut-clause-told : goal.returns-then-is_shut-clause-told
 returns-then-is_shut-clause-told g c = delivered_follows g.P.SpanProcessor c.args.provider.now.is_shut c.args.timestamp.0 c.args.self.now.recorded c.args.provider.now.processors c.args.provider.now.processors 0 (search rules)
 
-pub returns-in-Ok-clause-told : goal.returns-in-Ok-clause-told
-returns-in-Ok-clause-told g c = delivered_follows g.P.SpanProcessor c.args.provider.now.is_shut c.args.timestamp.0 c.args.self.now.recorded c.args.provider.now.processors c.deliver.new.self.processors c.deliver.result (search rules)
+pub returns-clause-told : goal.returns-clause-told
+returns-clause-told g c = delivered_follows g.P.SpanProcessor c.args.provider.now.is_shut c.args.timestamp.0 c.args.self.now.recorded c.args.provider.now.processors c.deliver.new.self.processors c.deliver.result (search rules)
 
 pub returns-in_default-clause-over : goal.returns-in_default-clause-over
-returns-in_default-clause-over g c = λ edits. over_stays edits c.args.self.now c.take_recorded.new.self (search rules)
+returns-in_default-clause-over g c = λ edits. over_stays edits c.args.self.now c.args.self.now (search rules)
 
 pub returns-then-is_shut-clause-over : goal.returns-then-is_shut-clause-over
-returns-then-is_shut-clause-over g c = λ edits. over_stays edits c.args.self.now c.take_recorded.new.self (search rules)
+returns-then-is_shut-clause-over g c = λ edits. over_stays edits c.args.self.now c.stop.new.self (search rules)
 
-pub returns-in-Ok-clause-over : goal.returns-in-Ok-clause-over
-returns-in-Ok-clause-over g c = λ edits. over_stays edits c.args.self.now c.take_recorded.new.self (search rules)
+pub returns-clause-over : goal.returns-clause-over
+returns-clause-over g c = λ edits. over_stays edits c.args.self.now c.take_recorded.new.self (search rules)
