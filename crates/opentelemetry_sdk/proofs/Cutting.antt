@@ -3,7 +3,7 @@ use Rattle.std.proofs.Common.{◌≡◌, ℕ, ◌+◌, ◌-◌, ◌++◌, ◌≤
 use native.Mathlib.Decide.{dec_lt}
 use Rattle.std.proofs.Math.Seq.{take-append-add}
 use Rattle.std.proofs.lemmas.List.{length-take-le, take-append-le, take_all, take_more, take_more_set, map-append}
-use Rattle.otel_batch.specs.PlainSpanData.{cut_at}
+use Rattle.otel_export.specs.PlainSpanData.{cut_at}
 use Rattle.opentelemetry_sdk.proofs.EachLemmas.{at_front}
 
 -- the first list fills the limit

@@ -3,9 +3,9 @@ use Rattle.std.proofs.Common.{◌≡◌, ℕ, ◌+◌, ◌<◌, ◌≤◌, Bool,
 use Rattle.std.specs.Bool.{IsTrue}
 use Rattle.std.specs.List.{AllZip}
 use Rattle.std.proofs.lemmas.List.{map-append}
-use Rattle.otel_batch.specs.PlainSpanData.{PlainSpanData, is_sampled}
-use Rattle.otel_batch.specs.Telling.{Tells}
-use Rattle.otel_batch.proofs.Tellings.{tells_append, tells_same}
+use Rattle.otel_export.specs.PlainSpanData.{PlainSpanData, is_sampled}
+use Rattle.otel_export.specs.Telling.{Tells}
+use Rattle.otel_export.proofs.Tellings.{tells_append, tells_same}
 use Rattle.std.specs.declared.alloc.AllocError.{AllocError}
 use Rattle.opentelemetry_sdk.specs.ProcessorTelling.{ProcessorTelling, CountsUp, TakesSpan, TakesNothing, HandsOver, HearsNothing}
 use Rattle.opentelemetry_sdk.specs.Deliveries.{Delivery, Hears, Follows, EachFollows, EachOpenHears, Reaches, ReachesFirst, spans_of}

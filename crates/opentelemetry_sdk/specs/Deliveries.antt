@@ -1,8 +1,8 @@
 -- What is delivered to the processors of a provider, and what of it each tells.
 use Rattle.std.specs.Prelude.{◌≡◌, ℕ, ◌+◌, ◌<◌, ◌⊎◌, List, [], ◌∷◌, ◌++◌, map, Bool, true, false, IsTrue, IsFalse}
 use Rattle.std.specs.List.{AllZip}
-use Rattle.otel_batch.specs.PlainSpanData.{PlainSpanData, is_sampled}
-use Rattle.otel_batch.specs.Telling.{Tells}
+use Rattle.otel_export.specs.PlainSpanData.{PlainSpanData, is_sampled}
+use Rattle.otel_export.specs.Telling.{Tells}
 use Rattle.opentelemetry_sdk.specs.ProcessorTelling.{ProcessorTelling, CountsUp}
 use Rattle.opentelemetry_sdk.specs.declared.trace.span_processor.SpanProcessor.{Ghosts}
 

@@ -1,7 +1,7 @@
 -- What the end of a span delivers, and to whom.
 use Rattle.std.specs.Prelude.{◌≡◌, ℕ, Bool, true, false, List, [], ◌∷◌, Option, Some, None, Result}
 use Rattle.std.specs.declared.alloc.AllocError.{AllocError}
-use Rattle.otel_batch.specs.PlainSpanData.{PlainSpanData}
+use Rattle.otel_export.specs.PlainSpanData.{PlainSpanData}
 use Rattle.opentelemetry_sdk.specs.SpanHistory.{ended_at}
 use Rattle.opentelemetry_sdk.specs.ProcessorTelling.{TakesSpan}
 use Rattle.opentelemetry_sdk.specs.Deliveries.{Delivery}

@@ -1,7 +1,7 @@
 -- What a processor says that it was given, and what reached its exporter or waits in front of it.
 use Rattle.std.specs.Prelude.{◌≡◌, ℕ, ◌+◌, ◌-◌, ◌^◌, ◌&&◌, ◌<◌, ◌≤◌, ◌⊎◌, Bool, true, false, List, [], ◌∷◌, Option, Some, None, Result, Ok, Err, IsTrue}
-use Rattle.otel_batch.specs.PlainSpanData.{PlainSpanData, is_sampled, spans_in}
-use Rattle.otel_batch.specs.Telling.{Tells}
+use Rattle.otel_export.specs.PlainSpanData.{PlainSpanData, is_sampled, spans_in}
+use Rattle.otel_export.specs.Telling.{Tells}
 
 -- the spans that a processor tells itself; the spans that its exporter heard, followed by those that wait in front of
 -- it, or nothing; how many spans found the queue full; and whether it still takes spans to export

@@ -2,10 +2,10 @@ use Rattle.std.specs.Prelude.{◌≡◌, ℕ, ◌&&◌, not, Bool, true, [], ◌
 use Rattle.std.specs.declared.alloc.AllocError.{AllocError}
 use Rattle.otel_base.specs.Resource.{PlainResource}
 use Rattle.otel_base.specs.declared.error.OTelSdkError.{OTelSdkError}
-use Rattle.otel_batch.specs.PlainSpanData.{PlainSpanData, is_sampled}
-use Rattle.otel_batch.specs.RestsOr.{RestsOr, StaysOr}
-use Rattle.otel_batch.specs.Telling.{Tells}
-use Rattle.otel_batch.specs.declared.trace.export.SpanExporter.{Ghosts}
+use Rattle.otel_export.specs.PlainSpanData.{PlainSpanData, is_sampled}
+use Rattle.otel_export.specs.RestsOr.{RestsOr, StaysOr}
+use Rattle.otel_export.specs.Telling.{Tells}
+use Rattle.otel_export.specs.declared.trace.export.SpanExporter.{Ghosts}
 use Rattle.opentelemetry_sdk.specs.ProcessorTelling.{ProcessorTelling, spans_told}
 
 -- a simple processor: its exporter, and whether it is shut

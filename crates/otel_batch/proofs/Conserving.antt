@@ -2,7 +2,7 @@
 use Rattle.std.proofs.Common.{◌≡◌, ◌∙◌, ap, sym, refl, ℕ, ◌<◌, ◌^◌, List, [], ◌∷◌, ◌++◌, length, map, slice_get, append_assoc, append-nil, arith}
 use Rattle.std.proofs.lemmas.List.{map-append}
 use Rattle.std.proofs.lemmas.List.Concat.{flat_map-append}
-use Rattle.otel_batch.specs.PlainSpanData.{PlainSpanData, spans_in}
+use Rattle.otel_export.specs.PlainSpanData.{PlainSpanData, spans_in}
 use Rattle.otel_batch.specs.Slots.{held}
 use Rattle.otel_batch.specs.MachineState.{Machine, counts}
 use Rattle.otel_batch.specs.PermittedStep.{Permitted}
@@ -13,8 +13,8 @@ use Rattle.otel_batch.specs.declared.machine.step.Outcome.{Outcome}
 use Rattle.otel_batch.specs.declared.machine.step.Outcome.TheVariants as outcome
 use Rattle.otel_batch.specs.declared.machine.step.Step.{Step}
 use Rattle.otel_batch.specs.declared.machine.step.Step.TheVariants as step
-use Rattle.otel_batch.specs.declared.trace.export.SpanExporter.{Ghosts}
-use Rattle.otel_batch.proofs.Tellings.{tells_append, tells_same}
+use Rattle.otel_export.specs.declared.trace.export.SpanExporter.{Ghosts}
+use Rattle.otel_export.proofs.Tellings.{tells_append, tells_same}
 use Rattle.otel_batch.proofs.Holding.{AreHeldIn, held_at_slots, held_at_first, permitted-holds, accepts-held}
 use Rattle.otel_batch.proofs.TableFacts.{permitted-leaves, dropped_after}
 

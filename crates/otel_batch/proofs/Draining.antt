@@ -4,7 +4,7 @@ use borrow.Author.Tests.{ltb-true, ltb-false}
 use Rattle.std.proofs.lemmas.Bool.Decides.{eqb_tells}
 use Rattle.std.specs.List.{fold}
 use Rattle.std.proofs.lemmas.List.{nil_from_length}
-use Rattle.otel_batch.specs.PlainSpanData.{PlainSpanData, spans_in}
+use Rattle.otel_export.specs.PlainSpanData.{PlainSpanData, spans_in}
 use Rattle.otel_batch.specs.Slots.{slot_counts}
 use Rattle.otel_batch.specs.Workers.{is_closing, is_draining, worker_counts}
 use Rattle.otel_batch.specs.MachineState.{Machine, Counts, counts, limit_of}
@@ -20,7 +20,7 @@ use Rattle.otel_batch.specs.declared.machine.step.Outcome.{Outcome}
 use Rattle.otel_batch.specs.declared.machine.step.Outcome.TheVariants as outcome
 use Rattle.otel_batch.specs.declared.machine.step.Step.{Step}
 use Rattle.otel_batch.specs.declared.machine.step.Step.TheVariants as step
-use Rattle.otel_batch.specs.declared.trace.export.SpanExporter.{Ghosts}
+use Rattle.otel_export.specs.declared.trace.export.SpanExporter.{Ghosts}
 use Rattle.otel_batch.proofs.SlotSums.{counts_le}
 use Rattle.otel_batch.proofs.TableFacts.{is_producers, LeavesWorker, permitted-alone, permitted-leaves}
 use Rattle.otel_batch.proofs.Conserving.{run-conserves, conserves_then}

@@ -7,7 +7,7 @@ use Rattle.circular_buffer.proofs.Places.{slice_get-set_same, slice_get-set_othe
 use Rattle.otel_base.specs.Resource.{PlainResource}
 use Rattle.otel_base.specs.declared.error.OTelSdkError.{OTelSdkError}
 use Rattle.otel_base.specs.declared.error.OTelSdkError.TheVariants.{OutOfMemory}
-use Rattle.otel_batch.specs.PlainSpanData.{PlainSpanData}
+use Rattle.otel_export.specs.PlainSpanData.{PlainSpanData}
 use Rattle.otel_batch.specs.Slots.{held, is_holding}
 use Rattle.otel_batch.specs.Messages.{message_names}
 use Rattle.otel_batch.specs.Workers.{closing_of}

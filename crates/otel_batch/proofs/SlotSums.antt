@@ -12,7 +12,7 @@ use Rattle.otel_batch.specs.Slots.{slot_counts, slot_asks, is_holding, is_answer
 use Rattle.otel_batch.specs.Workers.{why_names}
 use Rattle.otel_batch.specs.Messages.{message_of, message_asks, message_names}
 use Rattle.otel_batch.specs.declared.machine.state.Why.TheVariants as why
-use Rattle.otel_batch.specs.PlainSpanData.{PlainSpanData}
+use Rattle.otel_export.specs.PlainSpanData.{PlainSpanData}
 
 -- an index that has an element is within the list
 pub slice_get-within : {X : Type 0} (xs : List X) (i : ℕ) (x : X) → slice_get xs i ≡ Some x → i < length xs

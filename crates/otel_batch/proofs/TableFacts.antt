@@ -3,8 +3,8 @@ use Rattle.std.proofs.Common.{◌≡◌, ◌∙◌, ap, sym, refl, ℕ, ◌≤�
 use Rattle.otel_base.specs.Resource.{PlainResource}
 use Rattle.otel_base.specs.declared.error.OTelSdkError.{OTelSdkError}
 use Rattle.otel_base.specs.declared.error.OTelSdkError.TheVariants.{OutOfMemory}
-use Rattle.otel_batch.specs.PlainSpanData.{PlainSpanData}
-use Rattle.otel_batch.specs.StoredBatches.{one_more}
+use Rattle.otel_export.specs.PlainSpanData.{PlainSpanData}
+use Rattle.otel_export.specs.StoredBatches.{one_more}
 use Rattle.otel_batch.specs.MachineState.{Counts}
 use Rattle.otel_batch.specs.Drains.{is_workers}
 use Rattle.otel_batch.specs.PermittedStep.{Permitted, OfferRow, SendRow, UndoRow, AskRow, PostRow, ResetRow, RequestRow, CollectRow, ResourceRow, TakeRow, TickRow, ClearRow, LoadRow, PullRow, HandOverRow, SubtractRow, FinishRow, FinishRowFor, CloseRow, finished, put_slot}

@@ -1,13 +1,13 @@
 -- The batch queue loses no span: what was accepted was handed to the exporter, or is in the worker's hand, or waits.
 use Rattle.std.specs.Prelude.{◌≡◌, ℕ, List, [], ◌++◌, length, map}
-use Rattle.otel_batch.specs.PlainSpanData.{PlainSpanData, spans_in}
+use Rattle.otel_export.specs.PlainSpanData.{PlainSpanData, spans_in}
 use Rattle.otel_batch.specs.PlainBatchConfig.{PlainBatchConfig}
-use Rattle.otel_batch.specs.Telling.{Tells}
+use Rattle.otel_export.specs.Telling.{Tells}
 use Rattle.otel_batch.specs.MachineState.{Machine, first_machine}
 use Rattle.otel_batch.specs.MachineRun.{accepted, batch_sizes}
 use Rattle.otel_batch.specs.declared.machine.step.Outcome.{Outcome}
 use Rattle.otel_batch.specs.declared.machine.step.Step.{Step}
-use Rattle.otel_batch.specs.declared.trace.export.SpanExporter.{Ghosts}
+use Rattle.otel_export.specs.declared.trace.export.SpanExporter.{Ghosts}
 
 -- a machine as it is made
 pub record IsFirst {E : Type 0} (s : Machine E) : Type 0 where

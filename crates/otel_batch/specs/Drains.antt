@@ -1,8 +1,8 @@
 -- Drains of the batch queue, from the step that loaded one to the next that finished: what a flush needs in order to
 -- return, and to be right.
 use Rattle.std.specs.Prelude.{◌≡◌, ℕ, suc, ◌+◌, ◌*◌, ◌<◌, ◌≤◌, ◌==◌, ◌&&◌, Bool, true, false, take, drop, sum, length, map, List, [], ◌∷◌, ◌++◌, Some, slice_get, if◌then◌else◌}
-use Rattle.otel_batch.specs.PlainSpanData.{PlainSpanData, spans_in}
-use Rattle.otel_batch.specs.Telling.{Tells}
+use Rattle.otel_export.specs.PlainSpanData.{PlainSpanData, spans_in}
+use Rattle.otel_export.specs.Telling.{Tells}
 use Rattle.otel_batch.specs.MachineState.{Machine, Control}
 use Rattle.otel_batch.specs.GoingOn.{is_enabled}
 use Rattle.otel_batch.specs.MachineRun.{Run, accepted, holds_at, batch_sizes}
@@ -10,7 +10,7 @@ use Rattle.otel_batch.specs.declared.machine.step.Outcome.{Outcome}
 use Rattle.otel_batch.specs.declared.machine.step.Outcome.TheVariants as outcome
 use Rattle.otel_batch.specs.declared.machine.step.Step.{Step}
 use Rattle.otel_batch.specs.declared.machine.step.Step.TheVariants as step
-use Rattle.otel_batch.specs.declared.trace.export.SpanExporter.{Ghosts}
+use Rattle.otel_export.specs.declared.trace.export.SpanExporter.{Ghosts}
 
 -- the step is one of the worker's
 abbrev pub is_workers : Step → Bool

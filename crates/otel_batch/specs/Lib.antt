@@ -1,9 +1,3 @@
-pub mod PlainSpanData
-pub mod SameSpanData
-pub mod StoredBatches
-pub mod ExporterKinds
-pub mod RestsOr
-pub mod Telling
 pub mod PlainBatchConfig
 pub mod Slots
 pub mod Messages

@@ -1,8 +1,8 @@
 -- Where the spans go in one step of the batch queue, and what the exporter is asked.
 use Rattle.std.specs.Prelude.{◌≡◌, ℕ, [], ◌∷◌, ◌++◌, Result, slice_get}
 use Rattle.otel_base.specs.declared.error.OTelSdkError.{OTelSdkError}
-use Rattle.otel_batch.specs.RestsOr.{RestsOr, StaysOr}
-use Rattle.otel_batch.specs.Telling.{Tells}
+use Rattle.otel_export.specs.RestsOr.{RestsOr, StaysOr}
+use Rattle.otel_export.specs.Telling.{Tells}
 use Rattle.otel_batch.specs.Slots.{held}
 use Rattle.otel_batch.specs.Messages.{resource_in}
 use Rattle.otel_batch.specs.MachineState.{Machine}
@@ -10,7 +10,7 @@ use Rattle.otel_batch.specs.declared.machine.step.Outcome.{Outcome}
 use Rattle.otel_batch.specs.declared.machine.step.Outcome.TheVariants as outcome
 use Rattle.otel_batch.specs.declared.machine.step.Step.{Step}
 use Rattle.otel_batch.specs.declared.machine.step.Step.TheVariants as step
-use Rattle.otel_batch.specs.declared.trace.export.SpanExporter.{Ghosts}
+use Rattle.otel_export.specs.declared.trace.export.SpanExporter.{Ghosts}
 
 -- no span moved, and the exporter is the same
 pub record Keeps {E : Type 0} (s t : Machine E) : Type 0 where

@@ -6,8 +6,8 @@ use Rattle.std.specs.Result.{result_err}
 use Rattle.otel_base.specs.Resource.{PlainResource}
 use Rattle.otel_base.specs.declared.error.OTelSdkError.{OTelSdkError}
 use Rattle.otel_base.specs.declared.error.OTelSdkError.TheVariants.{AlreadyShutdown, Timeout, InternalFailure, OutOfMemory}
-use Rattle.otel_batch.specs.PlainSpanData.{PlainSpanData, is_sampled}
-use Rattle.otel_batch.specs.StoredBatches.{one_more}
+use Rattle.otel_export.specs.PlainSpanData.{PlainSpanData, is_sampled}
+use Rattle.otel_export.specs.StoredBatches.{one_more}
 use Rattle.otel_batch.specs.Slots.{is_idle, is_holding, number_held, is_refused, is_asking, is_posting, is_resetting, is_answered}
 use Rattle.otel_batch.specs.Messages.{message_of, message_names, is_resource}
 use Rattle.otel_batch.specs.Workers.{is_ready, is_clearing, is_loading, is_pulling, is_handing, is_subtracting, is_finishing, is_closing, closing_of}

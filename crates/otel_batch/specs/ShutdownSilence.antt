@@ -5,7 +5,7 @@ use Rattle.otel_batch.specs.MachineRun.{Run, batch_sizes}
 use Rattle.otel_batch.specs.declared.machine.step.Outcome.{Outcome}
 use Rattle.otel_batch.specs.declared.machine.step.Outcome.TheVariants as outcome
 use Rattle.otel_batch.specs.declared.machine.step.Step.{Step}
-use Rattle.otel_batch.specs.declared.trace.export.SpanExporter.{Ghosts}
+use Rattle.otel_export.specs.declared.trace.export.SpanExporter.{Ghosts}
 
 -- along a run with these outcomes the machine stayed closed, no batch was handed over, and the exporter is the same
 pub record StaysSilent {E : Type 0} (s : Machine E) (os : List Outcome) (t : Machine E) : Type 0 where

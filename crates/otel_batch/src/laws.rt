@@ -19,7 +19,7 @@ ghost use Rattle.otel_batch.specs.declared.machine.step.Outcome.TheVariants as o
 ghost use Rattle.otel_batch.specs.declared.machine.step.Step.{Step};
 ghost use Rattle.otel_batch.specs.declared.machine.step.Step.TheVariants as step;
 
-use crate::trace::SpanExporter;
+use otel_export::trace::SpanExporter;
 
 /// A step is a run of one step.
 pub fn a_step_is_a_run<E: SpanExporter>()

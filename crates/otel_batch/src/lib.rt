@@ -1,4 +1,4 @@
-//! The data of ended spans, the exporters that take it, and the batch queue in front of one.
+//! The batch queue in front of an exporter, and how a batch processor is configured.
 #![tactic(auto)]
 
 pub mod laws;

@@ -1,18 +1,5 @@
-//! What an exporter is handed, the interface of exporters, the exporter that keeps its batches in memory, and how a batch
-//! processor is configured.
+//! How a batch processor is configured.
 
 pub mod batch_config;
-pub mod events;
-pub mod export;
-pub mod exporter_box;
-pub mod in_memory_exporter;
-pub mod links;
-pub mod span_data;
 
 pub use batch_config::{BatchConfig, BatchConfigBuilder};
-pub use events::SpanEvents;
-pub use export::SpanExporter;
-pub use exporter_box::{ExporterBox, ExporterOf};
-pub use in_memory_exporter::InMemorySpanExporter;
-pub use links::SpanLinks;
-pub use span_data::SpanData;

@@ -1,6 +1,4 @@
 //! Tests of `otel_batch`.
 
 mod batch_config;
-mod exporter_box;
 mod machine;
-mod span_data;

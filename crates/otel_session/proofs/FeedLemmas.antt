@@ -8,8 +8,8 @@ use Rattle.opentelemetry_sdk.specs.declared.trace.span_processor.SpanProcessor.{
 use Rattle.otel_session.specs.declared.exported.KeepsBatches as keeping
 use Rattle.otel_session.specs.SessionDelivery.{SessionState, Feeds, Closes}
 use Rattle.otel_session.specs.declared.session.FeedError.{FeedError}
-use Rattle.otel_session.specs.AnswerText.{reply_text, replies_text}
-use Rattle.otel_session.specs.PlainReply.{PlainReply, counts_refusals, NoneRefused}
+use Rattle.otel_lines.specs.AnswerText.{reply_text, replies_text}
+use Rattle.otel_lines.specs.PlainReply.{PlainReply, counts_refusals, NoneRefused}
 
 -- one more reply was written
 pub written_more : (replies : List PlainReply) (reply : PlainReply) (before middle now : List ℕ)

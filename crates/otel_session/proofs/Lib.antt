@@ -1,5 +1,4 @@
 pub mod ProgramLemmas
-pub mod Clauses
 pub mod CloseLemmas
 pub mod FeedLemmas
 pub mod HeardLemmas
@@ -7,13 +6,5 @@ pub mod RunLemmas
 pub mod ShownLemmas
 pub mod StepLemmas
 pub mod NamedLemmas
-pub mod Cuts
-pub mod Fields
-pub mod Listed
-pub mod OneReading
-pub mod Spelled
-pub mod StepFields
-pub mod StepFollowing
-pub mod StepTexts
 pub mod TraceLemmas
 pub mod HeaderLemmas

@@ -15,7 +15,7 @@ use Rattle.otel_base.specs.declared.trace.id_generator.IdGenerator as drawing
 use Rattle.opentelemetry_sdk.specs.Provider.{ProviderState}
 use Rattle.opentelemetry_sdk.specs.SpanHistory.{PlainSpan}
 use Rattle.opentelemetry_sdk.specs.declared.trace.span_processor.SpanProcessor.{Ghosts}
-use Rattle.otel_session.specs.declared.reply.Answer.TheVariants as answers
+use Rattle.otel_lines.specs.declared.reply.Answer.TheVariants as answers
 use Rattle.otel_session.specs.OpenSpans.{NamedSpans, named, by_name, is_name, PutsSpan, SameSpans, StartsNamed, MayStart}
 
 named-lookup : {Y : Type 0} (entries : List (String Y × PlainSpan)) (q : List ℕ) → named (by_name entries) q ≡ lookup (is_at (λ k. slice_cmp nat_cmp q (string_bytes k))) entries

@@ -7,9 +7,9 @@ use Rattle.otel_base.specs.declared.trace.sampler.ShouldSample as sampling
 use Rattle.otel_base.specs.declared.trace.id_generator.IdGenerator as drawing
 use Rattle.opentelemetry_sdk.specs.Provider.{ProviderState}
 use Rattle.opentelemetry_sdk.specs.declared.trace.span_processor.SpanProcessor.{Ghosts}
-use Rattle.otel_session.specs.Lines.{IsMoment}
+use Rattle.otel_lines.specs.Lines.{IsMoment}
 use Rattle.otel_session.specs.Program.{AsksFor, AsksForNoTrace, AsksForSteps, MemoryProcessor, StepsSized, TracesSeed, TracesWhole, WriteSizes, IsProviderOfSeed, memory_batches}
-use Rattle.otel_session.specs.declared.steps.Sizes.{Sizes}
+use Rattle.otel_lines.specs.declared.steps.Sizes.{Sizes}
 
 -- three words ask for what the second one writes
 pub three_ask : (words : List (List ℕ)) (digits : List ℕ) (found : Option ℕ) → words ≡ codes "trace" ∷ digits ∷ codes "simple" ∷ []

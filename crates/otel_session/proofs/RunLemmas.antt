@@ -9,11 +9,11 @@ use Rattle.opentelemetry_sdk.specs.declared.trace.span_processor.SpanProcessor.{
 use Rattle.opentelemetry_sdk.proofs.Following.{EachFollows-same, hears_no_delivery}
 use Rattle.otel_session.specs.declared.exported.KeepsBatches as keeping
 use Rattle.otel_session.specs.KeptBatches.{Grows}
-use Rattle.otel_session.specs.Commands.{PlainCommand, may_lose, plain_command, plain_commands}
-use Rattle.otel_session.specs.PlainReply.{PlainReply}
-use Rattle.otel_batch.specs.PlainSpanData.{spans_in}
+use Rattle.otel_lines.specs.Commands.{PlainCommand, may_lose, plain_command, plain_commands}
+use Rattle.otel_lines.specs.PlainReply.{PlainReply}
+use Rattle.otel_export.specs.PlainSpanData.{spans_in}
 use Rattle.otel_session.specs.SessionDelivery.{Histories, Course, course_of, Describe, Demands, Replies, DemandAll, Demanded, SessionState, CarriesOutOne, session_batches, batches_of_first, unshown, CarriesOut, Shows, NoneLeft, LosesNone, RunsAll, Refuses, RunsBeginning}
-use Rattle.otel_session.specs.declared.command.Command.{Command}
+use Rattle.otel_lines.specs.declared.command.Command.{Command}
 use Rattle.otel_session.proofs.HeardLemmas.{all_follow, all_heard}
 use Rattle.otel_session.proofs.TraceLemmas.{children_agree, contexts_kept}
 use Rattle.otel_session.proofs.ShownLemmas.{shows_nothing, shows_no_more, shows_reply, none_left}

@@ -2,7 +2,7 @@
 use Rattle.std.proofs.Common.{◌≡◌, ◌≤◌, ℕ, List, [], ◌∷◌, ◌++◌, Result, Option, Some, None, Bool, true, false, ◌||◌, MatchBool, length, take, drop, refl, sym, ◌∙◌, ap, subst, append_assoc, append-nil, arith, take_all, length-append, length-take-le, take-append-drop, drop_of_length-le, inl, inr}
 use Rattle.std.proofs.lemmas.List.{take-append-le, drop-append-le}
 use Rattle.std.proofs.lemmas.List.Concat.{flat_map-append}
-use Rattle.otel_batch.specs.PlainSpanData.{PlainSpanData, spans_in}
+use Rattle.otel_export.specs.PlainSpanData.{PlainSpanData, spans_in}
 use Rattle.opentelemetry.specs.Plain.{PlainScope}
 use Rattle.opentelemetry.specs.Plain.{PlainContext}
 use Rattle.opentelemetry_sdk.specs.Each.{Each}
@@ -26,7 +26,7 @@ use Rattle.opentelemetry.specs.PlainContexts.{empty_span_context}
 use Rattle.otel_session.specs.KeptBatches.{Grows, OnlyAppends}
 use Rattle.otel_session.specs.Headers.{child_cx}
 use Rattle.otel_session.specs.OpenSpans.{MayStart, ChildMayStart, MayDeliver}
-use Rattle.otel_session.specs.PlainReply.{PlainReply}
+use Rattle.otel_lines.specs.PlainReply.{PlainReply}
 use Rattle.otel_session.specs.SessionDelivery.{SessionState, Shows, NoneLeft, session_batches, batches_of_first, losses_of_first, exported_in, unshown}
 
 abbrev Batches : Type 0

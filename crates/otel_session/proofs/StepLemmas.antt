@@ -16,11 +16,11 @@ use Rattle.opentelemetry_sdk.specs.Ending.{end_delivers}
 use Rattle.opentelemetry_sdk.proofs.Following.{EachFollows-same, delivered_follows}
 use Rattle.opentelemetry_sdk.proofs.SpanLaws.{edited-recording}
 use Rattle.opentelemetry_sdk.specs.declared.trace.span_processor.SpanProcessor.{Ghosts}
-use Rattle.otel_session.specs.Commands.{start, child, remote, attr, event, status, inject, end, flush, shutdown}
+use Rattle.otel_lines.specs.Commands.{start, child, remote, attr, event, status, inject, end, flush, shutdown}
 use Rattle.otel_session.specs.OpenSpans.{NamedSpans, named, is_name, PutsSpan, SameSpans, StartsNamed, ChildStartsNamed, EditsNamed, EndsNamed, InjectsNamed}
 use Rattle.otel_session.specs.Headers.{SaysContext, child_cx}
 use Rattle.otel_session.specs.SessionDelivery.{Course, Histories, with_history, Describe, EditDemands, InjectDemands, StartDemands, CarriesOutOne, DemandsOne, bare_event, call_answer}
-use Rattle.otel_session.specs.declared.reply.Answer.{Answer}
+use Rattle.otel_lines.specs.declared.reply.Answer.{Answer}
 use Rattle.otel_session.proofs.NamedLemmas.{put_same}
 
 -- where a session stands

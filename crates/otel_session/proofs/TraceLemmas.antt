@@ -15,14 +15,14 @@ use Rattle.opentelemetry_sdk.specs.SpanHistory.{PlainSpan, SpanHistory, Edit, be
 use Rattle.opentelemetry_sdk.specs.Starting.{StartsOpen}
 use Rattle.opentelemetry_sdk.specs.declared.trace.span_processor.SpanProcessor.{Ghosts}
 use Rattle.opentelemetry_sdk.proofs.AgreementLemmas.{child_agrees, child_of_start}
-use Rattle.otel_session.specs.Commands.{PlainCommand, start, child, remote, attr, event, status, inject, end, flush, shutdown}
+use Rattle.otel_lines.specs.Commands.{PlainCommand, start, child, remote, attr, event, status, inject, end, flush, shutdown}
 use Rattle.otel_session.specs.Headers.{child_cx}
 use Rattle.otel_session.specs.OpenSpans.{NamedSpans, is_name}
-use Rattle.otel_session.specs.PlainReply.{PlainReply}
+use Rattle.otel_lines.specs.PlainReply.{PlainReply}
 use Rattle.otel_session.specs.SessionDelivery.{Course, Histories, with_history, Describe, EditDemands, StartDemands, ChildDemands, EndDemands, InjectDemands, Demands, DemandAll, batches_of_first}
 use Rattle.otel_session.specs.Traces.{ChildrenAgree, KeepsContexts, is_shutdown, made_span, with_child, with_children}
 use Rattle.otel_session.specs.declared.exported.KeepsBatches as keeping
-use Rattle.otel_session.specs.declared.reply.Answer.{Answer}
+use Rattle.otel_lines.specs.declared.reply.Answer.{Answer}
 use Rattle.otel_session.proofs.NamedLemmas.{is_itself, same_name}
 
 -- the span context of a history

@@ -4,8 +4,8 @@ use Rattle.opentelemetry.specs.Plain.{PlainContext, PlainSpanContext}
 use Rattle.opentelemetry.specs.Tracestate.{tracestate_text}
 use Rattle.otel_base.specs.Traceparent.{IsTraceparent, IsValid, traceparent_of}
 use Rattle.opentelemetry.specs.PlainContexts.{root_cx}
-use Rattle.otel_session.specs.declared.reply.Answer.{Answer}
-use Rattle.otel_session.specs.declared.reply.Answer.TheVariants as answers
+use Rattle.otel_lines.specs.declared.reply.Answer.{Answer}
+use Rattle.otel_lines.specs.declared.reply.Answer.TheVariants as answers
 
 -- the context in which the span of this span context is active, and nothing else is handed on
 abbrev pub child_cx : PlainSpanContext → PlainContext

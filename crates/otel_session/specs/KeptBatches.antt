@@ -5,16 +5,16 @@ use Rattle.std.specs.declared.alloc.AllocError.{AllocError}
 use Rattle.std.proofs.Common.{ap, sym, ◌∙◌, append-nil, inl, inr}
 use Rattle.opentelemetry.specs.Plain.{PlainContext}
 use Rattle.otel_base.specs.declared.error.OTelSdkError.{OTelSdkError}
-use Rattle.otel_batch.specs.ExporterKinds.{ExporterGives}
-use Rattle.otel_batch.specs.PlainSpanData.{PlainSpanData, is_sampled}
-use Rattle.otel_batch.specs.RestsOr.{RestsOr}
-use Rattle.otel_batch.specs.StoredBatches.{StoredBatches, StoresBatch}
-use Rattle.otel_batch.specs.declared.trace.exporter_box.ExporterOf.{ExporterOf}
-use Rattle.otel_batch.specs.declared.trace.exporter_box.ExporterOf.TheVariants as exporters
+use Rattle.otel_export.specs.ExporterKinds.{ExporterGives}
+use Rattle.otel_export.specs.PlainSpanData.{PlainSpanData, is_sampled}
+use Rattle.otel_export.specs.RestsOr.{RestsOr}
+use Rattle.otel_export.specs.StoredBatches.{StoredBatches, StoresBatch}
+use Rattle.otel_export.specs.declared.trace.exporter_box.ExporterOf.{ExporterOf}
+use Rattle.otel_export.specs.declared.trace.exporter_box.ExporterOf.TheVariants as exporters
 use Rattle.opentelemetry_sdk.specs.ProcessorKinds.{ProcessorGives}
 use Rattle.opentelemetry_sdk.specs.SpanHistory.{PlainSpan}
 use Rattle.opentelemetry_sdk.specs.declared.trace.span_processor.SpanProcessor.{Ghosts}
-use Rattle.otel_batch.specs.declared.trace.export.SpanExporter as exporting
+use Rattle.otel_export.specs.declared.trace.export.SpanExporter as exporting
 use Rattle.opentelemetry_sdk.specs.SimpleProcessor.{SimpleProcessor, SimpleEnds, ExportsIf}
 use Rattle.opentelemetry_sdk.specs.declared.trace.processor.ProcessorOf.{ProcessorOf}
 use Rattle.opentelemetry_sdk.specs.declared.trace.processor.ProcessorOf.TheVariants as kinds

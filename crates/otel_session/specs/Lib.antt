@@ -1,14 +1,6 @@
-pub mod AnswerText
-pub mod Commands
 pub mod Headers
 pub mod KeptBatches
-pub mod Lines
 pub mod OpenSpans
-pub mod PlainReply
-pub mod ReplyText
 pub mod Program
 pub mod SessionDelivery
-pub mod StepAnswers
-pub mod StepLines
-pub mod StepTexts
 pub mod Traces

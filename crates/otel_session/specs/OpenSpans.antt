@@ -7,16 +7,16 @@ use Rattle.opentelemetry.specs.Plain.{PlainContext, PlainScope}
 use Rattle.opentelemetry.specs.PlainSpanBuilder.{named_builder}
 use Rattle.otel_base.specs.declared.trace.sampler.ShouldSample as sampling
 use Rattle.otel_base.specs.declared.trace.id_generator.IdGenerator as drawing
-use Rattle.otel_batch.specs.PlainSpanData.{PlainSpanData}
+use Rattle.otel_export.specs.PlainSpanData.{PlainSpanData}
 use Rattle.opentelemetry_sdk.specs.SpanHistory.{PlainSpan, SpanHistory, span_of, Edit, edited, ended}
 use Rattle.opentelemetry_sdk.specs.Each.{AskedAll}
 use Rattle.opentelemetry_sdk.specs.Provider.{ProviderState}
 use Rattle.opentelemetry_sdk.specs.Starting.{OnlyDraws, Starts}
 use Rattle.opentelemetry_sdk.specs.Ending.{TakesAndTells, DeliversIf}
 use Rattle.opentelemetry_sdk.specs.declared.trace.span_processor.SpanProcessor.{Ghosts}
-use Rattle.otel_session.specs.declared.reply.Answer.{Answer}
-use Rattle.otel_session.specs.declared.reply.Answer.TheVariants as answers
-use Rattle.otel_session.specs.declared.reply.SpanIdentity.{SpanIdentity}
+use Rattle.otel_lines.specs.declared.reply.Answer.{Answer}
+use Rattle.otel_lines.specs.declared.reply.Answer.TheVariants as answers
+use Rattle.otel_lines.specs.declared.reply.SpanIdentity.{SpanIdentity}
 use Rattle.otel_session.specs.Headers.{AnswersHeaders, SaysContext, child_cx}
 
 -- spans, each under the bytes of its name

@@ -11,9 +11,9 @@ use Rattle.otel_base.specs.declared.trace.sampler.SamplerOf.{SamplerOf}
 use Rattle.otel_base.specs.declared.trace.sampler.ShouldSample as sampling
 use Rattle.otel_base.specs.declared.trace.id_generator.IdGenerator as drawing
 use Rattle.otel_batch.specs.MachineState.{Machine}
-use Rattle.otel_batch.specs.StoredBatches.{StoredBatches}
-use Rattle.otel_batch.specs.declared.trace.exporter_box.ExporterOf.{ExporterOf}
-use Rattle.otel_batch.specs.declared.trace.exporter_box.ExporterOf.TheVariants as exporters
+use Rattle.otel_export.specs.StoredBatches.{StoredBatches}
+use Rattle.otel_export.specs.declared.trace.exporter_box.ExporterOf.{ExporterOf}
+use Rattle.otel_export.specs.declared.trace.exporter_box.ExporterOf.TheVariants as exporters
 use Rattle.opentelemetry_sdk.specs.Provider.{ProviderState}
 use Rattle.opentelemetry_sdk.specs.SimpleProcessor.{SimpleProcessor}
 use Rattle.opentelemetry_sdk.specs.declared.trace.processor.ProcessorOf.{ProcessorOf}
@@ -21,10 +21,10 @@ use Rattle.opentelemetry_sdk.specs.declared.trace.processor.ProcessorOf.TheVaria
 use Rattle.opentelemetry_sdk.specs.declared.trace.span_processor.SpanProcessor.{Ghosts}
 use Rattle.otel_session.specs.declared.exported.KeepsBatches as keeping
 use Rattle.otel_session.specs.KeptBatches.{exporter_keeps, exporter_loses, processor_keeps, processor_loses}
-use Rattle.otel_session.specs.Lines.{IsMoment}
+use Rattle.otel_lines.specs.Lines.{IsMoment}
 use Rattle.otel_session.specs.SessionDelivery.{Finishes, session_under}
-use Rattle.otel_session.specs.StepAnswers.{AnswersLines, machine_of}
-use Rattle.otel_session.specs.declared.steps.Sizes.{Sizes}
+use Rattle.otel_lines.specs.StepAnswers.{AnswersLines, machine_of}
+use Rattle.otel_lines.specs.declared.steps.Sizes.{Sizes}
 
 -- the words `trace SEED simple`, where the seed is written as a moment is: in decimal digits alone, in range of 64 bits
 abbrev pub AsksFor : List (List ℕ) → ℕ → Type 0

@@ -11,7 +11,7 @@ use Rattle.otel_base.specs.declared.error.OTelSdkError.{OTelSdkError}
 use Rattle.otel_base.specs.declared.error.OTelSdkError.TheVariants as errors
 use Rattle.otel_base.specs.declared.trace.sampler.ShouldSample as sampling
 use Rattle.otel_base.specs.declared.trace.id_generator.IdGenerator as drawing
-use Rattle.otel_batch.specs.PlainSpanData.{PlainSpanData, spans_in}
+use Rattle.otel_export.specs.PlainSpanData.{PlainSpanData, spans_in}
 use Rattle.opentelemetry_sdk.specs.SpanHistory.{SpanHistory, begun, over, SpanStart, Edit, set_attribute, add_event, set_status, data_of, span_of}
 use Rattle.opentelemetry_sdk.specs.Deliveries.{Delivery, EachFollows, EachOpenHears}
 use Rattle.opentelemetry_sdk.specs.Hops.{GoesByParents}
@@ -20,20 +20,20 @@ use Rattle.opentelemetry_sdk.specs.Starting.{Starts}
 use Rattle.opentelemetry_sdk.specs.Ending.{Delivers, end_delivers}
 use Rattle.opentelemetry_sdk.specs.declared.trace.span_processor.SpanProcessor.{Ghosts}
 use Rattle.otel_session.specs.declared.exported.KeepsBatches as keeping
-use Rattle.otel_session.specs.Commands.{PlainCommand, start, child, remote, attr, event, status, inject, end, flush, shutdown, may_lose, plain_command, plain_commands}
+use Rattle.otel_lines.specs.Commands.{PlainCommand, start, child, remote, attr, event, status, inject, end, flush, shutdown, may_lose, plain_command, plain_commands}
 use Rattle.otel_session.specs.KeptBatches.{Grows}
 use Rattle.otel_session.specs.Headers.{AnswersHeaders, SaysContext, child_cx}
 use Rattle.otel_session.specs.OpenSpans.{NamedSpans, SameSpans, MayStart, ChildMayStart, RemoteMayStart, named, is_name, start_answer}
-use Rattle.otel_session.specs.AnswerText.{replies_text}
-use Rattle.otel_session.specs.Lines.{SpellsNothing, TextSpells}
-use Rattle.otel_session.specs.PlainReply.{PlainReply, NoneRefused}
-use Rattle.otel_session.specs.ReplyText.{span_lines}
+use Rattle.otel_lines.specs.AnswerText.{replies_text}
+use Rattle.otel_lines.specs.Lines.{SpellsNothing, TextSpells}
+use Rattle.otel_lines.specs.PlainReply.{PlainReply, NoneRefused}
+use Rattle.otel_lines.specs.ReplyText.{span_lines}
 use Rattle.otel_session.specs.Traces.{ChildrenAgree, KeepsContexts}
 use Rattle.otel_session.specs.declared.session.FeedError.{FeedError}
 use Rattle.otel_session.specs.declared.session.FeedError.TheVariants as feeds
-use Rattle.otel_session.specs.declared.command.Command.{Command}
-use Rattle.otel_session.specs.declared.reply.Answer.{Answer}
-use Rattle.otel_session.specs.declared.reply.Answer.TheVariants as answers
+use Rattle.otel_lines.specs.declared.command.Command.{Command}
+use Rattle.otel_lines.specs.declared.reply.Answer.{Answer}
+use Rattle.otel_lines.specs.declared.reply.Answer.TheVariants as answers
 
 -- the history of the span of each name, where a start made it
 abbrev pub Histories : Type 0

@@ -3,11 +3,11 @@ use Rattle.std.specs.Prelude.{◌≡◌, ℕ, ◌||◌, ◌&&◌, Bool, true, fa
 use Rattle.opentelemetry.specs.Plain.{PlainSpanContext}
 use Rattle.otel_base.specs.Agreement.{Agrees}
 use Rattle.opentelemetry_sdk.specs.SpanHistory.{PlainSpan}
-use Rattle.otel_session.specs.Commands.{PlainCommand, child, shutdown}
+use Rattle.otel_lines.specs.Commands.{PlainCommand, child, shutdown}
 use Rattle.otel_session.specs.OpenSpans.{NamedSpans, is_name, named}
-use Rattle.otel_session.specs.PlainReply.{PlainReply}
-use Rattle.otel_session.specs.declared.reply.Answer.{Answer}
-use Rattle.otel_session.specs.declared.reply.Answer.TheVariants as answers
+use Rattle.otel_lines.specs.PlainReply.{PlainReply}
+use Rattle.otel_lines.specs.declared.reply.Answer.{Answer}
+use Rattle.otel_lines.specs.declared.reply.Answer.TheVariants as answers
 
 -- whether an answer says that a start made a span
 abbrev pub made_span : Answer → Bool

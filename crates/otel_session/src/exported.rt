@@ -2,11 +2,11 @@
 
 ghost use Rattle.std.specs.Prelude.{◌≡◌, ◌++◌, ℕ, List, map, IfOk, OnOk, drop};
 ghost use Rattle.std.specs.List.{flat_map};
-ghost use Rattle.otel_batch.specs.PlainSpanData.{PlainSpanData};
+ghost use Rattle.otel_export.specs.PlainSpanData.{PlainSpanData};
 ghost use Rattle.otel_session.specs.KeptBatches.{OnlyAppends};
 
 use opentelemetry_sdk::trace::{ProcessorOf, SimpleSpanProcessor, SpanProcessor};
-use otel_batch::trace::{ExporterOf, InMemorySpanExporter, SpanData, SpanExporter};
+use otel_export::trace::{ExporterOf, InMemorySpanExporter, SpanData, SpanExporter};
 use std::alloc::{AllocError, Global};
 
 /// A processor whose exporter may keep its batches. At a start, an end, a flush or a shutdown batches may only come
@@ -31,7 +31,7 @@ pub trait KeepsBatches: SpanProcessor {
 impl<C: SpanExporter, D: SpanProcessor> KeepsBatches
     for ProcessorOf<SimpleSpanProcessor<ExporterOf<InMemorySpanExporter, C>>, D> {
     ghost use Rattle.otel_session.specs.KeptBatches.{exporter_keeps, exporter_loses, exporter_appends, processor_keeps, processor_loses, processor_appends, processor_stays, simple_appends, simple_flushes, simple_stays, exporter_shuts};
-    ghost use Rattle.otel_batch.specs.RestsOr.{RestsOr};
+    ghost use Rattle.otel_export.specs.RestsOr.{RestsOr};
 
     ghost kept = { processor_keeps (λ simple. exporter_keeps simple.exporter) };
 

@@ -4,10 +4,10 @@ ghost use Rattle.opentelemetry.specs.PlainContexts.{current_span_context};
 ghost use Rattle.std.specs.Prelude.{IfOk, string_bytes};
 ghost use Rattle.otel_session.specs.Headers.{AnswersHeaders, SaysContext};
 
-use crate::reply::Answer;
 use opentelemetry::Context;
 use opentelemetry::propagation::{Extractor, Injector, MapCarrier, TextMapPropagator};
 use otel_base::propagation::TraceContextPropagator;
+use otel_lines::Answer;
 use std::alloc::{AllocError, Global};
 
 /// The context that a `traceparent` says, without a `tracestate` beside it.

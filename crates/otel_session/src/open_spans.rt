@@ -22,10 +22,10 @@ ghost use Rattle.otel_session.specs.OpenSpans.{
 };
 
 use crate::headers::answer_with_headers;
-use crate::reply::{Answer, SpanIdentity};
 use opentelemetry::{Context, Moment};
 use opentelemetry_sdk::trace::{ProviderOf, SdkTracer, Span, SpanEdit, SpanProcessor};
 use otel_base::trace::{IdGenerator, ShouldSample};
+use otel_lines::{Answer, SpanIdentity};
 use std::alloc::{AllocError, Global};
 use std::collections::BTreeMap;
 use std::marker::Model;

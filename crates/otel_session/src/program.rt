@@ -4,15 +4,13 @@
 ghost use Rattle.std.specs.Prelude.{◌≡◌, ◌≢◌, ◌⊎◌, ◌≤◌, ℕ, List, Some, None, IfOk, IfSome, OnOk, MatchOption, false, true, map, string_bytes};
 ghost use Rattle.std.specs.Io.KnownBytes.{Appends, IsAtEnd};
 ghost use Rattle.otel_batch.specs.MachineState.{Machine};
-ghost use Rattle.otel_batch.specs.StoredBatches.{StoredBatches};
+ghost use Rattle.otel_export.specs.StoredBatches.{StoredBatches};
 ghost use Rattle.otel_session.specs.SessionDelivery.{Finishes, session_under};
 ghost use Rattle.otel_session.specs.Program.{AsksFor, AsksForNoTrace, AsksForNothing, AsksForSteps, IsProviderOfSeed, StepsSized, TracesSeed, TracesWhole, WriteSizes, WritesText, bad_line_text, usage_text};
-ghost use Rattle.otel_session.specs.StepAnswers.{AnswersLines, machine_of};
+ghost use Rattle.otel_lines.specs.StepAnswers.{AnswersLines, machine_of};
 
 use crate::exported::KeepsBatches;
-use crate::lines::number_of;
 use crate::session::{FeedError, Session};
-use crate::steps::{Sizes, answer_lines, machine_sized};
 use opentelemetry::trace::{Link, SpanKind, TraceState};
 use opentelemetry::{Context, KeyValue, TraceId};
 use opentelemetry_sdk::trace::{ProcessorOf, ProviderOf, SimpleSpanProcessor, SpanProcessor};
@@ -22,7 +20,9 @@ use otel_base::trace::{
     ConfigOf, IdGenerator, RandomIdGenerator, SamplerOf, SamplingDecision, SamplingResult,
     ShouldSample, SpanLimits,
 };
-use otel_batch::trace::{ExporterOf, InMemorySpanExporter, SpanData, SpanExporter};
+use otel_export::trace::{ExporterOf, InMemorySpanExporter, SpanData, SpanExporter};
+use otel_lines::lines::number_of;
+use otel_lines::steps::{Sizes, answer_lines, machine_sized};
 use std::alloc::{AllocError, Global};
 use std::io;
 use std::io::{Read, Write};

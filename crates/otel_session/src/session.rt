@@ -5,14 +5,14 @@ ghost use Rattle.std.specs.Prelude.{◌≡◌, ◌++◌, drop, false, length, ma
 ghost use Rattle.std.specs.List.{flat_map};
 ghost use Rattle.opentelemetry.specs.Plain.{scope_named, text};
 ghost use Rattle.opentelemetry.specs.PlainContexts.{root_cx};
-ghost use Rattle.otel_batch.specs.PlainSpanData.{spans_in};
+ghost use Rattle.otel_export.specs.PlainSpanData.{spans_in};
 ghost use Rattle.opentelemetry_sdk.specs.SpanEdits.{plain_edit};
 ghost use Rattle.opentelemetry_sdk.specs.SpanHistory.{set_attribute};
-ghost use Rattle.otel_session.specs.Commands.{is_end, may_lose, plain_command};
-ghost use Rattle.otel_session.specs.AnswerText.{answer_line};
+ghost use Rattle.otel_lines.specs.Commands.{is_end, may_lose, plain_command};
+ghost use Rattle.otel_lines.specs.AnswerText.{answer_line};
 ghost use Rattle.otel_session.specs.KeptBatches.{Grows};
-ghost use Rattle.otel_session.specs.PlainReply.{counts_refusals};
-ghost use Rattle.otel_session.specs.ReplyText.{span_lines};
+ghost use Rattle.otel_lines.specs.PlainReply.{counts_refusals};
+ghost use Rattle.otel_lines.specs.ReplyText.{span_lines};
 ghost use Rattle.otel_session.specs.SessionDelivery.{
   CarriesOutOne,
   Closes,
@@ -36,19 +36,17 @@ ghost use Rattle.otel_session.specs.SessionDelivery.{
   unshown,
 };
 
-use crate::command::Command;
 use crate::exported::{KeepsBatches, batches_since, copied_spans};
 use crate::headers::remote_context;
-use crate::lines::parse;
 use crate::open_spans::OpenSpans;
-use crate::reply::{Answer, Reply};
-use crate::reply_text::{write_batches, write_reply};
 use opentelemetry::trace::Event;
 use opentelemetry::{Context, Key, KeyValue, Moment, Value};
 use opentelemetry_sdk::trace::{ProviderOf, SdkTracer, SpanEdit, SpanProcessor};
 use otel_base::error::{OTelSdkError, OTelSdkResult};
 use otel_base::trace::{IdGenerator, ShouldSample};
-use otel_batch::trace::SpanData;
+use otel_export::trace::SpanData;
+use otel_lines::reply_text::{write_batches, write_reply};
+use otel_lines::{Answer, Command, Reply, parse};
 use std::alloc::{AllocError, Global};
 use std::collections::VecDeque;
 use std::marker::Model;

@@ -6,7 +6,7 @@ use crate::trace::{SimpleSpanProcessor, Span, SpanProcessor};
 use opentelemetry::Context;
 use otel_base::error::OTelSdkResult;
 use otel_base::resource::Resource;
-use otel_batch::trace::{ExporterBox, SpanData};
+use otel_export::trace::{ExporterBox, SpanData};
 use std::alloc::AllocError;
 use std::time::Duration;
 
@@ -21,7 +21,7 @@ pub enum ProcessorOf<S, C> {
 pub type Processor = ProcessorOf<SimpleSpanProcessor<ExporterBox>, Box<dyn SpanProcessor>>;
 
 impl<S: SpanProcessor, C: SpanProcessor> SpanProcessor for ProcessorOf<S, C> {
-    ghost use Rattle.otel_batch.specs.RestsOr.{RestsOr};
+    ghost use Rattle.otel_export.specs.RestsOr.{RestsOr};
     ghost use Rattle.opentelemetry_sdk.specs.ProcessorKinds.{ProcessorGives};
     ghost use Rattle.opentelemetry_sdk.specs.declared.trace.processor.ProcessorOf.TheVariants as kinds;
 

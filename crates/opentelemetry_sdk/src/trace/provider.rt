@@ -5,7 +5,7 @@
 ghost use Rattle.std.specs.Prelude.{◌≡◌, ◌-◌, ◌≤◌, ◌↔◌, [], length, map, replicate, vec_len, false, true, Ok, IfErr, IfOk, IsOk, IsErrOf, string_bytes};
 ghost use Rattle.std.specs.Bool.{OnTrue, OnFalse};
 ghost use Rattle.std.specs.Duration.{as_nanos};
-ghost use Rattle.otel_batch.specs.PlainSpanData.{PlainSpanData};
+ghost use Rattle.otel_export.specs.PlainSpanData.{PlainSpanData};
 ghost use Rattle.opentelemetry.specs.Plain.{scope_named};
 ghost use Rattle.opentelemetry_sdk.specs.Deliveries.{EachFollows};
 ghost use Rattle.opentelemetry_sdk.specs.Each.{AskedAll};
@@ -18,7 +18,7 @@ use crate::trace::{Processor, SdkTracer, Span, SpanProcessor};
 use opentelemetry::{Context, InstrumentationScope, Moment, SpanId, TraceId};
 use otel_base::error::{OTelSdkError, OTelSdkResult};
 use otel_base::trace::{ConfigOf, IdGenerator, IdSource, Sampler, SpanLimits};
-use otel_batch::trace::SpanData;
+use otel_export::trace::SpanData;
 use std::alloc::{AllocError, Global};
 use std::marker::Model;
 use std::time::Duration;

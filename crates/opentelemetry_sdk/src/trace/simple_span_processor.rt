@@ -7,7 +7,7 @@ use crate::trace::{Span, SpanProcessor};
 use opentelemetry::Context;
 use otel_base::error::OTelSdkResult;
 use otel_base::resource::Resource;
-use otel_batch::trace::{SpanData, SpanExporter};
+use otel_export::trace::{SpanData, SpanExporter};
 use std::alloc::{AllocError, Global};
 use std::marker::Model;
 use std::time::Duration;

@@ -16,7 +16,7 @@ use crate::trace::{ProviderOf, SpanEdit, SpanProcessor};
 use opentelemetry::trace::{Event, Link, SpanContext, Status};
 use opentelemetry::{KeyValue, Moment};
 use otel_base::trace::SpanLimits;
-use otel_batch::trace::SpanData;
+use otel_export::trace::SpanData;
 use std::alloc::AllocError;
 use std::marker::Model;
 

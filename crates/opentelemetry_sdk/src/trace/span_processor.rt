@@ -20,8 +20,8 @@ ghost use Rattle.std.specs.declared.alloc.AllocError.{AllocError};
 ghost use Rattle.opentelemetry.specs.Plain.{PlainContext};
 ghost use Rattle.otel_base.specs.Resource.{PlainResource};
 ghost use Rattle.otel_base.specs.declared.error.OTelSdkError.{OTelSdkError};
-ghost use Rattle.otel_batch.specs.PlainSpanData.{PlainSpanData};
-ghost use Rattle.otel_batch.specs.RestsOr.{RestsOr};
+ghost use Rattle.otel_export.specs.PlainSpanData.{PlainSpanData};
+ghost use Rattle.otel_export.specs.RestsOr.{RestsOr};
 ghost use Rattle.opentelemetry_sdk.specs.ProcessorTelling.{ProcessorTelling, TakesNothing, TakesSpan, silent};
 ghost use Rattle.opentelemetry_sdk.specs.SpanHistory.{PlainSpan, IsEdited};
 
@@ -29,7 +29,7 @@ use crate::trace::Span;
 use opentelemetry::Context;
 use otel_base::error::OTelSdkResult;
 use otel_base::resource::Resource;
-use otel_batch::trace::SpanData;
+use otel_export::trace::SpanData;
 use std::alloc::AllocError;
 use std::time::Duration;
 
@@ -103,7 +103,7 @@ pub trait SpanProcessor: Drop {
 
 impl SpanProcessor for Box<dyn SpanProcessor> {
     ghost use Rattle.std.specs.Prelude.{◌≡◌};
-    ghost use Rattle.otel_batch.specs.RestsOr.{RestsOr};
+    ghost use Rattle.otel_export.specs.RestsOr.{RestsOr};
 
     ghost told = { λ b. (SpanProcessor-box b).told b.value };
 

@@ -20,7 +20,7 @@ use crate::trace::{ProviderOf, Span, SpanProcessor};
 use opentelemetry::trace::{SpanBuilder, SpanContext, SpanKind, Status};
 use opentelemetry::{Context, InstrumentationScope, KeyValue, Moment, TraceFlags, TraceId};
 use otel_base::trace::{IdGenerator, SamplingDecision, SamplingResult, ShouldSample, SpanLimits};
-use otel_batch::trace::SpanData;
+use otel_export::trace::SpanData;
 use std::alloc::{AllocError, Global};
 use std::marker::Model;
 

@@ -8,7 +8,7 @@ use opentelemetry_sdk::trace::{ProviderOf, SimpleSpanProcessor};
 use otel_base::trace::{
     RandomIdGenerator, SamplerOf, SamplingDecision, SamplingResult, ShouldSample,
 };
-use otel_batch::trace::InMemorySpanExporter;
+use otel_export::trace::InMemorySpanExporter;
 use std::alloc::{AllocError, Global};
 use std::cell::Cell;
 use std::test::Fail;

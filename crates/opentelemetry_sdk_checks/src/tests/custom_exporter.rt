@@ -10,7 +10,7 @@ use opentelemetry_sdk::trace::{ProviderOf, SimpleSpanProcessor, Span};
 use otel_base::error::{OTelSdkError, OTelSdkResult};
 use otel_base::resource::Resource;
 use otel_base::trace::{ConfigOf, RandomIdGenerator, Sampler, SpanLimits};
-use otel_batch::trace::{SpanData, SpanExporter};
+use otel_export::trace::{SpanData, SpanExporter};
 use std::alloc::{AllocError, Global};
 use std::io::{self, Write};
 use std::test::Fail;

@@ -10,7 +10,7 @@ use opentelemetry_sdk::trace::{ProviderOf, SimpleSpanProcessor, Span, SpanProces
 use otel_base::error::OTelSdkResult;
 use otel_base::resource::Resource;
 use otel_base::trace::{ConfigOf, RandomIdGenerator, Sampler, SpanLimits};
-use otel_batch::trace::{InMemorySpanExporter, SpanData};
+use otel_export::trace::{InMemorySpanExporter, SpanData};
 use std::alloc::{AllocError, Global};
 use std::test::Fail;
 use std::time::Duration;

@@ -14,7 +14,7 @@ use otel_base::resource::Resource;
 use otel_base::trace::{
     ConfigOf, RandomIdGenerator, SamplingDecision, SamplingResult, ShouldSample, SpanLimits,
 };
-use otel_batch::trace::{InMemorySpanExporter, SpanData};
+use otel_export::trace::{InMemorySpanExporter, SpanData};
 use std::alloc::{AllocError, Global};
 use std::test::Fail;
 

@@ -8,7 +8,7 @@ use opentelemetry_sdk::trace::{ProviderOf, SdkTracer, Span, SpanEdit, SpanProces
 use otel_base::error::OTelSdkResult;
 use otel_base::resource::Resource;
 use otel_base::trace::{ConfigOf, RandomIdGenerator, Sampler, ShouldSample, SpanLimits};
-use otel_batch::trace::{SpanData, SpanEvents, SpanLinks};
+use otel_export::trace::{SpanData, SpanEvents, SpanLinks};
 use std::alloc::{AllocError, Global};
 use std::cell::Cell;
 use std::time::Duration;

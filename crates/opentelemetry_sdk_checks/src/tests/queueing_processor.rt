@@ -22,7 +22,7 @@ use opentelemetry_sdk::trace::{ProviderOf, Span, SpanProcessor};
 use otel_base::error::OTelSdkResult;
 use otel_base::resource::Resource;
 use otel_base::trace::{RandomIdGenerator, Sampler};
-use otel_batch::trace::{InMemorySpanExporter, SpanData, SpanExporter};
+use otel_export::trace::{InMemorySpanExporter, SpanData, SpanExporter};
 use std::alloc::{AllocError, Global};
 use std::mem;
 use std::test::Fail;
@@ -54,7 +54,7 @@ impl<E> QueueingProcessor<E> {
 
 impl<E: SpanExporter> SpanProcessor for QueueingProcessor<E> {
     ghost use Rattle.std.specs.Prelude.{None, not};
-    ghost use Rattle.otel_batch.specs.Telling.{and_then_told};
+    ghost use Rattle.otel_export.specs.Telling.{and_then_told};
     ghost use Rattle.opentelemetry_sdk.specs.ProcessorTelling.{spans_told};
 
     // What is heard is what the exporter tells, and then what waits.

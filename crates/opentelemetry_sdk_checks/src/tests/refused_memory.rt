@@ -12,7 +12,7 @@ use opentelemetry_sdk::trace::{ProviderOf, SimpleSpanProcessor, Span, SpanEdit, 
 use otel_base::trace::{
     RandomIdGenerator, Sampler, SamplingDecision, SamplingResult, ShouldSample,
 };
-use otel_batch::trace::{InMemorySpanExporter, SpanData};
+use otel_export::trace::{InMemorySpanExporter, SpanData};
 use std::alloc::{AllocError, Global};
 use std::cell::Cell;
 use std::test::Fail;

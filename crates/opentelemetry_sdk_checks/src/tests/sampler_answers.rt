@@ -9,7 +9,7 @@ use otel_base::error::OTelSdkResult;
 use otel_base::trace::{
     RandomIdGenerator, SamplerOf, SamplingDecision, SamplingResult, ShouldSample,
 };
-use otel_batch::trace::{InMemorySpanExporter, SpanData};
+use otel_export::trace::{InMemorySpanExporter, SpanData};
 use std::alloc::{AllocError, Global};
 use std::test::Fail;
 use std::time::Duration;

@@ -5,7 +5,7 @@ use opentelemetry::Context;
 use opentelemetry_sdk::trace::{ProviderOf, Span, SpanProcessor};
 use otel_base::error::{OTelSdkError, OTelSdkResult};
 use otel_base::trace::{RandomIdGenerator, Sampler};
-use otel_batch::trace::SpanData;
+use otel_export::trace::SpanData;
 use std::alloc::{AllocError, Global};
 use std::cell::Cell;
 use std::test::Fail;

@@ -4,7 +4,7 @@ use opentelemetry::Value;
 use opentelemetry_sdk::trace::{Processor, SimpleSpanProcessor, SpanProcessor};
 use otel_base::error::{OTelSdkError, OTelSdkResult};
 use otel_base::resource::Resource;
-use otel_batch::trace::{ExporterBox, SpanData, SpanExporter};
+use otel_export::trace::{ExporterBox, SpanData, SpanExporter};
 use std::test::Fail;
 use std::time::Duration;
 

@@ -3,7 +3,7 @@ use opentelemetry::trace::{Event, Link, SpanBuilder, SpanContext, Status};
 use opentelemetry::{Context, Key, KeyValue, Moment, Value};
 use opentelemetry_sdk::trace::{ProviderOf, SdkTracer, SimpleSpanProcessor, Span, SpanEdit};
 use otel_base::trace::{RandomIdGenerator, Sampler, SpanLimits};
-use otel_batch::trace::{InMemorySpanExporter, SpanData, SpanEvents, SpanLinks};
+use otel_export::trace::{InMemorySpanExporter, SpanData, SpanEvents, SpanLinks};
 use std::alloc::{AllocError, Global};
 use std::test::Fail;
 

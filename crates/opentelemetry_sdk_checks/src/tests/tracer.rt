@@ -6,7 +6,7 @@ use opentelemetry_sdk::trace::{ProcessorOf, ProviderOf, SimpleSpanProcessor, Spa
 use otel_base::error::OTelSdkResult;
 use otel_base::propagation::TraceContextPropagator;
 use otel_base::trace::{RandomIdGenerator, Sampler};
-use otel_batch::trace::{InMemorySpanExporter, SpanData};
+use otel_export::trace::{InMemorySpanExporter, SpanData};
 use std::alloc::{AllocError, Global};
 use std::test::Fail;
 use std::time::Duration;

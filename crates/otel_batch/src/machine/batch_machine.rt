@@ -6,9 +6,9 @@ use crate::machine::slots::idle_slots;
 use crate::machine::state::{Message, Request, Slot, Why, Worker};
 use crate::machine::step::{Outcome, Step};
 use crate::trace::batch_config::BatchConfig;
-use crate::trace::{SpanData, SpanExporter};
 use circular_buffer::HeapCircularBuffer;
 use otel_base::error::OTelSdkResult;
+use otel_export::trace::{SpanData, SpanExporter};
 use std::alloc::{AllocError, Global};
 use std::marker::Model;
 

@@ -11,8 +11,8 @@ use crate::machine::slots::{
 };
 use crate::machine::state::{Message, Request, Slot};
 use crate::machine::step::Outcome;
-use crate::trace::{SpanData, SpanExporter};
 use otel_base::resource::Resource;
+use otel_export::trace::{SpanData, SpanExporter};
 
 impl<E: SpanExporter> BatchMachine<E> {
     ghost use Rattle.otel_batch.specs.MachineState.{counts};

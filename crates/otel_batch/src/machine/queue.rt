@@ -5,7 +5,7 @@ ghost use Rattle.otel_batch.specs.MachineState.{batch_limit as limit_by};
 ghost use Rattle.otel_batch.specs.Messages.{message_of as message_by};
 
 use crate::machine::state::{Message, Request};
-use crate::trace::SpanData;
+use otel_export::trace::SpanData;
 
 /// The most spans that the next batch may have.
 pub(super) fn batch_limit(queue_size: usize, batch_size: usize, target: u128, done: u128) -> usize

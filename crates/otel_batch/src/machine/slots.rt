@@ -9,9 +9,9 @@ ghost use Rattle.otel_batch.specs.PermittedStep.{IsDropped, SaysDropped, IsError
 ghost use Rattle.otel_batch.specs.declared.machine.state.Slot.TheVariants as slot;
 
 use crate::machine::state::{Message, Slot};
-use crate::trace::SpanData;
 use circular_buffer::HeapCircularBuffer;
 use otel_base::error::{OTelSdkError, OTelSdkResult};
+use otel_export::trace::SpanData;
 use std::alloc::{AllocError, Global};
 use std::mem;
 

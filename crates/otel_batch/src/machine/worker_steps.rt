@@ -9,8 +9,8 @@ use crate::machine::queue::{batch_limit, has_room};
 use crate::machine::slots::{drop_requests, error_of, set_slot};
 use crate::machine::state::{Message, Slot, Why, Worker};
 use crate::machine::step::Outcome;
-use crate::trace::SpanExporter;
 use otel_base::error::OTelSdkError;
+use otel_export::trace::SpanExporter;
 use std::mem;
 
 impl<E: SpanExporter> BatchMachine<E> {

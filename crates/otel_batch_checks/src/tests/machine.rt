@@ -11,7 +11,7 @@ use crate::tests::machine::script::{
 };
 use otel_base::error::{OTelSdkError, OTelSdkResult};
 use otel_batch::machine::{BatchMachine, Outcome, Slot, Step, Worker};
-use otel_batch::trace::{ExporterBox, SpanData, SpanExporter};
+use otel_export::trace::{ExporterBox, SpanData, SpanExporter};
 use std::alloc::{AllocError, Global};
 use std::test::Fail;
 use std::time::Duration;

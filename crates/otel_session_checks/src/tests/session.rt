@@ -9,9 +9,10 @@ use otel_base::resource::Resource;
 use otel_base::trace::{
     Config, IdGenerator, IdSource, RandomIdGenerator, Sampler, ShouldSample, SpanLimits,
 };
-use otel_batch::trace::{ExporterBox, InMemorySpanExporter, SpanData, SpanExporter};
+use otel_export::trace::{ExporterBox, InMemorySpanExporter, SpanData, SpanExporter};
+use otel_lines::{Answer, Command, Reply, parse};
 use otel_session::exported::KeepsBatches;
-use otel_session::{Answer, Command, FeedError, Reply, Session, parse};
+use otel_session::{FeedError, Session};
 use std::alloc::{AllocError, Global};
 use std::test::Fail;
 use std::time::Duration;

@@ -6,7 +6,7 @@ use opentelemetry::Moment;
 use otel_base::resource::Resource;
 use otel_base::trace::{IdGenerator, RandomIdGenerator};
 use otel_batch::machine::{BatchMachine, Outcome, Step};
-use otel_batch::trace::{ExporterBox, ExporterOf, SpanData};
+use otel_export::trace::{ExporterBox, ExporterOf, SpanData};
 use std::alloc::{AllocError, Global};
 use std::test::Fail;
 

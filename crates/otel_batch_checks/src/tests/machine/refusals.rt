@@ -3,7 +3,7 @@
 
 use crate::tests::machine::script::{counts_text, first_difference, machine, spans_text};
 use otel_batch::machine::{BatchMachine, Outcome, Step};
-use otel_batch::trace::ExporterBox;
+use otel_export::trace::ExporterBox;
 use std::alloc::Global;
 use std::test::Fail;
 

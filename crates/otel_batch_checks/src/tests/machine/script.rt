@@ -5,9 +5,9 @@ use opentelemetry::trace::{SpanContext, SpanKind, Status, TraceState};
 use opentelemetry::{InstrumentationScope, Moment, SpanId, TraceFlags, TraceId};
 use otel_base::resource::Resource;
 use otel_batch::machine::{BatchMachine, Outcome, Step};
-use otel_batch::trace::{
-    BatchConfig, BatchConfigBuilder, ExporterBox, ExporterOf, InMemorySpanExporter, SpanData,
-    SpanEvents, SpanLinks,
+use otel_batch::trace::{BatchConfig, BatchConfigBuilder};
+use otel_export::trace::{
+    ExporterBox, ExporterOf, InMemorySpanExporter, SpanData, SpanEvents, SpanLinks,
 };
 use std::alloc::{AllocError, Global};
 use std::test::Fail;

@@ -7,7 +7,7 @@ use opentelemetry::Value;
 use otel_base::error::OTelSdkResult;
 use otel_base::resource::Resource;
 use otel_batch::machine::{BatchMachine, Outcome, Step};
-use otel_batch::trace::{SpanData, SpanExporter};
+use otel_export::trace::{SpanData, SpanExporter};
 use std::alloc::Global;
 use std::test::Fail;
 use std::time::Duration;

@@ -3,12 +3,12 @@ use Rattle.opentelemetry.specs.Plain.{PlainContext}
 use Rattle.opentelemetry_sdk.specs.SpanEdits.{plain_edit}
 use Rattle.opentelemetry.specs.PlainValues.{plain_status}
 use Rattle.opentelemetry_sdk.specs.SpanHistory.{Edit, set_status}
-use Rattle.otel_session.specs.Commands.{plain_command, is_end, may_lose}
+use Rattle.otel_lines.specs.Commands.{plain_command, is_end, may_lose}
 use Rattle.otel_session.specs.OpenSpans.{ChildMayStart, ChildStartsNamed, EditsNamed, EndsNamed, InjectsNamed, MayStart, StartsNamed, named}
 use Rattle.otel_session.specs.SessionDelivery.{CarriesOutOne, RefusesOne, batches_of_first, call_answer}
-use Rattle.otel_session.specs.declared.command.Command.{Command}
-use Rattle.otel_session.specs.declared.reply.Answer.{Answer}
-use Rattle.otel_session.proofs.Clauses.{if_ok_map, on_err_map}
+use Rattle.otel_lines.specs.declared.command.Command.{Command}
+use Rattle.otel_lines.specs.declared.reply.Answer.{Answer}
+use Rattle.otel_lines.proofs.Clauses.{if_ok_map, on_err_map}
 use Rattle.otel_session.proofs.StepLemmas.{carries_start, carries_child, carries_attr, carries_event, carries_status, carries_end, carries_flush, carries_inject, carries_remote, carries_shutdown}
 use Rattle.otel_session.proofs.ShownLemmas.{appends_none, may_start_keeps, child_may_start_keeps, may_deliver_keeps, flush_keeps, shutdown_keeps}
 use Rattle.otel_session.proofs.session.carry_out.Goals as goal

@@ -1,6 +1,6 @@
 use Rattle.std.proofs.Common.{rules, ◌≡◌, ◌∙◌, ◌-◌, ◌++◌, ◌≤◌, take, length, ap, arith}
 use Rattle.std.proofs.lemmas.List.{length-take}
-use Rattle.otel_batch.specs.PlainSpanData.{cut_at}
+use Rattle.otel_export.specs.PlainSpanData.{cut_at}
 use Rattle.opentelemetry_sdk.proofs.Cutting.{cut_joined}
 use Rattle.opentelemetry_sdk.proofs.trace.limits.joined_within.Goals as goal
 

@@ -1,5 +1,5 @@
 use Rattle.std.proofs.Common.{◌≡◌, ℕ, suc, ◌-◌, ◌+◌, [], ◌∷◌, ◌++◌, length, replicate, arith, ◌∙◌, sym, rules, ap, subst, get_or}
-use Rattle.otel_batch.specs.PlainSpanData.{PlainSpanData}
+use Rattle.otel_export.specs.PlainSpanData.{PlainSpanData}
 use Rattle.opentelemetry_sdk.specs.Ending.{TakesAndTells}
 use Rattle.opentelemetry_sdk.proofs.EachLemmas.{asked_next, rest_more, err_answer, ok_answer, with_answer, last_copy}
 use Rattle.opentelemetry_sdk.proofs.trace.provider.end_copies.Goals as goal

@@ -1,5 +1,5 @@
 use Rattle.std.proofs.Common.{◌≡◌, ◌+◌, ◌-◌, take, drop, ◌≤◌, length, replicate, vec_len}
-use Rattle.otel_batch.specs.PlainSpanData.{PlainSpanData}
+use Rattle.otel_export.specs.PlainSpanData.{PlainSpanData}
 use Rattle.opentelemetry_sdk.specs.Each.{AskedAll}
 use Rattle.opentelemetry_sdk.specs.Ending.{TakesAndTells}
 use Rattle.opentelemetry_sdk.proofs.trace.provider.end_copies.Given as goal

@@ -1,7 +1,7 @@
 use Rattle.std.proofs.Common.{◌≡◌, ◌∙◌, sym, ap, Some, None, rules, refl, subst, OnErr, Option, Bool, if◌then◌else◌}
 use Rattle.opentelemetry_sdk.specs.SpanEdits.{plain_edit}
 use Rattle.opentelemetry_sdk.specs.SpanHistory.{PlainSpan}
-use Rattle.otel_session.specs.declared.reply.Answer.TheVariants as answers
+use Rattle.otel_lines.specs.declared.reply.Answer.TheVariants as answers
 use Rattle.otel_session.specs.OpenSpans.{EditsNamed, NamedSpans, PutsSpan, SameSpans, named, by_name}
 use Rattle.opentelemetry.proofs.Results.{always_on_err}
 use Rattle.otel_session.proofs.NamedLemmas.{named-get, puts_span, put_same, same_entries}

@@ -1,7 +1,7 @@
 use Rattle.std.proofs.Common.{◌≡◌, ◌++◌, ◌∙◌, sym, ap, List, OnOk, drop, subst}
 use Rattle.std.proofs.lemmas.List.Folds.{flat_map-map}
-use Rattle.otel_batch.specs.PlainSpanData.{PlainSpanData, spans_in}
-use Rattle.otel_session.specs.ReplyText.{span_lines}
+use Rattle.otel_export.specs.PlainSpanData.{PlainSpanData, spans_in}
+use Rattle.otel_lines.specs.ReplyText.{span_lines}
 use Rattle.otel_session.specs.SessionDelivery.{SessionState, Closes, batches_of_first}
 use Rattle.otel_session.proofs.CloseLemmas.{closes}
 use Rattle.otel_session.proofs.session.Session.close.Goals as goal

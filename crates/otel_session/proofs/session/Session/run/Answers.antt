@@ -1,5 +1,5 @@
 use Rattle.std.proofs.Common.{rules, [], ◌∷◌, ◌++◌, List, ap, sym, ◌∙◌, append_assoc, append-nil, inr}
-use Rattle.otel_session.specs.PlainReply.{PlainReply}
+use Rattle.otel_lines.specs.PlainReply.{PlainReply}
 use Rattle.otel_session.specs.SessionDelivery.{RunsBeginning}
 use Rattle.opentelemetry.proofs.Results.{always_on_err}
 use Rattle.otel_session.proofs.RunLemmas.{ran_nothing, ran_all, ran_more, ran_refused}

@@ -1,6 +1,6 @@
 use Rattle.std.proofs.Common.{◌≡◌, ◌++◌, List}
 use Rattle.std.specs.VecDeque.{deque_len}
-use Rattle.otel_session.specs.PlainReply.{PlainReply}
+use Rattle.otel_lines.specs.PlainReply.{PlainReply}
 use Rattle.otel_session.proofs.RunLemmas.{Ran}
 use Rattle.otel_session.proofs.session.Session.run.Given as goal
 

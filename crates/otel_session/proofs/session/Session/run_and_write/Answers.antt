@@ -1,5 +1,5 @@
 use Rattle.std.proofs.Common.{rules, [], ◌∷◌, ◌++◌, sym, refl, subst, ap, ◌∙◌, append-nil, inr, length}
-use Rattle.otel_session.specs.PlainReply.{PlainReply}
+use Rattle.otel_lines.specs.PlainReply.{PlainReply}
 use Rattle.otel_session.specs.SessionDelivery.{SessionState, WritesBeginning, session_batches, unshown}
 use Rattle.otel_session.proofs.FeedLemmas.{written_more, none_refused_more}
 use Rattle.opentelemetry.proofs.Results.{always_on_err}

@@ -1,7 +1,7 @@
 use Rattle.std.proofs.Common.{◌≡◌, ◌++◌, List}
 use Rattle.std.specs.VecDeque.{deque_len}
-use Rattle.otel_session.specs.AnswerText.{replies_text}
-use Rattle.otel_session.specs.PlainReply.{PlainReply, NoneRefused}
+use Rattle.otel_lines.specs.AnswerText.{replies_text}
+use Rattle.otel_lines.specs.PlainReply.{PlainReply, NoneRefused}
 use Rattle.otel_session.proofs.RunLemmas.{Ran}
 use Rattle.otel_session.proofs.session.Session.run_and_write.Given as goal
 

@@ -1,5 +1,5 @@
 use Rattle.std.proofs.Common.{◌∙◌, inr}
-use Rattle.otel_batch.specs.RestsOr.{RestsOr}
+use Rattle.otel_export.specs.RestsOr.{RestsOr}
 use Rattle.otel_base.proofs.Behind.{behind, same_behind}
 use Rattle.opentelemetry_sdk.proofs.trace.span_processor.BoxDynSpanProcessorSpanProcessor.set_resource.Goals as goal
 

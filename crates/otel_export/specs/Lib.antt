@@ -1,0 +1,6 @@
+pub mod PlainSpanData
+pub mod SameSpanData
+pub mod StoredBatches
+pub mod ExporterKinds
+pub mod RestsOr
+pub mod Telling

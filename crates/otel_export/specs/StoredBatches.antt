@@ -1,0 +1,24 @@
+use Rattle.std.specs.Prelude.{◌≡◌, ℕ, zero, suc, ◌+◌, ◌-◌, ◌^◌, List, [], ◌∷◌, ◌++◌, Option, Some, None, Result, MatchResult, min}
+use Rattle.otel_base.specs.declared.error.OTelSdkError.{OTelSdkError}
+use Rattle.otel_base.specs.declared.error.OTelSdkError.TheVariants as errors
+use Rattle.otel_export.specs.PlainSpanData.{PlainSpanData}
+
+-- the batches that are kept, and how many others were handed over
+pub record StoredBatches : Type 0 where
+  pub batches : List (List PlainSpanData)
+  pub lost : ℕ
+
+-- one more batch was lost
+abbrev pub one_more : ℕ → ℕ
+one_more lost = min (lost + 1) (2 ^ 64 - 1)
+
+-- the batches are told until one was lost
+abbrev pub told_unless_lost : ℕ → List (List PlainSpanData) → Option (List (List PlainSpanData))
+told_unless_lost zero batches = Some batches
+told_unless_lost (suc _) batches = None
+
+-- an export into memory: Ok appends the batch; for want of memory the batches stay, and one more is lost
+abbrev pub StoresBatch : StoredBatches → List PlainSpanData → Result (Unit {0}) OTelSdkError → StoredBatches → Type 0
+StoresBatch old batch answer new = MatchResult answer
+    (λ _. new ≡ record old { batches = old.batches ++ batch ∷ [] })
+    (λ e. (e ≡ errors.OutOfMemory) × (new ≡ record old { lost = one_more old.lost }))

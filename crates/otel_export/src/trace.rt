@@ -1,0 +1,15 @@
+//! What an exporter is handed, the interface of exporters, and the exporter that keeps its batches in memory.
+
+pub mod events;
+pub mod export;
+pub mod exporter_box;
+pub mod in_memory_exporter;
+pub mod links;
+pub mod span_data;
+
+pub use events::SpanEvents;
+pub use export::SpanExporter;
+pub use exporter_box::{ExporterBox, ExporterOf};
+pub use in_memory_exporter::InMemorySpanExporter;
+pub use links::SpanLinks;
+pub use span_data::SpanData;

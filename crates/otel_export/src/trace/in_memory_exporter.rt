@@ -1,0 +1,86 @@
+//! The exporter that keeps its batches: for tests, for examples, and for the program that prints what was exported.
+
+ghost use Rattle.std.specs.Prelude.{◌≡◌, [], Some, map};
+ghost use Rattle.std.specs.Option.{option_map};
+
+use crate::trace::{SpanData, SpanExporter};
+use otel_base::error::{OTelSdkError, OTelSdkResult};
+use std::alloc::Global;
+use std::marker::Model;
+
+/// Keeps each batch that it was handed, in order. It tells them until one found no memory.
+#[derive(Debug, Drop)]
+pub struct InMemorySpanExporter {
+    batches: Vec<Vec<SpanData>>,
+    lost_batches: u64,
+}
+
+impl Model for InMemorySpanExporter {
+    ghost use Rattle.std.specs.Prelude.{map};
+    ghost use Rattle.otel_export.specs.StoredBatches.{StoredBatches};
+
+    ghost Value = { StoredBatches };
+
+    ghost view = { λ a. record { batches = map (λ batch. batch.items) a.batches.items; lost = a.lost_batches } };
+}
+
+impl InMemorySpanExporter {
+    pub fn new(alloc: Global) -> InMemorySpanExporter
+        ensures kept { result ≡ record { batches = []; lost = 0 } }
+        ensures told { ⟦<InMemorySpanExporter as SpanExporter>⟧.told result ≡ Some [] }
+    {
+        InMemorySpanExporter {
+            batches: Vec::new(alloc),
+            lost_batches: 0,
+        }
+    }
+
+    /// The batches, the oldest first.
+    pub fn batches(&self) -> &[Vec<SpanData>]
+        ensures { map (λ batch. batch.items) result.now ≡ self.now.batches }
+    {
+        &self.batches
+    }
+
+    /// Forgets the batches. What it tells begins anew, unless the telling has ended.
+    pub fn reset(&mut self)
+        ensures kept { self.new ≡ record self.old { batches = [] } }
+        ensures told { ⟦<InMemorySpanExporter as SpanExporter>⟧.told self.new
+            ≡ option_map (λ _. []) (⟦<InMemorySpanExporter as SpanExporter>⟧.told self.old) }
+    {
+        self.batches.clear();
+    }
+
+    /// How many batches were handed over and are not kept, since there was no memory for them. It stops at the greatest
+    /// `u64`.
+    pub fn lost_batches(&self) -> u64
+        ensures { result ≡ self.now.lost }
+    {
+        self.lost_batches
+    }
+}
+
+impl SpanExporter for InMemorySpanExporter {
+    ghost use Rattle.std.specs.Prelude.{◌≡◌, Ok};
+    ghost use Rattle.otel_export.specs.StoredBatches.{StoresBatch, told_unless_lost};
+
+    ghost told = { λ m. told_unless_lost m.lost m.batches };
+
+    ghost export_gives = { StoresBatch };
+
+    ghost shutdown_gives = { λ m _ r n. (r ≡ Ok tt) × (n ≡ m) };
+
+    ghost flush_gives = { λ m r n. (r ≡ Ok tt) × (n ≡ m) };
+
+    ghost resource_gives = { λ m _ n. n ≡ m };
+
+    fn export(&mut self, batch: Vec<SpanData>) -> OTelSdkResult {
+        match self.batches.push(batch) {
+            Ok(()) => Ok(()),
+            Err(_) => {
+                self.lost_batches = self.lost_batches.saturating_add(1);
+                Err(OTelSdkError::OutOfMemory)
+            }
+        }
+    }
+}

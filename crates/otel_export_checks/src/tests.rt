@@ -1,0 +1,4 @@
+//! Tests of `otel_export`.
+
+mod exporter_box;
+mod span_data;

@@ -1,0 +1,4 @@
+//! Tests of `otel_lines`.
+
+mod lines;
+mod reply_text;
