@@ -40,19 +40,40 @@ fn with(cx: &Context, baggage: Baggage) -> Result<Context, AllocError> {
     cx.with_baggage(baggage)
 }
 
+/// A context in which telemetry is suppressed, and that hands on one entry.
+fn suppressed(alloc: Global) -> Result<Context, AllocError> {
+    let cx = with(&Context::new(), one(alloc)?)?;
+    cx.with_telemetry_suppressed()
+}
+
+/// The value that a context hands on under the name `user`, where telemetry is suppressed.
+fn shared(cx: &Context) -> Option<&str> {
+    if cx.is_telemetry_suppressed() {
+        cx.baggage().get("user")
+    } else {
+        None
+    }
+}
+
+/// Whether a context with an empty baggage in place of its own hands on nothing.
+fn is_emptied(cx: &Context, alloc: Global) -> Result<bool, AllocError> {
+    let emptied = with(cx, Baggage::new(alloc))?;
+    Ok(emptied.baggage().is_empty())
+}
+
 #[test]
 fn contexts_share_their_baggage(rt: HostRuntime) -> Result<(), Fail> {
-    let cx = with(&Context::new(), one(rt.alloc())?)?;
-    let copy = cx.with_telemetry_suppressed()?;
-    assert!(rt; copy.is_telemetry_suppressed());
-    assert_eq!(rt; copy.baggage().get("user"), Some("1"));
-    assert!(rt; with(&copy, Baggage::new(rt.alloc()))?.baggage().is_empty());
+    let cx = suppressed(rt.alloc())?;
+    assert_eq!(rt; shared(&cx), Some("1"));
+    assert!(rt; is_emptied(&cx, rt.alloc())?);
     Ok(())
 }
 
 /// A copy of the baggage of a copy of the empty context.
 fn empty_baggage() -> Result<Baggage, AllocError> {
-    Context::new().clone()?.baggage().clone()
+    let cx = Context::new();
+    let copy = cx.clone()?;
+    copy.baggage().clone()
 }
 
 #[test]
@@ -123,24 +144,43 @@ fn is_whole(alloc: Global, cx: &Context, span_id: u64) -> Result<bool, Fail> {
     Ok(has_span && *cx.baggage() == many(alloc)?)
 }
 
+/// Whether the context of a span that hands on many entries is whole.
+fn full_is_whole(alloc: Global) -> Result<bool, Fail> {
+    let cx = full(alloc)?;
+    is_whole(alloc, &cx, 8)
+}
+
+/// Whether it is whole with another span active.
+fn is_whole_under_another(alloc: Global, is_remote: bool) -> Result<bool, Fail> {
+    let cx = under_another(alloc, is_remote)?;
+    is_whole(alloc, &cx, 9)
+}
+
 #[test]
 fn another_span_leaves_the_baggage(rt: HostRuntime) -> Result<(), Fail> {
-    assert!(rt; is_whole(rt.alloc(), &full(rt.alloc())?, 8)?);
+    assert!(rt; full_is_whole(rt.alloc())?);
     for is_remote in [false, true] {
-        let cx = under_another(rt.alloc(), is_remote)?;
-        assert!(rt; is_whole(rt.alloc(), &cx, 9)?);
+        assert!(rt; is_whole_under_another(rt.alloc(), is_remote)?);
     }
     Ok(())
 }
 
-/// Whether a copy of a whole context is whole, also where telemetry is suppressed.
-fn copies_are_whole(alloc: Global, cx: &Context, span_id: u64) -> Result<bool, Fail> {
-    let suppressed = is_whole(alloc, &cx.with_telemetry_suppressed()?, span_id)?;
-    Ok(suppressed && is_whole(alloc, &cx.clone()?, span_id)?)
+/// Whether a copy of a whole context is whole.
+fn copy_is_whole(alloc: Global, cx: &Context) -> Result<bool, Fail> {
+    let copy = cx.clone()?;
+    is_whole(alloc, &copy, 8)
+}
+
+/// Whether a copy in which telemetry is suppressed is whole.
+fn suppressed_copy_is_whole(alloc: Global, cx: &Context) -> Result<bool, Fail> {
+    let copy = cx.with_telemetry_suppressed()?;
+    is_whole(alloc, &copy, 8)
 }
 
 #[test]
 fn a_copy_has_the_span_and_the_baggage(rt: HostRuntime) -> Result<(), Fail> {
-    assert!(rt; copies_are_whole(rt.alloc(), &full(rt.alloc())?, 8)?);
+    let cx = full(rt.alloc())?;
+    assert!(rt; copy_is_whole(rt.alloc(), &cx)?);
+    assert!(rt; suppressed_copy_is_whole(rt.alloc(), &cx)?);
     Ok(())
 }

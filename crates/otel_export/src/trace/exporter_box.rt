@@ -40,6 +40,7 @@ impl<M: SpanExporter, C: SpanExporter> SpanExporter for ExporterOf<M, C> {
         (λ m n. StaysOr (λ x y. M.resource_gives x s y) m n)
         (λ c d. StaysOr (λ x y. C.resource_gives x s y) c d) e f };
 
+    #[inline(always)]
     fn export(&mut self, batch: Vec<SpanData>) -> OTelSdkResult {
         match self {
             ExporterOf::Memory(memory) => memory.export(batch),
