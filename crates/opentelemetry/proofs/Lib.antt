@@ -6,7 +6,7 @@ pub mod HexText
 pub mod Joins
 pub mod Pieces
 pub mod PiecesLeft
-pub mod Results
+pub mod Clauses
 pub mod PairLists
 pub mod Tracestates
 pub mod WellFormed

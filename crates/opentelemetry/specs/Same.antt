@@ -8,7 +8,7 @@ use Rattle.std.specs.Cmp.Lexicographic.{pointwise, pointwise_decides, bytes_deci
 use Rattle.std.specs.Ordering.{int_eq}
 use Rattle.std.proofs.Common.{ap, sym}
 use Rattle.std.proofs.lemmas.Bool.Decides.{same_from_decides, Decides-eqb, Decides-int_eq}
-use Rattle.std.proofs.lemmas.Bool.Decides.{Decides-like, Decides-and, Decides-at}
+use Rattle.std.proofs.lemmas.Bool.Decides.{Decides-like, Decides-and}
 use Rattle.opentelemetry.specs.Plain.{PlainValue, boolean, integer, text, booleans, integers, texts}
 use Rattle.opentelemetry.specs.Plain.{PlainKeyValue, PlainSpanContext, PlainStatus, unset, error, ok}
 
@@ -68,10 +68,6 @@ same_value_decides (integers a) (integers b) =
 same_value_decides (texts a) (texts b) =
     Decides-like (pointwise same_text a b) (ap texts) (λ e. cc) (pointwise_decides same_text_decides a b)
 same_value_decides _ _ = (λ h. cc, λ e. cc)
-
--- a test that answered as same_value does tells whether the values are the same
-pub same_value_tells : (r : Bool) (a b : PlainValue) → r ≡ same_value a b → Decides r (a ≡ b)
-same_value_tells r a b e = Decides-at r (same_value a b) e (same_value_decides a b)
 
 -- whether two attributes are the same
 abbrev pub same_attribute : PlainKeyValue → PlainKeyValue → Bool
@@ -138,16 +134,3 @@ same_status_decides unset unset = (λ _. refl, λ _. refl)
 same_status_decides (error a) (error b) = Decides-like (same_text a b) (ap error) (λ e. cc) (same_text_decides a b)
 same_status_decides ok ok = (λ _. refl, λ _. refl)
 same_status_decides _ _ = (λ h. cc, λ e. cc)
-
-pub same_status_tells : (r : Bool) (a b : PlainStatus) → r ≡ same_status a b → Decides r (a ≡ b)
-same_status_tells r a b e = Decides-at r (same_status a b) e (same_status_decides a b)
-
-pub same_span_context_tells : (r : Bool) (a b : PlainSpanContext)
-    → r ≡ same_span_context a b → Decides r (a ≡ b)
-same_span_context_tells r a b e = Decides-at r (same_span_context a b) e (same_span_context_decides a b)
-
-pub same_attribute_tells : (r : Bool) (a b : PlainKeyValue) → r ≡ same_attribute a b → Decides r (a ≡ b)
-same_attribute_tells r a b e = Decides-at r (same_attribute a b) e (same_attribute_decides a b)
-
-pub same_pairs_tells : (r : Bool) (a b : List (List ℕ × List ℕ)) → r ≡ same_pairs a b → Decides r (a ≡ b)
-same_pairs_tells r a b e = Decides-at r (same_pairs a b) e (same_pairs_decides a b)

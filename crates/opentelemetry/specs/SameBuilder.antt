@@ -4,7 +4,7 @@ use Rattle.std.specs.Bool.{Decides}
 use Rattle.std.specs.Option.{option_eq}
 use Rattle.std.specs.Cmp.Lexicographic.{pointwise, pointwise_decides}
 use Rattle.std.proofs.Common.{ap, sym, ◌∙◌}
-use Rattle.std.proofs.lemmas.Bool.Decides.{Decides-eqb, Decides-like, Decides-and, Decides-at}
+use Rattle.std.proofs.lemmas.Bool.Decides.{Decides-eqb, Decides-like, Decides-and}
 use Rattle.opentelemetry.specs.PlainSpanBuilder.{PlainSpanBuilder}
 use Rattle.opentelemetry.specs.Same.{same_text, same_text_decides}
 use Rattle.opentelemetry.specs.SameParts.{same_attributes, same_attributes_decides, option_eq_decides}
@@ -74,6 +74,3 @@ same_builder_decides a b =
     (Decides-and _ _ (option_eq_decides same_attributes_decides a.attributes b.attributes)
     (Decides-and _ _ (option_eq_decides (pointwise_decides same_event_decides) a.events b.events)
     (option_eq_decides (pointwise_decides same_link_decides) a.links b.links))))))
-
-pub same_builder_tells : (r : Bool) (a b : PlainSpanBuilder) → r ≡ same_builder a b → Decides r (a ≡ b)
-same_builder_tells r a b e = Decides-at r (same_builder a b) e (same_builder_decides a b)

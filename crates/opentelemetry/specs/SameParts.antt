@@ -4,7 +4,7 @@ use Rattle.std.specs.Bool.{Decides}
 use Rattle.std.specs.Option.{option_eq}
 use Rattle.std.specs.Cmp.Lexicographic.{pointwise, pointwise_decides}
 use Rattle.std.proofs.Common.{ap}
-use Rattle.std.proofs.lemmas.Bool.Decides.{Decides-eqb, Decides-like, Decides-and, Decides-at}
+use Rattle.std.proofs.lemmas.Bool.Decides.{Decides-eqb, Decides-like, Decides-and}
 use Rattle.opentelemetry.specs.Baggage.{PlainBaggage, PlainBaggageEntry}
 use Rattle.opentelemetry.specs.Plain.{PlainKeyValue, PlainEvent, PlainLink, PlainScope}
 use Rattle.opentelemetry.specs.Same.{same_text, same_text_decides, same_attribute, same_attribute_decides}
@@ -47,9 +47,6 @@ same_event_decides a b =
     (Decides-and _ _ (same_attributes_decides a.attributes b.attributes)
     (Decides-eqb a.dropped_attributes_count b.dropped_attributes_count))))
 
-pub same_event_tells : (r : Bool) (a b : PlainEvent) → r ≡ same_event a b → Decides r (a ≡ b)
-same_event_tells r a b e = Decides-at r (same_event a b) e (same_event_decides a b)
-
 -- whether two links are the same
 abbrev pub same_link : PlainLink → PlainLink → Bool
 same_link a b = same_span_context a.span_context b.span_context
@@ -63,9 +60,6 @@ same_link_decides a b =
     (Decides-and _ _ (same_span_context_decides a.span_context b.span_context)
     (Decides-and _ _ (same_attributes_decides a.attributes b.attributes)
     (Decides-eqb a.dropped_attributes_count b.dropped_attributes_count)))
-
-pub same_link_tells : (r : Bool) (a b : PlainLink) → r ≡ same_link a b → Decides r (a ≡ b)
-same_link_tells r a b e = Decides-at r (same_link a b) e (same_link_decides a b)
 
 -- whether two scopes are the same
 abbrev pub same_scope : PlainScope → PlainScope → Bool
@@ -82,9 +76,6 @@ same_scope_decides a b =
     (Decides-and _ _ (option_eq_decides same_text_decides a.schema_url b.schema_url)
     (same_attributes_decides a.attributes b.attributes))))
 
-pub same_scope_tells : (r : Bool) (a b : PlainScope) → r ≡ same_scope a b → Decides r (a ≡ b)
-same_scope_tells r a b e = Decides-at r (same_scope a b) e (same_scope_decides a b)
-
 -- whether two entries of a baggage are the same
 abbrev pub same_entry : PlainBaggageEntry → PlainBaggageEntry → Bool
 same_entry a b = same_text a.key b.key && (same_text a.value b.value && same_text a.metadata b.metadata)
@@ -97,15 +88,9 @@ same_entry_decides a b =
     (Decides-and _ _ (same_text_decides a.key b.key)
     (Decides-and _ _ (same_text_decides a.value b.value) (same_text_decides a.metadata b.metadata)))
 
-pub same_entry_tells : (r : Bool) (a b : PlainBaggageEntry) → r ≡ same_entry a b → Decides r (a ≡ b)
-same_entry_tells r a b e = Decides-at r (same_entry a b) e (same_entry_decides a b)
-
 -- whether two baggages are the same, in the same order
 abbrev pub same_baggage : PlainBaggage → PlainBaggage → Bool
 same_baggage = pointwise same_entry
 
 pub same_baggage_decides : (a b : PlainBaggage) → Decides (same_baggage a b) (a ≡ b)
 same_baggage_decides = pointwise_decides same_entry_decides
-
-pub same_baggage_tells : (r : Bool) (a b : PlainBaggage) → r ≡ same_baggage a b → Decides r (a ≡ b)
-same_baggage_tells r a b e = Decides-at r (same_baggage a b) e (same_baggage_decides a b)

@@ -74,17 +74,13 @@ impl Clone for BaggageMetadata {
 }
 
 impl PartialEq for BaggageMetadata {
-    ghost use Rattle.std.specs.Prelude.{◌≡◌, ◌↔◌, IsTrue};
     ghost use Rattle.opentelemetry.specs.Same.{same_text, same_text_decides, partial_equivalence_from_decides};
 
     ghost eq = { same_text };
 
     ghost laws = { partial_equivalence_from_decides same_text same_text_decides };
 
-    fn eq(&self, other: &BaggageMetadata) -> bool
-        ensures value { result ≡ same_text self.now other.now }
-        ensures same { IsTrue result ↔ (self.now ≡ other.now) }
-    {
+    fn eq(&self, other: &BaggageMetadata) -> bool {
         self.0 == other.0
     }
 }
@@ -125,7 +121,6 @@ impl KeyValueMetadata {
 }
 
 impl PartialEq for KeyValueMetadata {
-    ghost use Rattle.std.specs.Prelude.{◌≡◌, ◌↔◌, IsTrue};
     ghost use Rattle.opentelemetry.specs.Same.{partial_equivalence_from_decides};
     ghost use Rattle.opentelemetry.specs.SameParts.{same_entry, same_entry_decides};
 
@@ -133,10 +128,7 @@ impl PartialEq for KeyValueMetadata {
 
     ghost laws = { partial_equivalence_from_decides same_entry same_entry_decides };
 
-    fn eq(&self, other: &KeyValueMetadata) -> bool
-        ensures value { result ≡ same_entry self.now other.now }
-        ensures same { IsTrue result ↔ (self.now ≡ other.now) }
-    {
+    fn eq(&self, other: &KeyValueMetadata) -> bool {
         self.key == other.key && self.value == other.value && self.metadata == other.metadata
     }
 }
@@ -307,7 +299,6 @@ impl Clone for Baggage {
 }
 
 impl PartialEq for Baggage {
-    ghost use Rattle.std.specs.Prelude.{◌≡◌, ◌↔◌, IsTrue};
     ghost use Rattle.opentelemetry.specs.Same.{partial_equivalence_from_decides};
     ghost use Rattle.opentelemetry.specs.SameParts.{same_baggage, same_baggage_decides};
 
@@ -315,10 +306,7 @@ impl PartialEq for Baggage {
 
     ghost laws = { partial_equivalence_from_decides same_baggage same_baggage_decides };
 
-    fn eq(&self, other: &Baggage) -> bool
-        ensures value { result ≡ same_baggage self.now other.now }
-        ensures same { IsTrue result ↔ (self.now ≡ other.now) }
-    {
+    fn eq(&self, other: &Baggage) -> bool {
         match (&self.entries, &other.entries) {
             (Some(these), Some(those)) => these == those,
             (Some(these), None) => these.len() == 0,

@@ -165,7 +165,6 @@ impl Clone for Array {
 }
 
 impl PartialEq for Array {
-    ghost use Rattle.std.specs.Prelude.{◌≡◌, ◌↔◌, IsTrue};
     ghost use Rattle.std.specs.Ordering.{on};
     ghost use Rattle.std.proofs.lemmas.Cmp.{on_equiv};
     ghost use Rattle.std.specs.Cmp.{partial_equiv_from_equiv};
@@ -177,10 +176,7 @@ impl PartialEq for Array {
     ghost laws = { partial_equiv_from_equiv
         (on_equiv plain_array (equivalence_from_decides same_value same_value_decides)) };
 
-    fn eq(&self, other: &Array) -> bool
-        ensures value { result ≡ same_value (plain_array self.now) (plain_array other.now) }
-        ensures same { IsTrue result ↔ (plain_array self.now ≡ plain_array other.now) }
-    {
+    fn eq(&self, other: &Array) -> bool {
         match (self, other) {
             (Array::Bool(these), Array::Bool(those)) => these == those,
             (Array::I64(these), Array::I64(those)) => these == those,
@@ -226,7 +222,6 @@ impl Clone for Value {
 }
 
 impl PartialEq for Value {
-    ghost use Rattle.std.specs.Prelude.{◌≡◌, ◌↔◌, IsTrue};
     ghost use Rattle.std.specs.Ordering.{on};
     ghost use Rattle.std.proofs.lemmas.Cmp.{on_equiv};
     ghost use Rattle.std.specs.Cmp.{partial_equiv_from_equiv};
@@ -238,10 +233,7 @@ impl PartialEq for Value {
     ghost laws = { partial_equiv_from_equiv
         (on_equiv plain_value (equivalence_from_decides same_value same_value_decides)) };
 
-    fn eq(&self, other: &Value) -> bool
-        ensures value { result ≡ same_value (plain_value self.now) (plain_value other.now) }
-        ensures same { IsTrue result ↔ (plain_value self.now ≡ plain_value other.now) }
-    {
+    fn eq(&self, other: &Value) -> bool {
         match (self, other) {
             (Value::Bool(this), Value::Bool(that)) => this == that,
             (Value::I64(this), Value::I64(that)) => this == that,
@@ -298,7 +290,6 @@ impl Clone for KeyValue {
 }
 
 impl PartialEq for KeyValue {
-    ghost use Rattle.std.specs.Prelude.{◌≡◌, ◌↔◌, IsTrue};
     ghost use Rattle.opentelemetry.specs.Same.{same_attribute, same_attribute_decides};
     ghost use Rattle.opentelemetry.specs.Same.{partial_equivalence_from_decides};
 
@@ -306,10 +297,7 @@ impl PartialEq for KeyValue {
 
     ghost laws = { partial_equivalence_from_decides same_attribute same_attribute_decides };
 
-    fn eq(&self, other: &KeyValue) -> bool
-        ensures value { result ≡ same_attribute self.now other.now }
-        ensures same { IsTrue result ↔ (self.now ≡ other.now) }
-    {
+    fn eq(&self, other: &KeyValue) -> bool {
         self.key == other.key && self.value == other.value
     }
 }
@@ -345,7 +333,6 @@ impl Model for ScopeParts {
 }
 
 impl PartialEq for ScopeParts {
-    ghost use Rattle.std.specs.Prelude.{◌≡◌, ◌↔◌, IsTrue};
     ghost use Rattle.opentelemetry.specs.Same.{partial_equivalence_from_decides};
     ghost use Rattle.opentelemetry.specs.SameParts.{same_scope, same_scope_decides};
 
@@ -353,10 +340,7 @@ impl PartialEq for ScopeParts {
 
     ghost laws = { partial_equivalence_from_decides same_scope same_scope_decides };
 
-    fn eq(&self, other: &ScopeParts) -> bool
-        ensures value { result ≡ same_scope self.now other.now }
-        ensures same { IsTrue result ↔ (self.now ≡ other.now) }
-    {
+    fn eq(&self, other: &ScopeParts) -> bool {
         self.name == other.name
             && self.version == other.version
             && self.schema_url == other.schema_url
@@ -456,7 +440,6 @@ impl Clone for InstrumentationScope {
 }
 
 impl PartialEq for InstrumentationScope {
-    ghost use Rattle.std.specs.Prelude.{◌≡◌, ◌↔◌, IsTrue};
     ghost use Rattle.opentelemetry.specs.Same.{partial_equivalence_from_decides};
     ghost use Rattle.opentelemetry.specs.SameParts.{same_scope, same_scope_decides};
 
@@ -464,10 +447,7 @@ impl PartialEq for InstrumentationScope {
 
     ghost laws = { partial_equivalence_from_decides same_scope same_scope_decides };
 
-    fn eq(&self, other: &InstrumentationScope) -> bool
-        ensures value { result ≡ same_scope self.now other.now }
-        ensures same { IsTrue result ↔ (self.now ≡ other.now) }
-    {
+    fn eq(&self, other: &InstrumentationScope) -> bool {
         *self.parts == *other.parts
     }
 }

@@ -1,12 +1,4 @@
-//! Tests of `opentelemetry`.
+//! Tests of `opentelemetry`. What text can show of it is asked by the rows of `otel_rows`.
 
-mod attributes;
-mod baggage;
-mod context;
-mod display;
+mod copies;
 mod propagation;
-mod span_builder;
-mod span_context;
-mod status;
-mod trace_context;
-mod trace_state;

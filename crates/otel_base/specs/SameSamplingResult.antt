@@ -2,7 +2,7 @@
 use Rattle.std.specs.Prelude.{◌≡◌, Bool, true, false, ◌&&◌, refl}
 use Rattle.std.specs.Bool.{Decides}
 use Rattle.std.proofs.Common.{ap}
-use Rattle.std.proofs.lemmas.Bool.Decides.{Decides-at, Decides-like, Decides-and}
+use Rattle.std.proofs.lemmas.Bool.Decides.{Decides-like, Decides-and}
 use Rattle.opentelemetry.specs.Same.{same_pairs, same_pairs_decides}
 use Rattle.opentelemetry.specs.SameParts.{same_attributes, same_attributes_decides}
 use Rattle.otel_base.specs.Sampling.{PlainSamplingResult}
@@ -35,6 +35,3 @@ same_answer_decides a b =
     (Decides-and _ _ (same_decision_decides a.decision b.decision)
     (Decides-and _ _ (same_attributes_decides a.attributes b.attributes)
     (same_pairs_decides a.trace_state b.trace_state)))
-
-pub same_answer_tells : (r : Bool) (a b : PlainSamplingResult) → r ≡ same_answer a b → Decides r (a ≡ b)
-same_answer_tells r a b e = Decides-at r (same_answer a b) e (same_answer_decides a b)

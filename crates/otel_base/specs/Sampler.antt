@@ -1,5 +1,6 @@
 -- What each sampler of the SDK answers (OpenTelemetry specification, "Built-in samplers").
-use Rattle.std.specs.Prelude.{◌≡◌, ℕ, ◌%◌, ◌==◌, if◌then◌else◌, Bool, true, false, IsTrue, IsFalse, List, [], Option, Some, None, MatchOption}
+use Rattle.std.specs.Prelude.{◌≡◌, ℕ, ◌%◌, ◌==◌, if◌then◌else◌, Bool, true, false, IsTrue, IsFalse, List, [], Option}
+use Rattle.std.specs.Prelude.{Some, None, MatchOption}
 use Rattle.opentelemetry.specs.Plain.{PlainContext, PlainSpanContext}
 use Rattle.otel_base.specs.Sampling.{SamplingQuestion, PlainSamplingResult}
 use Rattle.otel_base.specs.declared.trace.sampler.SamplingDecision.{SamplingDecision}
@@ -46,22 +47,23 @@ parent_decision span = if span.trace_flags % 2 == 1 then decisions.RecordAndSamp
 abbrev pub ratio_decision : PlainRatio → ℕ → SamplingDecision
 ratio_decision ratio trace_id = if samples ratio trace_id then decisions.RecordAndSample else decisions.Drop
 
--- what a sampler answers, where custom_gives is what a custom one does: an active span decides alone in place of a
--- delegate, which is asked where none is active, and of whose answer the decision alone counts
-abbrev pub SamplerGives : {C : Type 0} → (C → SamplingQuestion → PlainSamplingResult → Type 0)
-    → SamplerPlan C → SamplingQuestion → PlainSamplingResult → Type 0
-SamplerGives custom_gives always_on question answer =
-    answer ≡ built_in decisions.RecordAndSample (active_in question.parent_context)
-SamplerGives custom_gives always_off question answer =
-    answer ≡ built_in decisions.Drop (active_in question.parent_context)
-SamplerGives custom_gives (parent_based delegate) question answer =
-    MatchOption (active_in question.parent_context)
-    ((asked : PlainSamplingResult) × SamplerGives custom_gives delegate question asked
-    × (answer ≡ built_in asked.decision None))
-    (λ span. answer ≡ built_in (parent_decision span) (Some span))
-SamplerGives custom_gives (trace_id_ratio_based ratio) question answer =
-    answer ≡ built_in (ratio_decision ratio question.trace_id) (active_in question.parent_context)
-SamplerGives custom_gives (custom c) question answer = custom_gives c question answer
+-- what a sampler by parents answers: an active span decides alone, and in its place the delegate's decision where none is
+-- active
+abbrev pub by_parent : Option PlainSpanContext → SamplingDecision → PlainSamplingResult
+by_parent None delegated = built_in delegated None
+by_parent (Some span) delegated = built_in (parent_decision span) (Some span)
+
+-- what a sampler answers, where custom_answer is what a custom one does
+abbrev pub sampler_answer : {C : Type 0} → (C → SamplingQuestion → PlainSamplingResult)
+    → SamplerPlan C → SamplingQuestion → PlainSamplingResult
+sampler_answer custom_answer always_on question =
+    built_in decisions.RecordAndSample (active_in question.parent_context)
+sampler_answer custom_answer always_off question = built_in decisions.Drop (active_in question.parent_context)
+sampler_answer custom_answer (parent_based delegate) question =
+    by_parent (active_in question.parent_context) (sampler_answer custom_answer delegate question).decision
+sampler_answer custom_answer (trace_id_ratio_based ratio) question =
+    built_in (ratio_decision ratio question.trace_id) (active_in question.parent_context)
+sampler_answer custom_answer (custom c) question = custom_answer c question
 
 -- where a sampler answers whether memory is there or not: a sampler of the SDK does where the active span has no
 -- trace state to be passed on, a custom one where custom_is_infallible says so

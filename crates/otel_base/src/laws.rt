@@ -1,7 +1,7 @@
 //! The laws of resources, of merging them, of reading attributes strings, of headers and of ratios, over the
 //! definitions alone. Each function does nothing; its contract is the law, for all values.
 
-ghost use Rattle.std.specs.Prelude.{◌≡◌, ◌≢◌, ◌*◌, ◌<◌, ◌≤◌, IsTrue, Some, ℕ, List, [], All, AllPairs};
+ghost use Rattle.std.specs.Prelude.{◌≡◌, ◌≢◌, ◌*◌, ◌<◌, ◌≤◌, IsTrue, Some, ℕ, List, [], All, AllPairs, codes};
 ghost use Rattle.std.specs.Option.{option_or};
 ghost use Rattle.std.specs.FinMap.{get, keys};
 ghost use Rattle.opentelemetry.specs.PlainContexts.{current_span_context};
@@ -14,7 +14,7 @@ ghost use Rattle.otel_base.specs.BaggageHeader.{IsCarriedUnchanged, IsSaidUnchan
 ghost use Rattle.otel_base.specs.Ratio.{PlainRatio, low_half, samples};
 ghost use Rattle.otel_base.specs.Traceparent.{CarriesSpan, InjectsTraceContext, IsSpanContext};
 ghost use Rattle.otel_base.specs.Traceparent.{IsTraceparent, IsValid};
-ghost use Rattle.otel_base.specs.Resource.{PlainResource, empty_resource, non_empty, merge};
+ghost use Rattle.otel_base.specs.Resource.{PlainResource, empty_resource, merge, merged_schema, non_empty};
 
 /// No two attributes of a resource have one key.
 pub fn keys_are_distinct()
@@ -37,9 +37,16 @@ pub fn merge_is_idempotent()
     ensures { (r : PlainResource) → merge r r ≡ r }
 {}
 
-/// The attributes of three resources do not depend on which two are merged first. Their schemas may.
+/// The attributes of three resources do not depend on which two are merged first.
 pub fn merged_attributes_are_associative()
     ensures { (a b c : PlainResource) → (merge (merge a b) c).attributes ≡ (merge a (merge b c)).attributes }
+{}
+
+/// Schemas do not merge associatively: two different ones and the second again give the second or none, as the first
+/// two or the last two are merged first.
+pub fn merged_schemas_are_not_associative()
+    ensures { (merged_schema (merged_schema (codes "a") (codes "b")) (codes "b") ≡ codes "b")
+        × (merged_schema (codes "a") (merged_schema (codes "b") (codes "b")) ≡ []) }
 {}
 
 /// A merged resource has at each key what the right one has there, and where that has nothing, what the left one has.

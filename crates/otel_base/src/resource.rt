@@ -174,7 +174,6 @@ impl Clone for Resource {
 }
 
 impl PartialEq for Resource {
-    ghost use Rattle.std.specs.Prelude.{◌≡◌, ◌↔◌, IsTrue};
     ghost use Rattle.otel_base.specs.SameResource.{same_description, same_description_decides};
     ghost use Rattle.opentelemetry.specs.Same.{partial_equivalence_from_decides};
 
@@ -182,10 +181,7 @@ impl PartialEq for Resource {
 
     ghost laws = { partial_equivalence_from_decides same_description same_description_decides };
 
-    fn eq(&self, other: &Resource) -> bool
-        ensures value { result ≡ same_description self.now other.now }
-        ensures same { IsTrue result ↔ (self.now ≡ other.now) }
-    {
+    fn eq(&self, other: &Resource) -> bool {
         match (&self.parts, &other.parts) {
             (Some(shared), Some(other)) => shared.says_same(other),
             (Some(shared), None) => shared.says_nothing(),

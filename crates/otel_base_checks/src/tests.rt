@@ -1,12 +1,9 @@
 //! Tests of `otel_base`.
 
-mod baggage;
+mod clones;
 mod composite;
-mod config;
 mod crossing;
 mod error;
 mod id_generator;
-mod ratio;
 mod resource;
 mod sampler;
-mod trace_context;

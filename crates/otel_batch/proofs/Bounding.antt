@@ -532,7 +532,7 @@ steps-first : (x : Step) (o : Outcome) (xs : List Step) (os : List Outcome) →
     worker_steps (x ∷ xs) (o ∷ os) ≡ worker_steps (x ∷ []) (o ∷ []) + worker_steps xs os
 steps-first x o xs os = omega arith
 
-none-first : (o : Outcome) (os : List Outcome) → NoneFinishes (o ∷ os) → NoneFinishes (o ∷ []) × NoneFinishes os
+pub none-first : (o : Outcome) (os : List Outcome) → NoneFinishes (o ∷ os) → NoneFinishes (o ∷ []) × NoneFinishes os
 none-first (outcome.Finished e) os on = absurd on
 none-first _ os on = (tt, on)
 

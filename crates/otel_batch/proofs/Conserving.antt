@@ -1,7 +1,8 @@
 -- Along a run of the batch queue no span is lost, and each send that met a full queue is counted.
-use Rattle.std.proofs.Common.{◌≡◌, ◌∙◌, ap, sym, refl, ℕ, ◌<◌, ◌^◌, List, [], ◌∷◌, ◌++◌, length, map, slice_get, append_assoc, append-nil, arith}
+use Rattle.std.proofs.Common.{◌≡◌, ◌∙◌, ap, sym, refl, ℕ, ◌<◌, ◌^◌, List, [], ◌∷◌, ◌++◌, length, map, Option, slice_get, append_assoc, append-nil, arith}
 use Rattle.std.proofs.lemmas.List.{map-append}
 use Rattle.std.proofs.lemmas.List.Concat.{flat_map-append}
+use Rattle.otel_base.specs.declared.error.OTelSdkError.{OTelSdkError}
 use Rattle.otel_export.specs.PlainSpanData.{PlainSpanData, spans_in}
 use Rattle.otel_batch.specs.Slots.{held}
 use Rattle.otel_batch.specs.MachineState.{Machine, counts}
@@ -74,9 +75,9 @@ module _ {E : Type 0} (calls : Ghosts E) where
             ∙ sym (append_assoc s.hand s.waiting span);
       }
 
-  exports-conserves : (s t : Machine E) (k : ℕ) → k ≡ length s.hand → ExportsHand calls s t →
-      Conserves calls s [] (k ∷ []) t
-  exports-conserves s t k size moved =
+  exports-conserves : (s t : Machine E) (k : ℕ) (e : Option OTelSdkError) → k ≡ length s.hand →
+      ExportsHand calls s e t → Conserves calls s [] (k ∷ []) t
+  exports-conserves s t k e size moved =
       let one : spans_in (s.hand ∷ []) ≡ s.hand = append-nil s.hand in
       record {
         batches = s.hand ∷ [];
@@ -93,7 +94,7 @@ module _ {E : Type 0} (calls : Ghosts E) where
       Conserves calls s (accepts (holds_at s.control.slots) x o) (batch_sizes (o ∷ [])) t
   moved-conserves s (step.Send p) outcome.Accepted t row m = queues-conserves s p t m
   moved-conserves s step.Pull outcome.Pulled t row m = rests s t (ap calls.told m.exporter) m.both
-  moved-conserves s step.HandOver (outcome.HandedOver k e) t row m = exports-conserves s t k row.1 m
+  moved-conserves s step.HandOver (outcome.HandedOver k e) t row m = exports-conserves s t k e row.1 m
   moved-conserves s (step.Offer p span) (outcome.HandedOver k e) t row m = absurd row
   moved-conserves s (step.Send p) (outcome.HandedOver k e) t row m = absurd row
   moved-conserves s (step.Undo p) (outcome.HandedOver k e) t row m = absurd row

@@ -10,10 +10,10 @@ use Rattle.otel_batch.specs.Workers.{is_closing, is_draining, worker_counts}
 use Rattle.otel_batch.specs.MachineState.{Machine, Counts, counts, limit_of}
 use Rattle.otel_batch.specs.SoundMachine.{IsSound}
 use Rattle.otel_batch.specs.PermittedStep.{Permitted, TakeRow, TickRow, ClearRow, LoadRow, PullRow, HandOverRow, SubtractRow, FinishRow, CloseRow}
-use Rattle.otel_batch.specs.MachineRun.{Run, accepted, holds_at, batch_sizes}
+use Rattle.otel_batch.specs.MachineRun.{Run, accepts, accepted, holds_after, holds_at, batch_sizes}
 use Rattle.otel_batch.specs.Conservation.{Conserves}
 use Rattle.otel_batch.specs.GoingOn.{is_enabled}
-use Rattle.otel_batch.specs.Drains.{is_workers, worker_steps, IsWholeDrain, NoneFinishes, HandsOverFirst, CompletesDrains}
+use Rattle.otel_batch.specs.Drains.{is_workers, worker_steps, IsWholeDrain, AreWorkers, NoneFinishes, HandsOverFirst, CompletesDrains}
 use Rattle.otel_batch.specs.declared.machine.state.Worker.{Worker}
 use Rattle.otel_batch.specs.declared.machine.state.Worker.TheVariants as worker
 use Rattle.otel_batch.specs.declared.machine.step.Outcome.{Outcome}
@@ -492,6 +492,18 @@ sum-append (j ∷ js) ks =
     let first = sum-cons j js in
     omega (arith, rest, whole, first)
 
+-- the worker's steps accept no span
+accepts_none : (h : ℕ → List PlainSpanData) (x : Step) (o : Outcome) → is_workers x ≡ true → accepts h x o ≡ []
+accepts_none h (step.Send p) o own = cc
+accepts_none h _ o own = refl
+
+accepted_none : (h : ℕ → List PlainSpanData) (xs : List Step) (os : List Outcome) → AreWorkers xs →
+    accepted h xs os ≡ []
+accepted_none h [] os own = refl
+accepted_none h (x ∷ xs) [] own = refl
+accepted_none h (x ∷ xs) (o ∷ os) own =
+    rw (accepts_none h x o own.0) (accepted_none (λ q. holds_after h x o q) xs os own.1)
+
 module _ {E : Type 0} (calls : Ghosts E) where
   -- a whole drain hands over as many spans as waited at its load
   drain_run : (w given : ℕ) (m : Machine E) (xs : List Step) (os : List Outcome) (f : Machine E) →
@@ -544,6 +556,8 @@ module _ {E : Type 0} (calls : Ghosts E) where
     pub behind : Run calls load (drop (suc n) xs) (drop (suc n) os) t
     pub sound : IsSound (counts load)
     pub start : StartsDrain target (counts load)
+    -- the step that loaded it
+    pub loaded : (before : Counts) × (x : Step) × Permitted before x (outcome.Loaded target) (counts load)
     pub batch_same : load.control.batch_size ≡ s.control.batch_size
     pub queue_same : load.control.queue_size ≡ s.control.queue_size
 
@@ -563,6 +577,7 @@ module _ {E : Type 0} (calls : Ghosts E) where
         behind = run.2;
         sound = run.1.sound;
         start = begun;
+        loaded = (counts s, x, row);
         batch_same = leaves.batch_size;
         queue_same = leaves.queue_size;
       }
@@ -575,6 +590,7 @@ module _ {E : Type 0} (calls : Ghosts E) where
         behind = later.behind;
         sound = later.sound;
         start = later.start;
+        loaded = later.loaded;
         batch_same = later.batch_same ∙ leaves.batch_size;
         queue_same = later.queue_same ∙ leaves.queue_size;
       }
@@ -614,4 +630,13 @@ module _ {E : Type 0} (calls : Ghosts E) where
         earlier = hands_first s (there ++ spans) more (earlier_sizes ++ sizes) parts.0 (spans ++ more)
             (sym (append_assoc there spans more)) (omega (arith, enough, count, size, start, sums, hand)) both;
         handed = omega (arith, enough, count, sums, hand);
+        alone = λ own.
+            let left = conserves-count at.load more sizes parts.0 during in
+            let no_more : length more ≡ 0 =
+            ap length (accepted_none (holds_at at.load.control.slots) (take m (drop (suc n) xs))
+            (take m (drop (suc n) os)) own) in
+            record {
+              hand = nil_from_length parts.0.hand (omega (arith, left, no_more, hand, enough));
+              waiting = nil_from_length parts.0.waiting (omega (arith, left, no_more, hand, enough));
+            };
       }

@@ -2,7 +2,7 @@
 use Rattle.std.proofs.Common.{refl, zero, suc, ℕ, List, [], ◌∷◌, ◌++◌, take, drop}
 use Rattle.otel_batch.specs.MachineState.{Machine, counts}
 use Rattle.otel_batch.specs.SoundMachine.{IsSound}
-use Rattle.otel_batch.specs.MachineRun.{Run}
+use Rattle.otel_batch.specs.MachineRun.{Run, SplitsRun}
 use Rattle.otel_batch.specs.declared.machine.step.Outcome.{Outcome}
 use Rattle.otel_batch.specs.declared.machine.step.Step.{Step}
 use Rattle.otel_export.specs.declared.trace.export.SpanExporter.{Ghosts}
@@ -36,3 +36,12 @@ module _ {E : Type 0} (calls : Ghosts E) where
       (rest.0, (run.0, run.1, rest.1), rest.2)
   run-splits s [] (o ∷ os) t (suc n) run = absurd run
   run-splits s (x ∷ xs) [] t (suc n) run = absurd run
+
+  -- a run of two lists of steps, by these
+  pub run-parts : (s : Machine E) (xs ys : List Step) (os : List Outcome) (t : Machine E) →
+      Run calls s (xs ++ ys) os t → SplitsRun calls s xs ys os t
+  run-parts s [] ys os t run = record { between = s; first = refl; second = run }
+  run-parts s (x ∷ xs) ys (o ∷ os) t run =
+      let rest = run-parts run.0 xs ys os t run.2 in
+      record { between = rest.between; first = (run.0, run.1, rest.first); second = rest.second }
+  run-parts s (x ∷ xs) ys [] t run = absurd run

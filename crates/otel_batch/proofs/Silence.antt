@@ -4,7 +4,7 @@ use Rattle.otel_batch.specs.Workers.{is_closing, is_gone}
 use Rattle.otel_batch.specs.MachineState.{Machine, Counts, counts}
 use Rattle.otel_batch.specs.SoundMachine.{IsSound}
 use Rattle.otel_batch.specs.PermittedStep.{Permitted, TakeRow, TickRow, ClearRow, LoadRow, PullRow, HandOverRow, SubtractRow, FinishRow, CloseRow}
-use Rattle.otel_batch.specs.MovedSpans.{Moved}
+use Rattle.otel_batch.specs.MovedSpans.{Keeps, Moved}
 use Rattle.otel_batch.specs.MachineRun.{Run, Stepped, batch_sizes}
 use Rattle.otel_batch.specs.ShutdownSilence.{SilentAfterShutdown, StaysSilent}
 use Rattle.otel_batch.specs.declared.machine.state.Worker.{Worker}
@@ -143,49 +143,74 @@ shut_down-closes s step.Close t row = refl
 shut_down-closes s step.Finish t row = absurd row
 
 module _ {E : Type 0} (calls : Ghosts E) where
-  -- a machine that is gone keeps its exporter
+  -- a machine that is closed and whose worker is gone moves no span, and keeps its exporter
   moved_gone : (s : Machine E) (x : Step) (o : Outcome) (t : Machine E) → s.control.worker ≡ worker.Gone →
-      Permitted (counts s) x o (counts t) → Moved calls s x o t → t.exporter ≡ s.exporter
-  moved_gone s (step.Send p) outcome.Accepted t gone row m = m.exporter
-  moved_gone s step.Pull outcome.Pulled t gone row m = m.exporter
-  moved_gone s step.HandOver (outcome.HandedOver k e) t gone row m = absurd (let at = row.0 in cc)
-  moved_gone s step.Take outcome.TookResource t gone row m = absurd (let at = row.0 in cc)
-  moved_gone s step.Close outcome.ShutDown t gone row m =
+      s.control.closed ≡ true → Permitted (counts s) x o (counts t) → Moved calls s x o t → Keeps s t
+  moved_gone s (step.Send p) outcome.Accepted t gone closed row m = absurd (let open_is = row.1 in cc)
+  moved_gone s step.Pull outcome.Pulled t gone closed row m = absurd (let at = row.0 in cc)
+  moved_gone s step.HandOver (outcome.HandedOver k e) t gone closed row m = absurd (let at = row.0 in cc)
+  moved_gone s step.Take outcome.TookResource t gone closed row m = absurd (let at = row.0 in cc)
+  moved_gone s step.Close outcome.ShutDown t gone closed row m =
       absurd (let at : is_closing s.control.worker ≡ false = rw gone refl in let closing = row.0 in cc)
-  moved_gone s _ _ t gone row m = m.exporter
+  moved_gone s _ _ t gone closed row m = m
+
+  -- what a machine keeps whose worker is gone
+  record RestsGone (s : Machine E) (os : List Outcome) (t : Machine E) : Type 0 where
+    keeps : Keeps s t
+    no_batch : batch_sizes os ≡ []
+    gone : t.control.worker ≡ worker.Gone
 
   gone_run : (s : Machine E) (xs : List Step) (os : List Outcome) (t : Machine E) → s.control.worker ≡ worker.Gone →
-      Run calls s xs os t → (t.exporter ≡ s.exporter) × (batch_sizes os ≡ []) × (t.control.worker ≡ worker.Gone)
-  gone_run s [] [] t gone run =
-      (ap (λ m. m.exporter) run, refl, ap (λ m. m.control.worker) run ∙ gone)
-  gone_run s (x ∷ xs) (o ∷ os) t gone run =
+      s.control.closed ≡ true → Run calls s xs os t → RestsGone s os t
+  gone_run s [] [] t gone closed run = record {
+    keeps = record {
+      exporter = ap (λ m. m.exporter) run;
+      hand = ap (λ m. m.hand) run;
+      waiting = ap (λ m. m.waiting) run;
+    };
+    no_batch = refl;
+    gone = ap (λ m. m.control.worker) run ∙ gone;
+  }
+  gone_run s (x ∷ xs) (o ∷ os) t gone closed run =
       let stays = permitted_gone (counts s) x o (counts run.0) gone run.1.permitted in
-      let rest = gone_run run.0 xs os t stays.gone run.2 in (
-        rest.0 ∙ moved_gone s x o run.0 gone run.1.permitted run.1.moved,
-        sizes-first o os ∙ ap (λ l. l ++ batch_sizes os) stays.no_batch ∙ rest.1,
-        rest.2,
-      )
-  gone_run s [] (o ∷ os) t gone run = absurd run
-  gone_run s (x ∷ xs) [] t gone run = absurd run
+      let first = moved_gone s x o run.0 gone closed run.1.permitted run.1.moved in
+      let rest = gone_run run.0 xs os t stays.gone (run.1.sound.awaited.gone ∙ ap is_gone stays.gone) run.2 in
+      record {
+        keeps = record {
+          exporter = rest.keeps.exporter ∙ first.exporter;
+          hand = rest.keeps.hand ∙ first.hand;
+          waiting = rest.keeps.waiting ∙ first.waiting;
+        };
+        no_batch = sizes-first o os ∙ ap (λ l. l ++ batch_sizes os) stays.no_batch ∙ rest.no_batch;
+        gone = rest.gone;
+      }
+  gone_run s [] (o ∷ os) t gone closed run = absurd run
+  gone_run s (x ∷ xs) [] t gone closed run = absurd run
 
-  -- a machine that is closed stays so, and its exporter is not used
+  -- a machine that is closed stays so, its exporter is not used, and no span moves
   pub run-stays_silent : (s : Machine E) (xs : List Step) (os : List Outcome) (t : Machine E) → IsSound (counts s) →
       Run calls s xs os t → s.control.closed ≡ true → StaysSilent s os t
   run-stays_silent s xs os t sound run closed =
       let gone = gone_is s.control.worker (sym sound.awaited.gone ∙ closed) in
-      let rest = gone_run s xs os t gone run in
+      let rest = gone_run s xs os t gone closed run in
       let ends = run-sound calls s xs os t sound run in
-      record { exporter = rest.0; closed = ends.awaited.gone ∙ ap is_gone rest.2; no_batch = rest.1 }
+      record {
+        exporter = rest.keeps.exporter;
+        hand = rest.keeps.hand;
+        waiting = rest.keeps.waiting;
+        closed = ends.awaited.gone ∙ ap is_gone rest.gone;
+        no_batch = rest.no_batch;
+      }
 
-  -- a step that completes a shutdown changes no telling, and leaves the worker gone
+  -- a step that completes a shutdown changes no telling, and leaves the worker gone and the machine closed
   closes : (s : Machine E) (x : Step) (o : Outcome) (t : Machine E) → o ≡ outcome.ShutDown → Stepped calls s x o t →
-      (calls.told t.exporter ≡ calls.told s.exporter) × (t.control.worker ≡ worker.Gone)
+      (calls.told t.exporter ≡ calls.told s.exporter) × (t.control.worker ≡ worker.Gone) × (t.control.closed ≡ true)
   closes s x o t e took =
       let row : Permitted (counts s) x outcome.ShutDown (counts t) = rw e at took.permitted in
       let is : x ≡ step.Close = shut_down-closes (counts s) x (counts t) row in
       let moved : Moved calls s step.Close outcome.ShutDown t = rw (e, is) at took.moved in
       let closed : Permitted (counts s) step.Close outcome.ShutDown (counts t) = rw is at row in
-      (moved.told, ap (λ c. c.control.worker) closed.2)
+      (moved.told, ap (λ c. c.control.worker) closed.3, ap (λ c. c.control.closed) closed.3)
 
   -- nothing follows a shutdown in a run
   pub run-silent : (s : Machine E) (xs : List Step) (os : List Outcome) (t : Machine E) → Run calls s xs os t →
@@ -195,7 +220,7 @@ module _ {E : Type 0} (calls : Ghosts E) where
   run-silent s (x ∷ xs) (o ∷ os) t run zero e =
       let is : o ≡ outcome.ShutDown = cc in
       let closed = closes s x o run.0 is run.1 in
-      let rest = gone_run run.0 xs os t closed.1 run.2 in
+      let rest = gone_run run.0 xs os t closed.1 closed.2 run.2 in
       record {
         before = s;
         shut = run.0;
@@ -203,8 +228,10 @@ module _ {E : Type 0} (calls : Ghosts E) where
         closes = (run.0, run.1, refl);
         behind = run.2;
         told = closed.0;
-        exporter = rest.0;
-        no_batch = rest.1;
+        exporter = rest.keeps.exporter;
+        hand = rest.keeps.hand;
+        waiting = rest.keeps.waiting;
+        no_batch = rest.no_batch;
       }
   run-silent s (x ∷ xs) (o ∷ os) t run (suc n) e =
       let later = run-silent run.0 xs os t run.2 n e in
@@ -216,6 +243,8 @@ module _ {E : Type 0} (calls : Ghosts E) where
         behind = later.behind;
         told = later.told;
         exporter = later.exporter;
+        hand = later.hand;
+        waiting = later.waiting;
         no_batch = later.no_batch;
       }
   run-silent s [] (o ∷ os) t run n e = absurd run

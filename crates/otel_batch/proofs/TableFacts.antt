@@ -58,6 +58,8 @@ pub record LeavesWorker (o : Outcome) (s t : Counts) : Type 0 where
   pub why : t.control.why ≡ s.control.why
   pub target : t.control.target ≡ s.control.target
   pub done : t.control.done ≡ s.control.done
+  pub result : t.control.result ≡ s.control.result
+  pub refused : t.control.refused ≡ s.control.refused
   pub hand : t.hand ≡ s.hand
   pub waiting : s.waiting ≤ t.waiting
 
@@ -72,14 +74,17 @@ leaves_by x o s t next e q b d = record {
 
 alone_by : (o : Outcome) (s t next : Counts) → is_producers o ≡ true → t ≡ next →
     next.control.worker ≡ s.control.worker → next.control.why ≡ s.control.why →
-    next.control.target ≡ s.control.target → next.control.done ≡ s.control.done → next.hand ≡ s.hand →
+    next.control.target ≡ s.control.target → next.control.done ≡ s.control.done →
+    next.control.result ≡ s.control.result → next.control.refused ≡ s.control.refused → next.hand ≡ s.hand →
     s.waiting ≤ next.waiting → LeavesWorker o s t
-alone_by o s t next producers e w y g d h more = record {
+alone_by o s t next producers e w y g d a f h more = record {
   producers = producers;
   worker = ap (λ c. c.control.worker) e ∙ w;
   why = ap (λ c. c.control.why) e ∙ y;
   target = ap (λ c. c.control.target) e ∙ g;
   done = ap (λ c. c.control.done) e ∙ d;
+  result = ap (λ c. c.control.result) e ∙ a;
+  refused = ap (λ c. c.control.refused) e ∙ f;
   hand = ap (λ c. c.hand) e ∙ h;
   waiting = let same : t.waiting ≡ next.waiting = ap (λ c. c.waiting) e in omega (arith, same, more);
 }
@@ -93,9 +98,9 @@ offer_leaves s p span _ t row = absurd row
 
 offer_alone : (s : Counts) (p : ℕ) (span : PlainSpanData) (o : Outcome) (t : Counts) → OfferRow s p span o t →
     LeavesWorker o s t
-offer_alone s p span outcome.Skipped t row = alone_by _ _ _ _ refl row.2 refl refl refl refl refl (omega arith)
-offer_alone s p span (outcome.Counted n) t row = alone_by _ _ _ _ refl row.3 refl refl refl refl refl (omega arith)
-offer_alone s p span outcome.NotEnabled t row = alone_by _ _ _ _ refl row.1 refl refl refl refl refl (omega arith)
+offer_alone s p span outcome.Skipped t row = alone_by _ _ _ _ refl row.2 refl refl refl refl refl refl refl (omega arith)
+offer_alone s p span (outcome.Counted n) t row = alone_by _ _ _ _ refl row.3 refl refl refl refl refl refl refl (omega arith)
+offer_alone s p span outcome.NotEnabled t row = alone_by _ _ _ _ refl row.1 refl refl refl refl refl refl refl (omega arith)
 offer_alone s p span _ t row = absurd row
 
 send_leaves : (s : Counts) (p : ℕ) (o : Outcome) (t : Counts) → SendRow s p o t → Leaves (step.Send p) o s t
@@ -106,10 +111,10 @@ send_leaves s p outcome.NotEnabled t row = leaves_by _ _ _ _ _ row.1 refl refl r
 send_leaves s p _ t row = absurd row
 
 send_alone : (s : Counts) (p : ℕ) (o : Outcome) (t : Counts) → SendRow s p o t → LeavesWorker o s t
-send_alone s p outcome.Accepted t row = alone_by _ _ _ _ refl row.3 refl refl refl refl refl (omega arith)
-send_alone s p outcome.Full t row = alone_by _ _ _ _ refl row.3 refl refl refl refl refl (omega arith)
-send_alone s p outcome.Closed t row = alone_by _ _ _ _ refl row.2 refl refl refl refl refl (omega arith)
-send_alone s p outcome.NotEnabled t row = alone_by _ _ _ _ refl row.1 refl refl refl refl refl (omega arith)
+send_alone s p outcome.Accepted t row = alone_by _ _ _ _ refl row.3 refl refl refl refl refl refl refl (omega arith)
+send_alone s p outcome.Full t row = alone_by _ _ _ _ refl row.3 refl refl refl refl refl refl refl (omega arith)
+send_alone s p outcome.Closed t row = alone_by _ _ _ _ refl row.2 refl refl refl refl refl refl refl (omega arith)
+send_alone s p outcome.NotEnabled t row = alone_by _ _ _ _ refl row.1 refl refl refl refl refl refl refl (omega arith)
 send_alone s p _ t row = absurd row
 
 undo_leaves : (s : Counts) (p : ℕ) (o : Outcome) (t : Counts) → UndoRow s p o t → Leaves (step.Undo p) o s t
@@ -118,8 +123,8 @@ undo_leaves s p outcome.NotEnabled t row = leaves_by _ _ _ _ _ row.1 refl refl r
 undo_leaves s p _ t row = absurd row
 
 undo_alone : (s : Counts) (p : ℕ) (o : Outcome) (t : Counts) → UndoRow s p o t → LeavesWorker o s t
-undo_alone s p outcome.Undone t row = alone_by _ _ _ _ refl row.1 refl refl refl refl refl (omega arith)
-undo_alone s p outcome.NotEnabled t row = alone_by _ _ _ _ refl row.1 refl refl refl refl refl (omega arith)
+undo_alone s p outcome.Undone t row = alone_by _ _ _ _ refl row.1 refl refl refl refl refl refl refl (omega arith)
+undo_alone s p outcome.NotEnabled t row = alone_by _ _ _ _ refl row.1 refl refl refl refl refl refl refl (omega arith)
 undo_alone s p _ t row = absurd row
 
 ask_leaves : (s : Counts) (p : ℕ) (o : Outcome) (t : Counts) → AskRow s p o t → Leaves (step.Ask p) o s t
@@ -129,9 +134,9 @@ ask_leaves s p outcome.NotEnabled t row = leaves_by _ _ _ _ _ row.1 refl refl re
 ask_leaves s p _ t row = absurd row
 
 ask_alone : (s : Counts) (p : ℕ) (o : Outcome) (t : Counts) → AskRow s p o t → LeavesWorker o s t
-ask_alone s p outcome.AlreadyAsked t row = alone_by _ _ _ _ refl row.2 refl refl refl refl refl (omega arith)
-ask_alone s p outcome.MayPost t row = alone_by _ _ _ _ refl row.2 refl refl refl refl refl (omega arith)
-ask_alone s p outcome.NotEnabled t row = alone_by _ _ _ _ refl row.1 refl refl refl refl refl (omega arith)
+ask_alone s p outcome.AlreadyAsked t row = alone_by _ _ _ _ refl row.2 refl refl refl refl refl refl refl (omega arith)
+ask_alone s p outcome.MayPost t row = alone_by _ _ _ _ refl row.2 refl refl refl refl refl refl refl (omega arith)
+ask_alone s p outcome.NotEnabled t row = alone_by _ _ _ _ refl row.1 refl refl refl refl refl refl refl (omega arith)
 ask_alone s p _ t row = absurd row
 
 post_leaves : (s : Counts) (p : ℕ) (o : Outcome) (t : Counts) → PostRow s p o t → Leaves (step.Post p) o s t
@@ -142,10 +147,10 @@ post_leaves s p outcome.NotEnabled t row = leaves_by _ _ _ _ _ row.1 refl refl r
 post_leaves s p _ t row = absurd row
 
 post_alone : (s : Counts) (p : ℕ) (o : Outcome) (t : Counts) → PostRow s p o t → LeavesWorker o s t
-post_alone s p outcome.Closed t row = alone_by _ _ _ _ refl row.2 refl refl refl refl refl (omega arith)
-post_alone s p outcome.Full t row = alone_by _ _ _ _ refl row.3 refl refl refl refl refl (omega arith)
-post_alone s p outcome.Posted t row = alone_by _ _ _ _ refl row.3 refl refl refl refl refl (omega arith)
-post_alone s p outcome.NotEnabled t row = alone_by _ _ _ _ refl row.1 refl refl refl refl refl (omega arith)
+post_alone s p outcome.Closed t row = alone_by _ _ _ _ refl row.2 refl refl refl refl refl refl refl (omega arith)
+post_alone s p outcome.Full t row = alone_by _ _ _ _ refl row.3 refl refl refl refl refl refl refl (omega arith)
+post_alone s p outcome.Posted t row = alone_by _ _ _ _ refl row.3 refl refl refl refl refl refl refl (omega arith)
+post_alone s p outcome.NotEnabled t row = alone_by _ _ _ _ refl row.1 refl refl refl refl refl refl refl (omega arith)
 post_alone s p _ t row = absurd row
 
 reset_leaves : (s : Counts) (p : ℕ) (o : Outcome) (t : Counts) → ResetRow s p o t → Leaves (step.Reset p) o s t
@@ -154,8 +159,8 @@ reset_leaves s p outcome.NotEnabled t row = leaves_by _ _ _ _ _ row.1 refl refl 
 reset_leaves s p _ t row = absurd row
 
 reset_alone : (s : Counts) (p : ℕ) (o : Outcome) (t : Counts) → ResetRow s p o t → LeavesWorker o s t
-reset_alone s p outcome.ResetDone t row = alone_by _ _ _ _ refl row.1 refl refl refl refl refl (omega arith)
-reset_alone s p outcome.NotEnabled t row = alone_by _ _ _ _ refl row.1 refl refl refl refl refl (omega arith)
+reset_alone s p outcome.ResetDone t row = alone_by _ _ _ _ refl row.1 refl refl refl refl refl refl refl (omega arith)
+reset_alone s p outcome.NotEnabled t row = alone_by _ _ _ _ refl row.1 refl refl refl refl refl refl refl (omega arith)
 reset_alone s p _ t row = absurd row
 
 request_leaves : (s : Counts) (x : Step) (r : Request) (p : ℕ) (o : Outcome) (t : Counts) → ((o : Outcome) (d : ℕ) →
@@ -168,10 +173,10 @@ request_leaves s x r p _ t same row = absurd row
 
 request_alone : (s : Counts) (r : Request) (p : ℕ) (o : Outcome) (t : Counts) → RequestRow s r p o t →
     LeavesWorker o s t
-request_alone s r p outcome.Closed t row = alone_by _ _ _ _ refl row.2 refl refl refl refl refl (omega arith)
-request_alone s r p outcome.Full t row = alone_by _ _ _ _ refl row.3 refl refl refl refl refl (omega arith)
-request_alone s r p outcome.Requested t row = alone_by _ _ _ _ refl row.3 refl refl refl refl refl (omega arith)
-request_alone s r p outcome.NotEnabled t row = alone_by _ _ _ _ refl row.1 refl refl refl refl refl (omega arith)
+request_alone s r p outcome.Closed t row = alone_by _ _ _ _ refl row.2 refl refl refl refl refl refl refl (omega arith)
+request_alone s r p outcome.Full t row = alone_by _ _ _ _ refl row.3 refl refl refl refl refl refl refl (omega arith)
+request_alone s r p outcome.Requested t row = alone_by _ _ _ _ refl row.3 refl refl refl refl refl refl refl (omega arith)
+request_alone s r p outcome.NotEnabled t row = alone_by _ _ _ _ refl row.1 refl refl refl refl refl refl refl (omega arith)
 request_alone s r p _ t row = absurd row
 
 collect_leaves : (s : Counts) (p : ℕ) (o : Outcome) (t : Counts) → CollectRow s p o t → Leaves (step.Collect p) o s t
@@ -180,8 +185,8 @@ collect_leaves s p outcome.NotEnabled t row = leaves_by _ _ _ _ _ row.1 refl ref
 collect_leaves s p _ t row = absurd row
 
 collect_alone : (s : Counts) (p : ℕ) (o : Outcome) (t : Counts) → CollectRow s p o t → LeavesWorker o s t
-collect_alone s p (outcome.Collected answer) t row = alone_by _ _ _ _ refl row.1 refl refl refl refl refl (omega arith)
-collect_alone s p outcome.NotEnabled t row = alone_by _ _ _ _ refl row.1 refl refl refl refl refl (omega arith)
+collect_alone s p (outcome.Collected answer) t row = alone_by _ _ _ _ refl row.1 refl refl refl refl refl refl refl (omega arith)
+collect_alone s p outcome.NotEnabled t row = alone_by _ _ _ _ refl row.1 refl refl refl refl refl refl refl (omega arith)
 collect_alone s p _ t row = absurd row
 
 post_resource_leaves : (s : Counts) (resource : PlainResource) (o : Outcome) (t : Counts) →
@@ -193,9 +198,9 @@ post_resource_leaves s resource _ t row = absurd row
 
 post_resource_alone : (s : Counts) (resource : PlainResource) (o : Outcome) (t : Counts) →
     ResourceRow s resource o t → LeavesWorker o s t
-post_resource_alone s resource outcome.Closed t row = alone_by _ _ _ _ refl row.1 refl refl refl refl refl (omega arith)
-post_resource_alone s resource outcome.Full t row = alone_by _ _ _ _ refl row.2 refl refl refl refl refl (omega arith)
-post_resource_alone s resource outcome.Posted t row = alone_by _ _ _ _ refl row.2 refl refl refl refl refl (omega arith)
+post_resource_alone s resource outcome.Closed t row = alone_by _ _ _ _ refl row.1 refl refl refl refl refl refl refl (omega arith)
+post_resource_alone s resource outcome.Full t row = alone_by _ _ _ _ refl row.2 refl refl refl refl refl refl refl (omega arith)
+post_resource_alone s resource outcome.Posted t row = alone_by _ _ _ _ refl row.2 refl refl refl refl refl refl refl (omega arith)
 post_resource_alone s resource _ t row = absurd row
 
 take_leaves : (s : Counts) (o : Outcome) (t : Counts) → TakeRow s o t → Leaves step.Take o s t
@@ -240,7 +245,7 @@ subtract_leaves s outcome.NotEnabled t row = leaves_by _ _ _ _ _ row.1 refl refl
 subtract_leaves s _ t row = absurd row
 
 close_leaves : (s : Counts) (o : Outcome) (t : Counts) → CloseRow s o t → Leaves step.Close o s t
-close_leaves s outcome.ShutDown t row = leaves_by _ _ _ _ _ row.2 refl refl refl
+close_leaves s outcome.ShutDown t row = leaves_by _ _ _ _ _ row.3 refl refl refl
 close_leaves s outcome.NotEnabled t row = leaves_by _ _ _ _ _ row.1 refl refl refl
 close_leaves s _ t row = absurd row
 

@@ -1,6 +1,7 @@
 -- Drains of the batch queue, from the step that loaded one to the next that finished: what a flush needs in order to
 -- return, and to be right.
-use Rattle.std.specs.Prelude.{◌≡◌, ℕ, suc, ◌+◌, ◌*◌, ◌<◌, ◌≤◌, ◌==◌, ◌&&◌, Bool, true, false, take, drop, sum, length, map, List, [], ◌∷◌, ◌++◌, Some, slice_get, if◌then◌else◌}
+use Rattle.std.specs.Prelude.{◌≡◌, ℕ, suc, ◌+◌, ◌*◌, ◌<◌, ◌≤◌, ◌==◌, ◌&&◌, Bool, true, false, take, drop, sum, length}
+use Rattle.std.specs.Prelude.{map, List, [], ◌∷◌, ◌++◌, Some, slice_get, if◌then◌else◌}
 use Rattle.otel_export.specs.PlainSpanData.{PlainSpanData, spans_in}
 use Rattle.otel_export.specs.Telling.{Tells}
 use Rattle.otel_batch.specs.MachineState.{Machine, Control}
@@ -39,6 +40,11 @@ IsWholeDrain (outcome.Finished e ∷ (o ∷ os)) = ⊥
 IsWholeDrain (outcome.NoMemory ∷ os) = ⊥
 IsWholeDrain (_ ∷ os) = IsWholeDrain os
 
+-- all of the steps are the worker's
+abbrev pub AreWorkers : List Step → Type 0
+AreWorkers [] = Unit {0}
+AreWorkers (x ∷ xs) = (is_workers x ≡ true) × AreWorkers xs
+
 -- none of the outcomes finished a drain
 abbrev pub NoneFinishes : List Outcome → Type 0
 NoneFinishes [] = Unit {0}
@@ -71,6 +77,11 @@ BoundsDrains c xs os =
     (n m target : ℕ) → slice_get os n ≡ Some (outcome.Loaded target) → NoneFinishes (take m (drop (suc n) os)) →
     IsBounded c target (take m (drop (suc n) xs)) (take m (drop (suc n) os))
 
+-- no span waits or is in hand
+pub record IsEmptied {E : Type 0} (t : Machine E) : Type 0 where
+  pub hand : t.hand ≡ []
+  pub waiting : t.waiting ≡ []
+
 module _ {E : Type 0} (calls : Ghosts E) where
   -- between two machines batches of these sizes were handed over, which begin with these spans
   pub record HandsOverFirst (s : Machine E) (spans : List PlainSpanData) (sizes : List ℕ) (t : Machine E)
@@ -101,6 +112,8 @@ module _ {E : Type 0} (calls : Ghosts E) where
     pub handed : length s.hand + length s.waiting
         + length (accepted (holds_at s.control.slots) (take (suc n) xs) (take (suc n) os))
         ≤ sum (batch_sizes (take (suc n) os) ++ batch_sizes (take m (drop (suc n) os)))
+    -- where all steps of the drain were the worker's, nothing is left behind it
+    pub alone : AreWorkers (take m (drop (suc n) xs)) → IsEmptied finish
 
   -- every finished drain of a run that found memory is complete
   abbrev pub CompletesDrains : Machine E → List Step → List Outcome → Machine E → Type 0

@@ -13,3 +13,5 @@ pub mod KnownRequests
 pub mod Conservation
 pub mod ShutdownSilence
 pub mod Drains
+pub mod WorkLeft
+pub mod DrainAnswers

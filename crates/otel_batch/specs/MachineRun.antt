@@ -1,5 +1,6 @@
 -- Lists of steps of the batch queue, one after another.
-use Rattle.std.specs.Prelude.{◌≡◌, ℕ, ◌==◌, ◌+◌, ◌^◌, ◌-◌, min, drop, length, List, [], ◌∷◌, ◌++◌, slice_get, if◌then◌else◌}
+use Rattle.std.specs.Prelude.{◌≡◌, ℕ, ◌==◌, ◌+◌, ◌^◌, ◌-◌, min, take, drop, length, List, [], ◌∷◌, ◌++◌, slice_get}
+use Rattle.std.specs.Prelude.{if◌then◌else◌}
 use Rattle.otel_export.specs.PlainSpanData.{PlainSpanData}
 use Rattle.otel_batch.specs.Slots.{held}
 use Rattle.otel_batch.specs.MachineState.{Machine, counts}
@@ -31,6 +32,12 @@ module _ {E : Type 0} (calls : Ghosts E) where
   Run s (x ∷ xs) (o ∷ os) t = (between : Machine E) × Stepped s x o between × Run between xs os t
   Run s [] (o ∷ os) t = ⊥
   Run s (x ∷ xs) [] t = ⊥
+
+  -- a run of these steps and then those, in two: the second begins where the first ended
+  pub record SplitsRun (s : Machine E) (xs ys : List Step) (os : List Outcome) (t : Machine E) : Type 0 where
+    pub between : Machine E
+    pub first : Run s xs (take (length xs) os) between
+    pub second : Run between ys (drop (length xs) os) t
 
 -- the span that each producer holds in these slots
 abbrev pub holds_at : List Slot → ℕ → List PlainSpanData

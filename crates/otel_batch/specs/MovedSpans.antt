@@ -1,11 +1,12 @@
 -- Where the spans go in one step of the batch queue, and what the exporter is asked.
-use Rattle.std.specs.Prelude.{◌≡◌, ℕ, [], ◌∷◌, ◌++◌, Result, slice_get}
+use Rattle.std.specs.Prelude.{◌≡◌, ℕ, [], ◌∷◌, ◌++◌, Option, Result, slice_get}
 use Rattle.otel_base.specs.declared.error.OTelSdkError.{OTelSdkError}
 use Rattle.otel_export.specs.RestsOr.{RestsOr, StaysOr}
 use Rattle.otel_export.specs.Telling.{Tells}
 use Rattle.otel_batch.specs.Slots.{held}
 use Rattle.otel_batch.specs.Messages.{resource_in}
 use Rattle.otel_batch.specs.MachineState.{Machine}
+use Rattle.otel_batch.specs.PermittedStep.{IsErrorOf}
 use Rattle.otel_batch.specs.declared.machine.step.Outcome.{Outcome}
 use Rattle.otel_batch.specs.declared.machine.step.Outcome.TheVariants as outcome
 use Rattle.otel_batch.specs.declared.machine.step.Step.{Step}
@@ -30,9 +31,12 @@ pub record PullsSpan {E : Type 0} (s t : Machine E) : Type 0 where
   pub both : t.hand ++ t.waiting ≡ s.hand ++ s.waiting
 
 module _ {E : Type 0} (calls : Ghosts E) where
-  -- the exporter is handed the hand as a batch, and its answer is the drain's result
-  pub record ExportsHand (s t : Machine E) : Type 0 where
-    pub gives : calls.export_gives s.exporter s.hand t.control.result t.exporter
+  -- the exporter is handed the hand as a batch. This is the error of its answer, and its answer is the drain's result
+  pub record ExportsHand (s : Machine E) (error : Option OTelSdkError) (t : Machine E) : Type 0 where
+    pub answer : Result (Unit {0}) OTelSdkError
+    pub gives : calls.export_gives s.exporter s.hand answer t.exporter
+    pub says : IsErrorOf answer error
+    pub kept : t.control.result ≡ answer
     pub told : Tells (calls.told s.exporter) (s.hand ∷ []) (calls.told t.exporter)
     pub hand : t.hand ≡ []
     pub waiting : t.waiting ≡ s.waiting
@@ -57,7 +61,7 @@ module _ {E : Type 0} (calls : Ghosts E) where
   abbrev pub Moved : Machine E → Step → Outcome → Machine E → Type 0
   Moved s (step.Send p) outcome.Accepted t = QueuesSpan s p t
   Moved s step.Pull outcome.Pulled t = PullsSpan s t
-  Moved s step.HandOver (outcome.HandedOver k e) t = ExportsHand s t
+  Moved s step.HandOver (outcome.HandedOver k e) t = ExportsHand s e t
   Moved s step.Take outcome.TookResource t = PassesResource s t
   Moved s step.Close outcome.ShutDown t = ShutsExporter s t
   Moved s _ _ t = Keeps s t

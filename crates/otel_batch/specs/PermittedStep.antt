@@ -1,7 +1,9 @@
 -- The table of the batch queue's steps. It sees of the spans that wait or are in hand only how many they are: a
 -- relation for each step between the state before it, what it is given, its outcome, and the state after it, by cases on
 -- the outcome. A step that is not enabled changes nothing, and answers so only where no other case holds.
-use Rattle.std.specs.Prelude.{◌≡◌, ℕ, zero, suc, ◌+◌, ◌-◌, ◌<◌, ◌==◌, Bool, true, false, Option, Some, None, Result, Ok, Err, sum_by, [], ◌∷◌, ◌++◌, length, drop, slice_get, slice_set, nat_lt, nat_le, if◌then◌else◌, string_bytes}
+use Rattle.std.specs.Prelude.{◌≡◌, ℕ, zero, suc, ◌+◌, ◌-◌, ◌<◌, ◌==◌, Bool, true, false, Option, Some, None, Result}
+use Rattle.std.specs.Prelude.{Ok, Err, sum_by, [], ◌∷◌, ◌++◌, length, drop, slice_get, slice_set, nat_lt, nat_le}
+use Rattle.std.specs.Prelude.{if◌then◌else◌, string_bytes}
 use Rattle.std.specs.Result.{result_err}
 use Rattle.otel_base.specs.Resource.{PlainResource}
 use Rattle.otel_base.specs.declared.error.OTelSdkError.{OTelSdkError}
@@ -10,7 +12,8 @@ use Rattle.otel_export.specs.PlainSpanData.{PlainSpanData, is_sampled}
 use Rattle.otel_export.specs.StoredBatches.{one_more}
 use Rattle.otel_batch.specs.Slots.{is_idle, is_holding, number_held, is_refused, is_asking, is_posting, is_resetting, is_answered}
 use Rattle.otel_batch.specs.Messages.{message_of, message_names, is_resource}
-use Rattle.otel_batch.specs.Workers.{is_ready, is_clearing, is_loading, is_pulling, is_handing, is_subtracting, is_finishing, is_closing, closing_of}
+use Rattle.otel_batch.specs.Workers.{is_ready, is_clearing, is_loading, is_pulling, is_handing, is_subtracting}
+use Rattle.otel_batch.specs.Workers.{is_finishing, is_closing, closing_of}
 use Rattle.otel_batch.specs.MachineState.{Counts, limit_of}
 use Rattle.otel_batch.specs.declared.machine.state.Slot.{Slot}
 use Rattle.otel_batch.specs.declared.machine.state.Slot.TheVariants as slot
@@ -354,14 +357,15 @@ abbrev pub IsDropped : ℕ → Option Slot → Option Slot → Type 0
 IsDropped zero old new = new ≡ old
 IsDropped (suc n) old new = SaysDropped new
 
--- the one who asked for the shutdown has Ok, whoever else has a request in the control queue has an error, and the
--- control queue is empty
+-- the one who asked for the shutdown has Ok, whoever else has a request in the control queue has an error, there are as
+-- many producers as before, and the control queue is empty
 abbrev pub CloseRow : Counts → Outcome → Counts → Type 0
 CloseRow s outcome.ShutDown t =
     (is_closing s.control.worker ≡ true)
     × ((p : ℕ) → IsDropped (sum_by (message_names p) s.control.messages)
     (slice_get (slice_set s.control.slots (closing_of s.control.worker) (slot.Answered (Ok tt))) p)
     (slot_at t p))
+    × (length t.control.slots ≡ length s.control.slots)
     × (t ≡ record s {
       control = record s.control {
         messages = [];

@@ -7,15 +7,18 @@ use Rattle.otel_batch.specs.declared.machine.step.Outcome.TheVariants as outcome
 use Rattle.otel_batch.specs.declared.machine.step.Step.{Step}
 use Rattle.otel_export.specs.declared.trace.export.SpanExporter.{Ghosts}
 
--- along a run with these outcomes the machine stayed closed, no batch was handed over, and the exporter is the same
+-- along a run with these outcomes the machine stayed closed, no batch was handed over, and the exporter and the spans
+-- that wait or are in hand are the same
 pub record StaysSilent {E : Type 0} (s : Machine E) (os : List Outcome) (t : Machine E) : Type 0 where
   pub exporter : t.exporter ≡ s.exporter
+  pub hand : t.hand ≡ s.hand
+  pub waiting : t.waiting ≡ s.waiting
   pub closed : t.control.closed ≡ true
   pub no_batch : batch_sizes os ≡ []
 
 module _ {E : Type 0} (calls : Ghosts E) where
   -- the n-th step of a run completed a shutdown: it changed nothing that the exporter tells, and behind it no batch was
-  -- handed over, and the exporter is the same to the end
+  -- handed over, and the exporter and the spans that wait or are in hand are the same to the end
   pub record IsSilentBehind (n : ℕ) (s : Machine E) (xs : List Step) (os : List Outcome) (t : Machine E) : Type 0 where
     -- the machine before that step, and behind it
     pub before : Machine E
@@ -25,6 +28,8 @@ module _ {E : Type 0} (calls : Ghosts E) where
     pub behind : Run calls shut (drop (suc n) xs) (drop (suc n) os) t
     pub told : calls.told shut.exporter ≡ calls.told before.exporter
     pub exporter : t.exporter ≡ shut.exporter
+    pub hand : t.hand ≡ shut.hand
+    pub waiting : t.waiting ≡ shut.waiting
     pub no_batch : batch_sizes (drop (suc n) os) ≡ []
 
   -- so it is behind every step that completed a shutdown

@@ -3,17 +3,20 @@
 //! and runs are joined: so a caller that takes its steps one at a time has of them all together what
 //! `BatchMachine::run` promises.
 
-ghost use Rattle.std.specs.Prelude.{◌≡◌, ℕ, ◌≤◌, ◌+◌, List, [], ◌∷◌, ◌++◌, true, length, slice_get};
+ghost use Rattle.std.specs.Prelude.{◌≡◌, ℕ, ◌<◌, ◌≤◌, ◌+◌, List, [], ◌∷◌, ◌++◌, true, length, slice_get};
 ghost use Rattle.otel_batch.specs.MachineState.{Machine, Counts, counts};
 ghost use Rattle.otel_batch.specs.Slots.{slot_waits};
 ghost use Rattle.otel_batch.specs.Workers.{is_gone};
 ghost use Rattle.otel_batch.specs.SoundMachine.{IsSound};
 ghost use Rattle.otel_batch.specs.PermittedStep.{Permitted};
-ghost use Rattle.otel_batch.specs.MachineRun.{Run, Stepped, accepted, batch_sizes, counted_up, full_sends, holds_at};
+ghost use Rattle.otel_batch.specs.MachineRun.{Run, SplitsRun, Stepped, accepted, batch_sizes, counted_up, full_sends};
+ghost use Rattle.otel_batch.specs.MachineRun.{holds_at};
 ghost use Rattle.otel_batch.specs.Conservation.{Conserves, IsFirst, LosesNoSpan};
 ghost use Rattle.otel_batch.specs.KnownRequests.{KnowsRequests};
 ghost use Rattle.otel_batch.specs.ShutdownSilence.{SilentAfterShutdown, StaysSilent};
-ghost use Rattle.otel_batch.specs.Drains.{BoundsDrains, CompletesDrains, FitBatches, largest_batch};
+ghost use Rattle.otel_batch.specs.Drains.{BoundsDrains, CompletesDrains, FitBatches, is_workers, largest_batch};
+ghost use Rattle.otel_batch.specs.DrainAnswers.{AnswersDrains};
+ghost use Rattle.otel_batch.specs.WorkLeft.{is_work, work_added, work_left, work_steps};
 ghost use Rattle.otel_batch.specs.declared.machine.step.Outcome.{Outcome};
 ghost use Rattle.otel_batch.specs.declared.machine.step.Outcome.TheVariants as outcome;
 ghost use Rattle.otel_batch.specs.declared.machine.step.Step.{Step};
@@ -32,6 +35,12 @@ pub fn runs_are_joined<E: SpanExporter>()
     ensures { (s m t : Machine E) (xs ys : List Step) (os ps : List Outcome)
         → Run E.SpanExporter s xs os m → Run E.SpanExporter m ys ps t
         → Run E.SpanExporter s (xs ++ ys) (os ++ ps) t }
+{}
+
+/// A run is split at any place: behind its first steps is a machine from which the others run.
+pub fn runs_are_split<E: SpanExporter>()
+    ensures { (s t : Machine E) (xs ys : List Step) (os : List Outcome)
+        → Run E.SpanExporter s (xs ++ ys) os t → SplitsRun E.SpanExporter s xs ys os t }
 {}
 
 /// A run from a machine that keeps its invariants ends in one that does.
@@ -63,6 +72,13 @@ pub fn runs_complete_drains<E: SpanExporter>()
         → IsSound (counts s) → Run E.SpanExporter s xs os t → CompletesDrains E.SpanExporter s xs os t }
 {}
 
+/// A finished drain's answer is what its outcomes say: the error of its last batch, or that there was no memory behind
+/// it, or Ok. Who asked for a flush has it.
+pub fn runs_answer_drains<E: SpanExporter>()
+    ensures { (s t : Machine E) (xs : List Step) (os : List Outcome)
+        → IsSound (counts s) → Run E.SpanExporter s xs os t → AnswersDrains E.SpanExporter s xs os t }
+{}
+
 /// A drain takes a bounded number of the worker's steps, and no batch is empty or too large.
 pub fn runs_bound_drains<E: SpanExporter>()
     ensures bounded { (s t : Machine E) (xs : List Step) (os : List Outcome)
@@ -78,6 +94,20 @@ pub fn targets_cover_what_waits()
         → s.waiting ≤ n }
     ensures fits { (s t : Counts) (n : ℕ) → IsSound s → Permitted s step.Load (outcome.Loaded n) t
         → n ≤ s.control.queue_size + length s.control.slots }
+{}
+
+/// Each step of the worker lessens the work that is left, but for one that was not enabled or found nothing to do, and
+/// the timer's.
+pub fn the_worker_lessens_its_work()
+    ensures { (s t : Counts) (x : Step) (o : Outcome) → Permitted s x o t
+        → is_workers x ≡ true → is_work o ≡ true → work_left t < work_left s }
+{}
+
+/// In a run the worker takes at most as many of these steps as are left at its start, and are added in it by what
+/// producers put into the queues and by the timer.
+pub fn runs_bound_the_worker<E: SpanExporter>()
+    ensures { (s t : Machine E) (xs : List Step) (os : List Outcome) → Run E.SpanExporter s xs os t
+        → work_steps xs os + work_left (counts t) ≤ work_left (counts s) + work_added os }
 {}
 
 /// Each request is in the control queue, with the worker or answered, in one of the three and once, up to the step that

@@ -1,4 +1,3 @@
 //! Tests of `otel_batch`.
 
-mod batch_config;
 mod machine;

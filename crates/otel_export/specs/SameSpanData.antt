@@ -3,10 +3,12 @@ use Rattle.std.specs.Prelude.{◌≡◌, Bool, ◌&&◌, ◌==◌}
 use Rattle.std.specs.Bool.{Decides, beq}
 use Rattle.std.specs.Cmp.Lexicographic.{pointwise, pointwise_decides}
 use Rattle.std.proofs.Common.{ap}
-use Rattle.std.proofs.lemmas.Bool.Decides.{Decides-eqb, Decides-like, Decides-and, Decides-at}
-use Rattle.opentelemetry.specs.Same.{same_text, same_text_decides, same_truth_decides, same_span_context, same_span_context_decides, same_status, same_status_decides}
+use Rattle.std.proofs.lemmas.Bool.Decides.{Decides-eqb, Decides-like, Decides-and}
+use Rattle.opentelemetry.specs.Same.{same_text, same_text_decides, same_truth_decides, same_span_context}
+use Rattle.opentelemetry.specs.Same.{same_span_context_decides, same_status, same_status_decides}
 use Rattle.opentelemetry.specs.SameBuilder.{same_kind, same_kind_decides}
-use Rattle.opentelemetry.specs.SameParts.{same_attributes, same_attributes_decides, same_event, same_event_decides, same_link, same_link_decides, same_scope, same_scope_decides}
+use Rattle.opentelemetry.specs.SameParts.{same_attributes, same_attributes_decides, same_event, same_event_decides}
+use Rattle.opentelemetry.specs.SameParts.{same_link, same_link_decides, same_scope, same_scope_decides}
 use Rattle.otel_export.specs.PlainSpanData.{PlainSpanEvents, PlainSpanLinks, PlainSpanData}
 
 -- whether the events of two spans are the same
@@ -21,9 +23,6 @@ same_span_events_decides a b =
     (Decides-and _ _ (pointwise_decides same_event_decides a.events b.events)
     (Decides-eqb a.dropped_count b.dropped_count))
 
-pub same_span_events_tells : (r : Bool) (a b : PlainSpanEvents) → r ≡ same_span_events a b → Decides r (a ≡ b)
-same_span_events_tells r a b e = Decides-at r (same_span_events a b) e (same_span_events_decides a b)
-
 -- whether the links of two spans are the same
 abbrev pub same_span_links : PlainSpanLinks → PlainSpanLinks → Bool
 same_span_links a b = pointwise same_link a.links b.links && (a.dropped_count == b.dropped_count)
@@ -35,9 +34,6 @@ same_span_links_decides a b =
     (λ e. (ap (λ x. x.links) e, ap (λ x. x.dropped_count) e))
     (Decides-and _ _ (pointwise_decides same_link_decides a.links b.links)
     (Decides-eqb a.dropped_count b.dropped_count))
-
-pub same_span_links_tells : (r : Bool) (a b : PlainSpanLinks) → r ≡ same_span_links a b → Decides r (a ≡ b)
-same_span_links_tells r a b e = Decides-at r (same_span_links a b) e (same_span_links_decides a b)
 
 -- whether two spans are the same one: where they stand, of what kind they are, under which name and scope
 abbrev pub same_identity : PlainSpanData → PlainSpanData → Bool
@@ -131,6 +127,3 @@ same_span_data_decides a b =
     (Decides-and _ _ (same_span_events_decides a.events b.events)
     (Decides-and _ _ (same_span_links_decides a.links b.links)
     (same_status_decides a.status b.status))))))))
-
-pub same_span_data_tells : (r : Bool) (a b : PlainSpanData) → r ≡ same_span_data a b → Decides r (a ≡ b)
-same_span_data_tells r a b e = Decides-at r (same_span_data a b) e (same_span_data_decides a b)

@@ -1,9 +1,5 @@
-pub mod Clauses
 pub mod Cuts
 pub mod Fields
 pub mod Listed
 pub mod OneReading
 pub mod Spelled
-pub mod StepFields
-pub mod StepFollowing
-pub mod StepTexts

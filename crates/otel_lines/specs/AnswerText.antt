@@ -5,7 +5,8 @@ use Rattle.otel_lines.specs.PlainReply.{PlainReply}
 use Rattle.otel_lines.specs.declared.reply.Answer.{Answer}
 use Rattle.otel_lines.specs.declared.reply.Answer.TheVariants as answers
 use Rattle.otel_base.specs.ErrorText.{error_text}
-use Rattle.otel_lines.specs.ReplyText.{line, span_lines, started_line, dropped_line, ok_line, headers_lines, no_headers_line, ignored_line, no_such_span_line, span_exists_line, ended_line}
+use Rattle.otel_lines.specs.ReplyText.{line, span_lines, started_line, dropped_line, ok_line, headers_lines}
+use Rattle.otel_lines.specs.ReplyText.{no_headers_line, ignored_line, no_such_span_line, span_exists_line, ended_line}
 
 -- the line of an answer; headers have one each
 abbrev pub answer_line : Answer → List ℕ

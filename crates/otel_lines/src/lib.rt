@@ -5,7 +5,6 @@ pub mod command;
 pub mod lines;
 pub mod reply;
 pub mod reply_text;
-pub mod steps;
 
 pub use command::Command;
 pub use lines::{Script, parse};

@@ -303,7 +303,7 @@ fn is_field(text: &str) -> bool
 }
 
 /// The first field of a text and what stands behind the space that ends it; none where no field ends in a space.
-pub(crate) fn first_field(text: &str) -> Option<(&str, &str)>
+pub fn first_field(text: &str) -> Option<(&str, &str)>
     ensures { MatchOption result
         ((front rest : List ℕ) → IsField front → text.now ≡ front ++ 32 ∷ rest → ⊥)
         (λ parts. IsField parts.0.now × (text.now ≡ parts.0.now ++ 32 ∷ parts.1.now)) }
@@ -338,7 +338,7 @@ pub fn number_of(digits: &str) -> Option<u64>
 }
 
 /// The first line of a text, without what ends it, and the text behind it; none where the text is empty.
-pub(crate) fn first_line(text: &[u8]) -> Option<(&[u8], &[u8])>
+pub fn first_line(text: &[u8]) -> Option<(&[u8], &[u8])>
     ensures { MatchOption result
         (lines_of text.now ≡ [])
         (λ parts. (lines_of text.now ≡ parts.0.now ∷ lines_of parts.1.now) × (length parts.1.now < length text.now)) }

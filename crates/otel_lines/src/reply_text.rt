@@ -37,7 +37,7 @@ fn push_event(text: &mut String, event: &Event) -> Result<(), AllocError>
 }
 
 /// A comma before each item but the first.
-pub(crate) fn push_comma(text: &mut String, i: usize) -> Result<(), AllocError>
+pub fn push_comma(text: &mut String, i: usize) -> Result<(), AllocError>
     ensures { OnOk result (TextGrows text.old (comma_before i) text.new) }
 {
     if i == 0 { Ok(()) } else { text.push(',') }
@@ -301,7 +301,7 @@ pub fn write_reply(
 }
 
 /// Puts a whole text behind what was written, or nothing where memory runs out.
-pub(crate) fn write_text(out: &mut Vec<u8>, text: &str) -> Result<(), AllocError>
+pub fn write_text(out: &mut Vec<u8>, text: &str) -> Result<(), AllocError>
     ensures ok { OnOk result (out.new.items ≡ out.old.items ++ text.now) }
     ensures err { OnErr result (out.new.items ≡ out.old.items) }
     ensures free { text.now ≡ [] → IsOk result }

@@ -1,4 +1,3 @@
 //! Tests of `otel_lines`.
 
-mod lines;
 mod reply_text;

@@ -4,12 +4,12 @@ use Rattle.std.specs.declared.alloc.AllocError.{AllocError}
 use Rattle.otel_base.specs.declared.error.OTelSdkError.{OTelSdkError}
 use Rattle.otel_base.specs.declared.trace.sampler.ShouldSample as sampling
 use Rattle.otel_base.specs.declared.trace.id_generator.IdGenerator as drawing
-use Rattle.opentelemetry_sdk.specs.Provider.{ProviderState}
-use Rattle.opentelemetry_sdk.specs.declared.trace.span_processor.SpanProcessor.{Ghosts}
+use Rattle.otel_pipeline.specs.Provider.{ProviderState}
+use Rattle.otel_pipeline.specs.declared.trace.span_processor.SpanProcessor.{Ghosts}
 use Rattle.otel_session.specs.declared.exported.KeepsBatches as keeping
 use Rattle.otel_lines.specs.ReplyText.{span_lines}
 use Rattle.otel_export.specs.PlainSpanData.{spans_in}
-use Rattle.otel_lines.proofs.Clauses.{fails_on_err}
+use Rattle.opentelemetry.proofs.Clauses.{fails_on_err}
 use Rattle.otel_session.specs.SessionDelivery.{SessionState, Closes, ShutsIfOpen, batches_of_first, or_no_memory}
 
 pub closes : {P S G : Type 0} (calls : Ghosts P) (batches : keeping.Ghosts P) (sampler : sampling.Ghosts S) (ids : drawing.Ghosts G) (session : SessionState P S G) (provider : ProviderState P S G)

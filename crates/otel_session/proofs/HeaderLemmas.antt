@@ -14,9 +14,9 @@ use Rattle.otel_base.specs.Traceparent.{ExtractsTraceContext, InjectsTraceContex
 use Rattle.otel_session.specs.Headers.{SaysContext}
 
 -- a span context is valid or not
-some_or_none : (n : ℕ) → (0 < n) ⊎ (n ≡ 0)
-some_or_none zero = inr refl
-some_or_none (suc n) = inl (omega arith)
+positive_or_zero : (n : ℕ) → (0 < n) ⊎ (n ≡ 0)
+positive_or_zero zero = inr refl
+positive_or_zero (suc n) = inl (omega arith)
 
 valid_by : (trace_id span_id : ℕ) → (0 < trace_id) ⊎ (trace_id ≡ 0) → (0 < span_id) ⊎ (span_id ≡ 0) → ((0 < trace_id) × (0 < span_id)) ⊎ ¬ ((0 < trace_id) × (0 < span_id))
 valid_by t s (inl a) (inl b) = inl (a, b)
@@ -32,7 +32,7 @@ pub headers_injected : (cx : PlainContext) (old new : Texts) (parent state : Lis
     → old traceparent_field ≡ None → Some parent ≡ new traceparent_field → Some state ≡ new tracestate_field
     → IsValid (current_span_context cx) × (parent ≡ traceparent_of (current_span_context cx)) × (state ≡ tracestate_text (current_span_context cx).trace_state)
 headers_injected cx old new parent state injects none has_parent has_state =
-    by (valid_by (current_span_context cx).trace_id (current_span_context cx).span_id (some_or_none (current_span_context cx).trace_id) (some_or_none (current_span_context cx).span_id))
+    by (valid_by (current_span_context cx).trace_id (current_span_context cx).span_id (positive_or_zero (current_span_context cx).trace_id) (positive_or_zero (current_span_context cx).span_id))
   where
     by : IsValid (current_span_context cx) ⊎ ¬ (IsValid (current_span_context cx)) → IsValid (current_span_context cx) × (parent ≡ traceparent_of (current_span_context cx)) × (state ≡ tracestate_text (current_span_context cx).trace_state)
     by (inl valid) =

@@ -7,12 +7,12 @@ use Rattle.otel_base.specs.declared.error.OTelSdkError.TheVariants as errors
 use Rattle.otel_base.specs.declared.trace.sampler.ShouldSample as sampling
 use Rattle.otel_base.specs.declared.trace.id_generator.IdGenerator as drawing
 use Rattle.otel_export.specs.PlainSpanData.{PlainSpanData}
-use Rattle.opentelemetry_sdk.specs.Deliveries.{Delivery, EachFollows, EachOpenHears}
-use Rattle.opentelemetry_sdk.specs.Ending.{Delivers, TakesAndTells, end_delivers}
-use Rattle.opentelemetry_sdk.specs.Provider.{FlushesProcessor, ProviderState, ShutsDown}
-use Rattle.opentelemetry_sdk.specs.SpanHistory.{SpanHistory, Edit, begun, over}
-use Rattle.opentelemetry_sdk.specs.declared.trace.span_processor.SpanProcessor.{Ghosts}
-use Rattle.opentelemetry_sdk.proofs.Following.{EachFollows-same, EachFollows-append, EachStays, hears_first, hears_no_delivery, hears_on, stays_same, stays_asked}
+use Rattle.otel_pipeline.specs.Deliveries.{Delivery, EachFollows, EachOpenHears}
+use Rattle.otel_pipeline.specs.Ending.{Delivers, TakesAndTells, end_delivers}
+use Rattle.otel_pipeline.specs.Provider.{FlushesProcessor, ProviderState, ShutsDown}
+use Rattle.otel_pipeline.specs.SpanHistory.{SpanHistory, Edit, begun, over}
+use Rattle.otel_pipeline.specs.declared.trace.span_processor.SpanProcessor.{Ghosts}
+use Rattle.otel_pipeline.proofs.Following.{EachFollows-same, EachFollows-append, EachStays, hears_first, hears_no_delivery, hears_on, stays_same, stays_asked}
 use Rattle.otel_lines.specs.Commands.{PlainCommand, start, child, remote, attr, event, status, inject, end, flush, shutdown}
 use Rattle.otel_lines.specs.PlainReply.{PlainReply}
 use Rattle.otel_session.specs.SessionDelivery.{Course, EditDemands, InjectDemands, StartDemands, ChildDemands, EndDemands, Demands, DemandAll, batches_of_first}

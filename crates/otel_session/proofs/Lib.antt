@@ -1,4 +1,3 @@
-pub mod ProgramLemmas
 pub mod CloseLemmas
 pub mod FeedLemmas
 pub mod HeardLemmas

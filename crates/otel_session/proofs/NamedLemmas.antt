@@ -1,5 +1,5 @@
 -- A map whose keys are texts, seen as the spans of their names.
-use Rattle.std.proofs.Common.{◌≡◌, ℕ, Bool, true, false, cond, if◌then◌else◌, List, [], ◌∷◌, string_bytes, String, Option, Some, None, is_some, refl, sym, ◌∙◌, ap, subst}
+use Rattle.std.proofs.Common.{◌≡◌, ℕ, Bool, true, false, cond, if◌then◌else◌, List, [], ◌∷◌, string_bytes, String, Option, Some, None, Result, Ok, Err, IfOk, OnErr, refl, sym, ◌∙◌, ap, subst, inl, inr}
 use Rattle.std.specs.Ordering.{nat_cmp}
 use Rattle.std.specs.Cmp.{eq_by_cmp_equiv}
 use Rattle.std.specs.Cmp.Lexicographic.{slice_cmp, nat_list_cmp_total}
@@ -12,11 +12,15 @@ use Rattle.opentelemetry.proofs.TextMapLemmas.{equal_from}
 use Rattle.opentelemetry.specs.Plain.{PlainContext, PlainScope}
 use Rattle.otel_base.specs.declared.trace.sampler.ShouldSample as sampling
 use Rattle.otel_base.specs.declared.trace.id_generator.IdGenerator as drawing
-use Rattle.opentelemetry_sdk.specs.Provider.{ProviderState}
-use Rattle.opentelemetry_sdk.specs.SpanHistory.{PlainSpan}
-use Rattle.opentelemetry_sdk.specs.declared.trace.span_processor.SpanProcessor.{Ghosts}
+use Rattle.otel_pipeline.specs.Provider.{ProviderState}
+use Rattle.std.specs.Option.{option_map}
+use Rattle.otel_pipeline.specs.SpanHistory.{PlainSpan, SpanHistory, HasHistory, Edit, edited, edited_if, ended, span_of}
+use Rattle.otel_pipeline.proofs.SpanLaws.{keeps_history, over_history}
+use Rattle.otel_pipeline.specs.declared.trace.span_processor.SpanProcessor.{Ghosts}
 use Rattle.otel_lines.specs.declared.reply.Answer.TheVariants as answers
-use Rattle.otel_session.specs.OpenSpans.{NamedSpans, named, by_name, is_name, PutsSpan, SameSpans, StartsNamed, MayStart}
+use Rattle.otel_lines.specs.declared.reply.Answer.{Answer}
+use Rattle.otel_session.specs.OpenSpans.{HaveHistories, NamedSpans, named, by_name, is_name, PutsSpan, SameSpans, StartsNamed, PutsStarted, MayStart, ChildMayStart}
+use Rattle.otel_session.specs.Headers.{child_cx}
 
 named-lookup : {Y : Type 0} (entries : List (String Y × PlainSpan)) (q : List ℕ) → named (by_name entries) q ≡ lookup (is_at (λ k. slice_cmp nat_cmp q (string_bytes k))) entries
 named-lookup [] q = refl
@@ -54,26 +58,82 @@ put_same old new s span there put = λ q. put q ∙ put_there old s span q (is_n
 pub same_entries : {Y : Type 0} (old new : List (String Y × PlainSpan)) → new ≡ old → SameSpans (by_name old) (by_name new)
 same_entries {Y} old new h = λ q. ap (λ (entries : List (String Y × PlainSpan)). named (by_name entries) q) h
 
--- a name that is taken
-pub starts_taken : {P S G : Type 0} (calls : Ghosts P) (sampler : sampling.Ghosts S) (ids : drawing.Ghosts G) (p : ProviderState P S G) (scope : PlainScope) (old : NamedSpans) (name : List ℕ) (cx : PlainContext) (called : List ℕ) (now : ℕ) (found : Option PlainSpan)
-    → is_some found ≡ true → StartsNamed calls sampler ids p scope old name cx called now found answers.SpanExists p old
-starts_taken calls sampler ids p scope old name cx called now None h = cc
-starts_taken calls sampler ids p scope old name cx called now (Some span) h = (refl, refl, λ q. refl)
+-- the same, where the new entries are those that an entry of the old map says
+pub puts_written : {Y : Type 0} (m written : BTreeMap (String Y) PlainSpan) (entries : List (String Y × PlainSpan)) (s : List ℕ) (value span : PlainSpan) → value ≡ span → entries ≡ written.entries
+    → UpdatesBy string_cmp (λ k. slice_cmp nat_cmp s (string_bytes k)) m written (Some value) → PutsSpan (by_name m.entries) s span (by_name entries)
+puts_written {Y} m written entries s value span same e h =
+    subst (λ (l : List (String Y × PlainSpan)). PutsSpan (by_name m.entries) s span (by_name l)) (sym e)
+    (subst (λ (v : PlainSpan). PutsSpan (by_name m.entries) s v (by_name written.entries)) same (puts_span m written s value h))
 
--- a start under a name that is free
-pub may_start_free : {P S G : Type 0} (calls : Ghosts P) (sampler : sampling.Ghosts S) (ids : drawing.Ghosts G) (p q : ProviderState P S G) (scope : PlainScope) (cx : PlainContext) (called : List ℕ) (now : ℕ) (found : Option PlainSpan)
-    → found ≡ None → MayStart calls sampler ids p scope cx called now None q → MayStart calls sampler ids p scope cx called now found q
-may_start_free calls sampler ids p q scope cx called now found free h = subst (λ (o : Option PlainSpan). MayStart calls sampler ids p scope cx called now o q) (sym free) h
+-- a start under a name that has a span, which stays
+pub starts_taken : {P S G : Type 0} (calls : Ghosts P) (sampler : sampling.Ghosts S) (ids : drawing.Ghosts G) (p : ProviderState P S G) (scope : PlainScope) (old new : NamedSpans) (name : List ℕ) (cx : PlainContext) (called : List ℕ) (now : ℕ) (span : PlainSpan)
+    → named old name ≡ Some span → PutsSpan old name span new → StartsNamed calls sampler ids p scope old name cx called now (named old name) answers.SpanExists p new
+starts_taken {P} {S} {G} calls sampler ids p scope old new name cx called now span there put =
+    subst (λ (found : Option PlainSpan). StartsNamed calls sampler ids p scope old name cx called now found answers.SpanExists p new) (sym there) (refl, refl, put_same old new name span there put)
 
-pub may_start_taken : {P S G : Type 0} (calls : Ghosts P) (sampler : sampling.Ghosts S) (ids : drawing.Ghosts G) (p : ProviderState P S G) (scope : PlainScope) (cx : PlainContext) (called : List ℕ) (now : ℕ) (found : Option PlainSpan)
-    → is_some found ≡ true → MayStart calls sampler ids p scope cx called now found p
-may_start_taken calls sampler ids p scope cx called now None h = cc
-may_start_taken calls sampler ids p scope cx called now (Some span) h = refl
+-- a start under a name that has none
+pub starts_free : {P S G : Type 0} (calls : Ghosts P) (sampler : sampling.Ghosts S) (ids : drawing.Ghosts G) (p q : ProviderState P S G) (scope : PlainScope) (old new : NamedSpans) (name : List ℕ) (cx : PlainContext) (called : List ℕ) (now : ℕ) (answer : Answer)
+    → named old name ≡ None → PutsStarted calls sampler ids p scope old name cx called now answer q new → StartsNamed calls sampler ids p scope old name cx called now (named old name) answer q new
+starts_free {P} {S} {G} calls sampler ids p q scope old new name cx called now answer free h =
+    subst (λ (found : Option PlainSpan). StartsNamed calls sampler ids p scope old name cx called now found answer q new) (sym free) h
 
-none_from_test : {X : Type 0} (o : Option X) (b : Bool) → b ≡ is_some o → b ≡ false → o ≡ None
-none_from_test None b e h = refl
-none_from_test (Some x) b e h = cc
+-- a start that is refused, under a name that has no span
+pub may_start_free : {P S G : Type 0} (sampler : sampling.Ghosts S) (ids : drawing.Ghosts G) (p q : ProviderState P S G) (cx : PlainContext) (called : List ℕ) (found : Option PlainSpan)
+    → found ≡ None → MayStart sampler ids p cx called None q → MayStart sampler ids p cx called found q
+may_start_free {P} {S} {G} sampler ids p q cx called found free h = subst (λ (o : Option PlainSpan). MayStart sampler ids p cx called o q) (sym free) h
 
--- a name of which a test says that it is free
-pub is_free : (spans : NamedSpans) (name text : List ℕ) (b : Bool) → text ≡ name → b ≡ is_some (named spans text) → b ≡ false → named spans name ≡ None
-is_free spans name text b same test fails = none_from_test (named spans name) b (test ∙ ap (λ (n : List ℕ). is_some (named spans n)) same) fails
+-- two clauses of a result that is an error
+pub on_err_both : {T E : Type 0} {A B C : Type 0} (r : Result T E) → (A → B → C) → OnErr r A → OnErr r B → OnErr r C
+on_err_both (Ok x) f h k = tt
+on_err_both (Err e) f h k = f h k
+
+module _ {P S G : Type 0} (sampler : sampling.Ghosts S) (ids : drawing.Ghosts G) where
+  -- a start that is refused leaves each processor as it was
+  pub refused_start_asks_none : (p q : ProviderState P S G) (cx : PlainContext) (called : List ℕ) (found : Option PlainSpan) → MayStart sampler ids p cx called found q → q.processors ≡ p.processors
+  refused_start_asks_none p q cx called (Some span) h = absurd h
+  refused_start_asks_none p q cx called None (inl e) = ap (λ (r : ProviderState P S G). r.processors) e
+  refused_start_asks_none p q cx called None (inr h) = ap (λ (r : ProviderState P S G). r.processors) h.rest
+
+  pub refused_child_asks_none : (p q : ProviderState P S G) (parent : Option PlainSpan) (called : List ℕ) (found : Option PlainSpan) → ChildMayStart sampler ids p parent called found q → q.processors ≡ p.processors
+  refused_child_asks_none p q None called found e = ap (λ (r : ProviderState P S G). r.processors) e
+  refused_child_asks_none p q (Some parent) called found (inl e) = ap (λ (r : ProviderState P S G). r.processors) e
+  refused_child_asks_none p q (Some parent) called found (inr h) = refused_start_asks_none p q (child_cx parent.span_context) called found h
+
+put_history : (spans : NamedSpans) (span was : PlainSpan) (q : List ℕ) (b : Bool) → HaveHistories spans → HasHistory span → (if b then Some span else named spans q) ≡ Some was → HasHistory was
+put_history spans span was q true have has e = let same : span ≡ was = cc in subst HasHistory same has
+put_history spans span was q false have has e = have q was e
+
+-- spans with histories have them still where one is put that has one
+pub puts_history : (old new : NamedSpans) (name : List ℕ) (span : PlainSpan) → HaveHistories old → HasHistory span → PutsSpan old name span new → HaveHistories new
+puts_history old new name span have has put = λ q was there. put_history old span was q (is_name q name) have has (sym (put q) ∙ there)
+
+pub same_histories : (old new : NamedSpans) → HaveHistories old → SameSpans old new → HaveHistories new
+same_histories old new have same = λ q was there. have q was (sym (same q) ∙ there)
+
+-- the history of a span that may be there
+found_history : (found : Option PlainSpan) → ((span : PlainSpan) → found ≡ Some span → HasHistory span) → (history : Option SpanHistory) × (found ≡ option_map span_of history)
+found_history None has = (None, refl)
+found_history (Some span) has = (Some (has span refl).history, ap Some (has span refl).is)
+
+-- histories describe spans that have them
+pub described : (spans : NamedSpans) → HaveHistories spans → (histories : List ℕ → Option SpanHistory) × ((q : List ℕ) → named spans q ≡ option_map span_of (histories q))
+described spans have = (λ q. (found_history (named spans q) (have q)).0, λ q. (found_history (named spans q) (have q)).1)
+
+-- a span keeps its history over an edit, and is over behind its end
+pub edited_has : (edit : Edit) (span : PlainSpan) → HasHistory span → HasHistory (edited edit span)
+edited_has edit span has = keeps_history {T = Unit {0}} {E = Unit {0}} (Ok tt) edit span.span_context span.limits span.recorded (edited_if span.limits edit span.recorded) has refl tt
+
+pub ended_has : (span : PlainSpan) → HasHistory (ended span)
+ended_has span = over_history span.span_context span.limits None refl
+
+module _ {P S G : Type 0} (calls : Ghosts P) (sampler : sampling.Ghosts S) (ids : drawing.Ghosts G) where
+  started_histories : (p q : ProviderState P S G) (scope : PlainScope) (old new : NamedSpans) (name : List ℕ) (cx : PlainContext) (called : List ℕ) (now : ℕ) (found : Option PlainSpan) (answer : Answer)
+      → HaveHistories old → StartsNamed calls sampler ids p scope old name cx called now found answer q new → HaveHistories new
+  started_histories p q scope old new name cx called now None answer have h = puts_history old new name (span_of h.history) have (record { history = h.history; is = refl }) h.put
+  started_histories p q scope old new name cx called now (Some span) answer have h = same_histories old new have h.2
+
+  -- spans with histories have them behind a start, be it refused or not
+  pub start_keeps_histories : {E : Type 0} (result : Result Answer E) (p q : ProviderState P S G) (scope : PlainScope) (old new : NamedSpans) (name : List ℕ) (cx : PlainContext) (called : List ℕ) (now : ℕ) (found : Option PlainSpan)
+      → HaveHistories old → IfOk result (λ answer. StartsNamed calls sampler ids p scope old name cx called now found answer q new) → OnErr result (SameSpans old new) → HaveHistories new
+  start_keeps_histories (Ok answer) p q scope old new name cx called now found have ok err = started_histories p q scope old new name cx called now found answer have ok
+  start_keeps_histories (Err e) p q scope old new name cx called now found have ok err = same_histories old new have err

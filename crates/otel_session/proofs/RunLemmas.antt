@@ -4,9 +4,9 @@ use Rattle.std.proofs.lemmas.List.{map-append}
 use Rattle.opentelemetry.specs.Plain.{PlainScope}
 use Rattle.otel_base.specs.declared.trace.sampler.ShouldSample as sampling
 use Rattle.otel_base.specs.declared.trace.id_generator.IdGenerator as drawing
-use Rattle.opentelemetry_sdk.specs.Deliveries.{Delivery}
-use Rattle.opentelemetry_sdk.specs.declared.trace.span_processor.SpanProcessor.{Ghosts}
-use Rattle.opentelemetry_sdk.proofs.Following.{EachFollows-same, hears_no_delivery}
+use Rattle.otel_pipeline.specs.Deliveries.{Delivery}
+use Rattle.otel_pipeline.specs.declared.trace.span_processor.SpanProcessor.{Ghosts}
+use Rattle.otel_pipeline.proofs.Following.{EachFollows-same, hears_no_delivery}
 use Rattle.otel_session.specs.declared.exported.KeepsBatches as keeping
 use Rattle.otel_session.specs.KeptBatches.{Grows}
 use Rattle.otel_lines.specs.Commands.{PlainCommand, may_lose, plain_command, plain_commands}

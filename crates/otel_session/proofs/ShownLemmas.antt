@@ -1,31 +1,33 @@
 -- The spans that replies show: those of the batches behind the ones that were shown before.
-use Rattle.std.proofs.Common.{◌≡◌, ◌≤◌, ℕ, List, [], ◌∷◌, ◌++◌, Result, Option, Some, None, Bool, true, false, ◌||◌, MatchBool, length, take, drop, refl, sym, ◌∙◌, ap, subst, append_assoc, append-nil, arith, take_all, length-append, length-take-le, take-append-drop, drop_of_length-le, inl, inr}
+use Rattle.std.proofs.Common.{◌≡◌, ◌≤◌, ℕ, List, [], ◌∷◌, ◌++◌, Result, Ok, Err, IfOk, OnErr, Option, Some, None, Bool, true, false, ◌||◌, MatchBool, length, take, drop, refl, sym, ◌∙◌, ap, subst, append_assoc, append-nil, arith, take_all, length-append, length-take-le, take-append-drop, drop_of_length-le, inl, inr}
 use Rattle.std.proofs.lemmas.List.{take-append-le, drop-append-le}
 use Rattle.std.proofs.lemmas.List.Concat.{flat_map-append}
 use Rattle.otel_export.specs.PlainSpanData.{PlainSpanData, spans_in}
 use Rattle.opentelemetry.specs.Plain.{PlainScope}
 use Rattle.opentelemetry.specs.Plain.{PlainContext}
-use Rattle.opentelemetry_sdk.specs.Each.{Each}
-use Rattle.opentelemetry_sdk.specs.declared.trace.span_processor.SpanProcessor.{Ghosts}
+use Rattle.otel_pipeline.specs.Each.{Each}
+use Rattle.otel_pipeline.specs.declared.trace.span_processor.SpanProcessor.{Ghosts}
 use Rattle.otel_base.specs.declared.trace.sampler.SamplingDecision.{SamplingDecision}
 use Rattle.otel_base.specs.declared.trace.sampler.SamplingDecision.TheVariants as decisions
 use Rattle.otel_base.specs.declared.trace.sampler.ShouldSample as sampling
 use Rattle.otel_base.specs.declared.trace.id_generator.IdGenerator as drawing
-use Rattle.opentelemetry_sdk.specs.Provider.{Flushes, FlushesProcessor, ProviderState, ShutsDown, ShutsProcessor}
+use Rattle.otel_pipeline.specs.Provider.{Flushes, FlushesProcessor, ProviderState, ShutsDown, ShutsProcessor}
 use Rattle.std.specs.Bool.{OnTrue, OnFalse}
 use Rattle.std.specs.Result.{IsErrOf}
-use Rattle.opentelemetry_sdk.specs.Starting.{PassesThrough, Decided, StartsOpen}
+use Rattle.otel_pipeline.specs.Starting.{PassesThrough, Decided, StartsOpen}
 use Rattle.opentelemetry.specs.PlainSpanBuilder.{PlainSpanBuilder, named_builder}
 use Rattle.otel_base.specs.declared.error.OTelSdkError.{OTelSdkError}
 use Rattle.otel_base.specs.declared.error.OTelSdkError.TheVariants as errors
-use Rattle.opentelemetry_sdk.specs.Ending.{TakesAndTells}
-use Rattle.opentelemetry_sdk.specs.SpanHistory.{PlainSpan, SpanStart, SpanHistory, over}
+use Rattle.otel_pipeline.specs.Ending.{TakesAndTells}
+use Rattle.otel_pipeline.specs.SpanHistory.{PlainSpan, SpanStart, SpanHistory, over}
 use Rattle.otel_session.specs.declared.exported.KeepsBatches as keeping
 use Rattle.std.specs.declared.alloc.AllocError.{AllocError}
 use Rattle.opentelemetry.specs.PlainContexts.{empty_span_context}
 use Rattle.otel_session.specs.KeptBatches.{Grows, OnlyAppends}
 use Rattle.otel_session.specs.Headers.{child_cx}
-use Rattle.otel_session.specs.OpenSpans.{MayStart, ChildMayStart, MayDeliver}
+use Rattle.otel_session.specs.OpenSpans.{NamedSpans, named, StartsNamed, ChildStartsNamed, MayStart, ChildMayStart, MayDeliver}
+use Rattle.otel_session.proofs.NamedLemmas.{refused_start_asks_none, refused_child_asks_none}
+use Rattle.otel_lines.specs.declared.reply.Answer.{Answer}
 use Rattle.otel_lines.specs.PlainReply.{PlainReply}
 use Rattle.otel_session.specs.SessionDelivery.{SessionState, Shows, NoneLeft, session_batches, batches_of_first, losses_of_first, exported_in, unshown}
 
@@ -118,7 +120,7 @@ module _ {P : Type 0} (calls : Ghosts P) (keeps : keeping.Ghosts P) (law : OnlyA
   passed_keeps cx s t [] [] h = loses_nothing keeps [] [] refl
   passed_keeps cx s t [] (q ∷ qs) h = absurd h
   passed_keeps cx s t (p ∷ ps) [] h = absurd h
-  passed_keeps cx s t (p ∷ ps) (q ∷ qs) h = law.starts p s cx h.0 q h.1
+  passed_keeps cx s t (p ∷ ps) (q ∷ qs) h = law.starts p s cx h.0 q h.1.gives
 
   -- the same where the sampler decided
   decided_keeps : (decision : SamplingDecision) (cx : PlainContext) (start : SpanStart) (ps qs : List P) (history : SpanHistory) → Decided calls decision cx start ps qs history → LosesNothing keeps ps qs
@@ -151,17 +153,26 @@ module _ {P S G : Type 0} (calls : Ghosts P) (keeps : keeping.Ghosts P) (law : O
   started_keeps true old new scope builder cx now history h = stays_keeps old new old.id_generator h.1
   started_keeps false old new scope builder cx now history h = decided_keeps calls keeps law h.answer.decision cx _ old.processors new.processors history h.decided
 
-  pub may_start_keeps : (old new : ProviderState P S G) (scope : PlainScope) (cx : PlainContext) (called : List ℕ) (now : ℕ) (found : Option PlainSpan)
-      → MayStart calls sampler ids old scope cx called now found new → LosesNothing keeps old.processors new.processors
-  may_start_keeps old new scope cx called now (Some span) e = stays_keeps old new old.id_generator e
-  may_start_keeps old new scope cx called now None (inl h) = stays_keeps old new new.id_generator h.rest
-  may_start_keeps old new scope cx called now None (inr h) = started_keeps (old.is_shut || cx.telemetry_suppressed) old new scope (named_builder called) cx now h.0 h.1
+  starts_named_keeps : (old new : ProviderState P S G) (scope : PlainScope) (spans after : NamedSpans) (name : List ℕ) (cx : PlainContext) (called : List ℕ) (now : ℕ) (found : Option PlainSpan) (answer : Answer)
+      → StartsNamed calls sampler ids old scope spans name cx called now found answer new after → LosesNothing keeps old.processors new.processors
+  starts_named_keeps old new scope spans after name cx called now (Some span) answer h = stays_keeps old new old.id_generator h.1
+  starts_named_keeps old new scope spans after name cx called now None answer h = started_keeps (old.is_shut || cx.telemetry_suppressed) old new scope (named_builder called) cx now h.history h.starts
 
-  pub child_may_start_keeps : (old new : ProviderState P S G) (scope : PlainScope) (parent : Option PlainSpan) (called : List ℕ) (now : ℕ) (found : Option PlainSpan)
-      → ChildMayStart calls sampler ids old scope parent called now found new → LosesNothing keeps old.processors new.processors
-  child_may_start_keeps old new scope None called now found e = stays_keeps old new old.id_generator e
-  child_may_start_keeps old new scope (Some parent) called now found (inl e) = stays_keeps old new old.id_generator e
-  child_may_start_keeps old new scope (Some parent) called now found (inr h) = may_start_keeps old new scope (child_cx parent.span_context) called now found h
+  child_starts_named_keeps : (old new : ProviderState P S G) (scope : PlainScope) (spans after : NamedSpans) (name : List ℕ) (parent : Option PlainSpan) (called : List ℕ) (now : ℕ) (answer : Answer)
+      → ChildStartsNamed calls sampler ids old scope spans name parent called now answer new after → LosesNothing keeps old.processors new.processors
+  child_starts_named_keeps old new scope spans after name None called now answer h = stays_keeps old new old.id_generator h.1
+  child_starts_named_keeps old new scope spans after name (Some parent) called now answer h = starts_named_keeps old new scope spans after name (child_cx parent.span_context) called now (named spans name) answer h
+
+  -- a start that was made or refused
+  pub start_keeps : (old new : ProviderState P S G) (scope : PlainScope) (spans after : NamedSpans) (name : List ℕ) (cx : PlainContext) (called : List ℕ) (now : ℕ) (found : Option PlainSpan) (result : Result Answer AllocError)
+      → IfOk result (λ answer. StartsNamed calls sampler ids old scope spans name cx called now found answer new after) → OnErr result (MayStart sampler ids old cx called found new) → LosesNothing keeps old.processors new.processors
+  start_keeps old new scope spans after name cx called now found (Ok answer) h k = starts_named_keeps old new scope spans after name cx called now found answer h
+  start_keeps old new scope spans after name cx called now found (Err error) h k = loses_nothing keeps old.processors new.processors (refused_start_asks_none sampler ids old new cx called found k)
+
+  pub child_keeps : (old new : ProviderState P S G) (scope : PlainScope) (spans after : NamedSpans) (name : List ℕ) (parent : Option PlainSpan) (called : List ℕ) (now : ℕ) (found : Option PlainSpan) (result : Result Answer AllocError)
+      → IfOk result (λ answer. ChildStartsNamed calls sampler ids old scope spans name parent called now answer new after) → OnErr result (ChildMayStart sampler ids old parent called found new) → LosesNothing keeps old.processors new.processors
+  child_keeps old new scope spans after name parent called now found (Ok answer) h k = child_starts_named_keeps old new scope spans after name parent called now answer h
+  child_keeps old new scope spans after name parent called now found (Err error) h k = loses_nothing keeps old.processors new.processors (refused_child_asks_none sampler ids old new parent called found k)
 
 module _ {P : Type 0} (calls : Ghosts P) (keeps : keeping.Ghosts P) (law : OnlyAppends calls keeps.kept keeps.lost) where
   first_flushed : (ps qs : List P) (rs : List (Result (Unit {0}) OTelSdkError)) → Each (FlushesProcessor calls) ps rs qs → Grows (batches_of_first keeps ps) (batches_of_first keeps qs)

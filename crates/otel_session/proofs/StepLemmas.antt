@@ -6,16 +6,16 @@ use Rattle.std.specs.Option.{option_map}
 use Rattle.opentelemetry.specs.Plain.{PlainContext, PlainScope, PlainStatus, text}
 use Rattle.otel_base.specs.declared.error.OTelSdkError.{OTelSdkError}
 use Rattle.otel_base.specs.declared.error.OTelSdkError.TheVariants as errors
-use Rattle.opentelemetry_sdk.specs.SpanHistory.{PlainSpan, SpanHistory, begun, over, Edit, set_attribute, set_status, not_recording, data_of, span_of}
+use Rattle.otel_pipeline.specs.SpanHistory.{PlainSpan, SpanHistory, begun, over, Edit, set_attribute, set_status, not_recording, data_of, span_of}
 use Rattle.otel_base.specs.declared.trace.sampler.ShouldSample as sampling
 use Rattle.otel_base.specs.declared.trace.id_generator.IdGenerator as drawing
-use Rattle.opentelemetry_sdk.specs.Provider.{Flushes, ProviderState, ShutsDown}
+use Rattle.otel_pipeline.specs.Provider.{Flushes, ProviderState, ShutsDown}
 use Rattle.opentelemetry.specs.PlainContexts.{root_cx}
-use Rattle.opentelemetry_sdk.specs.Deliveries.{EachFollows}
-use Rattle.opentelemetry_sdk.specs.Ending.{end_delivers}
-use Rattle.opentelemetry_sdk.proofs.Following.{EachFollows-same, delivered_follows}
-use Rattle.opentelemetry_sdk.proofs.SpanLaws.{edited-recording}
-use Rattle.opentelemetry_sdk.specs.declared.trace.span_processor.SpanProcessor.{Ghosts}
+use Rattle.otel_pipeline.specs.Deliveries.{EachFollows}
+use Rattle.otel_pipeline.specs.Ending.{end_delivers}
+use Rattle.otel_pipeline.proofs.Following.{EachFollows-same, delivered_follows}
+use Rattle.otel_pipeline.proofs.SpanLaws.{edited-recording}
+use Rattle.otel_pipeline.specs.declared.trace.span_processor.SpanProcessor.{Ghosts}
 use Rattle.otel_lines.specs.Commands.{start, child, remote, attr, event, status, inject, end, flush, shutdown}
 use Rattle.otel_session.specs.OpenSpans.{NamedSpans, named, is_name, PutsSpan, SameSpans, StartsNamed, ChildStartsNamed, EditsNamed, EndsNamed, InjectsNamed}
 use Rattle.otel_session.specs.Headers.{SaysContext, child_cx}

@@ -8,13 +8,13 @@ use Rattle.opentelemetry.specs.PlainSpanBuilder.{named_builder}
 use Rattle.otel_base.specs.Agreement.{Agrees}
 use Rattle.otel_base.specs.declared.trace.sampler.ShouldSample as sampling
 use Rattle.otel_base.specs.declared.trace.id_generator.IdGenerator as drawing
-use Rattle.opentelemetry_sdk.specs.Deliveries.{Delivery}
-use Rattle.opentelemetry_sdk.specs.Hops.{GoesByParents}
-use Rattle.opentelemetry_sdk.specs.Provider.{ProviderState}
-use Rattle.opentelemetry_sdk.specs.SpanHistory.{PlainSpan, SpanHistory, Edit, begun, over, span_of}
-use Rattle.opentelemetry_sdk.specs.Starting.{StartsOpen}
-use Rattle.opentelemetry_sdk.specs.declared.trace.span_processor.SpanProcessor.{Ghosts}
-use Rattle.opentelemetry_sdk.proofs.AgreementLemmas.{child_agrees, child_of_start}
+use Rattle.otel_pipeline.specs.Deliveries.{Delivery}
+use Rattle.otel_pipeline.specs.Hops.{GoesByParents}
+use Rattle.otel_pipeline.specs.Provider.{ProviderState}
+use Rattle.otel_pipeline.specs.SpanHistory.{PlainSpan, SpanHistory, Edit, begun, over, span_of}
+use Rattle.otel_pipeline.specs.Starting.{StartsOpen}
+use Rattle.otel_pipeline.specs.declared.trace.span_processor.SpanProcessor.{Ghosts}
+use Rattle.otel_pipeline.proofs.AgreementLemmas.{child_agrees, child_of_start}
 use Rattle.otel_lines.specs.Commands.{PlainCommand, start, child, remote, attr, event, status, inject, end, flush, shutdown}
 use Rattle.otel_session.specs.Headers.{child_cx}
 use Rattle.otel_session.specs.OpenSpans.{NamedSpans, is_name}

@@ -11,13 +11,13 @@ use Rattle.otel_export.specs.RestsOr.{RestsOr}
 use Rattle.otel_export.specs.StoredBatches.{StoredBatches, StoresBatch}
 use Rattle.otel_export.specs.declared.trace.exporter_box.ExporterOf.{ExporterOf}
 use Rattle.otel_export.specs.declared.trace.exporter_box.ExporterOf.TheVariants as exporters
-use Rattle.opentelemetry_sdk.specs.ProcessorKinds.{ProcessorGives}
-use Rattle.opentelemetry_sdk.specs.SpanHistory.{PlainSpan}
-use Rattle.opentelemetry_sdk.specs.declared.trace.span_processor.SpanProcessor.{Ghosts}
+use Rattle.otel_pipeline.specs.ProcessorKinds.{ProcessorGives}
+use Rattle.otel_pipeline.specs.SpanHistory.{PlainSpan}
+use Rattle.otel_pipeline.specs.declared.trace.span_processor.SpanProcessor.{Ghosts}
 use Rattle.otel_export.specs.declared.trace.export.SpanExporter as exporting
-use Rattle.opentelemetry_sdk.specs.SimpleProcessor.{SimpleProcessor, SimpleEnds, ExportsIf}
-use Rattle.opentelemetry_sdk.specs.declared.trace.processor.ProcessorOf.{ProcessorOf}
-use Rattle.opentelemetry_sdk.specs.declared.trace.processor.ProcessorOf.TheVariants as kinds
+use Rattle.otel_pipeline.specs.SimpleProcessor.{SimpleProcessor, SimpleEnds, ExportsIf}
+use Rattle.otel_pipeline.specs.declared.trace.processor.ProcessorOf.{ProcessorOf}
+use Rattle.otel_pipeline.specs.declared.trace.processor.ProcessorOf.TheVariants as kinds
 
 -- a list and another that begins with it
 abbrev pub Grows : {X : Type 0} → List X → List X → Type 0

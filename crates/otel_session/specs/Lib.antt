@@ -1,6 +1,5 @@
 pub mod Headers
 pub mod KeptBatches
 pub mod OpenSpans
-pub mod Program
 pub mod SessionDelivery
 pub mod Traces

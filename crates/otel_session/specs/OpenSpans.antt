@@ -8,12 +8,12 @@ use Rattle.opentelemetry.specs.PlainSpanBuilder.{named_builder}
 use Rattle.otel_base.specs.declared.trace.sampler.ShouldSample as sampling
 use Rattle.otel_base.specs.declared.trace.id_generator.IdGenerator as drawing
 use Rattle.otel_export.specs.PlainSpanData.{PlainSpanData}
-use Rattle.opentelemetry_sdk.specs.SpanHistory.{PlainSpan, SpanHistory, span_of, Edit, edited, ended}
-use Rattle.opentelemetry_sdk.specs.Each.{AskedAll}
-use Rattle.opentelemetry_sdk.specs.Provider.{ProviderState}
-use Rattle.opentelemetry_sdk.specs.Starting.{OnlyDraws, Starts}
-use Rattle.opentelemetry_sdk.specs.Ending.{TakesAndTells, DeliversIf}
-use Rattle.opentelemetry_sdk.specs.declared.trace.span_processor.SpanProcessor.{Ghosts}
+use Rattle.otel_pipeline.specs.SpanHistory.{PlainSpan, SpanHistory, HasHistory, span_of, Edit, edited, ended}
+use Rattle.otel_pipeline.specs.Each.{AskedAll}
+use Rattle.otel_pipeline.specs.Provider.{ProviderState}
+use Rattle.otel_pipeline.specs.Starting.{OnlyDraws, Starts}
+use Rattle.otel_pipeline.specs.Ending.{TakesAndTells, DeliversIf}
+use Rattle.otel_pipeline.specs.declared.trace.span_processor.SpanProcessor.{Ghosts}
 use Rattle.otel_lines.specs.declared.reply.Answer.{Answer}
 use Rattle.otel_lines.specs.declared.reply.Answer.TheVariants as answers
 use Rattle.otel_lines.specs.declared.reply.SpanIdentity.{SpanIdentity}
@@ -31,6 +31,10 @@ is_name name other = is_at (slice_cmp nat_cmp name) other
 abbrev pub named : NamedSpans → List ℕ → Option PlainSpan
 named [] name = None
 named (entry ∷ entries) name = if is_name name entry.0 then Some entry.1 else named entries name
+
+-- each span has a history
+abbrev pub HaveHistories : NamedSpans → Type 0
+HaveHistories spans = (name : List ℕ) (span : PlainSpan) → named spans name ≡ Some span → HasHistory span
 
 -- the entries of a map whose keys are texts
 abbrev pub by_name : {Y X : Type 0} → List (String Y × X) → List (List ℕ × X)
@@ -103,29 +107,24 @@ module _ {P S G : Type 0} (calls : Ghosts P) (sampler : sampling.Ghosts S) (ids 
   ChildStartsNamed p scope old name (Some parent) called moment answer q new =
       StartsNamed p scope old name (child_cx parent.span_context) called moment (named old name) answer q new
 
-module _ {P S G : Type 0} (calls : Ghosts P) (sampler : sampling.Ghosts S) (ids : drawing.Ghosts G) where
-  -- what a start in a context may do to a provider, also where it found no memory: nothing where the name has a span;
-  -- else ids are drawn, or all that the start of a span does
-  abbrev pub MayStart : ProviderState P S G → PlainScope → PlainContext → List ℕ → ℕ → Option PlainSpan
-      → ProviderState P S G → Type 0
-  MayStart p scope cx called moment (Some _) q = q ≡ p
-  MayStart p scope cx called moment None q =
-      OnlyDraws sampler ids p (named_builder called) cx q
-      ⊎ ((history : SpanHistory) × Starts calls sampler ids p scope (named_builder called) cx moment history q)
+module _ {P S G : Type 0} (sampler : sampling.Ghosts S) (ids : drawing.Ghosts G) where
+  -- what a start in a context that is refused may have done to a provider: nothing, or ids were drawn; no processor was
+  -- asked. Under a name that has a span none is refused
+  abbrev pub MayStart : ProviderState P S G → PlainContext → List ℕ → Option PlainSpan → ProviderState P S G → Type 0
+  MayStart p cx called (Some _) q = ⊥
+  MayStart p cx called None q = (q ≡ p) ⊎ OnlyDraws sampler ids p (named_builder called) cx q
 
   -- the same as a child of the span of another name: nothing where no start made that, or where there is no memory for
   -- the context in which that is active
-  abbrev pub ChildMayStart : ProviderState P S G → PlainScope → Option PlainSpan → List ℕ → ℕ → Option PlainSpan
-      → ProviderState P S G → Type 0
-  ChildMayStart p scope None called moment found q = q ≡ p
-  ChildMayStart p scope (Some parent) called moment found q =
-      (q ≡ p) ⊎ MayStart p scope (child_cx parent.span_context) called moment found q
+  abbrev pub ChildMayStart : ProviderState P S G → Option PlainSpan → List ℕ → Option PlainSpan → ProviderState P S G
+      → Type 0
+  ChildMayStart p None called found q = q ≡ p
+  ChildMayStart p (Some parent) called found q = (q ≡ p) ⊎ MayStart p (child_cx parent.span_context) called found q
 
   -- the same in the context that a header says: nothing where there is no memory for that
-  abbrev pub RemoteMayStart : ProviderState P S G → PlainScope → List ℕ → List ℕ → ℕ → Option PlainSpan
-      → ProviderState P S G → Type 0
-  RemoteMayStart p scope header called moment found q =
-      (q ≡ p) ⊎ ((cx : PlainContext) × SaysContext header cx × MayStart p scope cx called moment found q)
+  abbrev pub RemoteMayStart : ProviderState P S G → List ℕ → List ℕ → Option PlainSpan → ProviderState P S G → Type 0
+  RemoteMayStart p header called found q =
+      (q ≡ p) ⊎ ((cx : PlainContext) × SaysContext header cx × MayStart p cx called found q)
 
 module _ {P S G : Type 0} (calls : Ghosts P) where
   -- the end of a span: what it delivers, and to whom

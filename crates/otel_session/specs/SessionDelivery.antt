@@ -1,7 +1,8 @@
 -- What the commands of a session demand of its provider and its exporters. It speaks of each span as its history, a
 -- start and the edits since, and of what an end delivers as the data of that history: whole lists, each cut once. No
 -- history is stored.
-use Rattle.std.specs.Prelude.{◌≡◌, ◌≢◌, ℕ, List, [], ◌∷◌, ◌++◌, Option, Some, None, map, take, drop, slice_get, IsFalse, false, Result, Ok, Err, MatchBool, if◌then◌else◌, ◌⊎◌, ◌≤◌, length, codes}
+use Rattle.std.specs.Prelude.{◌≡◌, ◌≢◌, ℕ, List, [], ◌∷◌, ◌++◌, Option, Some, None, map, take, drop, slice_get}
+use Rattle.std.specs.Prelude.{IsFalse, false, Result, Ok, Err, MatchBool, if◌then◌else◌, ◌⊎◌, ◌≤◌, length, codes}
 use Rattle.std.specs.List.{flat_map}
 use Rattle.std.specs.Option.{option_map, option_map_or}
 use Rattle.opentelemetry.specs.Plain.{PlainContext, PlainScope, PlainSpanContext, scope_named, text}
@@ -12,15 +13,17 @@ use Rattle.otel_base.specs.declared.error.OTelSdkError.TheVariants as errors
 use Rattle.otel_base.specs.declared.trace.sampler.ShouldSample as sampling
 use Rattle.otel_base.specs.declared.trace.id_generator.IdGenerator as drawing
 use Rattle.otel_export.specs.PlainSpanData.{PlainSpanData, spans_in}
-use Rattle.opentelemetry_sdk.specs.SpanHistory.{SpanHistory, begun, over, SpanStart, Edit, set_attribute, add_event, set_status, data_of, span_of}
-use Rattle.opentelemetry_sdk.specs.Deliveries.{Delivery, EachFollows, EachOpenHears}
-use Rattle.opentelemetry_sdk.specs.Hops.{GoesByParents}
-use Rattle.opentelemetry_sdk.specs.Provider.{Flushes, ProviderState, ShutsDown}
-use Rattle.opentelemetry_sdk.specs.Starting.{Starts}
-use Rattle.opentelemetry_sdk.specs.Ending.{Delivers, end_delivers}
-use Rattle.opentelemetry_sdk.specs.declared.trace.span_processor.SpanProcessor.{Ghosts}
+use Rattle.otel_pipeline.specs.SpanHistory.{SpanHistory, begun, over, SpanStart, Edit, set_attribute, add_event}
+use Rattle.otel_pipeline.specs.SpanHistory.{set_status, data_of, span_of}
+use Rattle.otel_pipeline.specs.Deliveries.{Delivery, EachFollows, EachOpenHears}
+use Rattle.otel_pipeline.specs.Hops.{GoesByParents}
+use Rattle.otel_pipeline.specs.Provider.{Flushes, ProviderState, ShutsDown}
+use Rattle.otel_pipeline.specs.Starting.{Starts}
+use Rattle.otel_pipeline.specs.Ending.{Delivers, end_delivers}
+use Rattle.otel_pipeline.specs.declared.trace.span_processor.SpanProcessor.{Ghosts}
 use Rattle.otel_session.specs.declared.exported.KeepsBatches as keeping
-use Rattle.otel_lines.specs.Commands.{PlainCommand, start, child, remote, attr, event, status, inject, end, flush, shutdown, may_lose, plain_command, plain_commands}
+use Rattle.otel_lines.specs.Commands.{PlainCommand, start, child, remote, attr, event, status, inject, end, flush}
+use Rattle.otel_lines.specs.Commands.{shutdown, may_lose, plain_command, plain_commands}
 use Rattle.otel_session.specs.KeptBatches.{Grows}
 use Rattle.otel_session.specs.Headers.{AnswersHeaders, SaysContext, child_cx}
 use Rattle.otel_session.specs.OpenSpans.{NamedSpans, SameSpans, MayStart, ChildMayStart, RemoteMayStart, named, is_name, start_answer}
@@ -247,36 +250,41 @@ module _ {P S G : Type 0} (calls : Ghosts P) (sampler : sampling.Ghosts S) (ids 
   CarriesOutOne scope p old command answer q new =
       (histories : Histories) → Describe histories old → DemandsOne scope p histories command answer q new
 
-  -- what a command that is refused may do to the provider: nothing, but that a start under a new name may have drawn
-  -- ids, or done all that the start of a span does, where the span then found no place. The provider's own calls are
-  -- not refused
-  abbrev pub MayAsk : PlainScope → ProviderState P S G → NamedSpans → PlainCommand → ProviderState P S G → Type 0
-  MayAsk scope p spans (start span name moment) q =
-      MayStart calls sampler ids p scope root_cx name moment (named spans span) q
-  MayAsk scope p spans (child span parent name moment) q =
-      ChildMayStart calls sampler ids p scope (named spans parent) name moment (named spans span) q
-  MayAsk scope p spans (remote span header name moment) q =
-      RemoteMayStart calls sampler ids p scope header name moment (named spans span) q
-  MayAsk scope p spans (attr span key value) q = q ≡ p
-  MayAsk scope p spans (event span name moment) q = q ≡ p
-  MayAsk scope p spans (status span how) q = q ≡ p
-  MayAsk scope p spans (inject span) q = q ≡ p
-  MayAsk scope p spans (end span moment) q = q ≡ p
-  MayAsk scope p spans flush q = ⊥
-  MayAsk scope p spans shutdown q = ⊥
+module _ {P S G : Type 0} (sampler : sampling.Ghosts S) (ids : drawing.Ghosts G) where
+  -- what a command that is refused may have done to the provider: nothing, but that a start under a new name may have
+  -- drawn ids. The provider's own calls are not refused
+  abbrev pub MayAsk : ProviderState P S G → NamedSpans → PlainCommand → ProviderState P S G → Type 0
+  MayAsk p spans (start span name moment) q = MayStart sampler ids p root_cx name (named spans span) q
+  MayAsk p spans (child span parent name moment) q =
+      ChildMayStart sampler ids p (named spans parent) name (named spans span) q
+  MayAsk p spans (remote span header name moment) q = RemoteMayStart sampler ids p header name (named spans span) q
+  MayAsk p spans (attr span key value) q = q ≡ p
+  MayAsk p spans (event span name moment) q = q ≡ p
+  MayAsk p spans (status span how) q = q ≡ p
+  MayAsk p spans (inject span) q = q ≡ p
+  MayAsk p spans (end span moment) q = q ≡ p
+  MayAsk p spans flush q = ⊥
+  MayAsk p spans shutdown q = ⊥
 
-  -- a command was not carried out: each name has the span that it had, and each processor tells what it told
-  pub record RefusesOne (scope : PlainScope) (p : ProviderState P S G) (old : NamedSpans) (command : PlainCommand)
-      (q : ProviderState P S G) (new : NamedSpans) : Type 0 where
+  -- a command was refused: each name has the span that it had, and no processor was asked
+  pub record RefusesOne (p : ProviderState P S G) (old : NamedSpans) (command : PlainCommand) (q : ProviderState P S G)
+      (new : NamedSpans) : Type 0 where
     pub spans : SameSpans old new
-    pub asks : MayAsk scope p old command q
-    pub told : map calls.told q.processors ≡ map calls.told p.processors
+    pub asks : MayAsk p old command q
+    pub processors : q.processors ≡ p.processors
 
-  -- a command was carried out or not, and has no reply
+module _ {P S G : Type 0} (calls : Ghosts P) (sampler : sampling.Ghosts S) (ids : drawing.Ghosts G) where
+  -- a command was carried out as it demands, with an answer that no reply tells
+  abbrev pub CarriesOutUntold : PlainScope → ProviderState P S G → NamedSpans → PlainCommand → ProviderState P S G
+      → NamedSpans → Type 0
+  CarriesOutUntold scope p old command q new =
+      (answer : Answer) × CarriesOutOne calls sampler ids scope p old command answer q new
+
+  -- a command has no reply: it was refused, or carried out
   abbrev pub MayCarryOut : PlainScope → ProviderState P S G → NamedSpans → PlainCommand → ProviderState P S G
       → NamedSpans → Type 0
   MayCarryOut scope p old command q new =
-      RefusesOne scope p old command q new ⊎ ((answer : Answer) × CarriesOutOne scope p old command answer q new)
+      RefusesOne sampler ids p old command q new ⊎ CarriesOutUntold scope p old command q new
 
 module _ {P S G : Type 0} (calls : Ghosts P) where
   -- the shutdown of a session's provider with a timeout: where it was shut nothing happens
@@ -384,14 +392,14 @@ module _ {P S G : Type 0} (calls : Ghosts P) (keeps : keeping.Ghosts P) (sampler
     pub shown : Shows keeps old replies new
     pub none_left : NoneLeft keeps replies new
 
-  -- a command found no memory: it was carried out or not, it has no reply, and what it exported is left to show
+  -- a command found no memory: it was refused, or carried out without a reply, and what it exported is left to show
   pub record Refuses (old : SessionState P S G) (command : Command) (new : SessionState P S G) : Type 0 where
     pub asked : MayCarryOut calls sampler ids old.scope old.provider old.spans
         (plain_command command) new.provider new.spans
     pub rest : new ≡ record old { provider = new.provider; spans = new.spans }
     pub keeps_batches : Grows (session_batches keeps old) (session_batches keeps new)
 
-  -- a beginning of the commands was carried out, each with its reply, and the one behind it was refused
+  -- a beginning of the commands was carried out, each with its reply, and the one behind it found no memory
   pub record RunsBeginning (old : SessionState P S G) (commands : List Command) (before now : List PlainReply)
       (new : SessionState P S G) : Type 0 where
     pub done : List Command

@@ -2,7 +2,7 @@
 use Rattle.std.specs.Prelude.{◌≡◌, ℕ, ◌||◌, ◌&&◌, Bool, true, false, if◌then◌else◌, List, [], ◌∷◌, Some}
 use Rattle.opentelemetry.specs.Plain.{PlainSpanContext}
 use Rattle.otel_base.specs.Agreement.{Agrees}
-use Rattle.opentelemetry_sdk.specs.SpanHistory.{PlainSpan}
+use Rattle.otel_pipeline.specs.SpanHistory.{PlainSpan}
 use Rattle.otel_lines.specs.Commands.{PlainCommand, child, shutdown}
 use Rattle.otel_session.specs.OpenSpans.{NamedSpans, is_name, named}
 use Rattle.otel_lines.specs.PlainReply.{PlainReply}

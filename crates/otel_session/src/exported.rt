@@ -5,8 +5,8 @@ ghost use Rattle.std.specs.List.{flat_map};
 ghost use Rattle.otel_export.specs.PlainSpanData.{PlainSpanData};
 ghost use Rattle.otel_session.specs.KeptBatches.{OnlyAppends};
 
-use opentelemetry_sdk::trace::{ProcessorOf, SimpleSpanProcessor, SpanProcessor};
 use otel_export::trace::{ExporterOf, InMemorySpanExporter, SpanData, SpanExporter};
+use otel_pipeline::trace::{ProcessorOf, SimpleSpanProcessor, SpanProcessor};
 use std::alloc::{AllocError, Global};
 
 /// A processor whose exporter may keep its batches. At a start, an end, a flush or a shutdown batches may only come

@@ -1,12 +1,9 @@
-//! A session of commands over the trace pipeline. `run_program` is all of the program `otel_trace` but the words and
-//! streams that it is given.
+//! A session of commands over the trace pipeline: its spans by name, its replies, and what they show.
 #![tactic(auto)]
 
 pub mod exported;
 mod headers;
 mod open_spans;
-pub mod program;
 pub mod session;
 
-pub use program::run_program;
 pub use session::{FeedError, Session};

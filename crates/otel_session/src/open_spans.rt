@@ -1,18 +1,18 @@
 //! The spans of a session by name. They must be spent: each is abandoned when the session closes.
 
-ghost use Rattle.std.specs.Prelude.{◌≡◌, [], None, IfOk, OnOk, OnErr, is_some, string_bytes, map, if◌then◌else◌};
+ghost use Rattle.std.specs.Prelude.{◌≡◌, [], IfOk, OnErr, string_bytes, map, if◌then◌else◌};
 ghost use Rattle.std.specs.Option.{option_map};
-ghost use Rattle.opentelemetry_sdk.specs.SpanEdits.{plain_edit};
+ghost use Rattle.otel_pipeline.specs.SpanEdits.{plain_edit};
 ghost use Rattle.otel_session.specs.Headers.{child_cx};
 ghost use Rattle.otel_session.specs.OpenSpans.{
   ChildMayStart,
   ChildStartsNamed,
   EditsNamed,
   EndsNamed,
+  HaveHistories,
   MayDeliver,
   InjectsNamed,
   MayStart,
-  PutsSpan,
   SameSpans,
   StartsNamed,
   by_name,
@@ -23,11 +23,12 @@ ghost use Rattle.otel_session.specs.OpenSpans.{
 
 use crate::headers::answer_with_headers;
 use opentelemetry::{Context, Moment};
-use opentelemetry_sdk::trace::{ProviderOf, SdkTracer, Span, SpanEdit, SpanProcessor};
 use otel_base::trace::{IdGenerator, ShouldSample};
 use otel_lines::{Answer, SpanIdentity};
+use otel_pipeline::trace::{ProviderOf, SdkTracer, Span, SpanEdit, SpanProcessor};
 use std::alloc::{AllocError, Global};
 use std::collections::BTreeMap;
+use std::collections::btree_map::Entry;
 use std::marker::Model;
 
 /// Spans by name.
@@ -36,11 +37,13 @@ pub(crate) struct OpenSpans {
 }
 
 impl Model for OpenSpans {
-    ghost use Rattle.otel_session.specs.OpenSpans.{NamedSpans, by_name};
+    ghost use Rattle.otel_session.specs.OpenSpans.{HaveHistories, NamedSpans, by_name};
 
     ghost Value = { NamedSpans };
 
     ghost view = { λ a. by_name a.spans.entries };
+
+    ghost invariant = { λ a. HaveHistories (by_name a.spans.entries) };
 }
 
 impl OpenSpans {
@@ -52,8 +55,15 @@ impl OpenSpans {
         }
     }
 
-    /// Starts a span under a name in a context. Where there is no memory for the name, the span that was started is
-    /// abandoned: the provider did what it does at any start, and nothing was delivered.
+    /// Each span has a history. It does nothing.
+    pub(crate) fn have_histories(&self)
+        ensures { HaveHistories self.now }
+    {
+        let _spans = &self.spans;
+    }
+
+    /// Starts a span under a name in a context. The name's place in the map comes first, so that a start that is refused
+    /// asked no processor.
     pub(crate) fn start_in<P: SpanProcessor, S: ShouldSample, G: IdGenerator>(
         &mut self,
         name: String,
@@ -67,17 +77,11 @@ impl OpenSpans {
             tracer.now self.old (string_bytes name) cx.now
             (string_bytes called) now.0 (named self.old (string_bytes name)) answer provider.new self.new) }
         ensures told { map P.told provider.new.processors ≡ map P.told provider.old.processors }
-        ensures asks { MayStart P.SpanProcessor S.ShouldSample G.IdGenerator provider.old tracer.now cx.now
-            (string_bytes called) now.0 (named self.old (string_bytes name)) provider.new }
+        ensures asks { OnErr result (MayStart S.ShouldSample G.IdGenerator provider.old cx.now (string_bytes called)
+            (named self.old (string_bytes name)) provider.new) }
         ensures err { OnErr result (SameSpans self.old self.new) }
     {
-        if self.contains(name.as_str()) {
-            return Ok(Answer::SpanExists);
-        }
-        let span = tracer.start_with_context(called, cx, provider, now)?;
-        let answer = answer_to_start(&span);
-        self.put(name, span)?;
-        Ok(answer)
+        start_under(&mut self.spans, name, cx, tracer, provider, called, now)
     }
 
     /// Starts a span under a name, as a child of the span of another name.
@@ -94,9 +98,8 @@ impl OpenSpans {
             tracer.now self.old (string_bytes name) (named self.old parent.now)
             (string_bytes called) now.0 answer provider.new self.new) }
         ensures told { map P.told provider.new.processors ≡ map P.told provider.old.processors }
-        ensures asks { ChildMayStart P.SpanProcessor S.ShouldSample G.IdGenerator provider.old tracer.now
-            (named self.old parent.now) (string_bytes called) now.0 (named self.old (string_bytes name))
-            provider.new }
+        ensures asks { OnErr result (ChildMayStart S.ShouldSample G.IdGenerator provider.old
+            (named self.old parent.now) (string_bytes called) (named self.old (string_bytes name)) provider.new) }
         ensures err { OnErr result (SameSpans self.old self.new) }
     {
         let Some(cx) = self.context_of(parent)? else {
@@ -125,28 +128,6 @@ impl OpenSpans {
             return Ok(Answer::NoSuchSpan);
         };
         answer_with_headers(alloc, &cx)
-    }
-
-    fn contains(&self, name: &str) -> bool
-        ensures { result ≡ is_some (named self.now name.now) }
-    {
-        self.spans.contains_key(name)
-    }
-
-    /// Puts a span under a new name. Where there is no memory for it, the span is abandoned.
-    fn put(&mut self, name: String, span: Span) -> Result<(), AllocError>
-        requires { named self.old (string_bytes name) ≡ None }
-        ensures ok { OnOk result (PutsSpan self.old (string_bytes name) span self.new) }
-        ensures err { OnErr result (SameSpans self.old self.new) }
-    {
-        let refused = match self.spans.insert(name, span) {
-            Ok(None) => return Ok(()),
-            Ok(Some(_span)) => unreachable!(),
-            Err(refused) => refused,
-        };
-        let (_name, span) = refused.value;
-        span.abandon();
-        Err(AllocError)
     }
 
     /// Edits the span of a name.
@@ -187,6 +168,45 @@ impl OpenSpans {
     pub(crate) fn abandon(self) {
         let OpenSpans { spans } = self;
         abandon_all(spans);
+    }
+}
+
+/// Starts a span under a name of a map, in a context. The name's place comes first.
+fn start_under<P: SpanProcessor, S: ShouldSample, G: IdGenerator>(
+    spans: &mut BTreeMap<String, Span>,
+    name: String,
+    cx: &Context,
+    tracer: &SdkTracer,
+    provider: &mut ProviderOf<P, S, G>,
+    called: String,
+    now: Moment,
+) -> Result<Answer, AllocError>
+    ensures ok { IfOk result (λ answer. StartsNamed P.SpanProcessor S.ShouldSample G.IdGenerator provider.old
+        tracer.now (by_name spans.old.entries) (string_bytes name) cx.now (string_bytes called) now.0
+        (named (by_name spans.old.entries) (string_bytes name)) answer provider.new (by_name spans.new.entries)) }
+    ensures told { map P.told provider.new.processors ≡ map P.told provider.old.processors }
+    ensures asks { OnErr result (MayStart S.ShouldSample G.IdGenerator provider.old cx.now (string_bytes called)
+        (named (by_name spans.old.entries) (string_bytes name)) provider.new) }
+    ensures err { OnErr result (SameSpans (by_name spans.old.entries) (by_name spans.new.entries)) }
+{
+    match spans.entry(name)? {
+        Entry::Vacant(place) => match tracer.start_with_context(called, cx, provider, now) {
+            Ok(span) => {
+                let answer = answer_to_start(&span);
+                place.insert(span);
+                Ok(answer)
+            }
+            Err(error) => {
+                // Its refusal leaves the map as it was.
+                Entry::Vacant(place).or_try_insert_with(|| Err(error))?;
+                unreachable!()
+            }
+        },
+        Entry::Occupied(taken) => {
+            // The span that is there stays.
+            let _there = taken.into_mut();
+            Ok(Answer::SpanExists)
+        }
     }
 }
 

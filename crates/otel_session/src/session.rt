@@ -6,8 +6,8 @@ ghost use Rattle.std.specs.List.{flat_map};
 ghost use Rattle.opentelemetry.specs.Plain.{scope_named, text};
 ghost use Rattle.opentelemetry.specs.PlainContexts.{root_cx};
 ghost use Rattle.otel_export.specs.PlainSpanData.{spans_in};
-ghost use Rattle.opentelemetry_sdk.specs.SpanEdits.{plain_edit};
-ghost use Rattle.opentelemetry_sdk.specs.SpanHistory.{set_attribute};
+ghost use Rattle.otel_pipeline.specs.SpanEdits.{plain_edit};
+ghost use Rattle.otel_pipeline.specs.SpanHistory.{set_attribute};
 ghost use Rattle.otel_lines.specs.Commands.{is_end, may_lose, plain_command};
 ghost use Rattle.otel_lines.specs.AnswerText.{answer_line};
 ghost use Rattle.otel_session.specs.KeptBatches.{Grows};
@@ -16,7 +16,9 @@ ghost use Rattle.otel_lines.specs.ReplyText.{span_lines};
 ghost use Rattle.otel_session.specs.SessionDelivery.{
   CarriesOutOne,
   Closes,
+  Describe,
   Feeds,
+  Histories,
   LosesNone,
   MayCarryOut,
   RefusesOne,
@@ -41,12 +43,12 @@ use crate::headers::remote_context;
 use crate::open_spans::OpenSpans;
 use opentelemetry::trace::Event;
 use opentelemetry::{Context, Key, KeyValue, Moment, Value};
-use opentelemetry_sdk::trace::{ProviderOf, SdkTracer, SpanEdit, SpanProcessor};
 use otel_base::error::{OTelSdkError, OTelSdkResult};
 use otel_base::trace::{IdGenerator, ShouldSample};
 use otel_export::trace::SpanData;
 use otel_lines::reply_text::{write_batches, write_reply};
 use otel_lines::{Answer, Command, Reply, parse};
+use otel_pipeline::trace::{ProviderOf, SdkTracer, SpanEdit, SpanProcessor};
 use std::alloc::{AllocError, Global};
 use std::collections::VecDeque;
 use std::marker::Model;
@@ -125,6 +127,13 @@ impl<P: KeepsBatches, S: ShouldSample, G: IdGenerator> Session<P, S, G> {
             text: String::new(alloc),
             alloc,
         })
+    }
+
+    /// Each session, wherever it comes from, has spans that histories describe. It does nothing.
+    pub fn has_histories(&self)
+        ensures { (histories : Histories) × Describe histories self.now.spans }
+    {
+        self.spans.have_histories();
     }
 
     /// Carries commands out in order and appends a reply for each. Where memory runs out, also for the batch of a span
@@ -236,7 +245,7 @@ impl<P: KeepsBatches, S: ShouldSample, G: IdGenerator> Session<P, S, G> {
     }
 
     /// Carries one command out. It is also an error where the first processor's exporter lost the batch of an ended
-    /// span. On an error the command was carried out or not, and what it exported is left for the next reply.
+    /// span. On an error the command was refused or carried out, and what it exported is left for the next reply.
     fn answer(&mut self, command: Command) -> Result<Answer, AllocError>
         ensures ok { IfOk result (λ answer. CarriesOutOne P.SpanProcessor S.ShouldSample G.IdGenerator self.old.scope
             self.old.provider self.old.spans
@@ -352,8 +361,7 @@ fn carry_out<P: KeepsBatches, S: ShouldSample, G: IdGenerator>(
         provider.old spans.old
         (plain_command command) answer provider.new spans.new) }
     ensures err { OnErr result
-        (RefusesOne P.SpanProcessor S.ShouldSample G.IdGenerator tracer.now provider.old spans.old
-        (plain_command command) provider.new spans.new) }
+        (RefusesOne S.ShouldSample G.IdGenerator provider.old spans.old (plain_command command) provider.new spans.new) }
     ensures keeps { Grows (batches_of_first P.KeepsBatches.own provider.old.processors)
         (batches_of_first P.KeepsBatches.own provider.new.processors) }
     ensures loses { IsFalse (is_end (plain_command command)) → IsFalse (may_lose (plain_command command))

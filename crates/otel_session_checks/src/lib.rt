@@ -1,5 +1,5 @@
-//! Tests of `otel_session`: what no clause says of it. They stand apart, so that the crate is proved once and its edits
-//! are tried beside no test.
+//! Tests of `otel_session` and `otel_program`: what no clause says of them, over objects and streams of the tests' own.
+//! They stand apart, so that the crates are proved once and their edits are tried beside no test.
 #![tactic(auto)]
 
 #[cfg(test)]

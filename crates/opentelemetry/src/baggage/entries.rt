@@ -199,7 +199,6 @@ impl Clone for Entries {
 }
 
 impl PartialEq for Entries {
-    ghost use Rattle.std.specs.Prelude.{◌≡◌, ◌↔◌, IsTrue};
     ghost use Rattle.opentelemetry.specs.Same.{partial_equivalence_from_decides};
     ghost use Rattle.opentelemetry.specs.SameParts.{same_baggage, same_baggage_decides};
 
@@ -207,10 +206,7 @@ impl PartialEq for Entries {
 
     ghost laws = { partial_equivalence_from_decides same_baggage same_baggage_decides };
 
-    fn eq(&self, other: &Entries) -> bool
-        ensures value { result ≡ same_baggage self.now other.now }
-        ensures same { IsTrue result ↔ (self.now ≡ other.now) }
-    {
+    fn eq(&self, other: &Entries) -> bool {
         same_maps(&self.map, &other.map)
     }
 }

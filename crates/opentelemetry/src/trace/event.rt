@@ -49,7 +49,6 @@ impl Event {
 }
 
 impl PartialEq for Event {
-    ghost use Rattle.std.specs.Prelude.{◌≡◌, ◌↔◌, IsTrue};
     ghost use Rattle.opentelemetry.specs.Same.{partial_equivalence_from_decides};
     ghost use Rattle.opentelemetry.specs.SameParts.{same_event, same_event_decides};
 
@@ -57,10 +56,7 @@ impl PartialEq for Event {
 
     ghost laws = { partial_equivalence_from_decides same_event same_event_decides };
 
-    fn eq(&self, other: &Event) -> bool
-        ensures value { result ≡ same_event self.now other.now }
-        ensures same { IsTrue result ↔ (self.now ≡ other.now) }
-    {
+    fn eq(&self, other: &Event) -> bool {
         self.name == other.name
             && self.timestamp == other.timestamp
             && self.attributes == other.attributes

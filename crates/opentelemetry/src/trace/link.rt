@@ -45,7 +45,6 @@ impl Link {
 }
 
 impl PartialEq for Link {
-    ghost use Rattle.std.specs.Prelude.{◌≡◌, ◌↔◌, IsTrue};
     ghost use Rattle.opentelemetry.specs.Same.{partial_equivalence_from_decides};
     ghost use Rattle.opentelemetry.specs.SameParts.{same_link, same_link_decides};
 
@@ -53,10 +52,7 @@ impl PartialEq for Link {
 
     ghost laws = { partial_equivalence_from_decides same_link same_link_decides };
 
-    fn eq(&self, other: &Link) -> bool
-        ensures value { result ≡ same_link self.now other.now }
-        ensures same { IsTrue result ↔ (self.now ≡ other.now) }
-    {
+    fn eq(&self, other: &Link) -> bool {
         self.span_context == other.span_context
             && self.attributes == other.attributes
             && self.dropped_attributes_count == other.dropped_attributes_count

@@ -91,7 +91,6 @@ impl SpanBuilder {
 }
 
 impl PartialEq for SpanBuilder {
-    ghost use Rattle.std.specs.Prelude.{◌≡◌, ◌↔◌, IsTrue};
     ghost use Rattle.opentelemetry.specs.Same.{partial_equivalence_from_decides};
     ghost use Rattle.opentelemetry.specs.SameBuilder.{same_builder, same_builder_decides};
 
@@ -99,10 +98,7 @@ impl PartialEq for SpanBuilder {
 
     ghost laws = { partial_equivalence_from_decides same_builder same_builder_decides };
 
-    fn eq(&self, other: &SpanBuilder) -> bool
-        ensures value { result ≡ same_builder self.now other.now }
-        ensures same { IsTrue result ↔ (self.now ≡ other.now) }
-    {
+    fn eq(&self, other: &SpanBuilder) -> bool {
         self.name == other.name
             && same_kinds(self.span_kind, other.span_kind)
             && self.start_time == other.start_time

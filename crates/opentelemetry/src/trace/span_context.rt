@@ -136,7 +136,6 @@ impl Clone for SpanContext {
 }
 
 impl PartialEq for SpanContext {
-    ghost use Rattle.std.specs.Prelude.{◌≡◌, ◌↔◌, IsTrue};
     ghost use Rattle.opentelemetry.specs.Same.{same_span_context, same_span_context_decides};
     ghost use Rattle.opentelemetry.specs.Same.{partial_equivalence_from_decides};
 
@@ -144,10 +143,7 @@ impl PartialEq for SpanContext {
 
     ghost laws = { partial_equivalence_from_decides same_span_context same_span_context_decides };
 
-    fn eq(&self, other: &SpanContext) -> bool
-        ensures value { result ≡ same_span_context self.now other.now }
-        ensures same { IsTrue result ↔ (self.now ≡ other.now) }
-    {
+    fn eq(&self, other: &SpanContext) -> bool {
         self.trace_id == other.trace_id
             && self.span_id == other.span_id
             && self.trace_flags == other.trace_flags

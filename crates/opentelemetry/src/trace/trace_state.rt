@@ -202,17 +202,13 @@ impl Clone for TraceState {
 }
 
 impl PartialEq for TraceState {
-    ghost use Rattle.std.specs.Prelude.{◌≡◌, ◌↔◌, IsTrue};
     ghost use Rattle.opentelemetry.specs.Same.{same_pairs, same_pairs_decides, partial_equivalence_from_decides};
 
     ghost eq = { same_pairs };
 
     ghost laws = { partial_equivalence_from_decides same_pairs same_pairs_decides };
 
-    fn eq(&self, other: &TraceState) -> bool
-        ensures value { result ≡ same_pairs self.now other.now }
-        ensures same { IsTrue result ↔ (self.now ≡ other.now) }
-    {
+    fn eq(&self, other: &TraceState) -> bool {
         self.entries() == other.entries()
     }
 }

@@ -45,14 +45,30 @@ impl TextMapPropagator for Greeting {
     }
 }
 
+/// What a carrier has once it was greeted.
+fn greeted(alloc: Global) -> Result<MapCarrier, AllocError> {
+    let mut carrier = MapCarrier::new(alloc);
+    Greeting.inject_context(alloc, &Context::new(), &mut carrier)?;
+    Ok(carrier)
+}
+
+/// Whether the greeting leaves a context as it was.
+fn is_unchanged(alloc: Global, carrier: &MapCarrier) -> Result<bool, AllocError> {
+    let cx = Greeting.extract_with_context(alloc, &Context::new(), carrier)?;
+    Ok(!cx.has_active_span())
+}
+
 #[test]
 fn a_propagator_of_ones_own_writes_into_a_map(rt: HostRuntime) -> Result<(), Fail> {
-    let greeting = Greeting;
-    let mut carrier = MapCarrier::new(rt.alloc());
-    greeting.inject_context(rt.alloc(), &Context::new(), &mut carrier)?;
+    let carrier = greeted(rt.alloc())?;
     assert_eq!(rt; carrier.get("GREETING"), Some("hello"));
-    let _cx = greeting.extract_with_context(rt.alloc(), &Context::new(), &carrier)?;
-    let mut fields = greeting.fields();
+    assert!(rt; is_unchanged(rt.alloc(), &carrier)?);
+    Ok(())
+}
+
+#[test]
+fn it_names_its_field(rt: HostRuntime) -> Result<(), Fail> {
+    let mut fields = Greeting.fields();
     let mut copy = fields.clone()?;
     assert_eq!(rt; fields.next(), Some("Greeting"));
     assert_eq!(rt; fields.next(), None);
@@ -73,52 +89,6 @@ fn a_carrier_gives_back_what_was_set(rt: HostRuntime) -> Result<(), Fail> {
     let mut carrier = MapCarrier::new(rt.alloc());
     sent(&mut carrier, String::from_str(rt.alloc(), "x")?)?;
     assert_eq!(rt; carrier.get("a"), Some("x"));
-    Ok(())
-}
-
-#[test]
-fn names_that_differ_in_case_alone_are_one(rt: HostRuntime) -> Result<(), Fail> {
-    let alloc = rt.alloc();
-    let mut carrier = MapCarrier::new(alloc);
-    carrier.set("TraceParent", String::from_str(alloc, "x")?)?;
-    carrier.set("traceparent", String::from_str(alloc, "y")?)?;
-    carrier.set("Baggage", String::from_str(alloc, "z")?)?;
-    assert_eq!(rt; carrier.get("TRACEPARENT"), Some("y"));
-    assert_eq!(rt; carrier.get("baggage"), Some("z"));
-    assert_eq!(rt; carrier.get("tracestate"), None);
-    assert_eq!(rt; carrier.clone()?.get("Traceparent"), Some("y"));
-    let names = carrier.keys(alloc)?;
-    assert_eq!(rt; names.as_slice(), ["baggage", "traceparent"].as_slice());
-    Ok(())
-}
-
-/// A carrier of so many names.
-fn carrier_of(alloc: Global, count: u32) -> Result<MapCarrier, AllocError> {
-    let mut carrier = MapCarrier::new(alloc);
-    for number in 0..count {
-        let name = format!(in alloc; "name{number}")?;
-        carrier.set(name.as_str(), String::from_str(alloc, "x")?)?;
-    }
-    Ok(carrier)
-}
-
-#[test]
-fn a_carrier_holds_33_names(rt: HostRuntime) -> Result<(), Fail> {
-    let carrier = carrier_of(rt.alloc(), 33)?;
-    assert_eq!(rt; carrier.keys(rt.alloc())?.len(), 33);
-    assert_eq!(rt; carrier.get("NAME32"), Some("x"));
-    let copy = carrier.clone()?;
-    assert_eq!(rt; copy.get("name32"), Some("x"));
-    Ok(())
-}
-
-#[test]
-fn an_empty_name_is_one_of_its_own(rt: HostRuntime) -> Result<(), Fail> {
-    let mut carrier = carrier_of(rt.alloc(), 33)?;
-    assert_eq!(rt; carrier.get(""), None);
-    carrier.set("", String::from_str(rt.alloc(), "y")?)?;
-    assert_eq!(rt; carrier.get(""), Some("y"));
-    assert_eq!(rt; carrier.get("name32"), Some("x"));
-    assert_eq!(rt; carrier.keys(rt.alloc())?.len(), 34);
+    assert_eq!(rt; carrier.clone()?.get("A"), Some("x"));
     Ok(())
 }

@@ -82,7 +82,8 @@ impl<A: TextMapPropagator, B: TextMapPropagator> TextMapPropagator for Composite
 
     ghost field_names = { λ both. names_of both.fields.now };
 
-    /// Where the second one finds no memory, the texts of the first one stand in the carrier.
+    /// Where the second one finds no memory, all texts of the first one stand in the carrier: a refusal may leave more
+    /// than the first text set.
     fn inject_context<I: Injector>(
         &self,
         alloc: Global,

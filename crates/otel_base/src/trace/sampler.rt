@@ -97,10 +97,7 @@ impl PartialEq for SamplingResult {
 
     ghost laws = { partial_equivalence_from_decides same_answer same_answer_decides };
 
-    fn eq(&self, other: &SamplingResult) -> bool
-        ensures value { result ≡ same_answer self.now other.now }
-        ensures same { IsTrue result ↔ (self.now ≡ other.now) }
-    {
+    fn eq(&self, other: &SamplingResult) -> bool {
         same_decision(self.decision, other.decision)
             && self.added_attributes() == other.added_attributes()
             && self.trace_state == other.trace_state
@@ -125,11 +122,10 @@ fn same_decision(this: SamplingDecision, that: SamplingDecision) -> bool
     }
 }
 
-/// Decides on the spans of a provider. What a sampler answers depends on what its contracts know of it and on the
-/// question.
+/// Decides on the spans of a provider: a function of the sampler and the question.
 pub trait ShouldSample: Drop {
-    /// The answers that it can give to a question.
-    ghost gives: { Self → SamplingQuestion → PlainSamplingResult → Type 0 } = { λ _ _ _. Unit {0} };
+    /// What it answers to a question.
+    ghost answer: { Self → SamplingQuestion → PlainSamplingResult };
 
     /// The questions that it answers even where no memory is left.
     ghost is_infallible: { Self → SamplingQuestion → Type 0 } = { λ _ _. ⊥ };
@@ -145,14 +141,14 @@ pub trait ShouldSample: Drop {
         attributes: &[KeyValue],
         links: &[Link],
     ) -> Result<SamplingResult, AllocError>
-        ensures gives { IfOk result (gives self.now
+        ensures answers { IfOk result (λ given. given ≡ answer self.now
             (question_of parent_context.entry trace_id name.now span_kind.now attributes.now links.now)) }
         ensures infallible { is_infallible self.now
             (question_of parent_context.entry trace_id name.now span_kind.now attributes.now links.now) → IsOk result };
 }
 
 impl ShouldSample for Box<dyn ShouldSample> {
-    ghost gives = { λ b. (ShouldSample-box b).gives b.value };
+    ghost answer = { λ b. (ShouldSample-box b).answer b.value };
 
     ghost is_infallible = { λ b. (ShouldSample-box b).is_infallible b.value };
 
@@ -189,9 +185,9 @@ pub enum SamplerOf<C> {
 pub type Sampler = SamplerOf<Box<dyn ShouldSample>>;
 
 impl<C: ShouldSample> ShouldSample for SamplerOf<C> {
-    ghost use Rattle.otel_base.specs.Sampler.{SamplerGives, SamplerIsInfallible, plan};
+    ghost use Rattle.otel_base.specs.Sampler.{SamplerIsInfallible, plan, sampler_answer};
 
-    ghost gives = { λ sampler. SamplerGives C.gives (plan sampler) };
+    ghost answer = { λ sampler. sampler_answer C.answer (plan sampler) };
 
     ghost is_infallible = { λ sampler. SamplerIsInfallible C.is_infallible (plan sampler) };
 

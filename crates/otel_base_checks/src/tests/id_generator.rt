@@ -1,7 +1,7 @@
-//! Ids from the generator of the SDK, and from a custom one.
+//! Ids from a custom generator.
 
 use opentelemetry::{SpanId, TraceId};
-use otel_base::trace::{IdGenerator, IdSource, RandomIdGenerator};
+use otel_base::trace::{IdGenerator, IdSource};
 use std::test::Fail;
 
 /// Counts traces and spans apart.
@@ -21,17 +21,6 @@ impl IdGenerator for Counting {
         self.spans = self.spans.wrapping_add(1);
         SpanId::from(self.spans)
     }
-}
-
-#[test]
-fn draws_from_the_seed(rt: HostRuntime) {
-    let mut source = IdSource::Random(RandomIdGenerator::new(0));
-    assert_eq!(rt; source.new_span_id(), SpanId::from(0x53175d61490b23df));
-    assert_eq!(rt;
-        source.new_trace_id(),
-        TraceId::from(0x5c0fdf91ec9a7bfc61da6f3dc380d507)
-    );
-    assert_eq!(rt; source.new_span_id(), SpanId::from(0x02eebf8c3bbe5e1a));
 }
 
 #[test]

@@ -1,15 +1,15 @@
-//! Samplers over parents, a custom one whose answers are its own, and copies of trees.
+//! Custom samplers, whose answers are their own.
 
 use opentelemetry::trace::{Link, SpanContext, SpanKind, TraceState};
 use opentelemetry::{Context, Key, KeyValue, SpanId, TraceFlags, TraceId, Value};
-use otel_base::trace::{Ratio, Sampler, SamplerOf, SamplingDecision, SamplingResult, ShouldSample};
+use otel_base::trace::{Sampler, SamplerOf, SamplingDecision, SamplingResult, ShouldSample};
 use std::alloc::{AllocError, Global};
 use std::test::Fail;
 
 /// Records without sampling, adds attributes, and has a trace state of its own. It refuses spans without a name.
 #[derive(Drop)]
 struct Own {
-    alloc: Global,
+    answer: SamplingResult,
 }
 
 /// How much of each an answer has, and how deep a tree is: more than any small number that a copy might tell apart.
@@ -35,7 +35,7 @@ fn own_state(alloc: Global) -> Result<TraceState, AllocError> {
     }
 }
 
-fn own_answer(alloc: Global) -> Result<SamplingResult, AllocError> {
+pub fn own_answer(alloc: Global) -> Result<SamplingResult, AllocError> {
     Ok(SamplingResult {
         decision: SamplingDecision::RecordOnly,
         attributes: Some(own_attributes(alloc)?),
@@ -43,7 +43,16 @@ fn own_answer(alloc: Global) -> Result<SamplingResult, AllocError> {
     })
 }
 
+/// One of them.
+fn own_sampler(alloc: Global) -> Result<Own, AllocError> {
+    Ok(Own {
+        answer: own_answer(alloc)?,
+    })
+}
+
 impl ShouldSample for Own {
+    ghost answer = { λ sampler _. sampler.answer };
+
     fn should_sample(
         &self,
         _parent_context: Option<&Context>,
@@ -56,26 +65,22 @@ impl ShouldSample for Own {
         if name.is_empty() {
             return Err(AllocError);
         }
-        own_answer(self.alloc)
+        self.answer.clone()
     }
 }
 
 /// A tree whose custom sampler stands in no box, which is quicker to prove. One test has the everyday type.
 type Tree = SamplerOf<Own>;
 
-fn parent_of(alloc: Global, trace_flags: TraceFlags) -> Result<Context, Fail> {
+fn sampled(alloc: Global) -> Result<Context, Fail> {
     let span_context = SpanContext::new(
         TraceId::from(1),
         SpanId::from(1),
-        trace_flags,
+        TraceFlags::SAMPLED,
         true,
         TraceState::from_str(alloc, "foo=bar")?,
     );
     Ok(Context::new().with_span_context(span_context)?)
-}
-
-fn of_empty_span() -> Result<Context, AllocError> {
-    Context::new().with_span_context(SpanContext::empty_context())
 }
 
 /// What a span starts in.
@@ -83,9 +88,7 @@ fn of_empty_span() -> Result<Context, AllocError> {
 enum Parent {
     NoContext,
     NoSpan,
-    EmptySpan,
     Sampled,
-    OtherFlags,
 }
 
 /// The context of a parent.
@@ -93,26 +96,18 @@ fn context_of(alloc: Global, parent: Parent) -> Result<Option<Context>, Fail> {
     match parent {
         Parent::NoContext => Ok(None),
         Parent::NoSpan => Ok(Some(Context::new())),
-        Parent::EmptySpan => Ok(Some(of_empty_span()?)),
-        Parent::Sampled => Ok(Some(parent_of(alloc, TraceFlags::SAMPLED)?)),
-        Parent::OtherFlags => Ok(Some(parent_of(alloc, TraceFlags::new(0xfe))?)),
+        Parent::Sampled => Ok(Some(sampled(alloc)?)),
     }
-}
-
-/// A trace id with this low half.
-fn trace_of(low: u64) -> TraceId {
-    TraceId::from(u128::from(low) | (5 << 64))
 }
 
 fn ask_in(
     sampler: &Tree,
     parent_context: Option<&Context>,
-    trace_id: TraceId,
     name: &str,
 ) -> Result<SamplingResult, AllocError> {
     sampler.should_sample(
         parent_context,
-        trace_id,
+        TraceId::from(1),
         name,
         &SpanKind::Internal,
         &[],
@@ -121,276 +116,137 @@ fn ask_in(
 }
 
 /// What a sampler answers under a parent.
-fn ask(alloc: Global, sampler: &Tree, parent: Parent, name: &str) -> Result<SamplingResult, Fail> {
+fn ask(alloc: Global, sampler: &Tree, parent: Parent) -> Result<SamplingResult, Fail> {
     let cx = context_of(alloc, parent)?;
-    Ok(ask_in(sampler, cx.as_ref(), trace_of(1), name)?)
+    Ok(ask_in(sampler, cx.as_ref(), "GET")?)
 }
 
-fn without_attributes(
+/// Whether the custom sampler answers as it does by itself.
+fn answers_whole(alloc: Global, parent: Parent) -> Result<bool, Fail> {
+    let answer = ask(alloc, &Tree::Custom(own_sampler(alloc)?), parent)?;
+    Ok(answer == own_answer(alloc)?)
+}
+
+#[test]
+fn a_custom_sampler_answers_whole(rt: HostRuntime) -> Result<(), Fail> {
+    let alloc = rt.alloc();
+    for parent in [Parent::NoContext, Parent::NoSpan, Parent::Sampled] {
+        assert!(rt; answers_whole(alloc, parent)?);
+    }
+    Ok(())
+}
+
+/// Records without sampling, and adds one attribute.
+#[derive(Drop)]
+struct Marker {
     alloc: Global,
-    decision: SamplingDecision,
-    trace_state: &str,
-) -> Result<SamplingResult, Fail> {
-    Ok(SamplingResult {
-        decision,
-        attributes: Some(Vec::new(alloc)),
-        trace_state: TraceState::from_str(alloc, trace_state)?,
-    })
+}
+
+impl ShouldSample for Marker {
+    ghost use Rattle.std.specs.Prelude.{[], ◌∷◌, true, codes};
+    ghost use Rattle.opentelemetry.specs.Plain.{boolean};
+    ghost use Rattle.otel_base.specs.declared.trace.sampler.SamplingDecision.TheVariants as decisions;
+
+    ghost answer = { λ _ _. record {
+      decision = decisions.RecordOnly;
+      attributes = record { key = codes "marked"; value = boolean true } ∷ [];
+      trace_state = [];
+    } };
+
+    fn should_sample(
+        &self,
+        _parent_context: Option<&Context>,
+        _trace_id: TraceId,
+        _name: &str,
+        _span_kind: &SpanKind,
+        _attributes: &[KeyValue],
+        _links: &[Link],
+    ) -> Result<SamplingResult, AllocError> {
+        let mut attributes = Vec::with_capacity(self.alloc, 1)?;
+        attributes.push(KeyValue::new(Key::from_static_str("marked"), Value::Bool(true)))?;
+        Ok(SamplingResult {
+            decision: SamplingDecision::RecordOnly,
+            attributes: Some(attributes),
+            trace_state: TraceState::new(),
+        })
+    }
+}
+
+fn boxed_answer(alloc: Global) -> Result<SamplingResult, AllocError> {
+    let sampler = Sampler::Custom(Box::new(alloc, Marker { alloc })?);
+    let trace_id = TraceId::from(1);
+    sampler.should_sample(None, trace_id, "GET", &SpanKind::Internal, &[], &[])
+}
+
+#[test]
+fn a_custom_sampler_in_a_box_answers_whole(rt: HostRuntime) -> Result<(), Fail> {
+    let answer = boxed_answer(rt.alloc())?;
+    assert!(rt; answer.decision == SamplingDecision::RecordOnly);
+    assert_eq!(rt; answer.attributes.ok_or("attributes")?.len(), 1);
+    Ok(())
 }
 
 fn over(alloc: Global, delegate: Tree) -> Result<Tree, AllocError> {
     Ok(Tree::ParentBased(Box::new(alloc, delegate)?))
 }
 
-/// Whether a sampler gives a span without a name this decision and trace state, and no attribute.
-fn decides(
-    alloc: Global,
-    sampler: &Tree,
-    parent: Parent,
-    decision: SamplingDecision,
-    state: &str,
-) -> Result<bool, Fail> {
-    let expected = without_attributes(alloc, decision, state)?;
-    Ok(ask(alloc, sampler, parent, "")? == expected)
+fn over_own(alloc: Global) -> Result<Tree, AllocError> {
+    over(alloc, Tree::Custom(own_sampler(alloc)?))
 }
 
-/// The same of the sampler that samples all and of the one that drops all.
-fn leaves_decide(alloc: Global, parent: Parent, state: &str) -> Result<bool, Fail> {
-    let (on, off) = (SamplingDecision::RecordAndSample, SamplingDecision::Drop);
-    let all = decides(alloc, &Tree::AlwaysOn, parent, on, state)?;
-    Ok(all && decides(alloc, &Tree::AlwaysOff, parent, off, state)?)
-}
-
-fn over_on(alloc: Global) -> Result<Tree, AllocError> {
-    over(alloc, Tree::AlwaysOn)
-}
-
-fn over_off(alloc: Global) -> Result<Tree, AllocError> {
-    over(alloc, Tree::AlwaysOff)
-}
-
-fn twice_over_off(alloc: Global) -> Result<Tree, AllocError> {
-    over(alloc, over_off(alloc)?)
-}
-
-#[test]
-fn decides_by_the_parent_and_passes_its_trace_state_on(rt: HostRuntime) -> Result<(), Fail> {
-    let alloc = rt.alloc();
-    let (on, off) = (SamplingDecision::RecordAndSample, SamplingDecision::Drop);
-    let cases = [
-        ("no parent context", Parent::NoContext, on, off, ""),
-        ("no active span", Parent::NoSpan, on, off, ""),
-        ("the empty span context", Parent::EmptySpan, off, off, ""),
-        ("a sampled parent", Parent::Sampled, on, on, "foo=bar"),
-        ("other flags alone", Parent::OtherFlags, off, off, "foo=bar"),
-    ];
-    for (case, parent, from_on, from_off, state) in cases {
-        assert!(rt; leaves_decide(alloc, parent, state)?, "{case}");
-        assert!(rt;
-            decides(alloc, &over_on(alloc)?, parent, from_on, state)?,
-            "{case}"
-        );
-        assert!(rt;
-            decides(alloc, &over_off(alloc)?, parent, from_off, state)?,
-            "{case}"
-        );
-        assert!(rt;
-            decides(alloc, &twice_over_off(alloc)?, parent, from_off, state)?,
-            "{case}"
-        );
-    }
-    Ok(())
-}
-
-/// What a sampler decides on the trace whose id has this low half.
-fn decision_on(
-    alloc: Global,
-    sampler: &Tree,
-    parent: Parent,
-    low: u64,
-) -> Result<SamplingDecision, Fail> {
-    let cx = context_of(alloc, parent)?;
-    let answer = ask_in(sampler, cx.as_ref(), trace_of(low), "")?;
-    Ok(answer.decision)
-}
-
-#[test]
-fn a_ratio_decides_by_the_trace_id_alone(rt: HostRuntime) -> Result<(), Fail> {
-    let alloc = rt.alloc();
-    let (on, off) = (SamplingDecision::RecordAndSample, SamplingDecision::Drop);
-    let sampler = Tree::TraceIdRatioBased(Ratio::new(1, 4)?);
-    for parent in [Parent::NoContext, Parent::Sampled, Parent::OtherFlags] {
-        assert_eq!(rt; decision_on(alloc, &sampler, parent, (1 << 62) - 1)?, on);
-        assert_eq!(rt; decision_on(alloc, &sampler, parent, 1 << 62)?, off);
-    }
-    Ok(())
-}
-
-#[test]
-fn a_ratio_decides_at_roots_where_parents_come_first(rt: HostRuntime) -> Result<(), Fail> {
-    let alloc = rt.alloc();
-    let (on, off) = (SamplingDecision::RecordAndSample, SamplingDecision::Drop);
-    let sampler = over(alloc, Tree::TraceIdRatioBased(Ratio::new(1, 4)?))?;
-    for (parent, low, decision) in [
-        (Parent::NoContext, 1 << 62, off),
-        (Parent::Sampled, 1 << 62, on),
-        (Parent::OtherFlags, 0, off),
-    ] {
-        assert_eq!(rt; decision_on(alloc, &sampler, parent, low)?, decision);
-    }
-    Ok(())
-}
-
-/// Whether a sampler answers as the custom one does.
-fn answers_whole(alloc: Global, sampler: &Tree, parent: Parent) -> Result<bool, Fail> {
-    let whole = own_answer(alloc)?;
-    Ok(ask(alloc, sampler, parent, "GET")? == whole)
-}
-
-#[test]
-fn a_custom_sampler_answers_whole(rt: HostRuntime) -> Result<(), Fail> {
-    let alloc = rt.alloc();
-    let sampler = Tree::Custom(Own { alloc });
-    for parent in [Parent::NoContext, Parent::NoSpan, Parent::Sampled] {
-        assert!(rt; answers_whole(alloc, &sampler, parent)?);
-    }
-    Ok(())
-}
-
-#[test]
-fn a_custom_sampler_in_a_box_answers_whole(rt: HostRuntime) -> Result<(), Fail> {
-    let alloc = rt.alloc();
-    let sampler = Sampler::Custom(Box::new(alloc, Own { alloc })?);
-    let answer = sampler.should_sample(
-        None,
-        TraceId::from(1),
-        "GET",
-        &SpanKind::Internal,
-        &[],
-        &[],
-    )?;
-    assert!(rt; answer == own_answer(alloc)?);
-    Ok(())
-}
-
-/// Whether a sampler answers the custom one's decision and nothing else.
-fn answers_its_decision(alloc: Global, sampler: &Tree, parent: Parent) -> Result<bool, Fail> {
-    let decision = without_attributes(alloc, SamplingDecision::RecordOnly, "")?;
-    Ok(ask(alloc, sampler, parent, "GET")? == decision)
+/// Whether the sampler by the parent, over the custom one, answers the custom one's decision and nothing else. An
+/// empty list of attributes counts as none.
+fn answers_its_decision(alloc: Global, parent: Parent) -> Result<bool, Fail> {
+    let answer = ask(alloc, &over_own(alloc)?, parent)?;
+    let decision = SamplingResult {
+        decision: SamplingDecision::RecordOnly,
+        attributes: Some(Vec::new(alloc)),
+        trace_state: TraceState::new(),
+    };
+    Ok(answer == decision)
 }
 
 #[test]
 fn the_decision_of_a_delegate_counts_alone(rt: HostRuntime) -> Result<(), Fail> {
     let alloc = rt.alloc();
-    let sampler = over(alloc, Tree::Custom(Own { alloc }))?;
-    assert!(rt; answers_its_decision(alloc, &sampler, Parent::NoContext)?);
-    assert!(rt; answers_its_decision(alloc, &sampler, Parent::NoSpan)?);
-    assert!(rt; !answers_its_decision(alloc, &sampler, Parent::Sampled)?);
+    assert!(rt; answers_its_decision(alloc, Parent::NoContext)?);
+    assert!(rt; answers_its_decision(alloc, Parent::NoSpan)?);
+    assert!(rt; !answers_its_decision(alloc, Parent::Sampled)?);
     Ok(())
 }
 
-/// Whether a sampler refuses a span without a name.
-fn refuses(alloc: Global, sampler: &Tree, parent: Parent) -> Result<bool, Fail> {
+/// Whether the sampler by the parent, over the custom one, refuses a span without a name.
+fn refuses(alloc: Global, parent: Parent) -> Result<bool, Fail> {
     let cx = context_of(alloc, parent)?;
-    Ok(ask_in(sampler, cx.as_ref(), trace_of(1), "").is_err())
+    Ok(ask_in(&over_own(alloc)?, cx.as_ref(), "").is_err())
 }
 
 #[test]
 fn a_custom_sampler_is_not_asked_under_a_parent(rt: HostRuntime) -> Result<(), Fail> {
     let alloc = rt.alloc();
-    let sampler = over(alloc, Tree::Custom(Own { alloc }))?;
-    assert!(rt; refuses(alloc, &sampler, Parent::NoContext)?);
-    assert!(rt; !refuses(alloc, &sampler, Parent::Sampled)?);
+    assert!(rt; refuses(alloc, Parent::NoContext)?);
+    assert!(rt; !refuses(alloc, Parent::Sampled)?);
     Ok(())
 }
 
-#[test]
-fn a_clone_of_an_answer_is_equal(rt: HostRuntime) -> Result<(), Fail> {
-    let own = own_answer(rt.alloc())?;
-    assert!(rt; own.clone()? == own);
-    assert_eq!(rt; own.trace_state.get("own32"), Some("1"));
-    assert_eq!(rt; own.attributes.ok_or("attributes")?.len(), 33);
-    Ok(())
-}
-
-fn copy_of(sampler: &Tree) -> Result<Tree, Fail> {
-    let Some(copy) = sampler.try_clone()? else {
-        return Err("no copy")?;
-    };
-    Ok(copy)
-}
-
-/// What the copy of a sampler decides under a parent.
-fn copy_decision(alloc: Global, sampler: &Tree, parent: Parent) -> Result<SamplingDecision, Fail> {
-    let copy = copy_of(sampler)?;
-    Ok(ask(alloc, &copy, parent, "")?.decision)
-}
-
-/// The same on a root, on the child of a sampled span, and on that of another one.
-fn copy_decisions(alloc: Global, sampler: &Tree) -> Result<[SamplingDecision; 3], Fail> {
-    let root = copy_decision(alloc, sampler, Parent::NoContext)?;
-    let child = copy_decision(alloc, sampler, Parent::Sampled)?;
-    let other = copy_decision(alloc, sampler, Parent::OtherFlags)?;
-    Ok([root, child, other])
-}
-
-fn quarter() -> Result<Tree, Fail> {
-    Ok(Tree::TraceIdRatioBased(Ratio::new(1, 4)?))
-}
-
-fn nought() -> Result<Tree, Fail> {
-    Ok(Tree::TraceIdRatioBased(Ratio::new(0, 1)?))
-}
-
-#[test]
-fn copies_trees_without_a_custom_sampler(rt: HostRuntime) -> Result<(), Fail> {
-    let alloc = rt.alloc();
-    let on = SamplingDecision::RecordAndSample;
-    let off = SamplingDecision::Drop;
-    assert_eq!(rt; copy_decisions(alloc, &Tree::AlwaysOn)?, [on, on, on]);
-    assert_eq!(rt; copy_decisions(alloc, &Tree::AlwaysOff)?, [off, off, off]);
-    assert_eq!(rt; copy_decisions(alloc, &over_on(alloc)?)?, [on, on, off]);
-    assert_eq!(rt; copy_decisions(alloc, &quarter()?)?, [on, on, on]);
-    assert_eq!(rt; copy_decisions(alloc, &nought()?)?, [off, off, off]);
-    assert_eq!(rt;
-        copy_decisions(alloc, &twice_over_off(alloc)?)?,
-        [off, on, off]
-    );
-    Ok(())
-}
-
-/// A sampler deep below others, each of which decides by the parent.
-fn deep(alloc: Global, leaf: Tree) -> Result<Tree, AllocError> {
-    let mut tree = leaf;
-    for _ in 0..COUNT {
+/// The custom sampler below so many others, each of which decides by the parent.
+fn deep(alloc: Global, depth: u32) -> Result<Tree, AllocError> {
+    let mut tree = Tree::Custom(own_sampler(alloc)?);
+    for _ in 0..depth {
         tree = over(alloc, tree)?;
     }
     Ok(tree)
 }
 
-/// What copies decide of a tree deep above a leaf.
-fn deep_decisions(alloc: Global, leaf: Tree) -> Result<[SamplingDecision; 3], Fail> {
-    copy_decisions(alloc, &deep(alloc, leaf)?)
-}
-
-#[test]
-fn copies_deep_trees(rt: HostRuntime) -> Result<(), Fail> {
-    let alloc = rt.alloc();
-    let (on, off) = (SamplingDecision::RecordAndSample, SamplingDecision::Drop);
-    let decisions = deep_decisions(alloc, Tree::AlwaysOn)?;
-    assert_eq!(rt; decisions, [on, on, off]);
-    assert_eq!(rt; deep_decisions(alloc, nought()?)?, [off, on, off]);
-    let custom = deep(alloc, Tree::Custom(Own { alloc }))?;
-    assert!(rt; custom.try_clone()?.is_none());
-    Ok(())
+fn is_copied(alloc: Global, depth: u32) -> Result<bool, AllocError> {
+    let tree = deep(alloc, depth)?;
+    Ok(tree.try_clone()?.is_some())
 }
 
 #[test]
 fn a_tree_with_a_custom_sampler_is_not_copied(rt: HostRuntime) -> Result<(), Fail> {
-    let alloc = rt.alloc();
-    let custom = Tree::Custom(Own { alloc });
-    assert!(rt; custom.try_clone()?.is_none());
-    let tree = over(alloc, over(alloc, custom)?)?;
-    assert!(rt; tree.try_clone()?.is_none());
+    for depth in [0, 2, COUNT] {
+        assert!(rt; !is_copied(rt.alloc(), depth)?);
+    }
     Ok(())
 }

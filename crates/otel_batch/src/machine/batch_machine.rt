@@ -165,8 +165,8 @@ impl<E> BatchMachine<E> {
         &self.exporter
     }
 
-    /// What holds of every machine.
-    pub(super) fn is_sound(&self)
+    /// What holds of every machine. It does nothing: a caller calls it for what its clause says of the machine in hand.
+    pub fn is_sound(&self)
         ensures { IsSound (counts self.now) }
     {
         let _ = &self.closed;
@@ -183,6 +183,7 @@ impl<E: SpanExporter> BatchMachine<E> {
     ghost use Rattle.otel_batch.specs.KnownRequests.{KnowsRequests};
     ghost use Rattle.otel_batch.specs.GoingOn.{GoesOn};
     ghost use Rattle.otel_batch.specs.Drains.{BoundsDrains, CompletesDrains, FitBatches, largest_batch};
+    ghost use Rattle.otel_batch.specs.DrainAnswers.{AnswersDrains};
     ghost use Rattle.otel_batch.specs.Slots.{slot_waits};
     ghost use Rattle.otel_batch.specs.Workers.{is_gone};
     ghost use Rattle.otel_batch.specs.PermittedStep.{Permitted};
@@ -265,6 +266,9 @@ impl<E: SpanExporter> BatchMachine<E> {
             (full_sends steps.items (added outcomes.old.items outcomes.new.items))) }
         // A finished drain that found memory handed over all that waited at its load.
         ensures drains { OnOk result (CompletesDrains E.SpanExporter self.old steps.items
+            (added outcomes.old.items outcomes.new.items) self.new) }
+        // Its answer is what its outcomes say.
+        ensures answers { OnOk result (AnswersDrains E.SpanExporter self.old steps.items
             (added outcomes.old.items outcomes.new.items) self.new) }
         // It takes a bounded number of the worker's steps.
         ensures bounded { OnOk result (BoundsDrains self.old.control steps.items

@@ -71,7 +71,6 @@ impl Clone for SpanEvents {
 }
 
 impl PartialEq for SpanEvents {
-    ghost use Rattle.std.specs.Prelude.{◌≡◌, ◌↔◌, IsTrue};
     ghost use Rattle.opentelemetry.specs.Same.{partial_equivalence_from_decides};
     ghost use Rattle.otel_export.specs.SameSpanData.{same_span_events, same_span_events_decides};
 
@@ -79,10 +78,7 @@ impl PartialEq for SpanEvents {
 
     ghost laws = { partial_equivalence_from_decides same_span_events same_span_events_decides };
 
-    fn eq(&self, other: &SpanEvents) -> bool
-        ensures value { result ≡ same_span_events self.now other.now }
-        ensures same { IsTrue result ↔ (self.now ≡ other.now) }
-    {
+    fn eq(&self, other: &SpanEvents) -> bool {
         self.events == other.events && self.dropped_count == other.dropped_count
     }
 }

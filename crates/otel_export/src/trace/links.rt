@@ -71,7 +71,6 @@ impl Clone for SpanLinks {
 }
 
 impl PartialEq for SpanLinks {
-    ghost use Rattle.std.specs.Prelude.{◌≡◌, ◌↔◌, IsTrue};
     ghost use Rattle.opentelemetry.specs.Same.{partial_equivalence_from_decides};
     ghost use Rattle.otel_export.specs.SameSpanData.{same_span_links, same_span_links_decides};
 
@@ -79,10 +78,7 @@ impl PartialEq for SpanLinks {
 
     ghost laws = { partial_equivalence_from_decides same_span_links same_span_links_decides };
 
-    fn eq(&self, other: &SpanLinks) -> bool
-        ensures value { result ≡ same_span_links self.now other.now }
-        ensures same { IsTrue result ↔ (self.now ≡ other.now) }
-    {
+    fn eq(&self, other: &SpanLinks) -> bool {
         self.links == other.links && self.dropped_count == other.dropped_count
     }
 }

@@ -105,7 +105,6 @@ impl SpanData {
 }
 
 impl PartialEq for SpanData {
-    ghost use Rattle.std.specs.Prelude.{◌≡◌, ◌↔◌, IsTrue};
     ghost use Rattle.opentelemetry.specs.Same.{partial_equivalence_from_decides};
     ghost use Rattle.otel_export.specs.SameSpanData.{same_span_data, same_span_data_decides};
 
@@ -113,10 +112,7 @@ impl PartialEq for SpanData {
 
     ghost laws = { partial_equivalence_from_decides same_span_data same_span_data_decides };
 
-    fn eq(&self, other: &SpanData) -> bool
-        ensures value { result ≡ same_span_data self.now other.now }
-        ensures same { IsTrue result ↔ (self.now ≡ other.now) }
-    {
+    fn eq(&self, other: &SpanData) -> bool {
         self.has_identity_of(other) && self.has_recording_of(other)
     }
 }

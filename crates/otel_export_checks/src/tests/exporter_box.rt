@@ -8,6 +8,7 @@ use otel_export::trace::{
     ExporterBox, ExporterOf, InMemorySpanExporter, SpanData, SpanEvents, SpanExporter, SpanLinks,
 };
 use std::alloc::{AllocError, Global};
+use std::fmt::Write;
 use std::test::Fail;
 use std::time::Duration;
 
@@ -90,76 +91,75 @@ fn batch_from(alloc: Global, moment: u64, count: u64) -> Result<Vec<SpanData>, A
     Ok(batch)
 }
 
-/// The moments at which the spans of a batch started.
-fn moments_of(alloc: Global, batch: &[SpanData]) -> Result<Vec<u64>, AllocError> {
-    let mut moments = Vec::new(alloc);
-    for span in batch {
-        moments.push(span.start_time.0)?;
+/// The moments at which the spans of each batch started, each batch between brackets.
+fn moments_of(alloc: Global, batches: &[Vec<SpanData>]) -> Result<String, AllocError> {
+    let mut text = String::new(alloc);
+    for batch in batches {
+        text.push('[')?;
+        push_moments(&mut text, batch)?;
+        text.push(']')?;
     }
-    Ok(moments)
+    Ok(text)
 }
 
-/// So many moments in turn.
-fn moments_from(alloc: Global, moment: u64, count: u64) -> Result<Vec<u64>, AllocError> {
-    let mut moments = Vec::new(alloc);
-    for later in 0..count {
-        moments.push(moment.saturating_add(later))?;
+fn push_moments(text: &mut String, batch: &[SpanData]) -> Result<(), AllocError> {
+    for span in batch {
+        let moment = span.start_time.0;
+        write!(text, "{moment} ")?;
     }
-    Ok(moments)
+    Ok(())
+}
+
+/// The text of a batch of one span at moment 7 and of one of 33 spans from moment 8 on.
+fn two_batches(alloc: Global) -> Result<String, AllocError> {
+    let mut text = String::from_str(alloc, "[7 ][")?;
+    for moment in 8..41u64 {
+        write!(&mut text, "{moment} ")?;
+    }
+    text.push(']')?;
+    Ok(text)
 }
 
 #[test]
-fn batches_are_kept_in_order(rt: HostRuntime) -> Result<(), Fail> {
-    let mut exporter = ExporterBox::Memory(InMemorySpanExporter::new(rt.alloc()));
-    exporter.export(batch_from(rt.alloc(), 7, 1)?)?;
-    exporter.export(batch_from(rt.alloc(), 8, 33)?)?;
+fn an_exporter_in_memory_keeps_batches_in_order_and_has_nothing_to_send(
+    rt: HostRuntime,
+) -> Result<(), Fail> {
+    let alloc = rt.alloc();
+    let mut exporter = ExporterBox::Memory(InMemorySpanExporter::new(alloc));
+    exporter.export(batch_from(alloc, 7, 1)?)?;
+    exporter.export(batch_from(alloc, 8, 33)?)?;
+    exporter.force_flush()?;
+    exporter.shutdown_with_timeout(Duration::from_secs(7))?;
+    exporter.shutdown()?;
     let ExporterOf::Memory(memory) = &exporter else {
         return Err(Fail::new("another exporter"));
     };
-    let batches = memory.batches();
-    assert_eq!(rt; batches.len(), 2);
-    for (batch, (moment, count)) in batches.iter().zip([(7, 1), (8, 33)]) {
-        assert_eq!(rt;
-            moments_of(rt.alloc(), batch)?.as_slice(),
-            moments_from(rt.alloc(), moment, count)?.as_slice()
-        );
-    }
+    let moments = moments_of(alloc, memory.batches())?;
+    assert_eq!(rt; moments.as_str(), two_batches(alloc)?.as_str());
     assert_eq!(rt; memory.lost_batches(), 0);
     Ok(())
 }
 
-#[test]
-fn an_exporter_in_memory_has_nothing_to_send(rt: HostRuntime) -> Result<(), Fail> {
-    let mut exporter = ExporterBox::Memory(InMemorySpanExporter::new(rt.alloc()));
-    assert!(rt; exporter.force_flush().is_ok());
-    assert!(rt;
-        exporter
-            .shutdown_with_timeout(Duration::from_secs(7))
-            .is_ok()
-    );
-    assert!(rt; exporter.shutdown().is_ok());
-    Ok(())
+/// A resource of one attribute.
+fn resource_of_one(alloc: Global) -> Result<Resource, AllocError> {
+    let builder = Resource::builder_empty(alloc).with_service_name(Value::I64(7))?;
+    Ok(builder.build())
 }
 
 #[test]
 fn an_exporter_of_the_callers_is_reached(rt: HostRuntime) -> Result<(), Fail> {
-    let mut exporter = ExporterBox::Custom(Box::new(rt.alloc(), Echo { asked: 0 })?);
-    let exported = exporter.export(batch_from(rt.alloc(), 7, 1)?);
-    assert_eq!(rt; seconds_of(exported), Some(7));
-    assert_eq!(rt; seconds_of(exporter.force_flush()), Some(100));
+    let alloc = rt.alloc();
+    let mut exporter = ExporterBox::Custom(Box::new(alloc, Echo { asked: 0 })?);
+    let exported = exporter.export(batch_from(alloc, 7, 1)?);
+    let flushed = exporter.force_flush();
     let shut = exporter.shutdown_with_timeout(Duration::from_secs(7));
+    let shut_again = exporter.shutdown();
+    exporter.set_resource(&resource_of_one(alloc)?);
+    let flushed_again = exporter.force_flush();
+    assert_eq!(rt; seconds_of(exported), Some(7));
+    assert_eq!(rt; seconds_of(flushed), Some(100));
     assert_eq!(rt; seconds_of(shut), Some(207));
-    assert_eq!(rt; seconds_of(exporter.shutdown()), Some(305));
-    Ok(())
-}
-
-#[test]
-fn the_resource_reaches_an_exporter_of_the_callers(rt: HostRuntime) -> Result<(), Fail> {
-    let resource = Resource::builder_empty(rt.alloc())
-        .with_service_name(Value::I64(7))?
-        .build();
-    let mut exporter = ExporterBox::Custom(Box::new(rt.alloc(), Echo { asked: 0 })?);
-    exporter.set_resource(&resource);
-    assert_eq!(rt; seconds_of(exporter.force_flush()), Some(200));
+    assert_eq!(rt; seconds_of(shut_again), Some(305));
+    assert_eq!(rt; seconds_of(flushed_again), Some(500));
     Ok(())
 }

@@ -36,36 +36,28 @@ fn context(alloc: Global, span_id: u64) -> Result<SpanContext, Fail> {
     ))
 }
 
-/// How long each list of a full span is, more than any small number that a copy might tell apart.
-const COUNT: usize = 33;
-
 fn attributes(alloc: Global, key: &str) -> Result<Vec<KeyValue>, AllocError> {
-    let mut attributes = Vec::with_capacity(alloc, COUNT)?;
-    for _ in 0..COUNT {
-        attributes.push(KeyValue::new(Key::new(text(alloc, key)?), Value::I64(7)))?;
-    }
-    Ok(attributes)
+    let key = Key::new(text(alloc, key)?);
+    Ok(vec![in alloc; KeyValue::new(key, Value::I64(7))]?)
 }
 
 fn full_events(alloc: Global) -> Result<SpanEvents, AllocError> {
-    let mut events = Vec::with_capacity(alloc, COUNT)?;
-    for _ in 0..COUNT {
-        let attributes = attributes(alloc, "size")?;
-        events.push(Event::new(text(alloc, "sent")?, Moment(5), attributes, 1))?;
-    }
+    let event = Event::new(
+        text(alloc, "sent")?,
+        Moment(5),
+        attributes(alloc, "size")?,
+        1,
+    );
     Ok(SpanEvents {
-        events,
+        events: vec![in alloc; event]?,
         dropped_count: 4,
     })
 }
 
 fn full_links(alloc: Global) -> Result<SpanLinks, Fail> {
-    let mut links = Vec::with_capacity(alloc, COUNT)?;
-    for _ in 0..COUNT {
-        links.push(Link::new(context(alloc, 9)?, attributes(alloc, "why")?, 2))?;
-    }
+    let link = Link::new(context(alloc, 9)?, attributes(alloc, "why")?, 2);
     Ok(SpanLinks {
-        links,
+        links: vec![in alloc; link]?,
         dropped_count: 5,
     })
 }
@@ -103,30 +95,24 @@ fn full_span(alloc: Global) -> Result<SpanData, Fail> {
     Ok(span)
 }
 
-#[test]
-fn ample_memory_makes_a_copy(rt: HostRuntime) -> Result<(), Fail> {
-    let span = full_span(rt.alloc())?;
-    assert_eq!(rt; span.clone()?, span);
-    let events = &span.events;
-    assert_eq!(rt; copy_of_events(events)?, *events);
-    let links = &span.links;
-    assert_eq!(rt; copy_of_links(links)?, *links);
-    Ok(())
+/// Events and links of which none was kept, as they are printed.
+fn printed(alloc: Global) -> Result<String, AllocError> {
+    let mut events = SpanEvents::new(alloc);
+    events.dropped_count = 2;
+    let mut links = SpanLinks::new(alloc);
+    links.dropped_count = 3;
+    format!(in alloc; "{events:?}, {links:?}")
 }
 
 #[test]
-fn prints_its_fields(rt: HostRuntime) -> Result<(), Fail> {
-    let events = SpanEvents {
-        events: Vec::new(rt.alloc()),
-        dropped_count: 2,
-    };
-    let links = SpanLinks {
-        links: Vec::new(rt.alloc()),
-        dropped_count: 3,
-    };
-    let printed = format!(in rt.alloc(); "{events:?}, {links:?}")?;
+fn ample_memory_makes_a_copy_and_fields_are_printed(rt: HostRuntime) -> Result<(), Fail> {
+    let alloc = rt.alloc();
+    let span = full_span(alloc)?;
+    assert_eq!(rt; span.clone()?, span);
+    assert_eq!(rt; copy_of_events(&span.events)?, span.events);
+    assert_eq!(rt; copy_of_links(&span.links)?, span.links);
     assert_eq!(rt;
-        printed.as_str(),
+        printed(alloc)?.as_str(),
         "SpanEvents { events: [], dropped_count: 2 }, SpanLinks { links: [], dropped_count: 3 }"
     );
     Ok(())

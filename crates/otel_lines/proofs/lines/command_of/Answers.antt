@@ -1,6 +1,6 @@
 -- What is found behind the word, or of the word alone, is found in the line.
 use Rattle.std.proofs.Common.{◌≡◌, ◌++◌, ◌∷◌, IsUtf8, rules}
-use Rattle.otel_lines.proofs.Clauses.{if_ok_map}
+use Rattle.opentelemetry.proofs.Clauses.{if_ok_map}
 use Rattle.otel_lines.proofs.Fields.{fields_give_line, fields_make_line, word_gives_line}
 use Rattle.otel_lines.proofs.lines.command_of.Goals as goal
 

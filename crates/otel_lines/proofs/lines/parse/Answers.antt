@@ -3,7 +3,7 @@ use Rattle.std.proofs.Common.{◌≡◌, ◌≢◌, ◌+◌, Some, None, [], len
 use Rattle.std.proofs.lemmas.List.{map_push, nil_from_length}
 use Rattle.otel_lines.specs.Commands.{PlainCommand, plain_command, plain_commands}
 use Rattle.otel_lines.specs.Lines.{Reads}
-use Rattle.otel_lines.proofs.Clauses.{fails_on_err}
+use Rattle.opentelemetry.proofs.Clauses.{fails_on_err}
 use Rattle.otel_lines.proofs.OneReading.{one_reading}
 use Rattle.otel_lines.proofs.Spelled.{read_blank, read_more, read_bad, read_all, spells_something}
 use Rattle.otel_lines.proofs.lines.parse.Goals as goal

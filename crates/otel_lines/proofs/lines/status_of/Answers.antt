@@ -2,7 +2,7 @@
 use Rattle.std.proofs.Common.{refl}
 use Rattle.otel_lines.specs.Commands.{status}
 use Rattle.opentelemetry.specs.PlainValues.{plain_status}
-use Rattle.otel_lines.proofs.Clauses.{fails_on_err}
+use Rattle.opentelemetry.proofs.Clauses.{fails_on_err}
 use Rattle.otel_lines.specs.Lines.{IsStatus, outcome}
 use Rattle.opentelemetry.specs.Plain.{PlainStatus}
 use Rattle.otel_lines.proofs.Fields.{behind_field, only_status}

@@ -1,6 +1,6 @@
 -- Where batches have no span, none of them has one.
 use Rattle.std.proofs.Common.{◌∙◌, arith}
-use Rattle.otel_lines.proofs.Clauses.{fails_on_err}
+use Rattle.opentelemetry.proofs.Clauses.{fails_on_err}
 use Rattle.otel_lines.proofs.Listed.{none_among}
 use Rattle.otel_lines.proofs.reply_text.push_batches.Goals as goal
 

@@ -1,6 +1,6 @@
 use Rattle.std.proofs.Common.{string_bytes}
 use Rattle.otel_base.specs.Traceparent.{tracestate_field}
-use Rattle.otel_lines.proofs.Clauses.{if_ok_map}
+use Rattle.opentelemetry.proofs.Clauses.{if_ok_map}
 use Rattle.otel_session.proofs.HeaderLemmas.{no_text, says_alone}
 use Rattle.otel_session.proofs.headers.remote_context.Goals as goal
 

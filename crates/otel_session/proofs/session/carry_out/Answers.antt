@@ -1,16 +1,17 @@
-use Rattle.std.proofs.Common.{◌≡◌, true, IsFalse, refl, subst, sym, ap, map, rules, string_bytes, List, ℕ, inr}
+use Rattle.std.proofs.Common.{◌≡◌, true, IsFalse, refl, subst, sym, ap, rules, string_bytes, List, ℕ, inr}
 use Rattle.opentelemetry.specs.Plain.{PlainContext}
-use Rattle.opentelemetry_sdk.specs.SpanEdits.{plain_edit}
+use Rattle.otel_pipeline.specs.SpanEdits.{plain_edit}
 use Rattle.opentelemetry.specs.PlainValues.{plain_status}
-use Rattle.opentelemetry_sdk.specs.SpanHistory.{Edit, set_status}
+use Rattle.otel_pipeline.specs.SpanHistory.{Edit, set_status}
 use Rattle.otel_lines.specs.Commands.{plain_command, is_end, may_lose}
 use Rattle.otel_session.specs.OpenSpans.{ChildMayStart, ChildStartsNamed, EditsNamed, EndsNamed, InjectsNamed, MayStart, StartsNamed, named}
 use Rattle.otel_session.specs.SessionDelivery.{CarriesOutOne, RefusesOne, batches_of_first, call_answer}
 use Rattle.otel_lines.specs.declared.command.Command.{Command}
 use Rattle.otel_lines.specs.declared.reply.Answer.{Answer}
-use Rattle.otel_lines.proofs.Clauses.{if_ok_map, on_err_map}
+use Rattle.opentelemetry.proofs.Clauses.{if_ok_map, on_err_map}
+use Rattle.otel_session.proofs.NamedLemmas.{on_err_both, refused_start_asks_none, refused_child_asks_none}
 use Rattle.otel_session.proofs.StepLemmas.{carries_start, carries_child, carries_attr, carries_event, carries_status, carries_end, carries_flush, carries_inject, carries_remote, carries_shutdown}
-use Rattle.otel_session.proofs.ShownLemmas.{appends_none, may_start_keeps, child_may_start_keeps, may_deliver_keeps, flush_keeps, shutdown_keeps}
+use Rattle.otel_session.proofs.ShownLemmas.{appends_none, start_keeps, child_keeps, may_deliver_keeps, flush_keeps, shutdown_keeps}
 use Rattle.otel_session.proofs.session.carry_out.Goals as goal
 
 pub returns-in-Start-clause-ok : goal.returns-in-Start-clause-ok
@@ -64,57 +65,57 @@ returns-in-Shutdown-clause-ok g c =
     (carries_shutdown g.P.SpanProcessor g.S.ShouldSample g.G.IdGenerator c.args.tracer.now c.args.provider.now c.shutdown.new.self c.args.spans.now c.shutdown.result c.shutdown.ensures.again c.shutdown.ensures.first c.shutdown.ensures.told))
 
 pub returns-in-Start-clause-err : goal.returns-in-Start-clause-err
-returns-in-Start-clause-err g c = on_err_map c.start_in.result (λ h.
-    subst (λ (command : Command). RefusesOne g.P.SpanProcessor g.S.ShouldSample g.G.IdGenerator c.args.tracer.now c.args.provider.now c.args.spans.now (plain_command command) c.start_in.new.provider c.start_in.new.self) (sym c.in-Start.is)
+returns-in-Start-clause-err g c = on_err_both c.start_in.result (λ same h.
+    subst (λ (command : Command). RefusesOne g.S.ShouldSample g.G.IdGenerator c.args.provider.now c.args.spans.now (plain_command command) c.start_in.new.provider c.start_in.new.self) (sym c.in-Start.is)
     (record {
-      spans = h;
-      asks = subst (λ (cx : PlainContext). MayStart g.P.SpanProcessor g.S.ShouldSample g.G.IdGenerator c.args.provider.now c.args.tracer.now cx (string_bytes c.in-Start.name) c.in-Start.moment.0 (named c.args.spans.now (string_bytes c.in-Start.span)) c.start_in.new.provider) c.requires c.start_in.ensures.asks;
-      told = c.start_in.ensures.told;
-    })) c.start_in.ensures.err
+      spans = same;
+      asks = subst (λ (cx : PlainContext). MayStart g.S.ShouldSample g.G.IdGenerator c.args.provider.now cx (string_bytes c.in-Start.name) (named c.args.spans.now (string_bytes c.in-Start.span)) c.start_in.new.provider) c.requires h;
+      processors = refused_start_asks_none g.S.ShouldSample g.G.IdGenerator c.args.provider.now c.start_in.new.provider _ (string_bytes c.in-Start.name) _ h;
+    })) c.start_in.ensures.err c.start_in.ensures.asks
 
 pub returns-in-Child-clause-err : goal.returns-in-Child-clause-err
-returns-in-Child-clause-err g c = on_err_map c.start_child.result (λ h.
-    subst (λ (command : Command). RefusesOne g.P.SpanProcessor g.S.ShouldSample g.G.IdGenerator c.args.tracer.now c.args.provider.now c.args.spans.now (plain_command command) c.start_child.new.provider c.start_child.new.self) (sym c.in-Child.is)
+returns-in-Child-clause-err g c = on_err_both c.start_child.result (λ same h.
+    subst (λ (command : Command). RefusesOne g.S.ShouldSample g.G.IdGenerator c.args.provider.now c.args.spans.now (plain_command command) c.start_child.new.provider c.start_child.new.self) (sym c.in-Child.is)
     (record {
-      spans = h;
-      asks = subst (λ (parent : List ℕ). ChildMayStart g.P.SpanProcessor g.S.ShouldSample g.G.IdGenerator c.args.provider.now c.args.tracer.now (named c.args.spans.now parent) (string_bytes c.in-Child.name) c.in-Child.moment.0 (named c.args.spans.now (string_bytes c.in-Child.span)) c.start_child.new.provider) c.as_str.ensures.value c.start_child.ensures.asks;
-      told = c.start_child.ensures.told;
-    })) c.start_child.ensures.err
+      spans = same;
+      asks = subst (λ (parent : List ℕ). ChildMayStart g.S.ShouldSample g.G.IdGenerator c.args.provider.now (named c.args.spans.now parent) (string_bytes c.in-Child.name) (named c.args.spans.now (string_bytes c.in-Child.span)) c.start_child.new.provider) c.as_str.ensures.value h;
+      processors = refused_child_asks_none g.S.ShouldSample g.G.IdGenerator c.args.provider.now c.start_child.new.provider _ (string_bytes c.in-Child.name) _ h;
+    })) c.start_child.ensures.err c.start_child.ensures.asks
 
 pub returns-in-Attr-clause-err : goal.returns-in-Attr-clause-err
 returns-in-Attr-clause-err g c = on_err_map c.edit.result (λ h.
-    subst (λ (command : Command). RefusesOne g.P.SpanProcessor g.S.ShouldSample g.G.IdGenerator c.args.tracer.now c.args.provider.now c.args.spans.now (plain_command command) c.args.provider.now c.edit.new.self) (sym c.in-Attr.is)
-    (record { spans = h; asks = refl; told = refl })) c.edit.ensures.err
+    subst (λ (command : Command). RefusesOne g.S.ShouldSample g.G.IdGenerator c.args.provider.now c.args.spans.now (plain_command command) c.args.provider.now c.edit.new.self) (sym c.in-Attr.is)
+    (record { spans = h; asks = refl; processors = refl })) c.edit.ensures.err
 
 pub returns-in-Attr-clause-keeps : goal.returns-in-Attr-clause-keeps
 returns-in-Attr-clause-keeps g c = appends_none (batches_of_first g.P.KeepsBatches c.args.provider.now.processors) _ refl
 
 pub returns-in-Event-clause-err : goal.returns-in-Event-clause-err
 returns-in-Event-clause-err g c = on_err_map c.edit-in-Event.result (λ h.
-    subst (λ (command : Command). RefusesOne g.P.SpanProcessor g.S.ShouldSample g.G.IdGenerator c.args.tracer.now c.args.provider.now c.args.spans.now (plain_command command) c.args.provider.now c.edit-in-Event.new.self) (sym c.in-Event.is)
-    (record { spans = h; asks = refl; told = refl })) c.edit-in-Event.ensures.err
+    subst (λ (command : Command). RefusesOne g.S.ShouldSample g.G.IdGenerator c.args.provider.now c.args.spans.now (plain_command command) c.args.provider.now c.edit-in-Event.new.self) (sym c.in-Event.is)
+    (record { spans = h; asks = refl; processors = refl })) c.edit-in-Event.ensures.err
 
 pub returns-in-Event-clause-keeps : goal.returns-in-Event-clause-keeps
 returns-in-Event-clause-keeps g c = appends_none (batches_of_first g.P.KeepsBatches c.args.provider.now.processors) _ refl
 
 pub returns-in-Status-clause-err : goal.returns-in-Status-clause-err
 returns-in-Status-clause-err g c = on_err_map c.edit-in-Status.result (λ h.
-    subst (λ (command : Command). RefusesOne g.P.SpanProcessor g.S.ShouldSample g.G.IdGenerator c.args.tracer.now c.args.provider.now c.args.spans.now (plain_command command) c.args.provider.now c.edit-in-Status.new.self) (sym c.in-Status.is)
-    (record { spans = h; asks = refl; told = refl })) c.edit-in-Status.ensures.err
+    subst (λ (command : Command). RefusesOne g.S.ShouldSample g.G.IdGenerator c.args.provider.now c.args.spans.now (plain_command command) c.args.provider.now c.edit-in-Status.new.self) (sym c.in-Status.is)
+    (record { spans = h; asks = refl; processors = refl })) c.edit-in-Status.ensures.err
 
 pub returns-in-Status-clause-keeps : goal.returns-in-Status-clause-keeps
 returns-in-Status-clause-keeps g c = appends_none (batches_of_first g.P.KeepsBatches c.args.provider.now.processors) _ refl
 
 pub returns-in-End-clause-err : goal.returns-in-End-clause-err
 returns-in-End-clause-err g c = on_err_map c.end.result (λ h.
-    subst (λ (command : Command). RefusesOne g.P.SpanProcessor g.S.ShouldSample g.G.IdGenerator c.args.tracer.now c.args.provider.now c.args.spans.now (plain_command command) c.end.new.provider c.end.new.self) (sym c.in-End.is)
-    (record { spans = h.0; asks = h.1; told = ap (λ r. map g.P.SpanProcessor.told r.processors) h.1 })) c.end.ensures.err
+    subst (λ (command : Command). RefusesOne g.S.ShouldSample g.G.IdGenerator c.args.provider.now c.args.spans.now (plain_command command) c.end.new.provider c.end.new.self) (sym c.in-End.is)
+    (record { spans = h.0; asks = h.1; processors = ap (λ r. r.processors) h.1 })) c.end.ensures.err
 
 pub returns-in-Start-clause-keeps : goal.returns-in-Start-clause-keeps
-returns-in-Start-clause-keeps g c = (may_start_keeps g.P.SpanProcessor g.P.KeepsBatches g.met.P.KeepsBatches.appends g.S.ShouldSample g.G.IdGenerator c.args.provider.now c.start_in.new.provider c.args.tracer.now _ (string_bytes c.in-Start.name) c.in-Start.moment.0 _ c.start_in.ensures.asks).0
+returns-in-Start-clause-keeps g c = (start_keeps g.P.SpanProcessor g.P.KeepsBatches g.met.P.KeepsBatches.appends g.S.ShouldSample g.G.IdGenerator c.args.provider.now c.start_in.new.provider c.args.tracer.now c.args.spans.now c.start_in.new.self (string_bytes c.in-Start.span) _ (string_bytes c.in-Start.name) c.in-Start.moment.0 _ c.start_in.result c.start_in.ensures.ok c.start_in.ensures.asks).0
 
 pub returns-in-Child-clause-keeps : goal.returns-in-Child-clause-keeps
-returns-in-Child-clause-keeps g c = (child_may_start_keeps g.P.SpanProcessor g.P.KeepsBatches g.met.P.KeepsBatches.appends g.S.ShouldSample g.G.IdGenerator c.args.provider.now c.start_child.new.provider c.args.tracer.now _ (string_bytes c.in-Child.name) c.in-Child.moment.0 _ c.start_child.ensures.asks).0
+returns-in-Child-clause-keeps g c = (child_keeps g.P.SpanProcessor g.P.KeepsBatches g.met.P.KeepsBatches.appends g.S.ShouldSample g.G.IdGenerator c.args.provider.now c.start_child.new.provider c.args.tracer.now c.args.spans.now c.start_child.new.self (string_bytes c.in-Child.span) _ (string_bytes c.in-Child.name) c.in-Child.moment.0 _ c.start_child.result c.start_child.ensures.ok c.start_child.ensures.asks).0
 
 pub returns-in-End-clause-keeps : goal.returns-in-End-clause-keeps
 returns-in-End-clause-keeps g c = may_deliver_keeps g.P.SpanProcessor g.P.KeepsBatches g.met.P.KeepsBatches.appends c.args.provider.now.processors c.end.new.provider.processors c.end.ensures.asks
@@ -126,10 +127,10 @@ pub returns-in-Shutdown-clause-keeps : goal.returns-in-Shutdown-clause-keeps
 returns-in-Shutdown-clause-keeps g c = shutdown_keeps g.P.SpanProcessor g.P.KeepsBatches g.met.P.KeepsBatches.appends c.args.provider.now c.shutdown.new.self 5_000_000_000 c.shutdown.result c.shutdown.ensures.again c.shutdown.ensures.first
 
 pub returns-in-Start-clause-loses : goal.returns-in-Start-clause-loses
-returns-in-Start-clause-loses g c = λ not_end keeps. (may_start_keeps g.P.SpanProcessor g.P.KeepsBatches g.met.P.KeepsBatches.appends g.S.ShouldSample g.G.IdGenerator c.args.provider.now c.start_in.new.provider c.args.tracer.now _ (string_bytes c.in-Start.name) c.in-Start.moment.0 _ c.start_in.ensures.asks).1
+returns-in-Start-clause-loses g c = λ not_end keeps. (start_keeps g.P.SpanProcessor g.P.KeepsBatches g.met.P.KeepsBatches.appends g.S.ShouldSample g.G.IdGenerator c.args.provider.now c.start_in.new.provider c.args.tracer.now c.args.spans.now c.start_in.new.self (string_bytes c.in-Start.span) _ (string_bytes c.in-Start.name) c.in-Start.moment.0 _ c.start_in.result c.start_in.ensures.ok c.start_in.ensures.asks).1
 
 pub returns-in-Child-clause-loses : goal.returns-in-Child-clause-loses
-returns-in-Child-clause-loses g c = λ not_end keeps. (child_may_start_keeps g.P.SpanProcessor g.P.KeepsBatches g.met.P.KeepsBatches.appends g.S.ShouldSample g.G.IdGenerator c.args.provider.now c.start_child.new.provider c.args.tracer.now _ (string_bytes c.in-Child.name) c.in-Child.moment.0 _ c.start_child.ensures.asks).1
+returns-in-Child-clause-loses g c = λ not_end keeps. (child_keeps g.P.SpanProcessor g.P.KeepsBatches g.met.P.KeepsBatches.appends g.S.ShouldSample g.G.IdGenerator c.args.provider.now c.start_child.new.provider c.args.tracer.now c.args.spans.now c.start_child.new.self (string_bytes c.in-Child.span) _ (string_bytes c.in-Child.name) c.in-Child.moment.0 _ c.start_child.result c.start_child.ensures.ok c.start_child.ensures.asks).1
 
 pub returns-in-End-clause-loses : goal.returns-in-End-clause-loses
 returns-in-End-clause-loses g c = λ not_end keeps. let e : is_end (plain_command c.args.command) ≡ true = ap (λ (command : Command). is_end (plain_command command)) c.in-End.is in
@@ -150,15 +151,19 @@ returns-in_ok-cx-in-Remote-clause-ok g c = if_ok_map c.start_in-in-Remote.result
     c.in_ok-cx-in-Remote.ensures c.start_in-in-Remote.ensures.told h)) c.start_in-in-Remote.ensures.ok
 
 pub returns-in_ok-cx-in-Remote-clause-err : goal.returns-in_ok-cx-in-Remote-clause-err
-returns-in_ok-cx-in-Remote-clause-err g c = on_err_map c.start_in-in-Remote.result (λ h.
-    subst (λ (command : Command). RefusesOne g.P.SpanProcessor g.S.ShouldSample g.G.IdGenerator c.args.tracer.now c.args.provider.now c.args.spans.now (plain_command command) c.start_in-in-Remote.new.provider c.start_in-in-Remote.new.self) (sym c.in-Remote.is)
-    (record { spans = h; asks = inr (c.in_ok-cx-in-Remote.cx, c.in_ok-cx-in-Remote.ensures, c.start_in-in-Remote.ensures.asks); told = c.start_in-in-Remote.ensures.told })) c.start_in-in-Remote.ensures.err
+returns-in_ok-cx-in-Remote-clause-err g c = on_err_both c.start_in-in-Remote.result (λ same h.
+    subst (λ (command : Command). RefusesOne g.S.ShouldSample g.G.IdGenerator c.args.provider.now c.args.spans.now (plain_command command) c.start_in-in-Remote.new.provider c.start_in-in-Remote.new.self) (sym c.in-Remote.is)
+    (record {
+      spans = same;
+      asks = inr (c.in_ok-cx-in-Remote.cx, c.in_ok-cx-in-Remote.ensures, h);
+      processors = refused_start_asks_none g.S.ShouldSample g.G.IdGenerator c.args.provider.now c.start_in-in-Remote.new.provider _ (string_bytes c.in-Remote.name) _ h;
+    })) c.start_in-in-Remote.ensures.err c.start_in-in-Remote.ensures.asks
 
 pub returns-in_ok-cx-in-Remote-clause-keeps : goal.returns-in_ok-cx-in-Remote-clause-keeps
-returns-in_ok-cx-in-Remote-clause-keeps g c = (may_start_keeps g.P.SpanProcessor g.P.KeepsBatches g.met.P.KeepsBatches.appends g.S.ShouldSample g.G.IdGenerator c.args.provider.now c.start_in-in-Remote.new.provider c.args.tracer.now _ (string_bytes c.in-Remote.name) c.in-Remote.moment.0 _ c.start_in-in-Remote.ensures.asks).0
+returns-in_ok-cx-in-Remote-clause-keeps g c = (start_keeps g.P.SpanProcessor g.P.KeepsBatches g.met.P.KeepsBatches.appends g.S.ShouldSample g.G.IdGenerator c.args.provider.now c.start_in-in-Remote.new.provider c.args.tracer.now c.args.spans.now c.start_in-in-Remote.new.self (string_bytes c.in-Remote.span) _ (string_bytes c.in-Remote.name) c.in-Remote.moment.0 _ c.start_in-in-Remote.result c.start_in-in-Remote.ensures.ok c.start_in-in-Remote.ensures.asks).0
 
 pub returns-in_ok-cx-in-Remote-clause-loses : goal.returns-in_ok-cx-in-Remote-clause-loses
-returns-in_ok-cx-in-Remote-clause-loses g c = λ not_end keeps. (may_start_keeps g.P.SpanProcessor g.P.KeepsBatches g.met.P.KeepsBatches.appends g.S.ShouldSample g.G.IdGenerator c.args.provider.now c.start_in-in-Remote.new.provider c.args.tracer.now _ (string_bytes c.in-Remote.name) c.in-Remote.moment.0 _ c.start_in-in-Remote.ensures.asks).1
+returns-in_ok-cx-in-Remote-clause-loses g c = λ not_end keeps. (start_keeps g.P.SpanProcessor g.P.KeepsBatches g.met.P.KeepsBatches.appends g.S.ShouldSample g.G.IdGenerator c.args.provider.now c.start_in-in-Remote.new.provider c.args.tracer.now c.args.spans.now c.start_in-in-Remote.new.self (string_bytes c.in-Remote.span) _ (string_bytes c.in-Remote.name) c.in-Remote.moment.0 _ c.start_in-in-Remote.result c.start_in-in-Remote.ensures.ok c.start_in-in-Remote.ensures.asks).1
 
 pub returns-in-Inject-clause-ok : goal.returns-in-Inject-clause-ok
 returns-in-Inject-clause-ok g c = if_ok_map c.inject.result (λ answer h.

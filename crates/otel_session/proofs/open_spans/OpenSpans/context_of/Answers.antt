@@ -1,7 +1,7 @@
 use Rattle.std.proofs.Common.{◌≡◌, ◌∙◌, ap, sym, rules, Option, Some, None}
 use Rattle.std.specs.Option.{option_map}
 use Rattle.opentelemetry.specs.Plain.{PlainContext}
-use Rattle.opentelemetry_sdk.specs.SpanHistory.{PlainSpan}
+use Rattle.otel_pipeline.specs.SpanHistory.{PlainSpan}
 use Rattle.otel_session.specs.Headers.{child_cx}
 use Rattle.otel_session.specs.OpenSpans.{NamedSpans, named}
 use Rattle.otel_session.proofs.NamedLemmas.{named-get}

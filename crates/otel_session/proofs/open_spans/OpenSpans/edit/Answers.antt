@@ -1,10 +1,10 @@
 use Rattle.std.proofs.Common.{◌≡◌, ◌∙◌, sym, ap, Some, None, rules, refl, subst, OnErr, Option, Bool, if◌then◌else◌}
-use Rattle.opentelemetry_sdk.specs.SpanEdits.{plain_edit}
-use Rattle.opentelemetry_sdk.specs.SpanHistory.{PlainSpan}
+use Rattle.otel_pipeline.specs.SpanEdits.{plain_edit}
+use Rattle.otel_pipeline.specs.SpanHistory.{PlainSpan, edited}
 use Rattle.otel_lines.specs.declared.reply.Answer.TheVariants as answers
 use Rattle.otel_session.specs.OpenSpans.{EditsNamed, NamedSpans, PutsSpan, SameSpans, named, by_name}
-use Rattle.opentelemetry.proofs.Results.{always_on_err}
-use Rattle.otel_session.proofs.NamedLemmas.{named-get, puts_span, put_same, same_entries}
+use Rattle.opentelemetry.proofs.Clauses.{always_on_err}
+use Rattle.otel_session.proofs.NamedLemmas.{named-get, puts_span, put_same, same_entries, edited_has, puts_history, same_histories}
 use Rattle.otel_session.proofs.open_spans.OpenSpans.edit.Goals as goal
 
 pub returns-clause-ok : goal.returns-clause-ok
@@ -36,3 +36,23 @@ returns-in_err-edit-clause-err c =
     let P : PlainSpan → Type 0 = λ v. PutsSpan (by_name spans.entries) c.args.name.now v (by_name new.entries) in
     subst (λ (old : NamedSpans). OnErr c.from_residual.result (SameSpans old (by_name new.entries))) c.self.view_is
     (always_on_err _ (put_same (by_name spans.entries) (by_name new.entries) c.args.name.now c.in-Some.span.now there (subst P c.in_err-edit.ensures.err put)))
+
+pub invariant_of-self-2 : goal.invariant_of-self-2
+invariant_of-self-2 c =
+    let spans = c.self.inside.spans in
+    let new = c.get_mut.follows.lender c.edit-2.new.self in
+    let there : named (by_name spans.entries) c.args.name.now ≡ Some c.in-Some.span.now = named-get spans c.args.name.now ∙ sym c.in-Some.ensures.value in
+    let put = puts_span spans new c.args.name.now c.edit-2.new.self ((c.get_mut.follows.holds c.edit-2.new.self).3 (search rules)) in
+    let P : PlainSpan → Type 0 = λ v. PutsSpan (by_name spans.entries) c.args.name.now v (by_name new.entries) in
+    puts_history (by_name spans.entries) (by_name new.entries) c.args.name.now (edited (plain_edit c.args.edit) c.in-Some.span.now) c.self.invariant
+    (edited_has (plain_edit c.args.edit) c.in-Some.span.now (c.self.invariant c.args.name.now c.in-Some.span.now there)) (subst P c.in_ok-edit.ensures.ok put)
+
+pub invariant_of-self-in_err-edit : goal.invariant_of-self-in_err-edit
+invariant_of-self-in_err-edit c =
+    let spans = c.self.inside.spans in
+    let new = c.get_mut.follows.lender c.edit-2.new.self in
+    let there : named (by_name spans.entries) c.args.name.now ≡ Some c.in-Some.span.now = named-get spans c.args.name.now ∙ sym c.in-Some.ensures.value in
+    let put = puts_span spans new c.args.name.now c.edit-2.new.self ((c.get_mut.follows.holds c.edit-2.new.self).3 (search rules)) in
+    let P : PlainSpan → Type 0 = λ v. PutsSpan (by_name spans.entries) c.args.name.now v (by_name new.entries) in
+    same_histories (by_name spans.entries) (by_name new.entries) c.self.invariant
+    (put_same (by_name spans.entries) (by_name new.entries) c.args.name.now c.in-Some.span.now there (subst P c.in_err-edit.ensures.err put))

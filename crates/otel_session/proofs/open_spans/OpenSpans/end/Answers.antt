@@ -1,9 +1,9 @@
 use Rattle.std.proofs.Common.{◌≡◌, ◌∙◌, sym, ap, Some, None, refl, subst, OnErr, Option, Bool, if◌then◌else◌, rules}
-use Rattle.opentelemetry_sdk.specs.SpanHistory.{PlainSpan}
+use Rattle.otel_pipeline.specs.SpanHistory.{PlainSpan, ended}
 use Rattle.otel_lines.specs.declared.reply.Answer.TheVariants as answers
 use Rattle.otel_session.specs.OpenSpans.{EndsNamed, NamedSpans, PutsSpan, SameSpans, named, by_name}
-use Rattle.opentelemetry.proofs.Results.{always_on_err}
-use Rattle.otel_session.proofs.NamedLemmas.{named-get, puts_span, put_same, same_entries}
+use Rattle.opentelemetry.proofs.Clauses.{always_on_err}
+use Rattle.otel_session.proofs.NamedLemmas.{named-get, puts_span, put_same, same_entries, ended_has, puts_history, same_histories}
 use Rattle.otel_session.proofs.open_spans.OpenSpans.end.Goals as goal
 
 pub returns-in_default-clause-ok : goal.returns-in_default-clause-ok
@@ -42,3 +42,21 @@ returns-clause-ok g c =
       put = subst P c.in_ok-refused.ensures.ended put;
       rest = c.in_ok-refused.ensures.rest;
     }))
+
+pub invariant_of-self-2 : goal.invariant_of-self-2
+invariant_of-self-2 g c =
+    let spans = c.self.inside.spans in
+    let new = c.get_mut.follows.lender c.end_with_timestamp.new.self in
+    let put = puts_span spans new c.args.name.now c.end_with_timestamp.new.self ((c.get_mut.follows.holds c.end_with_timestamp.new.self).3 (search rules)) in
+    let P : PlainSpan → Type 0 = λ v. PutsSpan (by_name spans.entries) c.args.name.now v (by_name new.entries) in
+    puts_history (by_name spans.entries) (by_name new.entries) c.args.name.now (ended c.in-Some.span.now) c.self.invariant (ended_has c.in-Some.span.now) (subst P c.in_ok-refused.ensures.ended put)
+
+pub invariant_of-self-in_err-refused : goal.invariant_of-self-in_err-refused
+invariant_of-self-in_err-refused g c =
+    let spans = c.self.inside.spans in
+    let new = c.get_mut.follows.lender c.end_with_timestamp.new.self in
+    let there : named (by_name spans.entries) c.args.name.now ≡ Some c.in-Some.span.now = named-get spans c.args.name.now ∙ sym c.in-Some.ensures.value in
+    let put = puts_span spans new c.args.name.now c.end_with_timestamp.new.self ((c.get_mut.follows.holds c.end_with_timestamp.new.self).3 (search rules)) in
+    let P : PlainSpan → Type 0 = λ v. PutsSpan (by_name spans.entries) c.args.name.now v (by_name new.entries) in
+    same_histories (by_name spans.entries) (by_name new.entries) c.self.invariant
+    (put_same (by_name spans.entries) (by_name new.entries) c.args.name.now c.in-Some.span.now there (subst P c.in_err-refused.ensures.err.0 put))

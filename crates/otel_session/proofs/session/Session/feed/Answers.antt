@@ -1,7 +1,7 @@
 use Rattle.std.proofs.Common.{ℕ, Option, subst, refl, inl, inr}
 use Rattle.otel_lines.specs.Commands.{plain_commands}
 use Rattle.otel_lines.specs.Lines.{TextSpells}
-use Rattle.otel_lines.proofs.Clauses.{fails_on_err}
+use Rattle.opentelemetry.proofs.Clauses.{fails_on_err}
 use Rattle.otel_session.proofs.session.Session.feed.Goals as goal
 
 pub returns-in_default : goal.returns-in_default

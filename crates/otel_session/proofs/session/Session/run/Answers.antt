@@ -1,7 +1,7 @@
 use Rattle.std.proofs.Common.{rules, [], ◌∷◌, ◌++◌, List, ap, sym, ◌∙◌, append_assoc, append-nil, inr}
 use Rattle.otel_lines.specs.PlainReply.{PlainReply}
 use Rattle.otel_session.specs.SessionDelivery.{RunsBeginning}
-use Rattle.opentelemetry.proofs.Results.{always_on_err}
+use Rattle.opentelemetry.proofs.Clauses.{always_on_err}
 use Rattle.otel_session.proofs.RunLemmas.{ran_nothing, ran_all, ran_more, ran_refused}
 use Rattle.otel_session.proofs.session.Session.run.Goals as goal
 

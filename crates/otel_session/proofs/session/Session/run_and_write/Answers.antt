@@ -2,7 +2,7 @@ use Rattle.std.proofs.Common.{rules, [], ◌∷◌, ◌++◌, sym, refl, subst, 
 use Rattle.otel_lines.specs.PlainReply.{PlainReply}
 use Rattle.otel_session.specs.SessionDelivery.{SessionState, WritesBeginning, session_batches, unshown}
 use Rattle.otel_session.proofs.FeedLemmas.{written_more, none_refused_more}
-use Rattle.opentelemetry.proofs.Results.{always_on_err}
+use Rattle.opentelemetry.proofs.Clauses.{always_on_err}
 use Rattle.otel_session.proofs.RunLemmas.{ran_nothing, ran_all, ran_more, ran_refused}
 use Rattle.otel_session.proofs.session.Session.run_and_write.Goals as goal
 

@@ -3,7 +3,7 @@ use Rattle.std.specs.FinMap as fin
 use Rattle.std.specs.Str.{str_to_ascii_lowercase}
 use Rattle.opentelemetry.specs.Carrier.{SameTexts}
 use Rattle.opentelemetry.specs.TextMap.{TextMap, text_map, texts_of, IsLowerName}
-use Rattle.opentelemetry.proofs.Results.{always_on_err}
+use Rattle.opentelemetry.proofs.Clauses.{always_on_err}
 use Rattle.opentelemetry.proofs.TextMapLemmas.{text_map-insert, same_text_map, texts_of-insert, AllLowerNames-insert_entry, IsLowerName-lowercase, no_text}
 use Rattle.opentelemetry.proofs.propagation.map_carrier.MapCarrierInjector.set.Goals as goal
 

@@ -7,6 +7,7 @@ use Rattle.otel_batch.proofs.Silence.{run-silent, run-stays_silent}
 use Rattle.otel_batch.proofs.Knowing.{run-knows, gone-waits}
 use Rattle.otel_batch.proofs.Draining.{run-completes}
 use Rattle.otel_batch.proofs.Bounding.{run-bounds, run-fits}
+use Rattle.otel_batch.proofs.Answering.{run-answers}
 use Rattle.otel_batch.proofs.machine.batch_machine.BatchMachine.run.Goals as goal
 
 pub loop-step-preserved : goal.loop-step-preserved
@@ -55,6 +56,11 @@ returns-clause-silent g c =
 pub returns-clause-drains : goal.returns-clause-drains
 returns-clause-drains g c =
     run-completes g.E.SpanExporter c.args.self.now c.args.steps.items _ c.loop-step.self c.is_sound.ensures
+    (returns-clause-ran g c)
+
+pub returns-clause-answers : goal.returns-clause-answers
+returns-clause-answers g c =
+    run-answers g.E.SpanExporter c.args.self.now c.args.steps.items _ c.loop-step.self c.is_sound.ensures
     (returns-clause-ran g c)
 
 pub returns-clause-bounded : goal.returns-clause-bounded

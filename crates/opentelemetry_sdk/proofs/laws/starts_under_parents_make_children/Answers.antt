@@ -1,5 +1,0 @@
-use Rattle.opentelemetry_sdk.proofs.AgreementLemmas.{child_of_start}
-use Rattle.opentelemetry_sdk.proofs.laws.starts_under_parents_make_children.Goals as goal
-
-pub returns : goal.returns
-returns g c = child_of_start g.P.SpanProcessor g.S.ShouldSample g.G.IdGenerator

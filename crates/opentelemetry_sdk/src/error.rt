@@ -1,0 +1,3 @@
+//! How calls fail.
+
+pub use otel_base::error::{ExportError, OTelSdkError, OTelSdkResult};

@@ -1,0 +1,142 @@
+//! A processor of one's own in front of another one: it keeps back the spans that are marked, and hands on all else
+//! that it is asked.
+//!
+//! It tells nothing, which is what a processor does that says no more. Two relations say what its calls do, so that a
+//! provider over it promises as much: a start is the other one's start, and an end is the other one's end or leaves
+//! that as it was. `queueing_processor.rt` has a processor that tells. Among processors of other kinds, this one is
+//! `Processor::Custom(Box::new(alloc, FilteringProcessor { inner })?)`.
+
+use opentelemetry::{Context, Value};
+use opentelemetry_sdk::Resource;
+use opentelemetry_sdk::error::OTelSdkResult;
+use opentelemetry_sdk::trace::{Span, SpanData, SpanProcessor};
+use std::alloc::AllocError;
+use std::time::Duration;
+
+/// The attribute that marks a span, where it is true.
+pub const MARK: &str = "example.drop";
+
+/// Keeps back the spans that are marked.
+#[derive(Drop)]
+pub struct FilteringProcessor<P> {
+    pub inner: P,
+}
+
+fn is_marked(span: &SpanData) -> bool {
+    for attribute in &span.attributes {
+        if attribute.key.as_str() == MARK && matches!(attribute.value, Value::Bool(true)) {
+            return true;
+        }
+    }
+    false
+}
+
+impl<P: SpanProcessor> SpanProcessor for FilteringProcessor<P> {
+    ghost use Rattle.std.specs.Prelude.{◌≡◌, ◌⊎◌};
+
+    ghost start_gives = { λ p span cx edited q. P.start_gives p.inner span cx edited q.inner };
+
+    ghost end_gives = { λ p span answer q. (q ≡ p) ⊎ P.end_gives p.inner span answer q.inner };
+
+    fn on_start(&mut self, span: &mut Span, cx: &Context) {
+        self.inner.on_start(span, cx);
+    }
+
+    fn on_end(&mut self, span: SpanData) -> Result<(), AllocError> {
+        if is_marked(&span) {
+            return Ok(());
+        }
+        self.inner.on_end(span)
+    }
+
+    fn force_flush(&mut self) -> OTelSdkResult {
+        self.inner.force_flush()
+    }
+
+    fn shutdown_with_timeout(&mut self, timeout: Duration) -> OTelSdkResult {
+        self.inner.shutdown_with_timeout(timeout)
+    }
+
+    fn set_resource(&mut self, resource: &Resource) -> Result<(), AllocError> {
+        self.inner.set_resource(resource)
+    }
+}
+
+#[cfg(test)]
+mod tests {
+    use super::{FilteringProcessor, MARK};
+    use opentelemetry::{Key, KeyValue, Moment, Value};
+    use opentelemetry_sdk::Resource;
+    use opentelemetry_sdk::trace::{
+        ConfigOf, InMemorySpanExporter, ProviderOf, RandomIdGenerator, Sampler,
+        SimpleSpanProcessor, Span, SpanLimits,
+    };
+    use std::alloc::{AllocError, Global};
+    use std::test::Fail;
+
+    type FilteringProvider = ProviderOf<
+        FilteringProcessor<SimpleSpanProcessor<InMemorySpanExporter>>,
+        Sampler,
+        RandomIdGenerator,
+    >;
+
+    /// A provider that exports into memory what the filter lets through.
+    fn filtering_provider(alloc: Global) -> Result<FilteringProvider, AllocError> {
+        let inner = SimpleSpanProcessor::new(alloc, InMemorySpanExporter::new(alloc));
+        let processors = vec![in alloc; FilteringProcessor { inner }]?;
+        let config = ConfigOf {
+            sampler: Sampler::AlwaysOn,
+            id_generator: RandomIdGenerator::new(0),
+            span_limits: SpanLimits::default(),
+            resource: Resource::builder_empty(alloc).build(),
+        };
+        Ok(ProviderOf::from_parts(processors, config))
+    }
+
+    fn start_span(
+        alloc: Global,
+        provider: &mut FilteringProvider,
+        start: u64,
+    ) -> Result<Span, AllocError> {
+        let tracer = provider.tracer(String::from_str(alloc, "library")?)?;
+        tracer.start(String::new(alloc), provider, Moment(start))
+    }
+
+    /// Starts a span at a moment, sets the mark to a value, and ends it. The answer is how many processors refused it.
+    fn trace_span(
+        alloc: Global,
+        provider: &mut FilteringProvider,
+        start: u64,
+        mark: bool,
+    ) -> Result<usize, AllocError> {
+        let mut span = start_span(alloc, provider, start)?;
+        let mark = KeyValue::new(Key::from_static_str(MARK), Value::Bool(mark));
+        let marked = span.set_attribute(mark);
+        let refused = span.end_with_timestamp(provider, Moment(9));
+        span.abandon();
+        marked?;
+        refused
+    }
+
+    #[test]
+    fn a_marked_span_is_kept_back_and_others_are_exported(rt: HostRuntime) -> Result<(), Fail> {
+        let alloc = rt.alloc();
+        let mut provider = filtering_provider(alloc)?;
+        let ended = [
+            trace_span(alloc, &mut provider, 7, true),
+            trace_span(alloc, &mut provider, 8, false),
+        ];
+        let shut = provider.shutdown();
+        for processor in provider.processors() {
+            let batches = processor.inner.exporter().batches();
+            assert_eq!(rt; batches.len(), 1);
+            assert_eq!(rt; batches[0].len(), 1);
+            assert_eq!(rt; batches[0][0].start_time.0, 8);
+        }
+        let closed = provider.close();
+        assert_eq!(rt; ended, [Ok(0), Ok(0)]);
+        assert!(rt; shut.is_ok());
+        assert!(rt; closed.is_ok());
+        Ok(())
+    }
+}

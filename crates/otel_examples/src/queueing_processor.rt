@@ -1,0 +1,190 @@
+//! A processor of one's own that tells what becomes of each span. It keeps the sampled spans in a queue, and exports
+//! all that waits in one batch when it is flushed or shut down.
+//!
+//! ```text
+//!                      +---------------------------------------+
+//!     on_end  -------> |  waiting  --- force_flush, shutdown --|--->  exporter
+//!   (a sampled span)   +---------------------------------------+    (one batch)
+//!        |
+//!        +--> counted as dropped, where the queue is full
+//! ```
+//!
+//! What it tells was heard is what the exporter tells, followed by what waits. So a flush, which moves spans from the
+//! queue to the exporter, changes nothing of it, and the layers above need not know that there is a queue. The check
+//! proves that each call keeps what the trait asks of a telling: it would refuse an `on_end` that lost a span without a
+//! count or counted one that it kept, and a `force_flush` that forgot a span.
+
+ghost use Rattle.std.specs.Prelude.{◌≡◌, []};
+
+use opentelemetry::Context;
+use opentelemetry_sdk::Resource;
+use opentelemetry_sdk::error::OTelSdkResult;
+use opentelemetry_sdk::trace::{Span, SpanData, SpanExporter, SpanProcessor};
+use std::alloc::{AllocError, Global};
+use std::mem;
+use std::time::Duration;
+
+/// Keeps the sampled spans until it is flushed or shut down, at most so many.
+#[derive(Drop)]
+pub struct QueueingProcessor<E> {
+    exporter: E,
+    waiting: Vec<SpanData>,
+    max_queue_size: usize,
+    dropped: u64,
+    is_shut: bool,
+    alloc: Global,
+}
+
+impl<E> QueueingProcessor<E> {
+    pub fn new(alloc: Global, exporter: E, max_queue_size: usize) -> QueueingProcessor<E> {
+        QueueingProcessor {
+            exporter,
+            waiting: Vec::new(alloc),
+            max_queue_size,
+            dropped: 0,
+            is_shut: false,
+            alloc,
+        }
+    }
+}
+
+impl<E: SpanExporter> SpanProcessor for QueueingProcessor<E> {
+    ghost use Rattle.std.specs.Prelude.{None, not};
+    ghost use Rattle.otel_export.specs.Telling.{and_then_told};
+    ghost use Rattle.otel_pipeline.specs.ProcessorTelling.{spans_told};
+
+    // What is heard is what the exporter tells, and then what waits.
+    ghost told = { λ p. record {
+      spans = None;
+      heard = and_then_told (spans_told (E.told p.exporter)) p.waiting.items;
+      dropped = p.dropped;
+      is_open = not p.is_shut;
+    } };
+
+    fn on_start(&mut self, _span: &mut Span, _cx: &Context) {}
+
+    /// A span that is not sampled, or comes after the shutdown, is let go. For want of memory the queue stays as it is,
+    /// and the error says so.
+    fn on_end(&mut self, span: SpanData) -> Result<(), AllocError> {
+        if self.is_shut || !span.span_context.trace_flags().is_sampled() {
+            return Ok(());
+        }
+        if self.waiting.len() >= self.max_queue_size {
+            self.dropped = self.dropped.saturating_add(1);
+            return Ok(());
+        }
+        self.waiting.push(span)?;
+        Ok(())
+    }
+
+    /// The queue is empty afterwards, also where the exporter answers an error: the batch was handed over.
+    fn force_flush(&mut self) -> OTelSdkResult {
+        if self.waiting.is_empty() {
+            return Ok(());
+        }
+        let batch = mem::replace(&mut self.waiting, Vec::new(self.alloc));
+        self.exporter.export(batch)
+    }
+
+    /// The exporter is shut down also where the flush failed; the flush's error comes first.
+    fn shutdown_with_timeout(&mut self, timeout: Duration) -> OTelSdkResult {
+        let flushed = self.force_flush();
+        self.is_shut = true;
+        let shut = self.exporter.shutdown_with_timeout(timeout);
+        flushed?;
+        shut
+    }
+
+    fn set_resource(&mut self, resource: &Resource) -> Result<(), AllocError> {
+        self.exporter.set_resource(resource);
+        Ok(())
+    }
+}
+
+#[cfg(test)]
+mod tests {
+    use super::QueueingProcessor;
+    use opentelemetry::Moment;
+    use opentelemetry_sdk::Resource;
+    use opentelemetry_sdk::trace::{
+        ConfigOf, InMemorySpanExporter, ProviderOf, RandomIdGenerator, Sampler, SpanLimits,
+        SpanProcessor,
+    };
+    use std::alloc::{AllocError, Global};
+    use std::test::Fail;
+
+    type ProviderOver<P> = ProviderOf<P, Sampler, RandomIdGenerator>;
+
+    type QueueingProvider = ProviderOver<QueueingProcessor<InMemorySpanExporter>>;
+
+    /// A provider over processors of any kind.
+    fn provider_over<P: SpanProcessor>(alloc: Global, processors: Vec<P>) -> ProviderOver<P> {
+        let config = ConfigOf {
+            sampler: Sampler::AlwaysOn,
+            id_generator: RandomIdGenerator::new(0),
+            span_limits: SpanLimits::default(),
+            resource: Resource::builder_empty(alloc).build(),
+        };
+        ProviderOf::from_parts(processors, config)
+    }
+
+    /// A provider over a queue in front of an exporter in memory, in which two spans have room.
+    fn queueing_provider(alloc: Global) -> Result<QueueingProvider, AllocError> {
+        let exporter = InMemorySpanExporter::new(alloc);
+        let processors = vec![in alloc; QueueingProcessor::new(alloc, exporter, 2)]?;
+        Ok(provider_over(alloc, processors))
+    }
+
+    /// Starts a span at a moment and ends it. The answer is how many processors refused it.
+    fn trace_span<P: SpanProcessor>(
+        alloc: Global,
+        provider: &mut ProviderOver<P>,
+        start: u64,
+    ) -> Result<usize, AllocError> {
+        let tracer = provider.tracer(String::from_str(alloc, "library")?)?;
+        let mut span = tracer.start(String::new(alloc), provider, Moment(start))?;
+        let refused = span.end_with_timestamp(provider, Moment(9));
+        span.abandon();
+        refused
+    }
+
+    /// How many batches the queues of a provider have exported.
+    fn batch_count(provider: &QueueingProvider) -> usize {
+        let mut count = 0;
+        for processor in provider.processors() {
+            count = processor.exporter.batches().len();
+        }
+        count
+    }
+
+    #[test]
+    fn a_flush_exports_what_waits_in_one_batch(rt: HostRuntime) -> Result<(), Fail> {
+        let alloc = rt.alloc();
+        let mut provider = queueing_provider(alloc)?;
+        let ended = [
+            trace_span(alloc, &mut provider, 7),
+            trace_span(alloc, &mut provider, 8),
+            trace_span(alloc, &mut provider, 9),
+        ];
+        let before = batch_count(&provider);
+        let flushed = provider.force_flush();
+        let again = provider.force_flush();
+        let shut = provider.shutdown();
+        for processor in provider.processors() {
+            assert_eq!(rt; processor.dropped, 1);
+            let batches = processor.exporter.batches();
+            assert_eq!(rt; batches.len(), 1);
+            assert_eq!(rt; batches[0].len(), 2);
+            assert_eq!(rt; batches[0][0].start_time.0, 7);
+            assert_eq!(rt; batches[0][1].start_time.0, 8);
+        }
+        let closed = provider.close();
+        assert_eq!(rt; ended, [Ok(0), Ok(0), Ok(0)]);
+        assert_eq!(rt; before, 0);
+        assert!(rt; flushed.is_ok());
+        assert!(rt; again.is_ok());
+        assert!(rt; shut.is_ok());
+        assert!(rt; closed.is_ok());
+        Ok(())
+    }
+}

@@ -1,0 +1,7 @@
+pub mod AgreementLemmas
+pub mod Cutting
+pub mod EachLemmas
+pub mod EndLemmas
+pub mod SpanLaws
+pub mod Starting
+pub mod Following

@@ -1,0 +1,55 @@
+-- How a trace goes on from its root, one span context after another.
+use Rattle.std.specs.Prelude.{◌≡◌, ◌⊎◌, ℕ, ◌<◌, ◌^◌, List, [], ◌∷◌, Some, Ok}
+use Rattle.opentelemetry.specs.Carrier.{Texts}
+use Rattle.opentelemetry.specs.Plain.{PlainContext, PlainSpanContext}
+use Rattle.otel_base.specs.Sampler.{active_in, built_in, parent_decision}
+use Rattle.otel_base.specs.Sampling.{SamplingQuestion}
+use Rattle.otel_base.specs.declared.trace.sampler.ShouldSample as sampling
+use Rattle.otel_base.specs.Traceparent.{ExtractsTraceContext, InjectsTraceContext, IsSpanContext, IsValid}
+use Rattle.otel_pipeline.specs.Starting.{start_span_context}
+
+-- a span context is that of a child under a sampler by parents: its trace id is the parent's, its span id a new one, and
+-- the parent alone decided
+abbrev pub IsChild : PlainSpanContext → PlainSpanContext → Type 0
+IsChild parent child =
+    (span_id : ℕ)
+    × (child ≡ start_span_context parent parent.trace_id span_id (built_in (parent_decision parent) (Some parent)))
+
+-- a sampler goes by parents: where a span is active, that one's decision is the answer
+abbrev pub GoesByParents : {S : Type 0} → sampling.Ghosts S → S → Type 0
+GoesByParents sampler s = (question : SamplingQuestion) (parent : PlainSpanContext)
+    → active_in question.parent_context ≡ Some parent
+    → sampler.answer s question ≡ built_in (parent_decision parent) (Some parent)
+
+-- a child whose span id was drawn as one: it is not zero, and has 64 bits
+pub record IsDrawnChild (parent child : PlainSpanContext) : Type 0 where
+  pub is_child : IsChild parent child
+  pub is_span_id : (0 < child.span_id) × (child.span_id < 2 ^ 64)
+
+-- a span context is what a process extracts of the headers that another one injected of a span context that it sent
+pub record IsReceived (sent received : PlainSpanContext) : Type 0 where
+  pub sender : PlainContext
+  pub receiver : PlainContext
+  pub found : PlainContext
+  pub before : Texts
+  pub headers : Texts
+  pub sends : sender.span_context ≡ Some sent
+  pub injects : InjectsTraceContext sender before (Ok tt) headers
+  pub extracts : ExtractsTraceContext receiver headers found
+  pub receives : found.span_context ≡ Some received
+
+-- the same of one that was valid when it was sent
+pub record IsPassedOn (sent received : PlainSpanContext) : Type 0 where
+  pub is_valid : IsValid sent
+  pub is_span_context : IsSpanContext sent
+  pub is_received : IsReceived sent received
+
+-- each of these span contexts comes of the one before it, as its child or in another process, and the first of this one
+abbrev pub AreHops : PlainSpanContext → List PlainSpanContext → Type 0
+AreHops before [] = Unit {0}
+AreHops before (next ∷ more) = (IsChild before next ⊎ IsPassedOn before next) × AreHops next more
+
+-- the same where span ids were drawn, and nothing is said of the span contexts that were sent
+abbrev pub AreDrawnHops : PlainSpanContext → List PlainSpanContext → Type 0
+AreDrawnHops before [] = Unit {0}
+AreDrawnHops before (next ∷ more) = (IsDrawnChild before next ⊎ IsReceived before next) × AreDrawnHops next more

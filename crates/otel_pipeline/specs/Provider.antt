@@ -1,0 +1,53 @@
+-- What contracts see of a provider, and what a shutdown does to it.
+use Rattle.std.specs.Prelude.{◌≡◌, ℕ, ◌↔◌, Bool, true, List, Result, IsOk, IfErr}
+use Rattle.otel_base.specs.declared.error.OTelSdkError.{OTelSdkError}
+use Rattle.otel_base.specs.declared.error.OTelSdkError.TheVariants as errors
+use Rattle.otel_base.specs.declared.trace.span_limit.SpanLimits.{SpanLimits}
+use Rattle.otel_pipeline.specs.ProcessorTelling.{TakesNothing}
+use Rattle.otel_pipeline.specs.Each.{AskedAll}
+use Rattle.otel_pipeline.specs.declared.trace.span_processor.SpanProcessor.{Ghosts}
+
+-- a provider: its processors, what each start asks and is handed, and whether it is shut
+pub record ProviderState (P S G : Type 0) : Type 0 where
+  pub processors : List P
+  pub sampler : S
+  pub id_generator : G
+  pub span_limits : SpanLimits
+  pub is_shut : Bool
+
+-- a failure of the SDK that is not one of the named ones
+abbrev pub IsInternalFailure : OTelSdkError → Type 0
+IsInternalFailure (errors.InternalFailure _) = Unit {0}
+IsInternalFailure _ = ⊥
+
+module _ {P : Type 0} (calls : Ghosts P) where
+  -- a processor that was asked to shut down with a timeout answers as its call can, and is told no span
+  pub record ShutsProcessor (timeout : ℕ) (old : P) (answer : Result (Unit {0}) OTelSdkError) (new : P) : Type 0 where
+    pub gives : calls.shutdown_gives old timeout answer new
+    pub told : TakesNothing (calls.told old) (calls.told new)
+
+  -- a processor that was asked to flush answers as its call can, is told no span, and stays open or shut
+  pub record FlushesProcessor (old : P) (answer : Result (Unit {0}) OTelSdkError) (new : P) : Type 0 where
+    pub gives : calls.flush_gives old answer new
+    pub told : TakesNothing (calls.told old) (calls.told new)
+    pub is_open : (calls.told new).is_open ≡ (calls.told old).is_open
+
+  -- what a flush does, whether the provider is shut or not: each processor was asked, and the answer is Ok exactly
+  -- where none failed
+  pub record Flushes {S G : Type 0} (old : ProviderState P S G) (answer : Result (Unit {0}) OTelSdkError)
+      (new : ProviderState P S G) : Type 0 where
+    pub failed : ℕ
+    pub asked : AskedAll FlushesProcessor old.processors new.processors failed
+    pub ok : IsOk answer ↔ (failed ≡ 0)
+    pub err : IfErr answer IsInternalFailure
+    pub rest : new ≡ record old { processors = new.processors }
+
+  -- what a first shutdown does: the provider is shut, each processor was asked with this timeout, and the answer is Ok
+  -- exactly where none failed
+  pub record ShutsDown {S G : Type 0} (old : ProviderState P S G) (timeout : ℕ)
+      (answer : Result (Unit {0}) OTelSdkError) (new : ProviderState P S G) : Type 0 where
+    pub failed : ℕ
+    pub asked : AskedAll (ShutsProcessor timeout) old.processors new.processors failed
+    pub ok : IsOk answer ↔ (failed ≡ 0)
+    pub err : IfErr answer IsInternalFailure
+    pub rest : new ≡ record old { processors = new.processors; is_shut = true }

@@ -1,0 +1,54 @@
+use Rattle.std.specs.Prelude.{◌≡◌, ℕ, ◌&&◌, not, Bool, true, [], ◌∷◌, None, Result, Ok, MatchBool, MatchResult}
+use Rattle.std.specs.declared.alloc.AllocError.{AllocError}
+use Rattle.otel_base.specs.Resource.{PlainResource}
+use Rattle.otel_base.specs.declared.error.OTelSdkError.{OTelSdkError}
+use Rattle.otel_export.specs.PlainSpanData.{PlainSpanData, is_sampled}
+use Rattle.otel_export.specs.RestsOr.{RestsOr, StaysOr}
+use Rattle.otel_export.specs.Telling.{Tells}
+use Rattle.otel_export.specs.declared.trace.export.SpanExporter.{Ghosts}
+use Rattle.otel_pipeline.specs.ProcessorTelling.{ProcessorTelling, spans_told}
+
+-- a simple processor: its exporter, and whether it is shut
+pub record SimpleProcessor (E : Type 0) : Type 0 where
+  pub exporter : E
+  pub is_shut : Bool
+
+module _ {E : Type 0} (calls : Ghosts E) where
+  -- what it tells: the spans of its exporter's batches; nothing waits, and none is dropped
+  abbrev pub simple_telling : SimpleProcessor E → ProcessorTelling
+  simple_telling p =
+      record { spans = None; heard = spans_told (calls.told p.exporter); dropped = 0; is_open = not p.is_shut }
+
+  -- one export of a batch of one, whose answer is dropped
+  pub record ExportsOne (old : SimpleProcessor E) (span : PlainSpanData) (new : SimpleProcessor E) : Type 0 where
+    pub answer : Result (Unit {0}) OTelSdkError
+    pub gives : calls.export_gives old.exporter (span ∷ []) answer new.exporter
+    pub told : Tells (calls.told old.exporter) ((span ∷ []) ∷ []) (calls.told new.exporter)
+    pub rest : new ≡ record old { exporter = new.exporter }
+
+  -- an end whose span is due is one export; where there is no memory for the batch nothing is exported. Any other end
+  -- leaves the exporter as it was
+  abbrev pub ExportsIf : Bool → SimpleProcessor E → PlainSpanData → Result (Unit {0}) AllocError → SimpleProcessor E
+      → Type 0
+  ExportsIf is_due old span taken new = MatchBool is_due
+      (MatchResult taken (λ _. ExportsOne old span new) (λ _. new ≡ old))
+      ((taken ≡ Ok tt) × (new ≡ old))
+
+  -- a span is due while the processor is open, where it is sampled
+  abbrev pub SimpleEnds : SimpleProcessor E → PlainSpanData → Result (Unit {0}) AllocError → SimpleProcessor E → Type 0
+  SimpleEnds old span = ExportsIf (not old.is_shut && is_sampled span) old span
+
+  -- a shutdown: its exporter did what its shutdown with this timeout and this answer may do, or nothing with Ok
+  pub record SimpleShuts (old : SimpleProcessor E) (timeout : ℕ) (answer : Result (Unit {0}) OTelSdkError)
+      (new : SimpleProcessor E) : Type 0 where
+    pub gives : RestsOr (λ x given y. calls.shutdown_gives x timeout given y) old.exporter answer new.exporter
+    pub told : calls.told new.exporter ≡ calls.told old.exporter
+    pub rest : new ≡ record old { exporter = new.exporter; is_shut = true }
+
+  -- a resource: its exporter did with it what its call may do, or nothing
+  pub record HandsResource (old : SimpleProcessor E) (resource : PlainResource)
+      (answer : Result (Unit {0}) AllocError) (new : SimpleProcessor E) : Type 0 where
+    pub gives : StaysOr (λ x y. calls.resource_gives x resource y) old.exporter new.exporter
+    pub told : calls.told new.exporter ≡ calls.told old.exporter
+    pub ok : answer ≡ Ok tt
+    pub rest : new ≡ record old { exporter = new.exporter }

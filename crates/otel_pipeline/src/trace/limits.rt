@@ -1,0 +1,157 @@
+//! What a span keeps within its limits: the first items of each list. Those over a limit are only counted
+//! (OpenTelemetry specification, "Span Limits"). Lists are cut in place.
+
+ghost use Rattle.std.specs.Prelude.{◌≡◌, ◌≤◌, ◌⊎◌, ◌++◌, [], length, map, nat_lt, IfOk, IsOk, OnErr, OnOk, unwrap_or};
+ghost use Rattle.std.specs.Option.{option_map};
+ghost use Rattle.otel_base.specs.Sampling.{added_attributes};
+ghost use Rattle.otel_export.specs.PlainSpanData.{cut_at, left_out};
+ghost use Rattle.otel_pipeline.specs.SpanHistory as history;
+
+use opentelemetry::KeyValue;
+use opentelemetry::trace::{Event, Link};
+use otel_base::trace::SpanLimits;
+use otel_export::trace::{SpanEvents, SpanLinks};
+use std::alloc::{AllocError, Global};
+
+/// Cuts a list at a limit. The answer is how many items were left out, at most the greatest `u32`.
+pub(crate) fn cut<T: Drop>(items: &mut Vec<T>, limit: u32) -> u32
+    ensures cut { items.new.items ≡ cut_at limit items.old.items }
+    ensures left_out { result ≡ left_out limit items.old.items }
+{
+    let left_out = items.len().saturating_sub(limit as usize);
+    items.truncate(limit as usize);
+    u32::try_from(left_out).unwrap_or(u32::MAX)
+}
+
+/// Adds an item where there is room under the limit, and else drops it, which takes no memory. The answer is whether it
+/// was kept.
+pub(crate) fn push_within<T: Drop>(
+    items: &mut Vec<T>,
+    limit: u32,
+    item: T,
+) -> Result<bool, AllocError>
+    ensures grown { OnOk result (items.new.items ≡ history.grown_within limit items.old.items item) }
+    ensures kept { IfOk result (λ kept. kept ≡ nat_lt (length items.old.items) limit) }
+    ensures err { OnErr result (items.new.items ≡ items.old.items) }
+    ensures full { limit ≤ length items.old.items → IsOk result }
+{
+    if items.len() < limit as usize {
+        items.reserve(1)?;
+        items.push_reserved(item);
+        Ok(true)
+    } else {
+        Ok(false)
+    }
+}
+
+/// What is kept of the attributes that a span is given at its start, those of its builder in front of those that the
+/// sampler adds; and how many were left out.
+pub(crate) fn attributes_within(
+    alloc: Global,
+    given: Option<Vec<KeyValue>>,
+    added: Option<Vec<KeyValue>>,
+    limit: u32,
+) -> Result<(Vec<KeyValue>, u32), AllocError>
+    ensures cut { IfOk result (λ answer. answer.0.items
+        ≡ cut_at limit (added_attributes given ++ added_attributes added)) }
+    ensures left_out { IfOk result (λ answer. answer.1
+        ≡ left_out limit (added_attributes given ++ added_attributes added)) }
+    ensures free { (added_attributes given ≡ []) ⊎ (added_attributes added ≡ []) → IsOk result }
+{
+    if given.is_none() && added.is_none() {
+        return Ok((Vec::new(alloc), 0));
+    }
+    let given = given.unwrap_or(Vec::new(alloc));
+    let added = added.unwrap_or(Vec::new(alloc));
+    joined_within(given, added, limit)
+}
+
+/// Two lists joined and cut at a limit, and how many items were left out. Where one is empty the other one comes back
+/// as it was made, with its room.
+fn joined_within<T: Drop>(
+    mut front: Vec<T>,
+    mut back: Vec<T>,
+    limit: u32,
+) -> Result<(Vec<T>, u32), AllocError>
+    ensures cut { IfOk result (λ answer. answer.0.items ≡ cut_at limit (front.items ++ back.items)) }
+    ensures left_out { IfOk result (λ answer. answer.1 ≡ left_out limit (front.items ++ back.items)) }
+    ensures free { (front.items ≡ []) ⊎ (back.items ≡ []) → IsOk result }
+{
+    if back.is_empty() {
+        let left_out = cut(&mut front, limit);
+        return Ok((front, left_out));
+    }
+    if front.is_empty() {
+        let left_out = cut(&mut back, limit);
+        return Ok((back, left_out));
+    }
+    let left_out = cut(&mut front, limit);
+    let room = limit.saturating_sub(front.len() as u32);
+    let left_out_behind = cut(&mut back, room);
+    front.append(&mut back)?;
+    Ok((front, left_out.saturating_add(left_out_behind)))
+}
+
+/// Cuts an event's own attributes; its count becomes how many were cut.
+pub(crate) fn cut_event(event: &mut Event, limits: SpanLimits)
+    ensures { event.new ≡ history.event_within limits event.old }
+{
+    event.dropped_attributes_count = cut(&mut event.attributes, limits.max_attributes_per_event);
+}
+
+/// Cuts a link's own attributes; its count becomes how many were cut.
+pub(crate) fn cut_link(link: &mut Link, limits: SpanLimits)
+    ensures { link.new ≡ history.link_within limits link.old }
+{
+    link.dropped_attributes_count = cut(&mut link.attributes, limits.max_attributes_per_link);
+}
+
+/// What is kept of the events that a span is given at its start.
+pub(crate) fn events_within(
+    alloc: Global,
+    events: Option<Vec<Event>>,
+    limits: SpanLimits,
+) -> SpanEvents
+    ensures { result ≡ history.events_within limits (unwrap_or (option_map (λ given. given.items) events) []) }
+{
+    let Some(mut events) = events else {
+        return SpanEvents::new(alloc);
+    };
+    let dropped_count = cut(&mut events, limits.max_events_per_span);
+    cut_each_event(&mut events, limits);
+    SpanEvents {
+        events,
+        dropped_count,
+    }
+}
+
+/// What is kept of the links that a span is given at its start.
+pub(crate) fn links_within(alloc: Global, links: Option<Vec<Link>>, limits: SpanLimits) -> SpanLinks
+    ensures { result ≡ history.links_within limits (unwrap_or (option_map (λ given. given.items) links) []) }
+{
+    let Some(mut links) = links else {
+        return SpanLinks::new(alloc);
+    };
+    let dropped_count = cut(&mut links, limits.max_links_per_span);
+    cut_each_link(&mut links, limits);
+    SpanLinks {
+        links,
+        dropped_count,
+    }
+}
+
+fn cut_each_event(events: &mut [Event], limits: SpanLimits)
+    ensures { events.new ≡ map (history.event_within limits) events.old }
+{
+    for event in events.iter_mut() {
+        cut_event(event, limits);
+    }
+}
+
+fn cut_each_link(links: &mut [Link], limits: SpanLimits)
+    ensures { links.new ≡ map (history.link_within limits) links.old }
+{
+    for link in links.iter_mut() {
+        cut_link(link, limits);
+    }
+}

@@ -1,0 +1,345 @@
+//! The provider: it holds the processors of the spans that are started under it, the sampler, the ids and the limits,
+//! and shuts the processors down (OpenTelemetry specification, "Tracer Provider"). It is handed in wherever a span
+//! starts or ends, and must be spent by `close`.
+
+ghost use Rattle.std.specs.Prelude.{◌≡◌, ◌-◌, ◌≤◌, ◌↔◌, [], length, map, replicate, vec_len, false, true, Ok, IfErr, IfOk, IsOk, IsErrOf, string_bytes};
+ghost use Rattle.std.specs.Bool.{OnTrue, OnFalse};
+ghost use Rattle.std.specs.Duration.{as_nanos};
+ghost use Rattle.otel_export.specs.PlainSpanData.{PlainSpanData};
+ghost use Rattle.opentelemetry.specs.Plain.{scope_named};
+ghost use Rattle.otel_pipeline.specs.Deliveries.{EachFollows};
+ghost use Rattle.otel_pipeline.specs.Each.{AskedAll};
+ghost use Rattle.otel_pipeline.specs.Ending.{TakesAndTells};
+ghost use Rattle.otel_pipeline.specs.Provider.{Flushes, FlushesProcessor, IsInternalFailure, ShutsDown, ShutsProcessor};
+ghost use Rattle.otel_pipeline.specs.Starting.{DrawsIds, PassesThrough};
+ghost use Rattle.otel_pipeline.specs.SpanHistory.{IsEdited, ended_at};
+
+use crate::trace::{Processor, SdkTracer, Span, SpanProcessor};
+use opentelemetry::{Context, InstrumentationScope, Moment, SpanId, TraceId};
+use otel_base::error::{OTelSdkError, OTelSdkResult};
+use otel_base::trace::{ConfigOf, IdGenerator, IdSource, Sampler, SpanLimits};
+use otel_export::trace::SpanData;
+use std::alloc::{AllocError, Global};
+use std::marker::Model;
+use std::time::Duration;
+
+/// A provider over processors, a sampler and a generator of ids of any one kind each.
+pub struct ProviderOf<P, S, G> {
+    pub(crate) processors: Vec<P>,
+    sampler: S,
+    id_generator: G,
+    span_limits: SpanLimits,
+    is_shut: bool,
+}
+
+/// The provider of the SDK.
+pub type SdkTracerProvider = ProviderOf<Processor, Sampler, IdSource>;
+
+impl<P, S, G> Model for ProviderOf<P, S, G> {
+    ghost use Rattle.otel_pipeline.specs.Provider.{ProviderState};
+
+    ghost Value = { ProviderState P S G };
+
+    ghost view = { λ a. record {
+      processors = a.processors.items;
+      sampler = a.sampler;
+      id_generator = a.id_generator;
+      span_limits = a.span_limits;
+      is_shut = a.is_shut;
+    } };
+}
+
+impl<P, S, G> ProviderOf<P, S, G> {
+    /// An open provider over these processors; it calls none of them. The resource of the configuration is for whoever
+    /// makes the processors.
+    pub fn from_parts(processors: Vec<P>, config: ConfigOf<S, G>) -> ProviderOf<P, S, G>
+        ensures { result ≡ record {
+          processors = processors.items;
+          sampler = config.sampler;
+          id_generator = config.id_generator;
+          span_limits = config.span_limits;
+          is_shut = false;
+        } }
+    {
+        ProviderOf {
+            processors,
+            sampler: config.sampler,
+            id_generator: config.id_generator,
+            span_limits: config.span_limits,
+            is_shut: false,
+        }
+    }
+
+    /// The processors in the order in which they are asked.
+    pub fn processors(&self) -> &[P]
+        ensures { result.now ≡ self.now.processors }
+    {
+        &self.processors
+    }
+
+    /// A tracer for the library of this name. Its scope takes memory once, and each start shares it.
+    pub fn tracer(&self, name: String) -> Result<SdkTracer, AllocError>
+        ensures { IfOk result (λ tracer. tracer ≡ scope_named (string_bytes name)) }
+    {
+        let scope = InstrumentationScope::builder(self.allocator(), name).build()?;
+        Ok(self.tracer_with_scope(scope))
+    }
+
+    /// A tracer for this library.
+    pub fn tracer_with_scope(&self, scope: InstrumentationScope) -> SdkTracer
+        ensures { result ≡ scope }
+    {
+        SdkTracer::new(scope)
+    }
+
+    pub(crate) fn allocator(&self) -> Global {
+        *self.processors.allocator()
+    }
+
+    pub(crate) fn is_shut(&self) -> bool
+        ensures { result ≡ self.now.is_shut }
+    {
+        self.is_shut
+    }
+
+    pub(crate) fn sampler(&self) -> &S
+        ensures { result.now ≡ self.now.sampler }
+    {
+        &self.sampler
+    }
+
+    pub(crate) fn span_limits(&self) -> SpanLimits
+        ensures { result ≡ self.now.span_limits }
+    {
+        self.span_limits
+    }
+
+    /// The copies of what an ending span recorded: one for each processor but the last, which gets the original.
+    pub(crate) fn copies_for_end(
+        &self,
+        recorded: &SpanData,
+        timestamp: Moment,
+    ) -> Result<Vec<SpanData>, AllocError>
+        ensures copies { IfOk result (λ copies. copies.items
+            ≡ replicate (length self.now.processors - 1) (ended_at timestamp.0 recorded.now)) }
+        ensures one { length self.now.processors ≤ 1 → IsOk result }
+    {
+        let count = self.processors.len().saturating_sub(1);
+        if count == 0 {
+            return Ok(Vec::new(self.allocator()));
+        }
+        copies_of(self.allocator(), recorded, timestamp, count)
+    }
+}
+
+impl<P, S, G: IdGenerator> ProviderOf<P, S, G> {
+    /// The ids of a new span in a context. The span id is drawn first; a trace id is drawn only where no span is
+    /// active.
+    pub(crate) fn draw_ids(&mut self, cx: &Context) -> (TraceId, SpanId)
+        ensures draws { DrawsIds G.IdGenerator cx.now.span_context self.old.id_generator result.0 result.1
+            self.new.id_generator }
+        ensures rest { self.new ≡ record self.old { id_generator = self.new.id_generator } }
+    {
+        let span_id = self.id_generator.new_span_id();
+        let trace_id = if cx.has_active_span() {
+            cx.span_context().trace_id()
+        } else {
+            self.id_generator.new_trace_id()
+        };
+        (trace_id, span_id)
+    }
+}
+
+impl<P: SpanProcessor, S: Drop, G: Drop> ProviderOf<P, S, G> {
+    /// A span has started: each processor is told in its turn.
+    pub(crate) fn tell_start(&mut self, span: &mut Span, cx: &Context)
+        ensures edits { IsEdited span.old span.new }
+        ensures told { map P.told self.new.processors ≡ map P.told self.old.processors }
+        ensures gives { PassesThrough P.SpanProcessor cx.now span.old self.old.processors self.new.processors span.new }
+        ensures rest { self.new ≡ record self.old { processors = self.new.processors } }
+    {
+        start_each(&mut self.processors, span, cx);
+    }
+
+    /// A span has ended: each processor gets its copy, the last one the original. The answer is how many refused.
+    pub(crate) fn deliver(&mut self, copies: Vec<SpanData>, original: SpanData) -> usize
+        requires { copies.items ≡ replicate (length self.old.processors - 1) original }
+        ensures asked { AskedAll (TakesAndTells P.SpanProcessor original) self.old.processors self.new.processors
+            result }
+        ensures rest { self.new ≡ record self.old { processors = self.new.processors } }
+    {
+        end_each(&mut self.processors, copies, original)
+    }
+
+    /// Asks every processor to export what waits, also after one failed, and also where the provider is shut; a test
+    /// shows that they are asked first to last. Failures of processors are an `InternalFailure` that counts them
+    /// (OpenTelemetry specification, "ForceFlush").
+    pub fn force_flush(&mut self) -> OTelSdkResult
+        ensures flushes { Flushes P.SpanProcessor self.old result self.new }
+
+        // No span is delivered.
+        ensures told { EachFollows P.SpanProcessor [] self.old.processors self.new.processors }
+    {
+        let failed = flush_each(&mut self.processors);
+        failure_answer(self.allocator(), "errs", failed)
+    }
+
+    /// Shuts every processor down, also after one failed; a test shows that they are asked first to last. A second
+    /// shutdown answers `AlreadyShutdown` and asks none; failures of processors are an `InternalFailure` that counts
+    /// them.
+    pub fn shutdown_with_timeout(&mut self, timeout: Duration) -> OTelSdkResult
+        ensures again { OnTrue self.old.is_shut
+            (IsErrOf result OTelSdkError.AlreadyShutdown × (self.new ≡ self.old)) }
+        ensures first { OnFalse self.old.is_shut
+            (ShutsDown P.SpanProcessor self.old (as_nanos timeout) result self.new) }
+
+        // No span is delivered.
+        ensures told { EachFollows P.SpanProcessor [] self.old.processors self.new.processors }
+    {
+        if self.is_shut {
+            return Err(OTelSdkError::AlreadyShutdown);
+        }
+        self.is_shut = true;
+        let failed = shutdown_each(&mut self.processors, timeout);
+        failure_answer(self.allocator(), "Shutdown errors", failed)
+    }
+
+    /// The same with 5 seconds.
+    pub fn shutdown(&mut self) -> OTelSdkResult
+        ensures again { OnTrue self.old.is_shut
+            (IsErrOf result OTelSdkError.AlreadyShutdown × (self.new ≡ self.old)) }
+        ensures first { OnFalse self.old.is_shut (ShutsDown P.SpanProcessor self.old 5_000_000_000 result self.new) }
+        ensures told { EachFollows P.SpanProcessor [] self.old.processors self.new.processors }
+    {
+        self.shutdown_with_timeout(Duration::from_secs(5))
+    }
+
+    /// Spends the provider. Where it is still open it is shut down, and the answer is that of the shutdown.
+    pub fn close(mut self) -> OTelSdkResult
+        ensures shut { OnTrue self.is_shut (result ≡ Ok tt) }
+        ensures open { OnFalse self.is_shut ((after : _) × ShutsDown P.SpanProcessor self 5_000_000_000 result after) }
+    {
+        if self.is_shut {
+            self.spend();
+            return Ok(());
+        }
+        let answer = self.shutdown();
+        self.spend();
+        answer
+    }
+
+    fn spend(self) {
+        let ProviderOf {
+            processors: _,
+            sampler: _,
+            id_generator: _,
+            span_limits: _,
+            is_shut: _,
+        } = self;
+    }
+}
+
+/// What is answered where so many processors failed. The reason stays empty where there is no memory for it.
+fn failure_answer(alloc: Global, what: &str, failed: usize) -> OTelSdkResult
+    ensures ok { IsOk result ↔ (failed ≡ 0) }
+    ensures err { IfErr result IsInternalFailure }
+{
+    if failed == 0 {
+        return Ok(());
+    }
+    let reason = match format!(in alloc; "{what}: {failed}") {
+        Ok(reason) => reason,
+        Err(_) => String::new(alloc),
+    };
+    Err(OTelSdkError::InternalFailure(reason))
+}
+
+fn copies_of(
+    alloc: Global,
+    recorded: &SpanData,
+    timestamp: Moment,
+    count: usize,
+) -> Result<Vec<SpanData>, AllocError>
+    ensures copies { IfOk result (λ copies. copies.items ≡ replicate count (ended_at timestamp.0 recorded.now)) }
+    ensures none { count ≡ 0 → IsOk result }
+{
+    let mut copies = Vec::new(alloc);
+    copies.reserve(count)?;
+    for _i in 0..count {
+        let mut copy = recorded.clone()?;
+        copy.end_time = timestamp;
+        copies.push(copy)?;
+    }
+    Ok(copies)
+}
+
+fn start_each<P: SpanProcessor>(processors: &mut [P], span: &mut Span, cx: &Context)
+    ensures edits { IsEdited span.old span.new }
+    ensures told { map P.told processors.new ≡ map P.told processors.old }
+    ensures gives { PassesThrough P.SpanProcessor cx.now span.old processors.old processors.new span.new }
+{
+    for processor in processors.iter_mut() {
+        processor.on_start(span, cx);
+    }
+}
+
+fn end_each<P: SpanProcessor>(
+    processors: &mut [P],
+    copies: Vec<SpanData>,
+    original: SpanData,
+) -> usize
+    requires { copies.items ≡ replicate (length processors.old - 1) original }
+    ensures { AskedAll (TakesAndTells P.SpanProcessor original) processors.old processors.new result }
+{
+    let Some(last) = processors.len().checked_sub(1) else {
+        return 0;
+    };
+    let refused = end_copies(&mut processors[..last], copies);
+    match processors[last].on_end(original) {
+        Ok(()) => refused,
+        Err(_) => refused + 1,
+    }
+}
+
+/// Each of these processors gets a copy, also after one refused. The answer is how many refused.
+fn end_copies<P: SpanProcessor>(processors: &mut [P], mut copies: Vec<SpanData>) -> usize
+    requires { vec_len copies ≡ length processors.old }
+    ensures asked { (d : PlainSpanData) → copies.items ≡ replicate (length processors.old) d
+        → AskedAll (TakesAndTells P.SpanProcessor d) processors.old processors.new result }
+    ensures few { result ≤ length processors.old }
+{
+    let mut refused = 0;
+    for processor in processors.iter_mut() {
+        let copy = copies.pop().unwrap();
+        if processor.on_end(copy).is_err() {
+            refused += 1;
+        }
+    }
+    refused
+}
+
+/// Each is asked to flush, also after one failed. The answer is how many failed.
+fn flush_each<P: SpanProcessor>(processors: &mut [P]) -> usize
+    ensures { AskedAll (FlushesProcessor P.SpanProcessor) processors.old processors.new result }
+{
+    let mut failed = 0;
+    for processor in processors.iter_mut() {
+        if processor.force_flush().is_err() {
+            failed += 1;
+        }
+    }
+    failed
+}
+
+/// Each is shut down, also after one failed. The answer is how many failed.
+fn shutdown_each<P: SpanProcessor>(processors: &mut [P], timeout: Duration) -> usize
+    ensures { AskedAll (ShutsProcessor P.SpanProcessor (as_nanos timeout)) processors.old processors.new result }
+{
+    let mut failed = 0;
+    for processor in processors.iter_mut() {
+        if processor.shutdown_with_timeout(timeout).is_err() {
+            failed += 1;
+        }
+    }
+    failed
+}

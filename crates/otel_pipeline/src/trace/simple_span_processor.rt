@@ -1,0 +1,100 @@
+//! The processor that exports each sampled span as soon as it ends, in a batch of its own (OpenTelemetry specification,
+//! "Simple processor").
+
+ghost use Rattle.std.specs.Prelude.{◌≡◌, ◌∷◌, [], false, IfOk};
+
+use crate::trace::{Span, SpanProcessor};
+use opentelemetry::Context;
+use otel_base::error::OTelSdkResult;
+use otel_base::resource::Resource;
+use otel_export::trace::{SpanData, SpanExporter};
+use std::alloc::{AllocError, Global};
+use std::marker::Model;
+use std::time::Duration;
+
+/// Hands each sampled span to its exporter at once, until it is shut down.
+#[derive(Drop)]
+pub struct SimpleSpanProcessor<E> {
+    exporter: E,
+    is_shut: bool,
+    alloc: Global,
+}
+
+impl<E> Model for SimpleSpanProcessor<E> {
+    ghost use Rattle.otel_pipeline.specs.SimpleProcessor.{SimpleProcessor};
+
+    ghost Value = { SimpleProcessor E };
+
+    ghost view = { λ a. record { exporter = a.exporter; is_shut = a.is_shut } };
+}
+
+impl<E> SimpleSpanProcessor<E> {
+    pub fn new(alloc: Global, exporter: E) -> SimpleSpanProcessor<E>
+        ensures { result ≡ record { exporter = exporter; is_shut = false } }
+    {
+        SimpleSpanProcessor {
+            exporter,
+            is_shut: false,
+            alloc,
+        }
+    }
+
+    pub fn exporter(&self) -> &E
+        ensures { result.now ≡ self.now.exporter }
+    {
+        &self.exporter
+    }
+}
+
+impl<E: SpanExporter> SpanProcessor for SimpleSpanProcessor<E> {
+    ghost use Rattle.std.specs.Prelude.{◌≡◌, Ok};
+    ghost use Rattle.otel_pipeline.specs.SimpleProcessor.{HandsResource, SimpleEnds, SimpleShuts, simple_telling};
+
+    ghost told = { simple_telling E.SpanExporter };
+
+    ghost start_gives = { λ p s cx t q. (q ≡ p) × (t ≡ s) };
+
+    ghost end_gives = { SimpleEnds E.SpanExporter };
+
+    ghost flush_gives = { λ p r q. (r ≡ Ok tt) × (q ≡ p) };
+
+    ghost shutdown_gives = { SimpleShuts E.SpanExporter };
+
+    ghost resource_gives = { HandsResource E.SpanExporter };
+
+    fn on_start(&mut self, _span: &mut Span, _cx: &Context) {}
+
+    #[inline(always)]
+    fn on_end(&mut self, span: SpanData) -> Result<(), AllocError> {
+        if self.is_shut || !span.span_context.trace_flags().is_sampled() {
+            return Ok(());
+        }
+        let batch = batch_of(self.alloc, span)?;
+        let _ = self.exporter.export(batch);
+        Ok(())
+    }
+
+    fn force_flush(&mut self) -> OTelSdkResult {
+        Ok(())
+    }
+
+    fn shutdown_with_timeout(&mut self, timeout: Duration) -> OTelSdkResult {
+        self.is_shut = true;
+        self.exporter.shutdown_with_timeout(timeout)
+    }
+
+    fn set_resource(&mut self, resource: &Resource) -> Result<(), AllocError> {
+        self.exporter.set_resource(resource);
+        Ok(())
+    }
+}
+
+/// A batch of one span.
+#[inline(always)]
+fn batch_of(alloc: Global, span: SpanData) -> Result<Vec<SpanData>, AllocError>
+    ensures { IfOk result (λ batch. batch.items ≡ span ∷ []) }
+{
+    let mut batch = Vec::with_capacity(alloc, 1)?;
+    batch.push_reserved(span);
+    Ok(batch)
+}

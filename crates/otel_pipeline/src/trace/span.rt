@@ -1,0 +1,337 @@
+//! A span: one operation within a trace. It records until its end; its end delivers what it recorded to the processors
+//! of its provider. A span must be spent, so that none is forgotten.
+
+ghost use Rattle.std.specs.Prelude.{◌≡◌, ◌≤◌, [], length, List, OnOk, OnErr, IfErr, IfOk, IfSome, IsOk, IsNone, IsTrue, Some, is_some, string_bytes};
+ghost use Rattle.std.specs.List.Sorted.{IsPermutation};
+ghost use Rattle.opentelemetry.specs.Order.{greatest_status};
+ghost use Rattle.opentelemetry.specs.Plain.{PlainStatus, unset};
+ghost use Rattle.opentelemetry.specs.PlainValues.{plain_status};
+ghost use Rattle.otel_pipeline.specs.Deliveries.{EachFollows};
+ghost use Rattle.otel_pipeline.specs.Ending.{Delivers, DeliversIf, deliveries};
+ghost use Rattle.otel_pipeline.specs.SpanEdits.{plain_edit};
+ghost use Rattle.otel_pipeline.specs.SpanHistory as history;
+
+use super::span_edit;
+use crate::trace::{ProviderOf, SpanEdit, SpanProcessor};
+use opentelemetry::trace::{Event, Link, SpanContext, Status};
+use opentelemetry::{KeyValue, Moment};
+use otel_base::trace::SpanLimits;
+use otel_export::trace::SpanData;
+use std::alloc::AllocError;
+use std::marker::Model;
+
+/// A span that somebody holds. `finish` ends and spends it; `end_with_timestamp` ends it and leaves it to be asked who
+/// it was; `abandon` spends it without delivering anything.
+pub struct Span {
+    span_context: SpanContext,
+    recorded: Option<SpanData>,
+    span_limits: SpanLimits,
+}
+
+impl Model for Span {
+    ghost use Rattle.otel_pipeline.specs.SpanHistory.{PlainSpan, HasHistory};
+
+    ghost Value = { PlainSpan };
+
+    ghost view = { λ a. record { span_context = a.span_context; limits = a.span_limits; recorded = a.recorded } };
+
+    ghost invariant = { λ a. HasHistory (record {
+      span_context = a.span_context;
+      limits = a.span_limits;
+      recorded = a.recorded;
+    }) };
+}
+
+impl Span {
+    /// The span that records this data.
+    pub(crate) fn recording(
+        span_context: SpanContext,
+        recorded: SpanData,
+        span_limits: SpanLimits,
+    ) -> Span
+        requires { history.HasHistory (record {
+          span_context = span_context;
+          limits = span_limits;
+          recorded = Some recorded;
+        }) }
+        ensures { result ≡ record { span_context = span_context; limits = span_limits; recorded = Some recorded } }
+    {
+        Span {
+            span_context,
+            recorded: Some(recorded),
+            span_limits,
+        }
+    }
+
+    /// A span that records nothing.
+    pub(crate) fn not_recording(span_context: SpanContext, span_limits: SpanLimits) -> Span
+        ensures { result ≡ history.not_recording span_context span_limits }
+    {
+        Span {
+            span_context,
+            recorded: None,
+            span_limits,
+        }
+    }
+
+    /// Who the span is, also after its end.
+    pub fn span_context(&self) -> &SpanContext
+        ensures { result.now ≡ self.now.span_context }
+    {
+        &self.span_context
+    }
+
+    /// Whether edits still reach the span.
+    pub fn is_recording(&self) -> bool
+        ensures { result ≡ is_some self.now.recorded }
+    {
+        self.recorded.is_some()
+    }
+
+    /// Wherever a span comes from, it is what a start and edits made, or over. It does nothing.
+    pub(crate) fn has_history(&self)
+        ensures { history.HasHistory self.now }
+    {
+        let _recorded = &self.recorded;
+    }
+
+    /// Makes an edit. Nothing happens where the span is not recording.
+    pub fn edit(&mut self, edit: SpanEdit) -> Result<(), AllocError>
+        ensures ok { OnOk result (self.new ≡ history.edited (plain_edit edit) self.old) }
+        ensures err { OnErr result (self.new ≡ self.old) }
+        ensures edits { history.IsEdited self.old self.new }
+        ensures free { IsNone self.old.recorded → IsOk result }
+        ensures full { IfSome self.old.recorded
+            (λ recorded. history.KeepsNoMore self.old.limits (plain_edit edit) recorded → IsOk result) }
+    {
+        edit.apply(&mut self.recorded, self.span_limits)
+    }
+
+    /// Sets an attribute behind those that are there, also where its key is among them. Over the limit it is only
+    /// counted, which takes no memory. Nothing happens where the span is not recording (OpenTelemetry specification,
+    /// "Set Attributes").
+    pub fn set_attribute(&mut self, attribute: KeyValue) -> Result<(), AllocError>
+        ensures ok { OnOk result (self.new ≡ history.edited (history.set_attribute attribute) self.old) }
+        ensures err { OnErr result (self.new ≡ self.old) }
+        ensures edits { history.IsEdited self.old self.new }
+        ensures free { IsNone self.old.recorded → IsOk result }
+        ensures full { IfSome self.old.recorded
+            (λ recorded. self.old.limits.max_attributes_per_span ≤ length recorded.attributes → IsOk result) }
+    {
+        span_edit::set_attribute(&mut self.recorded, self.span_limits, attribute)
+    }
+
+    /// Adds an event that happened at this moment. Its attributes are cut at their own limit; over the limit of events
+    /// it is only counted (OpenTelemetry specification, "Add Events").
+    pub fn add_event_with_timestamp(
+        &mut self,
+        name: String,
+        timestamp: Moment,
+        attributes: Vec<KeyValue>,
+    ) -> Result<(), AllocError>
+        ensures ok { OnOk result (self.new ≡ history.edited (history.add_event (record {
+          name = string_bytes name;
+          timestamp = timestamp.0;
+          attributes = attributes.items;
+          dropped_attributes_count = 0;
+        })) self.old) }
+        ensures err { OnErr result (self.new ≡ self.old) }
+        ensures edits { history.IsEdited self.old self.new }
+        ensures free { IsNone self.old.recorded → IsOk result }
+        ensures full { IfSome self.old.recorded
+            (λ recorded. self.old.limits.max_events_per_span ≤ length recorded.events.events → IsOk result) }
+    {
+        let event = Event::new(name, timestamp, attributes, 0);
+        span_edit::add_event(&mut self.recorded, self.span_limits, event)
+    }
+
+    /// Points to another span. The attributes of the link are cut at their own limit; over the limit of links it is
+    /// only counted (OpenTelemetry specification, "Add Link").
+    pub fn add_link(
+        &mut self,
+        span_context: SpanContext,
+        attributes: Vec<KeyValue>,
+    ) -> Result<(), AllocError>
+        ensures ok { OnOk result (self.new ≡ history.edited (history.add_link (record {
+          span_context = span_context;
+          attributes = attributes.items;
+          dropped_attributes_count = 0;
+        })) self.old) }
+        ensures err { OnErr result (self.new ≡ self.old) }
+        ensures edits { history.IsEdited self.old self.new }
+        ensures free { IsNone self.old.recorded → IsOk result }
+        ensures full { IfSome self.old.recorded
+            (λ recorded. self.old.limits.max_links_per_span ≤ length recorded.links.links → IsOk result) }
+    {
+        let link = Link::new(span_context, attributes, 0);
+        span_edit::add_link(&mut self.recorded, self.span_limits, link)
+    }
+
+    /// Says how the operation went; the greatest status stays, in whatever order they come. It takes no memory
+    /// (OpenTelemetry specification, "Set Status").
+    pub fn set_status(&mut self, status: Status) -> Result<(), AllocError>
+        ensures ok { OnOk result (self.new ≡ history.edited (history.set_status (plain_status status)) self.old) }
+        ensures err { OnErr result (self.new ≡ self.old) }
+        ensures edits { history.IsEdited self.old self.new }
+        ensures free { IsOk result }
+    {
+        self.edit(SpanEdit::SetStatus(status))
+    }
+
+    /// Gives the span another name in place of the one that it has. It takes no memory (OpenTelemetry specification,
+    /// "UpdateName").
+    pub fn update_name(&mut self, name: String) -> Result<(), AllocError>
+        ensures ok { OnOk result (self.new ≡ history.edited (history.update_name (string_bytes name)) self.old) }
+        ensures err { OnErr result (self.new ≡ self.old) }
+        ensures edits { history.IsEdited self.old self.new }
+        ensures free { IsOk result }
+    {
+        self.edit(SpanEdit::UpdateName(name))
+    }
+
+    /// What would be exported if the span ended when it started: a copy of what it has recorded; none where it is not
+    /// recording.
+    pub fn exported_data(&self) -> Result<Option<SpanData>, AllocError>
+        ensures now { IfOk result (λ found. found ≡ self.now.recorded) }
+        ensures free { IsNone self.now.recorded → IsOk result }
+        ensures history { history.HasHistory self.now }
+
+        // Whole lists, each cut once, whatever order the edits came in.
+        ensures whole { (start : history.SpanStart) (edits : List history.Edit)
+            → self.now ≡ history.after edits (history.recording start [])
+            → IfOk result (λ found. found ≡ Some (history.data_of start edits start.start_time)) }
+
+        // The status is the same for every order in which statuses were set.
+        ensures any_order { (start : history.SpanStart) (edits : List history.Edit) (statuses : List PlainStatus)
+            → self.now ≡ history.after edits (history.recording start [])
+            → IsPermutation (history.statuses_set edits) statuses
+            → IfOk result (λ found. IfSome found (λ span. span.status ≡ greatest_status unset statuses)) }
+    {
+        match &self.recorded {
+            Some(recorded) => Ok(Some(recorded.clone()?)),
+            None => Ok(None),
+        }
+    }
+
+    /// Drops what was recorded; no edit reaches the span any more.
+    fn stop(&mut self)
+        ensures { self.new ≡ history.ended self.old }
+    {
+        self.recorded = None;
+    }
+
+    /// What was recorded; no edit reaches the span any more.
+    fn take_recorded(&mut self) -> Option<SpanData>
+        ensures recorded { result ≡ self.old.recorded }
+        ensures ended { self.new ≡ history.ended self.old }
+    {
+        self.recorded.take()
+    }
+
+    /// Ends the span at this moment: each processor of the provider is given what the span recorded, also after one
+    /// refused it; a test shows that they are asked first to last. The answer is how many refused for want of memory.
+    /// On an error, which comes before any processor is asked, span and processors are unchanged; the last processor
+    /// gets the original, and with one processor nothing is copied. A span that is not recording, or whose provider is
+    /// shut, ends with 0.
+    pub fn end_with_timestamp<P: SpanProcessor, S: Drop, G: Drop>(
+        &mut self,
+        provider: &mut ProviderOf<P, S, G>,
+        timestamp: Moment,
+    ) -> Result<usize, AllocError>
+        ensures ok { IfOk result (λ refused. DeliversIf P.SpanProcessor provider.old.is_shut timestamp.0
+            self.old.recorded
+            provider.old.processors provider.new.processors refused) }
+        ensures told { IfOk result (λ refused. EachFollows P.SpanProcessor
+            (deliveries provider.old.is_shut timestamp.0 self.old.recorded refused)
+            provider.old.processors provider.new.processors) }
+        ensures history { history.HasHistory self.old }
+
+        // What is delivered is the data of the span's history: whole lists, each cut once.
+        ensures whole { (start : history.SpanStart) (edits : List history.Edit)
+            → self.old ≡ history.after edits (history.recording start [])
+            → IfOk result (λ refused. Delivers P.SpanProcessor provider.old.is_shut
+            (history.data_of start edits timestamp.0) provider.old.processors provider.new.processors refused) }
+
+        ensures rest { provider.new ≡ record provider.old { processors = provider.new.processors } }
+        ensures ended { OnOk result (self.new ≡ history.ended self.old) }
+
+        // No edit reaches it any more.
+        ensures over { OnOk result ((edits : List history.Edit) → history.after edits self.new ≡ self.new) }
+
+        ensures err { OnErr result ((self.new ≡ self.old) × (provider.new ≡ provider.old)) }
+        ensures not_recording { IsNone self.old.recorded → IsOk result }
+
+        // A second end asks nobody.
+        ensures asks_nobody { IsNone self.old.recorded → provider.new ≡ provider.old }
+
+        ensures shut { IsTrue provider.old.is_shut → IsOk result }
+        ensures one { length provider.old.processors ≤ 1 → IsOk result }
+    {
+        let Some(recorded) = &self.recorded else {
+            return Ok(0);
+        };
+        if provider.is_shut() {
+            self.stop();
+            return Ok(0);
+        }
+        let copies = provider.copies_for_end(recorded, timestamp)?;
+        let Some(mut recorded) = self.take_recorded() else {
+            unreachable!();
+        };
+        recorded.end_time = timestamp;
+        Ok(provider.deliver(copies, recorded))
+    }
+
+    /// Ends the span as `end_with_timestamp` does, and spends it. Where there is no memory for the copies it comes back
+    /// as it was, and no processor has been given anything.
+    #[inline(always)]
+    pub fn finish<P: SpanProcessor, S: Drop, G: Drop>(
+        mut self,
+        provider: &mut ProviderOf<P, S, G>,
+        timestamp: Moment,
+    ) -> Result<usize, (Span, AllocError)>
+        ensures ok { IfOk result (λ refused. DeliversIf P.SpanProcessor provider.old.is_shut timestamp.0
+            self.recorded
+            provider.old.processors provider.new.processors refused) }
+        ensures told { IfOk result (λ refused. EachFollows P.SpanProcessor
+            (deliveries provider.old.is_shut timestamp.0 self.recorded refused)
+            provider.old.processors provider.new.processors) }
+        ensures history { history.HasHistory self }
+
+        // What is delivered is the data of the span's history: whole lists, each cut once.
+        ensures whole { (start : history.SpanStart) (edits : List history.Edit)
+            → self ≡ history.after edits (history.recording start [])
+            → IfOk result (λ refused. Delivers P.SpanProcessor provider.old.is_shut
+            (history.data_of start edits timestamp.0) provider.old.processors provider.new.processors refused) }
+
+        ensures rest { provider.new ≡ record provider.old { processors = provider.new.processors } }
+        ensures err { IfErr result (λ back. (back.0 ≡ self) × (provider.new ≡ provider.old)) }
+        ensures not_recording { IsNone self.recorded → IsOk result }
+        ensures asks_nobody { IsNone self.recorded → provider.new ≡ provider.old }
+        ensures shut { IsTrue provider.old.is_shut → IsOk result }
+        ensures one { length provider.old.processors ≤ 1 → IsOk result }
+    {
+        match self.end_with_timestamp(provider, timestamp) {
+            Ok(refused) => {
+                // `abandon` would move the span once more.
+                let Span {
+                    span_context: _,
+                    recorded: _,
+                    span_limits: _,
+                } = self;
+                Ok(refused)
+            }
+            Err(error) => Err((self, error)),
+        }
+    }
+
+    /// Spends the span; nothing is delivered.
+    #[inline(always)]
+    pub fn abandon(self) {
+        let Span {
+            span_context: _,
+            recorded: _,
+            span_limits: _,
+        } = self;
+    }
+}

@@ -1,0 +1,142 @@
+//! Edits of a span: as functions over what it has recorded, which a span's calls share, and as values, for a program
+//! that takes edits from elsewhere.
+
+ghost use Rattle.std.specs.Prelude.{◌≡◌, ◌≤◌, length, IsNone, IsOk, IfSome, OnErr, OnOk};
+ghost use Rattle.opentelemetry.specs.Order.{greater_status};
+ghost use Rattle.opentelemetry.specs.PlainValues.{plain_status};
+ghost use Rattle.otel_pipeline.specs.SpanEdits.{plain_edit};
+ghost use Rattle.otel_pipeline.specs.SpanHistory as history;
+
+use super::limits::{cut_event, cut_link, push_within};
+use opentelemetry::KeyValue;
+use opentelemetry::trace::{Event, Link, Status};
+use otel_base::trace::SpanLimits;
+use otel_export::trace::SpanData;
+use std::alloc::AllocError;
+
+/// What may be done to a span while it records (OpenTelemetry specification, "Span operations").
+#[derive(Debug, Drop)]
+pub enum SpanEdit {
+    SetAttribute(KeyValue),
+    /// The event's count of dropped attributes is not read: it becomes how many are cut here.
+    AddEvent(Event),
+    /// As with events, the link's count is not read.
+    AddLink(Link),
+    SetStatus(Status),
+    UpdateName(String),
+}
+
+impl SpanEdit {
+    /// Edits what a span has recorded, where it records.
+    pub(crate) fn apply(
+        self,
+        recorded: &mut Option<SpanData>,
+        limits: SpanLimits,
+    ) -> Result<(), AllocError>
+        ensures ok { OnOk result (recorded.new ≡ history.edited_if limits (plain_edit self) recorded.old) }
+        ensures err { OnErr result (recorded.new ≡ recorded.old) }
+        ensures free { IsNone recorded.old → IsOk result }
+        ensures full { IfSome recorded.old
+            (λ recorded. history.KeepsNoMore limits (plain_edit self) recorded → IsOk result) }
+    {
+        match self {
+            SpanEdit::SetAttribute(attribute) => set_attribute(recorded, limits, attribute),
+            SpanEdit::AddEvent(event) => add_event(recorded, limits, event),
+            SpanEdit::AddLink(link) => add_link(recorded, limits, link),
+            SpanEdit::SetStatus(status) => {
+                if let Some(recorded) = recorded {
+                    raise(&mut recorded.status, status);
+                }
+                Ok(())
+            }
+            SpanEdit::UpdateName(name) => {
+                if let Some(recorded) = recorded {
+                    recorded.name = name;
+                }
+                Ok(())
+            }
+        }
+    }
+}
+
+/// Sets an attribute, or counts it.
+pub(crate) fn set_attribute(
+    recorded: &mut Option<SpanData>,
+    limits: SpanLimits,
+    attribute: KeyValue,
+) -> Result<(), AllocError>
+    ensures ok { OnOk result (recorded.new
+        ≡ history.edited_if limits (history.set_attribute attribute) recorded.old) }
+    ensures err { OnErr result (recorded.new ≡ recorded.old) }
+    ensures free { IsNone recorded.old → IsOk result }
+    ensures full { IfSome recorded.old
+        (λ recorded. limits.max_attributes_per_span ≤ length recorded.attributes → IsOk result) }
+{
+    let Some(recorded) = recorded else {
+        return Ok(());
+    };
+    let limit = limits.max_attributes_per_span;
+    let kept = push_within(&mut recorded.attributes, limit, attribute)?;
+    if !kept {
+        let count = recorded.dropped_attributes_count;
+        recorded.dropped_attributes_count = count.saturating_add(1);
+    }
+    Ok(())
+}
+
+/// Adds an event, or counts it.
+pub(crate) fn add_event(
+    recorded: &mut Option<SpanData>,
+    limits: SpanLimits,
+    mut event: Event,
+) -> Result<(), AllocError>
+    ensures ok { OnOk result (recorded.new ≡ history.edited_if limits (history.add_event event) recorded.old) }
+    ensures err { OnErr result (recorded.new ≡ recorded.old) }
+    ensures free { IsNone recorded.old → IsOk result }
+    ensures full { IfSome recorded.old
+        (λ recorded. limits.max_events_per_span ≤ length recorded.events.events → IsOk result) }
+{
+    let Some(recorded) = recorded else {
+        return Ok(());
+    };
+    cut_event(&mut event, limits);
+    let events = &mut recorded.events;
+    let kept = push_within(&mut events.events, limits.max_events_per_span, event)?;
+    if !kept {
+        events.dropped_count = events.dropped_count.saturating_add(1);
+    }
+    Ok(())
+}
+
+/// Adds a link, or counts it.
+pub(crate) fn add_link(
+    recorded: &mut Option<SpanData>,
+    limits: SpanLimits,
+    mut link: Link,
+) -> Result<(), AllocError>
+    ensures ok { OnOk result (recorded.new ≡ history.edited_if limits (history.add_link link) recorded.old) }
+    ensures err { OnErr result (recorded.new ≡ recorded.old) }
+    ensures free { IsNone recorded.old → IsOk result }
+    ensures full { IfSome recorded.old
+        (λ recorded. limits.max_links_per_span ≤ length recorded.links.links → IsOk result) }
+{
+    let Some(recorded) = recorded else {
+        return Ok(());
+    };
+    cut_link(&mut link, limits);
+    let links = &mut recorded.links;
+    let kept = push_within(&mut links.links, limits.max_links_per_span, link)?;
+    if !kept {
+        links.dropped_count = links.dropped_count.saturating_add(1);
+    }
+    Ok(())
+}
+
+/// Keeps the greater of two statuses.
+fn raise(status: &mut Status, other: Status)
+    ensures { plain_status status.new ≡ greater_status (plain_status status.old) (plain_status other) }
+{
+    if *status < other {
+        *status = other;
+    }
+}

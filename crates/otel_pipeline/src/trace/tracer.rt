@@ -1,0 +1,288 @@
+//! The tracer of a library: it starts spans under the library's scope (OpenTelemetry specification, "Tracer").
+
+ghost use Rattle.std.specs.Prelude.{◌≡◌, ◌||◌, [], map, IfOk, IsOk, IsTrue, OnErr, string_bytes, unwrap_or};
+ghost use Rattle.std.specs.Option.{option_map};
+ghost use Rattle.opentelemetry.specs.PlainContexts.{root_cx};
+ghost use Rattle.opentelemetry.specs.PlainSpanBuilder.{named_builder};
+ghost use Rattle.otel_base.specs.Sampling.{added_attributes};
+ghost use Rattle.otel_pipeline.specs.Starting.{
+  Drops,
+  OnlyDraws,
+  Starts,
+  start_flags,
+  start_of,
+  start_question,
+};
+ghost use Rattle.otel_pipeline.specs.SpanHistory.{SpanHistory, recording, span_of};
+
+use super::limits::{attributes_within, events_within, links_within};
+use crate::trace::{ProviderOf, Span, SpanProcessor};
+use opentelemetry::trace::{SpanBuilder, SpanContext, SpanKind, Status};
+use opentelemetry::{Context, InstrumentationScope, KeyValue, Moment, TraceFlags, TraceId};
+use otel_base::trace::{IdGenerator, SamplingDecision, SamplingResult, ShouldSample, SpanLimits};
+use otel_export::trace::SpanData;
+use std::alloc::{AllocError, Global};
+use std::marker::Model;
+
+/// Starts spans.
+#[derive(Debug, Drop)]
+pub struct SdkTracer {
+    scope: InstrumentationScope,
+    /// The context in which no span is active.
+    root: Context,
+}
+
+impl Model for SdkTracer {
+    ghost use Rattle.std.specs.Prelude.{◌≡◌};
+    ghost use Rattle.opentelemetry.specs.Plain.{PlainScope};
+    ghost use Rattle.opentelemetry.specs.PlainContexts.{root_cx};
+
+    ghost Value = { PlainScope };
+
+    ghost view = { λ tracer. tracer.scope };
+
+    ghost invariant = { λ tracer. tracer.root ≡ root_cx };
+}
+
+impl SdkTracer {
+    pub(crate) fn new(scope: InstrumentationScope) -> SdkTracer
+        ensures { result ≡ scope }
+    {
+        SdkTracer {
+            scope,
+            root: Context::new(),
+        }
+    }
+
+    /// A builder of a span of this name, to be filled and handed to `build_with_context`.
+    pub fn span_builder(&self, name: String) -> SpanBuilder
+        ensures { result ≡ named_builder (string_bytes name) }
+    {
+        SpanBuilder::from_name(name)
+    }
+
+    /// Starts a root span at this moment: in a context where no span is active and nothing is suppressed. All else is
+    /// as with `build_with_context`.
+    pub fn start<P: SpanProcessor, S: ShouldSample, G: IdGenerator>(
+        &self,
+        name: String,
+        provider: &mut ProviderOf<P, S, G>,
+        now: Moment,
+    ) -> Result<Span, AllocError>
+        ensures ok { IfOk result (λ span. (history : SpanHistory) × (span ≡ span_of history)
+            × Starts P.SpanProcessor S.ShouldSample G.IdGenerator
+            provider.old self.now (named_builder (string_bytes name)) root_cx now.0 history provider.new) }
+        ensures told { map P.told provider.new.processors ≡ map P.told provider.old.processors }
+        ensures rest { provider.new ≡ record provider.old {
+          processors = provider.new.processors;
+          id_generator = provider.new.id_generator;
+        } }
+        ensures err { OnErr result
+            (OnlyDraws S.ShouldSample G.IdGenerator provider.old (named_builder (string_bytes name)) root_cx
+            provider.new) }
+        ensures shut { IsTrue provider.old.is_shut → IsOk result }
+
+        // A span that is dropped takes no memory.
+        ensures dropped { Drops S.ShouldSample provider.old (named_builder (string_bytes name)) root_cx
+            → IsOk result }
+    {
+        self.build_with_context(self.span_builder(name), &self.root, provider, now)
+    }
+
+    /// Starts a span of this name in a context, as `build_with_context` does.
+    pub fn start_with_context<P: SpanProcessor, S: ShouldSample, G: IdGenerator>(
+        &self,
+        name: String,
+        cx: &Context,
+        provider: &mut ProviderOf<P, S, G>,
+        now: Moment,
+    ) -> Result<Span, AllocError>
+        ensures ok { IfOk result (λ span. (history : SpanHistory) × (span ≡ span_of history)
+            × Starts P.SpanProcessor S.ShouldSample G.IdGenerator
+            provider.old self.now (named_builder (string_bytes name)) cx.now now.0 history provider.new) }
+        ensures told { map P.told provider.new.processors ≡ map P.told provider.old.processors }
+        ensures rest { provider.new ≡ record provider.old {
+          processors = provider.new.processors;
+          id_generator = provider.new.id_generator;
+        } }
+        ensures err { OnErr result
+            (OnlyDraws S.ShouldSample G.IdGenerator provider.old (named_builder (string_bytes name)) cx.now
+            provider.new) }
+        ensures shut { IsTrue (provider.old.is_shut || cx.now.telemetry_suppressed) → IsOk result }
+
+        // A span that is dropped takes no memory.
+        ensures dropped { Drops S.ShouldSample provider.old (named_builder (string_bytes name)) cx.now → IsOk result }
+    {
+        self.build_with_context(self.span_builder(name), cx, provider, now)
+    }
+
+    /// Starts a span in a context, as a child of the one that is active there. The provider decides alone: where it is
+    /// shut, or telemetry is suppressed in the context, the span does not record and has the empty span context. Else
+    /// its sampler is asked, and each processor is told of a span that records. What the builder leaves open the tracer
+    /// fills in: the kind is internal, and the span starts now (nanoseconds since 1970). Lists are cut at the
+    /// provider's limits. On an error no processor was asked, but ids may have been drawn (OpenTelemetry specification,
+    /// "Span Creation").
+    pub fn build_with_context<P: SpanProcessor, S: ShouldSample, G: IdGenerator>(
+        &self,
+        builder: SpanBuilder,
+        cx: &Context,
+        provider: &mut ProviderOf<P, S, G>,
+        now: Moment,
+    ) -> Result<Span, AllocError>
+        ensures ok { IfOk result (λ span. (history : SpanHistory) × (span ≡ span_of history)
+            × Starts P.SpanProcessor S.ShouldSample G.IdGenerator
+            provider.old self.now builder cx.now now.0 history provider.new) }
+        ensures told { map P.told provider.new.processors ≡ map P.told provider.old.processors }
+        ensures rest { provider.new ≡ record provider.old {
+          processors = provider.new.processors;
+          id_generator = provider.new.id_generator;
+        } }
+        ensures err { OnErr result
+            (OnlyDraws S.ShouldSample G.IdGenerator provider.old builder cx.now provider.new) }
+        ensures shut { IsTrue (provider.old.is_shut || cx.now.telemetry_suppressed) → IsOk result }
+
+        // A span that is dropped takes no memory.
+        ensures dropped { Drops S.ShouldSample provider.old builder cx.now → IsOk result }
+    {
+        let span_limits = provider.span_limits();
+        if starts_nothing(provider, cx) {
+            return Ok(Span::not_recording(SpanContext::empty_context(), span_limits));
+        }
+        let (trace_id, span_id) = provider.draw_ids(cx);
+        let SamplingResult {
+            decision,
+            attributes,
+            trace_state,
+        } = ask(provider.sampler(), cx, trace_id, &builder)?;
+        let parent = cx.span_context();
+        let flags = start_flags(parent, decision);
+        let span_context = SpanContext::new(trace_id, span_id, flags, false, trace_state);
+        if let SamplingDecision::Drop = decision {
+            return Ok(Span::not_recording(span_context, span_limits));
+        }
+        let alloc = provider.allocator();
+        let mut started = begin(
+            alloc,
+            &self.scope,
+            builder,
+            parent,
+            attributes,
+            span_context,
+            now,
+            span_limits,
+        );
+        if let Ok(span) = &mut started {
+            provider.tell_start(span, cx);
+        }
+        started
+    }
+}
+
+impl Clone for SdkTracer {
+    ghost use Rattle.std.specs.Prelude.{◌≡◌};
+
+    ghost is_clone = { λ tracer copy. copy ≡ tracer };
+
+    /// Both share the scope.
+    fn clone(&self) -> Result<SdkTracer, AllocError> {
+        Ok(SdkTracer::new(self.scope.clone()?))
+    }
+}
+
+/// Whether a start makes a span that records nothing, and asks nobody.
+fn starts_nothing<P, S, G>(provider: &ProviderOf<P, S, G>, cx: &Context) -> bool
+    ensures { result ≡ (provider.now.is_shut || cx.now.telemetry_suppressed) }
+{
+    provider.is_shut() || cx.is_telemetry_suppressed()
+}
+
+/// What the sampler answers to a span that is to start in a context.
+fn ask<S: ShouldSample>(
+    sampler: &S,
+    cx: &Context,
+    trace_id: TraceId,
+    builder: &SpanBuilder,
+) -> Result<SamplingResult, AllocError>
+    ensures answers { IfOk result (λ given.
+        given ≡ S.answer sampler.now (start_question cx.now trace_id builder.now)) }
+    ensures free { S.is_infallible sampler.now (start_question cx.now trace_id builder.now) → IsOk result }
+{
+    sampler.should_sample(
+        Some(cx),
+        trace_id,
+        builder.name.as_str(),
+        &builder.span_kind.unwrap_or(SpanKind::Internal),
+        items_of(&builder.attributes),
+        items_of(&builder.links),
+    )
+}
+
+/// The items of a list, where there is one.
+fn items_of<T>(list: &Option<Vec<T>>) -> &[T]
+    ensures { result.now ≡ unwrap_or (option_map (λ items. items.items) list.now) [] }
+{
+    match list {
+        Some(items) => items,
+        None => &[],
+    }
+}
+
+/// The flags of a new span by the sampler's decision.
+fn start_flags(parent: &SpanContext, decision: SamplingDecision) -> TraceFlags
+    ensures { result ≡ start_flags parent.now decision }
+{
+    match decision {
+        SamplingDecision::Drop => TraceFlags::default(),
+        SamplingDecision::RecordOnly => parent.trace_flags().with_sampled(false),
+        SamplingDecision::RecordAndSample => parent.trace_flags().with_sampled(true),
+    }
+}
+
+/// The span that records what its builder, the sampler and the tracer give it.
+fn begin(
+    alloc: Global,
+    scope: &InstrumentationScope,
+    builder: SpanBuilder,
+    parent: &SpanContext,
+    added: Option<Vec<KeyValue>>,
+    span_context: SpanContext,
+    now: Moment,
+    span_limits: SpanLimits,
+) -> Result<Span, AllocError>
+    ensures { IfOk result (λ span. span ≡ recording
+        (start_of scope.now builder parent.now now.0 span_limits span_context (added_attributes added)) []) }
+{
+    let SpanBuilder {
+        name,
+        span_kind,
+        start_time,
+        attributes,
+        events,
+        links,
+    } = builder;
+    let (attributes, dropped_attributes_count) = attributes_within(
+        alloc,
+        attributes,
+        added,
+        span_limits.max_attributes_per_span,
+    )?;
+    let instrumentation_scope = scope.clone()?;
+    let recorded_context = span_context.clone()?;
+    let start_time = start_time.unwrap_or(now);
+    let recorded = SpanData {
+        span_context: recorded_context,
+        parent_span_id: parent.span_id(),
+        parent_span_is_remote: parent.is_valid() && parent.is_remote(),
+        span_kind: span_kind.unwrap_or(SpanKind::Internal),
+        name,
+        start_time,
+        end_time: start_time,
+        attributes,
+        dropped_attributes_count,
+        events: events_within(alloc, events, span_limits),
+        links: links_within(alloc, links, span_limits),
+        status: Status::Unset,
+        instrumentation_scope,
+    };
+    Ok(Span::recording(span_context, recorded, span_limits))
+}

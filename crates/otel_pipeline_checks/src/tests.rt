@@ -1,0 +1,8 @@
+//! Tests of `otel_pipeline`. They call a provider by small functions without clauses, most of them in `fixtures`, so that
+//! the proof of a test carries no facts of the pipeline.
+
+mod fixtures;
+mod processors;
+mod refused_memory;
+mod simple_span_processor;
+mod starts;

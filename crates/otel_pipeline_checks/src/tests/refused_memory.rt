@@ -1,0 +1,257 @@
+//! What a call that finds no memory leaves behind, and that the same call succeeds when it is made again. A sampler
+//! that refuses shows it of starts. Edits, ends, and starts whose builder and sampler both bring attributes want memory
+//! of the machine alone, which an ordinary run has: `rt try --test --fail-alloc N` has the Nth allocation refused.
+
+use super::fixtures::{
+    Asked, TestProvider, TestSampler, answer_of, attribute_of, close, exporting, provider_of,
+    recorded, recorded_keys, start_in, writers,
+};
+use opentelemetry::trace::SpanContext;
+use opentelemetry::{Context, Moment, SpanId};
+use otel_base::trace::{RandomIdGenerator, SamplerOf, SamplingDecision, ShouldSample};
+use otel_export::trace::{InMemorySpanExporter, SpanData};
+use otel_pipeline::trace::{ProcessorOf, ProviderOf, Span, SpanProcessor};
+use std::alloc::{AllocError, Global};
+use std::cell::Cell;
+use std::rc::Rc;
+use std::test::Fail;
+
+/// A sampler that samples every span with so many attributes; one that refuses, all but the first.
+fn sampling(
+    alloc: Global,
+    asked: &Rc<Cell<u64>>,
+    marks: usize,
+    refuses: bool,
+) -> Result<TestSampler, AllocError> {
+    Ok(SamplerOf::Custom(Asked {
+        asked: asked.clone()?,
+        answer: answer_of(alloc, SamplingDecision::RecordAndSample, marks)?,
+        refuses,
+    }))
+}
+
+/// The id of a span that is started and abandoned.
+fn started<P: SpanProcessor, S: ShouldSample>(
+    alloc: Global,
+    provider: &mut ProviderOf<P, S, RandomIdGenerator>,
+) -> Result<SpanId, AllocError> {
+    let span = start_in(alloc, &Context::new(), 0, provider)?;
+    let span_id = span.span_context().span_id();
+    span.abandon();
+    Ok(span_id)
+}
+
+/// The second span id under seed 0, where a trace id is drawn between the two.
+const SECOND_SPAN_ID: u64 = 0x02ee_bf8c_3bbe_5e1a;
+
+#[test]
+fn a_refused_start_tells_no_processor_and_succeeds_again(rt: HostRuntime) -> Result<(), Fail> {
+    let alloc = rt.alloc();
+    let asked = Rc::new(alloc, Cell::new(0))?;
+    let board = Rc::new(alloc, Cell::new(0))?;
+    let processors = writers(alloc, &board, &[false, false, false])?;
+    let mut provider = provider_of(alloc, processors, sampling(alloc, &asked, 0, true)?);
+    let refused = started(alloc, &mut provider);
+    let told = board.get();
+    let again = started(alloc, &mut provider);
+    let told_again = board.get();
+    let closed = close(provider);
+    assert!(rt; refused.is_err());
+    assert_eq!(rt; told, 0);
+    assert_eq!(rt; again, Ok(SpanId::from(SECOND_SPAN_ID)));
+    assert_eq!(rt; told_again, 123);
+    assert!(rt; closed.is_ok());
+    Ok(())
+}
+
+/// Starts a span of a builder that has an attribute. The answer is what then stands on the board, and the keys that the
+/// span recorded, where it started.
+fn start_keys<P: SpanProcessor, S: ShouldSample>(
+    alloc: Global,
+    provider: &mut ProviderOf<P, S, RandomIdGenerator>,
+    board: &Rc<Cell<u64>>,
+) -> (u64, Option<String>) {
+    let started = start_in(alloc, &Context::new(), 1, provider);
+    let told = board.get();
+    let Ok(span) = started else {
+        return (told, None);
+    };
+    let keys = keys_of(alloc, &span);
+    span.abandon();
+    (told, keys)
+}
+
+/// The keys that a span recorded, also where the first look at them finds no memory.
+fn keys_of(alloc: Global, span: &Span) -> Option<String> {
+    match recorded_keys(alloc, span) {
+        Ok(keys) => Some(keys),
+        Err(_) => recorded_keys(alloc, span).ok(),
+    }
+}
+
+#[test]
+fn a_refused_start_of_a_list_that_grows_tells_no_processor_and_succeeds_again(
+    rt: HostRuntime,
+) -> Result<(), Fail> {
+    let alloc = rt.alloc();
+    let asked = Rc::new(alloc, Cell::new(0))?;
+    let board = Rc::new(alloc, Cell::new(0))?;
+    let processors = writers(alloc, &board, &[false, false, false])?;
+    let mut provider = provider_of(alloc, processors, sampling(alloc, &asked, 1, false)?);
+    let mut started = start_keys(alloc, &mut provider, &board);
+    let mut told_in_vain = 0;
+    if started.1.is_none() {
+        told_in_vain = started.0;
+        started = start_keys(alloc, &mut provider, &board);
+    }
+    let closed = close(provider);
+    let (told, keys) = started;
+    assert_eq!(rt; told_in_vain, 0);
+    assert_eq!(rt; told, 123);
+    assert_eq!(rt; keys.ok_or(AllocError)?.as_str(), "given,marked,");
+    assert!(rt; closed.is_ok());
+    Ok(())
+}
+
+/// An edit of a kind that wants memory, by its own call.
+#[derive(Clone, Copy)]
+enum Kind {
+    Attribute,
+    Event,
+    Link,
+}
+
+fn edit(alloc: Global, span: &mut Span, kind: Kind) -> Result<(), AllocError> {
+    match kind {
+        Kind::Attribute => span.set_attribute(attribute_of("k")),
+        Kind::Event => {
+            span.add_event_with_timestamp(String::new(alloc), Moment(8), Vec::new(alloc))
+        }
+        Kind::Link => span.add_link(SpanContext::empty_context(), Vec::new(alloc)),
+    }
+}
+
+/// Makes an edit, and makes it again where it was refused. The answer is whether the span was then as before, and the
+/// second time succeeded.
+fn edit_again(alloc: Global, span: &mut Span, kind: Kind) -> bool {
+    let before = recorded(span);
+    if edit(alloc, span, kind).is_ok() {
+        return true;
+    }
+    before == recorded(span) && edit(alloc, span, kind).is_ok()
+}
+
+/// The same of each edit.
+fn edit_all(alloc: Global, span: &mut Span) -> bool {
+    let mut holds = true;
+    for kind in [Kind::Attribute, Kind::Event, Kind::Link] {
+        holds = edit_again(alloc, span, kind) && holds;
+    }
+    holds
+}
+
+/// Finishes a span; it comes back where that found no memory.
+fn finish<P: SpanProcessor, S: ShouldSample>(
+    span: Span,
+    provider: &mut ProviderOf<P, S, RandomIdGenerator>,
+) -> Result<u64, Span> {
+    match span.finish(provider, Moment(9)) {
+        Ok(refused) => Ok(refused as u64),
+        Err((span, _)) => Err(span),
+    }
+}
+
+/// Finishes a span, and finishes it again where it came back, which it must do as it was. The answer is how many
+/// processors refused it.
+fn finish_again<P: SpanProcessor, S: ShouldSample>(
+    span: Span,
+    provider: &mut ProviderOf<P, S, RandomIdGenerator>,
+) -> Option<u64> {
+    let before = recorded(&span);
+    let span = match finish(span, provider) {
+        Ok(refused) => return Some(refused),
+        Err(span) => span,
+    };
+    let holds = before == recorded(&span);
+    match finish(span, provider) {
+        Ok(refused) if holds => Some(refused),
+        Ok(_) => None,
+        Err(span) => {
+            span.abandon();
+            None
+        }
+    }
+}
+
+/// Starts a span, edits it in each way, and finishes it: whether each edit did what it must, and how many processors
+/// refused the span.
+fn edit_and_finish<P: SpanProcessor, S: ShouldSample>(
+    alloc: Global,
+    provider: &mut ProviderOf<P, S, RandomIdGenerator>,
+) -> Result<(bool, Option<u64>), AllocError> {
+    let mut span = start_in(alloc, &Context::new(), 0, provider)?;
+    let edited = edit_all(alloc, &mut span);
+    Ok((edited, finish_again(span, provider)))
+}
+
+/// How many batches the processors of a provider handed to their exporters, which kept or lost them.
+fn handed_on(provider: &TestProvider) -> u64 {
+    let mut count = 0u64;
+    for processor in provider.processors() {
+        if let ProcessorOf::Simple(simple) = processor {
+            count = count.saturating_add(heard(simple.exporter()));
+        }
+    }
+    count
+}
+
+fn heard(exporter: &InMemorySpanExporter) -> u64 {
+    let kept = exporter.batches().len() as u64;
+    kept.saturating_add(exporter.lost_batches())
+}
+
+/// Whether each batch that was kept is of one span with each edit.
+fn keeps_edits(provider: &TestProvider) -> bool {
+    let mut holds = true;
+    for processor in provider.processors() {
+        if let ProcessorOf::Simple(simple) = processor {
+            holds = are_edited(simple.exporter().batches()) && holds;
+        }
+    }
+    holds
+}
+
+fn are_edited(batches: &[Vec<SpanData>]) -> bool {
+    for batch in batches {
+        if !is_edited(batch) {
+            return false;
+        }
+    }
+    true
+}
+
+fn is_edited(batch: &[SpanData]) -> bool {
+    match batch {
+        [span] => {
+            let (events, links) = (span.events.as_slice().len(), span.links.as_slice().len());
+            [span.attributes.len(), events, links] == [1, 1, 1]
+        }
+        _ => false,
+    }
+}
+
+#[test]
+fn refused_edits_and_ends_change_nothing_and_succeed_again(rt: HostRuntime) -> Result<(), Fail> {
+    let alloc = rt.alloc();
+    let processors = vec![in alloc; exporting(alloc), exporting(alloc)]?;
+    let mut provider = provider_of(alloc, processors, TestSampler::AlwaysOn);
+    let outcome = edit_and_finish(alloc, &mut provider);
+    let (exported, holds) = (handed_on(&provider), keeps_edits(&provider));
+    let closed = close(provider);
+    let (edited, refused) = outcome?;
+    assert!(rt; edited);
+    assert!(rt; holds);
+    assert_eq!(rt; refused, Some(2u64.saturating_sub(exported)));
+    assert!(rt; closed.is_ok());
+    Ok(())
+}

@@ -1,0 +1,120 @@
+-- What the program does with its arguments and its three streams. Of the bytes of a stream it speaks where the stream
+-- tells them.
+use Rattle.std.specs.Prelude.{◌≡◌, ℕ, false, List, [], ◌∷◌, ◌++◌, Option, IfSome, codes}
+use Rattle.std.specs.Fmt.{decimal}
+use Rattle.std.specs.Io.KnownBytes.{Appends, IsAtEnd}
+use Rattle.rand_xoshiro.specs.SplitMix64.{splitmix_seed}
+use Rattle.rand_xoshiro.specs.Xoshiro256.{of_seed}
+use Rattle.otel_base.specs.Limits.{default_limits}
+use Rattle.otel_base.specs.Sampler.{plan, always_on, parent_based}
+use Rattle.otel_base.specs.declared.trace.sampler.SamplerOf.{SamplerOf}
+use Rattle.otel_base.specs.declared.trace.sampler.ShouldSample as sampling
+use Rattle.otel_base.specs.declared.trace.id_generator.IdGenerator as drawing
+use Rattle.otel_batch.specs.MachineState.{Machine}
+use Rattle.otel_export.specs.StoredBatches.{StoredBatches}
+use Rattle.otel_export.specs.declared.trace.exporter_box.ExporterOf.{ExporterOf}
+use Rattle.otel_export.specs.declared.trace.exporter_box.ExporterOf.TheVariants as exporters
+use Rattle.otel_pipeline.specs.Provider.{ProviderState}
+use Rattle.otel_pipeline.specs.SimpleProcessor.{SimpleProcessor}
+use Rattle.otel_pipeline.specs.declared.trace.processor.ProcessorOf.{ProcessorOf}
+use Rattle.otel_pipeline.specs.declared.trace.processor.ProcessorOf.TheVariants as kinds
+use Rattle.otel_pipeline.specs.declared.trace.span_processor.SpanProcessor.{Ghosts}
+use Rattle.otel_session.specs.declared.exported.KeepsBatches as keeping
+use Rattle.otel_session.specs.KeptBatches.{exporter_keeps, exporter_loses, processor_keeps, processor_loses}
+use Rattle.otel_lines.specs.Lines.{IsMoment}
+use Rattle.otel_session.specs.SessionDelivery.{Finishes, session_under}
+use Rattle.otel_steps.specs.StepAnswers.{AnswersLines, machine_of}
+use Rattle.otel_steps.specs.declared.steps.Sizes.{Sizes}
+
+-- the words `trace SEED simple`, where the seed is written as a moment is: in decimal digits alone, in range of 64 bits
+abbrev pub AsksFor : List (List ℕ) → ℕ → Type 0
+AsksFor words seed = (digits : List ℕ) × IsMoment digits seed × (words ≡ codes "trace" ∷ digits ∷ codes "simple" ∷ [])
+
+-- words that are no such ones
+abbrev pub AsksForNoTrace : List (List ℕ) → Type 0
+AsksForNoTrace words = (seed : ℕ) → AsksFor words seed → ⊥
+
+-- three numbers write these sizes
+abbrev pub WriteSizes : List ℕ → List ℕ → List ℕ → Sizes → Type 0
+WriteSizes queue batch producers sizes =
+    IsMoment queue sizes.queue × IsMoment batch sizes.batch × IsMoment producers sizes.producers
+
+-- the words `steps Q B P`, where the sizes are written as a moment is
+pub record AsksForSteps (words : List (List ℕ)) (sizes : Sizes) : Type 0 where
+  pub queue : List ℕ
+  pub batch : List ℕ
+  pub producers : List ℕ
+  pub written : WriteSizes queue batch producers sizes
+  pub words_are : words ≡ codes "steps" ∷ queue ∷ batch ∷ producers ∷ []
+
+-- words of neither kind
+abbrev pub AsksForNothing : List (List ℕ) → Type 0
+AsksForNothing words = AsksForNoTrace words × ((sizes : Sizes) → AsksForSteps words sizes → ⊥)
+
+-- what is said of wrong words
+abbrev pub usage_text : List ℕ
+usage_text = codes "usage: otel_trace trace SEED simple | trace SEED batch Q B | steps Q B P" ++ 10 ∷ []
+
+-- what is said of a bad line
+abbrev pub bad_line_text : ℕ → List ℕ
+bad_line_text line = codes "line " ++ (decimal line ++ (codes ": cannot read" ++ 10 ∷ []))
+
+-- what the program's processors are: a simple one that exports into memory, or one of any other kind
+abbrev pub MemoryProcessor : Type 0 → Type 0 → Type 0
+MemoryProcessor C D = ProcessorOf (SimpleProcessor (ExporterOf StoredBatches C)) D
+
+-- the provider of a seed: a root is sampled, and a child as its parent is; each span is kept within the limits that
+-- nobody chose, and the one processor exports each into memory as it ends
+pub record IsProviderOfSeed {C D E : Type 0} (seed : ℕ)
+    (provider : ProviderState (MemoryProcessor C D) (SamplerOf E) (List ℕ)) : Type 0 where
+  pub processors : provider.processors ≡ kinds.Simple (record {
+    exporter = exporters.Memory (record { batches = []; lost = 0 });
+    is_shut = false;
+  }) ∷ []
+  pub sampler : plan provider.sampler ≡ parent_based always_on
+  pub id_generator : provider.id_generator ≡ of_seed (splitmix_seed 32 seed)
+  pub span_limits : provider.span_limits ≡ default_limits
+  pub is_open : provider.is_shut ≡ false
+
+-- what a processor in the place of that one keeps: the batches of its exporter in memory
+abbrev pub memory_batches : {C D : Type 0} → keeping.Ghosts (MemoryProcessor C D)
+memory_batches = record {
+  kept = processor_keeps (λ simple. exporter_keeps simple.exporter);
+  lost = processor_loses (λ simple. exporter_loses simple.exporter);
+}
+
+-- the whole of a stream's bytes, behind which the stream is at its end
+abbrev pub ReadsWhole : Option (List ℕ) → Option (List ℕ) → List ℕ → Type 0
+ReadsWhole before after bytes = IfSome before (λ all. bytes ≡ all) × IsAtEnd after
+
+module _ {P S G : Type 0} (calls : Ghosts P) (keeps : keeping.Ghosts P) (sampler : sampling.Ghosts S)
+    (ids : drawing.Ghosts G) where
+  -- a writer was given what a session under a provider writes for an input, whole or up to its first bad line, and
+  -- when it closes, and nothing else
+  abbrev pub WritesText : ProviderState P S G → List ℕ → Option ℕ → Option (List ℕ) → Option (List ℕ) → Type 0
+  WritesText provider input bad_line before after = (text : List ℕ)
+      × Finishes calls keeps sampler ids (session_under keeps provider) input bad_line text × Appends before after text
+
+  -- the whole input was read, and the output was given what a session under a provider writes for it
+  abbrev pub TracesWhole : ProviderState P S G → Option (List ℕ) → Option (List ℕ) → Option ℕ
+      → Option (List ℕ) → Option (List ℕ) → Type 0
+  TracesWhole provider input input_after bad_line output output_after = (bytes : List ℕ)
+      × ReadsWhole input input_after bytes × WritesText provider bytes bad_line output output_after
+
+-- the same under the provider of a seed
+abbrev pub TracesSeed : {C D E : Type 0} → Ghosts (MemoryProcessor C D) → sampling.Ghosts (SamplerOf E)
+    → drawing.Ghosts (List ℕ) → ℕ → Option (List ℕ) → Option (List ℕ) → Option ℕ
+    → Option (List ℕ) → Option (List ℕ) → Type 0
+TracesSeed {C} {D} {E} calls sampler ids seed input input_after bad_line output output_after =
+    (provider : ProviderState (MemoryProcessor C D) (SamplerOf E) (List ℕ)) × IsProviderOfSeed seed provider
+    × TracesWhole calls memory_batches sampler ids provider input input_after bad_line output output_after
+
+-- the whole input was read, and the output was given what answers its lines, as they step a new batch queue
+pub record StepsSized (sizes : Sizes) (input input_after : Option (List ℕ)) (bad_line : Option ℕ)
+    (output output_after : Option (List ℕ)) : Type 0 where
+  pub bytes : List ℕ
+  pub answers : List ℕ
+  pub after : Machine StoredBatches
+  pub read : ReadsWhole input input_after bytes
+  pub answered : AnswersLines (machine_of sizes) bytes bad_line answers after
+  pub written : Appends output output_after answers

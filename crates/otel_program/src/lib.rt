@@ -1,0 +1,6 @@
+//! `run_program` is all of the program `otel_trace` but the words and streams that it is given.
+#![tactic(auto)]
+
+pub mod program;
+
+pub use program::run_program;

@@ -1,0 +1,440 @@
+//! What the program does with its arguments and its three streams. It reads the whole input, feeds it to one session
+//! and closes that, or has its lines step one batch queue, and then writes the output and behind it what was wrong.
+
+ghost use Rattle.std.specs.Prelude.{◌≡◌, ◌≢◌, ◌⊎◌, ◌≤◌, ℕ, List, Some, None, IfOk, IfSome, OnOk, MatchOption, false, true, map, string_bytes};
+ghost use Rattle.std.specs.Io.KnownBytes.{Appends, IsAtEnd};
+ghost use Rattle.otel_batch.specs.MachineState.{Machine};
+ghost use Rattle.otel_export.specs.StoredBatches.{StoredBatches};
+ghost use Rattle.otel_session.specs.SessionDelivery.{Finishes, session_under};
+ghost use Rattle.otel_program.specs.Program.{AsksFor, AsksForNoTrace, AsksForNothing, AsksForSteps, IsProviderOfSeed, StepsSized, TracesSeed, TracesWhole, WriteSizes, WritesText, bad_line_text, usage_text};
+ghost use Rattle.otel_steps.specs.StepAnswers.{AnswersLines, machine_of};
+
+use opentelemetry::trace::{Link, SpanKind, TraceState};
+use opentelemetry::{Context, KeyValue, TraceId};
+use otel_base::error::OTelSdkResult;
+use otel_base::resource::Resource;
+use otel_base::trace::{
+    ConfigOf, IdGenerator, RandomIdGenerator, SamplerOf, SamplingDecision, SamplingResult,
+    ShouldSample, SpanLimits,
+};
+use otel_export::trace::{ExporterOf, InMemorySpanExporter, SpanData, SpanExporter};
+use otel_lines::lines::number_of;
+use otel_pipeline::trace::{ProcessorOf, ProviderOf, SimpleSpanProcessor, SpanProcessor};
+use otel_session::exported::KeepsBatches;
+use otel_session::{FeedError, Session};
+use otel_steps::{Sizes, answer_lines, machine_sized};
+use std::alloc::{AllocError, Global};
+use std::io;
+use std::io::{Read, Write};
+
+const USAGE: &str = "usage: otel_trace trace SEED simple | trace SEED batch Q B | steps Q B P\n";
+
+/// The exit status where all went well.
+const DONE: u8 = 0;
+
+/// The exit status where reading, writing, closing or memory failed.
+const FAILED: u8 = 1;
+
+/// The exit status of a bad line or of wrong arguments.
+const REFUSED: u8 = 2;
+
+/// What the program's provider holds.
+pub type TraceProcessor = ProcessorOf<
+    SimpleSpanProcessor<ExporterOf<InMemorySpanExporter, NoExporter>>,
+    SimpleSpanProcessor<NoExporter>,
+>;
+
+/// What stands for an exporter of another's own, and behind a processor of another's own, of which the program has
+/// none: it takes each batch and forgets it.
+#[derive(Drop)]
+pub struct NoExporter;
+
+impl SpanExporter for NoExporter {
+    ghost told = { λ _. None };
+
+    fn export(&mut self, _batch: Vec<SpanData>) -> OTelSdkResult {
+        Ok(())
+    }
+}
+
+/// What stands for a sampler of another's own, of which the program has none: it drops every span.
+#[derive(Drop)]
+pub struct NoSampler;
+
+impl ShouldSample for NoSampler {
+    ghost use Rattle.std.specs.Prelude.{[]};
+    ghost use Rattle.otel_base.specs.declared.trace.sampler.SamplingDecision.TheVariants as decisions;
+
+    ghost answer = { λ _ _. record { decision = decisions.Drop; attributes = []; trace_state = [] } };
+
+    fn should_sample(
+        &self,
+        _parent_context: Option<&Context>,
+        _trace_id: TraceId,
+        _name: &str,
+        _span_kind: &SpanKind,
+        _attributes: &[KeyValue],
+        _links: &[Link],
+    ) -> Result<SamplingResult, AllocError> {
+        Ok(SamplingResult {
+            decision: SamplingDecision::Drop,
+            attributes: None,
+            trace_state: TraceState::new(),
+        })
+    }
+}
+
+/// What the program's provider asks about each span.
+pub type TraceSampler = SamplerOf<NoSampler>;
+
+/// The program's provider.
+type TraceProvider = ProviderOf<TraceProcessor, TraceSampler, RandomIdGenerator>;
+
+/// How a session or a batch queue over the whole input ended.
+#[derive(Debug, Drop)]
+struct ProgramOutput {
+    /// The texts of the replies and the lines of closing, or the answers to steps.
+    text: Vec<u8>,
+    /// The first bad line.
+    bad_line: Option<u64>,
+    /// Memory was missing, or the session closed with an error.
+    has_failed: bool,
+}
+
+/// Runs the program over any reader and writers, and answers its exit status: 0 at the end of the input; 2 for a bad
+/// line or wrong arguments; 1 where reading, writing or the closing fails or memory is missing, also where 2 would be
+/// due. `words` are the arguments without the program's name; wrong ones are found before anything is read. How far a
+/// run of status 1 came is left open.
+pub fn run_program<R: Read, W: Write, F: Write>(
+    alloc: Global,
+    words: &[String],
+    input: &mut R,
+    output: &mut W,
+    faults: &mut F,
+) -> u8
+    ensures status { result ≤ 2 }
+
+    // Wrong arguments.
+    ensures unread { AsksForNothing (map string_bytes words.now) →
+        (input.new ≡ input.old) × (output.new ≡ output.old) }
+    ensures usage { AsksForNothing (map string_bytes words.now) →
+        (result ≢ 0) × (result ≡ 2 → Appends (F.contents faults.old) (F.contents faults.new) usage_text) }
+
+    // One session over the whole input.
+    ensures done { (seed : ℕ) → AsksFor (map string_bytes words.now) seed → result ≡ 0 →
+        TracesSeed ⟦<TraceProcessor as SpanProcessor>⟧ ⟦<TraceSampler as ShouldSample>⟧
+        ⟦<RandomIdGenerator as IdGenerator>⟧ seed (R.remaining input.old) (R.remaining input.new)
+        None (W.contents output.old) (W.contents output.new)
+        × (faults.new ≡ faults.old) }
+    ensures bad_line { (seed : ℕ) → AsksFor (map string_bytes words.now) seed → result ≡ 2 → (line : ℕ)
+        × TracesSeed ⟦<TraceProcessor as SpanProcessor>⟧ ⟦<TraceSampler as ShouldSample>⟧
+        ⟦<RandomIdGenerator as IdGenerator>⟧ seed (R.remaining input.old) (R.remaining input.new)
+        (Some line) (W.contents output.old) (W.contents output.new)
+        × Appends (F.contents faults.old) (F.contents faults.new) (bad_line_text line) }
+
+    // One batch queue over the whole input.
+    ensures steps_done { (sizes : Sizes) → AsksForSteps (map string_bytes words.now) sizes → result ≡ 0 →
+        StepsSized sizes (R.remaining input.old) (R.remaining input.new)
+        None (W.contents output.old) (W.contents output.new)
+        × (faults.new ≡ faults.old) }
+    ensures steps_bad_line { (sizes : Sizes) → AsksForSteps (map string_bytes words.now) sizes → result ≡ 2
+        → (line : ℕ) × StepsSized sizes (R.remaining input.old) (R.remaining input.new)
+        (Some line) (W.contents output.old) (W.contents output.new)
+        × Appends (F.contents faults.old) (F.contents faults.new) (bad_line_text line) }
+{
+    if let Some(sizes) = sizes_of(words) {
+        return step_input(alloc, sizes, input, output, faults);
+    }
+    match provider_for(alloc, words) {
+        None => refuse(faults, USAGE),
+        Some(Ok(provider)) => trace_input(alloc, provider, input, output, faults),
+        Some(Err(_)) => FAILED,
+    }
+}
+
+/// The provider that the arguments ask for, or that there is no memory for it; none where they ask for nothing.
+fn provider_for(alloc: Global, words: &[String]) -> Option<Result<TraceProvider, AllocError>>
+    ensures { MatchOption result
+        (AsksForNoTrace (map string_bytes words.now))
+        (λ made. (seed : ℕ) × AsksFor (map string_bytes words.now) seed
+        × IfOk made (IsProviderOfSeed seed)) }
+{
+    let seed = seed_of(words)?;
+    Some(provider_of(alloc, seed))
+}
+
+/// The seed of `trace SEED simple`; none where the words are others.
+fn seed_of(words: &[String]) -> Option<u64>
+    ensures { MatchOption result
+        (AsksForNoTrace (map string_bytes words.now))
+        (λ seed. AsksFor (map string_bytes words.now) seed) }
+{
+    match words {
+        [mode, seed, kind] if mode.as_str() == "trace" && kind.as_str() == "simple" => number_of(
+            seed.as_str(),
+        ),
+        _ => None,
+    }
+}
+
+/// The sizes of `steps Q B P`; none where the words are others.
+fn sizes_of(words: &[String]) -> Option<Sizes>
+    ensures { MatchOption result
+        ((sizes : Sizes) → AsksForSteps (map string_bytes words.now) sizes → ⊥)
+        (λ sizes. AsksForSteps (map string_bytes words.now) sizes) }
+{
+    match words {
+        [mode, queue, batch, producers] if mode.as_str() == "steps" => {
+            sizes_in(queue.as_str(), batch.as_str(), producers.as_str())
+        }
+        _ => None,
+    }
+}
+
+/// The sizes that three numbers write; none where one is no number.
+fn sizes_in(queue: &str, batch: &str, producers: &str) -> Option<Sizes>
+    ensures { MatchOption result
+        ((sizes : Sizes) → WriteSizes queue.now batch.now producers.now sizes → ⊥)
+        (λ sizes. WriteSizes queue.now batch.now producers.now sizes) }
+{
+    Some(Sizes {
+        queue: number_of(queue)? as usize,
+        batch: number_of(batch)? as usize,
+        producers: number_of(producers)? as usize,
+    })
+}
+
+/// Answers the whole input by the steps of one batch queue.
+fn step_input<R: Read, W: Write, F: Write>(
+    alloc: Global,
+    sizes: Sizes,
+    input: &mut R,
+    output: &mut W,
+    faults: &mut F,
+) -> u8
+    ensures status { result ≤ 2 }
+    ensures done { result ≡ 0 →
+        StepsSized sizes (R.remaining input.old) (R.remaining input.new)
+        None (W.contents output.old) (W.contents output.new)
+        × (faults.new ≡ faults.old) }
+    ensures bad_line { result ≡ 2 → (line : ℕ)
+        × StepsSized sizes (R.remaining input.old) (R.remaining input.new)
+        (Some line) (W.contents output.old) (W.contents output.new)
+        × Appends (F.contents faults.old) (F.contents faults.new) (bad_line_text line) }
+{
+    let mut bytes = Vec::new(alloc);
+    if input.read_to_end(&mut bytes).is_err() {
+        return FAILED;
+    }
+    let outcome = run_steps(alloc, sizes, &bytes);
+    write_outcome(alloc, outcome, output, faults)
+}
+
+/// One batch queue, stepped by the lines of an input.
+fn run_steps(alloc: Global, sizes: Sizes, input: &[u8]) -> ProgramOutput
+    ensures { result.has_failed ≡ false →
+        (after : Machine StoredBatches)
+        × AnswersLines (machine_of sizes) input.now result.bad_line result.text.items after }
+{
+    let Ok(mut machine) = machine_sized(alloc, sizes) else {
+        return failed(alloc);
+    };
+    let mut text = Vec::new(alloc);
+    match answer_lines(alloc, &mut machine, input, &mut text) {
+        Ok(bad_line) => ProgramOutput {
+            text,
+            bad_line,
+            has_failed: false,
+        },
+        Err(_) => ProgramOutput {
+            text,
+            bad_line: None,
+            has_failed: true,
+        },
+    }
+}
+
+/// Answers the whole input by one session under a provider.
+fn trace_input<P: KeepsBatches, S: ShouldSample, G: IdGenerator, R: Read, W: Write, F: Write>(
+    alloc: Global,
+    provider: ProviderOf<P, S, G>,
+    input: &mut R,
+    output: &mut W,
+    faults: &mut F,
+) -> u8
+    ensures status { result ≤ 2 }
+    ensures done { result ≡ 0 →
+        TracesWhole P.SpanProcessor P.KeepsBatches.own S.ShouldSample G.IdGenerator provider
+        (R.remaining input.old) (R.remaining input.new)
+        None (W.contents output.old) (W.contents output.new)
+        × (faults.new ≡ faults.old) }
+    ensures bad_line { result ≡ 2 → (line : ℕ)
+        × TracesWhole P.SpanProcessor P.KeepsBatches.own S.ShouldSample G.IdGenerator provider
+        (R.remaining input.old) (R.remaining input.new)
+        (Some line) (W.contents output.old) (W.contents output.new)
+        × Appends (F.contents faults.old) (F.contents faults.new) (bad_line_text line) }
+{
+    let mut bytes = Vec::new(alloc);
+    if input.read_to_end(&mut bytes).is_err() {
+        let _ = provider.close();
+        return FAILED;
+    }
+    answer_input(alloc, provider, &bytes, output, faults)
+}
+
+/// Answers an input by one session under a provider.
+fn answer_input<P: KeepsBatches, S: ShouldSample, G: IdGenerator, W: Write, F: Write>(
+    alloc: Global,
+    provider: ProviderOf<P, S, G>,
+    input: &[u8],
+    output: &mut W,
+    faults: &mut F,
+) -> u8
+    ensures status { result ≤ 2 }
+    ensures done { result ≡ 0 →
+        WritesText P.SpanProcessor P.KeepsBatches.own S.ShouldSample G.IdGenerator provider input.now
+        None (W.contents output.old) (W.contents output.new)
+        × (faults.new ≡ faults.old) }
+    ensures bad_line { result ≡ 2 → (line : ℕ)
+        × WritesText P.SpanProcessor P.KeepsBatches.own S.ShouldSample G.IdGenerator provider input.now
+        (Some line) (W.contents output.old) (W.contents output.new)
+        × Appends (F.contents faults.old) (F.contents faults.new) (bad_line_text line) }
+{
+    let outcome = run_session(alloc, provider, input);
+    write_outcome(alloc, outcome, output, faults)
+}
+
+/// Writes what an input came to, and answers the status for it.
+fn write_outcome<W: Write, F: Write>(
+    alloc: Global,
+    outcome: ProgramOutput,
+    output: &mut W,
+    faults: &mut F,
+) -> u8
+    ensures status { result ≤ 2 }
+    ensures done { result ≡ 0 → (outcome.has_failed ≡ false) × (outcome.bad_line ≡ None)
+        × Appends (W.contents output.old) (W.contents output.new) outcome.text.items
+        × (faults.new ≡ faults.old) }
+    ensures bad_line { result ≡ 2 → (outcome.has_failed ≡ false) × ((line : ℕ)
+        × (outcome.bad_line ≡ Some line)
+        × Appends (W.contents output.old) (W.contents output.new) outcome.text.items
+        × Appends (F.contents faults.old) (F.contents faults.new) (bad_line_text line)) }
+{
+    if write_whole(output, &outcome.text).is_err() {
+        return FAILED;
+    }
+    let status = match outcome.bad_line {
+        None => DONE,
+        Some(line) => name_bad_line(alloc, line, faults),
+    };
+    if outcome.has_failed { FAILED } else { status }
+}
+
+/// Writes bytes and sends them on.
+fn write_whole<W: Write>(writer: &mut W, bytes: &[u8]) -> io::Result<()>
+    ensures { OnOk result (Appends (W.contents writer.old) (W.contents writer.new) bytes.now) }
+{
+    writer.write_all(bytes)?;
+    writer.flush()
+}
+
+/// Writes what was wrong, and answers the status for it.
+fn refuse<F: Write>(faults: &mut F, text: &str) -> u8
+    ensures status { (result ≡ 1) ⊎ (result ≡ 2) }
+    ensures written { result ≡ 2 → Appends (F.contents faults.old) (F.contents faults.new) text.now }
+{
+    if write_whole(faults, text.as_bytes()).is_err() {
+        return FAILED;
+    }
+    REFUSED
+}
+
+/// Names a bad line, and answers the status for it.
+fn name_bad_line<F: Write>(alloc: Global, line: u64, faults: &mut F) -> u8
+    ensures status { (result ≡ 1) ⊎ (result ≡ 2) }
+    ensures written { result ≡ 2 → Appends (F.contents faults.old) (F.contents faults.new) (bad_line_text line) }
+{
+    match format!(in alloc; "line {line}: cannot read\n") {
+        Ok(text) => refuse(faults, text.as_str()),
+        Err(_) => FAILED,
+    }
+}
+
+/// One session under a provider.
+fn run_session<P: KeepsBatches, S: ShouldSample, G: IdGenerator>(
+    alloc: Global,
+    provider: ProviderOf<P, S, G>,
+    input: &[u8],
+) -> ProgramOutput
+    ensures { result.has_failed ≡ false →
+        Finishes P.SpanProcessor P.KeepsBatches.own S.ShouldSample G.IdGenerator
+        (session_under P.KeepsBatches.own provider)
+        input.now result.bad_line result.text.items }
+{
+    match Session::new(alloc, provider) {
+        Ok(session) => finish(alloc, session, input),
+        Err((provider, _)) => {
+            let _ = provider.close();
+            failed(alloc)
+        }
+    }
+}
+
+/// What a session or a batch queue that could not be made comes to.
+fn failed(alloc: Global) -> ProgramOutput
+    ensures { result.has_failed ≡ true }
+{
+    ProgramOutput {
+        text: Vec::new(alloc),
+        bad_line: None,
+        has_failed: true,
+    }
+}
+
+/// Feeds the whole input to a session and closes it.
+fn finish<P: KeepsBatches, S: ShouldSample, G: IdGenerator>(
+    alloc: Global,
+    mut session: Session<P, S, G>,
+    input: &[u8],
+) -> ProgramOutput
+    ensures { result.has_failed ≡ false →
+        Finishes P.SpanProcessor P.KeepsBatches.own S.ShouldSample G.IdGenerator
+        session input.now result.bad_line result.text.items }
+{
+    let mut text = Vec::new(alloc);
+    let fed = session.feed(input, &mut text);
+    let has_closed = session.close(&mut text).is_ok();
+    match fed {
+        Ok(()) => ProgramOutput {
+            text,
+            bad_line: None,
+            has_failed: !has_closed,
+        },
+        Err(FeedError::Line(line)) => ProgramOutput {
+            text,
+            bad_line: Some(line),
+            has_failed: !has_closed,
+        },
+        Err(FeedError::Memory) => ProgramOutput {
+            text,
+            bad_line: None,
+            has_failed: true,
+        },
+    }
+}
+
+/// A provider that samples each root, and each child as its parent is, and exports spans at once into memory.
+fn provider_of(alloc: Global, seed: u64) -> Result<TraceProvider, AllocError>
+    ensures { IfOk result (IsProviderOfSeed seed) }
+{
+    let exporter = ExporterOf::Memory(InMemorySpanExporter::new(alloc));
+    let mut processors = Vec::new(alloc);
+    processors.push(ProcessorOf::Simple(SimpleSpanProcessor::new(alloc, exporter)))?;
+    let config = ConfigOf {
+        sampler: SamplerOf::ParentBased(Box::new(alloc, SamplerOf::AlwaysOn)?),
+        id_generator: RandomIdGenerator::new(seed),
+        span_limits: SpanLimits::default(),
+        resource: Resource::builder_empty(alloc).build(),
+    };
+    Ok(ProviderOf::from_parts(processors, config))
+}

@@ -1,0 +1,46 @@
+//! Rows that ask of headers.
+
+mod baggage;
+mod both;
+mod trace;
+
+use crate::fields::Row;
+use opentelemetry::Context;
+use opentelemetry::propagation::{Extractor, Injector, MapCarrier};
+use std::alloc::{AllocError, Global};
+
+/// Answers a row whose word is one of these; false where it is none.
+pub fn answer(alloc: Global, row: &Row, out: &mut String) -> Result<bool, AllocError> {
+    Ok(
+        trace::answer(alloc, row, out)?
+            || baggage::answer(alloc, row, out)?
+            || both::answer(alloc, row, out)?,
+    )
+}
+
+/// Sets a header in a carrier where it is given.
+fn set_given(
+    alloc: Global,
+    carrier: &mut MapCarrier,
+    name: &str,
+    text: Option<&str>,
+) -> Result<(), AllocError> {
+    match text {
+        Some(text) => carrier.set(name, String::from_str(alloc, text)?),
+        None => Ok(()),
+    }
+}
+
+/// The text of a header; `none` where the carrier has none.
+fn text_at<'a>(carrier: &'a MapCarrier, name: &str) -> &'a str {
+    carrier.get(name).unwrap_or("none")
+}
+
+/// Puts out the span of a context; `none` where it has none.
+fn put_active(alloc: Global, cx: &Context, out: &mut String) -> Result<(), AllocError> {
+    if cx.has_active_span() {
+        crate::values::put_span(alloc, cx.span_context(), out)
+    } else {
+        out.push_str("none")
+    }
+}

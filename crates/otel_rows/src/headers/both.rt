@@ -1,0 +1,84 @@
+//! The three headers of the built-in pair of propagators, and the names of each propagator's headers.
+
+use super::trace::context_of;
+use super::{put_active, text_at};
+use crate::fields::Row;
+use crate::values::{baggage_of, put_entries};
+use opentelemetry::Context;
+use opentelemetry::propagation::{FieldIter, MapCarrier, TextMapPropagator};
+use otel_base::propagation::{
+    BaggagePropagator, CompositePropagator, FieldsError, TraceContextPropagator,
+};
+use std::alloc::{AllocError, Global};
+
+/// The pair that is the default.
+type BuiltIn = CompositePropagator<TraceContextPropagator, BaggagePropagator>;
+
+/// Answers a row whose word is one of these; false where it is none.
+pub fn answer(alloc: Global, row: &Row, out: &mut String) -> Result<bool, AllocError> {
+    match row.word.as_str() {
+        "inject-all" => put_injected(&injected(alloc, row)?, out)?,
+        "cross-all" => put_crossed(alloc, row, out)?,
+        "header-names" => put_names(fields_of(row.field(0)), out)?,
+        "header-names-error" => put_error(FieldsError, out)?,
+        _ => return Ok(false),
+    }
+    Ok(true)
+}
+
+/// A context with a span of four fields and the baggage of a fifth.
+fn context_of_both(alloc: Global, row: &Row) -> Result<Context, AllocError> {
+    let cx = context_of(alloc, row)?;
+    cx.with_baggage(baggage_of(alloc, row.field(4))?)
+}
+
+/// What a carrier has of it.
+fn injected(alloc: Global, row: &Row) -> Result<MapCarrier, AllocError> {
+    let cx = context_of_both(alloc, row)?;
+    let mut carrier = MapCarrier::new(alloc);
+    BuiltIn::default().inject_context(alloc, &cx, &mut carrier)?;
+    Ok(carrier)
+}
+
+/// Puts out the three headers, each with a bar behind it.
+fn put_injected(carrier: &MapCarrier, out: &mut String) -> Result<(), AllocError> {
+    let parent = text_at(carrier, "traceparent");
+    let state = text_at(carrier, "tracestate");
+    let baggage = text_at(carrier, "baggage");
+    write!(out, "{parent}|{state}|{baggage}|")
+}
+
+/// What is read of a carrier.
+fn extracted(alloc: Global, carrier: &MapCarrier) -> Result<Context, AllocError> {
+    BuiltIn::default().extract_with_context(alloc, &Context::new(), carrier)
+}
+
+/// Puts out the entries and the span that the other side has.
+fn put_crossed(alloc: Global, row: &Row, out: &mut String) -> Result<(), AllocError> {
+    let found = extracted(alloc, &injected(alloc, row)?)?;
+    put_entries(alloc, found.baggage(), out)?;
+    out.push(' ')?;
+    put_active(alloc, &found, out)
+}
+
+/// The names of the headers of the propagator of a name.
+fn fields_of(name: &str) -> FieldIter {
+    match name {
+        "trace-context" => TraceContextPropagator::new().fields(),
+        "baggage" => BaggagePropagator::new().fields(),
+        _ => BuiltIn::default().fields(),
+    }
+}
+
+/// Puts out names, each with a bar behind it.
+fn put_names(fields: FieldIter, out: &mut String) -> Result<(), AllocError> {
+    for name in fields {
+        write!(out, "{name}|")?;
+    }
+    Ok(())
+}
+
+/// Puts out what an error says.
+fn put_error(error: FieldsError, out: &mut String) -> Result<(), AllocError> {
+    write!(out, "{error}")
+}

@@ -1,0 +1,30 @@
+//! What the SDK's base answers: resources, ratios and samplers, configuration, ids and the texts of errors.
+
+mod batch;
+mod config;
+mod errors;
+mod ids;
+mod resource;
+mod sampling;
+
+use crate::fields::Row;
+use std::alloc::{AllocError, Global};
+
+/// Answers a row whose word is one of these; false where it is none.
+pub fn answer(alloc: Global, row: &Row, out: &mut String) -> Result<bool, AllocError> {
+    Ok(
+        resource::answer(alloc, row, out)?
+            || sampling::answer(alloc, row, out)?
+            || config::answer(alloc, row, out)?
+            || values_answer(alloc, row, out)?,
+    )
+}
+
+/// The same of the words that make a text of numbers and names alone.
+fn values_answer(alloc: Global, row: &Row, out: &mut String) -> Result<bool, AllocError> {
+    Ok(
+        batch::answer(alloc, row, out)?
+            || errors::answer(alloc, row, out)?
+            || ids::answer(row, out)?,
+    )
+}

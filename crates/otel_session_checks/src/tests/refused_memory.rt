@@ -1,0 +1,103 @@
+//! A session where one allocation is refused.
+
+use super::fixtures::*;
+use otel_base::error::OTelSdkError;
+use otel_base::trace::{IdGenerator, ShouldSample};
+use otel_lines::{Answer, Command, Reply, parse};
+use otel_session::Session;
+use otel_session::exported::KeepsBatches;
+use std::alloc::{AllocError, Global};
+use std::test::Fail;
+
+/// What a span, its child and a remote one live through, a command a line.
+const LIVES: [&[u8]; 11] = [
+    b"start s a 1",
+    b"child c s b 2",
+    b"remote r 00-4bf92f3577b34da6a3ce929d0e0e4736-00f067aa0ba902b7-01 w 3",
+    b"attr s k v",
+    b"event s e 4",
+    b"status s error x",
+    b"inject c",
+    b"end c 5",
+    b"end s 6",
+    b"flush",
+    b"shutdown",
+];
+
+/// Lists of one command each.
+fn one_by_one(alloc: Global) -> Result<Vec<Vec<Command>>, AllocError> {
+    let mut lists = Vec::new(alloc);
+    for line in LIVES {
+        lists.push(parse(alloc, line)?.commands)?;
+    }
+    Ok(lists)
+}
+
+/// Runs each list of commands, and runs it again where it found no memory.
+fn run_each<P: KeepsBatches, S: ShouldSample, G: IdGenerator>(
+    session: &mut Session<P, S, G>,
+    first: Vec<Vec<Command>>,
+    again: Vec<Vec<Command>>,
+    replies: &mut Vec<Reply>,
+) -> Result<(), AllocError> {
+    for (commands, again) in first.into_iter().zip(again) {
+        if run(session, commands, replies).is_err() {
+            run(session, again, replies)?;
+        }
+    }
+    Ok(())
+}
+
+/// How many spans the replies show, and how many refusals they count.
+fn shown_or_refused(replies: &[Reply]) -> usize {
+    let mut count = 0usize;
+    for reply in replies {
+        count = count.saturating_add(reply.exported.len());
+        if let Answer::Ended(refused) = reply.answer {
+            count = count.saturating_add(refused);
+        }
+    }
+    count
+}
+
+/// Whether an answer is that of the command of this line, or that of one which was carried out already, and lost its
+/// reply.
+fn answers_line(line: usize, answer: &Answer) -> bool {
+    match line {
+        0..=2 => matches!(answer, Answer::Started(_) | Answer::SpanExists),
+        6 => matches!(answer, Answer::Headers { .. }),
+        7 | 8 => matches!(answer, Answer::Ended(_) | Answer::Ignored),
+        10 => matches!(
+            answer,
+            Answer::Ok | Answer::Failed(OTelSdkError::AlreadyShutdown)
+        ),
+        _ => matches!(answer, Answer::Ok),
+    }
+}
+
+/// What the runs answered, their replies, and how many batches the exporter lost.
+fn lived(alloc: Global) -> Result<(Result<(), AllocError>, Vec<Reply>, u64), AllocError> {
+    let (first, again) = (one_by_one(alloc)?, one_by_one(alloc)?);
+    let mut replies = Vec::new(alloc);
+    let mut session = session_over(alloc, memory_provider(alloc)?)?;
+    let run = run_each(&mut session, first, again, &mut replies);
+    let lost = session.lost_batches();
+    let _ = close(session, &mut Vec::new(alloc));
+    Ok((run, replies, lost))
+}
+
+/// `rt try --test --fail-alloc N` has the Nth allocation refused: then the command that wanted it is run again, and
+/// answers as it would have, or as a second one of its kind does. Each of both ended spans is shown by one reply, or
+/// its batch is counted as refused or lost.
+#[test]
+fn a_run_that_found_no_memory_succeeds_again(rt: HostRuntime) -> Result<(), Fail> {
+    let (run, replies, lost) = lived(rt.alloc())?;
+    assert_eq!(rt; run, Ok(()));
+    assert_eq!(rt; replies.len(), LIVES.len());
+    for (line, reply) in replies.iter().enumerate() {
+        assert!(rt; answers_line(line, &reply.answer));
+    }
+    let shown_or_refused = shown_or_refused(&replies) as u64;
+    assert_eq!(rt; shown_or_refused.saturating_add(lost), 2);
+    Ok(())
+}

@@ -1,0 +1,3 @@
+pub mod StepFields
+pub mod StepFollowing
+pub mod StepTexts

@@ -1,0 +1,3 @@
+pub mod StepAnswers
+pub mod StepLines
+pub mod StepTexts
