@@ -177,6 +177,10 @@ impl Model for TraceFlags {
     ghost inverse = { λ n. record { 0 = n } };
 }
 
+// The sampled bit alone.
+const _: () = prove!(TraceFlags::SAMPLED.0 % 2 == 1);
+const _: () = prove!(TraceFlags::SAMPLED.0 / 2 == 0);
+
 impl TraceFlags {
     /// The flags of a sampled span, the other bits zero.
     pub const SAMPLED: TraceFlags = TraceFlags(1);
