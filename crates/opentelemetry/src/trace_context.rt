@@ -179,6 +179,7 @@ impl Model for TraceFlags {
 
 // The sampled bit alone.
 const _: () = prove!(TraceFlags::SAMPLED.0 % 2 == 1);
+
 const _: () = prove!(TraceFlags::SAMPLED.0 / 2 == 0);
 
 impl TraceFlags {
