@@ -3,14 +3,10 @@
 //! and lines that begin with `#` are printed as they came.
 #![tactic(auto)]
 
-mod fields;
-mod headers;
 mod programs;
-mod sdk;
 mod spans;
-mod values;
 
-use fields::{Row, row_of};
+use otel_value_rows::fields::{Row, row_of};
 use programs::Run;
 use std::alloc::{AllocError, Global};
 use std::io;
@@ -61,9 +57,7 @@ fn answer_line(
 /// Answers a row of one line.
 fn answer_row(alloc: Global, row: &Row, out: &mut Vec<u8>) -> Result<(), AllocError> {
     let mut answer = String::new(alloc);
-    let is_known = values::answer(alloc, row, &mut answer)?
-        || headers::answer(alloc, row, &mut answer)?
-        || sdk::answer(alloc, row, &mut answer)?
+    let is_known = otel_value_rows::answer(alloc, row, &mut answer)?
         || spans::answer(alloc, row, &mut answer)?;
     put_line(
         out,

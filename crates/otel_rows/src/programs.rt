@@ -1,7 +1,7 @@
 //! Runs of the program `otel_trace`.
 
-use crate::fields::{Row, push_bytes, push_time};
 use otel_program::run_program;
+use otel_value_rows::fields::{Row, push_bytes, push_time};
 use std::alloc::{AllocError, Global};
 
 /// A run of the program: its arguments, and its input so far.

@@ -1,7 +1,6 @@
 //! Spans: what one records of its start and its edits, and who a start in a context makes it. A span starts at moment
 //! 7, its events happen at 8, and it ends at 9.
 
-use crate::fields::Row;
 use opentelemetry::propagation::{Extractor, Injector, MapCarrier, TextMapPropagator};
 use opentelemetry::trace::{Event, Link, SpanBuilder, SpanContext, Status};
 use opentelemetry::{Context, Key, KeyValue, Moment, Value};
@@ -12,6 +11,7 @@ use otel_export::trace::{InMemorySpanExporter, SpanData};
 use otel_lines::reply_text::write_batches;
 use otel_pipeline::trace::{ProviderOf, SimpleSpanProcessor, Span, SpanEdit};
 use otel_program::program::{NoSampler, TraceSampler};
+use otel_value_rows::fields::Row;
 use std::alloc::{AllocError, Global};
 use std::fmt::Write;
 
