@@ -10,7 +10,7 @@ use std::alloc::{AllocError, Global};
 pub fn answer(alloc: Global, row: &Row, out: &mut String) -> Result<bool, AllocError> {
     match row.word.as_str() {
         "config-limits" => push_limits(alloc, row, out)?,
-        "config-sampler" => push_sampler(&sampler_of(alloc, row)?, out)?,
+        "config-sampler" => push_configured_sampler(alloc, row, out)?,
         "config-resource" => push_configured_resource(alloc, row, out)?,
         _ => return Ok(false),
     }
@@ -35,14 +35,18 @@ fn push_limits(alloc: Global, row: &Row, out: &mut String) -> Result<(), AllocEr
     Ok(())
 }
 
-/// The sampler of a row whose first fields are its name and its argument.
-pub fn sampler_of(alloc: Global, row: &Row) -> Result<Sampler, AllocError> {
-    let strings = ConfigStrings {
+/// The strings of a row whose first fields are a sampler's name and its argument.
+pub fn sampler_strings(alloc: Global, row: &Row) -> Result<ConfigStrings, AllocError> {
+    Ok(ConfigStrings {
         sampler: row.owned(alloc, 0)?,
         sampler_arg: row.owned(alloc, 1)?,
         ..ConfigStrings::default()
-    };
-    Ok(Config::from_strings(alloc, &strings, 0)?.sampler)
+    })
+}
+
+fn push_configured_sampler(alloc: Global, row: &Row, out: &mut String) -> Result<(), AllocError> {
+    let strings = sampler_strings(alloc, row)?;
+    push_sampler(&Config::from_strings(alloc, &strings, 0)?.sampler, out)
 }
 
 fn push_sampler(sampler: &Sampler, out: &mut String) -> Result<(), AllocError> {

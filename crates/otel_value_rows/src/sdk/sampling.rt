@@ -1,11 +1,11 @@
 //! Ratios, and what samplers decide.
 
-use super::config::sampler_of;
+use super::config::sampler_strings;
 use crate::fields::Row;
 use opentelemetry::trace::{SpanContext, SpanKind, TraceState};
 use opentelemetry::{Context, SpanId, TraceFlags, TraceId};
 use otel_base::trace::{
-    Ratio, RatioError, Sampler, SamplingDecision, SamplingResult, ShouldSample,
+    Config, Ratio, RatioError, Sampler, SamplingDecision, SamplingResult, ShouldSample,
 };
 use std::alloc::{AllocError, Global};
 
@@ -15,8 +15,8 @@ pub fn answer(alloc: Global, row: &Row, out: &mut String) -> Result<bool, AllocE
         "ratio" => push_read_ratio(row, out)?,
         "ratio-of" => push_made_ratio(row, out)?,
         "samples" => push_samples(row, out)?,
-        "sampler" => push_sampled(alloc, row, out)?,
-        "sampler-copy" => push_copy_sampled(alloc, row, out)?,
+        "sampler" => push_sampled(alloc, row, false, out)?,
+        "sampler-copy" => push_sampled(alloc, row, true, out)?,
         _ => return Ok(false),
     }
     Ok(true)
@@ -78,26 +78,26 @@ fn decision_name(decision: SamplingDecision) -> &'static str {
     }
 }
 
-fn push_sampled(alloc: Global, row: &Row, out: &mut String) -> Result<(), AllocError> {
-    let sampler = deep_sampler_of(alloc, row)?;
-    push_answer(alloc, &sampler, row, out)
-}
-
-fn push_copy_sampled(alloc: Global, row: &Row, out: &mut String) -> Result<(), AllocError> {
-    let sampler = deep_sampler_of(alloc, row)?;
+/// What the configured sampler, or a copy of it, answers below as many samplers that decide by the parent as the last
+/// field says.
+fn push_sampled(
+    alloc: Global,
+    row: &Row,
+    is_copied: bool,
+    out: &mut String,
+) -> Result<(), AllocError> {
+    let strings = sampler_strings(alloc, row)?;
+    let mut sampler = Config::from_strings(alloc, &strings, 0)?.sampler;
+    for _ in 0..row.number(4) {
+        sampler = Sampler::ParentBased(Box::new(alloc, sampler)?);
+    }
+    if !is_copied {
+        return push_answer(alloc, &sampler, row, out);
+    }
     match sampler.try_clone()? {
         Some(copy) => push_answer(alloc, &copy, row, out),
         None => out.push_str("no copy"),
     }
-}
-
-/// The configured sampler below as many samplers that decide by the parent as the last field says.
-fn deep_sampler_of(alloc: Global, row: &Row) -> Result<Sampler, AllocError> {
-    let mut sampler = sampler_of(alloc, row)?;
-    for _ in 0..row.number(4) {
-        sampler = Sampler::ParentBased(Box::new(alloc, sampler)?);
-    }
-    Ok(sampler)
 }
 
 /// What a sampler answers: its decision, how many attributes it adds, and the trace state, `-` where that is empty.
