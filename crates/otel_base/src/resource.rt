@@ -136,6 +136,32 @@ impl Resource {
         }
     }
 
+    /// The other resource over this one: where both have a key, the other's value counts. This one keeps what it says,
+    /// so that where both say something it is copied.
+    pub fn merge(&self, alloc: Global, other: Resource) -> Result<Resource, AllocError>
+        ensures ok { IfOk result (λ merged. merged ≡ meaning.merge self.now other) }
+        ensures free { self.now ≡ meaning.empty_resource → IsOk result }
+    {
+        if self.says_nothing() {
+            return Ok(other);
+        }
+        if other.says_nothing() {
+            return self.clone();
+        }
+        let left = self.clone()?.into_parts(alloc)?;
+        let right = other.into_parts(alloc)?;
+        Resource::of_parts(alloc, left.merge(alloc, right)?)
+    }
+
+    fn says_nothing(&self) -> bool
+        ensures { IsTrue result ↔ (self.now ≡ meaning.empty_resource) }
+    {
+        match &self.parts {
+            Some(shared) => shared.says_nothing(),
+            None => true,
+        }
+    }
+
     /// A copy of the key's value. An absent one, a truth and a number need no memory.
     pub fn get(&self, key: &Key) -> Result<Option<Value>, AllocError>
         ensures value { IfOk result (λ found. option_map plain_value found ≡ fin.get self.now.attributes key.now) }
