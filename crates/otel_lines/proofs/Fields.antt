@@ -1,7 +1,7 @@
 -- A text has one first field, so what stands behind it is determined.
 use Rattle.std.proofs.Common.{◌≡◌, ◌≢◌, ℕ, List, [], ◌∷◌, ◌++◌, Option, None, Some, All, IsUtf8, codes, refl, sym, ap, subst, ◌∙◌, arith, rules}
 use Rattle.std.proofs.lemmas.List.Elements.{All-tail, All-from_recursion}
-use Rattle.otel_lines.specs.Commands.{PlainCommand, plain_command, start, child, remote, attr, event, status, inject, end, flush, shutdown}
+use Rattle.otel_lines.specs.Commands.{PlainCommand, plain_command, start, child, remote, attr, event, status, inject, end, flush, run, shutdown}
 use Rattle.opentelemetry.specs.Plain.{PlainStatus, unset, error, ok}
 use Rattle.otel_lines.specs.declared.command.Command.{Command}
 use Rattle.otel_lines.specs.Lines.{IsField, IsStatus, LineForm, field, last_field, time, outcome, rest_of_line, IsOfForm, form_of, LineGives, HasFields, AreFields, IsCommand, FieldsGive, WordGives}
@@ -76,6 +76,10 @@ only_inject fields none _ h = search rules
 pub only_end : (fields : List ℕ) → ((s : List ℕ) (m : ℕ) → IsOfForm fields (field s (time m)) → ⊥) → (command : PlainCommand) → HasFields (codes "end") fields (form_of command) → ⊥
 only_end fields none (end s m) h = none s m h.1
 only_end fields none _ h = search rules
+
+pub only_run : (fields : List ℕ) → ((m : ℕ) → IsOfForm fields (time m) → ⊥) → (command : PlainCommand) → HasFields (codes "run") fields (form_of command) → ⊥
+only_run fields none (run m) h = none m h.1
+only_run fields none _ h = search rules
 
 -- behind the word of a line stand the fields of each command as which it reads
 fields_behind : (line word fields : List ℕ) → IsField word → line ≡ word ++ 32 ∷ fields → (command : PlainCommand) → IsOfForm line (form_of command) → HasFields word fields (form_of command)

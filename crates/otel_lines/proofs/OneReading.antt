@@ -3,7 +3,7 @@ use Rattle.std.proofs.Common.{◌≡◌, ◌≢◌, ℕ, List, [], ◌∷◌, �
 use Rattle.std.specs.Str.Lines.{lines}
 use Rattle.std.specs.Str.Parse.{digits_value}
 use Rattle.opentelemetry.specs.Plain.{PlainStatus, unset, error, ok}
-use Rattle.otel_lines.specs.Commands.{PlainCommand, start, child, remote, attr, event, status, inject, end, flush, shutdown}
+use Rattle.otel_lines.specs.Commands.{PlainCommand, start, child, remote, attr, event, status, inject, end, flush, run, shutdown}
 use Rattle.otel_lines.specs.Lines.{IsMoment, IsStatus, LineForm, field, last_field, time, outcome, rest_of_line, IsOfForm, form_of, Reads, IsBad, Spell, TextSpells}
 use Rattle.otel_lines.proofs.Fields.{same_field, no_last_field}
 
@@ -64,6 +64,8 @@ same_command (end s m) (end s' m') h = cc
 same_command (end s m) _ h = search rules
 same_command flush flush h = refl
 same_command flush _ h = search rules
+same_command (run m) (run m') h = cc
+same_command (run m) _ h = search rules
 same_command shutdown shutdown h = refl
 same_command shutdown _ h = search rules
 

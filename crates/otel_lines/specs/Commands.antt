@@ -25,6 +25,8 @@ pub data PlainCommand : Type 0 where
   end : List ℕ → ℕ → PlainCommand
   -- of the provider, and of no span
   flush : PlainCommand
+  -- the moment that is now
+  run : ℕ → PlainCommand
   shutdown : PlainCommand
 
 -- what a command asks for
@@ -40,6 +42,7 @@ plain_command (commands.Status span how) = status (string_bytes span) (plain_sta
 plain_command (commands.Inject span) = inject (string_bytes span)
 plain_command (commands.End span moment) = end (string_bytes span) moment.0
 plain_command commands.Flush = flush
+plain_command (commands.Run moment) = run moment.0
 plain_command commands.Shutdown = shutdown
 
 -- whether a command may end a span
@@ -53,11 +56,13 @@ is_end (status span how) = false
 is_end (inject span) = false
 is_end (end span moment) = true
 is_end flush = false
+is_end (run moment) = false
 is_end shutdown = false
 
 -- whether a command has the provider hand on what waits, where batches may be lost that no reply tells
 abbrev pub may_lose : PlainCommand → Bool
 may_lose flush = true
+may_lose (run moment) = true
 may_lose shutdown = true
 may_lose _ = false
 

@@ -7,7 +7,7 @@ use Rattle.opentelemetry.specs.declared.trace.status.Status.{Status}
 use Rattle.opentelemetry.specs.Plain.{PlainStatus, unset, error, ok}
 use Rattle.opentelemetry.specs.PlainValues.{plain_status}
 use Rattle.otel_lines.specs.declared.command.Command.{Command}
-use Rattle.otel_lines.specs.Commands.{PlainCommand, start, child, remote, attr, event, status, inject, end, flush, shutdown, plain_command}
+use Rattle.otel_lines.specs.Commands.{PlainCommand, start, child, remote, attr, event, status, inject, end, flush, run, shutdown, plain_command}
 
 -- a field is not empty and has no space in it
 abbrev pub IsField : List ℕ → Type 0
@@ -58,6 +58,7 @@ form_of (status span how) = field (codes "status") (field span (outcome how))
 form_of (inject span) = field (codes "inject") (last_field span)
 form_of (end span moment) = field (codes "end") (field span (time moment))
 form_of flush = last_field (codes "flush")
+form_of (run moment) = field (codes "run") (time moment)
 form_of shutdown = last_field (codes "shutdown")
 
 -- a line reads as a command: it is text of the command's form

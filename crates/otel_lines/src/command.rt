@@ -58,6 +58,10 @@ pub enum Command {
     },
     /// Have each processor of the provider hand on what it holds.
     Flush,
+    /// Tell each processor of the provider the time, so that it does what is due.
+    Run {
+        moment: Moment,
+    },
     /// Shut the provider down.
     Shutdown,
 }

@@ -113,6 +113,7 @@ fn command_with_fields(
         "status" => status_of(alloc, fields),
         "inject" => inject_of(alloc, fields),
         "end" => end_of(alloc, fields),
+        "run" => Ok(run_of(fields)),
         _ => Ok(None),
     }
 }
@@ -239,6 +240,14 @@ fn end_of(alloc: Global, fields: &str) -> Result<Option<Command>, AllocError>
         span: String::from_str(alloc, span)?,
         moment,
     }))
+}
+
+/// The field of `run MOMENT`.
+fn run_of(field: &str) -> Option<Command>
+    ensures { FieldsGive (codes "run") field.now result }
+{
+    let moment = moment_of(field)?;
+    Some(Command::Run { moment })
 }
 
 /// Three fields and the moment behind them; none where anything else stands there.
