@@ -5,16 +5,17 @@ use Rattle.otel_export.specs.PlainSpanData.{PlainSpanData, is_sampled, spans_in}
 use Rattle.otel_export.specs.Telling.{Tells}
 
 -- the spans that a processor tells itself; the spans that its exporter heard, followed by those that wait in front of
--- it, or nothing; how many spans found the queue full; and whether it still takes spans to export
+-- it, or nothing; how many spans wait there; how many found the queue full; and whether it still takes spans to export
 pub record ProcessorTelling : Type 0 where
   pub spans : Option (List PlainSpanData)
   pub heard : Option (List PlainSpanData)
+  pub waiting : ℕ
   pub dropped : ℕ
   pub is_open : Bool
 
 -- a processor that tells nothing
 abbrev pub silent : ProcessorTelling
-silent = record { spans = None; heard = None; dropped = 0; is_open = false }
+silent = record { spans = None; heard = None; waiting = 0; dropped = 0; is_open = false }
 
 -- the spans of the batches that an exporter tells
 abbrev pub spans_told : Option (List (List PlainSpanData)) → Option (List PlainSpanData)

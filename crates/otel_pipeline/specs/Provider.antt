@@ -1,11 +1,12 @@
 -- What contracts see of a provider, and what a shutdown does to it.
-use Rattle.std.specs.Prelude.{◌≡◌, ℕ, ◌↔◌, Bool, true, List, Result, IsOk, IfErr}
+use Rattle.std.specs.Prelude.{◌≡◌, ℕ, ◌↔◌, Bool, true, List, Result, IsOk, IfErr, OnOk}
 use Rattle.otel_base.specs.declared.error.OTelSdkError.{OTelSdkError}
 use Rattle.otel_base.specs.declared.error.OTelSdkError.TheVariants as errors
 use Rattle.otel_base.specs.declared.trace.span_limit.SpanLimits.{SpanLimits}
 use Rattle.otel_pipeline.specs.ProcessorTelling.{TakesNothing}
 use Rattle.otel_pipeline.specs.Each.{AskedAll}
 use Rattle.otel_pipeline.specs.declared.trace.span_processor.SpanProcessor.{Ghosts}
+use Rattle.otel_pipeline.specs.declared.trace.drain_due.DrainDue as timing
 
 -- a provider: its processors, what each start asks and is handed, and whether it is shut
 pub record ProviderState (P S G : Type 0) : Type 0 where
@@ -21,14 +22,25 @@ IsInternalFailure (errors.InternalFailure _) = Unit {0}
 IsInternalFailure _ = ⊥
 
 module _ {P : Type 0} (calls : Ghosts P) where
-  -- a processor that was asked to shut down with a timeout answers as its call can, and is told no span
+  -- a processor that was asked to shut down with a timeout answers as its call can, and is told no span. Where the
+  -- answer is Ok nothing waits any more
   pub record ShutsProcessor (timeout : ℕ) (old : P) (answer : Result (Unit {0}) OTelSdkError) (new : P) : Type 0 where
     pub gives : calls.shutdown_gives old timeout answer new
     pub told : TakesNothing (calls.told old) (calls.told new)
+    pub emptied : OnOk answer ((calls.told new).waiting ≡ 0)
 
-  -- a processor that was asked to flush answers as its call can, is told no span, and stays open or shut
+  -- a processor that was asked to flush answers as its call can, is told no span, and stays open or shut. Where the
+  -- answer is Ok nothing waits any more
   pub record FlushesProcessor (old : P) (answer : Result (Unit {0}) OTelSdkError) (new : P) : Type 0 where
     pub gives : calls.flush_gives old answer new
+    pub told : TakesNothing (calls.told old) (calls.told new)
+    pub is_open : (calls.told new).is_open ≡ (calls.told old).is_open
+    pub emptied : OnOk answer ((calls.told new).waiting ≡ 0)
+
+  -- a processor that was told the time does what is due as its call can, is told no span, and stays open or shut
+  pub record RunsProcessor (timer : timing.Ghosts P) (now : ℕ) (old : P) (answer : Result (Unit {0}) OTelSdkError)
+      (new : P) : Type 0 where
+    pub gives : timer.due_gives old now answer new
     pub told : TakesNothing (calls.told old) (calls.told new)
     pub is_open : (calls.told new).is_open ≡ (calls.told old).is_open
 
@@ -38,6 +50,16 @@ module _ {P : Type 0} (calls : Ghosts P) where
       (new : ProviderState P S G) : Type 0 where
     pub failed : ℕ
     pub asked : AskedAll FlushesProcessor old.processors new.processors failed
+    pub ok : IsOk answer ↔ (failed ≡ 0)
+    pub err : IfErr answer IsInternalFailure
+    pub rest : new ≡ record old { processors = new.processors }
+
+  -- what is done where the time is told, whether the provider is shut or not: each processor did what was due, and the
+  -- answer is Ok exactly where none failed
+  pub record RunsDue {S G : Type 0} (timer : timing.Ghosts P) (now : ℕ) (old : ProviderState P S G)
+      (answer : Result (Unit {0}) OTelSdkError) (new : ProviderState P S G) : Type 0 where
+    pub failed : ℕ
+    pub asked : AskedAll (RunsProcessor timer now) old.processors new.processors failed
     pub ok : IsOk answer ↔ (failed ≡ 0)
     pub err : IfErr answer IsInternalFailure
     pub rest : new ≡ record old { processors = new.processors }

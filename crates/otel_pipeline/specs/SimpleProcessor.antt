@@ -16,8 +16,13 @@ pub record SimpleProcessor (E : Type 0) : Type 0 where
 module _ {E : Type 0} (calls : Ghosts E) where
   -- what it tells: the spans of its exporter's batches; nothing waits, and none is dropped
   abbrev pub simple_telling : SimpleProcessor E → ProcessorTelling
-  simple_telling p =
-      record { spans = None; heard = spans_told (calls.told p.exporter); dropped = 0; is_open = not p.is_shut }
+  simple_telling p = record {
+    spans = None;
+    heard = spans_told (calls.told p.exporter);
+    waiting = 0;
+    dropped = 0;
+    is_open = not p.is_shut;
+  }
 
   -- one export of a batch of one, whose answer is dropped
   pub record ExportsOne (old : SimpleProcessor E) (span : PlainSpanData) (new : SimpleProcessor E) : Type 0 where

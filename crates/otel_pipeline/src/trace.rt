@@ -1,16 +1,22 @@
 //! The pipeline: a tracer starts a span, edits fill it, its end hands it to each processor of the provider.
 
+pub mod drain_due;
+pub mod keeps_batches;
 mod limits;
-pub mod processor;
+pub mod over_exporter;
 pub mod provider;
+pub mod provider_builder;
 pub mod simple_span_processor;
 pub mod span;
 pub mod span_edit;
 pub mod span_processor;
 pub mod tracer;
 
-pub use processor::{Processor, ProcessorOf};
-pub use provider::{ProviderOf, SdkTracerProvider};
+pub use drain_due::DrainDue;
+pub use keeps_batches::{KeepsBatches, StoresBatches};
+pub use over_exporter::OverExporter;
+pub use provider::ProviderOf;
+pub use provider_builder::ProviderBuilderOf;
 pub use simple_span_processor::SimpleSpanProcessor;
 pub use span::Span;
 pub use span_edit::SpanEdit;

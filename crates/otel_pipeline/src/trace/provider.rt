@@ -10,14 +10,15 @@ ghost use Rattle.opentelemetry.specs.Plain.{scope_named};
 ghost use Rattle.otel_pipeline.specs.Deliveries.{EachFollows};
 ghost use Rattle.otel_pipeline.specs.Each.{AskedAll};
 ghost use Rattle.otel_pipeline.specs.Ending.{TakesAndTells};
-ghost use Rattle.otel_pipeline.specs.Provider.{Flushes, FlushesProcessor, IsInternalFailure, ShutsDown, ShutsProcessor};
+ghost use Rattle.otel_pipeline.specs.Provider.{Flushes, FlushesProcessor, IsInternalFailure, RunsDue, RunsProcessor};
+ghost use Rattle.otel_pipeline.specs.Provider.{ShutsDown, ShutsProcessor};
 ghost use Rattle.otel_pipeline.specs.Starting.{DrawsIds, PassesThrough};
 ghost use Rattle.otel_pipeline.specs.SpanHistory.{IsEdited, ended_at};
 
-use crate::trace::{Processor, SdkTracer, Span, SpanProcessor};
+use crate::trace::{DrainDue, SdkTracer, Span, SpanProcessor};
 use opentelemetry::{Context, InstrumentationScope, Moment, SpanId, TraceId};
 use otel_base::error::{OTelSdkError, OTelSdkResult};
-use otel_base::trace::{ConfigOf, IdGenerator, IdSource, Sampler, SpanLimits};
+use otel_base::trace::{ConfigOf, IdGenerator, SpanLimits};
 use otel_export::trace::SpanData;
 use std::alloc::{AllocError, Global};
 use std::marker::Model;
@@ -31,9 +32,6 @@ pub struct ProviderOf<P, S, G> {
     span_limits: SpanLimits,
     is_shut: bool,
 }
-
-/// The provider of the SDK.
-pub type SdkTracerProvider = ProviderOf<Processor, Sampler, IdSource>;
 
 impl<P, S, G> Model for ProviderOf<P, S, G> {
     ghost use Rattle.otel_pipeline.specs.Provider.{ProviderState};
@@ -50,26 +48,6 @@ impl<P, S, G> Model for ProviderOf<P, S, G> {
 }
 
 impl<P, S, G> ProviderOf<P, S, G> {
-    /// An open provider over these processors; it calls none of them. The resource of the configuration is for whoever
-    /// makes the processors.
-    pub fn from_parts(processors: Vec<P>, config: ConfigOf<S, G>) -> ProviderOf<P, S, G>
-        ensures { result ≡ record {
-          processors = processors.items;
-          sampler = config.sampler;
-          id_generator = config.id_generator;
-          span_limits = config.span_limits;
-          is_shut = false;
-        } }
-    {
-        ProviderOf {
-            processors,
-            sampler: config.sampler,
-            id_generator: config.id_generator,
-            span_limits: config.span_limits,
-            is_shut: false,
-        }
-    }
-
     /// The processors in the order in which they are asked.
     pub fn processors(&self) -> &[P]
         ensures { result.now ≡ self.now.processors }
@@ -239,6 +217,41 @@ impl<P: SpanProcessor, S: Drop, G: Drop> ProviderOf<P, S, G> {
     }
 }
 
+impl<P: DrainDue, S: Drop, G: Drop> ProviderOf<P, S, G> {
+    /// Tells every processor the time, also after one failed, and also where the provider is shut, so that each does what
+    /// is due: a batch processor drains its queue, and no other kind does anything. Failures are an `InternalFailure`
+    /// that counts them. Whoever runs the provider calls it now and then, with later and later moments.
+    pub fn run_processors(&mut self, now: Moment) -> OTelSdkResult
+        ensures runs { RunsDue P.SpanProcessor P.DrainDue.own now.0 self.old result self.new }
+
+        // No span is delivered.
+        ensures told { EachFollows P.SpanProcessor [] self.old.processors self.new.processors }
+    {
+        let failed = run_each(&mut self.processors, now);
+        failure_answer(self.allocator(), "run errors", failed)
+    }
+}
+
+/// An open provider over these processors; it calls none of them. The resource of the configuration is for whoever makes
+/// the processors.
+pub fn provider_over<P, S, G>(processors: Vec<P>, config: ConfigOf<S, G>) -> ProviderOf<P, S, G>
+    ensures { result ≡ record {
+      processors = processors.items;
+      sampler = config.sampler;
+      id_generator = config.id_generator;
+      span_limits = config.span_limits;
+      is_shut = false;
+    } }
+{
+    ProviderOf {
+        processors,
+        sampler: config.sampler,
+        id_generator: config.id_generator,
+        span_limits: config.span_limits,
+        is_shut: false,
+    }
+}
+
 /// What is answered where so many processors failed. The reason stays empty where there is no memory for it.
 fn failure_answer(alloc: Global, what: &str, failed: usize) -> OTelSdkResult
     ensures ok { IsOk result ↔ (failed ≡ 0) }
@@ -325,6 +338,19 @@ fn flush_each<P: SpanProcessor>(processors: &mut [P]) -> usize
     let mut failed = 0;
     for processor in processors.iter_mut() {
         if processor.force_flush().is_err() {
+            failed += 1;
+        }
+    }
+    failed
+}
+
+/// Each is told the time, also after one failed. The answer is how many failed.
+fn run_each<P: DrainDue>(processors: &mut [P], now: Moment) -> usize
+    ensures { AskedAll (RunsProcessor P.SpanProcessor P.DrainDue.own now.0) processors.old processors.new result }
+{
+    let mut failed = 0;
+    for processor in processors.iter_mut() {
+        if processor.drain_due(now).is_err() {
             failed += 1;
         }
     }

@@ -14,7 +14,7 @@
 //! telling, and a relation for each call between the processor before it, what it is given and answers, and the
 //! processor after it.
 
-ghost use Rattle.std.specs.Prelude.{◌≡◌, ℕ, Result};
+ghost use Rattle.std.specs.Prelude.{◌≡◌, ℕ, OnOk, Result};
 ghost use Rattle.std.specs.Duration.{as_nanos};
 ghost use Rattle.std.specs.declared.alloc.AllocError.{AllocError};
 ghost use Rattle.opentelemetry.specs.Plain.{PlainContext};
@@ -74,17 +74,20 @@ pub trait SpanProcessor: Drop {
     fn force_flush(&mut self) -> OTelSdkResult
         ensures told { TakesNothing (told self.old) (told self.new) }
         ensures is_open { (told self.new).is_open ≡ (told self.old).is_open }
+        ensures emptied { OnOk result ((told self.new).waiting ≡ 0) }
         ensures gives { flush_gives self.old result self.new };
 
     /// Should export what waits and nothing afterwards, and answer what its exporter answered, or `Timeout` where that
     /// took longer; what it does by its contracts is `shutdown_gives`.
     fn shutdown_with_timeout(&mut self, timeout: Duration) -> OTelSdkResult
         ensures told { TakesNothing (told self.old) (told self.new) }
+        ensures emptied { OnOk result ((told self.new).waiting ≡ 0) }
         ensures gives { shutdown_gives self.old (as_nanos timeout) result self.new };
 
     /// The same with 5 seconds.
     fn shutdown(&mut self) -> OTelSdkResult
         ensures told { TakesNothing (told self.old) (told self.new) }
+        ensures emptied { OnOk result ((told self.new).waiting ≡ 0) }
         ensures gives { shutdown_gives self.old 5_000_000_000 result self.new }
     {
         self.shutdown_with_timeout(Duration::from_secs(5))

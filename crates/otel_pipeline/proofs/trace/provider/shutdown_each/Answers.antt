@@ -10,7 +10,7 @@ loop-processor-preserved g c =
       | else-is_err w ↦ ok_answer _ _ (sym c.is_err.ensures.value ∙ w.if-is_err.false) ∙ sym w.failed-is
     ] in
     record {
-      asked = asked_next _ _ _ _ _ _ c.processor-item.result _ _ (omega arith) (search rules) c.loop-processor.invariant.rest c.loop-processor.invariant.asked (record { gives = c.shutdown_with_timeout.ensures.gives; told = c.shutdown_with_timeout.ensures.told }) counted;
+      asked = asked_next _ _ _ _ _ _ c.processor-item.result _ _ (omega arith) (search rules) c.loop-processor.invariant.rest c.loop-processor.invariant.asked (record { gives = c.shutdown_with_timeout.ensures.gives; told = c.shutdown_with_timeout.ensures.told; emptied = c.shutdown_with_timeout.ensures.emptied }) counted;
       rest = rest_more c.args.processors.now c.loop-processor.processors c.loop-processor.processor-index c.shutdown_with_timeout.new.self c.loop-processor.invariant.rest;
       few = elim c.if-is_err.branch [ then-is_err w ↦ omega arith | else-is_err w ↦ omega arith ];
     }

@@ -10,4 +10,4 @@ pub returns-clause-is_open : goal.returns-clause-is_open
 returns-clause-is_open g c = c.force_flush.ensures.1.0 ∙ same_behind (λ k. (g.dyn-1.0.entry k).0.Denot) (λ k x. ((g.dyn-1.0.entry k).1.told x).is_open) c.deref_box_mut-1.ensures.value.1
 
 pub returns-clause-gives : goal.returns-clause-gives
-returns-clause-gives g c = behind (λ k. (g.dyn-1.0.entry k).0.Denot) (λ k x y. (g.dyn-1.0.entry k).1.flush_gives x c.force_flush.result y) (λ k x. record c.args.self.now { vtable = k; value = x }) c.deref_box_mut-1.ensures.value.1 c.force_flush.ensures.1.1
+returns-clause-gives g c = behind (λ k. (g.dyn-1.0.entry k).0.Denot) (λ k x y. (g.dyn-1.0.entry k).1.flush_gives x c.force_flush.result y) (λ k x. record c.args.self.now { vtable = k; value = x }) c.deref_box_mut-1.ensures.value.1 c.force_flush.ensures.1.1.1

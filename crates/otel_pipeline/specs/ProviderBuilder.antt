@@ -1,0 +1,64 @@
+-- What a provider is made of, step by step, and what making it does (OpenTelemetry specification, "TracerProvider
+-- Creation").
+use Rattle.std.specs.Prelude.{◌≡◌, ◌<◌, ℕ, Bool, true, false, List, Result}
+use Rattle.std.specs.declared.alloc.AllocError.{AllocError}
+use Rattle.otel_base.specs.ConfigStrings.{PlainBatchStrings}
+use Rattle.otel_base.specs.Resource.{PlainResource, merge}
+use Rattle.otel_base.specs.declared.trace.config.ConfigOf.{ConfigOf}
+use Rattle.otel_base.specs.declared.trace.span_limit.SpanLimits.{SpanLimits}
+use Rattle.otel_export.specs.RestsOr.{RestsOr}
+use Rattle.otel_pipeline.specs.Each.{AskedAll}
+use Rattle.otel_pipeline.specs.Provider.{ProviderState}
+use Rattle.otel_pipeline.specs.declared.trace.span_processor.SpanProcessor.{Ghosts}
+
+-- a builder: its processors, what else the provider is made of, the strings of its batch processors, and whether its
+-- resource was handed in
+pub record BuilderState (P S G : Type 0) : Type 0 where
+  pub processors : List P
+  pub config : ConfigOf S G
+  pub batch_strings : PlainBatchStrings
+  pub has_given_resource : Bool
+
+-- a builder of other limits
+abbrev pub with_limits : {P S G : Type 0} → BuilderState P S G → SpanLimits → BuilderState P S G
+with_limits builder limits = record builder { config = record builder.config { span_limits = limits } }
+
+-- the resource where one more is handed in: the first takes the place of the configured one, a later one is merged over
+-- those before it
+abbrev pub resource_with : Bool → PlainResource → PlainResource → PlainResource
+resource_with false configured resource = resource
+resource_with true given resource = merge given resource
+
+-- a builder to which a resource was handed in
+abbrev pub with_resource : {P S G : Type 0} → BuilderState P S G → PlainResource → BuilderState P S G
+with_resource builder resource = record builder {
+  config = record builder.config {
+    resource = resource_with builder.has_given_resource builder.config.resource resource;
+  };
+  has_given_resource = true;
+}
+
+module _ {P : Type 0} (calls : Ghosts P) where
+  -- a processor was told the resource: it answers as its call can, or rests, and tells what it told
+  pub record TakesResource (resource : PlainResource) (old : P) (answer : Result (Unit {0}) AllocError) (new : P)
+      : Type 0 where
+    pub gives : RestsOr (λ x given y. calls.resource_gives x resource given y) old answer new
+    pub told : calls.told new ≡ calls.told old
+
+  -- the provider that a builder makes is open, and each processor took its resource
+  pub record Opens {S G : Type 0} (builder : BuilderState P S G) (provider : ProviderState P S G) : Type 0 where
+    pub told : AskedAll (TakesResource builder.config.resource) builder.processors provider.processors 0
+    pub rest : provider ≡ record {
+      processors = provider.processors;
+      sampler = builder.config.sampler;
+      id_generator = builder.config.id_generator;
+      span_limits = builder.config.span_limits;
+      is_shut = false;
+    }
+
+  -- each processor of a builder was told its resource, and some refused it
+  pub record RefusesResource {S G : Type 0} (old new : BuilderState P S G) : Type 0 where
+    pub refused : ℕ
+    pub some : 0 < refused
+    pub told : AskedAll (TakesResource old.config.resource) old.processors new.processors refused
+    pub rest : new ≡ record old { processors = new.processors }

@@ -1,0 +1,76 @@
+//! The batches that the in-memory exporter of a processor keeps, which the replies of a session show.
+
+ghost use Rattle.std.specs.Prelude.{◌≡◌, ℕ, List, map};
+ghost use Rattle.otel_export.specs.PlainSpanData.{PlainSpanData};
+ghost use Rattle.otel_pipeline.specs.KeptBatches.{ExporterAppends, OnlyAppends};
+
+use crate::trace::DrainDue;
+use otel_export::trace::{ExporterOf, InMemorySpanExporter, SpanData, SpanExporter};
+
+/// A processor whose exporter may keep its batches. At a start, an end, a flush, a shutdown or a drain batches may only
+/// come behind those that are kept.
+pub trait KeepsBatches: DrainDue {
+    /// The batches that are kept; none where the exporter keeps none.
+    ghost kept: { Self → List (List PlainSpanData) };
+
+    fn batches(&self) -> &[Vec<SpanData>]
+        ensures { map (λ batch. batch.items) result.now ≡ kept self.now };
+
+    /// How many batches were handed to such an exporter and found no memory.
+    ghost lost: { Self → ℕ };
+
+    fn lost_batches(&self) -> u64
+        ensures { result ≡ lost self.now };
+
+    /// None of these calls takes back a batch, and a start of a span loses none.
+    ghost appends: { OnlyAppends Self.SpanProcessor Self.DrainDue.own kept lost };
+}
+
+/// An exporter that may keep its batches. None of its calls takes back a batch.
+pub trait StoresBatches: SpanExporter {
+    /// The batches that are kept; none where it keeps none.
+    ghost kept: { Self → List (List PlainSpanData) };
+
+    fn batches(&self) -> &[Vec<SpanData>]
+        ensures { map (λ batch. batch.items) result.now ≡ kept self.now };
+
+    /// How many batches were handed to it and found no memory.
+    ghost lost: { Self → ℕ };
+
+    fn lost_batches(&self) -> u64
+        ensures { result ≡ lost self.now };
+
+    ghost appends: { ExporterAppends Self.SpanExporter kept };
+}
+
+impl<C: SpanExporter> StoresBatches for ExporterOf<InMemorySpanExporter, C> {
+    ghost use Rattle.otel_export.specs.RestsOr.{RestsOr, StaysOr};
+    ghost use Rattle.otel_pipeline.specs.KeptBatches.{exporter_appends, exporter_keeps, exporter_loses};
+    ghost use Rattle.otel_pipeline.specs.KeptBatches.{exporter_passes, exporter_shuts};
+
+    ghost kept = { exporter_keeps };
+
+    ghost lost = { exporter_loses };
+
+    ghost appends = { record {
+      exports = exporter_appends C.export_gives;
+      shuts = λ old timeout answer new given.
+          exporter_shuts (λ c r d. RestsOr (λ x y z. C.shutdown_gives x timeout y z) c r d) old answer new given;
+      passes = λ old resource new given.
+          exporter_passes (λ c d. StaysOr (λ x y. C.resource_gives x resource y) c d) old new given;
+    } };
+
+    fn batches(&self) -> &[Vec<SpanData>] {
+        match self {
+            ExporterOf::Memory(memory) => memory.batches(),
+            ExporterOf::Custom(_) => &[],
+        }
+    }
+
+    fn lost_batches(&self) -> u64 {
+        match self {
+            ExporterOf::Memory(memory) => memory.lost_batches(),
+            ExporterOf::Custom(_) => 0,
+        }
+    }
+}

@@ -1,0 +1,31 @@
+//! Processors that are made over an exporter, at once or behind a queue. A provider's builder knows no queue, and makes
+//! its processors through this trait.
+
+ghost use Rattle.std.specs.Prelude.{◌≡◌, IfOk};
+ghost use Rattle.otel_base.specs.ConfigStrings.{PlainBatchStrings};
+
+use crate::trace::SpanProcessor;
+use otel_base::trace::BatchStrings;
+use std::alloc::{AllocError, Global};
+
+/// A processor of several kinds, which can be made over an exporter: one that exports at once, or one behind a queue.
+pub trait OverExporter: SpanProcessor {
+    type Exporter: Drop;
+
+    /// The processor that exports each span at once.
+    ghost simple_of: { Self.Exporter → Self };
+
+    /// Which processor with a queue is made: the exporter, the strings, and the processor.
+    ghost batch_of: { Self.Exporter → PlainBatchStrings → Self → Type 0 };
+
+    fn simple(alloc: Global, exporter: Self::Exporter) -> Self
+        ensures { result ≡ simple_of exporter };
+
+    /// `AllocError` where there is no memory for what it holds; the exporter is then dropped.
+    fn batch(
+        alloc: Global,
+        exporter: Self::Exporter,
+        strings: &BatchStrings,
+    ) -> Result<Self, AllocError>
+        ensures { IfOk result (λ made. batch_of exporter strings.now made) };
+}

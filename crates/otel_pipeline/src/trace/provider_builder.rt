@@ -1,0 +1,270 @@
+//! A provider in the making: processors are added in the order in which they are to be asked, and what the strings
+//! configured is replaced (OpenTelemetry specification, "TracerProvider Creation").
+//!
+//! Nothing here reads an environment: the strings that are handed in stand for its variables. A call that needs memory
+//! and finds none gives the builder back as it was, beside the error; what was handed to that call is dropped.
+
+ghost use Rattle.std.specs.Prelude.{◌≡◌, ◌++◌, [], ◌∷◌, false, true, IsOk, MatchResult};
+ghost use Rattle.std.specs.Bool.{OnFalse};
+ghost use Rattle.otel_pipeline.specs.Each.{AskedAll};
+ghost use Rattle.otel_pipeline.specs.ProviderBuilder as building;
+ghost use Rattle.otel_pipeline.specs.ProviderBuilder.{Opens, RefusesResource, TakesResource, with_limits};
+
+use crate::trace::provider::provider_over;
+use crate::trace::{OverExporter, ProviderOf, SpanProcessor};
+use otel_base::resource::Resource;
+use otel_base::trace::{BatchStrings, ConfigOf, IdSourceOf, SpanLimits};
+use std::alloc::{AllocError, Global};
+use std::marker::Model;
+
+/// Makes a provider over processors, a sampler and a generator of ids of any one kind each. To contracts it is its
+/// processors, its configuration, and the strings of its batch processors.
+#[derive(Drop)]
+pub struct ProviderBuilderOf<P, S, G> {
+    processors: Vec<P>,
+    config: ConfigOf<S, G>,
+    batch_strings: BatchStrings,
+    has_given_resource: bool,
+}
+
+impl<P, S, G> Model for ProviderBuilderOf<P, S, G> {
+    ghost use Rattle.std.specs.Coded.{codes};
+    ghost use Rattle.otel_base.specs.Resource.{resource_code};
+    ghost use Rattle.otel_pipeline.specs.ProviderBuilder.{BuilderState};
+
+    ghost Value = { BuilderState P S G };
+
+    ghost coded = { Prim.hlevel (codes, resource_code) };
+
+    ghost view = { λ a. record {
+      processors = a.processors.items;
+      config = a.config;
+      batch_strings = a.batch_strings;
+      has_given_resource = a.has_given_resource;
+    } };
+}
+
+impl<P, S, G> ProviderOf<P, S, G> {
+    /// Begins with no processor and with this configuration, as of `Config::from_strings`. The strings configure the
+    /// batch processors that are added later.
+    pub fn builder(
+        alloc: Global,
+        config: ConfigOf<S, G>,
+        batch_strings: BatchStrings,
+    ) -> ProviderBuilderOf<P, S, G>
+        ensures { result ≡ record {
+          processors = [];
+          config = config;
+          batch_strings = batch_strings;
+          has_given_resource = false;
+        } }
+    {
+        ProviderBuilderOf {
+            processors: Vec::new(alloc),
+            config,
+            batch_strings,
+            has_given_resource: false,
+        }
+    }
+}
+
+impl<P: OverExporter, S, G> ProviderBuilderOf<P, S, G> {
+    /// Adds a processor that hands each sampled span to this exporter when it ends.
+    pub fn with_simple_exporter(self, exporter: P::Exporter) -> Result<Self, (Self, AllocError)>
+        ensures { MatchResult result
+            (λ built. built ≡ record self { processors = self.processors ++ P.simple_of exporter ∷ [] })
+            (λ failed. failed.0 ≡ self) }
+    {
+        let simple = P::simple(self.allocator(), exporter);
+        self.with_span_processor(simple)
+    }
+
+    /// Adds a batch processor over this exporter, which the builder's strings configure.
+    pub fn with_batch_exporter(self, exporter: P::Exporter) -> Result<Self, (Self, AllocError)>
+        ensures { MatchResult result
+            (λ built. (batch : _) × P.batch_of exporter self.batch_strings batch
+            × (built ≡ record self { processors = self.processors ++ batch ∷ [] }))
+            (λ failed. failed.0 ≡ self) }
+    {
+        match P::batch(self.allocator(), exporter, &self.batch_strings) {
+            Ok(batch) => self.with_span_processor(batch),
+            Err(error) => Err((self, error)),
+        }
+    }
+}
+
+impl<P: Drop, S, G> ProviderBuilderOf<P, S, G> {
+    /// Adds this processor behind the others. Memory is taken where their list grows.
+    pub fn with_span_processor(mut self, processor: P) -> Result<Self, (Self, AllocError)>
+        ensures { MatchResult result
+            (λ built. built ≡ record self { processors = self.processors ++ processor ∷ [] })
+            (λ failed. failed.0 ≡ self) }
+    {
+        match self.processors.push(processor) {
+            Ok(()) => Ok(self),
+            Err(_) => Err((self, AllocError)),
+        }
+    }
+}
+
+impl<P, S, G> ProviderBuilderOf<P, S, G> {
+    /// The provider's resource: the first that is handed in takes the place of the configured one, later ones are merged
+    /// over those before. Memory is taken by a merge alone.
+    pub fn with_resource(self, resource: Resource) -> Result<Self, (Self, AllocError)>
+        ensures merged { MatchResult result
+            (λ built. built ≡ building.with_resource self resource)
+            (λ failed. failed.0 ≡ self) }
+        ensures free { OnFalse self.has_given_resource (IsOk result) }
+    {
+        if self.has_given_resource {
+            match self.config.resource.merge(self.allocator(), resource) {
+                Ok(merged) => Ok(self.with_given_resource(merged)),
+                Err(error) => Err((self, error)),
+            }
+        } else {
+            Ok(self.with_given_resource(resource))
+        }
+    }
+
+    /// How many events a span keeps.
+    pub fn with_max_events_per_span(mut self, max_events: u32) -> Self
+        ensures { result ≡ with_limits self (record self.config.span_limits { max_events_per_span = max_events }) }
+    {
+        self.config.span_limits.max_events_per_span = max_events;
+        self
+    }
+
+    /// How many attributes a span keeps.
+    pub fn with_max_attributes_per_span(mut self, max_attributes: u32) -> Self
+        ensures { result
+            ≡ with_limits self (record self.config.span_limits { max_attributes_per_span = max_attributes }) }
+    {
+        self.config.span_limits.max_attributes_per_span = max_attributes;
+        self
+    }
+
+    /// How many links a span keeps.
+    pub fn with_max_links_per_span(mut self, max_links: u32) -> Self
+        ensures { result ≡ with_limits self (record self.config.span_limits { max_links_per_span = max_links }) }
+    {
+        self.config.span_limits.max_links_per_span = max_links;
+        self
+    }
+
+    /// How many attributes an event of a span keeps.
+    pub fn with_max_attributes_per_event(mut self, max_attributes: u32) -> Self
+        ensures { result
+            ≡ with_limits self (record self.config.span_limits { max_attributes_per_event = max_attributes }) }
+    {
+        self.config.span_limits.max_attributes_per_event = max_attributes;
+        self
+    }
+
+    /// How many attributes a link of a span keeps.
+    pub fn with_max_attributes_per_link(mut self, max_attributes: u32) -> Self
+        ensures { result
+            ≡ with_limits self (record self.config.span_limits { max_attributes_per_link = max_attributes }) }
+    {
+        self.config.span_limits.max_attributes_per_link = max_attributes;
+        self
+    }
+
+    /// All limits of a span at once.
+    pub fn with_span_limits(self, span_limits: SpanLimits) -> Self
+        ensures { result ≡ with_limits self span_limits }
+    {
+        let config = self.config;
+        let config = ConfigOf {
+            span_limits,
+            ..config
+        };
+        ProviderBuilderOf { config, ..self }
+    }
+
+    /// The builder with this resource, which was handed in or merged of those that were.
+    fn with_given_resource(self, resource: Resource) -> Self
+        ensures { result ≡ record self {
+          config = record self.config { resource = resource };
+          has_given_resource = true;
+        } }
+    {
+        let config = self.config;
+        let config = ConfigOf { resource, ..config };
+        ProviderBuilderOf {
+            config,
+            has_given_resource: true,
+            ..self
+        }
+    }
+
+    fn allocator(&self) -> Global {
+        *self.processors.allocator()
+    }
+}
+
+impl<P, S: Drop, G> ProviderBuilderOf<P, S, G> {
+    /// The sampler that each start asks.
+    pub fn with_sampler(self, sampler: S) -> Self
+        ensures { result ≡ record self { config = record self.config { sampler = sampler } } }
+    {
+        let config = self.config;
+        let config = ConfigOf { sampler, ..config };
+        ProviderBuilderOf { config, ..self }
+    }
+}
+
+impl<P, S, C: Drop> ProviderBuilderOf<P, S, IdSourceOf<C>> {
+    /// A generator of one's own, in the place of the SDK's under the seed.
+    pub fn with_id_generator(self, id_generator: C) -> Self
+        ensures { result
+            ≡ record self { config = record self.config { id_generator = IdSourceOf.Custom id_generator } } }
+    {
+        let config = self.config;
+        let config = ConfigOf {
+            id_generator: IdSourceOf::Custom(id_generator),
+            ..config
+        };
+        ProviderBuilderOf { config, ..self }
+    }
+}
+
+impl<P: SpanProcessor, S, G> ProviderBuilderOf<P, S, G> {
+    /// An open provider. Each processor is told the resource before, in its turn and also after one refused it.
+    /// `AllocError` where any of them had no memory to keep it; the builder that comes back has the processors as they
+    /// are then, and its next `build` tells all of them again.
+    pub fn build(self) -> Result<ProviderOf<P, S, G>, (Self, AllocError)>
+        ensures { MatchResult result
+            (Opens P.SpanProcessor self)
+            (λ failed. RefusesResource P.SpanProcessor self failed.0) }
+    {
+        let ProviderBuilderOf {
+            mut processors,
+            config,
+            batch_strings,
+            has_given_resource,
+        } = self;
+        if tell_each(&mut processors, &config.resource) > 0 {
+            let builder = ProviderBuilderOf {
+                processors,
+                config,
+                batch_strings,
+                has_given_resource,
+            };
+            return Err((builder, AllocError));
+        }
+        Ok(provider_over(processors, config))
+    }
+}
+
+/// Each is told the resource, also after one refused it. The answer is how many refused.
+fn tell_each<P: SpanProcessor>(processors: &mut [P], resource: &Resource) -> usize
+    ensures { AskedAll (TakesResource P.SpanProcessor resource.now) processors.old processors.new result }
+{
+    let mut refused = 0;
+    for processor in processors.iter_mut() {
+        if processor.set_resource(resource).is_err() {
+            refused += 1;
+        }
+    }
+    refused
+}
