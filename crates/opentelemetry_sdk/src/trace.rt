@@ -1,5 +1,10 @@
 //! The pipeline: configuration, ids, samplers, spans, processors, exporters and the provider.
 
+pub mod batch_span_processor;
+mod batch_worker;
+pub mod processor;
+
+pub use batch_span_processor::{BatchSpanProcessor, BatchSpanProcessorBuilder};
 pub use otel_base::trace::{
     BatchStrings, Config, ConfigOf, ConfigStrings, IdGenerator, IdSource, IdSourceOf,
     RandomIdGenerator, Ratio, RatioError, Sampler, SamplerOf, SamplingDecision, SamplingResult,
@@ -16,6 +21,13 @@ pub use otel_export::trace::{
     ExporterBox, ExporterOf, InMemorySpanExporter, SpanData, SpanEvents, SpanExporter, SpanLinks,
 };
 pub use otel_pipeline::trace::{
-    Processor, ProcessorOf, ProviderOf, SdkTracer, SdkTracerProvider, SimpleSpanProcessor, Span,
-    SpanEdit, SpanProcessor,
+    DrainDue, KeepsBatches, OverExporter, ProviderBuilderOf, ProviderOf, SdkTracer,
+    SimpleSpanProcessor, Span, SpanEdit, SpanProcessor, StoresBatches,
 };
+pub use processor::{Processor, ProcessorOf};
+
+/// The provider of the SDK.
+pub type SdkTracerProvider = ProviderOf<Processor, Sampler, IdSource>;
+
+/// Makes a provider of the SDK.
+pub type TracerProviderBuilder = ProviderBuilderOf<Processor, Sampler, IdSource>;

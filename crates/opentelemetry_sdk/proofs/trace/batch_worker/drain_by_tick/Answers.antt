@@ -1,0 +1,52 @@
+use Rattle.std.proofs.Common.{◌≡◌, refl}
+use Rattle.otel_batch.specs.MachineState.{counts}
+use Rattle.otel_batch.specs.MachineRun.{Stepped}
+use Rattle.otel_batch.specs.declared.machine.step.Outcome.TheVariants as outcome
+use Rattle.otel_batch.specs.declared.machine.step.Step.TheVariants as step
+use Rattle.opentelemetry_sdk.proofs.Calls.{RestsAgain, ready_open, tells_nothing, ticked_rests, ticks}
+use Rattle.opentelemetry_sdk.proofs.trace.batch_worker.drain_by_tick.Goals as goal
+
+-- the timer's step
+stepped : (g : _) (c : goal.After-is_sound-2 g) →
+    Stepped g.E.SpanExporter c.args.machine.now step.Tick outcome.Ticked c.step.new.self
+stepped g c =
+    let ready = ready_open c.args.machine.now c.is_sound.ensures c.requires.rest c.requires.is_open in
+    let ticked = ticks (counts c.args.machine.now) c.step.result (counts c.step.new.self) ready
+    c.step.ensures.permitted in
+    let any : Stepped g.E.SpanExporter c.args.machine.now step.Tick c.step.result c.step.new.self = record {
+      permitted = c.step.ensures.permitted;
+      moved = c.step.ensures.moved;
+      requests = c.step.ensures.requests;
+      goes_on = c.step.ensures.goes_on;
+      sound = c.step.ensures.sound;
+    } in
+    rw ticked at any
+
+-- what its drain leaves
+left : (g : _) (c : goal.After-is_sound-2 g) →
+    RestsAgain g.E.SpanExporter c.args.machine.now c.work_off_messages-answer.new.machine
+    × (c.work_off_messages-answer.new.machine.control.closed ≡ c.args.machine.now.control.closed)
+left g c =
+    let worked = c.work_off_messages-answer.ensures in
+    let ticked = stepped g c in
+    ticked_rests g.E.SpanExporter c.args.machine.now c.step.new.self worked.outcomes
+    c.work_off_messages-answer.new.machine c.requires.rest ticked.sound c.is_sound-2.ensures ticked.permitted
+    ticked.moved worked.works
+
+pub returns-clause-drains : goal.returns-clause-drains
+returns-clause-drains g c = record {
+  ticked = c.step.new.self;
+  ticks = (c.step.new.self, stepped g c, refl);
+  works = c.work_off_messages-answer.ensures;
+}
+
+pub returns-clause-told : goal.returns-clause-told
+returns-clause-told g c =
+    tells_nothing g.E.SpanExporter c.args.machine.now c.work_off_messages-answer.new.machine (left g c).0
+    (λ opens. rw (left g c).1 at opens)
+
+pub returns-clause-closed : goal.returns-clause-closed
+returns-clause-closed g c = (left g c).1
+
+pub returns-clause-rest : goal.returns-clause-rest
+returns-clause-rest g c = (left g c).0.rest

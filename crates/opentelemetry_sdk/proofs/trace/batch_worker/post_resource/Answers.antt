@@ -1,0 +1,19 @@
+use Rattle.std.proofs.Common.{refl}
+use Rattle.opentelemetry_sdk.proofs.Calls.{resource_rests}
+use Rattle.opentelemetry_sdk.proofs.trace.batch_worker.post_resource.Goals as goal
+
+pub returns-clause-posts : goal.returns-clause-posts
+returns-clause-posts g c = record {
+  outcome = c.step.result;
+  posts = (c.step.new.self, record { permitted = c.step.ensures.permitted; moved = c.step.ensures.moved; requests = c.step.ensures.requests; goes_on = c.step.ensures.goes_on; sound = c.step.ensures.sound }, refl);
+}
+
+pub returns-clause-told : goal.returns-clause-told
+returns-clause-told g c =
+    let left = resource_rests g.E.SpanExporter c.args.machine.now c.args.resource c.step.result c.step.new.self c.requires
+    c.step.ensures.permitted c.step.ensures.moved in left.0
+
+pub returns-clause-rest : goal.returns-clause-rest
+returns-clause-rest g c =
+    let left = resource_rests g.E.SpanExporter c.args.machine.now c.args.resource c.step.result c.step.new.self c.requires
+    c.step.ensures.permitted c.step.ensures.moved in left.1

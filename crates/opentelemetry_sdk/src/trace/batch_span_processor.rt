@@ -1,0 +1,237 @@
+//! The processor that exports sampled spans in batches (OpenTelemetry specification, "Batching processor"). A span waits
+//! in a queue of bounded length; whoever holds the processor has its worker hand batches to the exporter, by
+//! `force_flush`, `run_worker`, or `drain_due` with the time. There is no thread and no clock.
+
+ghost use Rattle.std.specs.Prelude.{◌≡◌, ◌+◌, false, IfOk, nat_le};
+ghost use Rattle.std.specs.Duration.{as_nanos};
+ghost use Rattle.otel_pipeline.specs.ProcessorTelling.{TakesNothing};
+ghost use Rattle.otel_batch.specs.SoundMachine.{IsSound};
+ghost use Rattle.otel_batch.specs.MachineState.{counts};
+ghost use Rattle.otel_batch.specs.PlainBatchConfig.{default_batch_config};
+ghost use Rattle.opentelemetry_sdk.specs.BatchProcessor.{IsAtRest, batch_telling};
+
+use crate::trace::batch_worker::{
+    drain_by_tick, make_request, offer_span, post_resource, run_worker,
+};
+use opentelemetry::{Context, Moment};
+use otel_base::error::{OTelSdkError, OTelSdkResult};
+use otel_base::resource::Resource;
+use otel_batch::machine::{BatchMachine, Request};
+use otel_batch::trace::BatchConfig;
+use otel_export::trace::{SpanData, SpanExporter};
+use otel_pipeline::trace::{DrainDue, Span, SpanProcessor};
+use std::alloc::{AllocError, Global};
+use std::marker::Model;
+use std::time::Duration;
+
+/// Queues each sampled span until its worker hands it to the exporter in a batch, and drops it where the queue is full.
+/// Behind a shutdown that was completed it takes and exports nothing.
+#[derive(Drop)]
+pub struct BatchSpanProcessor<E> {
+    machine: BatchMachine<E>,
+    scheduled_delay: Duration,
+    // When the timer was started last.
+    last_tick: Option<Moment>,
+    alloc: Global,
+}
+
+impl<E> Model for BatchSpanProcessor<E> {
+    ghost use Rattle.std.specs.Duration.{as_nanos};
+    ghost use Rattle.std.specs.Coded.{codes};
+    ghost use Rattle.std.specs.Option.{option_map};
+    ghost use Rattle.otel_base.specs.Resource.{resource_code};
+    ghost use Rattle.opentelemetry_sdk.specs.BatchProcessor.{BatchProcessor, IsAtRest};
+
+    ghost Value = { BatchProcessor E };
+
+    ghost coded = { Prim.hlevel (codes, resource_code) };
+
+    ghost view = { λ p. record {
+      machine = p.machine;
+      delay = as_nanos p.scheduled_delay;
+      last = option_map (λ moment. moment.0) p.last_tick;
+    } };
+
+    ghost invariant = { λ p. IsAtRest p.machine };
+}
+
+impl<E> BatchSpanProcessor<E> {
+    /// How many spans found the queue full. It stops at the greatest `u64`.
+    pub fn dropped_count(&self) -> u64
+        ensures { result ≡ self.now.machine.control.dropped }
+    {
+        self.machine.dropped_count()
+    }
+
+    pub fn exporter(&self) -> &E
+        ensures { result.now ≡ self.now.machine.exporter }
+    {
+        self.machine.exporter()
+    }
+
+    /// What holds of every batch processor between two calls. It does nothing: a caller calls it for what its clauses say
+    /// of the processor in hand.
+    pub fn is_at_rest(&self)
+        ensures rest { IsAtRest self.now.machine }
+        ensures sound { IsSound (counts self.now.machine) }
+    {
+        self.machine.is_sound();
+    }
+}
+
+impl<E: SpanExporter> BatchSpanProcessor<E> {
+    ghost use Rattle.opentelemetry_sdk.specs.BatchProcessor.{RunsWorker, WorksAndTellsTime, first_processor};
+
+    /// An open processor in whose queue nothing waits. It takes the memory of the queue, and fails where there is none.
+    /// The configuration's timeout of exports is not used: an export is over when the exporter's call is.
+    pub fn new(
+        alloc: Global,
+        exporter: E,
+        config: BatchConfig,
+    ) -> Result<BatchSpanProcessor<E>, AllocError>
+        ensures { IfOk result (λ processor. processor ≡ first_processor exporter config) }
+    {
+        let scheduled_delay = config.scheduled_delay();
+        Ok(BatchSpanProcessor {
+            machine: BatchMachine::new(alloc, exporter, config, 1)?,
+            scheduled_delay,
+            last_tick: None,
+            alloc,
+        })
+    }
+
+    /// A builder with the default configuration.
+    pub fn builder(alloc: Global, exporter: E) -> BatchSpanProcessorBuilder<E>
+        ensures { (result.exporter ≡ exporter) × (result.config ≡ default_batch_config) }
+    {
+        BatchSpanProcessorBuilder {
+            alloc,
+            exporter,
+            config: BatchConfig::default(),
+        }
+    }
+
+    /// The worker works until it has nothing to do: it hands over what was asked for, and passes resources on. Spans
+    /// below a full batch go on waiting. The answer is the exporter's last one in the last drain, or `OutOfMemory` where
+    /// that found no memory for a batch, Ok where nothing was drained, and `AlreadyShutdown` behind a completed shutdown.
+    pub fn run_worker(&mut self) -> OTelSdkResult
+        ensures gives { RunsWorker E.SpanExporter self.old result self.new }
+        // No span is told anew.
+        ensures told { TakesNothing (batch_telling E.SpanExporter self.old) (batch_telling E.SpanExporter self.new) }
+    {
+        if self.machine.is_closed() {
+            return Err(OTelSdkError::AlreadyShutdown);
+        }
+        run_worker(&mut self.machine)
+    }
+
+    /// A run of the worker, and the timer's drain where its time has passed.
+    fn work_in_time(&mut self, now: Moment) -> OTelSdkResult
+        requires { self.old.machine.control.closed ≡ false }
+        ensures works { WorksAndTellsTime E.SpanExporter now.0 self.old result self.new }
+        ensures told { TakesNothing (batch_telling E.SpanExporter self.old) (batch_telling E.SpanExporter self.new) }
+        ensures closed { self.new.machine.control.closed ≡ false }
+    {
+        let worked = run_worker(&mut self.machine);
+        let Some(last) = self.last_tick else {
+            self.last_tick = Some(now);
+            return worked;
+        };
+        if !is_due(last, self.scheduled_delay, now) {
+            return worked;
+        }
+        self.last_tick = Some(now);
+        drain_by_tick(&mut self.machine)
+    }
+}
+
+/// Whether so much time has passed.
+fn is_due(last: Moment, delay: Duration, now: Moment) -> bool
+    ensures { result ≡ nat_le (last.0 + as_nanos delay) now.0 }
+{
+    last.0 as u128 + delay.as_nanos() <= now.0 as u128
+}
+
+impl<E: SpanExporter> SpanProcessor for BatchSpanProcessor<E> {
+    ghost use Rattle.std.specs.Prelude.{◌≡◌};
+    ghost use Rattle.otel_batch.specs.declared.machine.state.Request.TheVariants as request;
+    ghost use Rattle.opentelemetry_sdk.specs.BatchProcessor.{BatchEnds, BatchRequests, BatchTakesResource, batch_telling};
+
+    ghost told = { batch_telling E.SpanExporter };
+
+    ghost start_gives = { λ p s cx t q. (q ≡ p) × (t ≡ s) };
+
+    ghost end_gives = { BatchEnds E.SpanExporter };
+
+    ghost flush_gives = { BatchRequests E.SpanExporter request.Flush };
+
+    ghost shutdown_gives = { λ p timeout answer q. BatchRequests E.SpanExporter request.Shutdown p answer q };
+
+    ghost resource_gives = { BatchTakesResource E.SpanExporter };
+
+    fn on_start(&mut self, _span: &mut Span, _cx: &Context) {}
+
+    fn on_end(&mut self, span: SpanData) -> Result<(), AllocError> {
+        offer_span(&mut self.machine, span);
+        Ok(())
+    }
+
+    fn force_flush(&mut self) -> OTelSdkResult {
+        make_request(&mut self.machine, self.alloc, Request::Flush)
+    }
+
+    fn shutdown_with_timeout(&mut self, _timeout: Duration) -> OTelSdkResult {
+        make_request(&mut self.machine, self.alloc, Request::Shutdown)
+    }
+
+    fn set_resource(&mut self, resource: &Resource) -> Result<(), AllocError> {
+        post_resource(&mut self.machine, resource.clone()?);
+        Ok(())
+    }
+}
+
+impl<E: SpanExporter> DrainDue for BatchSpanProcessor<E> {
+    ghost use Rattle.opentelemetry_sdk.specs.BatchProcessor.{BatchDue};
+
+    ghost due_gives = { BatchDue E.SpanExporter };
+
+    fn drain_due(&mut self, now: Moment) -> OTelSdkResult {
+        if !self.machine.is_closed() {
+            return self.work_in_time(now);
+        }
+        Err(OTelSdkError::AlreadyShutdown)
+    }
+}
+
+/// Makes a batch processor.
+#[derive(Drop)]
+pub struct BatchSpanProcessorBuilder<E> {
+    alloc: Global,
+    exporter: E,
+    config: BatchConfig,
+}
+
+impl<E> Model for BatchSpanProcessorBuilder<E> {
+    ghost use Rattle.opentelemetry_sdk.specs.BatchProcessor.{BatchProcessorBuilder};
+
+    ghost Value = { BatchProcessorBuilder E };
+
+    ghost view = { λ b. record { exporter = b.exporter; config = b.config } };
+}
+
+impl<E: SpanExporter> BatchSpanProcessorBuilder<E> {
+    ghost use Rattle.opentelemetry_sdk.specs.BatchProcessor.{first_processor};
+
+    pub fn with_batch_config(self, config: BatchConfig) -> BatchSpanProcessorBuilder<E>
+        ensures { result ≡ record self { config = config } }
+    {
+        BatchSpanProcessorBuilder { config, ..self }
+    }
+
+    /// The processor, which takes the memory of its queue here.
+    pub fn build(self) -> Result<BatchSpanProcessor<E>, AllocError>
+        ensures { IfOk result (λ processor. processor ≡ first_processor self.exporter self.config) }
+    {
+        BatchSpanProcessor::new(self.alloc, self.exporter, self.config)
+    }
+}

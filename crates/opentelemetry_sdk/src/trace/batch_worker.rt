@@ -1,0 +1,195 @@
+//! What a batch processor does with its queue, which has one producer: a span is offered and goes as far as it goes, a
+//! request is carried out, and the worker works until it has nothing to do. Between two calls the queue is at rest.
+
+ghost use Rattle.std.specs.Prelude.{◌≡◌, false, List, [], ◌∷◌, Ok, OnOk, slice_get, option_copied};
+ghost use Rattle.std.specs.Result.{result_err};
+ghost use Rattle.std.specs.declared.alloc.AllocError.{AllocError};
+ghost use Rattle.otel_pipeline.specs.ProcessorTelling.{TakesNothing, TakesSpan};
+ghost use Rattle.otel_pipeline.specs.Provider.{IsInternalFailure};
+ghost use Rattle.otel_batch.specs.Slots.{slot_waits};
+ghost use Rattle.otel_batch.specs.KnownRequests.{step_of};
+ghost use Rattle.otel_batch.specs.MachineRun.{Run};
+ghost use Rattle.otel_batch.specs.declared.machine.state.Request.TheVariants as request;
+ghost use Rattle.otel_batch.specs.declared.machine.step.Outcome as outcomes;
+ghost use Rattle.opentelemetry_sdk.specs.WorkedOff.{CollectsAnswer, TicksAndWorks, WorkerWorks, WorksOff, last_error};
+ghost use Rattle.opentelemetry_sdk.specs.WorkedOff.{next_of_producer, next_of_worker, producers_next};
+ghost use Rattle.opentelemetry_sdk.specs.BatchProcessor.{IsAtRest, OffersSpan, PostsResource, Requests, queue_telling};
+
+use otel_base::error::{OTelSdkError, OTelSdkResult};
+use otel_base::resource::Resource;
+use otel_batch::machine::{BatchMachine, Outcome, Request, Slot, Step, Worker};
+use otel_export::trace::{SpanData, SpanExporter};
+use std::alloc::Global;
+
+/// The span is queued, or dropped: one that is not sampled, and one that finds the queue full or closed.
+pub(crate) fn offer_span<E: SpanExporter>(machine: &mut BatchMachine<E>, span: SpanData)
+    requires { IsAtRest machine.old }
+    ensures offers { OffersSpan E.SpanExporter machine.old span machine.new }
+    ensures told { TakesSpan {T = Unit {0}} {E = AllocError} (queue_telling E.SpanExporter machine.old) span
+        (Ok (tt {0})) (queue_telling E.SpanExporter machine.new) }
+    ensures rest { IsAtRest machine.new }
+{
+    machine.is_sound();
+    let _ = machine.step(Step::Offer(0, span));
+    work_off_span(machine);
+}
+
+/// The resource is posted for the exporter; a full or closed queue drops it.
+pub(crate) fn post_resource<E: SpanExporter>(machine: &mut BatchMachine<E>, resource: Resource)
+    requires { IsAtRest machine.old }
+    ensures posts { PostsResource E.SpanExporter machine.old resource machine.new }
+    ensures told { queue_telling E.SpanExporter machine.new ≡ queue_telling E.SpanExporter machine.old }
+    ensures rest { IsAtRest machine.new }
+{
+    let _ = machine.step(Step::PostResource(resource));
+}
+
+/// A flush or a shutdown is carried out. `AlreadyShutdown` behind a completed shutdown, and an `InternalFailure` where
+/// the control queue is full, change nothing.
+pub(crate) fn make_request<E: SpanExporter>(
+    machine: &mut BatchMachine<E>,
+    alloc: Global,
+    asked: Request,
+) -> OTelSdkResult
+    requires { IsAtRest machine.old }
+    ensures gives { Requests E.SpanExporter asked machine.old result machine.new }
+    ensures told { TakesNothing (queue_telling E.SpanExporter machine.old) (queue_telling E.SpanExporter machine.new) }
+    ensures emptied { OnOk result (machine.new.waiting ≡ []) }
+    ensures is_open { asked ≡ request.Flush → machine.new.control.closed ≡ machine.old.control.closed }
+    ensures rest { IsAtRest machine.new }
+{
+    machine.is_sound();
+    match post_request(machine, asked) {
+        Outcome::Requested => answer_request(machine),
+        Outcome::Closed => Err(OTelSdkError::AlreadyShutdown),
+        _ => Err(crowded(alloc)),
+    }
+}
+
+/// The control queue has no room. The reason stays empty where there is no memory for it.
+fn crowded(alloc: Global) -> OTelSdkError
+    ensures { IsInternalFailure result }
+{
+    let reason = String::from_str(alloc, "control queue is full");
+    OTelSdkError::InternalFailure(reason.unwrap_or(String::new(alloc)))
+}
+
+/// The worker works until it has nothing to do. The answer is that of its last drain, Ok where it had none.
+pub(crate) fn run_worker<E: SpanExporter>(machine: &mut BatchMachine<E>) -> OTelSdkResult
+    requires { IsAtRest machine.old }
+    ensures works { WorkerWorks E.SpanExporter machine.old result machine.new }
+    ensures told { TakesNothing (queue_telling E.SpanExporter machine.old) (queue_telling E.SpanExporter machine.new) }
+    ensures closed { machine.new.control.closed ≡ machine.old.control.closed }
+    ensures rest { IsAtRest machine.new }
+{
+    machine.is_sound();
+    let answer = work_off_messages(machine);
+    machine.is_sound();
+    answer
+}
+
+/// The timer runs out, and the worker carries its drain out. The answer is that of its last drain.
+pub(crate) fn drain_by_tick<E: SpanExporter>(machine: &mut BatchMachine<E>) -> OTelSdkResult
+    requires rest { IsAtRest machine.old }
+    requires is_open { machine.old.control.closed ≡ false }
+    ensures drains { TicksAndWorks E.SpanExporter machine.old result machine.new }
+    ensures told { TakesNothing (queue_telling E.SpanExporter machine.old) (queue_telling E.SpanExporter machine.new) }
+    ensures closed { machine.new.control.closed ≡ machine.old.control.closed }
+    ensures rest { IsAtRest machine.new }
+{
+    machine.is_sound();
+    let _ = machine.step(Step::Tick);
+    let answer = work_off_messages(machine);
+    machine.is_sound();
+    answer
+}
+
+/// The producer does what is to be done with the span that it was offered.
+fn work_off_span<E: SpanExporter>(machine: &mut BatchMachine<E>)
+    ensures { (os : List outcomes.Outcome) × WorksOff E.SpanExporter next_of_producer machine.old os machine.new }
+{
+    while let Some(step) = producer_step(machine.slot(0)) {
+        let _ = machine.step(step);
+    }
+}
+
+/// What the producer of this slot does next with its span, if it has one.
+fn producer_step(slot: Option<&Slot>) -> Option<Step>
+    ensures { result ≡ producers_next (option_copied slot.entry) }
+{
+    match slot {
+        Some(Slot::Holding(_, _)) => Some(Step::Send(0)),
+        Some(Slot::Refused) => Some(Step::Undo(0)),
+        Some(Slot::Asking) => Some(Step::Ask(0)),
+        Some(Slot::Posting) => Some(Step::Post(0)),
+        Some(Slot::Resetting) => Some(Step::Reset(0)),
+        _ => None,
+    }
+}
+
+/// The worker works until the producer has an answer to collect or there is nothing to do. The answer is that of its
+/// last drain for which nobody waits, Ok where it had none.
+fn work_off_messages<E: SpanExporter>(machine: &mut BatchMachine<E>) -> OTelSdkResult
+    ensures { WorkerWorks E.SpanExporter machine.old result machine.new }
+{
+    let mut answer = Ok(());
+    while let Some(step) = worker_step_of(machine) {
+        answer = answer_after(answer, machine.step(step));
+    }
+    answer
+}
+
+/// The last drain's answer behind one more step.
+fn answer_after(answer: OTelSdkResult, outcome: Outcome) -> OTelSdkResult
+    ensures { result_err result ≡ last_error (result_err answer) (outcome ∷ []) }
+{
+    match outcome {
+        Outcome::Finished(None) => Ok(()),
+        Outcome::Finished(Some(error)) => Err(error),
+        _ => answer,
+    }
+}
+
+/// The worker's next step, if it has something to do and the producer has no answer.
+fn worker_step_of<E: SpanExporter>(machine: &BatchMachine<E>) -> Option<Step>
+    ensures { result ≡ next_of_worker machine.now.control }
+{
+    if let Some(Slot::Answered(_)) = machine.slot(0) {
+        return None;
+    }
+    match machine.worker() {
+        Worker::Gone => None,
+        Worker::Ready if machine.messages_len() == 0 => None,
+        Worker::Ready => Some(Step::Take),
+        Worker::Clearing => Some(Step::Clear),
+        Worker::Loading(_) => Some(Step::Load),
+        Worker::Pulling => Some(Step::Pull),
+        Worker::Handing => Some(Step::HandOver),
+        Worker::Subtracting(_) => Some(Step::Subtract),
+        Worker::Finishing => Some(Step::Finish),
+        Worker::Closing(_) => Some(Step::Close),
+    }
+}
+
+/// The producer asks the worker.
+fn post_request<E: SpanExporter>(machine: &mut BatchMachine<E>, asked: Request) -> Outcome
+    ensures { Run E.SpanExporter machine.old (step_of asked 0 ∷ []) (result ∷ []) machine.new }
+{
+    match asked {
+        Request::Flush => machine.step(Step::RequestFlush(0)),
+        Request::Shutdown => machine.step(Step::RequestShutdown(0)),
+    }
+}
+
+/// The worker works until the producer that waits has its answer, which it collects.
+fn answer_request<E: SpanExporter>(machine: &mut BatchMachine<E>) -> OTelSdkResult
+    requires { slot_waits (slice_get machine.old.control.slots 0) ≡ 1 }
+    ensures { CollectsAnswer E.SpanExporter machine.old result machine.new }
+{
+    let _ = work_off_messages(machine);
+    machine.is_sound();
+    match machine.step(Step::Collect(0)) {
+        Outcome::Collected(answer) => answer,
+        _ => unreachable!(),
+    }
+}

@@ -1,0 +1,193 @@
+//! A processor of a provider: one that exports at once, one that exports batches, or an object of the caller's own.
+
+use crate::trace::BatchSpanProcessor;
+use opentelemetry::{Context, Moment};
+use otel_base::error::OTelSdkResult;
+use otel_base::resource::Resource;
+use otel_base::trace::BatchStrings;
+use otel_batch::trace::BatchConfigBuilder;
+use otel_export::trace::{ExporterBox, SpanData, SpanExporter};
+use otel_pipeline::trace::{
+    DrainDue, KeepsBatches, OverExporter, SimpleSpanProcessor, Span, SpanProcessor, StoresBatches,
+};
+use std::alloc::{AllocError, Global};
+use std::time::Duration;
+
+/// A processor of one of three kinds, generic in the exporter of the first two and in the third.
+#[derive(Drop)]
+pub enum ProcessorOf<E, C> {
+    Simple(SimpleSpanProcessor<E>),
+    Batch(BatchSpanProcessor<E>),
+    Custom(C),
+}
+
+/// What a provider of the SDK holds.
+pub type Processor = ProcessorOf<ExporterBox, Box<dyn SpanProcessor>>;
+
+impl<E: SpanExporter, C: SpanProcessor> SpanProcessor for ProcessorOf<E, C> {
+    ghost use Rattle.std.specs.Prelude.{◌≡◌, Ok};
+    ghost use Rattle.otel_batch.specs.declared.machine.state.Request.TheVariants as request;
+    ghost use Rattle.otel_export.specs.RestsOr.{RestsOr};
+    ghost use Rattle.otel_pipeline.specs.SimpleProcessor.{HandsResource, SimpleEnds, SimpleShuts, simple_telling};
+    ghost use Rattle.opentelemetry_sdk.specs.BatchProcessor.{BatchEnds, BatchRequests, BatchTakesResource, batch_telling};
+    ghost use Rattle.opentelemetry_sdk.specs.ProcessorKinds.{ProcessorGives};
+    ghost use Rattle.opentelemetry_sdk.specs.declared.trace.processor.ProcessorOf.TheVariants as kinds;
+
+    ghost told = { λ p. elim p [
+      | kinds.Simple simple ↦ simple_telling E.SpanExporter simple
+      | kinds.Batch batch ↦ batch_telling E.SpanExporter batch
+      | kinds.Custom custom ↦ C.told custom
+    ] };
+
+    ghost start_gives = { λ p span cx edited q. ProcessorGives (λ a b. (b ≡ a) × (edited ≡ span))
+        (λ a b. (b ≡ a) × (edited ≡ span)) (λ a b. C.start_gives a span cx edited b) p q };
+
+    ghost end_gives = { λ p span r q. ProcessorGives (λ a b. SimpleEnds E.SpanExporter a span r b)
+        (λ a b. BatchEnds E.SpanExporter a span r b) (λ a b. C.end_gives a span r b) p q };
+
+    ghost flush_gives = { λ p r q. ProcessorGives (λ a b. (r ≡ Ok tt) × (b ≡ a))
+        (λ a b. BatchRequests E.SpanExporter request.Flush a r b) (λ a b. C.flush_gives a r b) p q };
+
+    ghost shutdown_gives = { λ p timeout r q. ProcessorGives (λ a b. SimpleShuts E.SpanExporter a timeout r b)
+        (λ a b. BatchRequests E.SpanExporter request.Shutdown a r b) (λ a b. C.shutdown_gives a timeout r b) p q };
+
+    ghost resource_gives = { λ p resource r q. ProcessorGives
+        (λ a b. RestsOr (λ x answer y. HandsResource E.SpanExporter x resource answer y) a r b)
+        (λ a b. RestsOr (λ x answer y. BatchTakesResource E.SpanExporter x resource answer y) a r b)
+        (λ a b. RestsOr (λ x answer y. C.resource_gives x resource answer y) a r b) p q };
+
+    fn on_start(&mut self, span: &mut Span, cx: &Context) {
+        match self {
+            ProcessorOf::Simple(simple) => simple.on_start(span, cx),
+            ProcessorOf::Batch(batch) => batch.on_start(span, cx),
+            ProcessorOf::Custom(custom) => custom.on_start(span, cx),
+        }
+    }
+
+    #[inline(always)]
+    fn on_end(&mut self, span: SpanData) -> Result<(), AllocError> {
+        match self {
+            ProcessorOf::Simple(simple) => simple.on_end(span),
+            ProcessorOf::Batch(batch) => batch.on_end(span),
+            ProcessorOf::Custom(custom) => custom.on_end(span),
+        }
+    }
+
+    fn force_flush(&mut self) -> OTelSdkResult {
+        match self {
+            ProcessorOf::Simple(simple) => simple.force_flush(),
+            ProcessorOf::Batch(batch) => batch.force_flush(),
+            ProcessorOf::Custom(custom) => custom.force_flush(),
+        }
+    }
+
+    fn shutdown_with_timeout(&mut self, timeout: Duration) -> OTelSdkResult {
+        match self {
+            ProcessorOf::Simple(simple) => simple.shutdown_with_timeout(timeout),
+            ProcessorOf::Batch(batch) => batch.shutdown_with_timeout(timeout),
+            ProcessorOf::Custom(custom) => custom.shutdown_with_timeout(timeout),
+        }
+    }
+
+    fn shutdown(&mut self) -> OTelSdkResult {
+        match self {
+            ProcessorOf::Simple(simple) => simple.shutdown(),
+            ProcessorOf::Batch(batch) => batch.shutdown(),
+            ProcessorOf::Custom(custom) => custom.shutdown(),
+        }
+    }
+
+    fn set_resource(&mut self, resource: &Resource) -> Result<(), AllocError> {
+        match self {
+            ProcessorOf::Simple(simple) => simple.set_resource(resource),
+            ProcessorOf::Batch(batch) => batch.set_resource(resource),
+            ProcessorOf::Custom(custom) => custom.set_resource(resource),
+        }
+    }
+}
+
+impl<E: SpanExporter, C: SpanProcessor> DrainDue for ProcessorOf<E, C> {
+    ghost use Rattle.opentelemetry_sdk.specs.BatchProcessor.{BatchDue};
+    ghost use Rattle.opentelemetry_sdk.specs.ProcessorKinds.{NothingDue, ProcessorGives};
+
+    ghost due_gives = { λ p now r q. ProcessorGives (λ a b. NothingDue a r b)
+        (λ a b. BatchDue E.SpanExporter a now r b) (λ a b. NothingDue a r b) p q };
+
+    /// Nothing is due but for a batch processor.
+    fn drain_due(&mut self, now: Moment) -> OTelSdkResult {
+        match self {
+            ProcessorOf::Simple(_) => Ok(()),
+            ProcessorOf::Batch(batch) => batch.drain_due(now),
+            ProcessorOf::Custom(_) => Ok(()),
+        }
+    }
+}
+
+impl<E: StoresBatches, C: SpanProcessor> KeepsBatches for ProcessorOf<E, C> {
+    ghost use Rattle.otel_pipeline.specs.KeptBatches.{simple_appends, simple_rests, simple_stays};
+    ghost use Rattle.opentelemetry_sdk.specs.KeptByBatch.{batch_stays, due_appends, requests_appends, stays};
+    ghost use Rattle.opentelemetry_sdk.specs.KeptByKinds.{processor_appends, processor_keeps, processor_loses};
+    ghost use Rattle.opentelemetry_sdk.specs.KeptByKinds.{processor_stays};
+    ghost use Rattle.otel_batch.specs.declared.machine.state.Request.TheVariants as request;
+
+    ghost kept = { processor_keeps E.kept };
+
+    ghost lost = { processor_loses E.lost };
+
+    ghost appends = { record {
+      starts = λ p span cx edited q given. processor_stays E.kept E.lost _ _ _
+          (λ a b h. simple_stays E.kept E.lost a b h)
+          (λ a b h. batch_stays E.SpanExporter E.kept E.appends E.lost a b h) p q given;
+      ends = λ p span answer q given. processor_appends E.kept _ _ _
+          (λ a b h. simple_appends E.kept E.SpanExporter E.appends.exports a span answer b h)
+          (λ a b h. stays E.SpanExporter E.kept E.appends a.machine b.machine h.offers.exporter) p q given;
+      flushes = λ p answer q given. processor_appends E.kept _ _ _ (λ a b h. simple_rests E.kept a b h.1)
+          (λ a b h. requests_appends E.SpanExporter E.kept E.appends request.Flush a.machine answer b.machine
+          h.requests) p q given;
+      shuts = λ p timeout answer q given. processor_appends E.kept _ _ _
+          (λ a b h. E.appends.shuts a.exporter timeout answer b.exporter h.gives)
+          (λ a b h. requests_appends E.SpanExporter E.kept E.appends request.Shutdown a.machine answer b.machine
+          h.requests) p q given;
+      runs = λ p now answer q given. processor_appends E.kept _ _ _ (λ a b h. simple_rests E.kept a b h.rest)
+          (λ a b h. due_appends E.SpanExporter E.kept E.appends a now answer b h) p q given;
+    } };
+
+    fn batches(&self) -> &[Vec<SpanData>] {
+        match self {
+            ProcessorOf::Simple(simple) => simple.exporter().batches(),
+            ProcessorOf::Batch(batch) => batch.exporter().batches(),
+            ProcessorOf::Custom(_) => &[],
+        }
+    }
+
+    fn lost_batches(&self) -> u64 {
+        match self {
+            ProcessorOf::Simple(simple) => simple.exporter().lost_batches(),
+            ProcessorOf::Batch(batch) => batch.exporter().lost_batches(),
+            ProcessorOf::Custom(_) => 0,
+        }
+    }
+}
+
+impl<E: SpanExporter, C: SpanProcessor> OverExporter for ProcessorOf<E, C> {
+    ghost use Rattle.std.specs.Prelude.{◌≡◌, false};
+    ghost use Rattle.otel_batch.specs.PlainBatchConfig.{PlainBatchConfig, IsBatchConfigOf};
+    ghost use Rattle.opentelemetry_sdk.specs.BatchProcessor.{first_processor};
+    ghost use Rattle.opentelemetry_sdk.specs.declared.trace.processor.ProcessorOf.TheVariants as kinds;
+
+    type Exporter = E;
+
+    ghost simple_of = { λ exporter. kinds.Simple (record { exporter = exporter; is_shut = false }) };
+
+    ghost batch_of = { λ exporter strings made. (config : PlainBatchConfig) × IsBatchConfigOf strings config
+        × (made ≡ kinds.Batch (first_processor exporter config)) };
+
+    fn simple(alloc: Global, exporter: E) -> Self {
+        ProcessorOf::Simple(SimpleSpanProcessor::new(alloc, exporter))
+    }
+
+    fn batch(alloc: Global, exporter: E, strings: &BatchStrings) -> Result<Self, AllocError> {
+        let config = BatchConfigBuilder::from_strings(strings).build();
+        Ok(ProcessorOf::Batch(BatchSpanProcessor::new(alloc, exporter, config)?))
+    }
+}
