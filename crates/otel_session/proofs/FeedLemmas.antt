@@ -5,7 +5,8 @@ use Rattle.otel_base.specs.declared.error.OTelSdkError.{OTelSdkError}
 use Rattle.otel_base.specs.declared.trace.sampler.ShouldSample as sampling
 use Rattle.otel_base.specs.declared.trace.id_generator.IdGenerator as drawing
 use Rattle.otel_pipeline.specs.declared.trace.span_processor.SpanProcessor.{Ghosts}
-use Rattle.otel_session.specs.declared.exported.KeepsBatches as keeping
+use Rattle.otel_pipeline.specs.declared.trace.drain_due.DrainDue as timing
+use Rattle.otel_pipeline.specs.declared.trace.keeps_batches.KeepsBatches as keeping
 use Rattle.otel_session.specs.SessionDelivery.{SessionState, Feeds, Closes}
 use Rattle.otel_session.specs.declared.session.FeedError.{FeedError}
 use Rattle.otel_lines.specs.AnswerText.{reply_text, replies_text}
@@ -23,13 +24,13 @@ none_refused_more [] reply h k = (k, tt)
 none_refused_more (first ∷ replies) reply h k = (h.0, none_refused_more replies reply h.1 k)
 
 -- a text that was fed to a new output
-pub fed_anew : {P S G : Type 0} (calls : Ghosts P) (batches : keeping.Ghosts P) (sampler : sampling.Ghosts S) (ids : drawing.Ghosts G) (old new : SessionState P S G) (bytes before now : List ℕ) (answer said : Result (Unit {0}) FeedError)
-    → answer ≡ said → before ≡ [] → Feeds calls batches sampler ids old bytes before answer now new → Feeds calls batches sampler ids old bytes [] said now new
-fed_anew calls batches sampler ids old new bytes before now answer said e b h =
-    subst (λ (l : List ℕ). Feeds calls batches sampler ids old bytes l said now new) b (subst (λ (r : Result (Unit {0}) FeedError). Feeds calls batches sampler ids old bytes before r now new) e h)
+pub fed_anew : {P S G : Type 0} (calls : Ghosts P) (timer : timing.Ghosts P) (batches : keeping.Ghosts P) (sampler : sampling.Ghosts S) (ids : drawing.Ghosts G) (old new : SessionState P S G) (bytes before now : List ℕ) (answer said : Result (Unit {0}) FeedError)
+    → answer ≡ said → before ≡ [] → Feeds calls timer batches sampler ids old bytes before answer now new → Feeds calls timer batches sampler ids old bytes [] said now new
+fed_anew calls timer batches sampler ids old new bytes before now answer said e b h =
+    subst (λ (l : List ℕ). Feeds calls timer batches sampler ids old bytes l said now new) b (subst (λ (r : Result (Unit {0}) FeedError). Feeds calls timer batches sampler ids old bytes before r now new) e h)
 
 -- a session that closed well
-pub closed_well : {P S G : Type 0} (calls : Ghosts P) (batches : keeping.Ghosts P) (sampler : sampling.Ghosts S) (ids : drawing.Ghosts G) (session : SessionState P S G) (before now : List ℕ) (answer : Result (Unit {0}) OTelSdkError)
-    → not (is_ok answer) ≡ false → Closes calls batches sampler ids session before answer now → Closes calls batches sampler ids session before (Ok tt) now
-closed_well calls batches sampler ids session before now (Ok _) e h = h
-closed_well calls batches sampler ids session before now (Err error) e h = cc
+pub closed_well : {P S G : Type 0} (calls : Ghosts P) (timer : timing.Ghosts P) (batches : keeping.Ghosts P) (sampler : sampling.Ghosts S) (ids : drawing.Ghosts G) (session : SessionState P S G) (before now : List ℕ) (answer : Result (Unit {0}) OTelSdkError)
+    → not (is_ok answer) ≡ false → Closes calls timer batches sampler ids session before answer now → Closes calls timer batches sampler ids session before (Ok tt) now
+closed_well calls timer batches sampler ids session before now (Ok _) e h = h
+closed_well calls timer batches sampler ids session before now (Err error) e h = cc

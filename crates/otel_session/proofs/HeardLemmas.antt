@@ -9,15 +9,16 @@ use Rattle.otel_base.specs.declared.trace.id_generator.IdGenerator as drawing
 use Rattle.otel_export.specs.PlainSpanData.{PlainSpanData}
 use Rattle.otel_pipeline.specs.Deliveries.{Delivery, EachFollows, EachOpenHears}
 use Rattle.otel_pipeline.specs.Ending.{Delivers, TakesAndTells, end_delivers}
-use Rattle.otel_pipeline.specs.Provider.{FlushesProcessor, ProviderState, ShutsDown}
+use Rattle.otel_pipeline.specs.Provider.{FlushesProcessor, ProviderState, RunsProcessor, ShutsDown}
 use Rattle.otel_pipeline.specs.SpanHistory.{SpanHistory, Edit, begun, over}
 use Rattle.otel_pipeline.specs.declared.trace.span_processor.SpanProcessor.{Ghosts}
+use Rattle.otel_pipeline.specs.declared.trace.drain_due.DrainDue as timing
 use Rattle.otel_pipeline.proofs.Following.{EachFollows-same, EachFollows-append, EachStays, hears_first, hears_no_delivery, hears_on, stays_same, stays_asked}
-use Rattle.otel_lines.specs.Commands.{PlainCommand, start, child, remote, attr, event, status, inject, end, flush, shutdown}
+use Rattle.otel_lines.specs.Commands.{PlainCommand, start, child, remote, attr, event, status, inject, end, flush, run, shutdown}
 use Rattle.otel_lines.specs.PlainReply.{PlainReply}
 use Rattle.otel_session.specs.SessionDelivery.{Course, EditDemands, InjectDemands, StartDemands, ChildDemands, EndDemands, Demands, DemandAll, batches_of_first}
 use Rattle.otel_session.specs.Traces.{is_shutdown}
-use Rattle.otel_session.specs.declared.exported.KeepsBatches as keeping
+use Rattle.otel_pipeline.specs.declared.trace.keeps_batches.KeepsBatches as keeping
 use Rattle.otel_lines.specs.declared.reply.Answer.{Answer}
 use Rattle.otel_session.proofs.TraceLemmas.{one_stays}
 
@@ -26,7 +27,7 @@ end_delivers_none : (is_shut : Bool) (span : PlainSpanData) (refused : ℕ) → 
 end_delivers_none true span refused e = refl
 end_delivers_none false span refused e = cc
 
-module _ {P S G : Type 0} (calls : Ghosts P) (sampler : sampling.Ghosts S) (ids : drawing.Ghosts G) where
+module _ {P S G : Type 0} (calls : Ghosts P) (timer : timing.Ghosts P) (sampler : sampling.Ghosts S) (ids : drawing.Ghosts G) where
   -- the processors of a provider that stays the same
   same_stays : (old new : Course P S G) → new ≡ old → EachStays calls old.provider.processors new.provider.processors
   same_stays old new e = stays_same calls old.provider.processors new.provider.processors (ap (λ (c : Course P S G). map calls.told c.provider.processors) e)
@@ -64,7 +65,7 @@ module _ {P S G : Type 0} (calls : Ghosts P) (sampler : sampling.Ghosts S) (ids 
       delivery_closes_none old.provider.is_shut _ old.provider.processors new.provider.processors h.refused h.delivered
 
   -- any command but a shutdown leaves each processor as open or shut as it was
-  one_closes_none : (scope : PlainScope) (old new : Course P S G) (command : PlainCommand) (answer : Answer) (ds : List Delivery) → is_shutdown command ≡ false → Demands calls sampler ids scope old command answer ds new
+  one_closes_none : (scope : PlainScope) (old new : Course P S G) (command : PlainCommand) (answer : Answer) (ds : List Delivery) → is_shutdown command ≡ false → Demands calls timer sampler ids scope old command answer ds new
       → EachStays calls old.provider.processors new.provider.processors
   one_closes_none scope old new (start span name moment) answer ds e h = start_closes_none scope old new span _ name moment (old.histories span) answer ds h
   one_closes_none scope old new (child span parent name moment) answer ds e h = child_closes_none scope old new span (old.histories parent) name moment answer ds h
@@ -76,6 +77,8 @@ module _ {P S G : Type 0} (calls : Ghosts P) (sampler : sampling.Ghosts S) (ids 
   one_closes_none scope old new (end span moment) answer ds e h = end_closes_none old new span moment (old.histories span) answer ds h
   one_closes_none scope old new flush answer ds e h =
       stays_asked calls (FlushesProcessor calls) (λ p r q flushes. flushes.is_open) old.provider.processors new.provider.processors h.flushes.failed h.flushes.asked
+  one_closes_none scope old new (run moment) answer ds e h =
+      stays_asked calls (RunsProcessor calls timer moment) (λ p r q runs. runs.is_open) old.provider.processors new.provider.processors h.runs.failed h.runs.asked
   one_closes_none scope old new shutdown answer ds e h = cc
 
   -- a start delivers nothing
@@ -105,7 +108,7 @@ module _ {P S G : Type 0} (calls : Ghosts P) (sampler : sampling.Ghosts S) (ids 
   shut_end_delivers_none old new name moment (Some (begun from edits)) answer ds shut h = h.delivers ∙ end_delivers_none old.provider.is_shut _ h.refused shut
 
   -- at a shut provider no command delivers anything
-  shut_delivers_none : (scope : PlainScope) (old new : Course P S G) (command : PlainCommand) (answer : Answer) (ds : List Delivery) → old.provider.is_shut ≡ true → Demands calls sampler ids scope old command answer ds new → ds ≡ []
+  shut_delivers_none : (scope : PlainScope) (old new : Course P S G) (command : PlainCommand) (answer : Answer) (ds : List Delivery) → old.provider.is_shut ≡ true → Demands calls timer sampler ids scope old command answer ds new → ds ≡ []
   shut_delivers_none scope old new (start span name moment) answer ds shut h = start_delivers_none scope old new span _ name moment (old.histories span) answer ds h
   shut_delivers_none scope old new (child span parent name moment) answer ds shut h = child_delivers_none scope old new span (old.histories parent) name moment answer ds h
   shut_delivers_none scope old new (remote span header name moment) answer ds shut h = start_delivers_none scope old new span h.cx name moment (old.histories span) answer ds h.starts
@@ -115,6 +118,7 @@ module _ {P S G : Type 0} (calls : Ghosts P) (sampler : sampling.Ghosts S) (ids 
   shut_delivers_none scope old new (inject span) answer ds shut h = inject_delivers_none old new (old.histories span) answer ds h
   shut_delivers_none scope old new (end span moment) answer ds shut h = shut_end_delivers_none old new span moment (old.histories span) answer ds shut h
   shut_delivers_none scope old new flush answer ds shut h = h.delivers
+  shut_delivers_none scope old new (run moment) answer ds shut h = h.delivers
   shut_delivers_none scope old new shutdown answer ds shut h = h.delivers
 
   shut_by : (is_shut : Bool) (old new : ProviderState P S G) (timeout : ℕ) (said : Result (Unit {0}) OTelSdkError)
@@ -123,7 +127,7 @@ module _ {P S G : Type 0} (calls : Ghosts P) (sampler : sampling.Ghosts S) (ids 
   shut_by false old new timeout said e h = ap (λ (p : ProviderState P S G). p.is_shut) h.rest
 
   -- behind a shutdown the provider is shut
-  shutdown_shuts : (scope : PlainScope) (old new : Course P S G) (command : PlainCommand) (answer : Answer) (ds : List Delivery) → is_shutdown command ≡ true → Demands calls sampler ids scope old command answer ds new
+  shutdown_shuts : (scope : PlainScope) (old new : Course P S G) (command : PlainCommand) (answer : Answer) (ds : List Delivery) → is_shutdown command ≡ true → Demands calls timer sampler ids scope old command answer ds new
       → (new.provider.is_shut ≡ true) × (ds ≡ [])
   shutdown_shuts scope old new (start span name moment) answer ds e h = cc
   shutdown_shuts scope old new (child span parent name moment) answer ds e h = cc
@@ -134,18 +138,19 @@ module _ {P S G : Type 0} (calls : Ghosts P) (sampler : sampling.Ghosts S) (ids 
   shutdown_shuts scope old new (inject span) answer ds e h = cc
   shutdown_shuts scope old new (end span moment) answer ds e h = cc
   shutdown_shuts scope old new flush answer ds e h = cc
+  shutdown_shuts scope old new (run moment) answer ds e h = cc
   shutdown_shuts scope old new shutdown answer ds e h = (shut_by old.provider.is_shut old.provider new.provider 5_000_000_000 h.said refl h.shuts, h.delivers)
 
   -- a shut provider stays shut over any command
   stays_shut : (b : Bool) (scope : PlainScope) (old new : Course P S G) (command : PlainCommand) (answer : Answer) (ds : List Delivery) → is_shutdown command ≡ b → old.provider.is_shut ≡ true
-      → Demands calls sampler ids scope old command answer ds new → new.provider.is_shut ≡ true
+      → Demands calls timer sampler ids scope old command answer ds new → new.provider.is_shut ≡ true
   stays_shut true scope old new command answer ds e shut h = (shutdown_shuts scope old new command answer ds e h).0
-  stays_shut false scope old new command answer ds e shut h = (one_stays calls sampler ids scope old new command answer ds e h).0 ∙ shut
+  stays_shut false scope old new command answer ds e shut h = (one_stays calls timer sampler ids scope old new command answer ds e h).0 ∙ shut
 
-module _ {P S G : Type 0} (calls : Ghosts P) (keeps : keeping.Ghosts P) (sampler : sampling.Ghosts S) (ids : drawing.Ghosts G) where
+module _ {P S G : Type 0} (calls : Ghosts P) (timer : timing.Ghosts P) (keeps : keeping.Ghosts P) (sampler : sampling.Ghosts S) (ids : drawing.Ghosts G) where
   -- each processor follows all that is delivered
   pub all_follow : (scope : PlainScope) (old new : Course P S G) (before shown : ℕ) (commands : List PlainCommand) (replies : List PlainReply) (ds : List Delivery)
-      → DemandAll calls keeps sampler ids scope old before commands replies ds new shown → EachFollows calls ds old.provider.processors new.provider.processors
+      → DemandAll calls timer keeps sampler ids scope old before commands replies ds new shown → EachFollows calls ds old.provider.processors new.provider.processors
   all_follow scope old new before shown [] [] ds h =
       let same = EachFollows-same calls old.provider.processors new.provider.processors (ap (λ (c : Course P S G). map calls.told c.provider.processors) h.1) in
       subst (λ (l : List Delivery). EachFollows calls l old.provider.processors new.provider.processors) (sym h.0) same
@@ -158,19 +163,19 @@ module _ {P S G : Type 0} (calls : Ghosts P) (keeps : keeping.Ghosts P) (sampler
 
   -- nothing is delivered from a shut provider on
   none_behind : (scope : PlainScope) (old new : Course P S G) (before shown : ℕ) (commands : List PlainCommand) (replies : List PlainReply) (ds : List Delivery)
-      → old.provider.is_shut ≡ true → DemandAll calls keeps sampler ids scope old before commands replies ds new shown → ds ≡ []
+      → old.provider.is_shut ≡ true → DemandAll calls timer keeps sampler ids scope old before commands replies ds new shown → ds ≡ []
   none_behind scope old new before shown [] [] ds shut h = h.0
   none_behind scope old new before shown [] (r ∷ replies) ds shut h = absurd h
   none_behind scope old new before shown (c ∷ commands) [] ds shut h = absurd h
   none_behind scope old new before shown (c ∷ commands) (r ∷ replies) ds shut h =
-      let first : h.first ≡ [] = shut_delivers_none calls sampler ids scope old h.middle c r.answer h.first shut h.replied.demands in
-      let still = stays_shut calls sampler ids (is_shutdown c) scope old h.middle c r.answer h.first refl shut h.replied.demands in
+      let first : h.first ≡ [] = shut_delivers_none calls timer sampler ids scope old h.middle c r.answer h.first shut h.replied.demands in
+      let still = stays_shut calls timer sampler ids (is_shutdown c) scope old h.middle c r.answer h.first refl shut h.replied.demands in
       let rest = none_behind scope h.middle new (length (batches_of_first keeps h.middle.provider.processors)) shown commands replies h.rest still h.others in
       h.joined ∙ ap (λ (l : List Delivery). l ++ h.rest) first ∙ rest
 
   -- each processor that was open hears all that is delivered
   pub all_heard : (scope : PlainScope) (old new : Course P S G) (before shown : ℕ) (commands : List PlainCommand) (replies : List PlainReply) (ds : List Delivery)
-      → DemandAll calls keeps sampler ids scope old before commands replies ds new shown → EachOpenHears calls ds old.provider.processors new.provider.processors
+      → DemandAll calls timer keeps sampler ids scope old before commands replies ds new shown → EachOpenHears calls ds old.provider.processors new.provider.processors
   all_heard scope old new before shown [] [] ds h =
       let same = EachFollows-same calls old.provider.processors new.provider.processors (ap (λ (c : Course P S G). map calls.told c.provider.processors) h.1) in
       subst (λ (l : List Delivery). EachOpenHears calls l old.provider.processors new.provider.processors) (sym h.0) (hears_no_delivery calls old.provider.processors new.provider.processors same)
@@ -181,12 +186,12 @@ module _ {P S G : Type 0} (calls : Ghosts P) (keeps : keeping.Ghosts P) (sampler
     where
       by : (b : Bool) → is_shutdown c ≡ b → EachOpenHears calls h.rest h.middle.provider.processors new.provider.processors → EachOpenHears calls ds old.provider.processors new.provider.processors
       by false e rest =
-          let stays = one_closes_none calls sampler ids scope old h.middle c r.answer h.first e h.replied.demands in
+          let stays = one_closes_none calls timer sampler ids scope old h.middle c r.answer h.first e h.replied.demands in
           let first = hears_first calls h.first old.provider.processors h.middle.provider.processors h.replied.follows stays in
           let both = hears_on calls h.first h.rest old.provider.processors h.middle.provider.processors new.provider.processors first stays rest in
           subst (λ (l : List Delivery). EachOpenHears calls l old.provider.processors new.provider.processors) (sym h.joined) both
       by true e _ =
-          let shut = shutdown_shuts calls sampler ids scope old h.middle c r.answer h.first e h.replied.demands in
+          let shut = shutdown_shuts calls timer sampler ids scope old h.middle c r.answer h.first e h.replied.demands in
           let rest = none_behind scope h.middle new (length (batches_of_first keeps h.middle.provider.processors)) shown commands replies h.rest shut.0 h.others in
           let none : ds ≡ [] = h.joined ∙ ap (λ (l : List Delivery). l ++ h.rest) shut.1 ∙ rest in
           let follows = all_follow scope old new before shown (c ∷ commands) (r ∷ replies) ds h in

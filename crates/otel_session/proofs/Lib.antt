@@ -1,4 +1,5 @@
 pub mod CloseLemmas
+pub mod EmptiedLemmas
 pub mod FeedLemmas
 pub mod HeardLemmas
 pub mod RunLemmas

@@ -6,28 +6,30 @@ use Rattle.otel_base.specs.declared.trace.sampler.ShouldSample as sampling
 use Rattle.otel_base.specs.declared.trace.id_generator.IdGenerator as drawing
 use Rattle.otel_pipeline.specs.Deliveries.{Delivery}
 use Rattle.otel_pipeline.specs.declared.trace.span_processor.SpanProcessor.{Ghosts}
+use Rattle.otel_pipeline.specs.declared.trace.drain_due.DrainDue as timing
 use Rattle.otel_pipeline.proofs.Following.{EachFollows-same, hears_no_delivery}
-use Rattle.otel_session.specs.declared.exported.KeepsBatches as keeping
-use Rattle.otel_session.specs.KeptBatches.{Grows}
+use Rattle.otel_pipeline.specs.declared.trace.keeps_batches.KeepsBatches as keeping
+use Rattle.otel_pipeline.specs.KeptBatches.{Grows}
 use Rattle.otel_lines.specs.Commands.{PlainCommand, may_lose, plain_command, plain_commands}
 use Rattle.otel_lines.specs.PlainReply.{PlainReply}
 use Rattle.otel_export.specs.PlainSpanData.{spans_in}
-use Rattle.otel_session.specs.SessionDelivery.{Histories, Course, course_of, Describe, Demands, Replies, DemandAll, Demanded, SessionState, CarriesOutOne, session_batches, batches_of_first, unshown, CarriesOut, Shows, NoneLeft, LosesNone, RunsAll, Refuses, RunsBeginning}
+use Rattle.otel_session.specs.SessionDelivery.{EmptiedBehind, EmptiesIfOk, Histories, Course, course_of, Describe, Demands, Replies, DemandAll, Demanded, SessionState, CarriesOutOne, session_batches, batches_of_first, unshown, CarriesOut, Shows, NoneLeft, LosesNone, RunsAll, Refuses, RunsBeginning}
 use Rattle.otel_lines.specs.declared.command.Command.{Command}
+use Rattle.otel_session.proofs.EmptiedLemmas.{emptied_more, emptied_nothing}
 use Rattle.otel_session.proofs.HeardLemmas.{all_follow, all_heard}
 use Rattle.otel_session.proofs.TraceLemmas.{children_agree, contexts_kept}
 use Rattle.otel_session.proofs.ShownLemmas.{shows_nothing, shows_no_more, shows_reply, none_left}
 
-module _ {P S G : Type 0} (calls : Ghosts P) (keeps : keeping.Ghosts P) (sampler : sampling.Ghosts S) (ids : drawing.Ghosts G) where
+module _ {P S G : Type 0} (calls : Ghosts P) (timer : timing.Ghosts P) (keeps : keeping.Ghosts P) (sampler : sampling.Ghosts S) (ids : drawing.Ghosts G) where
   -- one more command
   DemandAll-push : (scope : PlainScope) (old middle new : Course P S G) (before shown : ℕ) (commands : List PlainCommand) (replies : List PlainReply) (ds d : List Delivery) (command : PlainCommand) (reply : PlainReply)
-      → DemandAll calls keeps sampler ids scope old before commands replies ds middle shown → Replies calls keeps sampler ids scope middle shown command reply d new
-      → DemandAll calls keeps sampler ids scope old before (commands ++ command ∷ []) (replies ++ reply ∷ []) (ds ++ d) new (length (batches_of_first keeps new.provider.processors))
+      → DemandAll calls timer keeps sampler ids scope old before commands replies ds middle shown → Replies calls timer keeps sampler ids scope middle shown command reply d new
+      → DemandAll calls timer keeps sampler ids scope old before (commands ++ command ∷ []) (replies ++ reply ∷ []) (ds ++ d) new (length (batches_of_first keeps new.provider.processors))
   DemandAll-push scope old middle new before shown [] [] ds d command reply h k = record {
     middle = new;
     first = d;
     rest = [];
-    replied = subst (λ (n : ℕ). Replies calls keeps sampler ids scope old n command reply d new) h.2 (subst (λ (m : Course P S G). Replies calls keeps sampler ids scope m shown command reply d new) h.1 k);
+    replied = subst (λ (n : ℕ). Replies calls timer keeps sampler ids scope old n command reply d new) h.2 (subst (λ (m : Course P S G). Replies calls timer keeps sampler ids scope m shown command reply d new) h.1 k);
     others = (refl, refl, refl);
     joined = ap (λ (l : List Delivery). l ++ d) h.0 ∙ sym (append-nil d);
   }
@@ -43,7 +45,7 @@ module _ {P S G : Type 0} (calls : Ghosts P) (keeps : keeping.Ghosts P) (sampler
   }
 
   -- no command
-  carries_nothing : (session : SessionState P S G) → CarriesOut calls keeps sampler ids session [] [] session
+  carries_nothing : (session : SessionState P S G) → CarriesOut calls timer keeps sampler ids session [] [] session
   carries_nothing session = record {
     scope = refl;
     demanded = λ histories describes. record {
@@ -61,9 +63,10 @@ module _ {P S G : Type 0} (calls : Ghosts P) (keeps : keeping.Ghosts P) (sampler
 
   -- one command, with a reply that shows what was left to show
   pub record AnswersOne (old : SessionState P S G) (command : Command) (reply : PlainReply) (new : SessionState P S G) : Type 0 where
-    pub carried : CarriesOutOne calls sampler ids old.scope old.provider old.spans (plain_command command) reply.answer new.provider new.spans
+    pub carried : CarriesOutOne calls timer sampler ids old.scope old.provider old.spans (plain_command command) reply.answer new.provider new.spans
     pub shows : reply.exported ≡ unshown keeps new
     pub loses_none : IsFalse (may_lose (plain_command command)) → LosesNone keeps old new
+    pub empties : EmptiesIfOk calls (plain_command command) reply.answer new.provider.processors
     pub rest : new ≡ record old { provider = new.provider; spans = new.spans }
     pub appends : Grows (session_batches keeps old) (session_batches keeps new)
 
@@ -73,18 +76,18 @@ module _ {P S G : Type 0} (calls : Ghosts P) (keeps : keeping.Ghosts P) (sampler
 
   -- one more command, with its reply
   demands_more : (old middle new : SessionState P S G) (histories : Histories) (done : List Command) (replies : List PlainReply) (command : Command) (reply : PlainReply)
-      → middle.scope ≡ old.scope → Describe histories old.spans → Demanded calls keeps sampler ids old histories (plain_commands done) replies middle → AnswersOne middle command reply new
-      → Demanded calls keeps sampler ids old histories (plain_commands (done ++ command ∷ [])) (replies ++ reply ∷ []) (marked new)
+      → middle.scope ≡ old.scope → Describe histories old.spans → Demanded calls timer keeps sampler ids old histories (plain_commands done) replies middle → AnswersOne middle command reply new
+      → Demanded calls timer keeps sampler ids old histories (plain_commands (done ++ command ∷ [])) (replies ++ reply ∷ []) (marked new)
   demands_more old middle new histories done replies command reply scope describes first answers =
       let next = answers.carried first.after first.describes in
       let shown : new.shown ≡ middle.shown = ap (λ (s : SessionState P S G). s.shown) answers.rest in
-      let replied : Replies calls keeps sampler ids old.scope (course_of middle first.after) middle.shown (plain_command command) reply next.deliveries (course_of new next.after) = record {
-        demands = subst (λ (s : PlainScope). Demands calls sampler ids s (course_of middle first.after) (plain_command command) reply.answer next.deliveries (course_of new next.after)) scope next.demands;
+      let replied : Replies calls timer keeps sampler ids old.scope (course_of middle first.after) middle.shown (plain_command command) reply next.deliveries (course_of new next.after) = record {
+        demands = subst (λ (s : PlainScope). Demands calls timer sampler ids s (course_of middle first.after) (plain_command command) reply.answer next.deliveries (course_of new next.after)) scope next.demands;
         follows = next.follows;
         shows = answers.shows ∙ ap (λ (n : ℕ). spans_in (drop n (session_batches keeps new))) shown;
         loses_none = answers.loses_none;
       } in
-      let demands = subst (λ (commands : List PlainCommand). DemandAll calls keeps sampler ids old.scope (course_of old histories) old.shown commands (replies ++ reply ∷ []) (first.deliveries ++ next.deliveries) (course_of new next.after) (length (session_batches keeps new)))
+      let demands = subst (λ (commands : List PlainCommand). DemandAll calls timer keeps sampler ids old.scope (course_of old histories) old.shown commands (replies ++ reply ∷ []) (first.deliveries ++ next.deliveries) (course_of new next.after) (length (session_batches keeps new)))
       (sym (map-append plain_command done (command ∷ [])))
       (DemandAll-push old.scope (course_of old histories) (course_of middle first.after) (course_of new next.after) old.shown middle.shown (plain_commands done) replies first.deliveries next.deliveries (plain_command command) reply first.demands replied) in
       let commands = plain_commands (done ++ command ∷ []) in
@@ -93,15 +96,15 @@ module _ {P S G : Type 0} (calls : Ghosts P) (keeps : keeping.Ghosts P) (sampler
         after = next.after;
         demands = demands;
         describes = next.describes;
-        follows = all_follow calls keeps sampler ids old.scope (course_of old histories) (course_of new next.after) old.shown _ commands (replies ++ reply ∷ []) _ demands;
-        heard = all_heard calls keeps sampler ids old.scope (course_of old histories) (course_of new next.after) old.shown _ commands (replies ++ reply ∷ []) _ demands;
-        contexts = contexts_kept calls keeps sampler ids old.scope (course_of old histories) (course_of new next.after) old.shown _ commands (replies ++ reply ∷ []) _ old.spans new.spans describes next.describes demands;
-        traces = children_agree calls keeps sampler ids old.scope (course_of old histories) (course_of new next.after) old.shown _ commands (replies ++ reply ∷ []) _ new.spans next.describes demands;
+        follows = all_follow calls timer keeps sampler ids old.scope (course_of old histories) (course_of new next.after) old.shown _ commands (replies ++ reply ∷ []) _ demands;
+        heard = all_heard calls timer keeps sampler ids old.scope (course_of old histories) (course_of new next.after) old.shown _ commands (replies ++ reply ∷ []) _ demands;
+        contexts = contexts_kept calls timer keeps sampler ids old.scope (course_of old histories) (course_of new next.after) old.shown _ commands (replies ++ reply ∷ []) _ old.spans new.spans describes next.describes demands;
+        traces = children_agree calls timer keeps sampler ids old.scope (course_of old histories) (course_of new next.after) old.shown _ commands (replies ++ reply ∷ []) _ new.spans next.describes demands;
       }
 
   carries_more : (old middle new : SessionState P S G) (done : List Command) (replies : List PlainReply) (command : Command) (reply : PlainReply)
-      → CarriesOut calls keeps sampler ids old done replies middle → AnswersOne middle command reply new
-      → CarriesOut calls keeps sampler ids old (done ++ command ∷ []) (replies ++ reply ∷ []) (marked new)
+      → CarriesOut calls timer keeps sampler ids old done replies middle → AnswersOne middle command reply new
+      → CarriesOut calls timer keeps sampler ids old (done ++ command ∷ []) (replies ++ reply ∷ []) (marked new)
   carries_more old middle new done replies command reply carried answers = record {
     scope = ap (λ (s : SessionState P S G). s.scope) answers.rest ∙ carried.scope;
     demanded = λ histories describes. demands_more old middle new histories done replies command reply carried.scope describes (carried.demanded histories describes) answers;
@@ -111,9 +114,10 @@ module _ {P S G : Type 0} (calls : Ghosts P) (keeps : keeping.Ghosts P) (sampler
   pub record Ran (old : SessionState P S G) (commands left : List Command) (replies : List PlainReply) (new : SessionState P S G) : Type 0 where
     pub done : List Command
     pub parts : commands ≡ done ++ left
-    pub carried : CarriesOut calls keeps sampler ids old done replies new
+    pub carried : CarriesOut calls timer keeps sampler ids old done replies new
     pub shown : Shows keeps old replies new
     pub none_left : NoneLeft keeps replies new
+    pub emptied : EmptiedBehind calls (plain_commands done) replies new.provider.processors
 
   -- none of them
   pub ran_nothing : (session : SessionState P S G) (commands left : List Command) → left ≡ commands → Ran session commands left [] session
@@ -123,19 +127,21 @@ module _ {P S G : Type 0} (calls : Ghosts P) (keeps : keeping.Ghosts P) (sampler
     carried = carries_nothing session;
     shown = shows_nothing keeps session;
     none_left = inl refl;
+    emptied = emptied_nothing calls session.provider.processors;
   }
 
   -- all of them
   pub ran_all : (old new : SessionState P S G) (commands left : List Command) (replies before now : List PlainReply)
-      → left ≡ [] → Ran old commands left replies new → now ≡ before ++ replies → RunsAll calls keeps sampler ids old commands before now new
+      → left ≡ [] → Ran old commands left replies new → now ≡ before ++ replies → RunsAll calls timer keeps sampler ids old commands before now new
   ran_all old new commands left replies before now none ran appended =
       let whole = ran.parts ∙ ap (λ (l : List Command). ran.done ++ l) none ∙ append-nil ran.done in
       record {
         replies = replies;
         appended = appended;
-        carried = subst (λ (l : List Command). CarriesOut calls keeps sampler ids old l replies new) (sym whole) ran.carried;
+        carried = subst (λ (l : List Command). CarriesOut calls timer keeps sampler ids old l replies new) (sym whole) ran.carried;
         shown = ran.shown;
         none_left = ran.none_left;
+        emptied = subst (λ (l : List Command). EmptiedBehind calls (plain_commands l) replies new.provider.processors) (sym whole) ran.emptied;
       }
 
   -- one more, with its reply, which marks what it shows
@@ -147,16 +153,19 @@ module _ {P S G : Type 0} (calls : Ghosts P) (keeps : keeping.Ghosts P) (sampler
       record {
         done = ran.done ++ command ∷ [];
         parts = ran.parts ∙ ap (λ (l : List Command). ran.done ++ l) popped ∙ sym (append_assoc ran.done (command ∷ []) left);
-        carried = subst (λ (s : SessionState P S G). CarriesOut calls keeps sampler ids old (ran.done ++ command ∷ []) (replies ++ reply ∷ []) s) (sym e)
+        carried = subst (λ (s : SessionState P S G). CarriesOut calls timer keeps sampler ids old (ran.done ++ command ∷ []) (replies ++ reply ∷ []) s) (sym e)
             (carries_more old middle answered ran.done replies command reply ran.carried answers);
         shown = shows_reply keeps old answered new replies reply shown answers.shows e;
         none_left = none_left keeps answered new (replies ++ reply ∷ []) e;
+        emptied = subst (λ (s : SessionState P S G). EmptiedBehind calls (plain_commands (ran.done ++ command ∷ [])) (replies ++ reply ∷ []) s.provider.processors) (sym e)
+            (subst (λ (l : List PlainCommand). EmptiedBehind calls l (replies ++ reply ∷ []) answered.provider.processors) (sym (map-append plain_command ran.done (command ∷ [])))
+            (emptied_more calls (plain_commands ran.done) replies (plain_command command) reply answered.provider.processors answers.empties));
       }
 
   -- one more, which was refused
   pub ran_refused : (old middle new : SessionState P S G) (commands queue left : List Command) (replies before now : List PlainReply) (command : Command)
       → queue ≡ command ∷ left → Ran old commands queue replies middle → now ≡ before ++ replies
-      → Refuses calls keeps sampler ids middle command new → RunsBeginning calls keeps sampler ids old commands before now new
+      → Refuses calls timer keeps sampler ids middle command new → RunsBeginning calls timer keeps sampler ids old commands before now new
   ran_refused old middle new commands queue left replies before now command popped ran appended refuses = record {
     done = ran.done;
     refused = command;
@@ -169,6 +178,7 @@ module _ {P S G : Type 0} (calls : Ghosts P) (keeps : keeping.Ghosts P) (sampler
       carried = ran.carried;
       shown = ran.shown;
       none_left = ran.none_left;
+      emptied = ran.emptied;
     };
     refuses = refuses;
   }

@@ -1,5 +1,5 @@
 -- The spans that replies show: those of the batches behind the ones that were shown before.
-use Rattle.std.proofs.Common.{◌≡◌, ◌≤◌, ℕ, List, [], ◌∷◌, ◌++◌, Result, Ok, Err, IfOk, OnErr, Option, Some, None, Bool, true, false, ◌||◌, MatchBool, length, take, drop, refl, sym, ◌∙◌, ap, subst, append_assoc, append-nil, arith, take_all, length-append, length-take-le, take-append-drop, drop_of_length-le, inl, inr}
+use Rattle.std.proofs.Common.{◌≡◌, ◌≤◌, ℕ, List, [], ◌∷◌, ◌++◌, Result, Ok, Err, IfOk, OnErr, Option, Some, None, Bool, true, false, ◌||◌, MatchBool, length, take, drop, refl, sym, ◌∙◌, ap, subst, append-nil, arith, take_all, length-append, length-take-le, take-append-drop, drop_of_length-le, inl, inr}
 use Rattle.std.proofs.lemmas.List.{take-append-le, drop-append-le}
 use Rattle.std.proofs.lemmas.List.Concat.{flat_map-append}
 use Rattle.otel_export.specs.PlainSpanData.{PlainSpanData, spans_in}
@@ -7,11 +7,12 @@ use Rattle.opentelemetry.specs.Plain.{PlainScope}
 use Rattle.opentelemetry.specs.Plain.{PlainContext}
 use Rattle.otel_pipeline.specs.Each.{Each}
 use Rattle.otel_pipeline.specs.declared.trace.span_processor.SpanProcessor.{Ghosts}
+use Rattle.otel_pipeline.specs.declared.trace.drain_due.DrainDue as timing
 use Rattle.otel_base.specs.declared.trace.sampler.SamplingDecision.{SamplingDecision}
 use Rattle.otel_base.specs.declared.trace.sampler.SamplingDecision.TheVariants as decisions
 use Rattle.otel_base.specs.declared.trace.sampler.ShouldSample as sampling
 use Rattle.otel_base.specs.declared.trace.id_generator.IdGenerator as drawing
-use Rattle.otel_pipeline.specs.Provider.{Flushes, FlushesProcessor, ProviderState, ShutsDown, ShutsProcessor}
+use Rattle.otel_pipeline.specs.Provider.{Flushes, FlushesProcessor, ProviderState, RunsDue, RunsProcessor, ShutsDown, ShutsProcessor}
 use Rattle.std.specs.Bool.{OnTrue, OnFalse}
 use Rattle.std.specs.Result.{IsErrOf}
 use Rattle.otel_pipeline.specs.Starting.{PassesThrough, Decided, StartsOpen}
@@ -20,10 +21,10 @@ use Rattle.otel_base.specs.declared.error.OTelSdkError.{OTelSdkError}
 use Rattle.otel_base.specs.declared.error.OTelSdkError.TheVariants as errors
 use Rattle.otel_pipeline.specs.Ending.{TakesAndTells}
 use Rattle.otel_pipeline.specs.SpanHistory.{PlainSpan, SpanStart, SpanHistory, over}
-use Rattle.otel_session.specs.declared.exported.KeepsBatches as keeping
+use Rattle.otel_pipeline.specs.declared.trace.keeps_batches.KeepsBatches as keeping
 use Rattle.std.specs.declared.alloc.AllocError.{AllocError}
 use Rattle.opentelemetry.specs.PlainContexts.{empty_span_context}
-use Rattle.otel_session.specs.KeptBatches.{Grows, OnlyAppends}
+use Rattle.otel_pipeline.specs.KeptBatches.{Grows, OnlyAppends, appends_more, appends_none}
 use Rattle.otel_session.specs.Headers.{child_cx}
 use Rattle.otel_session.specs.OpenSpans.{NamedSpans, named, StartsNamed, ChildStartsNamed, MayStart, ChildMayStart, MayDeliver}
 use Rattle.otel_session.proofs.NamedLemmas.{refused_start_asks_none, refused_child_asks_none}
@@ -33,13 +34,6 @@ use Rattle.otel_session.specs.SessionDelivery.{SessionState, Shows, NoneLeft, se
 
 abbrev Batches : Type 0
 Batches = List (List PlainSpanData)
-
--- nothing behind
-pub appends_none : {X : Type 0} (xs ys : List X) → ys ≡ xs → Grows xs ys
-appends_none xs ys e = ([], e ∙ sym (append-nil xs))
-
-appends_more : {X : Type 0} (xs ys zs : List X) → Grows xs ys → Grows ys zs → Grows xs zs
-appends_more {X} xs ys zs h k = (h.0 ++ k.0, k.1 ∙ ap (λ (l : List X). l ++ k.0) h.1 ∙ append_assoc xs h.0 k.0)
 
 appends_length : {X : Type 0} (xs ys : List X) → Grows xs ys → length xs ≤ length ys
 appends_length xs ys h = let e = ap length h.1 ∙ length-append xs h.0 in omega (arith, e)
@@ -114,7 +108,7 @@ LosesNothing keeps old new = Grows (batches_of_first keeps old) (batches_of_firs
 pub loses_nothing : {P : Type 0} (keeps : keeping.Ghosts P) (old new : List P) → new ≡ old → LosesNothing keeps old new
 loses_nothing keeps old new e = (appends_none _ _ (ap (batches_of_first keeps) e), ap (losses_of_first keeps) e)
 
-module _ {P : Type 0} (calls : Ghosts P) (keeps : keeping.Ghosts P) (law : OnlyAppends calls keeps.kept keeps.lost) where
+module _ {P : Type 0} (calls : Ghosts P) (timer : timing.Ghosts P) (keeps : keeping.Ghosts P) (law : OnlyAppends calls timer keeps.kept keeps.lost) where
   -- what the first processor keeps where each took part in a start
   passed_keeps : (cx : PlainContext) (s t : PlainSpan) (ps qs : List P) → PassesThrough calls cx s ps qs t → LosesNothing keeps ps qs
   passed_keeps cx s t [] [] h = loses_nothing keeps [] [] refl
@@ -142,7 +136,7 @@ module _ {P : Type 0} (calls : Ghosts P) (keeps : keeping.Ghosts P) (law : OnlyA
   may_deliver_keeps ps qs (inl e) = appends_none _ _ (ap (batches_of_first keeps) e)
   may_deliver_keeps ps qs (inr h) = asked_keeps h.0 ps qs h.2.0 h.2.2
 
-module _ {P S G : Type 0} (calls : Ghosts P) (keeps : keeping.Ghosts P) (law : OnlyAppends calls keeps.kept keeps.lost) (sampler : sampling.Ghosts S) (ids : drawing.Ghosts G) where
+module _ {P S G : Type 0} (calls : Ghosts P) (timer : timing.Ghosts P) (keeps : keeping.Ghosts P) (law : OnlyAppends calls timer keeps.kept keeps.lost) (sampler : sampling.Ghosts S) (ids : drawing.Ghosts G) where
   -- a provider that stays as it was, but for its generator
   stays_keeps : (old new : ProviderState P S G) (g : G) → new ≡ record old { id_generator = g } → LosesNothing keeps old.processors new.processors
   stays_keeps old new g e = loses_nothing keeps old.processors new.processors (ap (λ (r : ProviderState P S G). r.processors) e)
@@ -151,7 +145,7 @@ module _ {P S G : Type 0} (calls : Ghosts P) (keeps : keeping.Ghosts P) (law : O
       → MatchBool starts_nothing ((history ≡ over empty_span_context old.span_limits) × (new ≡ old)) (StartsOpen calls sampler ids old scope builder cx now history new)
       → LosesNothing keeps old.processors new.processors
   started_keeps true old new scope builder cx now history h = stays_keeps old new old.id_generator h.1
-  started_keeps false old new scope builder cx now history h = decided_keeps calls keeps law h.answer.decision cx _ old.processors new.processors history h.decided
+  started_keeps false old new scope builder cx now history h = decided_keeps calls timer keeps law h.answer.decision cx _ old.processors new.processors history h.decided
 
   starts_named_keeps : (old new : ProviderState P S G) (scope : PlainScope) (spans after : NamedSpans) (name : List ℕ) (cx : PlainContext) (called : List ℕ) (now : ℕ) (found : Option PlainSpan) (answer : Answer)
       → StartsNamed calls sampler ids old scope spans name cx called now found answer new after → LosesNothing keeps old.processors new.processors
@@ -174,7 +168,7 @@ module _ {P S G : Type 0} (calls : Ghosts P) (keeps : keeping.Ghosts P) (law : O
   child_keeps old new scope spans after name parent called now found (Ok answer) h k = child_starts_named_keeps old new scope spans after name parent called now answer h
   child_keeps old new scope spans after name parent called now found (Err error) h k = loses_nothing keeps old.processors new.processors (refused_child_asks_none sampler ids old new parent called found k)
 
-module _ {P : Type 0} (calls : Ghosts P) (keeps : keeping.Ghosts P) (law : OnlyAppends calls keeps.kept keeps.lost) where
+module _ {P : Type 0} (calls : Ghosts P) (timer : timing.Ghosts P) (keeps : keeping.Ghosts P) (law : OnlyAppends calls timer keeps.kept keeps.lost) where
   first_flushed : (ps qs : List P) (rs : List (Result (Unit {0}) OTelSdkError)) → Each (FlushesProcessor calls) ps rs qs → Grows (batches_of_first keeps ps) (batches_of_first keeps qs)
   first_flushed [] [] [] h = ([], refl)
   first_flushed [] (q ∷ qs) [] h = absurd h
@@ -191,9 +185,21 @@ module _ {P : Type 0} (calls : Ghosts P) (keeps : keeping.Ghosts P) (law : OnlyA
   first_shut timeout (p ∷ ps) [] (r ∷ rs) h = absurd h
   first_shut timeout (p ∷ ps) (q ∷ qs) (r ∷ rs) h = law.shuts p timeout r q h.0.gives
 
+  first_ran : (now : ℕ) (ps qs : List P) (rs : List (Result (Unit {0}) OTelSdkError)) → Each (RunsProcessor calls timer now) ps rs qs → Grows (batches_of_first keeps ps) (batches_of_first keeps qs)
+  first_ran now [] [] [] h = ([], refl)
+  first_ran now [] (q ∷ qs) [] h = absurd h
+  first_ran now [] qs (r ∷ rs) h = absurd h
+  first_ran now (p ∷ ps) qs [] h = absurd h
+  first_ran now (p ∷ ps) [] (r ∷ rs) h = absurd h
+  first_ran now (p ∷ ps) (q ∷ qs) (r ∷ rs) h = law.runs p now r q h.0.gives
+
   -- what the first processor keeps where each was asked to flush
   pub flush_keeps : {S G : Type 0} (old new : ProviderState P S G) (said : Result (Unit {0}) OTelSdkError) → Flushes calls old said new → Grows (batches_of_first keeps old.processors) (batches_of_first keeps new.processors)
   flush_keeps old new said h = first_flushed old.processors new.processors h.asked.0 h.asked.2
+
+  -- where each was told the time
+  pub run_keeps : {S G : Type 0} (old new : ProviderState P S G) (now : ℕ) (said : Result (Unit {0}) OTelSdkError) → RunsDue calls timer now old said new → Grows (batches_of_first keeps old.processors) (batches_of_first keeps new.processors)
+  run_keeps old new now said h = first_ran now old.processors new.processors h.asked.0 h.asked.2
 
   -- and where the provider was asked to shut down
   pub shutdown_keeps : {S G : Type 0} (old new : ProviderState P S G) (timeout : ℕ) (said : Result (Unit {0}) OTelSdkError) → OnTrue old.is_shut (IsErrOf said errors.AlreadyShutdown × (new ≡ old)) → OnFalse old.is_shut (ShutsDown calls old timeout said new)

@@ -9,14 +9,15 @@ use Rattle.otel_base.specs.declared.error.OTelSdkError.TheVariants as errors
 use Rattle.otel_pipeline.specs.SpanHistory.{PlainSpan, SpanHistory, begun, over, Edit, set_attribute, set_status, not_recording, data_of, span_of}
 use Rattle.otel_base.specs.declared.trace.sampler.ShouldSample as sampling
 use Rattle.otel_base.specs.declared.trace.id_generator.IdGenerator as drawing
-use Rattle.otel_pipeline.specs.Provider.{Flushes, ProviderState, ShutsDown}
+use Rattle.otel_pipeline.specs.Provider.{Flushes, ProviderState, RunsDue, ShutsDown}
 use Rattle.opentelemetry.specs.PlainContexts.{root_cx}
 use Rattle.otel_pipeline.specs.Deliveries.{EachFollows}
 use Rattle.otel_pipeline.specs.Ending.{end_delivers}
 use Rattle.otel_pipeline.proofs.Following.{EachFollows-same, delivered_follows}
 use Rattle.otel_pipeline.proofs.SpanLaws.{edited-recording}
 use Rattle.otel_pipeline.specs.declared.trace.span_processor.SpanProcessor.{Ghosts}
-use Rattle.otel_lines.specs.Commands.{start, child, remote, attr, event, status, inject, end, flush, shutdown}
+use Rattle.otel_pipeline.specs.declared.trace.drain_due.DrainDue as timing
+use Rattle.otel_lines.specs.Commands.{start, child, remote, attr, event, status, inject, end, flush, run, shutdown}
 use Rattle.otel_session.specs.OpenSpans.{NamedSpans, named, is_name, PutsSpan, SameSpans, StartsNamed, ChildStartsNamed, EditsNamed, EndsNamed, InjectsNamed}
 use Rattle.otel_session.specs.Headers.{SaysContext, child_cx}
 use Rattle.otel_session.specs.SessionDelivery.{Course, Histories, with_history, Describe, EditDemands, InjectDemands, StartDemands, CarriesOutOne, DemandsOne, bare_event, call_answer}
@@ -72,25 +73,25 @@ edits_one : {P S G : Type 0} (p : ProviderState P S G) (histories : Histories) (
 edits_one p histories old new name edit answer describes h =
     edit_found p histories old new name edit (histories name) answer refl describes (subst (λ (o : Option PlainSpan). EditsNamed old name edit o answer new) (describes name) h)
 
-module _ {P S G : Type 0} (calls : Ghosts P) (sampler : sampling.Ghosts S) (ids : drawing.Ghosts G) (scope : PlainScope) where
+module _ {P S G : Type 0} (calls : Ghosts P) (timer : timing.Ghosts P) (sampler : sampling.Ghosts S) (ids : drawing.Ghosts G) (scope : PlainScope) where
   -- edits
   pub carries_attr : (p : ProviderState P S G) (old new : NamedSpans) (name key value : List ℕ) (answer : Answer)
       → EditsNamed old name (set_attribute (record { key = key; value = text value })) (named old name) answer new
-      → CarriesOutOne calls sampler ids scope p old (attr name key value) answer p new
+      → CarriesOutOne calls timer sampler ids scope p old (attr name key value) answer p new
   carries_attr p old new name key value answer h = λ histories describes.
       let one = edits_one p histories old new name (set_attribute (record { key = key; value = text value })) answer describes h in
       record { deliveries = []; after = one.after; demands = one.demands; describes = one.describes; follows = EachFollows-same calls p.processors p.processors refl }
 
   pub carries_event : (p : ProviderState P S G) (old new : NamedSpans) (name called : List ℕ) (moment : ℕ) (answer : Answer)
       → EditsNamed old name (bare_event called moment) (named old name) answer new
-      → CarriesOutOne calls sampler ids scope p old (event name called moment) answer p new
+      → CarriesOutOne calls timer sampler ids scope p old (event name called moment) answer p new
   carries_event p old new name called moment answer h = λ histories describes.
       let one = edits_one p histories old new name (bare_event called moment) answer describes h in
       record { deliveries = []; after = one.after; demands = one.demands; describes = one.describes; follows = EachFollows-same calls p.processors p.processors refl }
 
   pub carries_status : (p : ProviderState P S G) (old new : NamedSpans) (name : List ℕ) (how : PlainStatus) (answer : Answer)
       → EditsNamed old name (set_status how) (named old name) answer new
-      → CarriesOutOne calls sampler ids scope p old (status name how) answer p new
+      → CarriesOutOne calls timer sampler ids scope p old (status name how) answer p new
   carries_status p old new name how answer h = λ histories describes.
       let one = edits_one p histories old new name (set_status how) answer describes h in
       record { deliveries = []; after = one.after; demands = one.demands; describes = one.describes; follows = EachFollows-same calls p.processors p.processors refl }
@@ -98,7 +99,7 @@ module _ {P S G : Type 0} (calls : Ghosts P) (sampler : sampling.Ghosts S) (ids 
   -- an end
   end_found : (p q : ProviderState P S G) (histories : Histories) (old new : NamedSpans) (name : List ℕ) (moment : ℕ) (found : Option SpanHistory) (answer : Answer) → histories name ≡ found → Describe histories old
       → EndsNamed calls p old name moment (option_map span_of found) answer q new
-      → DemandsOne calls sampler ids scope p histories (end name moment) answer q new
+      → DemandsOne calls timer sampler ids scope p histories (end name moment) answer q new
   end_found p q histories old new name moment None answer e describes h = record {
     deliveries = [];
     after = histories;
@@ -124,7 +125,7 @@ module _ {P S G : Type 0} (calls : Ghosts P) (sampler : sampling.Ghosts S) (ids 
 
   pub carries_end : (p q : ProviderState P S G) (old new : NamedSpans) (name : List ℕ) (moment : ℕ) (answer : Answer)
       → EndsNamed calls p old name moment (named old name) answer q new
-      → CarriesOutOne calls sampler ids scope p old (end name moment) answer q new
+      → CarriesOutOne calls timer sampler ids scope p old (end name moment) answer q new
   carries_end p q old new name moment answer h = λ histories describes. end_found p q histories old new name moment (histories name) answer refl describes
       (subst (λ (o : Option PlainSpan). EndsNamed calls p old name moment o answer q new) (describes name) h)
 
@@ -158,7 +159,7 @@ module _ {P S G : Type 0} (calls : Ghosts P) (sampler : sampling.Ghosts S) (ids 
   pub carries_start : (p q : ProviderState P S G) (old new : NamedSpans) (name called : List ℕ) (moment : ℕ) (answer : Answer)
       → map calls.told q.processors ≡ map calls.told p.processors
       → StartsNamed calls sampler ids p scope old name root_cx called moment (named old name) answer q new
-      → CarriesOutOne calls sampler ids scope p old (start name called moment) answer q new
+      → CarriesOutOne calls timer sampler ids scope p old (start name called moment) answer q new
   carries_start p q old new name called moment answer t h = λ histories describes.
       let one = starts_one p q histories old new name root_cx called moment answer describes t h in
       record { deliveries = []; after = one.after; demands = one.demands; describes = one.describes; follows = EachFollows-same calls p.processors q.processors t }
@@ -167,7 +168,7 @@ module _ {P S G : Type 0} (calls : Ghosts P) (sampler : sampling.Ghosts S) (ids 
   child_found : (p q : ProviderState P S G) (histories : Histories) (old new : NamedSpans) (name parent called : List ℕ) (moment : ℕ) (found : Option SpanHistory) (answer : Answer) → histories parent ≡ found → Describe histories old
       → map calls.told q.processors ≡ map calls.told p.processors
       → ChildStartsNamed calls sampler ids p scope old name (option_map span_of found) called moment answer q new
-      → DemandsOne calls sampler ids scope p histories (child name parent called moment) answer q new
+      → DemandsOne calls timer sampler ids scope p histories (child name parent called moment) answer q new
   child_found p q histories old new name parent called moment None answer e describes t h = record {
     deliveries = [];
     after = histories;
@@ -182,7 +183,7 @@ module _ {P S G : Type 0} (calls : Ghosts P) (sampler : sampling.Ghosts S) (ids 
   pub carries_child : (p q : ProviderState P S G) (old new : NamedSpans) (name parent called : List ℕ) (moment : ℕ) (answer : Answer)
       → map calls.told q.processors ≡ map calls.told p.processors
       → ChildStartsNamed calls sampler ids p scope old name (named old parent) called moment answer q new
-      → CarriesOutOne calls sampler ids scope p old (child name parent called moment) answer q new
+      → CarriesOutOne calls timer sampler ids scope p old (child name parent called moment) answer q new
   carries_child p q old new name parent called moment answer t h = λ histories describes. child_found p q histories old new name parent called moment (histories parent) answer refl describes t
       (subst (λ (o : Option PlainSpan). ChildStartsNamed calls sampler ids p scope old name o called moment answer q new) (describes parent) h)
 
@@ -190,7 +191,7 @@ module _ {P S G : Type 0} (calls : Ghosts P) (sampler : sampling.Ghosts S) (ids 
   pub carries_remote : (p q : ProviderState P S G) (old new : NamedSpans) (name header called : List ℕ) (moment : ℕ) (cx : PlainContext) (answer : Answer)
       → SaysContext header cx → map calls.told q.processors ≡ map calls.told p.processors
       → StartsNamed calls sampler ids p scope old name cx called moment (named old name) answer q new
-      → CarriesOutOne calls sampler ids scope p old (remote name header called moment) answer q new
+      → CarriesOutOne calls timer sampler ids scope p old (remote name header called moment) answer q new
   carries_remote p q old new name header called moment cx answer says t h = λ histories describes.
       let one = starts_one p q histories old new name cx called moment answer describes t h in
       record { deliveries = []; after = one.after; demands = record { cx = cx; says = says; starts = one.demands }; describes = one.describes; follows = EachFollows-same calls p.processors q.processors t }
@@ -202,7 +203,7 @@ module _ {P S G : Type 0} (calls : Ghosts P) (sampler : sampling.Ghosts S) (ids 
   inject_found p histories (Some history) answer h = record { says = h; delivers = refl; rest = refl }
 
   pub carries_inject : (p : ProviderState P S G) (spans : NamedSpans) (name : List ℕ) (answer : Answer) → InjectsNamed (named spans name) answer
-      → CarriesOutOne calls sampler ids scope p spans (inject name) answer p spans
+      → CarriesOutOne calls timer sampler ids scope p spans (inject name) answer p spans
   carries_inject p spans name answer h = λ histories describes. record {
     deliveries = [];
     after = histories;
@@ -214,11 +215,22 @@ module _ {P S G : Type 0} (calls : Ghosts P) (sampler : sampling.Ghosts S) (ids 
   -- the provider's own calls
   pub carries_flush : (p q : ProviderState P S G) (spans : NamedSpans) (said : Result (Unit {0}) OTelSdkError)
       → Flushes calls p said q → EachFollows calls [] p.processors q.processors
-      → CarriesOutOne calls sampler ids scope p spans flush (call_answer said) q spans
+      → CarriesOutOne calls timer sampler ids scope p spans flush (call_answer said) q spans
   carries_flush p q spans said flushes follows = λ histories describes. record {
     deliveries = [];
     after = histories;
     demands = record { said = said; flushes = flushes; says = refl; delivers = refl; histories = refl };
+    describes = describes;
+    follows = follows;
+  }
+
+  pub carries_run : (p q : ProviderState P S G) (spans : NamedSpans) (moment : ℕ) (said : Result (Unit {0}) OTelSdkError)
+      → RunsDue calls timer moment p said q → EachFollows calls [] p.processors q.processors
+      → CarriesOutOne calls timer sampler ids scope p spans (run moment) (call_answer said) q spans
+  carries_run p q spans moment said runs follows = λ histories describes. record {
+    deliveries = [];
+    after = histories;
+    demands = record { said = said; runs = runs; says = refl; delivers = refl; histories = refl };
     describes = describes;
     follows = follows;
   }
@@ -232,7 +244,7 @@ module _ {P S G : Type 0} (calls : Ghosts P) (sampler : sampling.Ghosts S) (ids 
   pub carries_shutdown : (p q : ProviderState P S G) (spans : NamedSpans) (said : Result (Unit {0}) OTelSdkError)
       → OnTrue p.is_shut (IsErrOf said errors.AlreadyShutdown × (q ≡ p)) → OnFalse p.is_shut (ShutsDown calls p 5_000_000_000 said q)
       → EachFollows calls [] p.processors q.processors
-      → CarriesOutOne calls sampler ids scope p spans shutdown (call_answer said) q spans
+      → CarriesOutOne calls timer sampler ids scope p spans shutdown (call_answer said) q spans
   carries_shutdown p q spans said again first follows = λ histories describes. record {
     deliveries = [];
     after = histories;

@@ -14,14 +14,15 @@ use Rattle.otel_pipeline.specs.Provider.{ProviderState}
 use Rattle.otel_pipeline.specs.SpanHistory.{PlainSpan, SpanHistory, Edit, begun, over, span_of}
 use Rattle.otel_pipeline.specs.Starting.{StartsOpen}
 use Rattle.otel_pipeline.specs.declared.trace.span_processor.SpanProcessor.{Ghosts}
+use Rattle.otel_pipeline.specs.declared.trace.drain_due.DrainDue as timing
 use Rattle.otel_pipeline.proofs.AgreementLemmas.{child_agrees, child_of_start}
-use Rattle.otel_lines.specs.Commands.{PlainCommand, start, child, remote, attr, event, status, inject, end, flush, shutdown}
+use Rattle.otel_lines.specs.Commands.{PlainCommand, start, child, remote, attr, event, status, inject, end, flush, run, shutdown}
 use Rattle.otel_session.specs.Headers.{child_cx}
 use Rattle.otel_session.specs.OpenSpans.{NamedSpans, is_name}
 use Rattle.otel_lines.specs.PlainReply.{PlainReply}
 use Rattle.otel_session.specs.SessionDelivery.{Course, Histories, with_history, Describe, EditDemands, StartDemands, ChildDemands, EndDemands, InjectDemands, Demands, DemandAll, batches_of_first}
 use Rattle.otel_session.specs.Traces.{ChildrenAgree, KeepsContexts, is_shutdown, made_span, with_child, with_children}
-use Rattle.otel_session.specs.declared.exported.KeepsBatches as keeping
+use Rattle.otel_pipeline.specs.declared.trace.keeps_batches.KeepsBatches as keeping
 use Rattle.otel_lines.specs.declared.reply.Answer.{Answer}
 use Rattle.otel_session.proofs.NamedLemmas.{is_itself, same_name}
 
@@ -105,7 +106,7 @@ joined root is_in histories span parent called moment answer father new is_fathe
         let same = same_Some found.0 father (sym found.1 ∙ is_father) in
         (new, ap histories (same_name q span other.0) ∙ is_new, also (subst (λ (h : SpanHistory). Agrees root (context_of h)) same found.2))
 
-module _ {P S G : Type 0} (calls : Ghosts P) (sampler : sampling.Ghosts S) (ids : drawing.Ghosts G) where
+module _ {P S G : Type 0} (calls : Ghosts P) (timer : timing.Ghosts P) (sampler : sampling.Ghosts S) (ids : drawing.Ghosts G) where
   -- histories keep their span contexts over a start
   start_persists : (scope : PlainScope) (old new : Course P S G) (name : List ℕ) (cx : PlainContext) (called : List ℕ) (moment : ℕ) (found : Option SpanHistory) (answer : Answer) (ds : List Delivery)
       → old.histories name ≡ found → StartDemands calls sampler ids scope old name cx called moment found answer ds new → Persists old.histories new.histories
@@ -136,7 +137,7 @@ module _ {P S G : Type 0} (calls : Ghosts P) (sampler : sampling.Ghosts S) (ids 
   inject_rest old new (Some history) answer ds h = h.rest
 
   -- over any command
-  one_persists : (scope : PlainScope) (old new : Course P S G) (command : PlainCommand) (answer : Answer) (ds : List Delivery) → Demands calls sampler ids scope old command answer ds new → Persists old.histories new.histories
+  one_persists : (scope : PlainScope) (old new : Course P S G) (command : PlainCommand) (answer : Answer) (ds : List Delivery) → Demands calls timer sampler ids scope old command answer ds new → Persists old.histories new.histories
   one_persists scope old new (start span name moment) answer ds h = start_persists scope old new span _ name moment (old.histories span) answer ds refl h
   one_persists scope old new (child span parent name moment) answer ds h = child_persists scope old new span (old.histories parent) name moment answer ds h
   one_persists scope old new (remote span header name moment) answer ds h = start_persists scope old new span h.cx name moment (old.histories span) answer ds refl h.starts
@@ -146,6 +147,7 @@ module _ {P S G : Type 0} (calls : Ghosts P) (sampler : sampling.Ghosts S) (ids 
   one_persists scope old new (inject span) answer ds h = persists_same old.histories new.histories (ap (λ (c : Course P S G). c.histories) (inject_rest old new (old.histories span) answer ds h))
   one_persists scope old new (end span moment) answer ds h = end_persists old new span moment (old.histories span) answer ds refl h
   one_persists scope old new flush answer ds h = persists_same old.histories new.histories h.histories
+  one_persists scope old new (run moment) answer ds h = persists_same old.histories new.histories h.histories
   one_persists scope old new shutdown answer ds h = persists_same old.histories new.histories h.histories
 
   -- the provider stays as open as it was, with its sampler
@@ -184,7 +186,7 @@ module _ {P S G : Type 0} (calls : Ghosts P) (sampler : sampling.Ghosts S) (ids 
   end_stays old new name moment (Some (begun from edits)) answer ds h = stays old.provider new.provider (record old.provider { processors = new.provider.processors }) h.provider (refl, refl)
 
   -- over any command but a shutdown
-  pub one_stays : (scope : PlainScope) (old new : Course P S G) (command : PlainCommand) (answer : Answer) (ds : List Delivery) → is_shutdown command ≡ false → Demands calls sampler ids scope old command answer ds new
+  pub one_stays : (scope : PlainScope) (old new : Course P S G) (command : PlainCommand) (answer : Answer) (ds : List Delivery) → is_shutdown command ≡ false → Demands calls timer sampler ids scope old command answer ds new
       → Stays old.provider new.provider
   one_stays scope old new (start span name moment) answer ds e h = start_stays scope old new span _ name moment (old.histories span) answer ds h
   one_stays scope old new (child span parent name moment) answer ds e h = child_stays scope old new span (old.histories parent) name moment answer ds h
@@ -195,6 +197,7 @@ module _ {P S G : Type 0} (calls : Ghosts P) (sampler : sampling.Ghosts S) (ids 
   one_stays scope old new (inject span) answer ds e h = course_stays old new (inject_rest old new (old.histories span) answer ds h)
   one_stays scope old new (end span moment) answer ds e h = end_stays old new span moment (old.histories span) answer ds h
   one_stays scope old new flush answer ds e h = stays old.provider new.provider (record old.provider { processors = new.provider.processors }) h.flushes.rest (refl, refl)
+  one_stays scope old new (run moment) answer ds e h = stays old.provider new.provider (record old.provider { processors = new.provider.processors }) h.runs.rest (refl, refl)
   one_stays scope old new shutdown answer ds e h = cc
 
   -- a child joins the traces of its parent
@@ -222,7 +225,7 @@ module _ {P S G : Type 0} (calls : Ghosts P) (sampler : sampling.Ghosts S) (ids 
 
   one_joins : (scope : PlainScope) (root : PlainSpanContext) (is_in : List ℕ → Bool) (last : Histories) (old new : Course P S G) (command : PlainCommand) (answer : Answer) (ds : List Delivery)
       → GoesByParents sampler old.provider.sampler → old.provider.is_shut ≡ false → Persists old.histories last → Persists new.histories last → EachAgrees root is_in last
-      → Demands calls sampler ids scope old command answer ds new → EachAgrees root (with_child is_in command answer) last
+      → Demands calls timer sampler ids scope old command answer ds new → EachAgrees root (with_child is_in command answer) last
   one_joins scope root is_in last old new (start span name moment) answer ds by_parents is_open before behind agree h = agree
   one_joins scope root is_in last old new (child span parent name moment) answer ds by_parents is_open before behind agree h =
       child_joins scope root is_in last old new span parent name moment (old.histories parent) answer ds by_parents is_open refl before behind agree h
@@ -233,22 +236,23 @@ module _ {P S G : Type 0} (calls : Ghosts P) (sampler : sampling.Ghosts S) (ids 
   one_joins scope root is_in last old new (inject span) answer ds by_parents is_open before behind agree h = agree
   one_joins scope root is_in last old new (end span moment) answer ds by_parents is_open before behind agree h = agree
   one_joins scope root is_in last old new flush answer ds by_parents is_open before behind agree h = agree
+  one_joins scope root is_in last old new (run moment) answer ds by_parents is_open before behind agree h = agree
   one_joins scope root is_in last old new shutdown answer ds by_parents is_open before behind agree h = agree
 
-module _ {P S G : Type 0} (calls : Ghosts P) (keeps : keeping.Ghosts P) (sampler : sampling.Ghosts S) (ids : drawing.Ghosts G) where
+module _ {P S G : Type 0} (calls : Ghosts P) (timer : timing.Ghosts P) (keeps : keeping.Ghosts P) (sampler : sampling.Ghosts S) (ids : drawing.Ghosts G) where
   -- commands one after another
   all_persist : (scope : PlainScope) (old new : Course P S G) (before shown : ℕ) (commands : List PlainCommand) (replies : List PlainReply) (ds : List Delivery)
-      → DemandAll calls keeps sampler ids scope old before commands replies ds new shown → Persists old.histories new.histories
+      → DemandAll calls timer keeps sampler ids scope old before commands replies ds new shown → Persists old.histories new.histories
   all_persist scope old new before shown [] [] ds h = persists_same old.histories new.histories (ap (λ (c : Course P S G). c.histories) h.1)
   all_persist scope old new before shown [] (r ∷ replies) ds h = absurd h
   all_persist scope old new before shown (c ∷ commands) [] ds h = absurd h
   all_persist scope old new before shown (c ∷ commands) (r ∷ replies) ds h =
-      persists_on old.histories h.middle.histories new.histories (one_persists calls sampler ids scope old h.middle c r.answer h.first h.replied.demands)
+      persists_on old.histories h.middle.histories new.histories (one_persists calls timer sampler ids scope old h.middle c r.answer h.first h.replied.demands)
       (all_persist scope h.middle new (length (batches_of_first keeps h.middle.provider.processors)) shown commands replies h.rest h.others)
 
   all_join : (scope : PlainScope) (root : PlainSpanContext) (is_in : List ℕ → Bool) (old new : Course P S G) (before shown : ℕ) (commands : List PlainCommand) (replies : List PlainReply) (ds : List Delivery)
       → GoesByParents sampler old.provider.sampler → old.provider.is_shut ≡ false → EachAgrees root is_in new.histories
-      → DemandAll calls keeps sampler ids scope old before commands replies ds new shown → EachAgrees root (with_children is_in commands replies) new.histories
+      → DemandAll calls timer keeps sampler ids scope old before commands replies ds new shown → EachAgrees root (with_children is_in commands replies) new.histories
   all_join scope root is_in old new before shown [] [] ds by_parents is_open agree h = agree
   all_join scope root is_in old new before shown [] (r ∷ replies) ds by_parents is_open agree h = absurd h
   all_join scope root is_in old new before shown (c ∷ commands) [] ds by_parents is_open agree h = absurd h
@@ -263,10 +267,10 @@ module _ {P S G : Type 0} (calls : Ghosts P) (keeps : keeping.Ghosts P) (sampler
           → EachAgrees root (if b then is_in else with_children (with_child is_in c r.answer) commands replies) new.histories
       by true e goes = agree
       by false e goes =
-          let stay = one_stays calls sampler ids scope old h.middle c r.answer h.first e h.replied.demands in
-          let one = one_persists calls sampler ids scope old h.middle c r.answer h.first h.replied.demands in
+          let stay = one_stays calls timer sampler ids scope old h.middle c r.answer h.first e h.replied.demands in
+          let one = one_persists calls timer sampler ids scope old h.middle c r.answer h.first h.replied.demands in
           goes (with_child is_in c r.answer) (subst (GoesByParents sampler) (sym stay.1) by_parents) (stay.0 ∙ is_open)
-          (one_joins calls sampler ids scope root is_in new.histories old h.middle c r.answer h.first by_parents is_open (persists_on old.histories h.middle.histories new.histories one behind) behind agree h.replied.demands)
+          (one_joins calls timer sampler ids scope root is_in new.histories old h.middle c r.answer h.first by_parents is_open (persists_on old.histories h.middle.histories new.histories one behind) behind agree h.replied.demands)
 
   -- the spans of names, by histories that they have
   by_history : (found : Option SpanHistory) (span : PlainSpan) → Some span ≡ option_map span_of found → (h : SpanHistory) × (found ≡ Some h) × (span_of h ≡ span)
@@ -274,14 +278,14 @@ module _ {P S G : Type 0} (calls : Ghosts P) (keeps : keeping.Ghosts P) (sampler
   by_history (Some h) span e = (h, refl, cc e)
 
   pub contexts_kept : (scope : PlainScope) (old new : Course P S G) (before shown : ℕ) (commands : List PlainCommand) (replies : List PlainReply) (ds : List Delivery) (were are : NamedSpans)
-      → Describe old.histories were → Describe new.histories are → DemandAll calls keeps sampler ids scope old before commands replies ds new shown → KeepsContexts were are
+      → Describe old.histories were → Describe new.histories are → DemandAll calls timer keeps sampler ids scope old before commands replies ds new shown → KeepsContexts were are
   contexts_kept scope old new before shown commands replies ds were are first last h q was there =
       let found = by_history (old.histories q) was (sym there ∙ first q) in
       let kept = all_persist scope old new before shown commands replies ds h q found.0 found.1 in
       (span_of kept.0, last q ∙ ap (option_map span_of) kept.1, kept.2 ∙ ap (λ (s : PlainSpan). s.span_context) found.2)
 
   pub children_agree : (scope : PlainScope) (old new : Course P S G) (before shown : ℕ) (commands : List PlainCommand) (replies : List PlainReply) (ds : List Delivery) (are : NamedSpans)
-      → Describe new.histories are → DemandAll calls keeps sampler ids scope old before commands replies ds new shown
+      → Describe new.histories are → DemandAll calls timer keeps sampler ids scope old before commands replies ds new shown
       → GoesByParents sampler old.provider.sampler → old.provider.is_shut ≡ false → ChildrenAgree commands replies are
   children_agree scope old new before shown commands replies ds are last h by_parents is_open root is_in agree q e =
       let agreed : EachAgrees root is_in new.histories = λ p is.

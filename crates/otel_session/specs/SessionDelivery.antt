@@ -2,7 +2,8 @@
 -- start and the edits since, and of what an end delivers as the data of that history: whole lists, each cut once. No
 -- history is stored.
 use Rattle.std.specs.Prelude.{◌≡◌, ◌≢◌, ℕ, List, [], ◌∷◌, ◌++◌, Option, Some, None, map, take, drop, slice_get}
-use Rattle.std.specs.Prelude.{IsFalse, false, Result, Ok, Err, MatchBool, if◌then◌else◌, ◌⊎◌, ◌≤◌, length, codes}
+use Rattle.std.specs.Prelude.{IsFalse, Bool, true, false, Result, Ok, Err, MatchBool, if◌then◌else◌, ◌⊎◌, ◌≤◌, length}
+use Rattle.std.specs.Prelude.{All, IsTrue, codes}
 use Rattle.std.specs.List.{flat_map}
 use Rattle.std.specs.Option.{option_map, option_map_or}
 use Rattle.opentelemetry.specs.Plain.{PlainContext, PlainScope, PlainSpanContext, scope_named, text}
@@ -17,14 +18,15 @@ use Rattle.otel_pipeline.specs.SpanHistory.{SpanHistory, begun, over, SpanStart,
 use Rattle.otel_pipeline.specs.SpanHistory.{set_status, data_of, span_of}
 use Rattle.otel_pipeline.specs.Deliveries.{Delivery, EachFollows, EachOpenHears}
 use Rattle.otel_pipeline.specs.Hops.{GoesByParents}
-use Rattle.otel_pipeline.specs.Provider.{Flushes, ProviderState, ShutsDown}
+use Rattle.otel_pipeline.specs.Provider.{Flushes, ProviderState, RunsDue, ShutsDown}
 use Rattle.otel_pipeline.specs.Starting.{Starts}
 use Rattle.otel_pipeline.specs.Ending.{Delivers, end_delivers}
 use Rattle.otel_pipeline.specs.declared.trace.span_processor.SpanProcessor.{Ghosts}
-use Rattle.otel_session.specs.declared.exported.KeepsBatches as keeping
+use Rattle.otel_pipeline.specs.declared.trace.drain_due.DrainDue as timing
+use Rattle.otel_pipeline.specs.declared.trace.keeps_batches.KeepsBatches as keeping
 use Rattle.otel_lines.specs.Commands.{PlainCommand, start, child, remote, attr, event, status, inject, end, flush}
-use Rattle.otel_lines.specs.Commands.{shutdown, may_lose, plain_command, plain_commands}
-use Rattle.otel_session.specs.KeptBatches.{Grows}
+use Rattle.otel_lines.specs.Commands.{run, shutdown, may_lose, plain_command, plain_commands}
+use Rattle.otel_pipeline.specs.KeptBatches.{Grows}
 use Rattle.otel_session.specs.Headers.{AnswersHeaders, SaysContext, child_cx}
 use Rattle.otel_session.specs.OpenSpans.{NamedSpans, SameSpans, MayStart, ChildMayStart, RemoteMayStart, named, is_name, start_answer}
 use Rattle.otel_lines.specs.AnswerText.{replies_text}
@@ -152,6 +154,15 @@ module _ {P S G : Type 0} (calls : Ghosts P) where
     pub delivers : ds ≡ []
     pub histories : new.histories ≡ old.histories
 
+  -- the provider was told the time, for its processors to do what is due
+  pub record AsksRun (timer : timing.Ghosts P) (now : ℕ) (old : Course P S G) (answer : Answer) (ds : List Delivery)
+      (new : Course P S G) : Type 0 where
+    pub said : Result (Unit {0}) OTelSdkError
+    pub runs : RunsDue calls timer now old.provider said new.provider
+    pub says : answer ≡ call_answer said
+    pub delivers : ds ≡ []
+    pub histories : new.histories ≡ old.histories
+
   -- the provider was asked to shut down, with 5 seconds
   pub record AsksShutdown (old : Course P S G) (answer : Answer) (ds : List Delivery)
       (new : Course P S G) : Type 0 where
@@ -213,14 +224,16 @@ module _ {P S G : Type 0} (calls : Ghosts P) (sampler : sampling.Ghosts S) (ids 
   EndDemands old name moment (Some (begun from edits)) answer ds new =
       EndsHistory old name from (data_of from edits moment) answer ds new
 
+module _ {P S G : Type 0} (calls : Ghosts P) (timer : timing.Ghosts P) (sampler : sampling.Ghosts S)
+    (ids : drawing.Ghosts G) where
   -- what one command demands: its answer, what is delivered, and where the session then stands
   abbrev pub Demands : PlainScope → Course P S G → PlainCommand → Answer → List Delivery → Course P S G → Type 0
   Demands scope old (start span name moment) answer ds new =
-      StartDemands scope old span root_cx name moment (old.histories span) answer ds new
+      StartDemands calls sampler ids scope old span root_cx name moment (old.histories span) answer ds new
   Demands scope old (child span parent name moment) answer ds new =
-      ChildDemands scope old span (old.histories parent) name moment answer ds new
+      ChildDemands calls sampler ids scope old span (old.histories parent) name moment answer ds new
   Demands scope old (remote span header name moment) answer ds new =
-      RemoteDemands scope old span header name moment answer ds new
+      RemoteDemands calls sampler ids scope old span header name moment answer ds new
   Demands scope old (attr span key value) answer ds new =
       EditDemands old span (set_attribute (record { key = key; value = text value })) (old.histories span) answer ds new
   Demands scope old (event span name moment) answer ds new =
@@ -228,8 +241,10 @@ module _ {P S G : Type 0} (calls : Ghosts P) (sampler : sampling.Ghosts S) (ids 
   Demands scope old (status span how) answer ds new =
       EditDemands old span (set_status how) (old.histories span) answer ds new
   Demands scope old (inject span) answer ds new = InjectDemands old (old.histories span) answer ds new
-  Demands scope old (end span moment) answer ds new = EndDemands old span moment (old.histories span) answer ds new
+  Demands scope old (end span moment) answer ds new =
+      EndDemands calls sampler ids old span moment (old.histories span) answer ds new
   Demands scope old flush answer ds new = AsksFlush calls old answer ds new
+  Demands scope old (run moment) answer ds new = AsksRun calls timer moment old answer ds new
   Demands scope old shutdown answer ds new = AsksShutdown calls old answer ds new
 
   -- one command was carried out on the spans of a session, as it demands of the histories that they had, and each
@@ -264,6 +279,7 @@ module _ {P S G : Type 0} (sampler : sampling.Ghosts S) (ids : drawing.Ghosts G)
   MayAsk p spans (inject span) q = q ≡ p
   MayAsk p spans (end span moment) q = q ≡ p
   MayAsk p spans flush q = ⊥
+  MayAsk p spans (run moment) q = ⊥
   MayAsk p spans shutdown q = ⊥
 
   -- a command was refused: each name has the span that it had, and no processor was asked
@@ -273,12 +289,13 @@ module _ {P S G : Type 0} (sampler : sampling.Ghosts S) (ids : drawing.Ghosts G)
     pub asks : MayAsk p old command q
     pub processors : q.processors ≡ p.processors
 
-module _ {P S G : Type 0} (calls : Ghosts P) (sampler : sampling.Ghosts S) (ids : drawing.Ghosts G) where
+module _ {P S G : Type 0} (calls : Ghosts P) (timer : timing.Ghosts P) (sampler : sampling.Ghosts S)
+    (ids : drawing.Ghosts G) where
   -- a command was carried out as it demands, with an answer that no reply tells
   abbrev pub CarriesOutUntold : PlainScope → ProviderState P S G → NamedSpans → PlainCommand → ProviderState P S G
       → NamedSpans → Type 0
   CarriesOutUntold scope p old command q new =
-      (answer : Answer) × CarriesOutOne calls sampler ids scope p old command answer q new
+      (answer : Answer) × CarriesOutOne calls timer sampler ids scope p old command answer q new
 
   -- a command has no reply: it was refused, or carried out
   abbrev pub MayCarryOut : PlainScope → ProviderState P S G → NamedSpans → PlainCommand → ProviderState P S G
@@ -291,6 +308,24 @@ module _ {P S G : Type 0} (calls : Ghosts P) where
   abbrev pub ShutsIfOpen : ProviderState P S G → ℕ → Result (Unit {0}) OTelSdkError → ProviderState P S G → Type 0
   ShutsIfOpen old timeout answer new =
       MatchBool old.is_shut ((answer ≡ Ok tt) × (new ≡ old)) (ShutsDown calls old timeout answer new)
+
+-- whether a command has each processor hand on all that waits
+abbrev pub empties : PlainCommand → Bool
+empties flush = true
+empties shutdown = true
+empties _ = false
+
+module _ {P : Type 0} (calls : Ghosts P) where
+  -- behind such a command that is answered by Ok no span waits at any of the processors
+  abbrev pub EmptiesIfOk : PlainCommand → Answer → List P → Type 0
+  EmptiesIfOk command answer processors = IsTrue (empties command) → answer ≡ answers.Ok
+      → All (λ p. (calls.told p).waiting ≡ 0) processors
+
+  -- the same behind commands, each with its reply, by the last of them
+  abbrev pub EmptiedBehind : List PlainCommand → List PlainReply → List P → Type 0
+  EmptiedBehind commands replies processors =
+      (before : List PlainCommand) (last : PlainCommand) (others : List PlainReply) (reply : PlainReply)
+      → commands ≡ before ++ last ∷ [] → replies ≡ others ++ reply ∷ [] → EmptiesIfOk last reply.answer processors
 
 module _ {P S G : Type 0} (keeps : keeping.Ghosts P) where
   -- the batches that the first processor of a session keeps, and how many it lost
@@ -326,14 +361,14 @@ module _ {P S G : Type 0} (keeps : keeping.Ghosts P) where
   abbrev pub LosesNone : SessionState P S G → SessionState P S G → Type 0
   LosesNone old new = session_losses new ≡ session_losses old
 
-module _ {P S G : Type 0} (calls : Ghosts P) (keeps : keeping.Ghosts P) (sampler : sampling.Ghosts S)
-    (ids : drawing.Ghosts G) where
+module _ {P S G : Type 0} (calls : Ghosts P) (timer : timing.Ghosts P) (keeps : keeping.Ghosts P)
+    (sampler : sampling.Ghosts S) (ids : drawing.Ghosts G) where
   -- one command with its reply: its answer is as demanded, each processor follows what it delivers, it shows the spans
-  -- of the batches that the first processor's exporter took since the reply before, and that exporter lost none, unless
-  -- it was flushed or shut down
+  -- of the batches that the first processor's exporter took since the reply before, and that exporter lost none, but at
+  -- a flush, a run or a shutdown
   pub record Replies (scope : PlainScope) (old : Course P S G) (shown : ℕ) (command : PlainCommand)
       (reply : PlainReply) (ds : List Delivery) (new : Course P S G) : Type 0 where
-    pub demands : Demands calls sampler ids scope old command reply.answer ds new
+    pub demands : Demands calls timer sampler ids scope old command reply.answer ds new
     pub follows : EachFollows calls ds old.provider.processors new.provider.processors
     pub shows : reply.exported ≡ spans_in (drop shown (batches_of_first keeps new.provider.processors))
     pub loses_none : IsFalse (may_lose command)
@@ -383,7 +418,8 @@ module _ {P S G : Type 0} (calls : Ghosts P) (keeps : keeping.Ghosts P) (sampler
     pub demanded : (histories : Histories) → Describe histories old.spans
         → Demanded old histories (plain_commands commands) replies new
 
-  -- all commands were carried out, each with its reply, and the replies show all spans that were exported meanwhile
+  -- all commands were carried out, each with its reply; the replies show all spans that were exported meanwhile; and
+  -- behind a flush or a shutdown that came last and was answered by Ok no span waits
   pub record RunsAll (old : SessionState P S G) (commands : List Command) (before now : List PlainReply)
       (new : SessionState P S G) : Type 0 where
     pub replies : List PlainReply
@@ -391,10 +427,11 @@ module _ {P S G : Type 0} (calls : Ghosts P) (keeps : keeping.Ghosts P) (sampler
     pub carried : CarriesOut old commands replies new
     pub shown : Shows keeps old replies new
     pub none_left : NoneLeft keeps replies new
+    pub emptied : EmptiedBehind calls (plain_commands commands) replies new.provider.processors
 
   -- a command found no memory: it was refused, or carried out without a reply, and what it exported is left to show
   pub record Refuses (old : SessionState P S G) (command : Command) (new : SessionState P S G) : Type 0 where
-    pub asked : MayCarryOut calls sampler ids old.scope old.provider old.spans
+    pub asked : MayCarryOut calls timer sampler ids old.scope old.provider old.spans
         (plain_command command) new.provider new.spans
     pub rest : new ≡ record old { provider = new.provider; spans = new.spans }
     pub keeps_batches : Grows (session_batches keeps old) (session_batches keeps new)

@@ -1,7 +1,7 @@
 //! A session of commands over the trace pipeline: its spans by name, its replies, and what they show.
 #![tactic(auto)]
 
-pub mod exported;
+mod exported;
 mod headers;
 mod open_spans;
 pub mod session;

@@ -10,13 +10,14 @@ ghost use Rattle.otel_pipeline.specs.SpanEdits.{plain_edit};
 ghost use Rattle.otel_pipeline.specs.SpanHistory.{set_attribute};
 ghost use Rattle.otel_lines.specs.Commands.{is_end, may_lose, plain_command};
 ghost use Rattle.otel_lines.specs.AnswerText.{answer_line};
-ghost use Rattle.otel_session.specs.KeptBatches.{Grows};
+ghost use Rattle.otel_pipeline.specs.KeptBatches.{Grows};
 ghost use Rattle.otel_lines.specs.PlainReply.{counts_refusals};
 ghost use Rattle.otel_lines.specs.ReplyText.{span_lines};
 ghost use Rattle.otel_session.specs.SessionDelivery.{
   CarriesOutOne,
   Closes,
   Describe,
+  EmptiesIfOk,
   Feeds,
   Histories,
   LosesNone,
@@ -38,7 +39,7 @@ ghost use Rattle.otel_session.specs.SessionDelivery.{
   unshown,
 };
 
-use crate::exported::{KeepsBatches, batches_since, copied_spans};
+use crate::exported::{batches_since, copied_spans};
 use crate::headers::remote_context;
 use crate::open_spans::OpenSpans;
 use opentelemetry::trace::Event;
@@ -48,7 +49,9 @@ use otel_base::trace::{IdGenerator, ShouldSample};
 use otel_export::trace::SpanData;
 use otel_lines::reply_text::{write_batches, write_reply};
 use otel_lines::{Answer, Command, Reply, parse};
-use otel_pipeline::trace::{ProviderOf, SdkTracer, SpanEdit, SpanProcessor};
+use otel_pipeline::trace::{
+    DrainDue, KeepsBatches, ProviderOf, SdkTracer, SpanEdit, SpanProcessor,
+};
 use std::alloc::{AllocError, Global};
 use std::collections::VecDeque;
 use std::marker::Model;
@@ -144,12 +147,12 @@ impl<P: KeepsBatches, S: ShouldSample, G: IdGenerator> Session<P, S, G> {
         commands: Vec<Command>,
         replies: &mut Vec<Reply>,
     ) -> Result<(), AllocError>
-        ensures ok { OnOk result (RunsAll P.SpanProcessor P.KeepsBatches.own S.ShouldSample G.IdGenerator
-            self.old commands.items replies.old.items replies.new.items self.new) }
+        ensures ok { OnOk result (RunsAll P.SpanProcessor P.DrainDue.own P.KeepsBatches.own S.ShouldSample
+            G.IdGenerator self.old commands.items replies.old.items replies.new.items self.new) }
 
         // Where memory ran out.
-        ensures err { OnErr result (RunsBeginning P.SpanProcessor P.KeepsBatches.own S.ShouldSample G.IdGenerator
-            self.old commands.items replies.old.items replies.new.items self.new) }
+        ensures err { OnErr result (RunsBeginning P.SpanProcessor P.DrainDue.own P.KeepsBatches.own S.ShouldSample
+            G.IdGenerator self.old commands.items replies.old.items replies.new.items self.new) }
     {
         let mut queue = VecDeque::from_vec(commands);
         while let Some(command) = queue.pop_front() {
@@ -167,8 +170,8 @@ impl<P: KeepsBatches, S: ShouldSample, G: IdGenerator> Session<P, S, G> {
     /// replies of a beginning of the commands, and at most one more command was carried out. What that one exported is
     /// left for the next reply.
     pub fn feed(&mut self, text: &[u8], output: &mut Vec<u8>) -> Result<(), FeedError>
-        ensures { Feeds P.SpanProcessor P.KeepsBatches.own S.ShouldSample G.IdGenerator self.old text.now
-            output.old.items result output.new.items self.new }
+        ensures { Feeds P.SpanProcessor P.DrainDue.own P.KeepsBatches.own S.ShouldSample G.IdGenerator self.old
+            text.now output.old.items result output.new.items self.new }
     {
         let Ok(script) = parse(self.alloc, text) else {
             return Err(FeedError::Memory);
@@ -186,8 +189,8 @@ impl<P: KeepsBatches, S: ShouldSample, G: IdGenerator> Session<P, S, G> {
     /// spans that no reply has shown are appended. The answer is that of the shutdown, or `OutOfMemory` where that is
     /// Ok and the lines found no memory.
     pub fn close(self, output: &mut Vec<u8>) -> OTelSdkResult
-        ensures { Closes P.SpanProcessor P.KeepsBatches.own S.ShouldSample G.IdGenerator self output.old.items result
-            output.new.items }
+        ensures { Closes P.SpanProcessor P.DrainDue.own P.KeepsBatches.own S.ShouldSample G.IdGenerator self
+            output.old.items result output.new.items }
     {
         let Session {
             mut provider,
@@ -213,10 +216,10 @@ impl<P: KeepsBatches, S: ShouldSample, G: IdGenerator> Session<P, S, G> {
         commands: Vec<Command>,
         output: &mut Vec<u8>,
     ) -> Result<(), AllocError>
-        ensures ok { OnOk result (WritesAll P.SpanProcessor P.KeepsBatches.own S.ShouldSample G.IdGenerator
-            self.old commands.items output.old.items output.new.items self.new) }
-        ensures err { OnErr result (WritesBeginning P.SpanProcessor P.KeepsBatches.own S.ShouldSample G.IdGenerator
-            self.old commands.items output.old.items output.new.items self.new) }
+        ensures ok { OnOk result (WritesAll P.SpanProcessor P.DrainDue.own P.KeepsBatches.own S.ShouldSample
+            G.IdGenerator self.old commands.items output.old.items output.new.items self.new) }
+        ensures err { OnErr result (WritesBeginning P.SpanProcessor P.DrainDue.own P.KeepsBatches.own S.ShouldSample
+            G.IdGenerator self.old commands.items output.old.items output.new.items self.new) }
     {
         let mut queue = VecDeque::from_vec(commands);
         while let Some(command) = queue.pop_front() {
@@ -247,14 +250,16 @@ impl<P: KeepsBatches, S: ShouldSample, G: IdGenerator> Session<P, S, G> {
     /// Carries one command out. It is also an error where the first processor's exporter lost the batch of an ended
     /// span. On an error the command was refused or carried out, and what it exported is left for the next reply.
     fn answer(&mut self, command: Command) -> Result<Answer, AllocError>
-        ensures ok { IfOk result (λ answer. CarriesOutOne P.SpanProcessor S.ShouldSample G.IdGenerator self.old.scope
-            self.old.provider self.old.spans
+        ensures ok { IfOk result (λ answer. CarriesOutOne P.SpanProcessor P.DrainDue.own S.ShouldSample G.IdGenerator
+            self.old.scope self.old.provider self.old.spans
             (plain_command command) answer self.new.provider self.new.spans) }
         ensures loses_none { OnOk result (IsFalse (may_lose (plain_command command))
             → LosesNone P.KeepsBatches.own self.old self.new) }
+        ensures empties { IfOk result (λ answer. EmptiesIfOk P.SpanProcessor (plain_command command) answer
+            self.new.provider.processors) }
         ensures err { OnErr result
-            (MayCarryOut P.SpanProcessor S.ShouldSample G.IdGenerator self.old.scope self.old.provider self.old.spans
-            (plain_command command) self.new.provider self.new.spans) }
+            (MayCarryOut P.SpanProcessor P.DrainDue.own S.ShouldSample G.IdGenerator self.old.scope self.old.provider
+            self.old.spans (plain_command command) self.new.provider self.new.spans) }
         ensures rest { self.new ≡ record self.old { provider = self.new.provider; spans = self.new.spans } }
         ensures keeps { Grows (session_batches P.KeepsBatches.own self.old)
             (session_batches P.KeepsBatches.own self.new) }
@@ -357,9 +362,11 @@ fn carry_out<P: KeepsBatches, S: ShouldSample, G: IdGenerator>(
     command: Command,
 ) -> Result<Answer, AllocError>
     requires { root.now ≡ root_cx }
-    ensures ok { IfOk result (λ answer. CarriesOutOne P.SpanProcessor S.ShouldSample G.IdGenerator tracer.now
-        provider.old spans.old
+    ensures ok { IfOk result (λ answer. CarriesOutOne P.SpanProcessor P.DrainDue.own S.ShouldSample G.IdGenerator
+        tracer.now provider.old spans.old
         (plain_command command) answer provider.new spans.new) }
+    ensures empties { IfOk result (λ answer. EmptiesIfOk P.SpanProcessor (plain_command command) answer
+        provider.new.processors) }
     ensures err { OnErr result
         (RefusesOne S.ShouldSample G.IdGenerator provider.old spans.old (plain_command command) provider.new spans.new) }
     ensures keeps { Grows (batches_of_first P.KeepsBatches.own provider.old.processors)
@@ -395,6 +402,7 @@ fn carry_out<P: KeepsBatches, S: ShouldSample, G: IdGenerator>(
         Command::Inject { span } => spans.inject(alloc, span.as_str()),
         Command::End { span, moment } => spans.end(span.as_str(), provider, moment),
         Command::Flush => Ok(answer_to_call(provider.force_flush())),
+        Command::Run { moment } => Ok(answer_to_call(provider.run_processors(moment))),
         Command::Shutdown => Ok(answer_to_call(provider.shutdown())),
     }
 }

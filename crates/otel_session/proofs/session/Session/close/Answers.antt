@@ -15,7 +15,7 @@ returns g c =
     let batches = c.unshown_by_first-unshown.ensures ∙ ap (λ (processors : List g.row.P.Denot). drop inside.shown (batches_of_first g.P.KeepsBatches processors)) c.processors.ensures in
     let shown = sym (flat_map-map (λ b. b) (λ batch. batch.items) c.unshown_by_first-unshown.result.now) ∙ ap spans_in batches in
     let lines = subst (λ (spans : List PlainSpanData). OnOk c.write_batches-written.result (now ≡ before ++ span_lines spans)) shown c.write_batches-written.ensures.ok in
-    subst (λ (s : SessionState g.row.P.Denot g.row.S.Denot g.row.G.Denot). Closes g.P.SpanProcessor g.P.KeepsBatches g.S.ShouldSample g.G.IdGenerator s before c.close_answer.result now) c.self.view_is
-    (closes g.P.SpanProcessor g.P.KeepsBatches g.S.ShouldSample g.G.IdGenerator session c.shut_down-shutdown.new.provider c.shut_down-shutdown.result c.write_batches-written.result c.close_answer.result before now
+    subst (λ (s : SessionState g.row.P.Denot g.row.S.Denot g.row.G.Denot). Closes g.P.SpanProcessor g.P.DrainDue g.P.KeepsBatches g.S.ShouldSample g.G.IdGenerator s before c.close_answer.result now) c.self.view_is
+    (closes g.P.SpanProcessor g.P.DrainDue g.P.KeepsBatches g.S.ShouldSample g.G.IdGenerator session c.shut_down-shutdown.new.provider c.shut_down-shutdown.result c.write_batches-written.result c.close_answer.result before now
     c.shut_down-shutdown.ensures lines c.write_batches-written.ensures.err
     (λ none. c.write_batches-written.ensures.free (shown ∙ none)) c.close_answer.ensures)

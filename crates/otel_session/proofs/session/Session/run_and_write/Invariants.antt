@@ -7,7 +7,7 @@ use Rattle.otel_session.proofs.session.Session.run_and_write.Given as goal
 
 abbrev pub invariant-loop-command : goal.invariant-loop-command
 invariant-loop-command g l = (replies : List PlainReply) × (l.output.items ≡ l.fn.output.items ++ replies_text replies) × NoneRefused replies
-    × Ran g.P.SpanProcessor g.P.KeepsBatches g.S.ShouldSample g.G.IdGenerator l.fn.self l.fn.commands.items l.queue.items replies l.self
+    × Ran g.P.SpanProcessor g.P.DrainDue g.P.KeepsBatches g.S.ShouldSample g.G.IdGenerator l.fn.self l.fn.commands.items l.queue.items replies l.self
 
 abbrev pub decreases-loop-command : goal.decreases-loop-command
 decreases-loop-command g l = deque_len l.queue
