@@ -1,22 +1,36 @@
 -- What the arguments of the program ask for, and what it does with its streams.
-use Rattle.std.proofs.Common.{◌≡◌, ℕ, ◌<◌, ◌≤◌, ◌++◌, List, [], ◌∷◌, map, length, Option, Some, None, IfSome, IfOk, Result, Ok, MatchOption, codes, refl, ◌∙◌, sym, ap, subst, arith}
+use Rattle.std.proofs.Common.{◌≡◌, ℕ, ◌<◌, ◌≤◌, ◌++◌, ◌-◌, List, [], ◌∷◌, drop, take, map, length, Option, Some, None, IfSome, IfOk, Result, Ok, MatchOption, codes, refl, ◌∙◌, sym, ap, subst, arith}
 use Rattle.std.proofs.Math.ListN.{get_or}
+use Rattle.std.proofs.lemmas.List.{take_all}
 use Rattle.std.specs.Str.Parse.{digits_value}
 use Rattle.otel_base.specs.declared.trace.sampler.SamplerOf.{SamplerOf}
 use Rattle.otel_base.specs.declared.trace.sampler.ShouldSample as sampling
 use Rattle.otel_base.specs.declared.trace.id_generator.IdGenerator as drawing
 use Rattle.otel_pipeline.specs.Provider.{ProviderState}
 use Rattle.otel_pipeline.specs.declared.trace.span_processor.SpanProcessor.{Ghosts}
-use Rattle.otel_lines.specs.Lines.{IsMoment}
-use Rattle.otel_program.specs.Program.{AsksFor, AsksForNoTrace, AsksForSteps, MemoryProcessor, StepsSized, TracesSeed, TracesWhole, WriteSizes, IsProviderOfSeed, memory_batches}
+use Rattle.otel_pipeline.specs.declared.trace.drain_due.DrainDue as timing
+use Rattle.otel_program.specs.Program.{AsksFor, AsksForSteps, MemoryProcessor, NamesProcessor, StepsSized, TracesAsked, TracesWhole, WriteSizes, IsProviderOf, memory_batches}
+use Rattle.otel_program.specs.declared.program.Asked.{Asked}
+use Rattle.otel_program.specs.declared.program.AskedProcessor.{AskedProcessor}
+use Rattle.otel_program.specs.declared.program.AskedProcessor.TheVariants as asks
 use Rattle.otel_steps.specs.declared.steps.Sizes.{Sizes}
 
--- three words ask for what the second one writes
-pub three_ask : (words : List (List ℕ)) (digits : List ℕ) (found : Option ℕ) → words ≡ codes "trace" ∷ digits ∷ codes "simple" ∷ []
-    → MatchOption found ((seed : ℕ) → IsMoment digits seed → ⊥) (λ seed. IsMoment digits seed)
-    → MatchOption found (AsksForNoTrace words) (λ seed. AsksFor words seed)
-three_ask words digits (Some seed) e is = (digits, is, e)
-three_ask words digits None e isnt = λ seed asks. let same : asks.0 ≡ digits = cc in isnt seed (subst (λ d. IsMoment d seed) same asks.1)
+-- what a list of one is made of
+pub one_item : {X : Type 0} (h : X → List ℕ) (items : List X) (a : X) (p : List ℕ) → 1 ≤ length items → length items < 2
+    → a ≡ get_or items 0 a → h a ≡ p → map h items ≡ p ∷ []
+one_item h [] a p least most ea ep = absurd (omega arith)
+one_item h (x ∷ []) a p least most ea ep = cc
+one_item h (x ∷ y ∷ more) a p least most ea ep = absurd (omega arith)
+
+-- what a list is made of that begins with two
+pub two_first : {X : Type 0} (h : X → List ℕ) (items : List X) (a b : X) (p q : List ℕ) → 2 ≤ length items
+    → a ≡ get_or items 0 a → b ≡ get_or items 1 b → h a ≡ p → h b ≡ q
+    → map h items ≡ p ∷ q ∷ map h (take (length items - 2) (drop 2 items))
+two_first h [] a b p q least ea eb ep eq = absurd (omega arith)
+two_first h (x ∷ []) a b p q least ea eb ep eq = absurd (omega arith)
+two_first h (x ∷ y ∷ more) a b p q least ea eb ep eq =
+    let whole : take (length (x ∷ y ∷ more) - 2) more ≡ more = take_all (length (x ∷ y ∷ more) - 2) more (omega arith) in
+    cc
 
 -- what a list of three is made of
 pub three_items : {X : Type 0} (h : X → List ℕ) (items : List X) (a b c : X) (p q r : List ℕ) → 3 ≤ length items → length items < 4
@@ -79,10 +93,20 @@ pub steps_sized : (words : List (List ℕ)) (sizes other : Sizes) (input input_a
 steps_sized words sizes other input input_after bad_line output output_after asks more h =
     subst (λ (s : Sizes). StepsSized s input input_after bad_line output output_after) (sym (steps_once words sizes other asks more)) h
 
+-- the first letter of the first word
+abbrev first_letter : List (List ℕ) → ℕ
+first_letter [] = 0
+first_letter ([] ∷ words) = 0
+first_letter ((letter ∷ word) ∷ words) = letter
+
+-- no words have the first word of both modes
+other_mode : (words more others : List (List ℕ)) → words ≡ codes "trace" ∷ more → words ≡ codes "steps" ∷ others → ⊥
+other_mode words more others e f = let letters : 116 ≡ 115 = ap first_letter (sym e ∙ f) in omega (arith, letters)
+
 -- no words ask for both
-pub one_mode : (words : List (List ℕ)) (seed : ℕ) (sizes : Sizes) → AsksFor words seed → AsksForSteps words sizes → ⊥
-one_mode words seed sizes asks more =
-    let same : codes "trace" ∷ asks.0 ∷ codes "simple" ∷ [] ≡ codes "steps" ∷ more.queue ∷ more.batch ∷ more.producers ∷ [] = sym asks.2 ∙ more.words_are in cc
+pub one_mode : (words : List (List ℕ)) (asked : Asked) (sizes : Sizes) → AsksFor words asked → AsksForSteps words sizes → ⊥
+one_mode words asked sizes traces steps =
+    other_mode words (traces.digits ∷ traces.kind) (steps.queue ∷ steps.batch ∷ steps.producers ∷ []) traces.words_are steps.words_are
 
 -- what was read onto nothing is the whole
 pub whole_read : (stream : Option (List ℕ)) (before now bytes : List ℕ) → before ≡ [] → bytes ≡ now
@@ -90,20 +114,45 @@ pub whole_read : (stream : Option (List ℕ)) (before now bytes : List ℕ) → 
 whole_read None before now bytes e f h = tt
 whole_read (Some all) before now bytes e f h = f ∙ h ∙ ap (λ b. b ++ all) e
 
--- words ask for one seed
-asks_once : (words : List (List ℕ)) (seed other : ℕ) → AsksFor words seed → AsksFor words other → seed ≡ other
-asks_once words seed other (digits, is, e) (more, js, f) =
-    let same : digits ≡ more = cc in is.1 ∙ ap (λ d. digits_value 10 d) same ∙ sym js.1
+-- words name one processor
+named_once : (words : List (List ℕ)) (asked other : AskedProcessor) → NamesProcessor words asked → NamesProcessor words other → asked ≡ other
+named_once words asks.Simple asks.Simple h k = refl
+named_once words asks.Simple (asks.Batch queue batch) h (q, b, is_queue, is_batch, k) =
+    let same : codes "simple" ∷ [] ≡ codes "batch" ∷ q ∷ b ∷ [] = sym h ∙ k in let no : ⊥ = cc in absurd no
+named_once words (asks.Batch queue batch) asks.Simple (q, b, is_queue, is_batch, h) k =
+    let same : codes "simple" ∷ [] ≡ codes "batch" ∷ q ∷ b ∷ [] = sym k ∙ h in let no : ⊥ = cc in absurd no
+named_once words (asks.Batch queue batch) (asks.Batch other more) (q, b, is_queue, is_batch, h) (r, c, is_other, is_more, k) =
+    let one : q ≡ r = cc in
+    let two : b ≡ c = cc in
+    let first : queue ≡ other = is_queue.1 ∙ ap (λ d. digits_value 10 d) one ∙ sym is_other.1 in
+    let second : batch ≡ more = is_batch.1 ∙ ap (λ d. digits_value 10 d) two ∙ sym is_more.1 in
+    rw (first, second) refl
+
+-- what is asked, part by part
+abbrev asked_of : ℕ → AskedProcessor → Asked
+asked_of seed processor = record { seed = seed; processor = processor }
+
+-- words ask for one thing
+asks_once : (words : List (List ℕ)) (asked other : Asked) → AsksFor words asked → AsksFor words other → asked ≡ other
+asks_once words asked other h k =
+    let said : words ≡ codes "trace" ∷ h.digits ∷ h.kind = h.words_are in
+    let too : words ≡ codes "trace" ∷ k.digits ∷ k.kind = k.words_are in
+    let digits : h.digits ≡ k.digits = cc in
+    let kind : h.kind ≡ k.kind = cc in
+    let seed : asked.seed ≡ other.seed = h.seed.1 ∙ ap (λ d. digits_value 10 d) digits ∙ sym k.seed.1 in
+    let processor : asked.processor ≡ other.processor = named_once k.kind asked.processor other.processor (subst (λ (words : List (List ℕ)). NamesProcessor words asked.processor) kind h.processor) k.processor in
+    let same : asked_of asked.seed asked.processor ≡ asked_of other.seed other.processor = rw (seed, processor) refl in
+    same
 
 -- what holds of a value that was found, of the one that it is
 pub found : {T E : Type 0} (P : T → Type 0) (made : Result T E) (value : T) → made ≡ Ok value → IfOk made P → P value
 found P made value e h = subst (λ m. IfOk m P) e h
 
--- what is traced under the provider of the seed that words ask for, is under that of any seed that they ask for
-pub traces_seed : {C D E : Type 0} (calls : Ghosts (MemoryProcessor C D)) (sampler : sampling.Ghosts (SamplerOf E)) (ids : drawing.Ghosts (List ℕ)) (words : List (List ℕ)) (seed other : ℕ)
+-- what is traced under the provider that words ask for, is under any that they ask for
+pub traces_asked : {C D E : Type 0} (calls : Ghosts (MemoryProcessor C D)) (timer : timing.Ghosts (MemoryProcessor C D)) (sampler : sampling.Ghosts (SamplerOf E)) (ids : drawing.Ghosts (List ℕ)) (words : List (List ℕ)) (asked other : Asked)
     (provider : ProviderState (MemoryProcessor C D) (SamplerOf E) (List ℕ)) (input input_after : Option (List ℕ)) (bad_line : Option ℕ)
-    (output output_after : Option (List ℕ)) → AsksFor words seed → AsksFor words other → IsProviderOfSeed other provider
-    → TracesWhole calls memory_batches sampler ids provider input input_after bad_line output output_after
-    → TracesSeed calls sampler ids seed input input_after bad_line output output_after
-traces_seed calls sampler ids words seed other provider input input_after bad_line output output_after asks more is h =
-    subst (λ (n : ℕ). TracesSeed calls sampler ids n input input_after bad_line output output_after) (asks_once words other seed more asks) (provider, is, h)
+    (output output_after : Option (List ℕ)) → AsksFor words asked → AsksFor words other → IsProviderOf other provider
+    → TracesWhole calls timer memory_batches sampler ids provider input input_after bad_line output output_after
+    → TracesAsked calls timer sampler ids asked input input_after bad_line output output_after
+traces_asked calls timer sampler ids words asked other provider input input_after bad_line output output_after h k is traces =
+    subst (λ (a : Asked). TracesAsked calls timer sampler ids a input input_after bad_line output output_after) (asks_once words other asked k h) (provider, is, traces)

@@ -11,28 +11,45 @@ use Rattle.otel_base.specs.declared.trace.sampler.SamplerOf.{SamplerOf}
 use Rattle.otel_base.specs.declared.trace.sampler.ShouldSample as sampling
 use Rattle.otel_base.specs.declared.trace.id_generator.IdGenerator as drawing
 use Rattle.otel_batch.specs.MachineState.{Machine}
+use Rattle.otel_batch.specs.PlainBatchConfig.{PlainBatchConfig, cut_to_queue, default_batch_config}
 use Rattle.otel_export.specs.StoredBatches.{StoredBatches}
 use Rattle.otel_export.specs.declared.trace.exporter_box.ExporterOf.{ExporterOf}
 use Rattle.otel_export.specs.declared.trace.exporter_box.ExporterOf.TheVariants as exporters
+use Rattle.otel_pipeline.specs.KeptBatches.{exporter_keeps, exporter_loses}
 use Rattle.otel_pipeline.specs.Provider.{ProviderState}
-use Rattle.otel_pipeline.specs.SimpleProcessor.{SimpleProcessor}
-use Rattle.otel_pipeline.specs.declared.trace.processor.ProcessorOf.{ProcessorOf}
-use Rattle.otel_pipeline.specs.declared.trace.processor.ProcessorOf.TheVariants as kinds
+use Rattle.otel_pipeline.specs.declared.trace.drain_due.DrainDue as timing
+use Rattle.otel_pipeline.specs.declared.trace.keeps_batches.KeepsBatches as keeping
 use Rattle.otel_pipeline.specs.declared.trace.span_processor.SpanProcessor.{Ghosts}
-use Rattle.otel_session.specs.declared.exported.KeepsBatches as keeping
-use Rattle.otel_session.specs.KeptBatches.{exporter_keeps, exporter_loses, processor_keeps, processor_loses}
+use Rattle.opentelemetry_sdk.specs.BatchProcessor.{first_processor}
+use Rattle.opentelemetry_sdk.specs.KeptByKinds.{processor_keeps, processor_loses}
+use Rattle.opentelemetry_sdk.specs.declared.trace.processor.ProcessorOf.{ProcessorOf}
+use Rattle.opentelemetry_sdk.specs.declared.trace.processor.ProcessorOf.TheVariants as kinds
 use Rattle.otel_lines.specs.Lines.{IsMoment}
 use Rattle.otel_session.specs.SessionDelivery.{Finishes, session_under}
 use Rattle.otel_steps.specs.StepAnswers.{AnswersLines, machine_of}
 use Rattle.otel_steps.specs.declared.steps.Sizes.{Sizes}
+use Rattle.otel_program.specs.declared.program.Asked.{Asked}
+use Rattle.otel_program.specs.declared.program.AskedProcessor.{AskedProcessor}
+use Rattle.otel_program.specs.declared.program.AskedProcessor.TheVariants as asks
 
--- the words `trace SEED simple`, where the seed is written as a moment is: in decimal digits alone, in range of 64 bits
-abbrev pub AsksFor : List (List ℕ) → ℕ → Type 0
-AsksFor words seed = (digits : List ℕ) × IsMoment digits seed × (words ≡ codes "trace" ∷ digits ∷ codes "simple" ∷ [])
+-- the words of a processor: `simple`, or `batch Q B`
+abbrev pub NamesProcessor : List (List ℕ) → AskedProcessor → Type 0
+NamesProcessor words asks.Simple = words ≡ codes "simple" ∷ []
+NamesProcessor words (asks.Batch queue batch) =
+    (q : List ℕ) × (b : List ℕ) × IsMoment q queue × IsMoment b batch × (words ≡ codes "batch" ∷ q ∷ b ∷ [])
+
+-- the words `trace SEED` and those of a processor. Seed and sizes are written as a moment is: in decimal digits alone,
+-- in range of 64 bits
+pub record AsksFor (words : List (List ℕ)) (asked : Asked) : Type 0 where
+  pub digits : List ℕ
+  pub kind : List (List ℕ)
+  pub seed : IsMoment digits asked.seed
+  pub processor : NamesProcessor kind asked.processor
+  pub words_are : words ≡ codes "trace" ∷ digits ∷ kind
 
 -- words that are no such ones
 abbrev pub AsksForNoTrace : List (List ℕ) → Type 0
-AsksForNoTrace words = (seed : ℕ) → AsksFor words seed → ⊥
+AsksForNoTrace words = (asked : Asked) → AsksFor words asked → ⊥
 
 -- three numbers write these sizes
 abbrev pub WriteSizes : List ℕ → List ℕ → List ℕ → Sizes → Type 0
@@ -59,41 +76,57 @@ usage_text = codes "usage: otel_trace trace SEED simple | trace SEED batch Q B |
 abbrev pub bad_line_text : ℕ → List ℕ
 bad_line_text line = codes "line " ++ (decimal line ++ (codes ": cannot read" ++ 10 ∷ []))
 
--- what the program's processors are: a simple one that exports into memory, or one of any other kind
+-- what the program's processors are: one that exports into memory, each span as it ends or in batches, or one of any
+-- other kind
 abbrev pub MemoryProcessor : Type 0 → Type 0 → Type 0
-MemoryProcessor C D = ProcessorOf (SimpleProcessor (ExporterOf StoredBatches C)) D
+MemoryProcessor C D = ProcessorOf (ExporterOf StoredBatches C) D
 
--- the provider of a seed: a root is sampled, and a child as its parent is; each span is kept within the limits that
--- nobody chose, and the one processor exports each into memory as it ends
-pub record IsProviderOfSeed {C D E : Type 0} (seed : ℕ)
-    (provider : ProviderState (MemoryProcessor C D) (SamplerOf E) (List ℕ)) : Type 0 where
-  pub processors : provider.processors ≡ kinds.Simple (record {
-    exporter = exporters.Memory (record { batches = []; lost = 0 });
-    is_shut = false;
-  }) ∷ []
+-- an exporter in memory that has no batch yet
+abbrev pub new_memory : {C : Type 0} → ExporterOf StoredBatches C
+new_memory = exporters.Memory (record { batches = []; lost = 0 })
+
+-- the processor that is asked for, over such an exporter: an open simple one, or a batch processor of these sizes in
+-- whose queue nothing waits. A batch has no more spans than may wait
+abbrev pub processor_of : {C D : Type 0} → AskedProcessor → MemoryProcessor C D
+processor_of asks.Simple = kinds.Simple (record { exporter = new_memory; is_shut = false })
+processor_of (asks.Batch queue batch) =
+    let config : PlainBatchConfig =
+    record default_batch_config { max_queue_size = queue; max_export_batch_size = batch } in
+    kinds.Batch (first_processor new_memory (cut_to_queue config))
+
+-- a provider of one processor, whose ids come from a seed: a root is sampled, and a child as its parent is, and each
+-- span is kept within the limits that nobody chose
+pub record SamplesRoots {P E : Type 0} (seed : ℕ) (processor : P) (provider : ProviderState P (SamplerOf E) (List ℕ))
+    : Type 0 where
+  pub processors : provider.processors ≡ processor ∷ []
   pub sampler : plan provider.sampler ≡ parent_based always_on
   pub id_generator : provider.id_generator ≡ of_seed (splitmix_seed 32 seed)
   pub span_limits : provider.span_limits ≡ default_limits
   pub is_open : provider.is_shut ≡ false
 
+-- the provider that is asked for
+abbrev pub IsProviderOf : {C D E : Type 0} → Asked → ProviderState (MemoryProcessor C D) (SamplerOf E) (List ℕ) → Type 0
+IsProviderOf asked provider = SamplesRoots asked.seed (processor_of asked.processor) provider
+
 -- what a processor in the place of that one keeps: the batches of its exporter in memory
 abbrev pub memory_batches : {C D : Type 0} → keeping.Ghosts (MemoryProcessor C D)
 memory_batches = record {
-  kept = processor_keeps (λ simple. exporter_keeps simple.exporter);
-  lost = processor_loses (λ simple. exporter_loses simple.exporter);
+  kept = processor_keeps exporter_keeps;
+  lost = processor_loses exporter_loses;
 }
 
 -- the whole of a stream's bytes, behind which the stream is at its end
 abbrev pub ReadsWhole : Option (List ℕ) → Option (List ℕ) → List ℕ → Type 0
 ReadsWhole before after bytes = IfSome before (λ all. bytes ≡ all) × IsAtEnd after
 
-module _ {P S G : Type 0} (calls : Ghosts P) (keeps : keeping.Ghosts P) (sampler : sampling.Ghosts S)
-    (ids : drawing.Ghosts G) where
+module _ {P S G : Type 0} (calls : Ghosts P) (timer : timing.Ghosts P) (keeps : keeping.Ghosts P)
+    (sampler : sampling.Ghosts S) (ids : drawing.Ghosts G) where
   -- a writer was given what a session under a provider writes for an input, whole or up to its first bad line, and
   -- when it closes, and nothing else
   abbrev pub WritesText : ProviderState P S G → List ℕ → Option ℕ → Option (List ℕ) → Option (List ℕ) → Type 0
   WritesText provider input bad_line before after = (text : List ℕ)
-      × Finishes calls keeps sampler ids (session_under keeps provider) input bad_line text × Appends before after text
+      × Finishes calls timer keeps sampler ids (session_under keeps provider) input bad_line text
+      × Appends before after text
 
   -- the whole input was read, and the output was given what a session under a provider writes for it
   abbrev pub TracesWhole : ProviderState P S G → Option (List ℕ) → Option (List ℕ) → Option ℕ
@@ -101,13 +134,13 @@ module _ {P S G : Type 0} (calls : Ghosts P) (keeps : keeping.Ghosts P) (sampler
   TracesWhole provider input input_after bad_line output output_after = (bytes : List ℕ)
       × ReadsWhole input input_after bytes × WritesText provider bytes bad_line output output_after
 
--- the same under the provider of a seed
-abbrev pub TracesSeed : {C D E : Type 0} → Ghosts (MemoryProcessor C D) → sampling.Ghosts (SamplerOf E)
-    → drawing.Ghosts (List ℕ) → ℕ → Option (List ℕ) → Option (List ℕ) → Option ℕ
+-- the same under the provider that is asked for
+abbrev pub TracesAsked : {C D E : Type 0} → Ghosts (MemoryProcessor C D) → timing.Ghosts (MemoryProcessor C D)
+    → sampling.Ghosts (SamplerOf E) → drawing.Ghosts (List ℕ) → Asked → Option (List ℕ) → Option (List ℕ) → Option ℕ
     → Option (List ℕ) → Option (List ℕ) → Type 0
-TracesSeed {C} {D} {E} calls sampler ids seed input input_after bad_line output output_after =
-    (provider : ProviderState (MemoryProcessor C D) (SamplerOf E) (List ℕ)) × IsProviderOfSeed seed provider
-    × TracesWhole calls memory_batches sampler ids provider input input_after bad_line output output_after
+TracesAsked {C} {D} {E} calls timer sampler ids asked input input_after bad_line output output_after =
+    (provider : ProviderState (MemoryProcessor C D) (SamplerOf E) (List ℕ)) × IsProviderOf asked provider
+    × TracesWhole calls timer memory_batches sampler ids provider input input_after bad_line output output_after
 
 -- the whole input was read, and the output was given what answers its lines, as they step a new batch queue
 pub record StepsSized (sizes : Sizes) (input input_after : Option (List ℕ)) (bad_line : Option ℕ)

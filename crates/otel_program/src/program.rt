@@ -6,21 +6,41 @@ ghost use Rattle.std.specs.Io.KnownBytes.{Appends, IsAtEnd};
 ghost use Rattle.otel_batch.specs.MachineState.{Machine};
 ghost use Rattle.otel_export.specs.StoredBatches.{StoredBatches};
 ghost use Rattle.otel_session.specs.SessionDelivery.{Finishes, session_under};
-ghost use Rattle.otel_program.specs.Program.{AsksFor, AsksForNoTrace, AsksForNothing, AsksForSteps, IsProviderOfSeed, StepsSized, TracesSeed, TracesWhole, WriteSizes, WritesText, bad_line_text, usage_text};
+ghost use Rattle.otel_program.specs.Program.{
+  AsksFor,
+  AsksForNoTrace,
+  AsksForNothing,
+  AsksForSteps,
+  IsProviderOf,
+  NamesProcessor,
+  SamplesRoots,
+  StepsSized,
+  TracesAsked,
+  TracesWhole,
+  WriteSizes,
+  WritesText,
+  bad_line_text,
+  processor_of,
+  usage_text,
+};
 ghost use Rattle.otel_steps.specs.StepAnswers.{AnswersLines, machine_of};
 
 use opentelemetry::trace::{Link, SpanKind, TraceState};
 use opentelemetry::{Context, KeyValue, TraceId};
+use opentelemetry_sdk::trace::{BatchSpanProcessor, ProcessorOf};
 use otel_base::error::OTelSdkResult;
 use otel_base::resource::Resource;
 use otel_base::trace::{
     ConfigOf, IdGenerator, RandomIdGenerator, SamplerOf, SamplingDecision, SamplingResult,
     ShouldSample, SpanLimits,
 };
+use otel_batch::trace::BatchConfigBuilder;
 use otel_export::trace::{ExporterOf, InMemorySpanExporter, SpanData, SpanExporter};
 use otel_lines::lines::number_of;
-use otel_pipeline::trace::{ProcessorOf, ProviderOf, SimpleSpanProcessor, SpanProcessor};
-use otel_session::exported::KeepsBatches;
+use otel_pipeline::trace::provider::provider_over;
+use otel_pipeline::trace::{
+    DrainDue, KeepsBatches, ProviderOf, SimpleSpanProcessor, SpanProcessor,
+};
 use otel_session::{FeedError, Session};
 use otel_steps::{Sizes, answer_lines, machine_sized};
 use std::alloc::{AllocError, Global};
@@ -38,11 +58,11 @@ const FAILED: u8 = 1;
 /// The exit status of a bad line or of wrong arguments.
 const REFUSED: u8 = 2;
 
+/// What the program's processors export to.
+type TraceExporter = ExporterOf<InMemorySpanExporter, NoExporter>;
+
 /// What the program's provider holds.
-pub type TraceProcessor = ProcessorOf<
-    SimpleSpanProcessor<ExporterOf<InMemorySpanExporter, NoExporter>>,
-    SimpleSpanProcessor<NoExporter>,
->;
+pub type TraceProcessor = ProcessorOf<TraceExporter, SimpleSpanProcessor<NoExporter>>;
 
 /// What stands for an exporter of another's own, and behind a processor of another's own, of which the program has
 /// none: it takes each batch and forgets it.
@@ -87,8 +107,27 @@ impl ShouldSample for NoSampler {
 /// What the program's provider asks about each span.
 pub type TraceSampler = SamplerOf<NoSampler>;
 
+/// A provider as the program's is, over processors of any kind.
+type ProviderOver<P> = ProviderOf<P, TraceSampler, RandomIdGenerator>;
+
 /// The program's provider.
-type TraceProvider = ProviderOf<TraceProcessor, TraceSampler, RandomIdGenerator>;
+type TraceProvider = ProviderOver<TraceProcessor>;
+
+/// What the mode `trace` is asked for.
+#[derive(Clone, Copy, Debug, PartialEq, Eq)]
+pub struct Asked {
+    pub seed: u64,
+    pub processor: AskedProcessor,
+}
+
+/// The processor that the mode `trace` is asked for.
+#[derive(Clone, Copy, Debug, PartialEq, Eq)]
+pub enum AskedProcessor {
+    /// It exports each span as it ends.
+    Simple,
+    /// So many spans may wait in its queue, and a batch has so many at most.
+    Batch { queue: usize, batch: usize },
+}
 
 /// How a session or a batch queue over the whole input ended.
 #[derive(Debug, Drop)]
@@ -121,14 +160,18 @@ pub fn run_program<R: Read, W: Write, F: Write>(
         (result ≢ 0) × (result ≡ 2 → Appends (F.contents faults.old) (F.contents faults.new) usage_text) }
 
     // One session over the whole input.
-    ensures done { (seed : ℕ) → AsksFor (map string_bytes words.now) seed → result ≡ 0 →
-        TracesSeed ⟦<TraceProcessor as SpanProcessor>⟧ ⟦<TraceSampler as ShouldSample>⟧
-        ⟦<RandomIdGenerator as IdGenerator>⟧ seed (R.remaining input.old) (R.remaining input.new)
+    ensures done { (asked : Asked) → AsksFor (map string_bytes words.now) asked → result ≡ 0 →
+        TracesAsked ⟦<TraceProcessor as SpanProcessor>⟧
+        (record { due_gives = ⟦<TraceProcessor as DrainDue>⟧.due_gives })
+        ⟦<TraceSampler as ShouldSample>⟧ ⟦<RandomIdGenerator as IdGenerator>⟧ asked
+        (R.remaining input.old) (R.remaining input.new)
         None (W.contents output.old) (W.contents output.new)
         × (faults.new ≡ faults.old) }
-    ensures bad_line { (seed : ℕ) → AsksFor (map string_bytes words.now) seed → result ≡ 2 → (line : ℕ)
-        × TracesSeed ⟦<TraceProcessor as SpanProcessor>⟧ ⟦<TraceSampler as ShouldSample>⟧
-        ⟦<RandomIdGenerator as IdGenerator>⟧ seed (R.remaining input.old) (R.remaining input.new)
+    ensures bad_line { (asked : Asked) → AsksFor (map string_bytes words.now) asked → result ≡ 2 → (line : ℕ)
+        × TracesAsked ⟦<TraceProcessor as SpanProcessor>⟧
+        (record { due_gives = ⟦<TraceProcessor as DrainDue>⟧.due_gives })
+        ⟦<TraceSampler as ShouldSample>⟧ ⟦<RandomIdGenerator as IdGenerator>⟧ asked
+        (R.remaining input.old) (R.remaining input.new)
         (Some line) (W.contents output.old) (W.contents output.new)
         × Appends (F.contents faults.old) (F.contents faults.new) (bad_line_text line) }
 
@@ -156,23 +199,40 @@ pub fn run_program<R: Read, W: Write, F: Write>(
 fn provider_for(alloc: Global, words: &[String]) -> Option<Result<TraceProvider, AllocError>>
     ensures { MatchOption result
         (AsksForNoTrace (map string_bytes words.now))
-        (λ made. (seed : ℕ) × AsksFor (map string_bytes words.now) seed
-        × IfOk made (IsProviderOfSeed seed)) }
+        (λ made. (asked : Asked) × AsksFor (map string_bytes words.now) asked
+        × IfOk made (IsProviderOf asked)) }
 {
-    let seed = seed_of(words)?;
-    Some(provider_of(alloc, seed))
+    let asked = asked_of(words)?;
+    Some(provider_of(alloc, asked))
 }
 
-/// The seed of `trace SEED simple`; none where the words are others.
-fn seed_of(words: &[String]) -> Option<u64>
+/// What the words of the mode `trace` ask for; none where the words are others.
+fn asked_of(words: &[String]) -> Option<Asked>
     ensures { MatchOption result
         (AsksForNoTrace (map string_bytes words.now))
-        (λ seed. AsksFor (map string_bytes words.now) seed) }
+        (λ asked. AsksFor (map string_bytes words.now) asked) }
 {
     match words {
-        [mode, seed, kind] if mode.as_str() == "trace" && kind.as_str() == "simple" => number_of(
-            seed.as_str(),
-        ),
+        [mode, seed, kind @ ..] if mode.as_str() == "trace" => Some(Asked {
+            seed: number_of(seed.as_str())?,
+            processor: processor_named(kind)?,
+        }),
+        _ => None,
+    }
+}
+
+/// The processor of `simple` or `batch Q B`; none where the words are others.
+fn processor_named(words: &[String]) -> Option<AskedProcessor>
+    ensures { MatchOption result
+        ((asked : AskedProcessor) → NamesProcessor (map string_bytes words.now) asked → ⊥)
+        (λ asked. NamesProcessor (map string_bytes words.now) asked) }
+{
+    match words {
+        [kind] if kind.as_str() == "simple" => Some(AskedProcessor::Simple),
+        [kind, queue, batch] if kind.as_str() == "batch" => Some(AskedProcessor::Batch {
+            queue: number_of(queue.as_str())? as usize,
+            batch: number_of(batch.as_str())? as usize,
+        }),
         _ => None,
     }
 }
@@ -264,12 +324,12 @@ fn trace_input<P: KeepsBatches, S: ShouldSample, G: IdGenerator, R: Read, W: Wri
 ) -> u8
     ensures status { result ≤ 2 }
     ensures done { result ≡ 0 →
-        TracesWhole P.SpanProcessor P.KeepsBatches.own S.ShouldSample G.IdGenerator provider
+        TracesWhole P.SpanProcessor P.DrainDue.own P.KeepsBatches.own S.ShouldSample G.IdGenerator provider
         (R.remaining input.old) (R.remaining input.new)
         None (W.contents output.old) (W.contents output.new)
         × (faults.new ≡ faults.old) }
     ensures bad_line { result ≡ 2 → (line : ℕ)
-        × TracesWhole P.SpanProcessor P.KeepsBatches.own S.ShouldSample G.IdGenerator provider
+        × TracesWhole P.SpanProcessor P.DrainDue.own P.KeepsBatches.own S.ShouldSample G.IdGenerator provider
         (R.remaining input.old) (R.remaining input.new)
         (Some line) (W.contents output.old) (W.contents output.new)
         × Appends (F.contents faults.old) (F.contents faults.new) (bad_line_text line) }
@@ -292,11 +352,11 @@ fn answer_input<P: KeepsBatches, S: ShouldSample, G: IdGenerator, W: Write, F: W
 ) -> u8
     ensures status { result ≤ 2 }
     ensures done { result ≡ 0 →
-        WritesText P.SpanProcessor P.KeepsBatches.own S.ShouldSample G.IdGenerator provider input.now
+        WritesText P.SpanProcessor P.DrainDue.own P.KeepsBatches.own S.ShouldSample G.IdGenerator provider input.now
         None (W.contents output.old) (W.contents output.new)
         × (faults.new ≡ faults.old) }
     ensures bad_line { result ≡ 2 → (line : ℕ)
-        × WritesText P.SpanProcessor P.KeepsBatches.own S.ShouldSample G.IdGenerator provider input.now
+        × WritesText P.SpanProcessor P.DrainDue.own P.KeepsBatches.own S.ShouldSample G.IdGenerator provider input.now
         (Some line) (W.contents output.old) (W.contents output.new)
         × Appends (F.contents faults.old) (F.contents faults.new) (bad_line_text line) }
 {
@@ -367,7 +427,7 @@ fn run_session<P: KeepsBatches, S: ShouldSample, G: IdGenerator>(
     input: &[u8],
 ) -> ProgramOutput
     ensures { result.has_failed ≡ false →
-        Finishes P.SpanProcessor P.KeepsBatches.own S.ShouldSample G.IdGenerator
+        Finishes P.SpanProcessor P.DrainDue.own P.KeepsBatches.own S.ShouldSample G.IdGenerator
         (session_under P.KeepsBatches.own provider)
         input.now result.bad_line result.text.items }
 {
@@ -398,7 +458,7 @@ fn finish<P: KeepsBatches, S: ShouldSample, G: IdGenerator>(
     input: &[u8],
 ) -> ProgramOutput
     ensures { result.has_failed ≡ false →
-        Finishes P.SpanProcessor P.KeepsBatches.own S.ShouldSample G.IdGenerator
+        Finishes P.SpanProcessor P.DrainDue.own P.KeepsBatches.own S.ShouldSample G.IdGenerator
         session input.now result.bad_line result.text.items }
 {
     let mut text = Vec::new(alloc);
@@ -423,18 +483,49 @@ fn finish<P: KeepsBatches, S: ShouldSample, G: IdGenerator>(
     }
 }
 
-/// A provider that samples each root, and each child as its parent is, and exports spans at once into memory.
-fn provider_of(alloc: Global, seed: u64) -> Result<TraceProvider, AllocError>
-    ensures { IfOk result (IsProviderOfSeed seed) }
+/// The provider that is asked for.
+fn provider_of(alloc: Global, asked: Asked) -> Result<TraceProvider, AllocError>
+    ensures { IfOk result (IsProviderOf asked) }
 {
-    let exporter = ExporterOf::Memory(InMemorySpanExporter::new(alloc));
+    let processor = processor_asked(alloc, asked.processor)?;
+    provider_with(alloc, asked.seed, processor)
+}
+
+/// A provider of one processor, that samples each root, and each child as its parent is.
+fn provider_with<P: SpanProcessor>(
+    alloc: Global,
+    seed: u64,
+    processor: P,
+) -> Result<ProviderOver<P>, AllocError>
+    ensures { IfOk result (SamplesRoots seed processor) }
+{
     let mut processors = Vec::new(alloc);
-    processors.push(ProcessorOf::Simple(SimpleSpanProcessor::new(alloc, exporter)))?;
+    processors.push(processor)?;
     let config = ConfigOf {
         sampler: SamplerOf::ParentBased(Box::new(alloc, SamplerOf::AlwaysOn)?),
         id_generator: RandomIdGenerator::new(seed),
         span_limits: SpanLimits::default(),
         resource: Resource::builder_empty(alloc).build(),
     };
-    Ok(ProviderOf::from_parts(processors, config))
+    Ok(provider_over(processors, config))
+}
+
+/// The processor that is asked for, over a new exporter in memory.
+fn processor_asked(alloc: Global, asked: AskedProcessor) -> Result<TraceProcessor, AllocError>
+    ensures { IfOk result (λ processor. processor ≡ processor_of asked) }
+{
+    let exporter = ExporterOf::Memory(InMemorySpanExporter::new(alloc));
+    match asked {
+        AskedProcessor::Simple => Ok(ProcessorOf::Simple(SimpleSpanProcessor::new(
+            alloc, exporter,
+        ))),
+        AskedProcessor::Batch { queue, batch } => {
+            let config = BatchConfigBuilder::default()
+                .with_max_queue_size(queue)
+                .with_max_export_batch_size(batch)
+                .build();
+            let processor = BatchSpanProcessor::new(alloc, exporter, config)?;
+            Ok(ProcessorOf::Batch(processor))
+        }
+    }
 }

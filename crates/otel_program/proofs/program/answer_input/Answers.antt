@@ -8,7 +8,7 @@ returns-clause-done g c = λ e.
     let w = c.write_outcome.ensures.done e in (
       (
         c.run_session-outcome.result.text.items,
-        subst (λ (b : Option ℕ). Finishes g.P.SpanProcessor g.P.KeepsBatches g.S.ShouldSample g.G.IdGenerator (session_under g.P.KeepsBatches c.args.provider) c.args.input.now b c.run_session-outcome.result.text.items)
+        subst (λ (b : Option ℕ). Finishes g.P.SpanProcessor g.P.DrainDue g.P.KeepsBatches g.S.ShouldSample g.G.IdGenerator (session_under g.P.KeepsBatches c.args.provider) c.args.input.now b c.run_session-outcome.result.text.items)
             w.1 (c.run_session-outcome.ensures w.0),
         w.2,
       ),
@@ -21,7 +21,7 @@ returns-clause-bad_line g c = λ e.
       w.1.0,
       (
         c.run_session-outcome.result.text.items,
-        subst (λ (b : Option ℕ). Finishes g.P.SpanProcessor g.P.KeepsBatches g.S.ShouldSample g.G.IdGenerator (session_under g.P.KeepsBatches c.args.provider) c.args.input.now b c.run_session-outcome.result.text.items)
+        subst (λ (b : Option ℕ). Finishes g.P.SpanProcessor g.P.DrainDue g.P.KeepsBatches g.S.ShouldSample g.G.IdGenerator (session_under g.P.KeepsBatches c.args.provider) c.args.input.now b c.run_session-outcome.result.text.items)
             w.1.1 (c.run_session-outcome.ensures w.0),
         w.1.2,
       ),

@@ -1,6 +1,6 @@
 use Rattle.std.proofs.Common.{Some, None, rules}
-use Rattle.otel_program.proofs.ProgramLemmas.{found, one_mode, steps_sized, traces_seed}
-use Rattle.otel_program.specs.Program.{IsProviderOfSeed}
+use Rattle.otel_program.proofs.ProgramLemmas.{found, one_mode, steps_sized, traces_asked}
+use Rattle.otel_program.specs.Program.{IsProviderOf}
 use Rattle.otel_program.proofs.program.run_program.Goals as goal
 
 pub returns-in-Some-clause-unread : goal.returns-in-Some-clause-unread
@@ -10,10 +10,10 @@ pub returns-in-Some-clause-usage : goal.returns-in-Some-clause-usage
 returns-in-Some-clause-usage g c = λ nothing. absurd (nothing.1 c.in-Some.sizes c.in-Some.ensures)
 
 pub returns-in-Some-clause-done : goal.returns-in-Some-clause-done
-returns-in-Some-clause-done g c = λ seed asks _. absurd (one_mode _ seed c.in-Some.sizes asks c.in-Some.ensures)
+returns-in-Some-clause-done g c = λ asked asks _. absurd (one_mode _ asked c.in-Some.sizes asks c.in-Some.ensures)
 
 pub returns-in-Some-clause-bad_line : goal.returns-in-Some-clause-bad_line
-returns-in-Some-clause-bad_line g c = λ seed asks _. absurd (one_mode _ seed c.in-Some.sizes asks c.in-Some.ensures)
+returns-in-Some-clause-bad_line g c = λ asked asks _. absurd (one_mode _ asked c.in-Some.sizes asks c.in-Some.ensures)
 
 pub returns-in-Some-clause-steps_done : goal.returns-in-Some-clause-steps_done
 returns-in-Some-clause-steps_done g c = λ sizes asks e. (
@@ -29,7 +29,7 @@ returns-in-Some-clause-steps_bad_line g c = λ sizes asks e. (
 )
 
 pub returns-in-None-clause-bad_line : goal.returns-in-None-clause-bad_line
-returns-in-None-clause-bad_line g c = λ seed asks _. absurd (c.in-None.ensures seed asks)
+returns-in-None-clause-bad_line g c = λ asked asks _. absurd (c.in-None.ensures asked asks)
 
 pub returns-in-Some-Ok-clause-unread : goal.returns-in-Some-Ok-clause-unread
 returns-in-Some-Ok-clause-unread g c = λ nothing. absurd (nothing.0 c.in-Some-Ok.ensures.0 c.in-Some-Ok.ensures.1)
@@ -38,15 +38,15 @@ pub returns-in-Some-Ok-clause-usage : goal.returns-in-Some-Ok-clause-usage
 returns-in-Some-Ok-clause-usage g c = λ nothing. absurd (nothing.0 c.in-Some-Ok.ensures.0 c.in-Some-Ok.ensures.1)
 
 pub returns-in-Some-Ok-clause-done : goal.returns-in-Some-Ok-clause-done
-returns-in-Some-Ok-clause-done g c = λ seed asks e. (
-  traces_seed _ _ _ _ seed c.in-Some-Ok.ensures.0 c.in-Some-Ok.provider _ _ None _ _ asks c.in-Some-Ok.ensures.1 (found (IsProviderOfSeed c.in-Some-Ok.ensures.0) c.in-Some-Ok.field-0 c.in-Some-Ok.provider (search rules) c.in-Some-Ok.ensures.2) (c.trace_input.ensures.done e).0,
+returns-in-Some-Ok-clause-done g c = λ asked asks e. (
+  traces_asked _ _ _ _ _ asked c.in-Some-Ok.ensures.0 c.in-Some-Ok.provider _ _ None _ _ asks c.in-Some-Ok.ensures.1 (found (IsProviderOf c.in-Some-Ok.ensures.0) c.in-Some-Ok.field-0 c.in-Some-Ok.provider (search rules) c.in-Some-Ok.ensures.2) (c.trace_input.ensures.done e).0,
   (c.trace_input.ensures.done e).1,
 )
 
 pub returns-in-Some-Ok-clause-bad_line : goal.returns-in-Some-Ok-clause-bad_line
-returns-in-Some-Ok-clause-bad_line g c = λ seed asks e. (
+returns-in-Some-Ok-clause-bad_line g c = λ asked asks e. (
   (c.trace_input.ensures.bad_line e).0,
-  traces_seed _ _ _ _ seed c.in-Some-Ok.ensures.0 c.in-Some-Ok.provider _ _ (Some (c.trace_input.ensures.bad_line e).0) _ _ asks c.in-Some-Ok.ensures.1 (found (IsProviderOfSeed c.in-Some-Ok.ensures.0) c.in-Some-Ok.field-0 c.in-Some-Ok.provider (search rules) c.in-Some-Ok.ensures.2) (c.trace_input.ensures.bad_line e).1,
+  traces_asked _ _ _ _ _ asked c.in-Some-Ok.ensures.0 c.in-Some-Ok.provider _ _ (Some (c.trace_input.ensures.bad_line e).0) _ _ asks c.in-Some-Ok.ensures.1 (found (IsProviderOf c.in-Some-Ok.ensures.0) c.in-Some-Ok.field-0 c.in-Some-Ok.provider (search rules) c.in-Some-Ok.ensures.2) (c.trace_input.ensures.bad_line e).1,
   (c.trace_input.ensures.bad_line e).2,
 )
 
