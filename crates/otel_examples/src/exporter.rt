@@ -60,11 +60,9 @@ impl<W: Write + Drop> SpanExporter for LineExporter<W> {
 #[cfg(test)]
 mod tests {
     use super::LineExporter;
+    use crate::providers::provider_of;
     use opentelemetry::Moment;
-    use opentelemetry_sdk::Resource;
-    use opentelemetry_sdk::trace::{
-        ConfigOf, ProviderOf, RandomIdGenerator, Sampler, SimpleSpanProcessor, SpanLimits,
-    };
+    use opentelemetry_sdk::trace::{ProviderOf, RandomIdGenerator, Sampler, SimpleSpanProcessor};
     use std::alloc::{AllocError, Global};
     use std::test::Fail;
 
@@ -77,14 +75,11 @@ mod tests {
     /// A provider whose spans are written at once.
     fn line_provider(alloc: Global) -> Result<LineProvider, AllocError> {
         let exporter = LineExporter::new(alloc, Vec::new(alloc));
-        let processors = vec![in alloc; SimpleSpanProcessor::new(alloc, exporter)]?;
-        let config = ConfigOf {
-            sampler: Sampler::AlwaysOn,
-            id_generator: RandomIdGenerator::new(0),
-            span_limits: SpanLimits::default(),
-            resource: Resource::builder_empty(alloc).build(),
-        };
-        Ok(ProviderOf::from_parts(processors, config))
+        provider_of(
+            alloc,
+            Sampler::AlwaysOn,
+            SimpleSpanProcessor::new(alloc, exporter),
+        )
     }
 
     /// Starts a span of this name at a moment, and ends it two later. The answer is how many processors refused it.

@@ -4,6 +4,8 @@
 
 pub mod exporter;
 pub mod processor;
+#[cfg(test)]
+mod providers;
 pub mod queueing_processor;
 #[cfg(test)]
 mod quick_start;

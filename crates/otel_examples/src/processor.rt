@@ -65,11 +65,10 @@ impl<P: SpanProcessor> SpanProcessor for FilteringProcessor<P> {
 #[cfg(test)]
 mod tests {
     use super::{FilteringProcessor, MARK};
+    use crate::providers::provider_of;
     use opentelemetry::{Key, KeyValue, Moment, Value};
-    use opentelemetry_sdk::Resource;
     use opentelemetry_sdk::trace::{
-        ConfigOf, InMemorySpanExporter, ProviderOf, RandomIdGenerator, Sampler,
-        SimpleSpanProcessor, Span, SpanLimits,
+        InMemorySpanExporter, ProviderOf, RandomIdGenerator, Sampler, SimpleSpanProcessor, Span,
     };
     use std::alloc::{AllocError, Global};
     use std::test::Fail;
@@ -83,14 +82,7 @@ mod tests {
     /// A provider that exports into memory what the filter lets through.
     fn filtering_provider(alloc: Global) -> Result<FilteringProvider, AllocError> {
         let inner = SimpleSpanProcessor::new(alloc, InMemorySpanExporter::new(alloc));
-        let processors = vec![in alloc; FilteringProcessor { inner }]?;
-        let config = ConfigOf {
-            sampler: Sampler::AlwaysOn,
-            id_generator: RandomIdGenerator::new(0),
-            span_limits: SpanLimits::default(),
-            resource: Resource::builder_empty(alloc).build(),
-        };
-        Ok(ProviderOf::from_parts(processors, config))
+        provider_of(alloc, Sampler::AlwaysOn, FilteringProcessor { inner })
     }
 
     fn start_span(

@@ -49,7 +49,7 @@ impl<E> QueueingProcessor<E> {
 }
 
 impl<E: SpanExporter> SpanProcessor for QueueingProcessor<E> {
-    ghost use Rattle.std.specs.Prelude.{None, not};
+    ghost use Rattle.std.specs.Prelude.{None, length, not};
     ghost use Rattle.otel_export.specs.Telling.{and_then_told};
     ghost use Rattle.otel_pipeline.specs.ProcessorTelling.{spans_told};
 
@@ -57,6 +57,7 @@ impl<E: SpanExporter> SpanProcessor for QueueingProcessor<E> {
     ghost told = { λ p. record {
       spans = None;
       heard = and_then_told (spans_told (E.told p.exporter)) p.waiting.items;
+      waiting = length p.waiting.items;
       dropped = p.dropped;
       is_open = not p.is_shut;
     } };
@@ -104,11 +105,10 @@ impl<E: SpanExporter> SpanProcessor for QueueingProcessor<E> {
 #[cfg(test)]
 mod tests {
     use super::QueueingProcessor;
+    use crate::providers::provider_of;
     use opentelemetry::Moment;
-    use opentelemetry_sdk::Resource;
     use opentelemetry_sdk::trace::{
-        ConfigOf, InMemorySpanExporter, ProviderOf, RandomIdGenerator, Sampler, SpanLimits,
-        SpanProcessor,
+        InMemorySpanExporter, ProviderOf, RandomIdGenerator, Sampler, SpanProcessor,
     };
     use std::alloc::{AllocError, Global};
     use std::test::Fail;
@@ -117,22 +117,14 @@ mod tests {
 
     type QueueingProvider = ProviderOver<QueueingProcessor<InMemorySpanExporter>>;
 
-    /// A provider over processors of any kind.
-    fn provider_over<P: SpanProcessor>(alloc: Global, processors: Vec<P>) -> ProviderOver<P> {
-        let config = ConfigOf {
-            sampler: Sampler::AlwaysOn,
-            id_generator: RandomIdGenerator::new(0),
-            span_limits: SpanLimits::default(),
-            resource: Resource::builder_empty(alloc).build(),
-        };
-        ProviderOf::from_parts(processors, config)
-    }
-
     /// A provider over a queue in front of an exporter in memory, in which two spans have room.
     fn queueing_provider(alloc: Global) -> Result<QueueingProvider, AllocError> {
         let exporter = InMemorySpanExporter::new(alloc);
-        let processors = vec![in alloc; QueueingProcessor::new(alloc, exporter, 2)]?;
-        Ok(provider_over(alloc, processors))
+        provider_of(
+            alloc,
+            Sampler::AlwaysOn,
+            QueueingProcessor::new(alloc, exporter, 2),
+        )
     }
 
     /// Starts a span at a moment and ends it. The answer is how many processors refused it.

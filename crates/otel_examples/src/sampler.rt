@@ -74,12 +74,11 @@ impl ShouldSample for ServerSampler {
 #[cfg(test)]
 mod tests {
     use super::ServerSampler;
+    use crate::providers::{builder_under, built};
     use opentelemetry::trace::{SpanBuilder, SpanKind};
     use opentelemetry::{Context, Key, KeyValue, Moment, Value};
-    use opentelemetry_sdk::Resource;
     use opentelemetry_sdk::trace::{
-        ConfigOf, InMemorySpanExporter, ProviderOf, RandomIdGenerator, SimpleSpanProcessor, Span,
-        SpanData, SpanLimits,
+        InMemorySpanExporter, ProviderOf, RandomIdGenerator, SimpleSpanProcessor, Span, SpanData,
     };
     use std::alloc::{AllocError, Global};
     use std::test::Fail;
@@ -91,17 +90,12 @@ mod tests {
     >;
 
     /// A provider under the sampler, whose spans keep so many attributes.
-    fn server_provider(alloc: Global, max_attributes_per_span: u32) -> ServerProvider {
-        let config = ConfigOf {
-            sampler: ServerSampler { alloc },
-            id_generator: RandomIdGenerator::new(0),
-            span_limits: SpanLimits {
-                max_attributes_per_span,
-                ..SpanLimits::default()
-            },
-            resource: Resource::builder_empty(alloc).build(),
-        };
-        ProviderOf::from_parts(Vec::new(alloc), config)
+    fn server_provider(
+        alloc: Global,
+        max_attributes_per_span: u32,
+    ) -> Result<ServerProvider, AllocError> {
+        let builder = builder_under(alloc, ServerSampler { alloc });
+        built(builder.with_max_attributes_per_span(max_attributes_per_span))
     }
 
     /// An attribute that is true.
@@ -140,7 +134,7 @@ mod tests {
 
     /// The keys of the attributes that a span of this kind keeps where so many have room, and how many it does not.
     fn shown(alloc: Global, limit: u32, kind: SpanKind) -> Result<String, AllocError> {
-        let mut provider = server_provider(alloc, limit);
+        let mut provider = server_provider(alloc, limit)?;
         let recorded = recorded(alloc, &mut provider, kind);
         let _ = provider.close();
         let Some(data) = recorded? else {

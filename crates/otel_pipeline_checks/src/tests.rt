@@ -3,6 +3,8 @@
 
 mod fixtures;
 mod processors;
+mod provider_builder;
+mod refused_batch;
 mod refused_memory;
 mod simple_span_processor;
 mod starts;

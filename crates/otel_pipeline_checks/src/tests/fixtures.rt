@@ -2,6 +2,7 @@
 
 use opentelemetry::trace::{Link, SpanBuilder, SpanKind, TraceState};
 use opentelemetry::{Context, Key, KeyValue, Moment, TraceId, Value};
+use opentelemetry_sdk::trace::ProcessorOf;
 use otel_base::error::{OTelSdkError, OTelSdkResult};
 use otel_base::resource::Resource;
 use otel_base::trace::{
@@ -9,7 +10,8 @@ use otel_base::trace::{
     SpanLimits,
 };
 use otel_export::trace::{InMemorySpanExporter, SpanData};
-use otel_pipeline::trace::{ProcessorOf, ProviderOf, SimpleSpanProcessor, Span, SpanProcessor};
+use otel_pipeline::trace::provider::provider_over;
+use otel_pipeline::trace::{ProviderOf, SimpleSpanProcessor, Span, SpanProcessor};
 use std::alloc::{AllocError, Global};
 use std::cell::Cell;
 use std::fmt::Write;
@@ -147,7 +149,7 @@ fn attributes_of(
     Ok(attributes)
 }
 
-pub(super) type TestProcessor = ProcessorOf<SimpleSpanProcessor<InMemorySpanExporter>, Writer>;
+pub(super) type TestProcessor = ProcessorOf<InMemorySpanExporter, Writer>;
 
 pub(super) type TestSampler = SamplerOf<Asked>;
 
@@ -184,13 +186,17 @@ pub(super) fn provider_of<P, S>(
     processors: Vec<P>,
     sampler: S,
 ) -> ProviderOf<P, S, RandomIdGenerator> {
-    let config = ConfigOf {
+    provider_over(processors, config_under(alloc, sampler))
+}
+
+/// A configuration with this sampler, the ids of seed 0 and an empty resource.
+pub(super) fn config_under<S>(alloc: Global, sampler: S) -> ConfigOf<S, RandomIdGenerator> {
+    ConfigOf {
         sampler,
         id_generator: RandomIdGenerator::new(0),
         span_limits: SpanLimits::default(),
         resource: Resource::builder_empty(alloc).build(),
-    };
-    ProviderOf::from_parts(processors, config)
+    }
 }
 
 /// Starts a span in a context at moment 7, whose builder has so many attributes.
@@ -267,6 +273,7 @@ pub(super) fn taken(alloc: Global, provider: &TestProvider) -> Result<String, Al
 fn push_taken(text: &mut String, processor: &TestProcessor) -> Result<(), AllocError> {
     match processor {
         ProcessorOf::Simple(simple) => push_batches(text, simple.exporter().batches()),
+        ProcessorOf::Batch(_) => Ok(()),
         ProcessorOf::Custom(writer) => push_spans(text, &writer.taken),
     }
 }

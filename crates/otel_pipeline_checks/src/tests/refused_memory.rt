@@ -8,9 +8,10 @@ use super::fixtures::{
 };
 use opentelemetry::trace::SpanContext;
 use opentelemetry::{Context, Moment, SpanId};
+use opentelemetry_sdk::trace::ProcessorOf;
 use otel_base::trace::{RandomIdGenerator, SamplerOf, SamplingDecision, ShouldSample};
 use otel_export::trace::{InMemorySpanExporter, SpanData};
-use otel_pipeline::trace::{ProcessorOf, ProviderOf, Span, SpanProcessor};
+use otel_pipeline::trace::{ProviderOf, Span, SpanProcessor};
 use std::alloc::{AllocError, Global};
 use std::cell::Cell;
 use std::rc::Rc;
@@ -163,7 +164,7 @@ fn finish<P: SpanProcessor, S: ShouldSample>(
 
 /// Finishes a span, and finishes it again where it came back, which it must do as it was. The answer is how many
 /// processors refused it.
-fn finish_again<P: SpanProcessor, S: ShouldSample>(
+pub(super) fn finish_again<P: SpanProcessor, S: ShouldSample>(
     span: Span,
     provider: &mut ProviderOf<P, S, RandomIdGenerator>,
 ) -> Option<u64> {

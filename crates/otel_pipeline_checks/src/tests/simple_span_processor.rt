@@ -1,10 +1,11 @@
 ghost use Rattle.std.specs.Prelude.{None};
 
 use opentelemetry::Value;
+use opentelemetry_sdk::trace::Processor;
 use otel_base::error::{OTelSdkError, OTelSdkResult};
 use otel_base::resource::Resource;
 use otel_export::trace::{ExporterBox, SpanData, SpanExporter};
-use otel_pipeline::trace::{Processor, SimpleSpanProcessor, SpanProcessor};
+use otel_pipeline::trace::{SimpleSpanProcessor, SpanProcessor};
 use std::alloc::AllocError;
 use std::test::Fail;
 use std::time::Duration;

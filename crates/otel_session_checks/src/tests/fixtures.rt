@@ -3,6 +3,7 @@
 ghost use Rattle.std.specs.Prelude.{None};
 
 use opentelemetry::{Context, Moment};
+use opentelemetry_sdk::trace::{Processor, SdkTracerProvider};
 use otel_base::error::{OTelSdkError, OTelSdkResult};
 use otel_base::resource::Resource;
 use otel_base::trace::{
@@ -10,10 +11,10 @@ use otel_base::trace::{
 };
 use otel_export::trace::{ExporterBox, InMemorySpanExporter, SpanData, SpanExporter};
 use otel_lines::{Command, Reply};
+use otel_pipeline::trace::provider::provider_over;
 use otel_pipeline::trace::{
-    Processor, ProviderOf, SdkTracerProvider, SimpleSpanProcessor, Span, SpanProcessor,
+    DrainDue, KeepsBatches, ProviderOf, SimpleSpanProcessor, Span, SpanProcessor,
 };
-use otel_session::exported::KeepsBatches;
 use otel_session::{FeedError, Session};
 use std::alloc::{AllocError, Global};
 use std::time::Duration;
@@ -54,7 +55,7 @@ impl SpanProcessor for Failing {
     }
 }
 
-/// A processor that loses as many batches at each end, and at each flush and shutdown.
+/// A processor that loses as many batches at each end, and at each flush, drain and shutdown.
 #[derive(Drop)]
 pub struct Losing {
     pub at_an_end: u64,
@@ -91,6 +92,15 @@ impl SpanProcessor for Losing {
     }
 }
 
+impl DrainDue for Losing {
+    ghost due_gives = { λ _ _ _ _. Unit {0} };
+
+    fn drain_due(&mut self, _now: Moment) -> OTelSdkResult {
+        self.lose(self.at_a_flush);
+        Ok(())
+    }
+}
+
 impl KeepsBatches for Losing {
     ghost use Rattle.std.specs.Prelude.{[], refl};
     ghost use Rattle.std.proofs.Common.{ap};
@@ -104,6 +114,7 @@ impl KeepsBatches for Losing {
       ends = λ _ _ _ _ _. ([], refl);
       flushes = λ _ _ _ _. ([], refl);
       shuts = λ _ _ _ _ _. ([], refl);
+      runs = λ _ _ _ _ _. ([], refl);
     } };
 
     fn batches(&self) -> &[Vec<SpanData>] {
@@ -125,7 +136,7 @@ fn provider_with<P: SpanProcessor>(
         span_limits: SpanLimits::default(),
         resource: Resource::builder_empty(alloc).build(),
     };
-    ProviderOf::from_parts(processors, config)
+    provider_over(processors, config)
 }
 
 pub fn provider_of<P: SpanProcessor>(

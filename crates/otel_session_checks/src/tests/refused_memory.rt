@@ -2,15 +2,15 @@
 
 use super::fixtures::*;
 use otel_base::error::OTelSdkError;
-use otel_base::trace::{IdGenerator, ShouldSample};
+use otel_base::trace::{IdGenerator, IdSource, Sampler, ShouldSample};
 use otel_lines::{Answer, Command, Reply, parse};
+use otel_pipeline::trace::{KeepsBatches, ProviderOf};
 use otel_session::Session;
-use otel_session::exported::KeepsBatches;
 use std::alloc::{AllocError, Global};
 use std::test::Fail;
 
 /// What a span, its child and a remote one live through, a command a line.
-const LIVES: [&[u8]; 11] = [
+const LIVES: [&[u8]; 12] = [
     b"start s a 1",
     b"child c s b 2",
     b"remote r 00-4bf92f3577b34da6a3ce929d0e0e4736-00f067aa0ba902b7-01 w 3",
@@ -20,6 +20,7 @@ const LIVES: [&[u8]; 11] = [
     b"inject c",
     b"end c 5",
     b"end s 6",
+    b"run 7",
     b"flush",
     b"shutdown",
 ];
@@ -67,7 +68,7 @@ fn answers_line(line: usize, answer: &Answer) -> bool {
         0..=2 => matches!(answer, Answer::Started(_) | Answer::SpanExists),
         6 => matches!(answer, Answer::Headers { .. }),
         7 | 8 => matches!(answer, Answer::Ended(_) | Answer::Ignored),
-        10 => matches!(
+        11 => matches!(
             answer,
             Answer::Ok | Answer::Failed(OTelSdkError::AlreadyShutdown)
         ),
@@ -76,10 +77,14 @@ fn answers_line(line: usize, answer: &Answer) -> bool {
 }
 
 /// What the runs answered, their replies, and how many batches the exporter lost.
-fn lived(alloc: Global) -> Result<(Result<(), AllocError>, Vec<Reply>, u64), AllocError> {
-    let (first, again) = (one_by_one(alloc)?, one_by_one(alloc)?);
+fn lived<P: KeepsBatches>(
+    alloc: Global,
+    provider: ProviderOf<P, Sampler, IdSource>,
+    first: Vec<Vec<Command>>,
+    again: Vec<Vec<Command>>,
+) -> Result<(Result<(), AllocError>, Vec<Reply>, u64), AllocError> {
     let mut replies = Vec::new(alloc);
-    let mut session = session_over(alloc, memory_provider(alloc)?)?;
+    let mut session = session_over(alloc, provider)?;
     let run = run_each(&mut session, first, again, &mut replies);
     let lost = session.lost_batches();
     let _ = close(session, &mut Vec::new(alloc));
@@ -91,7 +96,9 @@ fn lived(alloc: Global) -> Result<(Result<(), AllocError>, Vec<Reply>, u64), All
 /// its batch is counted as refused or lost.
 #[test]
 fn a_run_that_found_no_memory_succeeds_again(rt: HostRuntime) -> Result<(), Fail> {
-    let (run, replies, lost) = lived(rt.alloc())?;
+    let alloc = rt.alloc();
+    let (first, again) = (one_by_one(alloc)?, one_by_one(alloc)?);
+    let (run, replies, lost) = lived(alloc, memory_provider(alloc)?, first, again)?;
     assert_eq!(rt; run, Ok(()));
     assert_eq!(rt; replies.len(), LIVES.len());
     for (line, reply) in replies.iter().enumerate() {

@@ -2,16 +2,20 @@
 
 use super::fixtures::*;
 use opentelemetry::Moment;
+use opentelemetry_sdk::trace::SdkTracerProvider;
 use otel_base::error::{OTelSdkError, OTelSdkResult};
+use otel_base::trace::{IdSource, Sampler};
 use otel_lines::{Answer, Command, Reply};
-use otel_pipeline::trace::SdkTracerProvider;
+use otel_pipeline::trace::{KeepsBatches, ProviderOf, SpanProcessor};
 use otel_session::FeedError;
-use otel_session::exported::KeepsBatches;
 use std::alloc::{AllocError, Global};
 use std::test::Fail;
 
 /// What a session over this provider answers to one line, and behind it how it closes.
-fn closed(alloc: Global, provider: SdkTracerProvider) -> Result<String, AllocError> {
+fn closed<P: KeepsBatches>(
+    alloc: Global,
+    provider: ProviderOf<P, Sampler, IdSource>,
+) -> Result<String, AllocError> {
     let mut output = Vec::new(alloc);
     let mut session = session_over(alloc, provider)?;
     let fed = feed(&mut session, b"end x 5\n", &mut output);
@@ -58,7 +62,10 @@ fn used_provider(alloc: Global) -> Result<SdkTracerProvider, AllocError> {
     Err(AllocError)
 }
 
-fn deliver_one(alloc: Global, provider: &mut SdkTracerProvider) -> Result<(), AllocError> {
+fn deliver_one<P: SpanProcessor>(
+    alloc: Global,
+    provider: &mut ProviderOf<P, Sampler, IdSource>,
+) -> Result<(), AllocError> {
     let tracer = provider.tracer(String::from_str(alloc, "before")?)?;
     let mut span = tracer.start(String::from_str(alloc, "a")?, provider, Moment(1))?;
     let ended = span.end_with_timestamp(provider, Moment(2));
@@ -67,7 +74,7 @@ fn deliver_one(alloc: Global, provider: &mut SdkTracerProvider) -> Result<(), Al
 }
 
 /// How many batches the first processor keeps.
-fn kept_by(provider: &SdkTracerProvider) -> usize {
+fn kept_by<P: KeepsBatches>(provider: &ProviderOf<P, Sampler, IdSource>) -> usize {
     provider
         .processors()
         .first()
@@ -101,12 +108,17 @@ struct Refusals {
 }
 
 /// Two spans are started and one is ended, then two texts are fed, and each span is refused.
-fn refused(alloc: Global) -> Result<Refusals, AllocError> {
-    let commands = two_started_and_one_ended(alloc)?;
+fn refused<P: KeepsBatches>(
+    alloc: Global,
+    provider: ProviderOf<P, Sampler, IdSource>,
+) -> Result<Refusals, AllocError> {
     let mut replies = Vec::new(alloc);
     let mut output = Vec::new(alloc);
-    let mut session = session_over(alloc, failing_provider(alloc)?)?;
-    let run = run(&mut session, commands, &mut replies);
+    let mut session = session_over(alloc, provider)?;
+    let run = match two_started_and_one_ended(alloc) {
+        Ok(commands) => run(&mut session, commands, &mut replies),
+        Err(error) => Err(error),
+    };
     let first = feed(&mut session, b"end x 5\nend s 3\nend x 5\n", &mut output);
     let second = feed(&mut session, b"end s 6\n", &mut output);
     let _ = close(session, &mut output);
@@ -120,7 +132,7 @@ fn refused(alloc: Global) -> Result<Refusals, AllocError> {
 
 #[test]
 fn a_refused_span_is_counted_in_a_reply_and_stops_a_text(rt: HostRuntime) -> Result<(), Fail> {
-    let refused = refused(rt.alloc())?;
+    let refused = refused(rt.alloc(), failing_provider(rt.alloc())?)?;
     assert!(rt; refused.run.is_ok());
     let [_, _, ended] = refused.replies.as_slice() else {
         return Err(Fail::new("not three replies"));
@@ -162,19 +174,25 @@ fn a_lost_batch_stops_a_run_at_an_end_alone(rt: HostRuntime) -> Result<(), Fail>
         at_a_flush: 1,
         lost: 0,
     };
-    let calls = vec![in alloc; Command::Flush, Command::Shutdown]?;
-    assert_eq!(rt; run_over(alloc, at_a_flush, calls)?, (Ok(()), 2));
+    let moment = Moment(3);
+    let calls = vec![in alloc; Command::Flush, Command::Run { moment }, Command::Shutdown]?;
+    assert_eq!(rt; run_over(alloc, at_a_flush, calls)?, (Ok(()), 3));
     Ok(())
 }
 
 /// The replies to a flush of a provider that fails, what it answers to three lines behind it, and whether all of that
 /// and closing went well.
-fn failed_calls(alloc: Global) -> Result<(Vec<Reply>, Vec<u8>, [bool; 3]), AllocError> {
-    let commands = vec![in alloc; Command::Flush]?;
+fn failed_calls<P: KeepsBatches>(
+    alloc: Global,
+    provider: ProviderOf<P, Sampler, IdSource>,
+) -> Result<(Vec<Reply>, Vec<u8>, [bool; 3]), AllocError> {
     let mut replies = Vec::new(alloc);
     let mut output = Vec::new(alloc);
-    let mut session = session_over(alloc, half_failing_provider(alloc)?)?;
-    let run = run(&mut session, commands, &mut replies);
+    let mut session = session_over(alloc, provider)?;
+    let run = match vec![in alloc; Command::Flush] {
+        Ok(commands) => run(&mut session, commands, &mut replies),
+        Err(_) => Err(AllocError),
+    };
     let fed = feed(&mut session, b"shutdown\nshutdown\nflush\n", &mut output);
     let closed = close(session, &mut output);
     Ok((replies, output, [run.is_ok(), fed.is_ok(), closed.is_ok()]))
@@ -186,7 +204,10 @@ const FAILED_CALLS: &[u8] =
 
 #[test]
 fn a_failed_flush_and_a_failed_shutdown_are_answered(rt: HostRuntime) -> Result<(), Fail> {
-    let (replies, output, went_well) = failed_calls(rt.alloc())?;
+    let (replies, output, went_well) = failed_calls(
+        rt.alloc(),
+        half_failing_provider(rt.alloc())?,
+    )?;
     assert_eq!(rt; went_well, [true, true, true]);
     let [flushed] = replies.as_slice() else {
         return Err(Fail::new("not one reply"));

@@ -3,7 +3,7 @@
 use super::fixtures::*;
 use otel_base::error::{OTelSdkError, OTelSdkResult};
 use otel_base::trace::{IdSource, Sampler};
-use otel_pipeline::trace::Processor;
+use otel_pipeline::trace::{KeepsBatches, ProviderOf};
 use otel_session::{FeedError, Session};
 use std::alloc::{AllocError, Global};
 use std::fmt::Write as _;
@@ -20,9 +20,9 @@ fn start_lines(alloc: Global, count: u32) -> Result<String, AllocError> {
 
 /// Feeds the starts of so many spans at once, and then each end by itself. The answer is how many ends stopped their
 /// text.
-fn stopped_ends(
+fn stopped_ends<P: KeepsBatches>(
     alloc: Global,
-    session: &mut Session<Processor, Sampler, IdSource>,
+    session: &mut Session<P, Sampler, IdSource>,
     count: u32,
     output: &mut Vec<u8>,
 ) -> Result<u32, AllocError> {
@@ -75,10 +75,15 @@ struct Late {
 }
 
 /// So many spans are started and ended; then a last text is fed, and the session is closed.
-fn shown_late(alloc: Global, count: u32, last: &[u8]) -> Result<Late, AllocError> {
+fn shown_late<P: KeepsBatches>(
+    alloc: Global,
+    provider: ProviderOf<P, Sampler, IdSource>,
+    count: u32,
+    last: &[u8],
+) -> Result<Late, AllocError> {
     let mut started = Vec::new(alloc);
     let mut shown = Vec::new(alloc);
-    let mut session = session_over(alloc, half_failing_provider(alloc)?)?;
+    let mut session = session_over(alloc, provider)?;
     let stopped = stopped_ends(alloc, &mut session, count, &mut started);
     let fed = feed(&mut session, last, &mut shown);
     let closed = close(session, &mut shown);
@@ -103,7 +108,8 @@ const CASES: [(u32, &[u8], &str); 3] = [
 #[test]
 fn the_next_reply_or_the_close_shows_what_none_has_shown(rt: HostRuntime) -> Result<(), Fail> {
     for (count, last, answer) in CASES {
-        let late = shown_late(rt.alloc(), count, last)?;
+        let provider = half_failing_provider(rt.alloc())?;
+        let late = shown_late(rt.alloc(), provider, count, last)?;
         let wanted = lines_and(rt.alloc(), &late.started, answer)?;
         assert_eq!(rt; late.stopped, count);
         assert_eq!(rt; late.shown.as_slice(), wanted.as_bytes());

@@ -1,0 +1,104 @@
+//! A provider that is built over a batch processor, and a span that it exports, where one allocation is refused:
+//! `rt try --test --fail-alloc N` has the Nth refused. Each call that finds no memory is made again.
+
+use super::fixtures::{TestSampler, config_under, flush, start_in};
+use super::refused_memory::finish_again;
+use opentelemetry::{Context, Moment};
+use opentelemetry_sdk::trace::Processor;
+use otel_base::error::OTelSdkResult;
+use otel_base::trace::{BatchStrings, RandomIdGenerator, ShouldSample};
+use otel_export::trace::{ExporterBox, InMemorySpanExporter};
+use otel_pipeline::trace::{
+    DrainDue, KeepsBatches, OverExporter, ProviderBuilderOf, ProviderOf, SpanProcessor,
+};
+use std::alloc::{AllocError, Global};
+use std::test::Fail;
+
+/// Adds a batch processor over the first exporter, or over the second where that finds no memory.
+fn with_batch_again<P: OverExporter, S: Drop>(
+    builder: ProviderBuilderOf<P, S, RandomIdGenerator>,
+    first: P::Exporter,
+    second: P::Exporter,
+) -> Result<ProviderBuilderOf<P, S, RandomIdGenerator>, AllocError> {
+    let builder = match builder.with_batch_exporter(first) {
+        Ok(builder) => return Ok(builder),
+        Err((builder, _)) => builder,
+    };
+    match builder.with_batch_exporter(second) {
+        Ok(builder) => Ok(builder),
+        Err((_, error)) => Err(error),
+    }
+}
+
+/// Builds, and builds again where that finds no memory.
+fn build_again<P: SpanProcessor, S: Drop>(
+    builder: ProviderBuilderOf<P, S, RandomIdGenerator>,
+) -> Result<ProviderOf<P, S, RandomIdGenerator>, AllocError> {
+    let builder = match builder.build() {
+        Ok(provider) => return Ok(provider),
+        Err((builder, _)) => builder,
+    };
+    match builder.build() {
+        Ok(provider) => Ok(provider),
+        Err((_, error)) => Err(error),
+    }
+}
+
+/// Starts a span, again where that finds no memory, and finishes it. The answer is how many processors refused it.
+fn start_and_finish<P: SpanProcessor, S: ShouldSample>(
+    alloc: Global,
+    provider: &mut ProviderOf<P, S, RandomIdGenerator>,
+) -> Result<Option<u64>, AllocError> {
+    let span = match start_in(alloc, &Context::new(), 1, provider) {
+        Ok(span) => span,
+        Err(_) => start_in(alloc, &Context::new(), 1, provider)?,
+    };
+    Ok(finish_again(span, provider))
+}
+
+/// The timer is started and runs out twice; then the provider is flushed.
+fn drain_again<P: DrainDue, S: Drop>(
+    provider: &mut ProviderOf<P, S, RandomIdGenerator>,
+) -> OTelSdkResult {
+    for seconds in [0, 5, 10] {
+        let _ = provider.run_processors(Moment(seconds * 1_000_000_000));
+    }
+    flush(provider)
+}
+
+/// How many batches the first processor's exporter kept or lost.
+fn handed_on<P: KeepsBatches, S>(provider: &ProviderOf<P, S, RandomIdGenerator>) -> u64 {
+    let Some(first) = provider.processors().first() else {
+        return 0;
+    };
+    let kept = first.batches().len() as u64;
+    kept.saturating_add(first.lost_batches())
+}
+
+/// Exports a span. The answer is how many processors refused it, how many batches were handed on, and how flush and
+/// close answered.
+fn export_again<P: OverExporter + KeepsBatches>(
+    alloc: Global,
+    first: P::Exporter,
+    second: P::Exporter,
+) -> Result<(Option<u64>, u64, OTelSdkResult), AllocError> {
+    let config = config_under(alloc, TestSampler::AlwaysOn);
+    let builder = ProviderOf::<P, _, _>::builder(alloc, config, BatchStrings::default());
+    let builder = with_batch_again(builder, first, second)?;
+    let mut provider = build_again(builder)?;
+    let refused = start_and_finish(alloc, &mut provider);
+    let flushed = drain_again(&mut provider);
+    let batches = handed_on(&provider);
+    let closed = provider.close();
+    Ok((refused?, batches, flushed.and(closed)))
+}
+
+#[test]
+fn a_span_leaves_in_a_batch_where_an_allocation_is_refused(rt: HostRuntime) -> Result<(), Fail> {
+    let alloc = rt.alloc();
+    let first = ExporterBox::Memory(InMemorySpanExporter::new(alloc));
+    let second = ExporterBox::Memory(InMemorySpanExporter::new(alloc));
+    let exported = export_again::<Processor>(alloc, first, second)?;
+    assert_eq!(rt; exported, (Some(0), 1, Ok(())));
+    Ok(())
+}
