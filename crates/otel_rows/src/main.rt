@@ -4,6 +4,7 @@
 #![tactic(auto)]
 
 mod programs;
+mod queues;
 mod spans;
 
 use otel_value_rows::fields::{Row, row_of};
@@ -58,7 +59,8 @@ fn answer_line(
 fn answer_row(alloc: Global, row: &Row, out: &mut Vec<u8>) -> Result<(), AllocError> {
     let mut answer = String::new(alloc);
     let is_known = otel_value_rows::answer(alloc, row, &mut answer)?
-        || spans::answer(alloc, row, &mut answer)?;
+        || spans::answer(alloc, row, &mut answer)?
+        || queues::answer(alloc, row, &mut answer)?;
     put_line(
         out,
         if is_known {

@@ -9,6 +9,7 @@ use otel_base::resource::Resource;
 use otel_base::trace::{ConfigOf, RandomIdGenerator, SamplerOf, SpanLimits};
 use otel_export::trace::{InMemorySpanExporter, SpanData};
 use otel_lines::reply_text::write_batches;
+use otel_pipeline::trace::provider::provider_over;
 use otel_pipeline::trace::{ProviderOf, SimpleSpanProcessor, Span, SpanEdit};
 use otel_program::program::{NoSampler, TraceSampler};
 use otel_value_rows::fields::Row;
@@ -54,7 +55,7 @@ fn provider_of(
         span_limits,
         resource: Resource::builder_empty(alloc).build(),
     };
-    Ok(ProviderOf::from_parts(processors, config))
+    Ok(provider_over(processors, config))
 }
 
 /// The limits that the first field writes: attributes, events, links, attributes of an event, and of a link, between

@@ -1,0 +1,178 @@
+//! The batch processor: what its calls answer one after another, and what its exporter was told.
+
+ghost use Rattle.std.specs.Prelude.{None};
+
+use opentelemetry::trace::{SpanContext, SpanKind, Status, TraceState};
+use opentelemetry::{
+    InstrumentationScope, Key, KeyValue, Moment, SpanId, TraceFlags, TraceId, Value,
+};
+use opentelemetry_sdk::error::{OTelSdkError, OTelSdkResult};
+use opentelemetry_sdk::resource::Resource;
+use opentelemetry_sdk::trace::{
+    BatchConfig, BatchConfigBuilder, BatchSpanProcessor, DrainDue, SpanData, SpanEvents,
+    SpanExporter, SpanLinks, SpanProcessor,
+};
+use otel_value_rows::fields::Row;
+use std::alloc::{AllocError, Global};
+use std::fmt::Write;
+use std::time::Duration;
+
+/// An exporter that writes the names of each batch, and answers `Timeout` of a second where it is slow.
+#[derive(Drop)]
+struct Writing {
+    is_slow: bool,
+    told: String,
+}
+
+impl Writing {
+    fn write(&mut self, batch: &[SpanData]) -> Result<(), AllocError> {
+        self.told.push_str(" [")?;
+        for (i, span) in batch.iter().enumerate() {
+            if i > 0 {
+                self.told.push(',')?;
+            }
+            self.told.push_str(span.name.as_str())?;
+        }
+        self.told.push(']')
+    }
+}
+
+impl SpanExporter for Writing {
+    ghost told = { λ _. None };
+
+    fn export(&mut self, batch: Vec<SpanData>) -> OTelSdkResult {
+        if self.write(&batch).is_err() {
+            return Err(OTelSdkError::OutOfMemory);
+        }
+        if self.is_slow {
+            return Err(OTelSdkError::Timeout(Duration::from_secs(1)));
+        }
+        Ok(())
+    }
+
+    fn shutdown_with_timeout(&mut self, timeout: Duration) -> OTelSdkResult {
+        if self.is_slow {
+            return Err(OTelSdkError::Timeout(timeout));
+        }
+        Ok(())
+    }
+
+    fn set_resource(&mut self, resource: &Resource) {
+        for (key, _) in resource {
+            let _ = write!(self.told, " resource {}", key.as_str());
+        }
+    }
+}
+
+type RowProcessor = BatchSpanProcessor<Writing>;
+
+/// `batch-processor EXPORTER QUEUE BATCH CALL ..`: each call's answer, how many spans were dropped, and what the exporter
+/// was told.
+pub fn answer(alloc: Global, row: &Row, out: &mut String) -> Result<bool, AllocError> {
+    if row.word.as_str() != "batch-processor" {
+        return Ok(false);
+    }
+    let exporter = Writing {
+        is_slow: row.field(0) == "slow",
+        told: String::new(alloc),
+    };
+    let mut processor = BatchSpanProcessor::new(alloc, exporter, config_of(row))?;
+    for call in row.fields.iter().skip(3) {
+        answer_call(alloc, &mut processor, call.as_str(), out)?;
+    }
+    write!(
+        out,
+        "dropped {} told{}",
+        processor.dropped_count(),
+        processor.exporter().told
+    )?;
+    Ok(true)
+}
+
+fn config_of(row: &Row) -> BatchConfig {
+    BatchConfigBuilder::default()
+        .with_max_queue_size(row.number(1) as usize)
+        .with_max_export_batch_size(row.number(2) as usize)
+        .build()
+}
+
+/// Makes a call and puts out what it answers.
+fn answer_call(
+    alloc: Global,
+    processor: &mut RowProcessor,
+    call: &str,
+    out: &mut String,
+) -> Result<(), AllocError> {
+    let (word, rest) = call.split_once(':').unwrap_or((call, ""));
+    match word {
+        "end" => put_taken(processor.on_end(span_named(alloc, rest, 1)?), out),
+        "unsampled" => put_taken(processor.on_end(span_named(alloc, rest, 0)?), out),
+        "resource" => put_taken(set_resource(alloc, processor, rest), out),
+        "resources" => put_taken(set_resources(alloc, processor, number_in(rest)), out),
+        "flush" => put_said(processor.force_flush(), out),
+        "shutdown" => put_said(processor.shutdown(), out),
+        "worker" => put_said(processor.run_worker(), out),
+        "due" => put_said(processor.drain_due(Moment(number_in(rest))), out),
+        _ => out.push_str("no such call, "),
+    }
+}
+
+fn number_in(text: &str) -> u64 {
+    text.parse::<u64>().unwrap_or(0)
+}
+
+/// Sets a resource of one attribute.
+fn set_resource(alloc: Global, processor: &mut RowProcessor, key: &str) -> Result<(), AllocError> {
+    let attribute = KeyValue::new(Key::new(String::from_str(alloc, key)?), Value::Bool(true));
+    let builder = Resource::builder_empty(alloc).with_attribute(attribute)?;
+    processor.set_resource(&builder.build())
+}
+
+/// Sets an empty resource as often.
+fn set_resources(
+    alloc: Global,
+    processor: &mut RowProcessor,
+    count: u64,
+) -> Result<(), AllocError> {
+    let resource = Resource::builder_empty(alloc).build();
+    for _ in 0..count {
+        processor.set_resource(&resource)?;
+    }
+    Ok(())
+}
+
+fn put_taken(taken: Result<(), AllocError>, out: &mut String) -> Result<(), AllocError> {
+    out.push_str(if taken.is_ok() { "ok, " } else { "no memory, " })
+}
+
+fn put_said(said: OTelSdkResult, out: &mut String) -> Result<(), AllocError> {
+    match said {
+        Ok(()) => out.push_str("ok, "),
+        Err(error) => write!(out, "{error}, "),
+    }
+}
+
+/// The data of a span of this name and these flags.
+fn span_named(alloc: Global, name: &str, flags: u8) -> Result<SpanData, AllocError> {
+    Ok(SpanData {
+        span_context: SpanContext::new(
+            TraceId::from(1),
+            SpanId::from(2),
+            TraceFlags::new(flags),
+            false,
+            TraceState::new(),
+        ),
+        parent_span_id: SpanId::INVALID,
+        parent_span_is_remote: false,
+        span_kind: SpanKind::Internal,
+        name: String::from_str(alloc, name)?,
+        start_time: Moment(7),
+        end_time: Moment(9),
+        attributes: Vec::new(alloc),
+        dropped_attributes_count: 0,
+        events: SpanEvents::new(alloc),
+        links: SpanLinks::new(alloc),
+        status: Status::Unset,
+        instrumentation_scope: InstrumentationScope::builder(alloc, String::new(alloc)).build()?,
+    })
+}
