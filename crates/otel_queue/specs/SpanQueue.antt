@@ -1,6 +1,6 @@
 -- How the chunks of a queue hold its items.
-use Rattle.std.specs.Prelude.{◌≡◌, ℕ, zero, suc, ◌+◌, ◌/◌, ◌^◌, ◌<◌, ◌≤◌, List, [], ◌∷◌, ◌++◌, length, take, drop, Option, Some, None}
-use Rattle.std.specs.Prelude.{slice_get}
+use Rattle.std.specs.Prelude.{◌≡◌, ℕ, zero, suc, ◌+◌, ◌/◌, ◌^◌, ◌<◌, ◌≤◌, List, [], ◌∷◌, ◌++◌, length, take, drop}
+use Rattle.std.specs.Prelude.{Option, Some, None, slice_get}
 use Rattle.circular_buffer.specs.Buffer.{Buffer, buffer}
 
 module _ {X : Type 0} where
@@ -17,7 +17,7 @@ module _ {X : Type 0} where
   len_of None = 0
   len_of (Some b) = length b.items
 
-  -- how many items the chunk at a place holds
+  -- how many items the chunk at a place has
   abbrev pub len_at : ℕ → List (Buffer X) → ℕ
   len_at k bs = len_of (slice_get bs k)
 

@@ -1,4 +1,5 @@
-//! `SpanQueue` and its methods. A clause sees a queue as its `items`, from the oldest to the newest, and its `capacity`.
+//! `SpanQueue` and its methods. A clause sees a queue as its `items`, from the oldest to the newest, and its
+//! `capacity`.
 
 ghost use Rattle.std.specs.Prelude.{◌≡◌, ◌^◌, ◌*◌, ◌-◌, ◌<◌, ◌≤◌, ◌==◌, [], ◌∷◌, ◌++◌, length, drop, replicate};
 ghost use Rattle.std.specs.Prelude.{slice_get, option_copied, ◌↔◌, IsOk, IfOk, IfErr, OnOk};
@@ -13,8 +14,8 @@ use std::marker::Model;
 /// How many items a chunk can hold.
 const CHUNK_LEN: usize = 64;
 
-/// A queue of at most `limit` items, in a circle of chunks. The oldest items are in the head chunk and the newest in the
-/// tail chunk; the chunks between them are full, and all others are empty.
+/// A queue of at most `limit` items, in a circle of chunks. The oldest items are in the head chunk and the newest in
+/// the tail chunk; the chunks between them are full, and all others are empty.
 #[derive(Drop)]
 pub struct SpanQueue<T> {
     chunks: Vec<HeapCircularBuffer<T>>,
@@ -50,13 +51,13 @@ fn place_behind(from: usize, steps: usize, count: usize) -> usize
 }
 
 /// How many chunks behind the head the next item goes: to the tail chunk, and where that is full to the one behind it.
-fn steps_to_room<T>(chunks: &Vec<HeapCircularBuffer<T>>, head: usize, tail_steps: usize) -> usize
-    requires head { (head < length chunks.now.items) × (length chunks.now.items < 2 ^ 63) }
-    requires laid { IsLaid tail_steps (circle head chunks.now.items) }
-    requires room { length (items_of (circle head chunks.now.items)) < CHUNK_LEN * (length chunks.now.items - 1) }
-    ensures within { result < length chunks.now.items }
-    ensures laid { IsLaid result (circle head chunks.now.items) }
-    ensures room { len_at result (circle head chunks.now.items) < CHUNK_LEN }
+fn steps_to_room<T>(chunks: &[HeapCircularBuffer<T>], head: usize, tail_steps: usize) -> usize
+    requires head { (head < length chunks.now) × (length chunks.now < 2 ^ 63) }
+    requires laid { IsLaid tail_steps (circle head chunks.now) }
+    requires room { length (items_of (circle head chunks.now)) < CHUNK_LEN * (length chunks.now - 1) }
+    ensures within { result < length chunks.now }
+    ensures laid { IsLaid result (circle head chunks.now) }
+    ensures room { len_at result (circle head chunks.now) < CHUNK_LEN }
 {
     let tail = place_behind(head, tail_steps, chunks.len());
     if chunks[tail].is_full() {
@@ -81,7 +82,8 @@ fn empty_chunks<T: Drop>(
 }
 
 impl<T: Drop> SpanQueue<T> {
-    /// Makes an empty queue of at most `limit` items, and takes all its memory. It fails where there is no memory for it.
+    /// Makes an empty queue of at most `limit` items, and takes all its memory. It fails where there is not enough, and
+    /// takes time in proportion to the limit.
     pub fn with_capacity(alloc: Global, limit: usize) -> Result<SpanQueue<T>, AllocError>
         ensures { IfOk result (λ b. b ≡ buffer [] limit) }
     {

@@ -107,7 +107,8 @@ fn a_queue_refuses_just_past_its_limit(rt: HostRuntime) -> Result<(), Fail> {
     Ok(())
 }
 
-/// How many of 10,000 turns hand back the item of 70 turns before, in a queue of 70: it goes round its chunks many times.
+/// How many of 10,000 turns hand back the item of 70 turns before, in a queue of 70, which goes round its chunks many
+/// times.
 fn turns_that_agree(alloc: Global) -> Result<u64, AllocError> {
     let mut queue = SpanQueue::with_capacity(alloc, 70)?;
     let mut count: u64 = 0;
