@@ -9,6 +9,7 @@ use crate::trace::batch_config::BatchConfig;
 use circular_buffer::HeapCircularBuffer;
 use otel_base::error::OTelSdkResult;
 use otel_export::trace::{SpanData, SpanExporter};
+use otel_queue::SpanQueue;
 use std::alloc::{AllocError, Global};
 use std::marker::Model;
 
@@ -19,7 +20,7 @@ use std::marker::Model;
 pub struct BatchMachine<E> {
     pub(super) alloc: Global,
     pub(super) exporter: E,
-    pub(super) waiting: HeapCircularBuffer<SpanData>,
+    pub(super) waiting: SpanQueue<SpanData>,
     pub(super) hand: Vec<SpanData>,
     pub(super) messages: HeapCircularBuffer<Message>,
     pub(super) slots: Vec<Slot>,
@@ -204,7 +205,7 @@ impl<E: SpanExporter> BatchMachine<E> {
         let machine = BatchMachine {
             alloc,
             exporter,
-            waiting: HeapCircularBuffer::with_capacity(alloc, config.max_queue_size())?,
+            waiting: SpanQueue::with_capacity(alloc, config.max_queue_size())?,
             hand: Vec::new(alloc),
             messages: HeapCircularBuffer::with_capacity(alloc, 64)?,
             slots: idle_slots(alloc, producers)?,
