@@ -1,6 +1,6 @@
 -- Lemmas on chunks in a circle: which items they hold, and what a put and a taking leave.
-use Rattle.std.proofs.Common.{◌≡◌, ℕ, zero, suc, ◌+◌, ◌-◌, ◌*◌, ◌/◌, ◌%◌, ◌^◌, ◌<◌, ◌≤◌, List, [], ◌∷◌, ◌++◌, length, take, drop, set, replicate, slice_get, Some}
-use Rattle.std.proofs.Common.{Bool, true, false, ◌==◌, get_or, Result, Ok, Err, IsOk, OnOk, refl, sym, ap, ◌∙◌, subst, inl, inr, arith, append_assoc, append-nil, length-append, length-take, length-drop}
+use Rattle.std.proofs.Common.{◌≡◌, ℕ, zero, suc, ◌+◌, ◌-◌, ◌*◌, ◌/◌, ◌%◌, ◌^◌, ◌<◌, ◌≤◌, List, [], ◌∷◌, ◌++◌, length, take, drop, set, replicate, slice_get, Some, None}
+use Rattle.std.proofs.Common.{Bool, true, false, ◌==◌, get_or, Result, Ok, Err, IsOk, refl, sym, ap, ◌∙◌, subst, inl, inr, arith, append_assoc, append-nil, length-append, length-take, length-drop}
 use Rattle.std.proofs.lemmas.List.{take-append-drop, take_at, drop_at, set-append_left, set-append_right, length-set, length-replicate, nil_from_length, drop-append-le}
 use Rattle.std.proofs.lemmas.Option.{same_Some, none-some, slice_get_read}
 use Rattle.std.proofs.lemmas.Bool.{false≢true}
@@ -8,20 +8,33 @@ use Rattle.std.proofs.lemmas.Bool.Decides.{nat_tests}
 use Rattle.circular_buffer.specs.Buffer.{Buffer, buffer}
 use Rattle.circular_buffer.specs.Places.{Wraps}
 use Rattle.circular_buffer.proofs.Places.{cut_front, slice_get-append_left, slice_get-append_right}
-use Rattle.otel_queue.specs.SpanQueue.{circle, items_of, len_of, len_at, IsChunk, AllEmpty, IsFilled, IsLaid, IsQueue}
+use Rattle.otel_queue.specs.SpanQueue.{circle, items_of, len_of, len_at, IsChunk, AllEmpty, IsFilled, IsLaid, IsQueue, IsQueueTo, PutsAt, TakesAt}
 
--- what holds at an `Ok`
-pub on_ok : {A E P : Type 0} (r : Result A E) → IsOk r → OnOk r P → P
-on_ok (Ok x) h p = p
-on_ok (Err e) h p = absurd (false≢true h)
+-- an `Ok` is no `Err`, and a list that has an item has a first one
+pub ok_is_no_err : {A E : Type 0} (r : Result A E) (e : E) → IsOk r → r ≡ Err e → ⊥
+ok_is_no_err (Ok x) e h is = cc
+ok_is_no_err (Err y) e h is = false≢true h
 
-pub on_ok_from : {A E P : Type 0} (r : Result A E) → P → OnOk r P
-on_ok_from (Ok x) p = p
-on_ok_from (Err e) p = tt
+pub first_is_some : {A : Type 0} (xs : List A) → 0 < length xs → slice_get xs 0 ≡ None → ⊥
+first_is_some [] lt e = omega arith
+first_is_some (x ∷ xs) lt e = none-some x (sym e)
 
 AllEmpty-replicate : (X : Type 0) (n : ℕ) → AllEmpty {X = X} (replicate n (buffer [] 64))
 AllEmpty-replicate X zero = tt
 AllEmpty-replicate X (suc n) = (refl, AllEmpty-replicate X n)
+
+-- one step more round the circle, and one step less from the next place on
+wraps_more : (h k n p q : ℕ) → h < n → k + 1 < n → Wraps h k n p → Wraps p 1 n q → Wraps h (k + 1) n q
+wraps_more h k n p q hl kl w v = elim w.1 [
+  | inl e ↦ elim v.1 [ inl f ↦ (v.0, inl (omega arith)) | inr f ↦ (v.0, inr (omega arith)) ]
+  | inr e ↦ elim v.1 [ inl f ↦ (v.0, inr (omega arith)) | inr f ↦ absurd (omega arith) ]
+]
+
+wraps_less : (h k n p t : ℕ) → h < n → k < n → 0 < k → Wraps h k n t → Wraps h 1 n p → Wraps p (k - 1) n t
+wraps_less h k n p t hl kl some w v = elim w.1 [
+  | inl e ↦ elim v.1 [ inl f ↦ (w.0, inl (omega arith)) | inr f ↦ absurd (omega (arith, w.0)) ]
+  | inr e ↦ elim v.1 [ inl f ↦ (w.0, inr (omega arith)) | inr f ↦ (w.0, inl (omega arith)) ]
+]
 
 module _ {X : Type 0} where
   -- the circle of a list that is cut at its head
@@ -361,7 +374,7 @@ module _ {X : Type 0} where
 
   -- a queue in which nothing waits
   pub record First (cs : List (Buffer X)) (limit : ℕ) : Type 0 where
-    pub queue : IsQueue cs 0 0 0 limit
+    pub queue : IsQueueTo cs 0 0 0 limit
     pub items : items_of (circle 0 cs) ≡ []
 
   first_chunks : (n limit : ℕ) (cs : List (Buffer X)) → limit < 2 ^ 63 → n ≡ limit / 64 + 1 → cs ≡ replicate (suc n) (buffer [] 64) → First cs limit
@@ -376,10 +389,14 @@ module _ {X : Type 0} where
       let laid : IsLaid 0 all = (empty, AllEmpty-replicate X n) in
       subst (λ l. First l limit) (sym made) (record {
         queue = record {
-          chunks = (length-replicate (suc n) (buffer [] 64) ∙ omega arith, lt);
-          place = omega arith;
-          laid = subst (IsLaid 0) (sym turn) laid;
-          count = (sym (ap length items), omega arith);
+          steps = 0;
+          queue = record {
+            chunks = (length-replicate (suc n) (buffer [] 64) ∙ omega arith, lt);
+            place = omega arith;
+            laid = subst (IsLaid 0) (sym turn) laid;
+            count = (sym (ap length items), omega arith);
+          };
+          at = (omega arith, inl refl);
         };
         items = items;
       })
@@ -389,98 +406,159 @@ module _ {X : Type 0} where
       let count : limit / 64 + 2 ≡ suc (limit / 64 + 1) = omega arith in
       first_chunks (limit / 64 + 1) limit cs lt refl (e ∙ ap (λ m. replicate m (buffer [] 64)) count)
 
-  -- a queue with the item x put into its tail, which is c
-  pub record IsPut (cs : List (Buffer X)) (head k len limit p : ℕ) (c : Buffer X) (x : X) : Type 0 where
-    pub queue : IsQueue (set cs p (put_in c x)) head k (len + 1) limit
+  -- the place p can be the tail's, and its chunk has room
+  pub record HasRoom (cs : List (Buffer X)) (head p : ℕ) : Type 0 where
+    pub steps : ℕ
+    pub laid : IsLaid steps (circle head cs)
+    pub room : len_at steps (circle head cs) < 64
+    pub at : Wraps head steps (length cs) p
+
+  tail_at : (cs : List (Buffer X)) (head tail len limit : ℕ) (c : Buffer X) (queue : IsQueueTo cs head tail len limit) → slice_get cs tail ≡ Some c → slice_get (circle head cs) queue.steps ≡ Some c
+  tail_at cs head tail len limit c queue is =
+      let all = length-circle head cs queue.queue.place in
+      let within = laid_within queue.steps (circle head cs) queue.queue.laid in
+      slice_get-circle head queue.steps tail cs queue.queue.place (omega arith) queue.at ∙ is
+
+  pub put_has_room : (cs : List (Buffer X)) (head tail len limit p : ℕ) → IsQueueTo cs head tail len limit → len < limit → PutsAt cs tail p → HasRoom cs head p
+  put_has_room cs head tail len limit p queue lt puts =
+      let got = tail_at cs head tail len limit puts.chunk queue puts.is in
+      let chunk = laid_chunk _ _ _ _ queue.queue.laid got in
+      elim puts.place [
+        | inl next ↦
+            let full = full_len puts.chunk true chunk (sym next.0) refl in
+            let all = length-circle head cs queue.queue.place in
+            let more = next_tail queue.steps (circle head cs) queue.queue.laid (ap len_of got ∙ full) (omega (arith, queue.queue.chunks.0, queue.queue.count.0)) in
+            record {
+              steps = queue.steps + 1;
+              laid = more.laid;
+              room = more.room;
+              at = wraps_more head queue.steps (length cs) tail p queue.queue.place (omega (arith, more.within)) queue.at next.1;
+            }
+        | inr here ↦
+            let room = room_len puts.chunk false chunk (sym here.0) refl in
+            subst (HasRoom cs head) (sym here.1) (record { steps = queue.steps; laid = queue.queue.laid; room = omega (arith, ap len_of got); at = queue.at })
+      ]
+
+  -- a queue with the item x put into the chunk c, where there is room
+  pub record IsPut (cs : List (Buffer X)) (head len limit p : ℕ) (c : Buffer X) (x : X) : Type 0 where
+    pub queue : IsQueueTo (set cs p (put_in c x)) head p (len + 1) limit
     pub items : items_of (circle head (set cs p (put_in c x))) ≡ items_of (circle head cs) ++ x ∷ []
     pub room : length c.items < c.capacity
 
-  pub queue_put : (cs : List (Buffer X)) (head k old len limit n p : ℕ) (c : Buffer X) (x : X) → IsQueue cs head old len limit → len < limit
-      → IsLaid k (circle head cs) → len_at k (circle head cs) < 64 → n ≡ length cs → Wraps head k n p → c ≡ get_or cs p c → IsPut cs head k len limit p c x
-  queue_put cs head k old len limit n p c x queue lt laid room e w is =
+  pub queue_put : (cs : List (Buffer X)) (head tail len limit p : ℕ) (c : Buffer X) (x : X) → IsQueueTo cs head tail len limit → len < limit
+      → HasRoom cs head p → c ≡ get_or cs p c → IsPut cs head len limit p c x
+  queue_put cs head tail len limit p c x to lt has is =
+      let queue = to.queue in
+      let k = has.steps in
       let all = length-circle head cs queue.place in
-      let within = laid_within k (circle head cs) laid in
-      let got = chunk_at head k n p cs c queue.place (omega arith) e w is in
-      let turn = circle-set head k p cs (put_in c x) queue.place (omega arith) (subst (λ m. Wraps head k m p) e w) in
-      let few : length c.items < 64 = omega (arith, ap len_of got) in
-      let put = laid_put k (circle head cs) c x laid got few in
+      let within = laid_within k (circle head cs) has.laid in
+      let got = chunk_at head k (length cs) p cs c queue.place (omega arith) refl has.at is in
+      let turn = circle-set head k p cs (put_in c x) queue.place (omega arith) has.at in
+      let few : length c.items < 64 = omega (arith, ap len_of got, has.room) in
+      let put = laid_put k (circle head cs) c x has.laid got few in
       let items : items_of (circle head (set cs p (put_in c x))) ≡ items_of (circle head cs) ++ x ∷ [] = ap items_of turn ∙ put.1 in
+      let same : length (set cs p (put_in c x)) ≡ length cs = length-set cs p (put_in c x) in
       record {
         queue = record {
-          chunks = (length-set cs p (put_in c x) ∙ queue.chunks.0, queue.chunks.1);
-          place = omega (arith, length-set cs p (put_in c x), queue.place);
-          laid = subst (IsLaid k) (sym turn) put.0;
-          count = (omega (arith, ap length items, length-append (items_of (circle head cs)) (x ∷ []), queue.count.0), omega arith);
+          steps = k;
+          queue = record {
+            chunks = (same ∙ queue.chunks.0, queue.chunks.1);
+            place = omega (arith, same, queue.place);
+            laid = subst (IsLaid k) (sym turn) put.0;
+            count = (omega (arith, ap length items, length-append (items_of (circle head cs)) (x ∷ []), queue.count.0), omega arith);
+          };
+          at = subst (λ m. Wraps head k m p) (sym same) has.at;
         };
         items = items;
-        room = omega (arith, (laid_chunk k (circle head cs) k c laid got).0);
+        room = omega (arith, (laid_chunk k (circle head cs) k c has.laid got).0);
       }
 
   -- a queue of the items xs, whose head has one
-  pub record IsReady (cs : List (Buffer X)) (head k len limit : ℕ) (xs : List X) : Type 0 where
-    pub queue : IsQueue cs head k len limit
+  pub record IsReady (cs : List (Buffer X)) (head tail len limit : ℕ) (xs : List X) : Type 0 where
+    pub queue : IsQueueTo cs head tail len limit
     pub items : items_of (circle head cs) ≡ xs
     pub some : 0 < len_at 0 (circle head cs)
 
   head_at : (cs : List (Buffer X)) (head : ℕ) (c : Buffer X) → head < length cs → c ≡ get_or cs head c → slice_get (circle head cs) 0 ≡ Some c
   head_at cs head c lt is = chunk_at head 0 (length cs) head cs c lt (omega arith) refl (lt, inl (omega arith)) is
 
-  pub ready_head : (cs : List (Buffer X)) (head k len limit : ℕ) (c : Buffer X) (r : Bool) → IsQueue cs head k len limit
-      → c ≡ get_or cs head c → r ≡ (length c.items == 0) → r ≡ false → IsReady cs head k len limit (items_of (circle head cs))
-  ready_head cs head k len limit c r queue is e f =
-      let got = ap len_of (head_at cs head c queue.place is) in
-      let some : 0 < length c.items = grind (arith, nat_tests) in
-      record { queue = queue; items = refl; some = omega arith }
+  first_at : (cs : List (Buffer X)) (head : ℕ) (c : Buffer X) → head < length cs → slice_get cs head ≡ Some c → len_at 0 (circle head cs) ≡ length c.items
+  first_at cs head c lt is = ap len_of (slice_get-circle head 0 head cs lt (omega arith) (lt, inl (omega arith)) ∙ is)
 
   -- the head is empty, and p is the place behind it
-  pub record Passes (cs : List (Buffer X)) (head k len limit p : ℕ) : Type 0 where
-    pub steps : 0 < k
-    pub ready : IsReady cs p (k - 1) len limit (items_of (circle head cs))
-
-  pub ready_next : (cs : List (Buffer X)) (head k len limit n p : ℕ) (c : Buffer X) (r : Bool) → IsQueue cs head k len limit → 0 < len
-      → c ≡ get_or cs head c → r ≡ (length c.items == 0) → r ≡ true → n ≡ length cs → Wraps head 1 n p → Passes cs head k len limit p
-  ready_next cs head k len limit n p c r queue lt is e t same w =
-      let got = ap len_of (head_at cs head c queue.place is) in
-      let none : length c.items ≡ 0 = grind (arith, nat_tests) in
-      let turn = circle-next head p cs queue.place (subst (λ m. Wraps head 1 m p) same w) in
+  ready_next : (cs : List (Buffer X)) (head tail len limit p : ℕ) (c : Buffer X) → IsQueueTo cs head tail len limit → 0 < len
+      → slice_get cs head ≡ Some c → length c.items ≡ 0 → Wraps head 1 (length cs) p → IsReady cs p tail len limit (items_of (circle head cs))
+  ready_next cs head tail len limit p c to lt is none w =
+      let queue = to.queue in
+      let k = to.steps in
+      let got = first_at cs head c queue.place is in
+      let turn = circle-next head p cs queue.place w in
+      let all = length-circle head cs queue.place in
+      let within = laid_within k (circle head cs) queue.laid in
       let on = laid_advance k (circle head cs) queue.laid (got ∙ none) (omega (arith, queue.count.0)) in
       let items : items_of (circle p cs) ≡ items_of (circle head cs) = ap items_of turn ∙ on.items in
       record {
-        steps = on.steps;
-        ready = record {
+        queue = record {
+          steps = k - 1;
           queue = record {
             chunks = queue.chunks;
             place = omega (arith, w.0);
             laid = subst (IsLaid (k - 1)) (sym turn) on.laid;
             count = (queue.count.0 ∙ sym (ap length items), queue.count.1);
           };
-          items = items;
-          some = subst (λ l. 0 < len_at 0 l) (sym turn) on.some;
+          at = wraps_less head k (length cs) p tail queue.place (omega arith) on.steps to.at w;
         };
+        items = items;
+        some = subst (λ l. 0 < len_at 0 l) (sym turn) on.some;
       }
 
+  some_len : (c : Buffer X) → (length c.items == 0) ≡ false → 0 < length c.items
+  some_len c f = grind (arith, nat_tests)
+
+  none_len : (c : Buffer X) → (length c.items == 0) ≡ true → length c.items ≡ 0
+  none_len c t = grind (arith, nat_tests)
+
+  pub take_is_ready : (cs : List (Buffer X)) (head tail len limit p : ℕ) → IsQueueTo cs head tail len limit → 0 < len → TakesAt cs head p → IsReady cs p tail len limit (items_of (circle head cs))
+  take_is_ready cs head tail len limit p queue lt takes =
+      let got = first_at cs head takes.chunk queue.queue.place takes.is in
+      elim takes.place [
+        | inl next ↦ ready_next cs head tail len limit p takes.chunk queue lt takes.is (none_len takes.chunk next.0) next.1
+        | inr here ↦
+            subst (λ m. IsReady cs m tail len limit (items_of (circle head cs))) (sym here.1)
+            (record { queue = queue; items = refl; some = omega (arith, some_len takes.chunk here.0) })
+      ]
+
   -- a queue with the first item of its head taken, which is c
-  pub record IsTaken (cs : List (Buffer X)) (head k len limit : ℕ) (c : Buffer X) (xs : List X) : Type 0 where
-    pub queue : IsQueue (set cs head (taken_from c)) head k (len - 1) limit
+  pub record IsTaken (cs : List (Buffer X)) (head tail len limit : ℕ) (c : Buffer X) (xs : List X) : Type 0 where
+    pub queue : IsQueueTo (set cs head (taken_from c)) head tail (len - 1) limit
     pub items : items_of (circle head (set cs head (taken_from c))) ≡ drop 1 xs
     pub value : slice_get c.items 0 ≡ slice_get xs 0
+    pub some : 0 < length c.items
 
-  pub queue_take : (cs : List (Buffer X)) (head k len limit : ℕ) (c : Buffer X) (xs : List X) → IsReady cs head k len limit xs → c ≡ get_or cs head c → IsTaken cs head k len limit c xs
-  queue_take cs head k len limit c xs ready is =
-      let queue = ready.queue in
+  pub queue_take : (cs : List (Buffer X)) (head tail len limit : ℕ) (c : Buffer X) (xs : List X) → IsReady cs head tail len limit xs → c ≡ get_or cs head c → IsTaken cs head tail len limit c xs
+  queue_take cs head tail len limit c xs ready is =
+      let queue = ready.queue.queue in
+      let k = ready.queue.steps in
       let got = head_at cs head c queue.place is in
+      let some : 0 < length c.items = omega (arith, ap len_of got, ready.some) in
       let turn = circle-set head 0 head cs (taken_from c) queue.place (omega (arith, queue.place)) (queue.place, inl (omega arith)) in
-      let taken = laid_take k (circle head cs) c queue.laid got (omega (arith, ap len_of got, ready.some)) in
+      let taken = laid_take k (circle head cs) c queue.laid got some in
       let items : items_of (circle head (set cs head (taken_from c))) ≡ drop 1 xs = ap items_of turn ∙ taken.items ∙ ap (drop 1) ready.items in
+      let same : length (set cs head (taken_from c)) ≡ length cs = length-set cs head (taken_from c) in
       record {
         queue = record {
-          chunks = (length-set cs head (taken_from c) ∙ queue.chunks.0, queue.chunks.1);
-          place = omega (arith, length-set cs head (taken_from c), queue.place);
-          laid = subst (IsLaid k) (sym turn) taken.laid;
-          count = (omega (arith, ap length items, length-drop 1 xs, ap length ready.items, queue.count.0), omega (arith, queue.count.1));
+          steps = k;
+          queue = record {
+            chunks = (same ∙ queue.chunks.0, queue.chunks.1);
+            place = omega (arith, same, queue.place);
+            laid = subst (IsLaid k) (sym turn) taken.laid;
+            count = (omega (arith, ap length items, length-drop 1 xs, ap length ready.items, queue.count.0), omega (arith, queue.count.1));
+          };
+          at = subst (λ m. Wraps head k m tail) (sym same) ready.queue.at;
         };
         items = items;
         value = taken.value ∙ ap (λ l. slice_get l 0) ready.items;
+        some = some;
       }
 
   -- the item at an index in the head, which is read twice

@@ -1,7 +1,8 @@
 -- How the chunks of a queue hold its items.
-use Rattle.std.specs.Prelude.{◌≡◌, ℕ, zero, suc, ◌+◌, ◌/◌, ◌^◌, ◌<◌, ◌≤◌, List, [], ◌∷◌, ◌++◌, length, take, drop}
-use Rattle.std.specs.Prelude.{Option, Some, None, slice_get}
+use Rattle.std.specs.Prelude.{◌≡◌, ℕ, zero, suc, ◌+◌, ◌/◌, ◌^◌, ◌<◌, ◌≤◌, List, [], ◌∷◌, ◌++◌, length, take, drop, Option, Some, None}
+use Rattle.std.specs.Prelude.{◌==◌, ◌⊎◌, true, false, slice_get}
 use Rattle.circular_buffer.specs.Buffer.{Buffer, buffer}
+use Rattle.circular_buffer.specs.Places.{Wraps}
 
 module _ {X : Type 0} where
   -- the chunks from a place on, round the end of the list
@@ -17,7 +18,7 @@ module _ {X : Type 0} where
   len_of None = 0
   len_of (Some b) = length b.items
 
-  -- how many items the chunk at a place has
+  -- how many items the chunk at a place holds
   abbrev pub len_at : ℕ → List (Buffer X) → ℕ
   len_at k bs = len_of (slice_get bs k)
 
@@ -46,3 +47,23 @@ module _ {X : Type 0} where
     pub place : head < length cs
     pub laid : IsLaid tail_steps (circle head cs)
     pub count : (len ≡ length (items_of (circle head cs))) × (len ≤ limit)
+
+  -- so it is where the tail lies at that place
+  pub record IsQueueTo (cs : List (Buffer X)) (head tail len limit : ℕ) : Type 0 where
+    pub steps : ℕ
+    pub queue : IsQueue cs head steps len limit
+    pub at : Wraps head steps (length cs) tail
+
+  -- the next item goes to the place p where the tail lies at this one: behind a full chunk
+  pub record PutsAt (cs : List (Buffer X)) (tail p : ℕ) : Type 0 where
+    pub chunk : Buffer X
+    pub is : slice_get cs tail ≡ Some chunk
+    pub place : (((length chunk.items == chunk.capacity) ≡ true) × Wraps tail 1 (length cs) p)
+        ⊎ (((length chunk.items == chunk.capacity) ≡ false) × (p ≡ tail))
+
+  -- the oldest item is at the place p where the head lies at this one: behind an empty chunk
+  pub record TakesAt (cs : List (Buffer X)) (head p : ℕ) : Type 0 where
+    pub chunk : Buffer X
+    pub is : slice_get cs head ≡ Some chunk
+    pub place : (((length chunk.items == 0) ≡ true) × Wraps head 1 (length cs) p)
+        ⊎ (((length chunk.items == 0) ≡ false) × (p ≡ head))

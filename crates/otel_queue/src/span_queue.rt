@@ -1,11 +1,10 @@
-//! `SpanQueue` and its methods. A clause sees a queue as its `items`, from the oldest to the newest, and its
-//! `capacity`.
+//! `SpanQueue` and its methods. A clause sees a queue as its `items`, from the oldest to the newest, and its `capacity`.
 
 ghost use Rattle.std.specs.Prelude.{◌≡◌, ◌^◌, ◌*◌, ◌-◌, ◌<◌, ◌≤◌, ◌==◌, [], ◌∷◌, ◌++◌, length, drop, replicate};
 ghost use Rattle.std.specs.Prelude.{slice_get, option_copied, ◌↔◌, IsOk, IfOk, IfErr, OnOk};
 ghost use Rattle.circular_buffer.specs.Buffer.{buffer};
 ghost use Rattle.circular_buffer.specs.Places.{Wraps};
-ghost use Rattle.otel_queue.specs.SpanQueue.{circle, items_of, len_at, IsLaid};
+ghost use Rattle.otel_queue.specs.SpanQueue.{PutsAt, TakesAt};
 
 use circular_buffer::HeapCircularBuffer;
 use std::alloc::{AllocError, Global};
@@ -14,15 +13,14 @@ use std::marker::Model;
 /// How many items a chunk can hold.
 const CHUNK_LEN: usize = 64;
 
-/// A queue of at most `limit` items, in a circle of chunks. The oldest items are in the head chunk and the newest in
-/// the tail chunk; the chunks between them are full, and all others are empty.
+/// A queue of at most `limit` items, in a circle of chunks. The oldest items are in the head chunk and the newest in the
+/// tail chunk; the chunks between them are full, and all others are empty.
 #[derive(Drop)]
 pub struct SpanQueue<T> {
     chunks: Vec<HeapCircularBuffer<T>>,
-    /// The place of the head chunk.
+    // The places of the head chunk and of the tail chunk.
     head: usize,
-    /// How many chunks behind the head the tail chunk lies.
-    tail_steps: usize,
+    tail: usize,
     len: usize,
     limit: usize,
 }
@@ -34,14 +32,16 @@ impl<T> Model for SpanQueue<T> {
 
     ghost coded = { buffer_code T.code };
 
-    ghost use Rattle.otel_queue.specs.SpanQueue.{circle, items_of, IsQueue};
+    ghost use Rattle.otel_queue.specs.SpanQueue.{circle, items_of, IsQueueTo};
 
     ghost view = { λ q. buffer (items_of (circle q.head q.chunks.items)) q.limit };
 
-    ghost invariant = { λ q. IsQueue q.chunks.items q.head q.tail_steps q.len q.limit };
+    ghost invariant = { λ q. IsQueueTo q.chunks.items q.head q.tail q.len q.limit };
 }
 
-/// The place that lies some steps behind another one, in a circle of `count` places.
+/// The place that lies some steps behind another one, in a circle of `count` places. It is out of line, since few puts
+/// and takings go on to the next chunk.
+#[inline(never)]
 fn place_behind(from: usize, steps: usize, count: usize) -> usize
     requires { (from < count) × (steps ≤ count) × (count < 2 ^ 63) }
     ensures { Wraps from steps count result }
@@ -50,20 +50,27 @@ fn place_behind(from: usize, steps: usize, count: usize) -> usize
     if place < count { place } else { place - count }
 }
 
-/// How many chunks behind the head the next item goes: to the tail chunk, and where that is full to the one behind it.
-fn steps_to_room<T>(chunks: &[HeapCircularBuffer<T>], head: usize, tail_steps: usize) -> usize
-    requires head { (head < length chunks.now) × (length chunks.now < 2 ^ 63) }
-    requires laid { IsLaid tail_steps (circle head chunks.now) }
-    requires room { length (items_of (circle head chunks.now)) < CHUNK_LEN * (length chunks.now - 1) }
-    ensures within { result < length chunks.now }
-    ensures laid { IsLaid result (circle head chunks.now) }
-    ensures room { len_at result (circle head chunks.now) < CHUNK_LEN }
+/// The place of the chunk that takes the next item: the tail's, and where that is full the one behind it.
+fn place_to_put<T>(chunks: &[HeapCircularBuffer<T>], tail: usize) -> usize
+    requires { (tail < length chunks.now) × (length chunks.now < 2 ^ 63) }
+    ensures { PutsAt chunks.now tail result }
 {
-    let tail = place_behind(head, tail_steps, chunks.len());
     if chunks[tail].is_full() {
-        tail_steps + 1
+        place_behind(tail, 1, chunks.len())
     } else {
-        tail_steps
+        tail
+    }
+}
+
+/// The place of the chunk with the oldest item: the head's, and where that is empty the one behind it.
+fn place_to_take<T>(chunks: &[HeapCircularBuffer<T>], head: usize) -> usize
+    requires { (head < length chunks.now) × (length chunks.now < 2 ^ 63) }
+    ensures { TakesAt chunks.now head result }
+{
+    if chunks[head].is_empty() {
+        place_behind(head, 1, chunks.len())
+    } else {
+        head
     }
 }
 
@@ -82,8 +89,7 @@ fn empty_chunks<T: Drop>(
 }
 
 impl<T: Drop> SpanQueue<T> {
-    /// Makes an empty queue of at most `limit` items, and takes all its memory. It fails where there is not enough, and
-    /// takes time in proportion to the limit.
+    /// Makes an empty queue of at most `limit` items, and takes all its memory. It fails where there is no memory for it.
     pub fn with_capacity(alloc: Global, limit: usize) -> Result<SpanQueue<T>, AllocError>
         ensures { IfOk result (λ b. b ≡ buffer [] limit) }
     {
@@ -94,14 +100,12 @@ impl<T: Drop> SpanQueue<T> {
         Ok(SpanQueue {
             chunks: empty_chunks(alloc, limit / CHUNK_LEN + 2)?,
             head: 0,
-            tail_steps: 0,
+            tail: 0,
             len: 0,
             limit,
         })
     }
-}
 
-impl<T> SpanQueue<T> {
     /// The number of items.
     pub fn len(&self) -> usize
         ensures len { result ≡ length self.now.items }
@@ -149,6 +153,7 @@ impl<T> SpanQueue<T> {
     }
 
     /// Appends an item, or hands it back if the queue is full, in constant time.
+    #[inline(always)]
     pub fn try_push_back(&mut self, item: T) -> Result<(), T>
         ensures variant { IsOk result ↔ (length self.old.items < self.old.capacity) }
         ensures ok { OnOk result (self.new ≡ buffer (self.old.items ++ item ∷ []) self.old.capacity) }
@@ -157,13 +162,18 @@ impl<T> SpanQueue<T> {
         if self.len >= self.limit {
             return Err(item);
         }
-        self.tail_steps = steps_to_room(&self.chunks, self.head, self.tail_steps);
-        let tail = place_behind(self.head, self.tail_steps, self.chunks.len());
+        let tail = place_to_put(&self.chunks, self.tail);
+        // The item is moved before anything is written: it would be copied once more behind a write.
+        let Ok(()) = self.chunks[tail].try_push_back(item) else {
+            unreachable!();
+        };
+        self.tail = tail;
         self.len += 1;
-        self.chunks[tail].try_push_back(item)
+        Ok(())
     }
 
     /// Removes the oldest item and returns it, in constant time.
+    #[inline(always)]
     pub fn pop_front(&mut self) -> Option<T>
         ensures value { result ≡ slice_get self.old.items 0 }
         ensures items { self.new ≡ buffer (drop 1 self.old.items) self.old.capacity }
@@ -171,11 +181,11 @@ impl<T> SpanQueue<T> {
         if self.len == 0 {
             return None;
         }
-        if self.chunks[self.head].is_empty() {
-            self.head = place_behind(self.head, 1, self.chunks.len());
-            self.tail_steps -= 1;
-        }
+        self.head = place_to_take(&self.chunks, self.head);
         self.len -= 1;
-        self.chunks[self.head].pop_front()
+        let Some(item) = self.chunks[self.head].pop_front() else {
+            unreachable!();
+        };
+        Some(item)
     }
 }
