@@ -17,14 +17,29 @@ use std::alloc::{AllocError, Global};
 use std::fmt::Write;
 use std::time::Duration;
 
-/// An exporter that writes the names of each batch, and answers `Timeout` of a second where it is slow.
+/// An exporter that writes the names of each batch. It answers `Timeout` where it is slow, and else fails at one call.
 #[derive(Drop)]
 struct Writing {
     is_slow: bool,
+    /// The number of the call that fails, and how many were made.
+    failing: u64,
+    calls: u64,
     told: String,
 }
 
 impl Writing {
+    fn answer(&mut self, timeout: Duration) -> OTelSdkResult {
+        if self.is_slow {
+            return Err(OTelSdkError::Timeout(timeout));
+        }
+        self.calls = self.calls.saturating_add(1);
+        if self.calls == self.failing {
+            let reason = String::new(*self.told.allocator());
+            return Err(OTelSdkError::InternalFailure(reason));
+        }
+        Ok(())
+    }
+
     fn write(&mut self, batch: &[SpanData]) -> Result<(), AllocError> {
         self.told.push_str(" [")?;
         for (i, span) in batch.iter().enumerate() {
@@ -44,17 +59,11 @@ impl SpanExporter for Writing {
         if self.write(&batch).is_err() {
             return Err(OTelSdkError::OutOfMemory);
         }
-        if self.is_slow {
-            return Err(OTelSdkError::Timeout(Duration::from_secs(1)));
-        }
-        Ok(())
+        self.answer(Duration::from_secs(1))
     }
 
     fn shutdown_with_timeout(&mut self, timeout: Duration) -> OTelSdkResult {
-        if self.is_slow {
-            return Err(OTelSdkError::Timeout(timeout));
-        }
-        Ok(())
+        self.answer(timeout)
     }
 
     fn set_resource(&mut self, resource: &Resource) {
@@ -72,10 +81,7 @@ pub fn answer(alloc: Global, row: &Row, out: &mut String) -> Result<bool, AllocE
     if row.word.as_str() != "batch-processor" {
         return Ok(false);
     }
-    let exporter = Writing {
-        is_slow: row.field(0) == "slow",
-        told: String::new(alloc),
-    };
+    let exporter = exporter_named(alloc, row.field(0));
     let mut processor = BatchSpanProcessor::new(alloc, exporter, config_of(row))?;
     for call in row.fields.iter().skip(3) {
         answer_call(alloc, &mut processor, call.as_str(), out)?;
@@ -87,6 +93,17 @@ pub fn answer(alloc: Global, row: &Row, out: &mut String) -> Result<bool, AllocE
         processor.exporter().told
     )?;
     Ok(true)
+}
+
+/// The exporter of a name: `slow`, `failing:N`, which fails at its call of this number, or another, which never fails.
+fn exporter_named(alloc: Global, name: &str) -> Writing {
+    let (_, number) = name.split_once(':').unwrap_or((name, ""));
+    Writing {
+        is_slow: name == "slow",
+        failing: number_in(number),
+        calls: 0,
+        told: String::new(alloc),
+    }
 }
 
 fn config_of(row: &Row) -> BatchConfig {

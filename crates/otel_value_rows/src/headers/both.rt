@@ -1,7 +1,7 @@
 //! The three headers of the built-in pair of propagators, and the names of each propagator's headers.
 
-use super::trace::context_of;
-use super::{put_active, text_at};
+use super::trace::{carrier_of, context_of};
+use super::{put_active, set_given, text_at};
 use crate::fields::Row;
 use crate::values::{baggage_of, put_entries};
 use opentelemetry::Context;
@@ -19,6 +19,7 @@ pub fn answer(alloc: Global, row: &Row, out: &mut String) -> Result<bool, AllocE
     match row.word.as_str() {
         "inject-all" => put_injected(&injected(alloc, row)?, out)?,
         "cross-all" => put_crossed(alloc, row, out)?,
+        "extract-all" => put_extracted(alloc, row, out)?,
         "header-names" => put_names(fields_of(row.field(0)), out)?,
         "header-names-error" => put_error(FieldsError, out)?,
         _ => return Ok(false),
@@ -48,17 +49,30 @@ fn put_injected(carrier: &MapCarrier, out: &mut String) -> Result<(), AllocError
     write!(out, "{parent}|{state}|{baggage}|")
 }
 
-/// What is read of a carrier.
-fn extracted(alloc: Global, carrier: &MapCarrier) -> Result<Context, AllocError> {
-    BuiltIn::default().extract_with_context(alloc, &Context::new(), carrier)
+/// Puts out the entries and the span that a context has once a carrier was read over it.
+fn put_read(
+    alloc: Global,
+    cx: &Context,
+    carrier: &MapCarrier,
+    out: &mut String,
+) -> Result<(), AllocError> {
+    let found = BuiltIn::default().extract_with_context(alloc, cx, carrier)?;
+    put_entries(alloc, found.baggage(), out)?;
+    out.push(' ')?;
+    put_active(alloc, &found, out)
 }
 
 /// Puts out the entries and the span that the other side has.
 fn put_crossed(alloc: Global, row: &Row, out: &mut String) -> Result<(), AllocError> {
-    let found = extracted(alloc, &injected(alloc, row)?)?;
-    put_entries(alloc, found.baggage(), out)?;
-    out.push(' ')?;
-    put_active(alloc, &found, out)
+    let carrier = injected(alloc, row)?;
+    put_read(alloc, &Context::new(), &carrier, out)
+}
+
+/// Puts out what a context with both has once the headers of three further fields were read over it.
+fn put_extracted(alloc: Global, row: &Row, out: &mut String) -> Result<(), AllocError> {
+    let mut carrier = carrier_of(alloc, row.given(5), row.given(6))?;
+    set_given(alloc, &mut carrier, "baggage", row.given(7))?;
+    put_read(alloc, &context_of_both(alloc, row)?, &carrier, out)
 }
 
 /// The names of the headers of the propagator of a name.

@@ -39,7 +39,7 @@ fn span_of(trace_id: TraceId, row: &Row, state: TraceState) -> SpanContext {
 }
 
 /// A carrier with two headers, each where it is given.
-fn carrier_of(
+pub fn carrier_of(
     alloc: Global,
     parent: Option<&str>,
     state: Option<&str>,
