@@ -1,4 +1,5 @@
-//! Resources of detectors of one's own, and what takes no memory.
+//! Resources of detectors of one's own, what takes no memory, and what is made again where memory is refused:
+//! `rt try --test --fail-alloc N` has the Nth allocation refused.
 
 use opentelemetry::{Key, KeyValue, Value};
 use otel_base::resource::{
@@ -128,5 +129,56 @@ fn what_grows_nothing_is_never_refused(rt: HostRuntime) -> Result<(), Fail> {
     assert!(rt; detects_nothing(alloc));
     assert!(rt; nothing_is_cloned(alloc));
     assert_eq!(rt; built_with_nothing(alloc)?, 4);
+    Ok(())
+}
+
+/// A builder of two detected strings.
+fn detected(alloc: Global) -> Result<ResourceBuilder, AllocError> {
+    let strings = ResourceStrings {
+        attributes: Some(String::from_str(alloc, "x=1,k=old")?),
+        service_name: None,
+        program_name: Some(String::from_str(alloc, "p")?),
+    };
+    Resource::builder(alloc, &strings)
+}
+
+fn with_pairs(alloc: Global, builder: ResourceBuilder) -> Result<ResourceBuilder, AllocError> {
+    let builder = builder.with_service_name(Value::I64(7))?;
+    let mut pairs = Vec::new(alloc);
+    pairs.push(text_pair(alloc, "a", "first")?)?;
+    pairs.push(text_pair(alloc, "a", "second")?)?;
+    builder.with_attributes(pairs)
+}
+
+fn with_own(alloc: Global, builder: ResourceBuilder) -> Result<ResourceBuilder, AllocError> {
+    builder.with_detector(Box::new(alloc, own(alloc, "own"))?)
+}
+
+fn with_schema(alloc: Global, builder: ResourceBuilder) -> Result<ResourceBuilder, AllocError> {
+    let mut pairs = Vec::new(alloc);
+    pairs.push(text_pair(alloc, "a", "third")?)?;
+    let schema = String::from_str(alloc, "http://schema/a")?;
+    builder.with_schema_url(pairs, schema)
+}
+
+/// The resource that each call of a builder had a part in, and its copy, as texts.
+fn all_shown(alloc: Global) -> Result<(String, String), AllocError> {
+    let builder = with_pairs(alloc, detected(alloc)?)?;
+    let builder = with_schema(alloc, with_own(alloc, builder)?)?;
+    let resource = builder.build();
+    let copy = resource.clone()?;
+    Ok((shown(alloc, &resource)?, shown(alloc, &copy)?))
+}
+
+#[test]
+fn a_resource_that_was_refused_is_made_again(rt: HostRuntime) -> Result<(), Fail> {
+    let (made, copied) = match all_shown(rt.alloc()) {
+        Ok(both) => both,
+        Err(_) => all_shown(rt.alloc())?,
+    };
+    let wanted = "a=second;k=own;service.name=7;telemetry.sdk.language=rust;\
+        telemetry.sdk.name=opentelemetry;telemetry.sdk.version=0.33.0;x=1;http://schema/a";
+    assert_eq!(rt; made.as_str(), wanted);
+    assert_eq!(rt; copied.as_str(), wanted);
     Ok(())
 }

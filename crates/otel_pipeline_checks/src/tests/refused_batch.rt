@@ -1,11 +1,12 @@
 //! A provider that is built over a batch processor, and a span that it exports, where one allocation is refused:
 //! `rt try --test --fail-alloc N` has the Nth refused. Each call that finds no memory is made again.
 
-use super::fixtures::{TestSampler, config_under, flush, start_in};
+use super::fixtures::{TestSampler, attribute_of, config_under, flush, start_in};
 use super::refused_memory::finish_again;
 use opentelemetry::{Context, Moment};
 use opentelemetry_sdk::trace::Processor;
 use otel_base::error::OTelSdkResult;
+use otel_base::resource::Resource;
 use otel_base::trace::{BatchStrings, RandomIdGenerator, ShouldSample};
 use otel_export::trace::{ExporterBox, InMemorySpanExporter};
 use otel_pipeline::trace::{
@@ -25,6 +26,28 @@ fn with_batch_again<P: OverExporter, S: Drop>(
         Err((builder, _)) => builder,
     };
     match builder.with_batch_exporter(second) {
+        Ok(builder) => Ok(builder),
+        Err((_, error)) => Err(error),
+    }
+}
+
+/// A resource of one attribute.
+fn resource_of(alloc: Global, key: &'static str) -> Result<Resource, AllocError> {
+    let builder = Resource::builder_empty(alloc).with_attribute(attribute_of(key))?;
+    Ok(builder.build())
+}
+
+/// Hands a resource in, again where that finds no memory.
+fn with_resource_again<P: Drop, S: Drop>(
+    alloc: Global,
+    builder: ProviderBuilderOf<P, S, RandomIdGenerator>,
+    key: &'static str,
+) -> Result<ProviderBuilderOf<P, S, RandomIdGenerator>, AllocError> {
+    let builder = match builder.with_resource(resource_of(alloc, key)?) {
+        Ok(builder) => return Ok(builder),
+        Err((builder, _)) => builder,
+    };
+    match builder.with_resource(resource_of(alloc, key)?) {
         Ok(builder) => Ok(builder),
         Err((_, error)) => Err(error),
     }
@@ -85,6 +108,8 @@ fn export_again<P: OverExporter + KeepsBatches>(
     let config = config_under(alloc, TestSampler::AlwaysOn);
     let builder = ProviderOf::<P, _, _>::builder(alloc, config, BatchStrings::default());
     let builder = with_batch_again(builder, first, second)?;
+    let builder = with_resource_again(alloc, builder, "a")?;
+    let builder = with_resource_again(alloc, builder, "b")?;
     let mut provider = build_again(builder)?;
     let refused = start_and_finish(alloc, &mut provider);
     let flushed = drain_again(&mut provider);

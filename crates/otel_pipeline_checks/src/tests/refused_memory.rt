@@ -3,7 +3,7 @@
 //! of the machine alone, which an ordinary run has: `rt try --test --fail-alloc N` has the Nth allocation refused.
 
 use super::fixtures::{
-    Asked, TestProvider, TestSampler, answer_of, attribute_of, close, exporting, provider_of,
+    Asked, TestProvider, TestSampler, answer_of, attribute_of, close, end, exporting, provider_of,
     recorded, recorded_keys, start_in, writers,
 };
 use opentelemetry::trace::SpanContext;
@@ -184,15 +184,45 @@ pub(super) fn finish_again<P: SpanProcessor, S: ShouldSample>(
     }
 }
 
-/// Starts a span, edits it in each way, and finishes it: whether each edit did what it must, and how many processors
+/// Ends a span, and ends it again where that found no memory, which must leave it as it was. The answer is how many
+/// processors refused it.
+fn end_again<P: SpanProcessor, S: ShouldSample>(
+    span: &mut Span,
+    provider: &mut ProviderOf<P, S, RandomIdGenerator>,
+) -> Option<u64> {
+    let before = recorded(span);
+    if let Ok(refused) = end(span, provider) {
+        return Some(refused as u64);
+    }
+    let holds = before == recorded(span);
+    match end(span, provider) {
+        Ok(refused) if holds => Some(refused as u64),
+        _ => None,
+    }
+}
+
+/// Which call ends a span.
+#[derive(Clone, Copy)]
+enum Ending {
+    Finish,
+    EndWithTimestamp,
+}
+
+/// Starts a span, edits it in each way, and ends it: whether each edit did what it must, and how many processors
 /// refused the span.
-fn edit_and_finish<P: SpanProcessor, S: ShouldSample>(
+fn edit_and_end<P: SpanProcessor, S: ShouldSample>(
     alloc: Global,
     provider: &mut ProviderOf<P, S, RandomIdGenerator>,
+    ending: Ending,
 ) -> Result<(bool, Option<u64>), AllocError> {
     let mut span = start_in(alloc, &Context::new(), 0, provider)?;
     let edited = edit_all(alloc, &mut span);
-    Ok((edited, finish_again(span, provider)))
+    if let Ending::Finish = ending {
+        return Ok((edited, finish_again(span, provider)));
+    }
+    let refused = end_again(&mut span, provider);
+    span.abandon();
+    Ok((edited, refused))
 }
 
 /// How many batches the processors of a provider handed to their exporters, which kept or lost them.
@@ -241,18 +271,31 @@ fn is_edited(batch: &[SpanData]) -> bool {
     }
 }
 
+/// How many spans were edited as they must, and how many refusals of processors there were.
+fn edit_and_end_each<P: SpanProcessor, S: ShouldSample>(
+    alloc: Global,
+    provider: &mut ProviderOf<P, S, RandomIdGenerator>,
+) -> Result<(u64, u64), AllocError> {
+    let (mut count, mut refusals) = (0u64, 0u64);
+    for ending in [Ending::Finish, Ending::EndWithTimestamp] {
+        if let (true, Some(refused)) = edit_and_end(alloc, provider, ending)? {
+            count = count.saturating_add(1);
+            refusals = refusals.saturating_add(refused);
+        }
+    }
+    Ok((count, refusals))
+}
+
 #[test]
 fn refused_edits_and_ends_change_nothing_and_succeed_again(rt: HostRuntime) -> Result<(), Fail> {
     let alloc = rt.alloc();
     let processors = vec![in alloc; exporting(alloc), exporting(alloc)]?;
     let mut provider = provider_of(alloc, processors, TestSampler::AlwaysOn);
-    let outcome = edit_and_finish(alloc, &mut provider);
+    let outcome = edit_and_end_each(alloc, &mut provider);
     let (exported, holds) = (handed_on(&provider), keeps_edits(&provider));
     let closed = close(provider);
-    let (edited, refused) = outcome?;
-    assert!(rt; edited);
     assert!(rt; holds);
-    assert_eq!(rt; refused, Some(2u64.saturating_sub(exported)));
+    assert_eq!(rt; outcome?, (2, 4u64.saturating_sub(exported)));
     assert!(rt; closed.is_ok());
     Ok(())
 }

@@ -3,12 +3,14 @@
 ghost use Rattle.std.specs.Prelude.{None};
 
 use opentelemetry::{Context, Moment};
-use opentelemetry_sdk::trace::{Processor, SdkTracerProvider};
+use opentelemetry_sdk::trace::{BatchSpanProcessor, Processor, SdkTracerProvider};
 use otel_base::error::{OTelSdkError, OTelSdkResult};
 use otel_base::resource::Resource;
 use otel_base::trace::{
-    Config, IdGenerator, IdSource, RandomIdGenerator, Sampler, ShouldSample, SpanLimits,
+    BatchStrings, Config, IdGenerator, IdSource, RandomIdGenerator, Sampler, ShouldSample,
+    SpanLimits,
 };
+use otel_batch::trace::BatchConfig;
 use otel_export::trace::{ExporterBox, InMemorySpanExporter, SpanData, SpanExporter};
 use otel_lines::{Command, Reply};
 use otel_pipeline::trace::provider::provider_over;
@@ -126,17 +128,36 @@ impl KeepsBatches for Losing {
     }
 }
 
-fn provider_with<P: SpanProcessor>(
-    alloc: Global,
-    processors: Vec<P>,
-) -> ProviderOf<P, Sampler, IdSource> {
-    let config = Config {
+fn config(alloc: Global) -> Config {
+    Config {
         sampler: Sampler::AlwaysOn,
         id_generator: IdSource::Random(RandomIdGenerator::new(0)),
         span_limits: SpanLimits::default(),
         resource: Resource::builder_empty(alloc).build(),
+    }
+}
+
+fn provider_with<P: SpanProcessor>(
+    alloc: Global,
+    processors: Vec<P>,
+) -> ProviderOf<P, Sampler, IdSource> {
+    provider_over(processors, config(alloc))
+}
+
+/// A provider that a builder makes over one processor.
+fn built_over<P: SpanProcessor>(
+    alloc: Global,
+    processor: P,
+) -> Result<ProviderOf<P, Sampler, IdSource>, AllocError> {
+    let builder = ProviderOf::builder(alloc, config(alloc), BatchStrings::default());
+    let builder = match builder.with_span_processor(processor) {
+        Ok(builder) => builder,
+        Err((_, error)) => return Err(error),
     };
-    provider_over(processors, config)
+    match builder.build() {
+        Ok(provider) => Ok(provider),
+        Err((_, error)) => Err(error),
+    }
 }
 
 pub fn provider_of<P: SpanProcessor>(
@@ -179,6 +200,22 @@ pub fn half_failing_provider(alloc: Global) -> Result<SdkTracerProvider, AllocEr
     processors.push(memory_processor(alloc))?;
     processors.push(Processor::Custom(Box::new(alloc, Failing)?))?;
     Ok(provider_with(alloc, processors))
+}
+
+/// A batch processor that was told 63 resources, and makes nothing of them before it works.
+fn crowded_processor(alloc: Global) -> Result<Processor, AllocError> {
+    let memory = ExporterBox::Memory(InMemorySpanExporter::new(alloc));
+    let mut batch = BatchSpanProcessor::new(alloc, memory, BatchConfig::default())?;
+    let nothing = Resource::builder_empty(alloc).build();
+    for _ in 0..63 {
+        batch.set_resource(&nothing)?;
+    }
+    Ok(Processor::Batch(batch))
+}
+
+/// A provider over such a processor, which the builder tells the 64th resource: no request has room.
+pub fn crowded_provider(alloc: Global) -> Result<SdkTracerProvider, AllocError> {
+    built_over(alloc, crowded_processor(alloc)?)
 }
 
 /// A session over a provider; where there is no memory for it, the provider is closed.

@@ -5,7 +5,7 @@ use otel_base::error::OTelSdkError;
 use otel_base::trace::{IdGenerator, IdSource, Sampler, ShouldSample};
 use otel_lines::{Answer, Command, Reply, parse};
 use otel_pipeline::trace::{KeepsBatches, ProviderOf};
-use otel_session::Session;
+use otel_session::{FeedError, Session};
 use std::alloc::{AllocError, Global};
 use std::test::Fail;
 
@@ -106,5 +106,71 @@ fn a_run_that_found_no_memory_succeeds_again(rt: HostRuntime) -> Result<(), Fail
     }
     let shown_or_refused = shown_or_refused(&replies) as u64;
     assert_eq!(rt; shown_or_refused.saturating_add(lost), 2);
+    Ok(())
+}
+
+/// Feeds a line, and feeds it again where it found no memory. The answer is whether it did, and had put nothing out.
+fn feed_again<P: KeepsBatches>(
+    session: &mut Session<P, Sampler, IdSource>,
+    line: &[u8],
+    output: &mut Vec<u8>,
+) -> Result<bool, FeedError> {
+    let before = output.len();
+    if feed(session, line, output).is_ok() {
+        return Ok(false);
+    }
+    if output.len() != before {
+        return Err(FeedError::Memory);
+    }
+    feed(session, line, output)?;
+    Ok(true)
+}
+
+/// Feeds each line so. The answer is how many ends were fed twice.
+fn feed_each<P: KeepsBatches>(
+    session: &mut Session<P, Sampler, IdSource>,
+    output: &mut Vec<u8>,
+) -> Result<usize, FeedError> {
+    let mut count = 0usize;
+    for line in LIVES {
+        if feed_again(session, line, output)? && line.starts_with(b"end") {
+            count = count.saturating_add(1);
+        }
+    }
+    Ok(count)
+}
+
+/// What a session fed so puts out, its close too.
+fn fed<P: KeepsBatches>(
+    alloc: Global,
+    provider: ProviderOf<P, Sampler, IdSource>,
+) -> Result<(Result<usize, FeedError>, Vec<u8>), AllocError> {
+    let mut output = Vec::new(alloc);
+    let mut session = session_over(alloc, provider)?;
+    let fed = feed_each(&mut session, &mut output);
+    let _ = close(session, &mut output);
+    Ok((fed, output))
+}
+
+/// How many lines of spans there are.
+fn span_lines(output: &[u8]) -> usize {
+    let text = str::from_utf8(output).unwrap_or("");
+    text.lines()
+        .filter(|line| line.starts_with("span "))
+        .count()
+}
+
+/// A text that found no memory puts nothing of its line out, and its line is read again. Each of both ended spans is
+/// put out once, or its end found no memory.
+#[test]
+fn a_text_that_found_no_memory_is_read_again(rt: HostRuntime) -> Result<(), Fail> {
+    let alloc = rt.alloc();
+    let (fed, output) = fed(alloc, memory_provider(alloc)?)?;
+    let Ok(ends) = fed else {
+        return Err(Fail::new("a line was not read again"));
+    };
+    let shown = span_lines(&output);
+    assert!(rt; shown <= 2);
+    assert!(rt; shown.saturating_add(ends) >= 2);
     Ok(())
 }

@@ -11,14 +11,23 @@ use otel_session::FeedError;
 use std::alloc::{AllocError, Global};
 use std::test::Fail;
 
-/// What a session over this provider answers to one line, and behind it how it closes.
+/// What a session over this provider answers to a line that names no span, and behind it how it closes.
 fn closed<P: KeepsBatches>(
     alloc: Global,
     provider: ProviderOf<P, Sampler, IdSource>,
 ) -> Result<String, AllocError> {
+    closed_behind(alloc, provider, b"end x 5\n")
+}
+
+/// The same of any text.
+fn closed_behind<P: KeepsBatches>(
+    alloc: Global,
+    provider: ProviderOf<P, Sampler, IdSource>,
+    text: &[u8],
+) -> Result<String, AllocError> {
     let mut output = Vec::new(alloc);
     let mut session = session_over(alloc, provider)?;
-    let fed = feed(&mut session, b"end x 5\n", &mut output);
+    let fed = feed(&mut session, text, &mut output);
     let closed = close(session, &mut output);
     if fed.is_err() {
         return Err(AllocError);
@@ -95,6 +104,35 @@ fn a_session_closes_as_its_provider_does(rt: HostRuntime) -> Result<(), Fail> {
     assert_eq!(rt; shut.as_str(), "no such span\nok");
     let used = closed(alloc, used_provider(alloc)?)?;
     assert_eq!(rt; used.as_str(), "no such span\nok");
+    Ok(())
+}
+
+/// Lines that end a span and ask for a shutdown twice, and what is answered to them where no request has room.
+const TWO_SHUTDOWNS: &[u8] = b"start s a 1\nend s 2\nshutdown\nshutdown\n";
+
+const TWO_REFUSALS: &str =
+    "started 00-5c0fdf91ec9a7bfc61da6f3dc380d507-53175d61490b23df-01\nended\n\
+    Operation failed: Shutdown errors: 1\nShutdown already invoked\n";
+
+/// The same, and behind it a run and a flush, which exports what still waits.
+const A_LATE_FLUSH: &[u8] = b"start s a 1\nend s 2\nshutdown\nshutdown\nrun 5\nflush\n";
+
+const A_LATE_SPAN: &str = "ok\nspan 5c0fdf91ec9a7bfc61da6f3dc380d507 53175d61490b23df \
+    0000000000000000 01 1 2 a unset attrs [] 0 events [] 0 links 0 0\nok\n";
+
+#[test]
+fn a_shutdown_that_has_no_room_leaves_what_waits(rt: HostRuntime) -> Result<(), Fail> {
+    let alloc = rt.alloc();
+    let closed = closed_behind(alloc, crowded_provider(alloc)?, TWO_SHUTDOWNS)?;
+    assert_eq!(rt;
+        closed.as_str(),
+        format!(in alloc; "{TWO_REFUSALS}ok")?.as_str()
+    );
+    let flushed = closed_behind(alloc, crowded_provider(alloc)?, A_LATE_FLUSH)?;
+    assert_eq!(rt;
+        flushed.as_str(),
+        format!(in alloc; "{TWO_REFUSALS}{A_LATE_SPAN}ok")?.as_str()
+    );
     Ok(())
 }
 

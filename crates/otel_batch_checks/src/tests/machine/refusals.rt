@@ -1,9 +1,11 @@
-//! A drain whose second batch is refused its room. No test can refuse it: with ample memory each test here takes the
-//! other branch, and one whose allocation at that pull fails (`rt try --test --fail-alloc`) takes this one.
+//! A drain whose second batch is refused its room, and an exporter in memory that is refused its growth. No test can
+//! refuse either: with ample memory each test here takes the other branch, and one whose allocation there fails
+//! (`rt try --test --fail-alloc N`, or `tools/sweep`) takes this one.
 
-use crate::tests::machine::script::{counts_text, first_difference, machine, spans_text};
+use crate::tests::machine::script::{counts_text, first_difference, machine, span, spans_text};
+use otel_base::error::OTelSdkError;
 use otel_batch::machine::{BatchMachine, Outcome, Step};
-use otel_export::trace::ExporterBox;
+use otel_export::trace::{ExporterBox, ExporterOf};
 use std::alloc::Global;
 use std::test::Fail;
 
@@ -36,7 +38,7 @@ fn shows(
     }
 }
 
-/// Four spans of producer 0 behind a request of producer 1, and the drain of that request up to the first pull of its
+/// Three spans of producer 0 behind a request of producer 1, and the drain of that request up to the first pull of its
 /// second batch: whether that was refused its room.
 fn is_second_batch_refused(
     alloc: Global,
@@ -54,11 +56,8 @@ fn is_second_batch_refused(
         ("offer 0 c", "counted 3"),
         ("send 0", "accepted"),
         ("ask 0", "already asked"),
-        ("offer 0 d", "counted 4"),
-        ("send 0", "accepted"),
-        ("ask 0", "already asked"),
         ("take", request.1),
-        ("load", "loaded 4"),
+        ("load", "loaded 3"),
         ("pull", "pulled"),
         ("pull", "pulled"),
         ("hand", "handed over 2"),
@@ -72,7 +71,7 @@ fn is_second_batch_refused(
     }
 }
 
-/// Behind the refusal the first batch stays handed over, the rest waits in its order, the answer says so and the
+/// Behind the refusal the first batch stays handed over, the last span waits, the answer says so and the
 /// machine stays open. What was posted before hands the rest over, and the same request made again finds nothing left.
 fn goes_on_behind_a_refusal(
     alloc: Global,
@@ -84,16 +83,15 @@ fn goes_on_behind_a_refusal(
         ("collect 1", "collected Operation found no memory"),
     ];
     take_all(alloc, queue, &script)?;
-    let spans = "waiting [c,d] hand [] told [a,b]";
-    shows(alloc, queue, spans, "counter 2 dropped 0 open")?;
+    let spans = "waiting [c] hand [] told [a,b]";
+    shows(alloc, queue, spans, "counter 1 dropped 0 open")?;
     let script = [
         (request.0, "requested"),
         ("take", "took export"),
         ("clear", "cleared"),
-        ("load", "loaded 2"),
+        ("load", "loaded 1"),
         ("pull", "pulled"),
-        ("pull", "pulled"),
-        ("hand", "handed over 2"),
+        ("hand", "handed over 1"),
         ("subtract", "subtracted"),
         ("finish", "finished"),
         ("take", request.1),
@@ -111,11 +109,7 @@ fn drain_to_its_finish(
     if is_second_batch_refused(alloc, queue, request)? {
         goes_on_behind_a_refusal(alloc, queue, request)?;
     } else {
-        let script = [
-            ("pull", "pulled"),
-            ("hand", "handed over 2"),
-            ("subtract", "subtracted"),
-        ];
+        let script = [("hand", "handed over 1"), ("subtract", "subtracted")];
         take_all(alloc, queue, &script)?;
     }
     take_all(alloc, queue, &[("finish", "finished")])
@@ -127,7 +121,7 @@ fn a_flush_refused_its_room_leaves_the_rest_to_the_next(rt: HostRuntime) -> Resu
     let mut queue = machine(alloc, 4, 2, 2)?;
     drain_to_its_finish(alloc, &mut queue, ("flush 1", "took flush 1"))?;
     take_all(alloc, &mut queue, &[("collect 1", "collected ok")])?;
-    let spans = "waiting [] hand [] told [a,b] [c,d]";
+    let spans = "waiting [] hand [] told [a,b] [c]";
     shows(alloc, &queue, spans, "counter 0 dropped 0 open")
 }
 
@@ -138,6 +132,89 @@ fn a_shutdown_refused_its_room_leaves_the_machine_open(rt: HostRuntime) -> Resul
     drain_to_its_finish(alloc, &mut queue, ("shutdown 1", "took shutdown 1"))?;
     let script = [("close", "shut down"), ("collect 1", "collected ok")];
     take_all(alloc, &mut queue, &script)?;
-    let spans = "waiting [] hand [] told [a,b] [c,d]";
+    let spans = "waiting [] hand [] told [a,b] [c]";
     shows(alloc, &queue, spans, "counter 0 dropped 0 closed")
+}
+
+/// Hands over a batch of so many spans. The answer is how many batches the exporter lost by that.
+fn lost_by_handing_over(queue: &mut BatchMachine<ExporterBox>, count: usize) -> Result<u64, Fail> {
+    match queue.step(Step::HandOver) {
+        Outcome::HandedOver(handed, None) if handed == count => Ok(0),
+        Outcome::HandedOver(handed, Some(OTelSdkError::OutOfMemory)) if handed == count => Ok(1),
+        _ => Err(Fail::new("the batch was not handed over")),
+    }
+}
+
+/// The same of a timer's drain of one span, whose result says so too.
+fn lost_by_a_timer(alloc: Global, queue: &mut BatchMachine<ExporterBox>) -> Result<u64, Fail> {
+    let offered = span(alloc, "a", 1)?;
+    queue.step(Step::Offer(0, offered));
+    for step in [Step::Send(0), Step::Tick, Step::Load, Step::Pull] {
+        queue.step(step);
+    }
+    let lost = lost_by_handing_over(queue, 1)?;
+    queue.step(Step::Subtract);
+    match queue.step(Step::Finish) {
+        Outcome::Finished(None) if lost == 0 => Ok(0),
+        Outcome::Finished(Some(OTelSdkError::OutOfMemory)) if lost == 1 => Ok(1),
+        _ => Err(Fail::new("the drain has another result")),
+    }
+}
+
+/// The same of a shutdown's drain of two spans, which fill the queue: it closes the machine all the same.
+fn lost_by_a_shutdown(alloc: Global, queue: &mut BatchMachine<ExporterBox>) -> Result<u64, Fail> {
+    let script = [
+        ("offer 0 e", "counted 1"),
+        ("send 0", "accepted"),
+        ("offer 1 f", "counted 2"),
+        ("send 1", "accepted"),
+        ("offer 0 g", "counted 3"),
+        ("send 0", "full"),
+        ("undo 0", "undone"),
+        ("shutdown 0", "requested"),
+        ("take", "took shutdown 0"),
+        ("load", "loaded 2"),
+        ("pull", "pulled"),
+        ("pull", "pulled"),
+    ];
+    take_all(alloc, queue, &script)?;
+    let lost = lost_by_handing_over(queue, 2)?;
+    let script = [
+        ("subtract", "subtracted"),
+        ("finish", "finished"),
+        ("close", "shut down"),
+        ("collect 0", "collected ok"),
+        ("offer 0 h", "counted 1"),
+        ("send 0", "closed"),
+        ("undo 0", "undone"),
+    ];
+    take_all(alloc, queue, &script)?;
+    Ok(lost)
+}
+
+/// How many batches the exporter keeps, and how many it lost.
+fn kept_and_lost(queue: &BatchMachine<ExporterBox>) -> (u64, u64) {
+    match queue.exporter() {
+        ExporterOf::Memory(memory) => (memory.batches().len() as u64, memory.lost_batches()),
+        ExporterOf::Custom(_) => (0, 0),
+    }
+}
+
+#[test]
+fn an_exporter_refused_its_growth_keeps_its_batches_and_is_shut_down(
+    rt: HostRuntime,
+) -> Result<(), Fail> {
+    let alloc = rt.alloc();
+    let mut queue = machine(alloc, 2, 2, 2)?;
+    let mut lost = 0u64;
+    for _ in 0..4 {
+        lost = lost.saturating_add(lost_by_a_timer(alloc, &mut queue)?);
+    }
+    lost = lost.saturating_add(lost_by_a_shutdown(alloc, &mut queue)?);
+    assert_eq!(rt; kept_and_lost(&queue), (5u64.saturating_sub(lost), lost));
+    assert_eq!(rt;
+        counts_text(alloc, &queue)?.as_str(),
+        "counter 0 dropped 1 closed"
+    );
+    Ok(())
 }
