@@ -6,17 +6,20 @@ use crate::tests::machine::script::{counts_text, first_difference, machine, span
 use otel_base::error::OTelSdkError;
 use otel_batch::machine::{BatchMachine, Outcome, Step};
 use otel_export::trace::{ExporterBox, ExporterOf};
-use std::alloc::Global;
+use std::alloc::{AllocError, Global};
 use std::test::Fail;
 
-/// Fails where a step of the script has another outcome.
+/// Fails where a step of the script has another outcome, as a call that found no memory does where the outcome says so.
 fn take_all(
     alloc: Global,
     queue: &mut BatchMachine<ExporterBox>,
     script: &[(&str, &str)],
 ) -> Result<(), Fail> {
-    if first_difference(alloc, queue, script)?.is_empty() {
+    let difference = first_difference(alloc, queue, script)?;
+    if difference.is_empty() {
         Ok(())
+    } else if difference.as_str().ends_with("no memory") {
+        Err(Fail::from(AllocError))
     } else {
         Err(Fail::new("a step has another outcome"))
     }
@@ -145,13 +148,32 @@ fn lost_by_handing_over(queue: &mut BatchMachine<ExporterBox>, count: usize) -> 
     }
 }
 
-/// The same of a timer's drain of one span, whose result says so too.
+/// What the first pull of a timer's drain answers.
+fn pulled_by_a_timer(queue: &mut BatchMachine<ExporterBox>) -> Outcome {
+    queue.step(Step::Tick);
+    queue.step(Step::Load);
+    queue.step(Step::Pull)
+}
+
+/// Pulls a span by a timer's drain, and by another one where that was refused its room, which is its result.
+fn pull_again(queue: &mut BatchMachine<ExporterBox>) -> Result<(), Fail> {
+    if pulled_by_a_timer(queue) == Outcome::Pulled {
+        return Ok(());
+    }
+    let refused = Outcome::Finished(Some(OTelSdkError::OutOfMemory));
+    if queue.step(Step::Finish) == refused && pulled_by_a_timer(queue) == Outcome::Pulled {
+        Ok(())
+    } else {
+        Err(Fail::new("the pull was not made again"))
+    }
+}
+
+/// How many batches the exporter lost by a timer's drain of one span, whose result says so too.
 fn lost_by_a_timer(alloc: Global, queue: &mut BatchMachine<ExporterBox>) -> Result<u64, Fail> {
     let offered = span(alloc, "a", 1)?;
     queue.step(Step::Offer(0, offered));
-    for step in [Step::Send(0), Step::Tick, Step::Load, Step::Pull] {
-        queue.step(step);
-    }
+    queue.step(Step::Send(0));
+    pull_again(queue)?;
     let lost = lost_by_handing_over(queue, 1)?;
     queue.step(Step::Subtract);
     match queue.step(Step::Finish) {
