@@ -152,11 +152,11 @@ fn fed<P: KeepsBatches>(
     Ok((fed, output))
 }
 
-/// How many lines of spans there are.
+/// How many lines of spans there are, each of which ends with the count of its links.
 fn span_lines(output: &[u8]) -> usize {
     let text = str::from_utf8(output).unwrap_or("");
     text.lines()
-        .filter(|line| line.starts_with("span "))
+        .filter(|line| line.ends_with(" links 0 0"))
         .count()
 }
 
