@@ -6,6 +6,7 @@ use otel_base::resource::{
     EnvResourceDetector, Resource, ResourceBuilder, ResourceDetector, ResourceStrings,
     SdkProvidedResourceDetector,
 };
+use otel_base::trace::{Config, ConfigStrings};
 use std::alloc::{AllocError, Global};
 use std::test::Fail;
 
@@ -170,8 +171,19 @@ fn all_shown(alloc: Global) -> Result<(String, String), AllocError> {
     Ok((shown(alloc, &resource)?, shown(alloc, &copy)?))
 }
 
+/// How many attributes the resource has that no strings configure.
+fn configured_len(alloc: Global) -> Result<usize, AllocError> {
+    let config = Config::from_strings(alloc, &ConfigStrings::default(), 0)?;
+    Ok(config.resource.len())
+}
+
 #[test]
 fn a_resource_that_was_refused_is_made_again(rt: HostRuntime) -> Result<(), Fail> {
+    let configured = match configured_len(rt.alloc()) {
+        Ok(count) => count,
+        Err(_) => configured_len(rt.alloc())?,
+    };
+    assert_eq!(rt; configured, 4);
     let (made, copied) = match all_shown(rt.alloc()) {
         Ok(both) => both,
         Err(_) => all_shown(rt.alloc())?,

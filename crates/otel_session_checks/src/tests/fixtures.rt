@@ -202,15 +202,22 @@ pub fn half_failing_provider(alloc: Global) -> Result<SdkTracerProvider, AllocEr
     Ok(provider_with(alloc, processors))
 }
 
+/// Tells a processor so many empty resources.
+fn crowd<P: SpanProcessor>(alloc: Global, processor: &mut P, count: u32) -> Result<(), AllocError> {
+    let nothing = Resource::builder_empty(alloc).build();
+    for _ in 0..count {
+        processor.set_resource(&nothing)?;
+    }
+    Ok(())
+}
+
 /// A batch processor that was told 63 resources, and makes nothing of them before it works.
 fn crowded_processor(alloc: Global) -> Result<Processor, AllocError> {
     let memory = ExporterBox::Memory(InMemorySpanExporter::new(alloc));
-    let mut batch = BatchSpanProcessor::new(alloc, memory, BatchConfig::default())?;
-    let nothing = Resource::builder_empty(alloc).build();
-    for _ in 0..63 {
-        batch.set_resource(&nothing)?;
-    }
-    Ok(Processor::Batch(batch))
+    let batch = BatchSpanProcessor::new(alloc, memory, BatchConfig::default())?;
+    let mut processor = Processor::Batch(batch);
+    crowd(alloc, &mut processor, 63)?;
+    Ok(processor)
 }
 
 /// A provider over such a processor, which the builder tells the 64th resource: no request has room.
