@@ -15,12 +15,21 @@ use std::rc::Rc;
 use std::test::Fail;
 use std::time::Duration;
 
-/// A processor that writes on a board, at each resource that it is told, how many attributes this has. It refuses so
-/// many of them first.
+/// A processor that writes on a board the values of each resource that it is told, a digit each, in the order of their
+/// keys. It refuses so many resources first.
 #[derive(Drop)]
 struct Listener {
     board: Rc<Cell<u64>>,
     refusals: u64,
+}
+
+impl Listener {
+    fn write(&self, value: &Value) {
+        if let Value::I64(digit) = value {
+            let before = self.board.get().saturating_mul(10);
+            self.board.set(before.saturating_add(digit.unsigned_abs()));
+        }
+    }
 }
 
 impl SpanProcessor for Listener {
@@ -39,8 +48,9 @@ impl SpanProcessor for Listener {
     }
 
     fn set_resource(&mut self, resource: &Resource) -> Result<(), AllocError> {
-        let before = self.board.get().saturating_mul(10);
-        self.board.set(before.saturating_add(resource.len() as u64));
+        for (_, value) in resource {
+            self.write(value);
+        }
         if self.refusals > 0 {
             self.refusals -= 1;
             return Err(AllocError);
@@ -74,7 +84,7 @@ fn builder_with(alloc: Global, last: Listener) -> Result<TestBuilder, AllocError
         sampler: SamplerOf::AlwaysOn,
         id_generator: IdSourceOf::Random(RandomIdGenerator::new(0)),
         span_limits: SpanLimits::default(),
-        resource: resource_of(alloc, &["configured"])?,
+        resource: resource_of(alloc, &[("configured", 9)])?,
     };
     let builder = ProviderOf::builder(alloc, config, BatchStrings::default());
     let builder = made(builder.with_simple_exporter(Sink))?;
@@ -82,10 +92,10 @@ fn builder_with(alloc: Global, last: Listener) -> Result<TestBuilder, AllocError
     made(builder.with_span_processor(ProcessorOf::Custom(last)))
 }
 
-/// The builder with two resources that share a key.
+/// The builder with two resources that share a key, of which the second one's value counts.
 fn with_resources(alloc: Global, builder: TestBuilder) -> Result<TestBuilder, AllocError> {
-    let first = resource_of(alloc, &["a", "b"])?;
-    let second = resource_of(alloc, &["b", "c"])?;
+    let first = resource_of(alloc, &[("a", 1), ("c", 2)])?;
+    let second = resource_of(alloc, &[("a", 3), ("b", 4)])?;
     let builder = made(builder.with_resource(first))?;
     made(builder.with_resource(second))
 }
@@ -114,10 +124,10 @@ fn built<P: SpanProcessor, S: Drop, G: Drop>(
     }
 }
 
-fn resource_of(alloc: Global, keys: &[&'static str]) -> Result<Resource, AllocError> {
+fn resource_of(alloc: Global, pairs: &[(&'static str, i64)]) -> Result<Resource, AllocError> {
     let mut attributes = Vec::new(alloc);
-    for key in keys {
-        attributes.push(KeyValue::new(Key::from_static_str(key), Value::Bool(true)))?;
+    for (key, number) in pairs {
+        attributes.push(KeyValue::new(Key::from_static_str(key), Value::I64(*number)))?;
     }
     let builder = Resource::builder_empty(alloc).with_attributes(attributes)?;
     Ok(builder.build())
@@ -138,9 +148,9 @@ fn processors_are_told_the_resources_that_were_handed_in_as_one(
     let Err(builder) = built(builder.with_id_generator(1).with_max_events_per_span(3)) else {
         return Err(Fail::from("made in spite of a refusal"));
     };
-    assert_eq!(rt; board.get(), 3);
+    assert_eq!(rt; board.get(), 342);
     let answer = built(builder).ok();
-    assert_eq!(rt; board.get(), 33);
+    assert_eq!(rt; board.get(), 342_342);
     assert_eq!(rt; answer, Some((3, Ok(()))));
     Ok(())
 }
