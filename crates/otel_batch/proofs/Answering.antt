@@ -1,16 +1,16 @@
 -- The answer of a drain of the batch queue is what its outcomes say.
-use Rattle.std.proofs.Common.{◌≡◌, ◌∙◌, ap, sym, refl, subst, zero, suc, ℕ, ◌+◌, ◌<◌, ◌==◌, Bool, true, false, List, [], ◌∷◌, length, Option, Some, None, Err, take, drop, slice_get, slice_set, nat_lt, if◌then◌else◌}
+use Rattle.std.proofs.Common.{◌≡◌, ◌∙◌, ap, sym, refl, subst, zero, suc, ℕ, ◌+◌, ◌<◌, ◌==◌, Bool, true, false, List, [], ◌∷◌, length, Option, Some, None, Result, Ok, Err, take, drop, slice_get, slice_set, nat_lt, if◌then◌else◌}
 use Rattle.std.proofs.lemmas.Option.{slice_get_within}
 use Rattle.circular_buffer.proofs.Places.{slice_get-set_same}
 use Rattle.otel_base.specs.declared.error.OTelSdkError.{OTelSdkError}
-use Rattle.otel_base.specs.declared.error.OTelSdkError.TheVariants.{OutOfMemory}
+use Rattle.otel_base.specs.declared.error.OTelSdkError.TheVariants.{AlreadyShutdown, Timeout, InternalFailure, OutOfMemory}
 use Rattle.otel_batch.specs.Workers.{worker_names}
 use Rattle.otel_batch.specs.MachineState.{Machine, Counts, counts, limit_of}
 use Rattle.otel_batch.specs.SoundMachine.{IsSound}
-use Rattle.otel_batch.specs.PermittedStep.{Permitted, PullRow, HandOverRow, SubtractRow, FinishRow, FinishRowFor, IsErrorOf, finished, put_slot, slot_at}
+use Rattle.otel_batch.specs.PermittedStep.{Permitted, PullRow, HandOverRow, SubtractRow, FinishRow, FinishRowFor, IsErrorOf, KeepsFailure, finished, first_failure, put_slot, slot_at}
 use Rattle.otel_batch.specs.MachineRun.{Run}
 use Rattle.otel_batch.specs.Drains.{NoneFinishes}
-use Rattle.otel_batch.specs.DrainAnswers.{error_after, error_behind, finds_no_memory, GivesAnswer, AnswersDrains}
+use Rattle.otel_batch.specs.DrainAnswers.{error_after, error_behind, first_error, finds_no_memory, GivesAnswer, AnswersDrains}
 use Rattle.otel_batch.specs.declared.machine.state.Slot.TheVariants as slot
 use Rattle.otel_batch.specs.declared.machine.state.Why.{Why}
 use Rattle.otel_batch.specs.declared.machine.state.Why.TheVariants as why
@@ -44,6 +44,26 @@ refused-finds : (os : List Outcome) → refused_behind false os ≡ finds_no_mem
 refused-finds [] = refl
 refused-finds (outcome.NoMemory ∷ os) = stays_refused os
 refused-finds (_ ∷ os) = refused-finds os
+
+-- the error of an error is one
+error_has : (e : OTelSdkError) → IsErrorOf (Err e) None → ⊥
+error_has AlreadyShutdown is = is
+error_has (Timeout d) is = is
+error_has (InternalFailure reason) is = is
+error_has OutOfMemory is = is
+
+-- a result that keeps the first error has the first of the errors
+kept_error : (before after : Result (Unit {0}) OTelSdkError) (error more : Option OTelSdkError) → IsErrorOf before error →
+    KeepsFailure before more after → IsErrorOf after (first_error error more)
+kept_error (Ok u) after None more is kept = kept
+kept_error (Ok u) after (Some e) more is kept = absurd is
+kept_error (Err e) after (Some f) more is kept = rw kept is
+kept_error (Err e) after None more is kept = absurd (error_has e is)
+
+refusal_kept : (before : Result (Unit {0}) OTelSdkError) →
+    KeepsFailure before (Some OutOfMemory) (first_failure before (Err OutOfMemory))
+refusal_kept (Ok u) = tt
+refusal_kept (Err e) = refl
 
 -- a drain with this reason and this error between its load and its finish, which found no memory or did
 record HoldsAnswer (reason : Why) (error : Option OTelSdkError) (refused : Bool) (s : Counts) : Type 0 where
@@ -96,11 +116,12 @@ pull_holds reason error refused s outcome.Empty t row h = holds_same reason erro
     on true = refl
     on false = refl
 pull_holds reason error refused s outcome.NoMemory t row h =
-    let result : t.control.result ≡ Err OutOfMemory = ap (λ c. c.control.result) row.3 in
+    let result : t.control.result ≡ first_failure s.control.result (Err OutOfMemory) = ap (λ c. c.control.result) row.3 in
     record {
       busy = ap (λ c. is_busy c.control.worker) row.3;
       why_is = ap (λ c. c.control.why) row.3 ∙ h.why_is;
-      result_is = rw result tt;
+      result_is = rw result (kept_error s.control.result _ error (Some OutOfMemory) h.result_is
+          (refusal_kept s.control.result));
       refused_is = ap (λ c. c.control.refused) row.3;
     }
 pull_holds reason error refused s outcome.Pulled t row h = holds_same reason error refused outcome.Pulled s t refl refl
@@ -120,7 +141,7 @@ hand_over_holds : (reason : Why) (error : Option OTelSdkError) (refused : Bool) 
 hand_over_holds reason error refused s (outcome.HandedOver k e) t row h = record {
   busy = ap (λ c. is_busy c.control.worker) row.3;
   why_is = ap (λ c. c.control.why) row.3 ∙ h.why_is;
-  result_is = row.2;
+  result_is = kept_error s.control.result t.control.result error e h.result_is row.2;
   refused_is = ap (λ c. c.control.refused) row.3 ∙ h.refused_is;
 }
 hand_over_holds reason error refused s outcome.NotEnabled t row h =
@@ -237,7 +258,12 @@ finished_gives (why.Shutdown p) refused s e t sound at is refusal row =
         then put_slot (finished s worker.Ready) p (slot.Answered (Err OutOfMemory))
         else finished s (worker.Closing p)) → GivesAnswer (why.Shutdown p) c s.control.result e t
     shut true true same eq =
-        (row.0, answered_at s t p (Err OutOfMemory) sound (rw (at, is) (one_shutdown p)) (slots_of _ _ eq))
+        let runs : s.control.closed ≡ false = sound.awaited.gone ∙ rw at refl in (
+          row.0,
+          answered_at s t p (Err OutOfMemory) sound (rw (at, is) (one_shutdown p)) (slots_of _ _ eq),
+          ap (λ c. c.control.worker) eq,
+          ap (λ c. c.control.closed) eq ∙ runs,
+        )
     shut false false same eq = (row.0, ap (λ c. c.control.worker) eq)
     shut true false same eq = absurd (cc)
     shut false true same eq = absurd (cc)

@@ -114,7 +114,7 @@ module _ {E : Type 0} (calls : Ghosts E) where
   moved-conserves s step.Finish (outcome.HandedOver k e) t row m = absurd row
   moved-conserves s step.Close (outcome.HandedOver k e) t row m = absurd row
   moved-conserves s step.Take outcome.TookResource t row m = rests s t m.told (both_same s t m.hand m.waiting)
-  moved-conserves s step.Close outcome.ShutDown t row m = rests s t m.told (both_same s t m.hand m.waiting)
+  moved-conserves s step.Close (outcome.ShutDown n) t row m = rests s t m.told (both_same s t m.hand m.waiting)
   moved-conserves s _ _ t row m = keeps-conserves s t m
 
   -- a run loses no span, where the producers hold at its start what they are said to hold

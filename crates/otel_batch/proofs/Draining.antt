@@ -105,7 +105,7 @@ load_busy s _ t busy row = absurd row
 
 pub close_busy : (s : Counts) (o : Outcome) (t : Counts) → is_busy s.control.worker ≡ true → CloseRow s o t →
     (o ≡ outcome.NotEnabled) × (t ≡ s)
-close_busy s outcome.ShutDown t busy row = absurd (closing_busy s.control.worker row.0 busy)
+close_busy s (outcome.ShutDown n) t busy row = absurd (closing_busy s.control.worker row.0 busy)
 close_busy s outcome.NotEnabled t busy row = (refl, row.1)
 close_busy s _ t busy row = absurd row
 
@@ -527,7 +527,7 @@ module _ {E : Type 0} (calls : Ghosts E) where
       ]
 
   -- what a stretch conserves, in numbers
-  conserves-count : (s : Machine E) (spans : List PlainSpanData) (sizes : List ℕ) (t : Machine E) →
+  pub conserves-count : (s : Machine E) (spans : List PlainSpanData) (sizes : List ℕ) (t : Machine E) →
       (c : Conserves calls s spans sizes t) →
       sum sizes + (length t.hand + length t.waiting) ≡ (length s.hand + length s.waiting) + length spans
   conserves-count s spans sizes t c =

@@ -139,7 +139,7 @@ finish_holds h s _ t row a = absurd row
 
 close_holds : (h : ℕ → List PlainSpanData) (s : Counts) (o : Outcome) (t : Counts) → CloseRow s o t →
     AreHeldIn h s.control.slots → AreHeldIn h t.control.slots
-close_holds h s outcome.ShutDown t row a =
+close_holds h s (outcome.ShutDown n) t row a =
     let p = closing_of s.control.worker in
     let before = frees h s.control.slots (slice_set s.control.slots p (slot.Answered (Ok tt))) p (slot.Answered (Ok tt))
     refl refl a in

@@ -258,7 +258,7 @@ closing_names p y worker.Finishing is e = cc
 closing_names p y worker.Gone is e = cc
 
 close_keeps : (s : Counts) (o : Outcome) (t : Counts) → CloseRow s o t → IsSound s → KeepsRequests s step.Close o t
-close_keeps s outcome.ShutDown t row sound = record {
+close_keeps s (outcome.ShutDown n) t row sound = record {
   each = λ p r waits.
       let q = closing_of s.control.worker in
       let cases = dropped_cases (sum_by (message_names p) s.control.messages)

@@ -1,5 +1,5 @@
 -- Behind a completed shutdown the worker of the batch queue is gone, and nothing is exported.
-use Rattle.std.proofs.Common.{◌≡◌, ◌∙◌, ap, sym, refl, zero, suc, true, false, List, [], ◌∷◌, ◌++◌, None, slice_get}
+use Rattle.std.proofs.Common.{◌≡◌, ◌∙◌, ap, sym, refl, zero, suc, ℕ, true, false, List, [], ◌∷◌, ◌++◌, None, length, slice_get}
 use Rattle.otel_batch.specs.Workers.{is_closing, is_gone}
 use Rattle.otel_batch.specs.MachineState.{Machine, Counts, counts}
 use Rattle.otel_batch.specs.SoundMachine.{IsSound}
@@ -88,7 +88,7 @@ subtract_gone s outcome.NotEnabled t gone row = rests_gone s t row.1 gone
 subtract_gone s _ t gone row = absurd row
 
 close_gone : (s : Counts) (o : Outcome) (t : Counts) → s.control.worker ≡ worker.Gone → CloseRow s o t → StaysGone o t
-close_gone s outcome.ShutDown t gone row =
+close_gone s (outcome.ShutDown n) t gone row =
     absurd (let at : is_closing s.control.worker ≡ false = rw gone refl in let closing = row.0 in cc)
 close_gone s outcome.NotEnabled t gone row = rests_gone s t row.1 gone
 close_gone s _ t gone row = absurd row
@@ -121,26 +121,26 @@ permitted_gone s step.Close o t gone row = close_gone s o t gone row
 permitted_gone s step.Finish o t gone row = finish_gone s o t gone row
 
 -- only the worker's last step completes a shutdown
-shut_down-closes : (s : Counts) (x : Step) (t : Counts) → Permitted s x outcome.ShutDown t → x ≡ step.Close
-shut_down-closes s (step.Offer p span) t row = absurd row
-shut_down-closes s (step.Send p) t row = absurd row
-shut_down-closes s (step.Undo p) t row = absurd row
-shut_down-closes s (step.Ask p) t row = absurd row
-shut_down-closes s (step.Post p) t row = absurd row
-shut_down-closes s (step.Reset p) t row = absurd row
-shut_down-closes s (step.RequestFlush p) t row = absurd row
-shut_down-closes s (step.RequestShutdown p) t row = absurd row
-shut_down-closes s (step.Collect p) t row = absurd row
-shut_down-closes s (step.PostResource resource) t row = absurd row
-shut_down-closes s step.Take t row = absurd row
-shut_down-closes s step.Tick t row = absurd row
-shut_down-closes s step.Clear t row = absurd row
-shut_down-closes s step.Load t row = absurd row
-shut_down-closes s step.Pull t row = absurd row
-shut_down-closes s step.HandOver t row = absurd row
-shut_down-closes s step.Subtract t row = absurd row
-shut_down-closes s step.Close t row = refl
-shut_down-closes s step.Finish t row = absurd row
+shut_down-closes : (s : Counts) (x : Step) (k : ℕ) (t : Counts) → Permitted s x (outcome.ShutDown k) t → x ≡ step.Close
+shut_down-closes s (step.Offer p span) k t row = absurd row
+shut_down-closes s (step.Send p) k t row = absurd row
+shut_down-closes s (step.Undo p) k t row = absurd row
+shut_down-closes s (step.Ask p) k t row = absurd row
+shut_down-closes s (step.Post p) k t row = absurd row
+shut_down-closes s (step.Reset p) k t row = absurd row
+shut_down-closes s (step.RequestFlush p) k t row = absurd row
+shut_down-closes s (step.RequestShutdown p) k t row = absurd row
+shut_down-closes s (step.Collect p) k t row = absurd row
+shut_down-closes s (step.PostResource resource) k t row = absurd row
+shut_down-closes s step.Take k t row = absurd row
+shut_down-closes s step.Tick k t row = absurd row
+shut_down-closes s step.Clear k t row = absurd row
+shut_down-closes s step.Load k t row = absurd row
+shut_down-closes s step.Pull k t row = absurd row
+shut_down-closes s step.HandOver k t row = absurd row
+shut_down-closes s step.Subtract k t row = absurd row
+shut_down-closes s step.Close k t row = refl
+shut_down-closes s step.Finish k t row = absurd row
 
 module _ {E : Type 0} (calls : Ghosts E) where
   -- a machine that is closed and whose worker is gone moves no span, and keeps its exporter
@@ -150,7 +150,7 @@ module _ {E : Type 0} (calls : Ghosts E) where
   moved_gone s step.Pull outcome.Pulled t gone closed row m = absurd (let at = row.0 in cc)
   moved_gone s step.HandOver (outcome.HandedOver k e) t gone closed row m = absurd (let at = row.0 in cc)
   moved_gone s step.Take outcome.TookResource t gone closed row m = absurd (let at = row.0 in cc)
-  moved_gone s step.Close outcome.ShutDown t gone closed row m =
+  moved_gone s step.Close (outcome.ShutDown n) t gone closed row m =
       absurd (let at : is_closing s.control.worker ≡ false = rw gone refl in let closing = row.0 in cc)
   moved_gone s _ _ t gone closed row m = m
 
@@ -202,24 +202,30 @@ module _ {E : Type 0} (calls : Ghosts E) where
         no_batch = rest.no_batch;
       }
 
-  -- a step that completes a shutdown changes no telling, and leaves the worker gone and the machine closed
-  closes : (s : Machine E) (x : Step) (o : Outcome) (t : Machine E) → o ≡ outcome.ShutDown → Stepped calls s x o t →
-      (calls.told t.exporter ≡ calls.told s.exporter) × (t.control.worker ≡ worker.Gone) × (t.control.closed ≡ true)
-  closes s x o t e took =
-      let row : Permitted (counts s) x outcome.ShutDown (counts t) = rw e at took.permitted in
-      let is : x ≡ step.Close = shut_down-closes (counts s) x (counts t) row in
-      let moved : Moved calls s step.Close outcome.ShutDown t = rw (e, is) at took.moved in
-      let closed : Permitted (counts s) step.Close outcome.ShutDown (counts t) = rw is at row in
-      (moved.told, ap (λ c. c.control.worker) closed.3, ap (λ c. c.control.closed) closed.3)
+  -- a step that completes a shutdown changes no telling, leaves the worker gone and the machine closed, and says how
+  -- many spans wait
+  pub closes : (s : Machine E) (x : Step) (o : Outcome) (k : ℕ) (t : Machine E) → o ≡ outcome.ShutDown k →
+      Stepped calls s x o t → (calls.told t.exporter ≡ calls.told s.exporter) × (t.control.worker ≡ worker.Gone)
+      × (t.control.closed ≡ true) × (length t.waiting ≡ k)
+  closes s x o k t e took =
+      let row : Permitted (counts s) x (outcome.ShutDown k) (counts t) = rw e at took.permitted in
+      let is : x ≡ step.Close = shut_down-closes (counts s) x k (counts t) row in
+      let moved : Moved calls s step.Close (outcome.ShutDown k) t = rw (e, is) at took.moved in
+      let closed : Permitted (counts s) step.Close (outcome.ShutDown k) (counts t) = rw is at row in (
+        moved.told,
+        ap (λ c. c.control.worker) closed.3,
+        ap (λ c. c.control.closed) closed.3,
+        ap length moved.waiting ∙ sym closed.4,
+      )
 
   -- nothing follows a shutdown in a run
   pub run-silent : (s : Machine E) (xs : List Step) (os : List Outcome) (t : Machine E) → Run calls s xs os t →
       SilentAfterShutdown calls s xs os t
-  run-silent s [] [] t run n e =
+  run-silent s [] [] t run n k e =
       absurd (let os : List Outcome = [] in let none : slice_get os n ≡ None = refl in cc)
-  run-silent s (x ∷ xs) (o ∷ os) t run zero e =
-      let is : o ≡ outcome.ShutDown = cc in
-      let closed = closes s x o run.0 is run.1 in
+  run-silent s (x ∷ xs) (o ∷ os) t run zero k e =
+      let is : o ≡ outcome.ShutDown k = cc in
+      let closed = closes s x o k run.0 is run.1 in
       let rest = gone_run run.0 xs os t closed.1 closed.2 run.2 in
       record {
         before = s;
@@ -233,8 +239,8 @@ module _ {E : Type 0} (calls : Ghosts E) where
         waiting = rest.keeps.waiting;
         no_batch = rest.no_batch;
       }
-  run-silent s (x ∷ xs) (o ∷ os) t run (suc n) e =
-      let later = run-silent run.0 xs os t run.2 n e in
+  run-silent s (x ∷ xs) (o ∷ os) t run (suc n) k e =
+      let later = run-silent run.0 xs os t run.2 n k e in
       record {
         before = later.before;
         shut = later.shut;
@@ -247,5 +253,5 @@ module _ {E : Type 0} (calls : Ghosts E) where
         waiting = later.waiting;
         no_batch = later.no_batch;
       }
-  run-silent s [] (o ∷ os) t run n e = absurd run
-  run-silent s (x ∷ xs) [] t run n e = absurd run
+  run-silent s [] (o ∷ os) t run n k e = absurd run
+  run-silent s (x ∷ xs) [] t run n k e = absurd run

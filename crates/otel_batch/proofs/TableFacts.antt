@@ -245,7 +245,7 @@ subtract_leaves s outcome.NotEnabled t row = leaves_by _ _ _ _ _ row.1 refl refl
 subtract_leaves s _ t row = absurd row
 
 close_leaves : (s : Counts) (o : Outcome) (t : Counts) → CloseRow s o t → Leaves step.Close o s t
-close_leaves s outcome.ShutDown t row = leaves_by _ _ _ _ _ row.3 refl refl refl
+close_leaves s (outcome.ShutDown n) t row = leaves_by _ _ _ _ _ row.3 refl refl refl
 close_leaves s outcome.NotEnabled t row = leaves_by _ _ _ _ _ row.1 refl refl refl
 close_leaves s _ t row = absurd row
 

@@ -162,7 +162,7 @@ closing_work worker.Finishing hand is = cc
 closing_work worker.Gone hand is = cc
 
 close_lessens : (s : Counts) (o : Outcome) (t : Counts) → CloseRow s o t → is_work o ≡ true → work_left t < work_left s
-close_lessens s outcome.ShutDown t row works =
+close_lessens s (outcome.ShutDown n) t row works =
     let has = closing_work s.control.worker s.hand row.0 in
     let to : t.control.worker ≡ worker.Gone = ap (λ c. c.control.worker) row.3 in
     let none : length t.control.messages ≡ 0 = ap (λ c. length c.control.messages) row.3 in

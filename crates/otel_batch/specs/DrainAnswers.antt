@@ -17,10 +17,15 @@ use Rattle.otel_batch.specs.declared.machine.step.Outcome.TheVariants as outcome
 use Rattle.otel_batch.specs.declared.machine.step.Step.{Step}
 use Rattle.otel_export.specs.declared.trace.export.SpanExporter.{Ghosts}
 
+-- the first of two errors
+abbrev pub first_error : (before error : Option OTelSdkError) → Option OTelSdkError
+first_error None error = error
+first_error (Some e) error = Some e
+
 -- the error of a drain behind one more outcome
 abbrev pub error_after : Option OTelSdkError → Outcome → Option OTelSdkError
-error_after before (outcome.HandedOver k error) = error
-error_after before outcome.NoMemory = Some OutOfMemory
+error_after before (outcome.HandedOver k error) = first_error before error
+error_after before outcome.NoMemory = first_error before (Some OutOfMemory)
 error_after before _ = before
 
 -- the error of a drain behind more outcomes
@@ -28,8 +33,8 @@ abbrev pub error_behind : Option OTelSdkError → List Outcome → Option OTelSd
 error_behind before [] = before
 error_behind before (o ∷ os) = error_behind (error_after before o) os
 
--- the error of a drain with these outcomes behind its load: that of the exporter's last answer, or that there was no
--- memory for a batch behind that; else none
+-- the error of a drain with these outcomes behind its load: the first of those of the exporter's answers and that there
+-- was no memory for a batch; else none
 abbrev pub drain_error : List Outcome → Option OTelSdkError
 drain_error os = error_behind None os
 
@@ -41,12 +46,16 @@ finds_no_memory (_ ∷ os) = finds_no_memory os
 
 -- who learns the answer of a drain with this reason by its finish, whose outcome had this error: where nobody waits,
 -- the outcome has that of the answer; who waits for a flush has the answer; a shutdown goes on whatever it is, or where
--- there was no memory its producer has that for an answer
+-- there was no memory its producer has that for an answer, whatever failed before, and the machine stays open
 abbrev pub GivesAnswer : Why → Bool → Result (Unit {0}) OTelSdkError → Option OTelSdkError → Counts → Type 0
 GivesAnswer why.Asked refused answer e t = e ≡ result_err answer
 GivesAnswer why.Timer refused answer e t = e ≡ result_err answer
 GivesAnswer (why.Flush p) refused answer e t = (e ≡ None) × (slot_at t p ≡ Some (slot.Answered answer))
-GivesAnswer (why.Shutdown p) true answer e t = (e ≡ None) × (slot_at t p ≡ Some (slot.Answered (Err OutOfMemory)))
+GivesAnswer (why.Shutdown p) true answer e t =
+    (e ≡ None)
+    × (slot_at t p ≡ Some (slot.Answered (Err OutOfMemory)))
+    × (t.control.worker ≡ worker.Ready)
+    × (t.control.closed ≡ false)
 GivesAnswer (why.Shutdown p) false answer e t = (e ≡ None) × (t.control.worker ≡ worker.Closing p)
 
 module _ {E : Type 0} (calls : Ghosts E) where

@@ -18,7 +18,7 @@ use Rattle.otel_batch.specs.declared.machine.step.Step.TheVariants as step
 -- control queue
 abbrev pub AnswersTo : Counts → Step → Outcome → ℕ → Type 0
 AnswersTo s step.Finish (outcome.Finished e) p = worker_names p s.control.why s.control.worker ≡ 1
-AnswersTo s step.Close outcome.ShutDown p =
+AnswersTo s step.Close (outcome.ShutDown n) p =
     (worker_names p s.control.why s.control.worker ≡ 1) ⊎ (0 < sum_by (message_names p) s.control.messages)
 AnswersTo s _ _ p = ⊥
 

@@ -12,6 +12,7 @@ pub mod MachineRun
 pub mod KnownRequests
 pub mod Conservation
 pub mod ShutdownSilence
+pub mod StrandedSpans
 pub mod Drains
 pub mod WorkLeft
 pub mod DrainAnswers

@@ -1,5 +1,6 @@
 -- The state of a batch queue with its producers, its worker and its exporter.
-use Rattle.std.specs.Prelude.{ℕ, ◌-◌, ◌==◌, Bool, false, min, List, [], length, replicate, Result, Ok, if◌then◌else◌}
+use Rattle.std.specs.Prelude.{ℕ, ◌-◌, ◌==◌, Bool, false, min, List, [], length, replicate, Option, Some, None}
+use Rattle.std.specs.Prelude.{Result, Ok, if◌then◌else◌}
 use Rattle.otel_base.specs.declared.error.OTelSdkError.{OTelSdkError}
 use Rattle.otel_export.specs.PlainSpanData.{PlainSpanData}
 use Rattle.otel_batch.specs.PlainBatchConfig.{PlainBatchConfig}
@@ -31,7 +32,7 @@ pub record Control : Type 0 where
   -- how many spans were accounted for when the drain was loaded, and how many of them it has handed over
   pub target : ℕ
   pub done : ℕ
-  -- the last answer of the exporter in this drain
+  -- the first error of this drain, else the exporter's answer
   pub result : Result (Unit {0}) OTelSdkError
   -- the drain found no memory
   pub refused : Bool
@@ -60,6 +61,10 @@ counts m = record { control = m.control; hand = length m.hand; waiting = length 
 abbrev pub batch_limit : (queue_size batch_size target done : ℕ) → ℕ
 batch_limit queue_size batch_size target done =
     if batch_size == 0 then queue_size else min batch_size (target - done)
+
+-- how many spans a shutdown left behind: those that wait in a machine that is closed
+abbrev pub stranded_in : {E : Type 0} → Machine E → Option ℕ
+stranded_in m = if m.control.closed then Some (length m.waiting) else None
 
 -- the limit of the next batch
 abbrev pub limit_of : Control → ℕ

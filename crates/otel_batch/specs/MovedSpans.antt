@@ -6,7 +6,7 @@ use Rattle.otel_export.specs.Telling.{Tells}
 use Rattle.otel_batch.specs.Slots.{held}
 use Rattle.otel_batch.specs.Messages.{resource_in}
 use Rattle.otel_batch.specs.MachineState.{Machine}
-use Rattle.otel_batch.specs.PermittedStep.{IsErrorOf}
+use Rattle.otel_batch.specs.PermittedStep.{IsErrorOf, first_failure}
 use Rattle.otel_batch.specs.declared.machine.step.Outcome.{Outcome}
 use Rattle.otel_batch.specs.declared.machine.step.Outcome.TheVariants as outcome
 use Rattle.otel_batch.specs.declared.machine.step.Step.{Step}
@@ -32,11 +32,12 @@ pub record PullsSpan {E : Type 0} (s t : Machine E) : Type 0 where
 
 module _ {E : Type 0} (calls : Ghosts E) where
   -- the exporter is handed the hand as a batch. This is the error of its answer, and its answer is the drain's result
+  -- unless a batch failed before
   pub record ExportsHand (s : Machine E) (error : Option OTelSdkError) (t : Machine E) : Type 0 where
     pub answer : Result (Unit {0}) OTelSdkError
     pub gives : calls.export_gives s.exporter s.hand answer t.exporter
     pub says : IsErrorOf answer error
-    pub kept : t.control.result ≡ answer
+    pub kept : t.control.result ≡ first_failure s.control.result answer
     pub told : Tells (calls.told s.exporter) (s.hand ∷ []) (calls.told t.exporter)
     pub hand : t.hand ≡ []
     pub waiting : t.waiting ≡ s.waiting
@@ -63,5 +64,5 @@ module _ {E : Type 0} (calls : Ghosts E) where
   Moved s step.Pull outcome.Pulled t = PullsSpan s t
   Moved s step.HandOver (outcome.HandedOver k e) t = ExportsHand s e t
   Moved s step.Take outcome.TookResource t = PassesResource s t
-  Moved s step.Close outcome.ShutDown t = ShutsExporter s t
+  Moved s step.Close (outcome.ShutDown n) t = ShutsExporter s t
   Moved s _ _ t = Keeps s t

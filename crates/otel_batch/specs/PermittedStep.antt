@@ -256,8 +256,14 @@ LoadRow s (outcome.Loaded n) t =
 LoadRow s outcome.NotEnabled t = (is_loading s.control.worker ≡ false) × (t ≡ s)
 LoadRow s _ t = ⊥
 
+-- a drain's result behind one more answer: the first error stays
+abbrev pub first_failure : (before answer : Result (Unit {0}) OTelSdkError) → Result (Unit {0}) OTelSdkError
+first_failure (Ok u) answer = answer
+first_failure (Err e) answer = Err e
+
 -- one span goes from the queue into the hand. Where none waits, the hand is a batch unless it is empty. For want of
--- memory for a whole batch, which only an empty hand can meet, nothing is taken, and the drain is refused
+-- memory for a whole batch, which only an empty hand can meet, nothing is taken, and the drain is refused, which is its
+-- result unless a batch failed before
 abbrev pub PullRow : Counts → Outcome → Counts → Type 0
 PullRow s outcome.Empty t =
     (s.control.worker ≡ worker.Pulling)
@@ -270,7 +276,7 @@ PullRow s outcome.NoMemory t =
     × (t ≡ record s {
       control = record s.control {
         refused = true;
-        result = Err OutOfMemory;
+        result = first_failure s.control.result (Err OutOfMemory);
         worker = worker.Finishing;
       };
     })
@@ -296,12 +302,18 @@ IsErrorOf (Err (InternalFailure reason)) (Some (InternalFailure text)) = string_
 IsErrorOf (Err OutOfMemory) (Some OutOfMemory) = Unit {0}
 IsErrorOf _ _ = ⊥
 
--- the hand is exported, and the drain's result is the exporter's answer
+-- the drain's result behind an export whose answer had this error: an error that was there before, else that answer
+abbrev pub KeepsFailure : (before : Result (Unit {0}) OTelSdkError) → Option OTelSdkError
+    → (after : Result (Unit {0}) OTelSdkError) → Type 0
+KeepsFailure (Ok u) error after = IsErrorOf after error
+KeepsFailure (Err e) error after = after ≡ Err e
+
+-- the hand is exported, and the drain's result is the exporter's answer unless a batch failed before
 abbrev pub HandOverRow : Counts → Outcome → Counts → Type 0
 HandOverRow s (outcome.HandedOver k e) t =
     (s.control.worker ≡ worker.Handing)
     × (k ≡ s.hand)
-    × IsErrorOf t.control.result e
+    × KeepsFailure s.control.result e t.control.result
     × (t ≡ record {
       hand = 0;
       waiting = s.waiting;
@@ -358,9 +370,9 @@ IsDropped zero old new = new ≡ old
 IsDropped (suc n) old new = SaysDropped new
 
 -- the one who asked for the shutdown has Ok, whoever else has a request in the control queue has an error, there are as
--- many producers as before, and the control queue is empty
+-- many producers as before, the control queue is empty, and the outcome says how many spans still wait
 abbrev pub CloseRow : Counts → Outcome → Counts → Type 0
-CloseRow s outcome.ShutDown t =
+CloseRow s (outcome.ShutDown n) t =
     (is_closing s.control.worker ≡ true)
     × ((p : ℕ) → IsDropped (sum_by (message_names p) s.control.messages)
     (slice_get (slice_set s.control.slots (closing_of s.control.worker) (slot.Answered (Ok tt))) p)
@@ -374,6 +386,7 @@ CloseRow s outcome.ShutDown t =
         worker = worker.Gone;
       };
     })
+    × (n ≡ s.waiting)
 CloseRow s outcome.NotEnabled t = (is_closing s.control.worker ≡ false) × (t ≡ s)
 CloseRow s _ t = ⊥
 

@@ -35,4 +35,4 @@ module _ {E : Type 0} (calls : Ghosts E) where
   -- so it is behind every step that completed a shutdown
   abbrev pub SilentAfterShutdown : Machine E → List Step → List Outcome → Machine E → Type 0
   SilentAfterShutdown s xs os t =
-      (n : ℕ) → slice_get os n ≡ Some outcome.ShutDown → IsSilentBehind n s xs os t
+      (n k : ℕ) → slice_get os n ≡ Some (outcome.ShutDown k) → IsSilentBehind n s xs os t

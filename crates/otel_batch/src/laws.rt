@@ -4,7 +4,7 @@
 //! `BatchMachine::run` promises.
 
 ghost use Rattle.std.specs.Prelude.{◌≡◌, ℕ, ◌<◌, ◌≤◌, ◌+◌, List, [], ◌∷◌, ◌++◌, true, length, slice_get};
-ghost use Rattle.otel_batch.specs.MachineState.{Machine, Counts, counts};
+ghost use Rattle.otel_batch.specs.MachineState.{Machine, Counts, counts, stranded_in};
 ghost use Rattle.otel_batch.specs.Slots.{slot_waits};
 ghost use Rattle.otel_batch.specs.Workers.{is_gone};
 ghost use Rattle.otel_batch.specs.SoundMachine.{IsSound};
@@ -14,6 +14,7 @@ ghost use Rattle.otel_batch.specs.MachineRun.{holds_at};
 ghost use Rattle.otel_batch.specs.Conservation.{Conserves, IsFirst, LosesNoSpan};
 ghost use Rattle.otel_batch.specs.KnownRequests.{KnowsRequests};
 ghost use Rattle.otel_batch.specs.ShutdownSilence.{SilentAfterShutdown, StaysSilent};
+ghost use Rattle.otel_batch.specs.StrandedSpans.{AllAreCounted, CountsStranded};
 ghost use Rattle.otel_batch.specs.Drains.{BoundsDrains, CompletesDrains, FitBatches, is_workers, largest_batch};
 ghost use Rattle.otel_batch.specs.DrainAnswers.{AnswersDrains};
 ghost use Rattle.otel_batch.specs.WorkLeft.{is_work, work_added, work_left, work_steps};
@@ -72,8 +73,8 @@ pub fn runs_complete_drains<E: SpanExporter>()
         → IsSound (counts s) → Run E.SpanExporter s xs os t → CompletesDrains E.SpanExporter s xs os t }
 {}
 
-/// A finished drain's answer is what its outcomes say: the error of its last batch, or that there was no memory behind
-/// it, or Ok. Who asked for a flush has it.
+/// A finished drain's answer is what its outcomes say: the first error among those of its batches and that there was no
+/// memory for one, or Ok. Who asked for a flush has it. A shutdown that found no memory leaves the machine open.
 pub fn runs_answer_drains<E: SpanExporter>()
     ensures { (s t : Machine E) (xs : List Step) (os : List Outcome)
         → IsSound (counts s) → Run E.SpanExporter s xs os t → AnswersDrains E.SpanExporter s xs os t }
@@ -129,4 +130,15 @@ pub fn runs_are_silent_behind_a_shutdown<E: SpanExporter>()
         → Run E.SpanExporter s xs os t → SilentAfterShutdown E.SpanExporter s xs os t }
     ensures before { (s t : Machine E) (xs : List Step) (os : List Outcome)
         → IsSound (counts s) → Run E.SpanExporter s xs os t → s.control.closed ≡ true → StaysSilent s os t }
+{}
+
+/// A shutdown says how many spans it leaves waiting: what was in hand or waited and what a run accepted is what was
+/// handed over, and those. A machine that is closed keeps their number.
+pub fn runs_count_stranded_spans<E: SpanExporter>()
+    ensures any { (s t : Machine E) (xs : List Step) (os : List Outcome)
+        → Run E.SpanExporter s xs os t → CountsStranded s xs os t }
+    ensures new { (s t : Machine E) (xs : List Step) (os : List Outcome)
+        → IsFirst s → Run E.SpanExporter s xs os t → AllAreCounted xs os }
+    ensures stays { (s t : Machine E) (xs : List Step) (os : List Outcome) → IsSound (counts s)
+        → Run E.SpanExporter s xs os t → s.control.closed ≡ true → stranded_in t ≡ stranded_in s }
 {}

@@ -17,10 +17,11 @@ use std::alloc::{AllocError, Global};
 use std::fmt::Write;
 use std::time::Duration;
 
-/// An exporter that writes the names of each batch. It answers `Timeout` where it is slow, and else fails at one call.
+/// An exporter that writes the names of each batch. It answers `Timeout` as long as it is slow, and fails at one call.
 #[derive(Drop)]
 struct Writing {
-    is_slow: bool,
+    /// How many of its calls are too slow, the first ones.
+    slow_calls: u64,
     /// The number of the call that fails, and how many were made.
     failing: u64,
     calls: u64,
@@ -29,10 +30,10 @@ struct Writing {
 
 impl Writing {
     fn answer(&mut self, timeout: Duration) -> OTelSdkResult {
-        if self.is_slow {
+        self.calls = self.calls.saturating_add(1);
+        if self.calls <= self.slow_calls {
             return Err(OTelSdkError::Timeout(timeout));
         }
-        self.calls = self.calls.saturating_add(1);
         if self.calls == self.failing {
             let reason = String::new(*self.told.allocator());
             return Err(OTelSdkError::InternalFailure(reason));
@@ -95,11 +96,17 @@ pub fn answer(alloc: Global, row: &Row, out: &mut String) -> Result<bool, AllocE
     Ok(true)
 }
 
-/// The exporter of a name: `slow`, `failing:N`, which fails at its call of this number, or another, which never fails.
+/// The exporter of a name: `slow`, `slow-once`, `failing:N`, which fails at its call of this number, or another, which
+/// never fails.
 fn exporter_named(alloc: Global, name: &str) -> Writing {
     let (_, number) = name.split_once(':').unwrap_or((name, ""));
+    let slow_calls = match name {
+        "slow" => u64::MAX,
+        "slow-once" => 1,
+        _ => 0,
+    };
     Writing {
-        is_slow: name == "slow",
+        slow_calls,
         failing: number_in(number),
         calls: 0,
         told: String::new(alloc),
@@ -129,6 +136,7 @@ fn answer_call(
         "flush" => put_said(processor.force_flush(), out),
         "shutdown" => put_said(processor.shutdown(), out),
         "worker" => put_said(processor.run_worker(), out),
+        "stranded" => put_stranded(processor.stranded(), out),
         "due" => put_said(processor.drain_due(Moment(number_in(rest))), out),
         _ => out.push_str("no such call, "),
     }
@@ -160,6 +168,13 @@ fn set_resources(
 
 fn put_taken(taken: Result<(), AllocError>, out: &mut String) -> Result<(), AllocError> {
     out.push_str(if taken.is_ok() { "ok, " } else { "no memory, " })
+}
+
+fn put_stranded(stranded: Option<usize>, out: &mut String) -> Result<(), AllocError> {
+    match stranded {
+        Some(count) => write!(out, "stranded {count}, "),
+        None => out.push_str("open, "),
+    }
 }
 
 fn put_said(said: OTelSdkResult, out: &mut String) -> Result<(), AllocError> {

@@ -53,7 +53,7 @@ outcome_text hand (outcomes.HandedOver count _) = codes "handed over " ++ decima
 outcome_text hand outcomes.Subtracted = codes "subtracted"
 outcome_text hand (outcomes.Finished None) = codes "finished"
 outcome_text hand (outcomes.Finished (Some error)) = codes "finished " ++ error_text error
-outcome_text hand outcomes.ShutDown = codes "shut down"
+outcome_text hand (outcomes.ShutDown count) = codes "shut down " ++ decimal count
 outcome_text hand outcomes.NotEnabled = codes "not enabled"
 
 -- the batches that an exporter kept, each behind a space, or a dash

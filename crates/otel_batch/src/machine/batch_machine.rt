@@ -94,7 +94,7 @@ impl<E> Model for BatchMachine<E> {
 
 impl<E> BatchMachine<E> {
     ghost use Rattle.std.specs.Prelude.{option_copied};
-    ghost use Rattle.otel_batch.specs.MachineState.{counts};
+    ghost use Rattle.otel_batch.specs.MachineState.{counts, stranded_in};
     ghost use Rattle.otel_batch.specs.SoundMachine.{IsSound};
 
     /// How many spans wait.
@@ -160,6 +160,16 @@ impl<E> BatchMachine<E> {
         self.closed
     }
 
+    /// How many spans a completed shutdown left waiting, for good. None before.
+    pub fn stranded(&self) -> Option<usize>
+        ensures { result ≡ stranded_in self.now }
+    {
+        if self.closed {
+            return Some(self.waiting.len());
+        }
+        None
+    }
+
     pub fn exporter(&self) -> &E
         ensures { result.now ≡ self.now.exporter }
     {
@@ -180,6 +190,7 @@ impl<E: SpanExporter> BatchMachine<E> {
     ghost use Rattle.otel_batch.specs.MachineRun.{Run, accepted, added, batch_sizes, counted_up, full_sends, holds_at};
     ghost use Rattle.otel_batch.specs.Conservation.{Conserves, IsFirst, LosesNoSpan};
     ghost use Rattle.otel_batch.specs.ShutdownSilence.{SilentAfterShutdown, StaysSilent};
+    ghost use Rattle.otel_batch.specs.StrandedSpans.{AllAreCounted, CountsStranded};
     ghost use Rattle.otel_batch.specs.KeptRequests.{KeepsRequests};
     ghost use Rattle.otel_batch.specs.KnownRequests.{KnowsRequests};
     ghost use Rattle.otel_batch.specs.GoingOn.{GoesOn};
@@ -268,7 +279,7 @@ impl<E: SpanExporter> BatchMachine<E> {
         // A finished drain that found memory handed over all that waited at its load.
         ensures drains { OnOk result (CompletesDrains E.SpanExporter self.old steps.items
             (added outcomes.old.items outcomes.new.items) self.new) }
-        // Its answer is what its outcomes say.
+        // Its answer is the first error that its outcomes tell. A shutdown refused for memory leaves the machine open.
         ensures answers { OnOk result (AnswersDrains E.SpanExporter self.old steps.items
             (added outcomes.old.items outcomes.new.items) self.new) }
         // It takes a bounded number of the worker's steps.
@@ -290,6 +301,11 @@ impl<E: SpanExporter> BatchMachine<E> {
         // So it is where the machine was closed before.
         ensures stays_silent { self.old.control.closed ≡ true → OnOk result
             (StaysSilent self.old (added outcomes.old.items outcomes.new.items) self.new) }
+        // A shutdown says how many spans it leaves waiting: what was accepted is what was handed over, and those.
+        ensures stranded { OnOk result (CountsStranded self.old steps.items
+            (added outcomes.old.items outcomes.new.items) self.new) }
+        ensures counted { IsFirst self.old → OnOk result
+            (AllAreCounted steps.items (added outcomes.old.items outcomes.new.items)) }
         ensures sound { OnOk result (IsSound (counts self.new)) }
         ensures err { IfErr result (λ e. (e.0 ≡ steps)
             × (self.new ≡ self.old)

@@ -85,7 +85,8 @@ pub enum Outcome {
     Subtracted,
     /// The drain has ended, with this error where nobody waits for it.
     Finished(Option<OTelSdkError>),
-    ShutDown,
+    /// The machine is shut down, and so many spans still wait.
+    ShutDown(usize),
     /// The step is not enabled, or names no producer. Nothing changed.
     NotEnabled,
 }

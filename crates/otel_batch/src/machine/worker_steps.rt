@@ -3,13 +3,14 @@
 //! exporter itself takes is its own.
 
 ghost use Rattle.std.specs.Prelude.{◌≡◌};
+ghost use Rattle.otel_batch.specs.PermittedStep.{first_failure};
 
 use crate::machine::batch_machine::BatchMachine;
 use crate::machine::queue::{batch_limit, has_room};
 use crate::machine::slots::{drop_requests, error_of, set_slot};
 use crate::machine::state::{Message, Slot, Why, Worker};
 use crate::machine::step::Outcome;
-use otel_base::error::OTelSdkError;
+use otel_base::error::{OTelSdkError, OTelSdkResult};
 use otel_export::trace::SpanExporter;
 use std::mem;
 
@@ -115,7 +116,7 @@ impl<E: SpanExporter> BatchMachine<E> {
         }
         if !has_room(&mut self.hand, limit) {
             self.refused = true;
-            self.result = Err(OTelSdkError::OutOfMemory);
+            keep_failure(&mut self.result, Err(OTelSdkError::OutOfMemory));
             self.worker = Worker::Finishing;
             return Outcome::NoMemory;
         }
@@ -138,9 +139,10 @@ impl<E: SpanExporter> BatchMachine<E> {
         };
         let batch = mem::replace(&mut self.hand, Vec::new(self.alloc));
         let count = batch.len();
-        self.result = self.exporter.export(batch);
+        let answer = self.exporter.export(batch);
+        let error = error_of(&answer, self.alloc);
+        keep_failure(&mut self.result, answer);
         self.worker = Worker::Subtracting(count);
-        let error = error_of(&self.result, self.alloc);
         Outcome::HandedOver(count, error)
     }
 
@@ -208,6 +210,15 @@ impl<E: SpanExporter> BatchMachine<E> {
         drop_requests(&mut self.messages, &mut self.slots, self.alloc);
         self.closed = true;
         self.worker = Worker::Gone;
-        Outcome::ShutDown
+        Outcome::ShutDown(self.waiting.len())
+    }
+}
+
+/// What a drain answers so far, behind one more answer: the first error stays.
+fn keep_failure(so_far: &mut OTelSdkResult, answer: OTelSdkResult)
+    ensures { so_far.new ≡ first_failure so_far.old answer }
+{
+    if so_far.is_ok() {
+        *so_far = answer;
     }
 }

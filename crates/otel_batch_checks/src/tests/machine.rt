@@ -1,6 +1,7 @@
 //! The machine by itself: exporters of a caller's own, counts of steps and random lists. Scripts of the steps before an
 //! exporter in memory are those of the program's mode `steps`, in `otel_session_checks`.
 
+mod failures;
 mod random;
 mod refusals;
 mod script;
@@ -99,9 +100,9 @@ impl SpanExporter for Alternating {
     }
 }
 
-/// The exporter's last answer is a drain's result, also that of a flush. A request that waits at a close is dropped.
+/// The exporter's first error is a drain's result, also that of a flush. A request that waits at a close is dropped.
 #[test]
-fn the_last_of_two_answers_is_the_result(rt: HostRuntime) -> Result<(), Fail> {
+fn the_first_failure_of_a_drain_is_its_result(rt: HostRuntime) -> Result<(), Fail> {
     let alloc = rt.alloc();
     let exporter = ExporterBox::Custom(Box::new(alloc, Alternating { fails: false })?);
     let mut queue = BatchMachine::new(alloc, exporter, sizes(3, 1), 2)?;
@@ -123,7 +124,7 @@ fn the_last_of_two_answers_is_the_result(rt: HostRuntime) -> Result<(), Fail> {
         ("pull", "pulled"),
         ("hand", "handed over 1"),
         ("subtract", "subtracted"),
-        ("finish", "finished"),
+        ("finish", "finished Operation timed out after 1s"),
         ("offer 0 c", "counted 1"),
         ("send 0", "accepted"),
         ("ask 0", "may post"),
@@ -147,7 +148,7 @@ fn the_last_of_two_answers_is_the_result(rt: HostRuntime) -> Result<(), Fail> {
         ("take", "took shutdown 1"),
         ("load", "loaded 0"),
         ("finish", "finished"),
-        ("close", "shut down"),
+        ("close", "shut down 0"),
         ("collect 1", "collected ok"),
         (
             "collect 0",
@@ -200,7 +201,7 @@ fn the_answer_of_an_exporter_is_the_result_of_a_drain(rt: HostRuntime) -> Result
         ("take", "took shutdown 0"),
         ("load", "loaded 0"),
         ("finish", "finished"),
-        ("close", "shut down"),
+        ("close", "shut down 0"),
         ("collect 0", "collected ok"),
     ];
     assert_eq!(rt; first_difference(alloc, &mut queue, &script)?.as_str(), "");

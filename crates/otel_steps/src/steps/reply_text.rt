@@ -47,7 +47,7 @@ pub fn push_outcome(
         Outcome::Subtracted => text.push_str("subtracted"),
         Outcome::Finished(None) => text.push_str("finished"),
         Outcome::Finished(Some(error)) => write!(text, "finished {error}"),
-        Outcome::ShutDown => text.push_str("shut down"),
+        Outcome::ShutDown(count) => write!(text, "shut down {count}"),
         Outcome::NotEnabled => text.push_str("not enabled"),
     }
 }

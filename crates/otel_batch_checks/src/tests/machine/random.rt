@@ -31,6 +31,8 @@ struct Ledger {
     /// How many sends met a full queue.
     full: u64,
     closed: bool,
+    /// How many spans the close left waiting.
+    stranded: Option<usize>,
     /// How many spans are accounted for, and how many of them the last batch had.
     counter: u128,
     batch: usize,
@@ -63,6 +65,7 @@ impl Ledger {
             handed: 0,
             full: 0,
             closed: false,
+            stranded: None,
             counter: 0,
             batch: 0,
             target: 0,
@@ -153,6 +156,21 @@ impl Ledger {
         self.wrong = self.wrong || self.handed < self.owed;
     }
 
+    /// The machine is closed, and so many spans wait.
+    fn note_close(&mut self, count: usize) {
+        self.wrong = self.wrong || count != self.waiting();
+        self.closed = true;
+        self.stranded = Some(count);
+    }
+
+    /// Whether all that was accepted was handed over or left behind, where the machine is closed.
+    fn all_are_counted(&self) -> bool {
+        match self.stranded {
+            Some(count) => self.accepted.len() == self.handed.saturating_add(count),
+            None => true,
+        }
+    }
+
     fn note_worker(&mut self, outcome: &Outcome) {
         match outcome {
             Outcome::Loaded(target) => {
@@ -178,7 +196,7 @@ impl Ledger {
             }
             Outcome::Finished(_) => self.note_finish(),
             Outcome::NoMemory => self.wrong = true,
-            Outcome::ShutDown => self.closed = true,
+            Outcome::ShutDown(count) => self.note_close(*count),
             _ => {}
         }
     }
@@ -303,7 +321,9 @@ fn agrees(
             && queue.waiting_len() == ledger.waiting()
             && queue.counter() == ledger.counter
             && queue.dropped_count() == ledger.full
-            && queue.is_closed() == ledger.closed,
+            && queue.is_closed() == ledger.closed
+            && queue.stranded() == ledger.stranded
+            && ledger.all_are_counted(),
     )
 }
 

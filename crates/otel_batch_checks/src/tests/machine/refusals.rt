@@ -133,7 +133,7 @@ fn a_shutdown_refused_its_room_leaves_the_machine_open(rt: HostRuntime) -> Resul
     let alloc = rt.alloc();
     let mut queue = machine(alloc, 4, 2, 2)?;
     drain_to_its_finish(alloc, &mut queue, ("shutdown 1", "took shutdown 1"))?;
-    let script = [("close", "shut down"), ("collect 1", "collected ok")];
+    let script = [("close", "shut down 0"), ("collect 1", "collected ok")];
     take_all(alloc, &mut queue, &script)?;
     let spans = "waiting [] hand [] told [a,b] [c]";
     shows(alloc, &queue, spans, "counter 0 dropped 0 closed")

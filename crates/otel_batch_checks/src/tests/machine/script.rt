@@ -130,7 +130,6 @@ fn bare_text(outcome: &Outcome) -> &'static str {
         Outcome::NoMemory => "no memory",
         Outcome::Subtracted => "subtracted",
         Outcome::Finished(None) => "finished",
-        Outcome::ShutDown => "shut down",
         _ => "not enabled",
     }
 }
@@ -147,6 +146,7 @@ pub fn text_of(alloc: Global, outcome: &Outcome) -> Result<String, AllocError> {
         Outcome::HandedOver(k, None) => format!(in alloc; "handed over {k}"),
         Outcome::HandedOver(k, Some(error)) => format!(in alloc; "handed over {k} {error}"),
         Outcome::Finished(Some(error)) => format!(in alloc; "finished {error}"),
+        Outcome::ShutDown(n) => format!(in alloc; "shut down {n}"),
         _ => String::from_str(alloc, bare_text(outcome)),
     }
 }

@@ -77,7 +77,7 @@ fn a_shutdown_shuts_the_exporter_down_once(rt: HostRuntime) -> Result<(), Fail> 
         queue.step(step);
     }
     assert_eq!(rt; queue.exporter().asked, 0);
-    assert_eq!(rt; queue.step(Step::Close), Outcome::ShutDown);
+    assert_eq!(rt; queue.step(Step::Close), Outcome::ShutDown(0));
     assert_eq!(rt; queue.step(Step::Close), Outcome::NotEnabled);
     assert_eq!(rt; queue.exporter().asked, 1);
     assert_eq!(rt; queue.exporter().seconds, 5);

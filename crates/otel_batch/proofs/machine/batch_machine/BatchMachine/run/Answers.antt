@@ -8,6 +8,7 @@ use Rattle.otel_batch.proofs.Knowing.{run-knows, gone-waits}
 use Rattle.otel_batch.proofs.Draining.{run-completes}
 use Rattle.otel_batch.proofs.Bounding.{run-bounds, run-fits}
 use Rattle.otel_batch.proofs.Answering.{run-answers}
+use Rattle.otel_batch.proofs.Stranding.{run-counts, run-strands}
 use Rattle.otel_batch.proofs.machine.batch_machine.BatchMachine.run.Goals as goal
 
 pub loop-step-preserved : goal.loop-step-preserved
@@ -82,6 +83,16 @@ pub returns-clause-stays_silent : goal.returns-clause-stays_silent
 returns-clause-stays_silent g c = λ closed.
     run-stays_silent g.E.SpanExporter c.args.self.now c.args.steps.items _ c.loop-step.self c.is_sound.ensures
     (returns-clause-ran g c) closed
+
+pub returns-clause-stranded : goal.returns-clause-stranded
+returns-clause-stranded g c =
+    run-strands g.E.SpanExporter c.args.self.now c.args.steps.items _ c.loop-step.self
+    (returns-clause-ran g c)
+
+pub returns-clause-counted : goal.returns-clause-counted
+returns-clause-counted g c = λ first.
+    run-counts g.E.SpanExporter c.args.self.now c.args.steps.items _ c.loop-step.self first
+    (returns-clause-ran g c)
 
 pub returns-clause-none_waits : goal.returns-clause-none_waits
 returns-clause-none_waits g c = λ gone p. gone-waits _ c.is_sound-2.ensures gone p
