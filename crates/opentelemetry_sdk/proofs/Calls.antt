@@ -35,6 +35,7 @@ use Rattle.otel_batch.specs.declared.machine.step.Step.{Step}
 use Rattle.otel_batch.specs.declared.machine.step.Step.TheVariants as step
 use Rattle.otel_export.specs.declared.trace.export.SpanExporter.{Ghosts}
 use Rattle.otel_batch.proofs.Runs.{run-sound}
+use Rattle.otel_batch.proofs.Silence.{run-stays_silent}
 use Rattle.opentelemetry_sdk.specs.WorkedOff.{CollectsAnswer, WorksOff, is_idle_worker, next_of_worker}
 use Rattle.opentelemetry_sdk.specs.BatchProcessor.{IsAtRest, Requests, queue_telling}
 use Rattle.opentelemetry_sdk.proofs.Going.{goes_runs}
@@ -66,22 +67,33 @@ over_is c e = either (is_answered (slice_get c.slots 0)) (is_idle_worker c) (don
 module _ {E : Type 0} (calls : Ghosts E) where
   -- a run of the worker where the producer is idle
   pub idle_worked : (s : Machine E) (os : List Outcome) (t : Machine E) → IsSound (counts s) → IsSound (counts t) →
-      s.control.slots ≡ slot.Idle ∷ [] → s.hand ≡ [] → WorksOff calls next_of_worker s os t →
-      RestsAgain calls s t × (t.control.closed ≡ s.control.closed)
-  idle_worked s os t sound after idle empty works =
+      s.control.slots ≡ slot.Idle ∷ [] → s.hand ≡ [] → (s.control.closed ≡ true → s.waiting ≡ []) →
+      WorksOff calls next_of_worker s os t → RestsAgain calls s t × (t.control.closed ≡ s.control.closed)
+  idle_worked s os t sound after idle empty none works =
       let left = goes_idle calls s works.steps os t sound idle works.goes in
       let slots : t.control.slots ≡ slot.Idle ∷ [] = left.slots ∙ idle in
       let rests = at_rest slots (over_is t.control works.over) in
       let emptied = rest_empty t after rests in
       let on = goes_hands_on calls s works.steps os t works.goes in (
         record {
-          rest = record { slots = slots; worker = rests; hand = emptied };
+          rest = record {
+            slots = slots;
+            worker = rests;
+            hand = emptied;
+            left = λ shut. still (sym left.closed ∙ shut);
+          };
           heard = hands_on_told calls s t empty emptied on;
           dropped = on.dropped;
         },
         left.closed,
       )
     where
+      still : s.control.closed ≡ true → t.waiting ≡ []
+      still shut =
+          let stays = run-stays_silent calls s works.steps os t sound
+          (goes_runs calls next_of_worker s works.steps os t works.goes) shut in
+          stays.waiting ∙ none shut
+
       at_rest : t.control.slots ≡ slot.Idle ∷ [] →
           (is_answered (slice_get t.control.slots 0) ≡ true) ⊎ (is_idle_worker t.control ≡ true) →
           is_ready t.control.worker || is_gone t.control.worker ≡ true
@@ -246,7 +258,15 @@ module _ {E : Type 0} (calls : Ghosts E) where
       let heard = hands_on_told calls posted m (at.keeps.hand ∙ empty) emptied on in
       record {
         again = record {
-          rest = record { slots = slots; worker = rests; hand = collects.moved.hand ∙ emptied };
+          rest = record {
+            slots = slots;
+            worker = rests;
+            hand = collects.moved.hand ∙ emptied;
+            left = λ shut.
+                let gone : is_gone m.control.worker ≡ true =
+                sym after.awaited.gone ∙ (sym (ap (λ c. c.control.closed) row.1) ∙ shut) in
+                collects.moved.waiting ∙ none_left m.waiting (is_done.gone gone);
+          };
           heard = rw (← same_heard s posted at.keeps, same_heard m t collects.moved) heard;
           dropped = ap (λ c. c.control.dropped) row.1 ∙ (on.dropped ∙ at.dropped);
         };
@@ -337,7 +357,16 @@ module _ {E : Type 0} (calls : Ghosts E) where
     slots = ends.idle;
     worker = rw ends.leaves.worker rest.worker;
     hand = ends.leaves.hand ∙ rest.hand;
+    left = λ shut.
+        let before : s.control.closed ≡ true = sym ends.leaves.closed ∙ shut in
+        still s.control.closed before (is_sampled span) refl ends.goes ∙ rest.left before;
   }
+    where
+      still : (closed : Bool) → closed ≡ true → (sampled : Bool) → is_sampled span ≡ sampled →
+          (is_sampled span ≡ true → SpanGoes closed s span t) → t.waiting ≡ s.waiting
+      still true shut true is goes = (goes is).waiting
+      still true shut false is goes = (ends.skips is).waiting
+      still false shut sampled is goes = absurd (cc)
 
 -- the case of a test whose value is known
 where_true : (A B : Type 0) (b : Bool) → b ≡ true → A → MatchBool b A B
@@ -374,7 +403,8 @@ module _ {E : Type 0} (calls : Ghosts E) where
       WorksOff calls next_of_worker m os t → RestsAgain calls s t × (t.control.closed ≡ s.control.closed)
   ticked_rests s m os t rest sound after row keeps works =
       let worked = idle_worked calls m os t sound after (ap (λ c. c.control.slots) row.1 ∙ rest.slots)
-      (keeps.hand ∙ rest.hand) works in
+      (keeps.hand ∙ rest.hand)
+      (λ shut. keeps.waiting ∙ rest.left (sym (ap (λ c. c.control.closed) row.1) ∙ shut)) works in
       let again = worked.0 in (
         record {
           rest = again.rest;
@@ -485,25 +515,30 @@ module _ {E : Type 0} (calls : Ghosts E) where
           queue_telling calls t ≡ queue_telling calls s
       told dropped closed = rw (keeps.exporter, keeps.waiting, dropped, closed) refl
 
-      rests : t.control.slots ≡ s.control.slots → t.control.worker ≡ s.control.worker → IsAtRest t
-      rests slots worker = record {
+      rests : t.control.slots ≡ s.control.slots → t.control.worker ≡ s.control.worker →
+          t.control.closed ≡ s.control.closed → IsAtRest t
+      rests slots worker closed = record {
         slots = slots ∙ rest.slots;
         worker = rw worker rest.worker;
         hand = keeps.hand ∙ rest.hand;
+        left = λ shut. keeps.waiting ∙ rest.left (sym closed ∙ shut);
       }
 
       by_outcome : (k : Outcome) → ResourceRow (counts s) resource k (counts t) →
           (queue_telling calls t ≡ queue_telling calls s) × IsAtRest t
       by_outcome outcome.Closed row = (
         told (ap (λ c. c.control.dropped) row.1) (ap (λ c. c.control.closed) row.1),
-        rests (ap (λ c. c.control.slots) row.1) (ap (λ c. c.control.worker) row.1),
+        rests (ap (λ c. c.control.slots) row.1) (ap (λ c. c.control.worker) row.1)
+            (ap (λ c. c.control.closed) row.1),
       )
       by_outcome outcome.Full row = (
         told (ap (λ c. c.control.dropped) row.2) (ap (λ c. c.control.closed) row.2),
-        rests (ap (λ c. c.control.slots) row.2) (ap (λ c. c.control.worker) row.2),
+        rests (ap (λ c. c.control.slots) row.2) (ap (λ c. c.control.worker) row.2)
+            (ap (λ c. c.control.closed) row.2),
       )
       by_outcome outcome.Posted row = (
         told (ap (λ c. c.control.dropped) row.2) (ap (λ c. c.control.closed) row.2),
-        rests (ap (λ c. c.control.slots) row.2) (ap (λ c. c.control.worker) row.2),
+        rests (ap (λ c. c.control.slots) row.2) (ap (λ c. c.control.worker) row.2)
+            (ap (λ c. c.control.closed) row.2),
       )
       by_outcome _ row = absurd row

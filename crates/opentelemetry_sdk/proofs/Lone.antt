@@ -1,5 +1,5 @@
 -- A worker whose only producer takes no step hands over all that waits, or finds no memory.
-use Rattle.std.proofs.Common.{◌≡◌, ◌∙◌, inl, inr, refl, ap, sym, ℕ, ◌+◌, ◌||◌, Bool, true, false, List, [], ◌∷◌, Option, Some, Result, Ok, Err, OnOk, length, slice_get, slice_set, nat_lt, if◌then◌else◌, arith}
+use Rattle.std.proofs.Common.{◌≡◌, ◌∙◌, inl, inr, refl, ap, sym, ℕ, ◌+◌, ◌||◌, Bool, true, false, List, [], ◌∷◌, Option, Some, Result, Ok, Err, OnOk, is_ok, length, slice_get, slice_set, nat_lt, if◌then◌else◌, arith}
 use Rattle.std.proofs.lemmas.Bool.Decides.{eqb_tells}
 use Rattle.std.proofs.Math.ListN.{length-set}
 use Rattle.circular_buffer.proofs.Places.{slice_get-set_same, slice_get-set_other}
@@ -9,7 +9,7 @@ use Rattle.otel_batch.specs.Slots.{is_answered}
 use Rattle.otel_batch.specs.Workers.{is_ready, is_gone, is_draining, is_finishing, is_closing, worker_counts}
 use Rattle.otel_batch.specs.MachineState.{Machine, Counts, counts, limit_of}
 use Rattle.otel_batch.specs.SoundMachine.{IsSound}
-use Rattle.otel_batch.specs.PermittedStep.{Permitted, TakeRow, ClearRow, LoadRow, PullRow, HandOverRow, SubtractRow, FinishRow, FinishRowFor, CloseRow, finished, put_slot, slot_at}
+use Rattle.otel_batch.specs.PermittedStep.{Permitted, TakeRow, ClearRow, LoadRow, PullRow, HandOverRow, SubtractRow, FinishRow, FinishRowFor, CloseRow, finished, first_failure, put_slot, slot_at}
 use Rattle.otel_batch.specs.GoingOn.{next_step}
 use Rattle.otel_batch.specs.declared.machine.state.Slot.TheVariants as slot
 use Rattle.otel_batch.specs.declared.machine.state.Worker.{Worker}
@@ -24,15 +24,16 @@ use Rattle.otel_batch.proofs.Draining.{ltb_tells}
 use Rattle.opentelemetry_sdk.specs.WorkedOff.{GoesBy, next_of_worker}
 use Rattle.opentelemetry_sdk.proofs.Worker.{has_next, next_permitted}
 
--- behind a drain nothing waits, or it found no memory and that is its result
+-- behind a drain nothing waits, or it found no memory and its result is an error
 abbrev pub EndsDrain : Bool → Counts → Type 0
-EndsDrain true s = s.control.result ≡ Err OutOfMemory
+EndsDrain true s = is_ok s.control.result ≡ false
 EndsDrain false s = s.waiting ≡ 0
 
--- the producer has an answer: the worker is at rest, and where the answer is Ok nothing waits
+-- the producer has an answer: the worker is at rest, and where the answer is Ok or the worker gone nothing waits
 pub record IsDone (answer : Result (Unit {0}) OTelSdkError) (s : Counts) : Type 0 where
   pub rests : is_ready s.control.worker || is_gone s.control.worker ≡ true
   pub empty : OnOk answer (s.waiting ≡ 0)
+  pub gone : is_gone s.control.worker ≡ true → s.waiting ≡ 0
 
 -- how a queue stands whose only producer takes no step
 pub record IsAlone (s : Counts) : Type 0 where
@@ -171,7 +172,12 @@ pull_alone s outcome.Empty t a n row =
           alone_draining s t a n same (rw is refl) (rw is refl) (refused ∙ drains.0, rw row.2 drains.1)
     ]
 pull_alone s outcome.NoMemory t a n row =
-    alone_finishing s t a n (ap (λ c. c.control.slots) row.3) (rw row.3 refl) (rw row.3 refl)
+    alone_finishing s t a n (ap (λ c. c.control.slots) row.3) (rw row.3 refl)
+    (rw row.3 (still_failed s.control.result))
+  where
+    still_failed : (r : Result (Unit {0}) OTelSdkError) → is_ok (first_failure r (Err OutOfMemory)) ≡ false
+    still_failed (Ok u) = refl
+    still_failed (Err e) = refl
 pull_alone s outcome.Pulled t a n row =
     let same : t.control.slots ≡ s.control.slots = ap (λ c. c.control.slots) row.2 in
     let drains = a.draining (rw row.0 refl) in
@@ -249,7 +255,11 @@ answers_alone s t p answer a n is empty =
             rw (← own.1) (slice_get-set_same s.control.slots 0 (slot.Answered answer) (omega (arith, a.one))) in
             let both : Some (slot.Answered given) ≡ Some (slot.Answered answer) = sym has ∙ (ap (λ l. slice_get l 0) slots ∙ at) in
             let same : given ≡ answer = cc in
-            record { rests = rw ready refl; empty = rw (same, waiting) empty }
+            record {
+              rests = rw ready refl;
+              empty = rw (same, waiting) empty;
+              gone = λ h. absurd (let no : is_gone t.control.worker ≡ false = rw ready refl in cc);
+            }
         | inr other ↦
             let at : slice_get (slice_set s.control.slots p (slot.Answered answer)) 0 ≡ slice_get s.control.slots 0 =
             slice_get-set_other s.control.slots p 0 (slot.Answered answer) other.1 in
@@ -263,7 +273,7 @@ drained_ok : (b : Bool) (s : Counts) (answer : Result (Unit {0}) OTelSdkError) �
 drained_ok false s (Ok u) e ends = ends
 drained_ok false s (Err x) e ends = tt
 drained_ok true s (Err x) e ends = tt
-drained_ok true s (Ok u) e ends = absurd (let h : Ok u ≡ Err OutOfMemory = sym e ∙ ends in cc)
+drained_ok true s (Ok u) e ends = absurd (let ok : is_ok s.control.result ≡ true = rw e refl in cc)
 
 finish_for : (y : Why) (s : Counts) (e : Option OTelSdkError) (t : Counts) → IsAlone s →
     is_answered (slot_at s 0) ≡ false → EndsDrain s.control.refused s → FinishRowFor y s e t → IsAlone t
@@ -292,7 +302,7 @@ all_ok (Ok u) n e = e
 all_ok (Err x) n e = tt
 
 close_alone : (s : Counts) (o : Outcome) (t : Counts) → IsAlone s → CloseRow s o t → IsAlone t
-close_alone s outcome.ShutDown t a row =
+close_alone s (outcome.ShutDown n) t a row =
     let gone : t.control.worker ≡ worker.Gone = ap (λ c. c.control.worker) row.3 in
     let none : t.waiting ≡ 0 = ap (λ c. c.waiting) row.3 ∙ a.closing row.0 in
     record {
@@ -300,7 +310,7 @@ close_alone s outcome.ShutDown t a row =
       draining = λ h. absurd (let no : is_draining t.control.worker ≡ false = rw gone refl in cc);
       finishing = λ h. absurd (let no : is_finishing t.control.worker ≡ false = rw gone refl in cc);
       closing = λ h. absurd (let no : is_closing t.control.worker ≡ false = rw gone refl in cc);
-      answered = λ answer has. record { rests = rw gone refl; empty = all_ok answer t.waiting none };
+      answered = λ answer has. record { rests = rw gone refl; empty = all_ok answer t.waiting none; gone = λ _. none };
     }
 close_alone s outcome.NotEnabled t a row = rw row.1 a
 close_alone s _ t a row = absurd row

@@ -45,11 +45,12 @@ pub record BatchProcessorBuilder (E : Type 0) : Type 0 where
   pub config : PlainBatchConfig
 
 -- between two calls the producer has no span, waits for nothing and has no answer, the worker is ready or gone, and
--- there is nothing in its hand
+-- there is nothing in its hand. A completed shutdown has left no span behind
 pub record IsAtRest {E : Type 0} (m : Machine E) : Type 0 where
   pub slots : m.control.slots ≡ slot.Idle ∷ []
   pub worker : is_ready m.control.worker || is_gone m.control.worker ≡ true
   pub hand : m.hand ≡ []
+  pub left : m.control.closed ≡ true → m.waiting ≡ []
 
 module _ {E : Type 0} (calls : Ghosts E) where
   -- what a queue with its exporter tells: the spans of the exporter's batches, followed by those that wait

@@ -33,7 +33,7 @@ module _ {E : Type 0} (calls : Ghosts E) (keeps : E → List (List PlainSpanData
   moved_appends s step.HandOver (outcome.HandedOver k e) t m =
       appends.exports s.exporter s.hand m.answer t.exporter m.gives
   moved_appends s step.Take outcome.TookResource t m = appends.passes s.exporter _ t.exporter m.gives
-  moved_appends s step.Close outcome.ShutDown t m =
+  moved_appends s step.Close (outcome.ShutDown n) t m =
       appends.shuts s.exporter 5_000_000_000 m.answer t.exporter m.gives
   moved_appends s _ _ t m = stays s t m.exporter
 

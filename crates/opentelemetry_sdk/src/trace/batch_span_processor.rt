@@ -2,11 +2,11 @@
 //! in a queue of bounded length; whoever holds the processor has its worker hand batches to the exporter, by
 //! `force_flush`, `run_worker`, or `drain_due` with the time. There is no thread and no clock.
 
-ghost use Rattle.std.specs.Prelude.{◌≡◌, ◌+◌, false, IfOk, nat_le};
+ghost use Rattle.std.specs.Prelude.{◌≡◌, ◌+◌, false, IfOk, IfSome, nat_le};
 ghost use Rattle.std.specs.Duration.{as_nanos};
 ghost use Rattle.otel_pipeline.specs.ProcessorTelling.{TakesNothing};
 ghost use Rattle.otel_batch.specs.SoundMachine.{IsSound};
-ghost use Rattle.otel_batch.specs.MachineState.{counts};
+ghost use Rattle.otel_batch.specs.MachineState.{counts, stranded_in};
 ghost use Rattle.otel_batch.specs.PlainBatchConfig.{default_batch_config};
 ghost use Rattle.opentelemetry_sdk.specs.BatchProcessor.{IsAtRest, batch_telling};
 
@@ -63,6 +63,14 @@ impl<E> BatchSpanProcessor<E> {
         self.machine.dropped_count()
     }
 
+    /// How many spans a completed shutdown left waiting, which is none. None before.
+    pub fn stranded(&self) -> Option<usize>
+        ensures value { result ≡ stranded_in self.now.machine }
+        ensures none_left { IfSome result (λ count. count ≡ 0) }
+    {
+        self.machine.stranded()
+    }
+
     pub fn exporter(&self) -> &E
         ensures { result.now ≡ self.now.machine.exporter }
     {
@@ -112,8 +120,9 @@ impl<E: SpanExporter> BatchSpanProcessor<E> {
     }
 
     /// The worker works until it has nothing to do: it hands over what was asked for, and passes resources on. Spans
-    /// below a full batch go on waiting. The answer is the exporter's last one in the last drain, or `OutOfMemory` where
-    /// that found no memory for a batch, Ok where nothing was drained, and `AlreadyShutdown` behind a completed shutdown.
+    /// below a full batch go on waiting. The answer is the exporter's first error in the last drain, or `OutOfMemory`
+    /// where that found no memory for a batch, Ok where nothing was drained, and `AlreadyShutdown` behind a completed
+    /// shutdown.
     pub fn run_worker(&mut self) -> OTelSdkResult
         ensures gives { RunsWorker E.SpanExporter self.old result self.new }
         // No span is told anew.

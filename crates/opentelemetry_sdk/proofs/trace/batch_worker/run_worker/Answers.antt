@@ -9,7 +9,7 @@ left : (g : _) (c : goal.After-is_sound-2 g) →
 left g c =
     let worked = c.work_off_messages-answer.ensures in
     idle_worked g.E.SpanExporter c.args.machine.now worked.outcomes c.work_off_messages-answer.new.machine
-    c.is_sound.ensures c.is_sound-2.ensures c.requires.slots c.requires.hand worked.works
+    c.is_sound.ensures c.is_sound-2.ensures c.requires.slots c.requires.hand c.requires.left worked.works
 
 pub returns-clause-told : goal.returns-clause-told
 returns-clause-told g c =
