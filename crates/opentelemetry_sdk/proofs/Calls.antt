@@ -22,7 +22,7 @@ use Rattle.otel_batch.specs.SoundMachine.{IsSound}
 use Rattle.otel_batch.specs.MachineRun.{Stepped}
 use Rattle.otel_batch.specs.MovedSpans.{Keeps, Moved}
 use Rattle.otel_batch.specs.KnownRequests.{step_of}
-use Rattle.otel_batch.specs.PermittedStep.{Permitted, CollectRow, RequestRow, ResourceRow, TickRow, is_crowded, slot_at}
+use Rattle.otel_batch.specs.PermittedStep.{Permitted, CollectRow, IsErrorOf, RequestRow, ResourceRow, TickRow, is_crowded, slot_at}
 use Rattle.otel_batch.specs.declared.machine.state.Message.{Message}
 use Rattle.otel_batch.specs.declared.machine.state.Request.{Request}
 use Rattle.otel_batch.specs.declared.machine.state.Request.TheVariants as request
@@ -34,13 +34,15 @@ use Rattle.otel_batch.specs.declared.machine.step.Outcome.TheVariants as outcome
 use Rattle.otel_batch.specs.declared.machine.step.Step.{Step}
 use Rattle.otel_batch.specs.declared.machine.step.Step.TheVariants as step
 use Rattle.otel_export.specs.declared.trace.export.SpanExporter.{Ghosts}
+use Rattle.otel_batch.proofs.Draining.{is_busy}
 use Rattle.otel_batch.proofs.Runs.{run-sound}
 use Rattle.otel_batch.proofs.Silence.{run-stays_silent}
-use Rattle.opentelemetry_sdk.specs.WorkedOff.{CollectsAnswer, WorksOff, is_idle_worker, next_of_worker}
+use Rattle.opentelemetry_sdk.specs.WorkedOff.{CollectsAnswer, WorksOff, is_idle_worker, next_of_worker, own_error}
 use Rattle.opentelemetry_sdk.specs.BatchProcessor.{IsAtRest, Requests, queue_telling}
 use Rattle.opentelemetry_sdk.proofs.Going.{goes_runs}
 use Rattle.opentelemetry_sdk.proofs.Ending.{EndsIdle, QueuesNone, SpanGoes, one_slot}
 use Rattle.opentelemetry_sdk.proofs.Lone.{IsAlone, goes_alone}
+use Rattle.opentelemetry_sdk.proofs.Telling.{TellsError, goes_tells}
 use Rattle.opentelemetry_sdk.proofs.Shutting.{goes_open, message_shuts, no_request, shutdowns}
 use Rattle.opentelemetry_sdk.proofs.Resting.{goes_hands_on, goes_idle, goes_on_waiting, hands_on_told, heard_in, idle_rests, rest_empty}
 
@@ -153,6 +155,7 @@ has_answer s sound waits idle = by_worker s.control.worker refl (sound.awaited.e
 -- the machine behind a request: the producer waits, and nothing else that is seen here has changed
 pub record Posted {E : Type 0} (asked : Request) (s posted : Machine E) : Type 0 where
   pub waits : slot_at (counts posted) 0 ≡ Some (slot.Waiting asked)
+  pub ready : posted.control.worker ≡ worker.Ready
   pub alone : IsAlone (counts posted)
   pub keeps : Keeps s posted
   pub dropped : posted.control.dropped ≡ s.control.dropped
@@ -186,6 +189,7 @@ posted_is asked s posted sound rest row keeps =
     ap (λ c. c.control.messages) row.3 in
     record {
       waits = rw slots refl;
+      ready = worker;
       alone = record {
         one = rw slots refl;
         draining = λ h. absurd (let no : is_draining posted.control.worker ≡ false = rw worker refl in cc);
@@ -429,6 +433,26 @@ module _ {E : Type 0} (calls : Ghosts E) where
       let last : Stepped calls worked (step.Collect 0) (outcome.Collected answer) t = rw collects.collects.2 collects.collects.1 in
       answered_rests calls asked s m worked t collects.outcomes answer at rest.hand steps.sound after works last
 
+  -- who asked for a flush has the answer of its own drain
+  flush_says : (asked : Request) (s m : Machine E) (answer : Result (Unit {0}) OTelSdkError) (t : Machine E) →
+      IsSound (counts s) → IsAtRest s → Stepped calls s (step_of asked 0) outcome.Requested m →
+      (collected : CollectsAnswer calls m answer t) → asked ≡ request.Flush →
+      IsErrorOf answer (own_error None collected.outcomes)
+  flush_says asked s m answer t sound rest steps collected is =
+      let at = posted_is asked s m sound rest
+      (request_row asked (counts s) outcome.Requested (counts m) steps.permitted)
+      (request_keeps asked s outcome.Requested m steps.moved) in
+      let begins : TellsError None (counts m) = record {
+        result = λ h. absurd (let no : is_busy m.control.worker ≡ false = rw at.ready refl in cc);
+        answered = λ given has. absurd (let no : Some (slot.Waiting asked) ≡ Some (slot.Answered given) = sym at.waits ∙ has in cc);
+      } in
+      let works = collected.works in
+      let tells = goes_tells calls None m works.steps collected.outcomes collected.answered steps.sound at.alone
+      (at.flush is) begins works.goes in
+      let last : Stepped calls collected.answered (step.Collect 0) (outcome.Collected answer) t =
+      rw collected.collects.2 collected.collects.1 in
+      tells.answered answer last.permitted.0
+
   -- a request behind a shutdown changes nothing
   pub request_closed : (asked : Request) (s t : Machine E) → Stepped calls s (step_of asked 0) outcome.Closed t →
       (s.control.closed ≡ true) × (t ≡ s)
@@ -473,7 +497,12 @@ module _ {E : Type 0} (calls : Ghosts E) where
       let left = requested_rests asked s m answer t sound rest steps collected in
       record {
         gives = where_false _ _ s.control.closed row.1 (where_false _ _ (is_crowded (counts s)) row.2
-            (record { posted = m; posts = (m, steps, refl); answers = collected }));
+            (record {
+              posted = m;
+              posts = (m, steps, refl);
+              answers = collected;
+              says = flush_says asked s m answer t sound rest steps collected;
+            }));
         told = tells_nothing calls s t left.again (λ _. ap not row.1);
         emptied = left.emptied;
         is_open = left.flush;

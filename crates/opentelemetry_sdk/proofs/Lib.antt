@@ -5,4 +5,5 @@ pub mod Ending
 pub mod Lone
 pub mod Shutting
 pub mod Resting
+pub mod Telling
 pub mod Calls

@@ -316,7 +316,7 @@ close_alone s outcome.NotEnabled t a row = rw row.1 a
 close_alone s _ t a row = absurd row
 
 -- the worker's next step
-next_alone : (w : Worker) (s : Counts) (o : Outcome) (t : Counts) → IsSound s → IsAlone s →
+pub next_alone : (w : Worker) (s : Counts) (o : Outcome) (t : Counts) → IsSound s → IsAlone s →
     is_answered (slot_at s 0) ≡ false → Permitted s (next_step w) o t → IsAlone t
 next_alone worker.Ready s o t sound a n row = take_alone s o t a n row
 next_alone worker.Clearing s o t sound a n row = clear_alone s o t a n row

@@ -182,7 +182,7 @@ finish_stays s outcome.NotEnabled t n row = same_state s t n row.1
 finish_stays s _ t n row = absurd row
 
 -- the worker's next step
-next_stays : (w : Worker) (s : Counts) (o : Outcome) (t : Counts) → s.control.worker ≡ w → shutdowns s ≡ 0 →
+pub next_stays : (w : Worker) (s : Counts) (o : Outcome) (t : Counts) → s.control.worker ≡ w → shutdowns s ≡ 0 →
     Permitted s (next_step w) o t → StaysOpen s t
 next_stays worker.Ready s o t is n row = take_stays s o t n row
 next_stays worker.Clearing s o t is n row = clear_stays s o t n row

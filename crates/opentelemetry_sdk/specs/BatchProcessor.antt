@@ -13,16 +13,17 @@ use Rattle.otel_pipeline.specs.Provider.{IsInternalFailure}
 use Rattle.otel_batch.specs.PlainBatchConfig.{PlainBatchConfig}
 use Rattle.otel_batch.specs.Workers.{is_ready, is_gone}
 use Rattle.otel_batch.specs.MachineState.{Machine, counts, first_machine}
-use Rattle.otel_batch.specs.PermittedStep.{is_crowded}
+use Rattle.otel_batch.specs.PermittedStep.{IsErrorOf, is_crowded}
 use Rattle.otel_batch.specs.KnownRequests.{step_of}
 use Rattle.otel_batch.specs.MachineRun.{Run}
 use Rattle.otel_batch.specs.declared.machine.state.Request.{Request}
+use Rattle.otel_batch.specs.declared.machine.state.Request.TheVariants as request
 use Rattle.otel_batch.specs.declared.machine.state.Slot.TheVariants as slot
 use Rattle.otel_batch.specs.declared.machine.step.Outcome.{Outcome}
 use Rattle.otel_batch.specs.declared.machine.step.Outcome.TheVariants as outcome
 use Rattle.otel_batch.specs.declared.machine.step.Step.TheVariants as step
 use Rattle.otel_export.specs.declared.trace.export.SpanExporter.{Ghosts}
-use Rattle.opentelemetry_sdk.specs.WorkedOff.{CollectsAnswer, TicksAndWorks, WorkerWorks, WorksOff, next_of_producer}
+use Rattle.opentelemetry_sdk.specs.WorkedOff.{CollectsAnswer, TicksAndWorks, WorkerWorks, WorksOff, next_of_producer, own_error}
 
 -- a batch processor: its queue, the time between two drains by the timer in nanoseconds, and when the timer was started
 -- last, if it was
@@ -73,12 +74,14 @@ module _ {E : Type 0} (calls : Ghosts E) where
     pub works : WorksOff calls next_of_producer holding outcomes t
     pub exporter : t.exporter ≡ s.exporter
 
-  -- a request that is carried out: it is posted, the worker works until it is answered, and the answer is collected
+  -- a request that is carried out: it is posted, the worker works until it is answered, and the answer is collected.
+  -- That of a flush is the first error of its own drain, which is the last, but for the text of a failure
   pub record AnswersRequest (asked : Request) (s : Machine E) (answer : Result (Unit {0}) OTelSdkError)
       (t : Machine E) : Type 0 where
     pub posted : Machine E
     pub posts : Run calls s (step_of asked 0 ∷ []) (outcome.Requested ∷ []) posted
     pub answers : CollectsAnswer calls posted answer t
+    pub says : asked ≡ request.Flush → IsErrorOf answer (own_error None answers.outcomes)
 
   -- a request: an error that changes nothing behind a completed shutdown or where the control queue is full, and else
   -- carried out

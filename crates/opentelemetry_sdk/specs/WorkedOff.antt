@@ -9,6 +9,7 @@ use Rattle.otel_batch.specs.Workers.{is_ready, is_gone}
 use Rattle.otel_batch.specs.MachineState.{Control, Machine}
 use Rattle.otel_batch.specs.GoingOn.{next_step}
 use Rattle.otel_batch.specs.MachineRun.{Run, Stepped}
+use Rattle.otel_batch.specs.DrainAnswers.{error_after}
 use Rattle.otel_batch.specs.declared.machine.state.Slot.{Slot}
 use Rattle.otel_batch.specs.declared.machine.state.Slot.TheVariants as slot
 use Rattle.otel_batch.specs.declared.machine.step.Outcome.{Outcome}
@@ -44,6 +45,16 @@ abbrev pub last_error : Option OTelSdkError → List Outcome → Option OTelSdkE
 last_error before [] = before
 last_error before (outcome.Finished error ∷ os) = last_error error os
 last_error before (_ ∷ os) = last_error before os
+
+-- the error of a drain behind one more outcome, where a load begins the next drain
+abbrev pub error_next : Option OTelSdkError → Outcome → Option OTelSdkError
+error_next before (outcome.Loaded target) = None
+error_next before o = error_after before o
+
+-- the first error of the last drain that these outcomes loaded; with none this one
+abbrev pub own_error : Option OTelSdkError → List Outcome → Option OTelSdkError
+own_error before [] = before
+own_error before (o ∷ os) = own_error (error_next before o) os
 
 module _ {E : Type 0} (calls : Ghosts E) where
   -- a run in which each step is the next one of the state before it

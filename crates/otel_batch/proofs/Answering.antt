@@ -53,14 +53,14 @@ error_has (InternalFailure reason) is = is
 error_has OutOfMemory is = is
 
 -- a result that keeps the first error has the first of the errors
-kept_error : (before after : Result (Unit {0}) OTelSdkError) (error more : Option OTelSdkError) → IsErrorOf before error →
+pub kept_error : (before after : Result (Unit {0}) OTelSdkError) (error more : Option OTelSdkError) → IsErrorOf before error →
     KeepsFailure before more after → IsErrorOf after (first_error error more)
 kept_error (Ok u) after None more is kept = kept
 kept_error (Ok u) after (Some e) more is kept = absurd is
 kept_error (Err e) after (Some f) more is kept = rw kept is
 kept_error (Err e) after None more is kept = absurd (error_has e is)
 
-refusal_kept : (before : Result (Unit {0}) OTelSdkError) →
+pub refusal_kept : (before : Result (Unit {0}) OTelSdkError) →
     KeepsFailure before (Some OutOfMemory) (first_failure before (Err OutOfMemory))
 refusal_kept (Ok u) = tt
 refusal_kept (Err e) = refl
