@@ -1,12 +1,12 @@
 -- Loops over processors: one more was asked, and the others are as they were.
 use Rattle.std.proofs.Common.{◌≡◌, ℕ, ◌+◌, ◌<◌, true, false, List, [], ◌∷◌, ◌++◌, Result, Ok, Err, refl, sym, ◌∙◌, ap, subst, length, take, drop, get_or, map, arith, add-zero, zero, suc, replicate, length-append}
-use Rattle.std.specs.Result.{is_err}
+use Rattle.std.specs.Result.{is_err, result_and}
 use Rattle.std.proofs.Math.ListN.{set}
 use Rattle.std.proofs.Math.Seq.{take-append_seam}
 use Rattle.std.proofs.lemmas.List.{take_all, take_more, take_more_set, drop-set-lt, get_or-drop, drop-drop, length-drop, length-set}
 use Rattle.std.proofs.lemmas.Slice.{drop-append-drop}
 use Rattle.opentelemetry.specs.Plain.{PlainContext}
-use Rattle.otel_pipeline.specs.Each.{Each, AskedAll, error_count}
+use Rattle.otel_pipeline.specs.Each.{Each, AskedAll, AskedFirst, error_count, first_failure}
 use Rattle.otel_pipeline.specs.SpanHistory.{PlainSpan}
 use Rattle.otel_pipeline.specs.Starting.{PassesThrough, TakesPart}
 use Rattle.otel_pipeline.specs.declared.trace.span_processor.SpanProcessor.{Ghosts}
@@ -114,3 +114,20 @@ asked_last {P} {T} {E} G init front last n m d q r whole size asked h e =
     let init_is : take (last + 1) init ≡ init = take_all (last + 1) init (omega arith) in
     let now_is : take (last + 1) (set now last q) ≡ set now last q = take_all (last + 1) (set now last q) (omega (arith, length-set now last q)) in
     subst (λ (l : List P). AskedAll G init l m) now_is (subst (λ (l : List P). AskedAll G l (take (last + 1) (set now last q)) m) init_is step)
+
+-- one more answer: the first error stays the first
+first_failure-push : {E : Type 0} (rs : List (Result (Unit {0}) E)) (r : Result (Unit {0}) E) → first_failure (rs ++ r ∷ []) ≡ result_and (first_failure rs) r
+first_failure-push [] (Ok _) = refl
+first_failure-push [] (Err _) = refl
+first_failure-push (Ok _ ∷ rs) r = first_failure-push rs r
+first_failure-push (Err _ ∷ rs) r = refl
+
+-- one more was asked, and the answer is the first error so far
+pub first_next : {P E : Type 0} (G : P → Result (Unit {0}) E → P → Type 0) (init now : List P) (i : ℕ) (d q : P) (answer r said : Result (Unit {0}) E)
+    → i < length init → length now ≡ length init → drop i now ≡ drop i init → AskedFirst G (take i init) (take i now) answer → G (get_or now i d) r q → said ≡ result_and answer r
+    → AskedFirst G (take (i + 1) init) (take (i + 1) (set now i q)) said
+first_next G init now i d q answer r said short same rest (rs, first, each) h e =
+    let asked : G (get_or init i d) r q = subst (λ x. G x r q) (at_front init now i d rest) h in
+    let answered = first_failure-push rs r ∙ ap (λ x. result_and x r) first ∙ sym e in
+    rw (take_more init i d short, take_more_set now i q (omega arith))
+    (rs ++ r ∷ [], answered, Each-push G (take i init) rs (take i now) each asked)

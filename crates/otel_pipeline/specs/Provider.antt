@@ -1,12 +1,14 @@
--- What contracts see of a provider, and what a shutdown does to it.
-use Rattle.std.specs.Prelude.{◌≡◌, ℕ, ◌↔◌, Bool, true, List, Result, IsOk, IfErr, OnOk}
+-- What contracts see of a provider, what a flush and a shutdown do to it, and what its close reports.
+use Rattle.std.specs.Prelude.{◌≡◌, ℕ, ◌↔◌, Bool, true, List, Result, IsOk, IfErr, OnOk, sum_by, unwrap_or}
 use Rattle.otel_base.specs.declared.error.OTelSdkError.{OTelSdkError}
 use Rattle.otel_base.specs.declared.error.OTelSdkError.TheVariants as errors
 use Rattle.otel_base.specs.declared.trace.span_limit.SpanLimits.{SpanLimits}
 use Rattle.otel_pipeline.specs.ProcessorTelling.{TakesNothing}
-use Rattle.otel_pipeline.specs.Each.{AskedAll}
+use Rattle.otel_pipeline.specs.Each.{AskedAll, AskedFirst}
+use Rattle.otel_pipeline.specs.declared.trace.close_report.CloseReport.{CloseReport}
 use Rattle.otel_pipeline.specs.declared.trace.span_processor.SpanProcessor.{Ghosts}
 use Rattle.otel_pipeline.specs.declared.trace.drain_due.DrainDue as timing
+use Rattle.otel_pipeline.specs.declared.trace.leaves_spans.LeavesSpans as leaving
 
 -- a provider: its processors, what each start asks and is handed, and whether it is shut
 pub record ProviderState (P S G : Type 0) : Type 0 where
@@ -20,6 +22,13 @@ pub record ProviderState (P S G : Type 0) : Type 0 where
 abbrev pub IsInternalFailure : OTelSdkError → Type 0
 IsInternalFailure (errors.InternalFailure _) = Unit {0}
 IsInternalFailure _ = ⊥
+
+-- what a close reports of processors as it leaves them: how many spans those that closed closed over, and how many wait
+-- in those that are open
+pub record ReportsLeft {P : Type 0} (queues : leaving.Ghosts P) (processors : List P)
+    (report : CloseReport) : Type 0 where
+  pub stranded : report.stranded ≡ sum_by (λ p. unwrap_or (queues.closed_over p) 0) processors
+  pub left_open : report.left_open ≡ sum_by queues.open_over processors
 
 module _ {P : Type 0} (calls : Ghosts P) where
   -- a processor that was asked to shut down with a timeout answers as its call can, and is told no span. Where the
@@ -44,14 +53,11 @@ module _ {P : Type 0} (calls : Ghosts P) where
     pub told : TakesNothing (calls.told old) (calls.told new)
     pub is_open : (calls.told new).is_open ≡ (calls.told old).is_open
 
-  -- what a flush does, whether the provider is shut or not: each processor was asked, and the answer is Ok exactly
-  -- where none failed
+  -- what a flush does, whether the provider is shut or not: each processor was asked, and the answer is the error of the
+  -- first one that failed, Ok where none did
   pub record Flushes {S G : Type 0} (old : ProviderState P S G) (answer : Result (Unit {0}) OTelSdkError)
       (new : ProviderState P S G) : Type 0 where
-    pub failed : ℕ
-    pub asked : AskedAll FlushesProcessor old.processors new.processors failed
-    pub ok : IsOk answer ↔ (failed ≡ 0)
-    pub err : IfErr answer IsInternalFailure
+    pub asked : AskedFirst FlushesProcessor old.processors new.processors answer
     pub rest : new ≡ record old { processors = new.processors }
 
   -- what is done where the time is told, whether the provider is shut or not: each processor did what was due, and the

@@ -1,7 +1,9 @@
 //! The pipeline: a tracer starts a span, edits fill it, its end hands it to each processor of the provider.
 
+pub mod close_report;
 pub mod drain_due;
 pub mod keeps_batches;
+pub mod leaves_spans;
 mod limits;
 pub mod over_exporter;
 pub mod provider;
@@ -12,8 +14,10 @@ pub mod span_edit;
 pub mod span_processor;
 pub mod tracer;
 
+pub use close_report::CloseReport;
 pub use drain_due::DrainDue;
 pub use keeps_batches::{KeepsBatches, StoresBatches};
+pub use leaves_spans::LeavesSpans;
 pub use over_exporter::OverExporter;
 pub use provider::ProviderOf;
 pub use provider_builder::ProviderBuilderOf;

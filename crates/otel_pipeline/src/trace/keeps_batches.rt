@@ -4,12 +4,12 @@ ghost use Rattle.std.specs.Prelude.{◌≡◌, ℕ, List, map};
 ghost use Rattle.otel_export.specs.PlainSpanData.{PlainSpanData};
 ghost use Rattle.otel_pipeline.specs.KeptBatches.{ExporterAppends, OnlyAppends};
 
-use crate::trace::DrainDue;
+use crate::trace::{DrainDue, LeavesSpans};
 use otel_export::trace::{ExporterOf, InMemorySpanExporter, SpanData, SpanExporter};
 
 /// A processor whose exporter may keep its batches. At a start, an end, a flush, a shutdown or a drain batches may only
 /// come behind those that are kept.
-pub trait KeepsBatches: DrainDue {
+pub trait KeepsBatches: DrainDue + LeavesSpans {
     /// The batches that are kept; none where the exporter keeps none.
     ghost kept: { Self → List (List PlainSpanData) };
 

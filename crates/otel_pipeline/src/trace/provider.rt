@@ -2,20 +2,20 @@
 //! and shuts the processors down (OpenTelemetry specification, "Tracer Provider"). It is handed in wherever a span
 //! starts or ends, and must be spent by `close`.
 
-ghost use Rattle.std.specs.Prelude.{◌≡◌, ◌-◌, ◌≤◌, ◌↔◌, [], length, map, replicate, vec_len, false, true, Ok, IfErr, IfOk, IsOk, IsErrOf, string_bytes};
+ghost use Rattle.std.specs.Prelude.{◌≡◌, ◌-◌, ◌≤◌, ◌↔◌, [], length, map, replicate, vec_len, false, true, Ok, IfErr, IfOk, IsOk, IsErrOf, string_bytes, sum_by, unwrap_or};
 ghost use Rattle.std.specs.Bool.{OnTrue, OnFalse};
 ghost use Rattle.std.specs.Duration.{as_nanos};
 ghost use Rattle.otel_export.specs.PlainSpanData.{PlainSpanData};
 ghost use Rattle.opentelemetry.specs.Plain.{scope_named};
 ghost use Rattle.otel_pipeline.specs.Deliveries.{EachFollows};
-ghost use Rattle.otel_pipeline.specs.Each.{AskedAll};
+ghost use Rattle.otel_pipeline.specs.Each.{AskedAll, AskedFirst};
 ghost use Rattle.otel_pipeline.specs.Ending.{TakesAndTells};
 ghost use Rattle.otel_pipeline.specs.Provider.{Flushes, FlushesProcessor, IsInternalFailure, RunsDue, RunsProcessor};
-ghost use Rattle.otel_pipeline.specs.Provider.{ShutsDown, ShutsProcessor};
+ghost use Rattle.otel_pipeline.specs.Provider.{ReportsLeft, ShutsDown, ShutsProcessor};
 ghost use Rattle.otel_pipeline.specs.Starting.{DrawsIds, PassesThrough};
 ghost use Rattle.otel_pipeline.specs.SpanHistory.{IsEdited, ended_at};
 
-use crate::trace::{DrainDue, SdkTracer, Span, SpanProcessor};
+use crate::trace::{CloseReport, DrainDue, LeavesSpans, SdkTracer, Span, SpanProcessor};
 use opentelemetry::{Context, InstrumentationScope, Moment, SpanId, TraceId};
 use otel_base::error::{OTelSdkError, OTelSdkResult};
 use otel_base::trace::{ConfigOf, IdGenerator, SpanLimits};
@@ -150,16 +150,15 @@ impl<P: SpanProcessor, S: Drop, G: Drop> ProviderOf<P, S, G> {
     }
 
     /// Asks every processor to export what waits, also after one failed, and also where the provider is shut; a test
-    /// shows that they are asked first to last. Failures of processors are an `InternalFailure` that counts them
-    /// (OpenTelemetry specification, "ForceFlush").
+    /// shows that they are asked first to last. The answer is the error of the first processor that failed, Ok where
+    /// none did (OpenTelemetry specification, "ForceFlush"); no memory is taken for it.
     pub fn force_flush(&mut self) -> OTelSdkResult
         ensures flushes { Flushes P.SpanProcessor self.old result self.new }
 
         // No span is delivered.
         ensures told { EachFollows P.SpanProcessor [] self.old.processors self.new.processors }
     {
-        let failed = flush_each(&mut self.processors);
-        failure_answer(self.allocator(), "errs", failed)
+        flush_each(&mut self.processors)
     }
 
     /// Shuts every processor down, also after one failed; a test shows that they are asked first to last. A second
@@ -191,29 +190,42 @@ impl<P: SpanProcessor, S: Drop, G: Drop> ProviderOf<P, S, G> {
     {
         self.shutdown_with_timeout(Duration::from_secs(5))
     }
+}
 
-    /// Spends the provider. Where it is still open it is shut down, and the answer is that of the shutdown.
-    pub fn close(mut self) -> OTelSdkResult
-        ensures shut { OnTrue self.is_shut (result ≡ Ok tt) }
-        ensures open { OnFalse self.is_shut ((after : _) × ShutsDown P.SpanProcessor self 5_000_000_000 result after) }
+impl<P: LeavesSpans, S: Drop, G: Drop> ProviderOf<P, S, G> {
+    /// Spends the provider. Where it is still open it is shut down. The report has the answer of the shutdown and how many
+    /// spans are left in the queues of the processors.
+    pub fn close(mut self) -> CloseReport
+        ensures shut { OnTrue self.is_shut ((result.result ≡ Ok tt)
+            × ReportsLeft P.LeavesSpans.own self.processors result) }
+        ensures open { OnFalse self.is_shut ((after : _)
+            × ShutsDown P.SpanProcessor self 5_000_000_000 result.result after
+            × ReportsLeft P.LeavesSpans.own after.processors result) }
     {
         if self.is_shut {
-            self.spend();
-            return Ok(());
+            return self.report(Ok(()));
         }
         let answer = self.shutdown();
-        self.spend();
-        answer
+        self.report(answer)
     }
 
-    fn spend(self) {
+    /// Spends the provider, and reports this answer and what the processors leave.
+    fn report(self, answer: OTelSdkResult) -> CloseReport
+        ensures answer { result.result ≡ answer }
+        ensures left { ReportsLeft P.LeavesSpans.own self.processors result }
+    {
         let ProviderOf {
-            processors: _,
+            processors,
             sampler: _,
             id_generator: _,
             span_limits: _,
             is_shut: _,
         } = self;
+        CloseReport {
+            result: answer,
+            stranded: stranded_by(&processors),
+            left_open: left_open_by(&processors),
+        }
     }
 }
 
@@ -331,17 +343,16 @@ fn end_copies<P: SpanProcessor>(processors: &mut [P], mut copies: Vec<SpanData>)
     refused
 }
 
-/// Each is asked to flush, also after one failed. The answer is how many failed.
-fn flush_each<P: SpanProcessor>(processors: &mut [P]) -> usize
-    ensures { AskedAll (FlushesProcessor P.SpanProcessor) processors.old processors.new result }
+/// Each is asked to flush, also after one failed. The answer is the error of the first one that failed.
+fn flush_each<P: SpanProcessor>(processors: &mut [P]) -> OTelSdkResult
+    ensures { AskedFirst (FlushesProcessor P.SpanProcessor) processors.old processors.new result }
 {
-    let mut failed = 0;
+    let mut answer = Ok(());
     for processor in processors.iter_mut() {
-        if processor.force_flush().is_err() {
-            failed += 1;
-        }
+        let flushed = processor.force_flush();
+        answer = answer.and(flushed);
     }
-    failed
+    answer
 }
 
 /// Each is told the time, also after one failed. The answer is how many failed.
@@ -368,4 +379,27 @@ fn shutdown_each<P: SpanProcessor>(processors: &mut [P], timeout: Duration) -> u
         }
     }
     failed
+}
+
+/// How many spans those of these processors that closed left behind.
+fn stranded_by<P: LeavesSpans>(processors: &[P]) -> u128
+    ensures { result ≡ sum_by (λ p. unwrap_or (P.LeavesSpans.closed_over p) 0) processors.now }
+{
+    let mut count = 0;
+    for processor in processors {
+        let stranded = processor.stranded();
+        count += stranded.unwrap_or(0) as u128;
+    }
+    count
+}
+
+/// How many spans wait in those of these processors that are open.
+fn left_open_by<P: LeavesSpans>(processors: &[P]) -> u128
+    ensures { result ≡ sum_by P.LeavesSpans.open_over processors.now }
+{
+    let mut count = 0;
+    for processor in processors {
+        count += processor.left_open() as u128;
+    }
+    count
 }

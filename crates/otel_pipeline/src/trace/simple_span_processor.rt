@@ -3,7 +3,7 @@
 
 ghost use Rattle.std.specs.Prelude.{◌≡◌, ◌∷◌, [], false, IfOk};
 
-use crate::trace::{Span, SpanProcessor};
+use crate::trace::{LeavesSpans, Span, SpanProcessor};
 use opentelemetry::Context;
 use otel_base::error::OTelSdkResult;
 use otel_base::resource::Resource;
@@ -86,6 +86,17 @@ impl<E: SpanExporter> SpanProcessor for SimpleSpanProcessor<E> {
     fn set_resource(&mut self, resource: &Resource) -> Result<(), AllocError> {
         self.exporter.set_resource(resource);
         Ok(())
+    }
+}
+
+impl<E: SpanExporter> LeavesSpans for SimpleSpanProcessor<E> {
+    /// It has no queue.
+    fn stranded(&self) -> Option<usize> {
+        None
+    }
+
+    fn left_open(&self) -> usize {
+        0
     }
 }
 

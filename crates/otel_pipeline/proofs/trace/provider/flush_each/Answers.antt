@@ -1,16 +1,13 @@
-use Rattle.std.proofs.Common.{◌≡◌, arith, ◌∙◌, sym, rules}
-use Rattle.otel_pipeline.proofs.EachLemmas.{asked_next, rest_more, err_answer, ok_answer, with_answer}
+use Rattle.std.proofs.Common.{[], refl, arith, rules}
+use Rattle.otel_pipeline.proofs.EachLemmas.{first_next, rest_more}
 use Rattle.otel_pipeline.proofs.trace.provider.flush_each.Goals as goal
-use Rattle.otel_pipeline.proofs.trace.provider.flush_each.Goals.{then-is_err, else-is_err}
+
+pub loop-processor-init : goal.loop-processor-init
+loop-processor-init g c = record { asked = ([], refl, tt); rest = refl }
 
 pub loop-processor-preserved : goal.loop-processor-preserved
-loop-processor-preserved g c =
-    let counted : with_answer c.force_flush.result c.loop-processor.failed ≡ c.if-is_err.failed = elim c.if-is_err.branch [
-      | then-is_err w ↦ err_answer _ _ (sym c.is_err.ensures.value ∙ w.if-is_err.true) ∙ sym w.failed-is
-      | else-is_err w ↦ ok_answer _ _ (sym c.is_err.ensures.value ∙ w.if-is_err.false) ∙ sym w.failed-is
-    ] in
-    record {
-      asked = asked_next _ _ _ _ _ _ c.processor-item.result _ _ (omega arith) (search rules) c.loop-processor.invariant.rest c.loop-processor.invariant.asked (record { gives = c.force_flush.ensures.gives; told = c.force_flush.ensures.told; is_open = c.force_flush.ensures.is_open; emptied = c.force_flush.ensures.emptied }) counted;
-      rest = rest_more c.args.processors.now c.loop-processor.processors c.loop-processor.processor-index c.force_flush.new.self c.loop-processor.invariant.rest;
-      few = elim c.if-is_err.branch [ then-is_err w ↦ omega arith | else-is_err w ↦ omega arith ];
-    }
+loop-processor-preserved g c = record {
+  asked = first_next _ _ _ _ c.processor-item.result _ _ _ _ (omega arith) (search rules) c.loop-processor.invariant.rest c.loop-processor.invariant.asked
+      (record { gives = c.force_flush-flushed.ensures.gives; told = c.force_flush-flushed.ensures.told; is_open = c.force_flush-flushed.ensures.is_open; emptied = c.force_flush-flushed.ensures.emptied }) c.and-answer.ensures;
+  rest = rest_more c.args.processors.now c.loop-processor.processors c.loop-processor.processor-index c.force_flush-flushed.new.self c.loop-processor.invariant.rest;
+}
