@@ -7,7 +7,7 @@ use Rattle.std.proofs.lemmas.List.{same_from_push}
 use Rattle.std.proofs.lemmas.List.Elements.{All-cons, All-nil}
 use Rattle.otel_base.specs.declared.error.OTelSdkError.{OTelSdkError}
 use Rattle.otel_base.specs.declared.error.OTelSdkError.TheVariants as errors
-use Rattle.otel_pipeline.specs.Each.{Each, error_count}
+use Rattle.otel_pipeline.specs.Each.{Each, error_count, first_failure}
 use Rattle.otel_pipeline.specs.Provider.{Flushes, FlushesProcessor, ProviderState, ShutsDown, ShutsProcessor}
 use Rattle.otel_pipeline.specs.declared.trace.span_processor.SpanProcessor.{Ghosts}
 use Rattle.otel_lines.specs.Commands.{PlainCommand}
@@ -19,6 +19,12 @@ use Rattle.otel_session.specs.SessionDelivery.{EmptiedBehind, EmptiesIfOk, call_
 -- none waits at any processor
 abbrev NoneWaits : {P : Type 0} → Ghosts P → List P → Type 0
 NoneWaits calls processors = All (λ p. (calls.told p).waiting ≡ 0) processors
+
+-- no answer is an error where there is no first one
+none_failed : {E : Type 0} (rs : List (Result (Unit {0}) E)) → first_failure rs ≡ Ok tt → error_count rs ≡ 0
+none_failed [] h = refl
+none_failed (Ok _ ∷ rs) h = none_failed rs h
+none_failed (Err _ ∷ rs) h = cc
 
 module _ {P : Type 0} (calls : Ghosts P) where
   -- each was asked and none failed
@@ -33,7 +39,7 @@ module _ {P : Type 0} (calls : Ghosts P) where
   asked_empties G empty (p ∷ ps) (q ∷ qs) (Err e ∷ rs) h none = absurd (omega arith)
 
   flush_leaves_none : {S G : Type 0} (old new : ProviderState P S G) (said : Result (Unit {0}) OTelSdkError) → Flushes calls old said new → call_answer said ≡ answers.Ok → NoneWaits calls new.processors
-  flush_leaves_none old new (Ok _) h e = asked_empties (FlushesProcessor calls) (λ p r q asked. asked.emptied) old.processors new.processors h.asked.0 h.asked.2 (h.asked.1 ∙ h.ok.0 refl)
+  flush_leaves_none old new (Ok _) h e = asked_empties (FlushesProcessor calls) (λ p r q asked. asked.emptied) old.processors new.processors h.asked.0 h.asked.2 (none_failed h.asked.0 h.asked.1)
   flush_leaves_none old new (Err _) h e = cc
 
   first_shutdown_leaves_none : {S G : Type 0} (old new : ProviderState P S G) (timeout : ℕ) (said : Result (Unit {0}) OTelSdkError) → ShutsDown calls old timeout said new → call_answer said ≡ answers.Ok → NoneWaits calls new.processors

@@ -9,6 +9,7 @@ use Rattle.otel_base.specs.declared.trace.id_generator.IdGenerator as drawing
 use Rattle.otel_export.specs.PlainSpanData.{PlainSpanData}
 use Rattle.otel_pipeline.specs.Deliveries.{Delivery, EachFollows, EachOpenHears}
 use Rattle.otel_pipeline.specs.Ending.{Delivers, TakesAndTells, end_delivers}
+use Rattle.otel_pipeline.specs.Each.{error_count}
 use Rattle.otel_pipeline.specs.Provider.{FlushesProcessor, ProviderState, RunsProcessor, ShutsDown}
 use Rattle.otel_pipeline.specs.SpanHistory.{SpanHistory, Edit, begun, over}
 use Rattle.otel_pipeline.specs.declared.trace.span_processor.SpanProcessor.{Ghosts}
@@ -76,7 +77,7 @@ module _ {P S G : Type 0} (calls : Ghosts P) (timer : timing.Ghosts P) (sampler 
   one_closes_none scope old new (inject span) answer ds e h = inject_closes_none old new (old.histories span) answer ds h
   one_closes_none scope old new (end span moment) answer ds e h = end_closes_none old new span moment (old.histories span) answer ds h
   one_closes_none scope old new flush answer ds e h =
-      stays_asked calls (FlushesProcessor calls) (λ p r q flushes. flushes.is_open) old.provider.processors new.provider.processors h.flushes.failed h.flushes.asked
+      stays_asked calls (FlushesProcessor calls) (λ p r q flushes. flushes.is_open) old.provider.processors new.provider.processors (error_count h.flushes.asked.0) (h.flushes.asked.0, refl, h.flushes.asked.2)
   one_closes_none scope old new (run moment) answer ds e h =
       stays_asked calls (RunsProcessor calls timer moment) (λ p r q runs. runs.is_open) old.provider.processors new.provider.processors h.runs.failed h.runs.asked
   one_closes_none scope old new shutdown answer ds e h = cc
