@@ -2,6 +2,7 @@
 -- a run of that queue.
 use Rattle.std.specs.Prelude.{◌≡◌, ◌+◌, ◌||◌, ℕ, not, true, nat_le, List, [], ◌∷◌, Option, Some, None}
 use Rattle.std.specs.Prelude.{Result, Ok, Err, MatchBool, MatchOption, MatchResult, length}
+use Rattle.std.specs.Prelude.{if◌then◌else◌}
 use Rattle.std.specs.declared.alloc.AllocError.{AllocError}
 use Rattle.otel_base.specs.Resource.{PlainResource}
 use Rattle.otel_base.specs.declared.error.OTelSdkError.{OTelSdkError}
@@ -39,6 +40,14 @@ first_processor exporter config = record {
   delay = config.scheduled_delay;
   last = None;
 }
+
+-- how many spans a batch processor closed over; none while it is open
+abbrev pub batch_closed_over : {E : Type 0} → BatchProcessor E → Option ℕ
+batch_closed_over p = if p.machine.control.closed then Some (length p.machine.waiting) else None
+
+-- how many spans wait in one that is open
+abbrev pub batch_open_over : {E : Type 0} → BatchProcessor E → ℕ
+batch_open_over p = if p.machine.control.closed then 0 else length p.machine.waiting
 
 -- what a builder makes a batch processor of
 pub record BatchProcessorBuilder (E : Type 0) : Type 0 where

@@ -21,8 +21,8 @@ pub use otel_export::trace::{
     ExporterBox, ExporterOf, InMemorySpanExporter, SpanData, SpanEvents, SpanExporter, SpanLinks,
 };
 pub use otel_pipeline::trace::{
-    DrainDue, KeepsBatches, OverExporter, ProviderBuilderOf, ProviderOf, SdkTracer,
-    SimpleSpanProcessor, Span, SpanEdit, SpanProcessor, StoresBatches,
+    CloseReport, DrainDue, KeepsBatches, LeavesSpans, OverExporter, ProviderBuilderOf, ProviderOf,
+    SdkTracer, SimpleSpanProcessor, Span, SpanEdit, SpanProcessor, StoresBatches,
 };
 pub use processor::{Processor, ProcessorOf};
 

@@ -112,7 +112,7 @@ mod tests {
         let closed = provider.close();
         assert_eq!(rt; ended, [Ok(0), Ok(0)]);
         assert!(rt; shut.is_ok());
-        assert!(rt; closed.is_ok());
+        assert!(rt; closed.result.is_ok());
         Ok(())
     }
 }

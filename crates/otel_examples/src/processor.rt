@@ -9,7 +9,7 @@
 use opentelemetry::{Context, Value};
 use opentelemetry_sdk::Resource;
 use opentelemetry_sdk::error::OTelSdkResult;
-use opentelemetry_sdk::trace::{Span, SpanData, SpanProcessor};
+use opentelemetry_sdk::trace::{LeavesSpans, Span, SpanData, SpanProcessor};
 use std::alloc::AllocError;
 use std::time::Duration;
 
@@ -59,6 +59,20 @@ impl<P: SpanProcessor> SpanProcessor for FilteringProcessor<P> {
 
     fn set_resource(&mut self, resource: &Resource) -> Result<(), AllocError> {
         self.inner.set_resource(resource)
+    }
+}
+
+impl<P: LeavesSpans> LeavesSpans for FilteringProcessor<P> {
+    ghost closed_over = { λ p. P.closed_over p.inner };
+
+    ghost open_over = { λ p. P.open_over p.inner };
+
+    fn stranded(&self) -> Option<usize> {
+        self.inner.stranded()
+    }
+
+    fn left_open(&self) -> usize {
+        self.inner.left_open()
     }
 }
 
@@ -128,7 +142,7 @@ mod tests {
         let closed = provider.close();
         assert_eq!(rt; ended, [Ok(0), Ok(0)]);
         assert!(rt; shut.is_ok());
-        assert!(rt; closed.is_ok());
+        assert!(rt; closed.result.is_ok());
         Ok(())
     }
 }

@@ -19,7 +19,7 @@ ghost use Rattle.std.specs.Prelude.{◌≡◌, []};
 use opentelemetry::Context;
 use opentelemetry_sdk::Resource;
 use opentelemetry_sdk::error::OTelSdkResult;
-use opentelemetry_sdk::trace::{Span, SpanData, SpanExporter, SpanProcessor};
+use opentelemetry_sdk::trace::{LeavesSpans, Span, SpanData, SpanExporter, SpanProcessor};
 use std::alloc::{AllocError, Global};
 use std::mem;
 use std::time::Duration;
@@ -102,6 +102,26 @@ impl<E: SpanExporter> SpanProcessor for QueueingProcessor<E> {
     }
 }
 
+impl<E: SpanExporter> LeavesSpans for QueueingProcessor<E> {
+    ghost use Rattle.std.specs.Prelude.{None, Some, if◌then◌else◌, length};
+
+    ghost closed_over = { λ p. if p.is_shut then Some (length p.waiting.items) else None };
+
+    ghost open_over = { λ p. if p.is_shut then 0 else length p.waiting.items };
+
+    fn stranded(&self) -> Option<usize> {
+        if self.is_shut {
+            Some(self.waiting.len())
+        } else {
+            None
+        }
+    }
+
+    fn left_open(&self) -> usize {
+        if self.is_shut { 0 } else { self.waiting.len() }
+    }
+}
+
 #[cfg(test)]
 mod tests {
     use super::QueueingProcessor;
@@ -176,7 +196,7 @@ mod tests {
         assert!(rt; flushed.is_ok());
         assert!(rt; again.is_ok());
         assert!(rt; shut.is_ok());
-        assert!(rt; closed.is_ok());
+        assert!(rt; closed.result.is_ok());
         Ok(())
     }
 }

@@ -57,7 +57,7 @@ fn export_batches<P: OverExporter + KeepsBatches>(
     let exported = kept(&provider);
     let closed = provider.close();
     traced?;
-    Ok((waiting, exported, flushed.and(closed)))
+    Ok((waiting, exported, flushed.and(closed.result)))
 }
 
 #[test]

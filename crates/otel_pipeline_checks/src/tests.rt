@@ -2,6 +2,7 @@
 //! the proof of a test carries no facts of the pipeline.
 
 mod fixtures;
+mod left_spans;
 mod processors;
 mod provider_builder;
 mod refused_batch;

@@ -8,7 +8,7 @@ ghost use Rattle.otel_pipeline.specs.ProcessorTelling.{TakesNothing};
 ghost use Rattle.otel_batch.specs.SoundMachine.{IsSound};
 ghost use Rattle.otel_batch.specs.MachineState.{counts, stranded_in};
 ghost use Rattle.otel_batch.specs.PlainBatchConfig.{default_batch_config};
-ghost use Rattle.opentelemetry_sdk.specs.BatchProcessor.{IsAtRest, batch_telling};
+ghost use Rattle.opentelemetry_sdk.specs.BatchProcessor.{IsAtRest, batch_closed_over, batch_open_over, batch_telling};
 
 use crate::trace::batch_worker::{
     drain_by_tick, make_request, offer_span, post_resource, run_worker,
@@ -19,7 +19,7 @@ use otel_base::resource::Resource;
 use otel_batch::machine::{BatchMachine, Request};
 use otel_batch::trace::BatchConfig;
 use otel_export::trace::{SpanData, SpanExporter};
-use otel_pipeline::trace::{DrainDue, Span, SpanProcessor};
+use otel_pipeline::trace::{DrainDue, LeavesSpans, Span, SpanProcessor};
 use std::alloc::{AllocError, Global};
 use std::marker::Model;
 use std::time::Duration;
@@ -75,6 +75,28 @@ impl<E> BatchSpanProcessor<E> {
         ensures { result.now ≡ self.now.machine.exporter }
     {
         self.machine.exporter()
+    }
+
+    /// How many spans waited when it closed; `None` while it is open.
+    pub fn stranded(&self) -> Option<usize>
+        ensures { result ≡ batch_closed_over self.now }
+    {
+        if self.machine.is_closed() {
+            Some(self.machine.waiting_len())
+        } else {
+            None
+        }
+    }
+
+    /// How many spans wait in it while it is open; 0 afterwards.
+    pub fn left_open(&self) -> usize
+        ensures { result ≡ batch_open_over self.now }
+    {
+        if self.machine.is_closed() {
+            0
+        } else {
+            self.machine.waiting_len()
+        }
     }
 
     /// What holds of every batch processor between two calls. It does nothing: a caller calls it for what its clauses say
@@ -209,6 +231,22 @@ impl<E: SpanExporter> DrainDue for BatchSpanProcessor<E> {
             return self.work_in_time(now);
         }
         Err(OTelSdkError::AlreadyShutdown)
+    }
+}
+
+impl<E: SpanExporter> LeavesSpans for BatchSpanProcessor<E> {
+    ghost use Rattle.opentelemetry_sdk.specs.BatchProcessor.{batch_closed_over, batch_open_over};
+
+    ghost closed_over = { batch_closed_over };
+
+    ghost open_over = { batch_open_over };
+
+    fn stranded(&self) -> Option<usize> {
+        self.stranded()
+    }
+
+    fn left_open(&self) -> usize {
+        self.left_open()
     }
 }
 

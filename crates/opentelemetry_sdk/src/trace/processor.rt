@@ -8,7 +8,8 @@ use otel_base::trace::BatchStrings;
 use otel_batch::trace::BatchConfigBuilder;
 use otel_export::trace::{ExporterBox, SpanData, SpanExporter};
 use otel_pipeline::trace::{
-    DrainDue, KeepsBatches, OverExporter, SimpleSpanProcessor, Span, SpanProcessor, StoresBatches,
+    DrainDue, KeepsBatches, LeavesSpans, OverExporter, SimpleSpanProcessor, Span, SpanProcessor,
+    StoresBatches,
 };
 use std::alloc::{AllocError, Global};
 use std::time::Duration;
@@ -119,6 +120,41 @@ impl<E: SpanExporter, C: SpanProcessor> DrainDue for ProcessorOf<E, C> {
             ProcessorOf::Simple(_) => Ok(()),
             ProcessorOf::Batch(batch) => batch.drain_due(now),
             ProcessorOf::Custom(_) => Ok(()),
+        }
+    }
+}
+
+impl<E: SpanExporter, C: SpanProcessor> LeavesSpans for ProcessorOf<E, C> {
+    ghost use Rattle.std.specs.Prelude.{None};
+    ghost use Rattle.opentelemetry_sdk.specs.BatchProcessor.{batch_closed_over, batch_open_over};
+    ghost use Rattle.opentelemetry_sdk.specs.declared.trace.processor.ProcessorOf.TheVariants as kinds;
+
+    ghost closed_over = { λ p. elim p [
+      | kinds.Simple _ ↦ None
+      | kinds.Batch batch ↦ batch_closed_over batch
+      | kinds.Custom _ ↦ None
+    ] };
+
+    ghost open_over = { λ p. elim p [
+      | kinds.Simple _ ↦ 0
+      | kinds.Batch batch ↦ batch_open_over batch
+      | kinds.Custom _ ↦ 0
+    ] };
+
+    /// Only a batch processor has a queue.
+    fn stranded(&self) -> Option<usize> {
+        match self {
+            ProcessorOf::Simple(_) => None,
+            ProcessorOf::Batch(batch) => batch.stranded(),
+            ProcessorOf::Custom(_) => None,
+        }
+    }
+
+    fn left_open(&self) -> usize {
+        match self {
+            ProcessorOf::Simple(_) => 0,
+            ProcessorOf::Batch(batch) => batch.left_open(),
+            ProcessorOf::Custom(_) => 0,
         }
     }
 }

@@ -11,7 +11,7 @@ use otel_base::trace::{
 };
 use otel_export::trace::{InMemorySpanExporter, SpanData};
 use otel_pipeline::trace::provider::provider_over;
-use otel_pipeline::trace::{ProviderOf, SimpleSpanProcessor, Span, SpanProcessor};
+use otel_pipeline::trace::{LeavesSpans, ProviderOf, SimpleSpanProcessor, Span, SpanProcessor};
 use std::alloc::{AllocError, Global};
 use std::cell::Cell;
 use std::fmt::Write;
@@ -20,7 +20,7 @@ use std::time::Duration;
 
 /// A processor that writes its digit on a board that several share, at each start, end, flush and shutdown, and keeps
 /// the spans that it was given. One that fails stamps each span that starts, refuses each that ends, and answers an
-/// error to a flush and to a shutdown.
+/// error to a flush and to a shutdown: `AlreadyShutdown` where its digit is 1, else `Timeout` of as many seconds.
 #[derive(Drop)]
 pub(super) struct Writer {
     digit: u64,
@@ -38,11 +38,13 @@ impl Writer {
     }
 
     fn answer(&self) -> OTelSdkResult {
-        if self.fails {
-            let alloc = *self.taken.allocator();
-            return Err(OTelSdkError::InternalFailure(String::new(alloc)));
+        if !self.fails {
+            return Ok(());
         }
-        Ok(())
+        if self.digit == 1 {
+            return Err(OTelSdkError::AlreadyShutdown);
+        }
+        Err(OTelSdkError::Timeout(Duration::from_secs(self.digit)))
     }
 
     /// Stamps a span, where it fails.
@@ -232,10 +234,10 @@ pub(super) fn shut<P: SpanProcessor, S: Drop>(
     provider.shutdown()
 }
 
-pub(super) fn close<P: SpanProcessor, S: Drop>(
+pub(super) fn close<P: LeavesSpans, S: Drop>(
     provider: ProviderOf<P, S, RandomIdGenerator>,
 ) -> OTelSdkResult {
-    provider.close()
+    provider.close().result
 }
 
 pub(super) fn recorded(span: &Span) -> Result<Option<SpanData>, AllocError> {

@@ -75,17 +75,20 @@ fn a_span_that_one_processor_stamps_and_refuses_is_exported_once_by_another(
     Ok(())
 }
 
-/// What a flush and then a shutdown answer where these processors fail, as a text.
+/// What a flush and then a shutdown answer where a processor that exports stands in front of these, which fail, and what
+/// they wrote, as a text.
 fn failures_of(alloc: Global, each_fails: &[bool]) -> Result<String, AllocError> {
     let board = Rc::new(alloc, Cell::new(0))?;
-    let processors = writers(alloc, &board, each_fails)?;
+    let mut processors = vec![in alloc; exporting(alloc)]?;
+    processors.append(&mut writers(alloc, &board, each_fails)?)?;
     let mut provider = provider_of(alloc, processors, TestSampler::AlwaysOn);
     let flushed = flush(&mut provider);
     let shutdown = shut(&mut provider);
     let _ = close(provider);
     let flushed = text_of(alloc, flushed)?;
     let shutdown = text_of(alloc, shutdown)?;
-    format!(in alloc; "{flushed}; {shutdown}")
+    let asked = board.get();
+    format!(in alloc; "{flushed}; {shutdown}; {asked}")
 }
 
 fn text_of(alloc: Global, answer: OTelSdkResult) -> Result<String, AllocError> {
@@ -96,18 +99,25 @@ fn text_of(alloc: Global, answer: OTelSdkResult) -> Result<String, AllocError> {
 }
 
 #[test]
-fn a_flush_and_a_shutdown_say_how_many_processors_failed(rt: HostRuntime) -> Result<(), Fail> {
-    let cases: [(&str, &[bool], &str); 3] = [
-        ("neither of two fails", &[false, false], "ok; ok"),
+fn a_flush_tells_its_first_failure_and_a_shutdown_how_many_failed(
+    rt: HostRuntime,
+) -> Result<(), Fail> {
+    let cases: [(&str, &[bool], &str); 4] = [
+        ("neither of two fails", &[false, false], "ok; ok; 1212"),
+        (
+            "both of two fail",
+            &[true, true],
+            "Shutdown already invoked; Operation failed: Shutdown errors: 2; 1212",
+        ),
         (
             "the second of two fails",
             &[false, true],
-            "Operation failed: errs: 1; Operation failed: Shutdown errors: 1",
+            "Operation timed out after 2s; Operation failed: Shutdown errors: 1; 1212",
         ),
         (
-            "the first and the last of three fail",
-            &[true, false, true],
-            "Operation failed: errs: 2; Operation failed: Shutdown errors: 2",
+            "the last two of three fail",
+            &[false, true, true],
+            "Operation timed out after 2s; Operation failed: Shutdown errors: 2; 123123",
         ),
     ];
     for (case, each_fails, answers) in cases {

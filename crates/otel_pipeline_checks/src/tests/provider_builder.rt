@@ -8,7 +8,7 @@ use otel_base::trace::{
     BatchStrings, ConfigOf, IdSourceOf, RandomIdGenerator, SamplerOf, SpanLimits,
 };
 use otel_export::trace::{SpanData, SpanExporter};
-use otel_pipeline::trace::{ProviderBuilderOf, ProviderOf, Span, SpanProcessor};
+use otel_pipeline::trace::{LeavesSpans, ProviderBuilderOf, ProviderOf, Span, SpanProcessor};
 use std::alloc::{AllocError, Global};
 use std::cell::Cell;
 use std::rc::Rc;
@@ -112,13 +112,13 @@ fn made<P: Drop, S: Drop, G: Drop>(
 
 /// How many processors the provider has that the builder makes, and how its close answers; the builder where it makes
 /// none.
-fn built<P: SpanProcessor, S: Drop, G: Drop>(
+fn built<P: LeavesSpans, S: Drop, G: Drop>(
     builder: ProviderBuilderOf<P, S, G>,
 ) -> Result<(usize, OTelSdkResult), ProviderBuilderOf<P, S, G>> {
     match builder.build() {
         Ok(provider) => {
             let count = provider.processors().len();
-            Ok((count, provider.close()))
+            Ok((count, provider.close().result))
         }
         Err((builder, _)) => Err(builder),
     }

@@ -115,7 +115,7 @@ fn export_again<P: OverExporter + KeepsBatches>(
     let flushed = drain_again(&mut provider);
     let batches = handed_on(&provider);
     let closed = provider.close();
-    Ok((refused?, batches, flushed.and(closed)))
+    Ok((refused?, batches, flushed.and(closed.result)))
 }
 
 #[test]

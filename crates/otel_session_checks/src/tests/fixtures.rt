@@ -15,7 +15,7 @@ use otel_export::trace::{ExporterBox, InMemorySpanExporter, SpanData, SpanExport
 use otel_lines::{Command, Reply};
 use otel_pipeline::trace::provider::provider_over;
 use otel_pipeline::trace::{
-    DrainDue, KeepsBatches, ProviderOf, SimpleSpanProcessor, Span, SpanProcessor,
+    DrainDue, KeepsBatches, LeavesSpans, ProviderOf, SimpleSpanProcessor, Span, SpanProcessor,
 };
 use otel_session::{FeedError, Session};
 use std::alloc::{AllocError, Global};
@@ -100,6 +100,16 @@ impl DrainDue for Losing {
     fn drain_due(&mut self, _now: Moment) -> OTelSdkResult {
         self.lose(self.at_a_flush);
         Ok(())
+    }
+}
+
+impl LeavesSpans for Losing {
+    fn stranded(&self) -> Option<usize> {
+        None
+    }
+
+    fn left_open(&self) -> usize {
+        0
     }
 }
 

@@ -238,7 +238,7 @@ fn failed_calls<P: KeepsBatches>(
 
 /// What is printed where one of two processors fails: a shutdown, a second one that asks nobody, and a flush.
 const FAILED_CALLS: &[u8] =
-    b"Operation failed: Shutdown errors: 1\nShutdown already invoked\nOperation failed: errs: 1\n";
+    b"Operation failed: Shutdown errors: 1\nShutdown already invoked\nOperation timed out after 1s\n";
 
 #[test]
 fn a_failed_flush_and_a_failed_shutdown_are_answered(rt: HostRuntime) -> Result<(), Fail> {
@@ -250,12 +250,7 @@ fn a_failed_flush_and_a_failed_shutdown_are_answered(rt: HostRuntime) -> Result<
     let [flushed] = replies.as_slice() else {
         return Err(Fail::new("not one reply"));
     };
-    assert!(rt;
-        matches!(
-            flushed.answer,
-            Answer::Failed(OTelSdkError::InternalFailure(_))
-        )
-    );
+    assert!(rt; matches!(flushed.answer, Answer::Failed(OTelSdkError::Timeout(_))));
     assert_eq!(rt; output.as_slice(), FAILED_CALLS);
     Ok(())
 }

@@ -102,7 +102,7 @@ fn shown_late<P: KeepsBatches>(
 const CASES: [(u32, &[u8], &str); 3] = [
     (1, b"", ""),
     (33, b"", ""),
-    (33, b"flush\n", "Operation failed: errs: 1\n"),
+    (33, b"flush\n", "Operation timed out after 1s\n"),
 ];
 
 #[test]
