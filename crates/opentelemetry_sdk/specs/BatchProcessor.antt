@@ -41,11 +41,7 @@ first_processor exporter config = record {
   last = None;
 }
 
--- how many spans a batch processor closed over; none while it is open
-abbrev pub batch_closed_over : {E : Type 0} → BatchProcessor E → Option ℕ
-batch_closed_over p = if p.machine.control.closed then Some (length p.machine.waiting) else None
-
--- how many spans wait in one that is open
+-- how many spans wait in a batch processor while it is open
 abbrev pub batch_open_over : {E : Type 0} → BatchProcessor E → ℕ
 batch_open_over p = if p.machine.control.closed then 0 else length p.machine.waiting
 

@@ -8,7 +8,7 @@ ghost use Rattle.otel_pipeline.specs.ProcessorTelling.{TakesNothing};
 ghost use Rattle.otel_batch.specs.SoundMachine.{IsSound};
 ghost use Rattle.otel_batch.specs.MachineState.{counts, stranded_in};
 ghost use Rattle.otel_batch.specs.PlainBatchConfig.{default_batch_config};
-ghost use Rattle.opentelemetry_sdk.specs.BatchProcessor.{IsAtRest, batch_closed_over, batch_open_over, batch_telling};
+ghost use Rattle.opentelemetry_sdk.specs.BatchProcessor.{IsAtRest, batch_open_over, batch_telling};
 
 use crate::trace::batch_worker::{
     drain_by_tick, make_request, offer_span, post_resource, run_worker,
@@ -75,17 +75,6 @@ impl<E> BatchSpanProcessor<E> {
         ensures { result.now ≡ self.now.machine.exporter }
     {
         self.machine.exporter()
-    }
-
-    /// How many spans waited when it closed; `None` while it is open.
-    pub fn stranded(&self) -> Option<usize>
-        ensures { result ≡ batch_closed_over self.now }
-    {
-        if self.machine.is_closed() {
-            Some(self.machine.waiting_len())
-        } else {
-            None
-        }
     }
 
     /// How many spans wait in it while it is open; 0 afterwards.
@@ -235,9 +224,7 @@ impl<E: SpanExporter> DrainDue for BatchSpanProcessor<E> {
 }
 
 impl<E: SpanExporter> LeavesSpans for BatchSpanProcessor<E> {
-    ghost use Rattle.opentelemetry_sdk.specs.BatchProcessor.{batch_closed_over, batch_open_over};
-
-    ghost closed_over = { batch_closed_over };
+    ghost closed_over = { λ p. stranded_in p.machine };
 
     ghost open_over = { batch_open_over };
 

@@ -126,12 +126,13 @@ impl<E: SpanExporter, C: SpanProcessor> DrainDue for ProcessorOf<E, C> {
 
 impl<E: SpanExporter, C: SpanProcessor> LeavesSpans for ProcessorOf<E, C> {
     ghost use Rattle.std.specs.Prelude.{None};
-    ghost use Rattle.opentelemetry_sdk.specs.BatchProcessor.{batch_closed_over, batch_open_over};
+    ghost use Rattle.otel_batch.specs.MachineState.{stranded_in};
+    ghost use Rattle.opentelemetry_sdk.specs.BatchProcessor.{batch_open_over};
     ghost use Rattle.opentelemetry_sdk.specs.declared.trace.processor.ProcessorOf.TheVariants as kinds;
 
     ghost closed_over = { λ p. elim p [
       | kinds.Simple _ ↦ None
-      | kinds.Batch batch ↦ batch_closed_over batch
+      | kinds.Batch batch ↦ stranded_in batch.machine
       | kinds.Custom _ ↦ None
     ] };
 
