@@ -204,7 +204,7 @@ fn lost_by_a_shutdown(alloc: Global, queue: &mut BatchMachine<ExporterBox>) -> R
     let script = [
         ("subtract", "subtracted"),
         ("finish", "finished"),
-        ("close", "shut down"),
+        ("close", "shut down 0"),
         ("collect 0", "collected ok"),
         ("offer 0 h", "counted 1"),
         ("send 0", "closed"),
