@@ -17,7 +17,7 @@ use Rattle.otel_pipeline.specs.Provider.{IsInternalFailure}
 use Rattle.otel_batch.specs.Slots.{is_answered, is_idle, slot_waits}
 use Rattle.otel_batch.specs.Messages.{message_names, message_of}
 use Rattle.otel_batch.specs.Workers.{is_ready, is_gone, is_draining, is_finishing, is_closing, worker_names}
-use Rattle.otel_batch.specs.MachineState.{Control, Machine, Counts, counts}
+use Rattle.otel_batch.specs.MachineState.{Control, Machine, Counts, counts, stranded_in}
 use Rattle.otel_batch.specs.SoundMachine.{IsSound}
 use Rattle.otel_batch.specs.MachineRun.{Stepped}
 use Rattle.otel_batch.specs.MovedSpans.{Keeps, Moved}
@@ -371,6 +371,10 @@ module _ {E : Type 0} (calls : Ghosts E) where
       still true shut true is goes = (goes is).waiting
       still true shut false is goes = (ends.skips is).waiting
       still false shut sampled is goes = absurd (cc)
+
+-- a queue that is closed and at rest left no span behind
+pub none_stranded : {E : Type 0} (s : Machine E) → IsAtRest s → s.control.closed ≡ true → stranded_in s ≡ Some 0
+none_stranded s rest closed = rw (closed, rest.left closed) refl
 
 -- the case of a test whose value is known
 where_true : (A B : Type 0) (b : Bool) → b ≡ true → A → MatchBool b A B

@@ -13,7 +13,7 @@ use Rattle.otel_pipeline.specs.ProcessorTelling.{ProcessorTelling, spans_told}
 use Rattle.otel_pipeline.specs.Provider.{IsInternalFailure}
 use Rattle.otel_batch.specs.PlainBatchConfig.{PlainBatchConfig}
 use Rattle.otel_batch.specs.Workers.{is_ready, is_gone}
-use Rattle.otel_batch.specs.MachineState.{Machine, counts, first_machine}
+use Rattle.otel_batch.specs.MachineState.{Machine, counts, first_machine, stranded_in}
 use Rattle.otel_batch.specs.PermittedStep.{IsErrorOf, is_crowded}
 use Rattle.otel_batch.specs.KnownRequests.{step_of}
 use Rattle.otel_batch.specs.MachineRun.{Run}
@@ -113,11 +113,12 @@ module _ {E : Type 0} (calls : Ghosts E) where
     pub ok : answer ≡ Ok tt
     pub rest : new ≡ record old { machine = new.machine }
 
-  -- a flush or a shutdown
+  -- a flush or a shutdown. Where the queue is closed behind it, no span was left behind
   pub record BatchRequests (asked : Request) (old : BatchProcessor E) (answer : Result (Unit {0}) OTelSdkError)
       (new : BatchProcessor E) : Type 0 where
     pub requests : Requests asked old.machine answer new.machine
     pub rest : new ≡ record old { machine = new.machine }
+    pub left : new.machine.control.closed ≡ true → stranded_in new.machine ≡ Some 0
 
   -- the worker works until it has nothing to do
   pub record WorksUntilIdle (old : BatchProcessor E) (answer : Result (Unit {0}) OTelSdkError)

@@ -1,13 +1,14 @@
 //! What a batch processor does with its queue, which has one producer: a span is offered and goes as far as it goes, a
 //! request is carried out, and the worker works until it has nothing to do. Between two calls the queue is at rest.
 
-ghost use Rattle.std.specs.Prelude.{◌≡◌, false, List, [], ◌∷◌, Ok, OnOk, slice_get, option_copied};
+ghost use Rattle.std.specs.Prelude.{◌≡◌, true, false, List, [], ◌∷◌, Some, Ok, OnOk, slice_get, option_copied};
 ghost use Rattle.std.specs.Result.{result_err};
 ghost use Rattle.std.specs.declared.alloc.AllocError.{AllocError};
 ghost use Rattle.otel_pipeline.specs.ProcessorTelling.{TakesNothing, TakesSpan};
 ghost use Rattle.otel_pipeline.specs.Provider.{IsInternalFailure};
 ghost use Rattle.otel_batch.specs.Slots.{slot_waits};
 ghost use Rattle.otel_batch.specs.KnownRequests.{step_of};
+ghost use Rattle.otel_batch.specs.MachineState.{stranded_in};
 ghost use Rattle.otel_batch.specs.MachineRun.{Run};
 ghost use Rattle.otel_batch.specs.declared.machine.state.Request.TheVariants as request;
 ghost use Rattle.otel_batch.specs.declared.machine.step.Outcome as outcomes;
@@ -56,6 +57,7 @@ pub(crate) fn make_request<E: SpanExporter>(
     ensures told { TakesNothing (queue_telling E.SpanExporter machine.old) (queue_telling E.SpanExporter machine.new) }
     ensures emptied { OnOk result (machine.new.waiting ≡ []) }
     ensures is_open { asked ≡ request.Flush → machine.new.control.closed ≡ machine.old.control.closed }
+    ensures left { machine.new.control.closed ≡ true → stranded_in machine.new ≡ Some 0 }
     ensures rest { IsAtRest machine.new }
 {
     machine.is_sound();

@@ -1,4 +1,4 @@
-use Rattle.opentelemetry_sdk.proofs.Calls.{IsMade, made_answered, made_closed, made_refused}
+use Rattle.opentelemetry_sdk.proofs.Calls.{IsMade, made_answered, made_closed, made_refused, none_stranded}
 use Rattle.opentelemetry_sdk.proofs.trace.batch_worker.make_request.Goals.{in-Requested, in-Closed, in_default}
 use Rattle.opentelemetry_sdk.proofs.trace.batch_worker.make_request.Goals as goal
 
@@ -33,6 +33,9 @@ returns-clause-emptied g c = (made g c).emptied
 
 pub returns-clause-is_open : goal.returns-clause-is_open
 returns-clause-is_open g c = (made g c).is_open
+
+pub returns-clause-left : goal.returns-clause-left
+returns-clause-left g c = none_stranded c.match-post_request.machine (made g c).rest
 
 pub returns-clause-rest : goal.returns-clause-rest
 returns-clause-rest g c = (made g c).rest
