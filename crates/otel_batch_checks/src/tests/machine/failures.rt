@@ -64,12 +64,11 @@ fn take_all(
     }
 }
 
-/// Three spans of producer 0 behind a request of producer 1, and the drain of that request up to the second batch.
+/// Three spans of producer 0 behind a request of producer 1, and the drain of that request up to its first batch.
 fn first_batch(
     alloc: Global,
     queue: &mut BatchMachine<ExporterBox>,
     request: (&str, &str),
-    handed: &str,
 ) -> Result<(), Fail> {
     let script = [
         (request.0, "requested"),
@@ -86,8 +85,6 @@ fn first_batch(
         ("load", "loaded 3"),
         ("pull", "pulled"),
         ("pull", "pulled"),
-        ("hand", handed),
-        ("subtract", "subtracted"),
     ];
     take_all(alloc, queue, &script)
 }
@@ -98,9 +95,10 @@ const FLUSH: (&str, &str) = ("flush 1", "took flush 1");
 fn a_flush_answers_its_first_failed_batch(rt: HostRuntime) -> Result<(), Fail> {
     let alloc = rt.alloc();
     let mut queue = failing(alloc, Some(timeout()), None)?;
-    let handed = "handed over 2 Operation timed out after 1s";
-    first_batch(alloc, &mut queue, FLUSH, handed)?;
+    first_batch(alloc, &mut queue, FLUSH)?;
     let script = [
+        ("hand", "handed over 2 Operation timed out after 1s"),
+        ("subtract", "subtracted"),
         ("pull", "pulled"),
         ("hand", "handed over 1"),
         ("subtract", "subtracted"),
@@ -114,9 +112,10 @@ fn a_flush_answers_its_first_failed_batch(rt: HostRuntime) -> Result<(), Fail> {
 fn a_later_failure_does_not_hide_the_first(rt: HostRuntime) -> Result<(), Fail> {
     let alloc = rt.alloc();
     let mut queue = failing(alloc, Some(failure(alloc)?), Some(timeout()))?;
-    let handed = "handed over 2 Operation failed: ";
-    first_batch(alloc, &mut queue, FLUSH, handed)?;
+    first_batch(alloc, &mut queue, FLUSH)?;
     let script = [
+        ("hand", "handed over 2 Operation failed: "),
+        ("subtract", "subtracted"),
         ("pull", "pulled"),
         ("hand", "handed over 1 Operation timed out after 1s"),
         ("subtract", "subtracted"),
@@ -133,7 +132,12 @@ fn is_second_batch_refused(
     queue: &mut BatchMachine<ExporterBox>,
     request: (&str, &str),
 ) -> Result<bool, Fail> {
-    first_batch(alloc, queue, request, "handed over 2 Operation failed: ")?;
+    first_batch(alloc, queue, request)?;
+    let script = [
+        ("hand", "handed over 2 Operation failed: "),
+        ("subtract", "subtracted"),
+    ];
+    take_all(alloc, queue, &script)?;
     let is_refused = match queue.step(Step::Pull) {
         Outcome::NoMemory => true,
         Outcome::Pulled => false,
