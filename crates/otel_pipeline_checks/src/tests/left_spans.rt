@@ -1,23 +1,17 @@
 //! What a provider reports when it is closed, of the spans that are left in its processors.
 
-use super::fixtures::{TestProcessor, TestSampler, config_under, end, exporting, shut, start_in};
+use super::fixtures::{TestSampler, config_under, end, shut, start_in};
 use opentelemetry::Context;
-use opentelemetry_sdk::trace::{BatchSpanProcessor, ProcessorOf};
+use opentelemetry_sdk::trace::Processor;
 use otel_base::error::{OTelSdkError, OTelSdkResult};
 use otel_base::resource::Resource;
 use otel_base::trace::{BatchStrings, RandomIdGenerator, ShouldSample};
-use otel_export::trace::InMemorySpanExporter;
+use otel_export::trace::{ExporterBox, InMemorySpanExporter};
 use otel_pipeline::trace::{
-    CloseReport, LeavesSpans, ProviderBuilderOf, ProviderOf, SpanProcessor,
+    CloseReport, LeavesSpans, OverExporter, ProviderBuilderOf, ProviderOf, SpanProcessor,
 };
 use std::alloc::{AllocError, Global};
 use std::test::Fail;
-
-fn batch_processor(alloc: Global) -> Result<TestProcessor, AllocError> {
-    let exporter = InMemorySpanExporter::new(alloc);
-    let batch = BatchSpanProcessor::builder(alloc, exporter).build()?;
-    Ok(ProcessorOf::Batch(batch))
-}
 
 /// The processor, which is told an empty resource so often.
 fn told<P: SpanProcessor>(alloc: Global, mut processor: P, times: u32) -> Result<P, AllocError> {
@@ -69,28 +63,43 @@ fn report<P: LeavesSpans, S: Drop>(provider: ProviderOf<P, S, RandomIdGenerator>
     provider.close()
 }
 
-/// A span ends at this processor behind 63 resources and that of the builder, so that there is no room for requests in
-/// a batch processor; then the provider is shut down twice and closed.
-fn closed_behind_resources<P: LeavesSpans>(
+/// A span ends at a batch processor behind 63 resources and that of the builder, so that there is no room for requests;
+/// then the provider is shut down twice and closed.
+fn closed_behind_resources<P: OverExporter + LeavesSpans>(
     alloc: Global,
-    processor: P,
+    exporter: P::Exporter,
 ) -> Result<(usize, [OTelSdkResult; 2], CloseReport), AllocError> {
-    let mut provider = built(alloc, vec![in alloc; told(alloc, processor, 63)?]?)?;
+    let batch = P::batch(alloc, exporter, &BatchStrings::default())?;
+    let mut provider = built(alloc, vec![in alloc; told(alloc, batch, 63)?]?)?;
     let ended = start_and_end(alloc, &mut provider);
     let shutdowns = [shut(&mut provider), shut(&mut provider)];
     let report = report(provider);
     Ok((ended?, shutdowns, report))
 }
 
+/// An open provider over a processor of each kind is closed at which no span ended.
+fn closed_idle<P: OverExporter + LeavesSpans>(
+    alloc: Global,
+    first: P::Exporter,
+    second: P::Exporter,
+) -> Result<CloseReport, AllocError> {
+    let batch = P::batch(alloc, second, &BatchStrings::default())?;
+    let processors = vec![in alloc; P::simple(alloc, first), batch]?;
+    Ok(report(built(alloc, processors)?))
+}
+
+fn memory(alloc: Global) -> ExporterBox {
+    ExporterBox::Memory(InMemorySpanExporter::new(alloc))
+}
+
 #[test]
 fn a_close_counts_the_spans_that_are_left(rt: HostRuntime) -> Result<(), Fail> {
     let alloc = rt.alloc();
-    let (refused, [first, second], report_of_one) = closed_behind_resources(
+    let (refused, [first, second], report_of_one) = closed_behind_resources::<Processor>(
         alloc,
-        batch_processor(alloc)?,
+        memory(alloc),
     )?;
-    let idle = vec![in alloc; exporting(alloc), batch_processor(alloc)?]?;
-    let report_of_none = report(built(alloc, idle)?);
+    let report_of_none = closed_idle::<Processor>(alloc, memory(alloc), memory(alloc))?;
     assert_eq!(rt; refused, 0);
     assert!(rt; matches!(first, Err(OTelSdkError::InternalFailure(_))));
     assert_eq!(rt; second, Err(OTelSdkError::AlreadyShutdown));
