@@ -70,7 +70,9 @@ fn closed_behind_resources<P: OverExporter + LeavesSpans>(
     exporter: P::Exporter,
 ) -> Result<(usize, [OTelSdkResult; 2], CloseReport), AllocError> {
     let batch = P::batch(alloc, exporter, &BatchStrings::default())?;
-    let mut provider = built(alloc, vec![in alloc; told(alloc, batch, 63)?]?)?;
+    let mut processors = Vec::new(alloc);
+    processors.push(told(alloc, batch, 63)?)?;
+    let mut provider = built(alloc, processors)?;
     let ended = start_and_end(alloc, &mut provider);
     let shutdowns = [shut(&mut provider), shut(&mut provider)];
     let report = report(provider);
@@ -84,7 +86,9 @@ fn closed_idle<P: OverExporter + LeavesSpans>(
     second: P::Exporter,
 ) -> Result<CloseReport, AllocError> {
     let batch = P::batch(alloc, second, &BatchStrings::default())?;
-    let processors = vec![in alloc; P::simple(alloc, first), batch]?;
+    let mut processors = Vec::new(alloc);
+    processors.push(P::simple(alloc, first))?;
+    processors.push(batch)?;
     Ok(report(built(alloc, processors)?))
 }
 
