@@ -1,14 +1,14 @@
 -- Lemmas on chunks in a circle: which items they hold, and what a put and a taking leave.
 use Rattle.std.proofs.Common.{◌≡◌, ℕ, zero, suc, ◌+◌, ◌-◌, ◌*◌, ◌/◌, ◌%◌, ◌^◌, ◌<◌, ◌≤◌, List, [], ◌∷◌, ◌++◌, length, take, drop, set, replicate, slice_get, Some, None}
-use Rattle.std.proofs.Common.{Bool, true, false, ◌==◌, get_or, Result, Ok, Err, IsOk, refl, sym, ap, ◌∙◌, subst, inl, inr, arith, append_assoc, append-nil, length-append, length-take, length-drop}
-use Rattle.std.proofs.lemmas.List.{take-append-drop, take_at, drop_at, set-append_left, set-append_right, length-set, length-replicate, nil_from_length, drop-append-le}
+use Rattle.std.proofs.Common.{true, false, ◌==◌, get_or, Result, Ok, Err, IsOk, refl, sym, ap, ◌∙◌, subst, inl, inr, arith, append_assoc, append-nil, length-append, length-take, length-drop}
+use Rattle.std.proofs.lemmas.List.{take-append-drop, take_at, drop_at, set-get_or, set-append_left, set-append_right, length-set, length-replicate, nil_from_length, drop-append-le}
 use Rattle.std.proofs.lemmas.Option.{same_Some, none-some, slice_get_read}
 use Rattle.std.proofs.lemmas.Bool.{false≢true}
 use Rattle.std.proofs.lemmas.Bool.Decides.{nat_tests}
 use Rattle.circular_buffer.specs.Buffer.{Buffer, buffer}
 use Rattle.circular_buffer.specs.Places.{Wraps}
 use Rattle.circular_buffer.proofs.Places.{cut_front, slice_get-append_left, slice_get-append_right}
-use Rattle.otel_queue.specs.SpanQueue.{circle, items_of, len_of, len_at, IsChunk, AllEmpty, IsFilled, IsLaid, IsQueue, IsQueueTo, PutsAt, TakesAt}
+use Rattle.otel_queue.specs.SpanQueue.{circle, items_of, len_of, len_at, IsChunk, AllEmpty, IsFilled, IsLaid, IsQueue, IsQueueTo, TakesAt}
 
 -- an `Ok` is no `Err`, and a list that has an item has a first one
 pub ok_is_no_err : {A E : Type 0} (r : Result A E) (e : E) → IsOk r → r ≡ Err e → ⊥
@@ -91,12 +91,6 @@ module _ {X : Type 0} where
   pub chunk_at : (h j n p : ℕ) (cs : List (Buffer X)) (c : Buffer X) → h < length cs → j < length cs → n ≡ length cs → Wraps h j n p → c ≡ get_or cs p c → slice_get (circle h cs) j ≡ Some c
   chunk_at h j n p cs c hl jl e w is =
       slice_get-circle h j p cs hl jl (subst (λ m. Wraps h j m p) e w) ∙ slice_get_read cs n p c e w.0 is
-
-  pub full_len : (c : Buffer X) (r : Bool) → IsChunk c → r ≡ (length c.items == c.capacity) → r ≡ true → length c.items ≡ 64
-  full_len c r chunk e t = let all = chunk.0 in grind (arith, nat_tests)
-
-  pub room_len : (c : Buffer X) (r : Bool) → IsChunk c → r ≡ (length c.items == c.capacity) → r ≡ false → length c.items < 64
-  room_len c r chunk e f = let all = chunk.0 in let most = chunk.1 in grind (arith, nat_tests)
 
   -- a write to the chunk that lies j steps behind the head
   pub circle-set : (h j p : ℕ) (cs : List (Buffer X)) (c : Buffer X) → h < length cs → j < length cs → Wraps h j (length cs) p → circle h (set cs p c) ≡ set (circle h cs) j c
@@ -419,25 +413,27 @@ module _ {X : Type 0} where
       let within = laid_within queue.steps (circle head cs) queue.queue.laid in
       slice_get-circle head queue.steps tail cs queue.queue.place (omega arith) queue.at ∙ is
 
-  pub put_has_room : (cs : List (Buffer X)) (head tail len limit p : ℕ) → IsQueueTo cs head tail len limit → len < limit → PutsAt cs tail p → HasRoom cs head p
-  put_has_room cs head tail len limit p queue lt puts =
-      let got = tail_at cs head tail len limit puts.chunk queue puts.is in
+  tail_has_room : (cs : List (Buffer X)) (head tail len limit : ℕ) (c : Buffer X) → IsQueueTo cs head tail len limit → slice_get cs tail ≡ Some c
+      → length c.items < c.capacity → HasRoom cs head tail
+  tail_has_room cs head tail len limit c queue is lt =
+      let got = tail_at cs head tail len limit c queue is in
       let chunk = laid_chunk _ _ _ _ queue.queue.laid got in
-      elim puts.place [
-        | inl next ↦
-            let full = full_len puts.chunk true chunk (sym next.0) refl in
-            let all = length-circle head cs queue.queue.place in
-            let more = next_tail queue.steps (circle head cs) queue.queue.laid (ap len_of got ∙ full) (omega (arith, queue.queue.chunks.0, queue.queue.count.0)) in
-            record {
-              steps = queue.steps + 1;
-              laid = more.laid;
-              room = more.room;
-              at = wraps_more head queue.steps (length cs) tail p queue.queue.place (omega (arith, more.within)) queue.at next.1;
-            }
-        | inr here ↦
-            let room = room_len puts.chunk false chunk (sym here.0) refl in
-            subst (HasRoom cs head) (sym here.1) (record { steps = queue.steps; laid = queue.queue.laid; room = omega (arith, ap len_of got); at = queue.at })
-      ]
+      record { steps = queue.steps; laid = queue.queue.laid; room = omega (arith, ap len_of got, chunk.0); at = queue.at }
+
+  next_has_room : (cs : List (Buffer X)) (head tail len limit p : ℕ) (c : Buffer X) → IsQueueTo cs head tail len limit → len < limit → slice_get cs tail ≡ Some c
+      → (length c.items < c.capacity → ⊥) → Wraps tail 1 (length cs) p → HasRoom cs head p
+  next_has_room cs head tail len limit p c queue lt is full next =
+      let got = tail_at cs head tail len limit c queue is in
+      let chunk = laid_chunk _ _ _ _ queue.queue.laid got in
+      let items : length c.items ≡ 64 = grind (arith, full, chunk.0, chunk.1) in
+      let all = length-circle head cs queue.queue.place in
+      let more = next_tail queue.steps (circle head cs) queue.queue.laid (ap len_of got ∙ items) (omega (arith, queue.queue.chunks.0, queue.queue.count.0)) in
+      record {
+        steps = queue.steps + 1;
+        laid = more.laid;
+        room = more.room;
+        at = wraps_more head queue.steps (length cs) tail p queue.queue.place (omega (arith, more.within)) queue.at next;
+      }
 
   -- a queue with the item x put into the chunk c, where there is room
   pub record IsPut (cs : List (Buffer X)) (head len limit p : ℕ) (c : Buffer X) (x : X) : Type 0 where
@@ -471,6 +467,32 @@ module _ {X : Type 0} where
         };
         items = items;
         room = omega (arith, (laid_chunk k (circle head cs) k c has.laid got).0);
+      }
+
+  -- a put into the tail chunk c, which has room
+  pub tail_put : (cs : List (Buffer X)) (head tail len limit : ℕ) (c : Buffer X) (x : X) → IsQueueTo cs head tail len limit → len < limit
+      → c ≡ get_or cs tail c → length c.items < c.capacity → IsPut cs head len limit tail c x
+  tail_put cs head tail len limit c x to lt is room =
+      let got = slice_get_read cs (length cs) tail c refl to.at.0 is in
+      queue_put cs head tail len limit tail c x to lt (tail_has_room cs head tail len limit c to got room) is
+
+  -- a put into the chunk d behind the tail chunk c, which is full and was written back as it was
+  pub record IsPutNext (cs : List (Buffer X)) (head tail len limit p : ℕ) (c d : Buffer X) (x : X) : Type 0 where
+    pub written : (e : Buffer X) → e ≡ put_in d x → set (set cs tail c) p e ≡ set cs p (put_in d x)
+    pub put : IsPut cs head len limit p d x
+
+  pub next_put : (cs : List (Buffer X)) (head tail len limit p n : ℕ) (b c d : Buffer X) (x : X) → IsQueueTo cs head tail len limit → len < limit
+      → b ≡ get_or cs tail b → (length b.items < b.capacity → false ≡ true) → c ≡ b
+      → n ≡ length cs → Wraps tail 1 n p → d ≡ get_or (set cs tail c) p d
+      → IsPutNext cs head tail len limit p c d x
+  next_put cs head tail len limit p n b c d x to lt is full back e next behind =
+      let same : set cs tail c ≡ cs = ap (set cs tail) (back ∙ is) ∙ set-get_or cs tail b in
+      let got = slice_get_read cs (length cs) tail b refl to.at.0 is in
+      let at = subst (λ m. Wraps tail 1 m p) e next in
+      let has = next_has_room cs head tail len limit p b to lt got (λ room. false≢true (full room)) at in
+      record {
+        written = λ e w. ap (set (set cs tail c) p) w ∙ ap (λ l. set l p (put_in d x)) same;
+        put = queue_put cs head tail len limit p d x to lt has (behind ∙ ap (λ l. get_or l p d) same);
       }
 
   -- a queue of the items xs, whose head has one

@@ -54,13 +54,6 @@ module _ {X : Type 0} where
     pub queue : IsQueue cs head steps len limit
     pub at : Wraps head steps (length cs) tail
 
-  -- the next item goes to the place p where the tail lies at this one: behind a full chunk
-  pub record PutsAt (cs : List (Buffer X)) (tail p : ℕ) : Type 0 where
-    pub chunk : Buffer X
-    pub is : slice_get cs tail ≡ Some chunk
-    pub place : (((length chunk.items == chunk.capacity) ≡ true) × Wraps tail 1 (length cs) p)
-        ⊎ (((length chunk.items == chunk.capacity) ≡ false) × (p ≡ tail))
-
   -- the oldest item is at the place p where the head lies at this one: behind an empty chunk
   pub record TakesAt (cs : List (Buffer X)) (head p : ℕ) : Type 0 where
     pub chunk : Buffer X

@@ -4,7 +4,7 @@ ghost use Rattle.std.specs.Prelude.{◌≡◌, ◌^◌, ◌*◌, ◌-◌, ◌<�
 ghost use Rattle.std.specs.Prelude.{slice_get, option_copied, ◌↔◌, IsOk, IfOk, IfErr, OnOk};
 ghost use Rattle.circular_buffer.specs.Buffer.{buffer};
 ghost use Rattle.circular_buffer.specs.Places.{Wraps};
-ghost use Rattle.otel_queue.specs.SpanQueue.{PutsAt, TakesAt};
+ghost use Rattle.otel_queue.specs.SpanQueue.{TakesAt};
 
 use circular_buffer::HeapCircularBuffer;
 use std::alloc::{AllocError, Global};
@@ -48,18 +48,6 @@ fn place_behind(from: usize, steps: usize, count: usize) -> usize
 {
     let place = from + steps;
     if place < count { place } else { place - count }
-}
-
-/// The place of the chunk that takes the next item: the tail's, and where that is full the one behind it.
-fn place_to_put<T>(chunks: &[HeapCircularBuffer<T>], tail: usize) -> usize
-    requires { (tail < length chunks.now) × (length chunks.now < 2 ^ 63) }
-    ensures { PutsAt chunks.now tail result }
-{
-    if chunks[tail].is_full() {
-        place_behind(tail, 1, chunks.len())
-    } else {
-        tail
-    }
 }
 
 /// The place of the chunk with the oldest item: the head's, and where that is empty the one behind it.
@@ -162,12 +150,19 @@ impl<T: Drop> SpanQueue<T> {
         if self.len >= self.limit {
             return Err(item);
         }
-        let tail = place_to_put(&self.chunks, self.tail);
-        // The item is moved before anything is written: it would be copied once more behind a write.
-        let Ok(()) = self.chunks[tail].try_push_back(item) else {
+        // A full tail chunk hands the item back, and the one behind it becomes the tail.
+        let item = match self.chunks[self.tail].try_push_back(item) {
+            Ok(()) => {
+                self.len += 1;
+                return Ok(());
+            }
+            Err(item) => item,
+        };
+        let next = place_behind(self.tail, 1, self.chunks.len());
+        let Ok(()) = self.chunks[next].try_push_back(item) else {
             unreachable!();
         };
-        self.tail = tail;
+        self.tail = next;
         self.len += 1;
         Ok(())
     }
