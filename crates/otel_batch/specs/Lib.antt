@@ -1,4 +1,5 @@
 pub mod PlainBatchConfig
+pub mod SpanQueue
 pub mod Slots
 pub mod Messages
 pub mod Workers

@@ -8,10 +8,12 @@ pub mod batch_machine;
 mod producer_steps;
 mod queue;
 mod slots;
+pub mod span_queue;
 pub mod state;
 pub mod step;
 mod worker_steps;
 
 pub use batch_machine::BatchMachine;
+pub use span_queue::SpanQueue;
 pub use state::{Message, Request, Slot, Why, Worker};
 pub use step::{Outcome, Step};

@@ -1,3 +1,4 @@
 //! Tests of `otel_batch`.
 
 mod machine;
+mod span_queue;

@@ -3,13 +3,13 @@
 ghost use Rattle.std.specs.Prelude.{◌≡◌, ◌++◌, ℕ, true, [], IsOk, IfOk, IfErr, OnOk, length, slice_get};
 
 use crate::machine::slots::idle_slots;
+use crate::machine::span_queue::SpanQueue;
 use crate::machine::state::{Message, Request, Slot, Why, Worker};
 use crate::machine::step::{Outcome, Step};
 use crate::trace::batch_config::BatchConfig;
 use circular_buffer::HeapCircularBuffer;
 use otel_base::error::OTelSdkResult;
 use otel_export::trace::{SpanData, SpanExporter};
-use otel_queue::SpanQueue;
 use std::alloc::{AllocError, Global};
 use std::marker::Model;
 

@@ -1,4 +1,0 @@
-//! Tests of `otel_export`.
-
-mod exporter_box;
-mod span_data;

@@ -1,0 +1,6 @@
+//! Tests of `opentelemetry`, `otel_base` and `otel_export`: what no clause says of them. They stand apart, so that these
+//! crates are proved once and their edits are tried beside no test.
+#![tactic(auto)]
+
+#[cfg(test)]
+mod tests;
