@@ -7,9 +7,7 @@ mod refusals;
 mod script;
 mod watching;
 
-use crate::tests::machine::script::{
-    counts_text, first_difference, machine, sizes, span, spans_text, step_of, text_of,
-};
+use crate::tests::machine::script::{machine, play, sizes, span, step_of, text_of};
 use otel_base::error::{OTelSdkError, OTelSdkResult};
 use otel_batch::machine::{BatchMachine, Outcome, Slot, Step, Worker};
 use otel_export::trace::{ExporterBox, SpanData, SpanExporter};
@@ -20,39 +18,15 @@ use std::time::Duration;
 /// Steps in states in which they are not enabled, and steps of producers that there are not.
 #[test]
 fn a_step_out_of_turn_is_not_enabled(rt: HostRuntime) -> Result<(), Fail> {
-    let alloc = rt.alloc();
-    let mut queue = machine(alloc, 2, 2, 1)?;
-    let script = [
-        ("offer-unsampled 0 a", "skipped"),
-        ("send 0", "not enabled"),
-        ("undo 0", "not enabled"),
-        ("ask 0", "not enabled"),
-        ("post 0", "not enabled"),
-        ("reset 0", "not enabled"),
-        ("collect 0", "not enabled"),
-        ("clear", "not enabled"),
-        ("pull", "not enabled"),
-        ("hand", "not enabled"),
-        ("subtract", "not enabled"),
-        ("finish", "not enabled"),
-        ("close", "not enabled"),
-        ("take", "nothing"),
-        ("offer 1 a", "not enabled"),
-        ("offer 0 a", "counted 1"),
-        ("offer 0 b", "not enabled"),
-        ("flush 0", "not enabled"),
-        ("shutdown 0", "not enabled"),
-        ("resource", "posted"),
-        ("take", "took resource"),
-        ("tick", "ticked"),
-        ("tick", "not enabled"),
-    ];
-    assert_eq!(rt; first_difference(alloc, &mut queue, &script)?.as_str(), "");
-    assert_eq!(rt;
-        counts_text(alloc, &queue)?.as_str(),
-        "counter 1 dropped 0 open"
-    );
-    Ok(())
+    let mut queue = machine(rt.alloc(), 2, 2, 1)?;
+    let script = "offer-unsampled 0 a: skipped\nsend 0: not enabled\nundo 0: not enabled\n\
+        ask 0: not enabled\npost 0: not enabled\nreset 0: not enabled\ncollect 0: not enabled\n\
+        clear: not enabled\npull: not enabled\nhand: not enabled\nsubtract: not enabled\n\
+        finish: not enabled\nclose: not enabled\ntake: nothing\noffer 1 a: not enabled\n\
+        offer 0 a: counted 1\noffer 0 b: not enabled\nflush 0: not enabled\n\
+        shutdown 0: not enabled\nresource: posted\ntake: took resource\ntick: ticked\n\
+        tick: not enabled\nstands: counter 1 dropped 0 open; waiting [] hand [] told";
+    play(rt.alloc(), &mut queue, &[script])
 }
 
 /// An exporter of a caller's own, which fails with a text.
@@ -100,131 +74,68 @@ impl SpanExporter for Alternating {
     }
 }
 
+fn before_alternating(alloc: Global) -> Result<BatchMachine<ExporterBox>, AllocError> {
+    let exporter = ExporterBox::Custom(Box::new(alloc, Alternating { fails: false })?);
+    BatchMachine::new(alloc, exporter, sizes(3, 1), 2)
+}
+
+fn before_failing(alloc: Global) -> Result<BatchMachine<ExporterBox>, AllocError> {
+    let exporter = ExporterBox::Custom(Box::new(alloc, Failing { alloc })?);
+    BatchMachine::new(alloc, exporter, sizes(2, 0), 1)
+}
+
 /// The exporter's first error is a drain's result, also that of a flush. A request that waits at a close is dropped.
 #[test]
 fn the_first_failure_of_a_drain_is_its_result(rt: HostRuntime) -> Result<(), Fail> {
-    let alloc = rt.alloc();
-    let exporter = ExporterBox::Custom(Box::new(alloc, Alternating { fails: false })?);
-    let mut queue = BatchMachine::new(alloc, exporter, sizes(3, 1), 2)?;
-    let script = [
-        ("offer 0 a", "counted 1"),
-        ("send 0", "accepted"),
-        ("ask 0", "may post"),
-        ("post 0", "posted"),
-        ("offer 0 b", "counted 2"),
-        ("send 0", "accepted"),
-        ("ask 0", "already asked"),
-        ("flush 1", "requested"),
-        ("take", "took export"),
-        ("clear", "cleared"),
-        ("load", "loaded 2"),
-        ("pull", "pulled"),
-        ("hand", "handed over 1 Operation timed out after 1s"),
-        ("subtract", "subtracted"),
-        ("pull", "pulled"),
-        ("hand", "handed over 1"),
-        ("subtract", "subtracted"),
-        ("finish", "finished Operation timed out after 1s"),
-        ("offer 0 c", "counted 1"),
-        ("send 0", "accepted"),
-        ("ask 0", "may post"),
-        ("post 0", "posted"),
-        ("take", "took flush 1"),
-        ("load", "loaded 1"),
-        ("pull", "pulled"),
-        ("hand", "handed over 1 Operation timed out after 1s"),
-        ("subtract", "subtracted"),
-        ("finish", "finished"),
-        ("collect 1", "collected Operation timed out after 1s"),
-    ];
-    assert_eq!(rt; first_difference(alloc, &mut queue, &script)?.as_str(), "");
-    let script = [
-        ("take", "took export"),
-        ("clear", "cleared"),
-        ("load", "loaded 0"),
-        ("finish", "finished"),
-        ("shutdown 1", "requested"),
-        ("shutdown 0", "requested"),
-        ("take", "took shutdown 1"),
-        ("load", "loaded 0"),
-        ("finish", "finished"),
-        ("close", "shut down 0"),
-        ("collect 1", "collected ok"),
-        (
-            "collect 0",
-            "collected Operation failed: request dropped by shutdown",
-        ),
-    ];
-    assert_eq!(rt; first_difference(alloc, &mut queue, &script)?.as_str(), "");
-    Ok(())
+    let mut queue = before_alternating(rt.alloc())?;
+    let timer = "offer 0 a: counted 1\nsend 0: accepted\nask 0: may post\npost 0: posted\n\
+        offer 0 b: counted 2\nsend 0: accepted\nask 0: already asked\nflush 1: requested\n\
+        take: took export\nclear: cleared\nload: loaded 2\npull: pulled\n\
+        hand: handed over 1 Operation timed out after 1s\nsubtract: subtracted\npull: pulled\n\
+        hand: handed over 1\nsubtract: subtracted\n\
+        finish: finished Operation timed out after 1s";
+    let flush = "offer 0 c: counted 1\nsend 0: accepted\nask 0: may post\npost 0: posted\n\
+        take: took flush 1\nload: loaded 1\npull: pulled\n\
+        hand: handed over 1 Operation timed out after 1s\nsubtract: subtracted\nfinish: finished\n\
+        collect 1: collected Operation timed out after 1s";
+    let close = "take: took export\nclear: cleared\nload: loaded 0\nfinish: finished\n\
+        shutdown 1: requested\nshutdown 0: requested\ntake: took shutdown 1\nload: loaded 0\n\
+        finish: finished\nclose: shut down 0\ncollect 1: collected ok\n\
+        collect 0: collected Operation failed: request dropped by shutdown";
+    play(rt.alloc(), &mut queue, &[timer, flush, close])
 }
 
 /// The exporter's answer is the result of a timer's drain and of one that was asked for; that of its shutdown is
 /// dropped.
 #[test]
 fn the_answer_of_an_exporter_is_the_result_of_a_drain(rt: HostRuntime) -> Result<(), Fail> {
-    let alloc = rt.alloc();
-    let exporter = ExporterBox::Custom(Box::new(alloc, Failing { alloc })?);
-    let mut queue = BatchMachine::new(alloc, exporter, sizes(2, 0), 1)?;
-    let script = [
-        ("offer 0 a", "counted 1"),
-        ("send 0", "accepted"),
-        ("ask 0", "may post"),
-        ("post 0", "posted"),
-        ("tick", "ticked"),
-        ("load", "loaded 1"),
-        ("pull", "pulled"),
-        ("pull", "empty"),
-        ("hand", "handed over 1 Operation failed: "),
-        ("subtract", "subtracted"),
-        ("finish", "finished Operation failed: no route"),
-        ("offer 0 b", "counted 1"),
-        ("send 0", "accepted"),
-        ("ask 0", "already asked"),
-        ("flush 0", "requested"),
-        ("take", "took export"),
-        ("clear", "cleared"),
-        ("load", "loaded 1"),
-        ("pull", "pulled"),
-        ("pull", "empty"),
-        ("hand", "handed over 1 Operation failed: "),
-        ("subtract", "subtracted"),
-        ("finish", "finished Operation failed: no route"),
-    ];
-    assert_eq!(rt; first_difference(alloc, &mut queue, &script)?.as_str(), "");
-    let script = [
-        ("take", "took flush 0"),
-        ("load", "loaded 0"),
-        ("finish", "finished"),
-        ("collect 0", "collected ok"),
-        ("shutdown 0", "requested"),
-        ("take", "took shutdown 0"),
-        ("load", "loaded 0"),
-        ("finish", "finished"),
-        ("close", "shut down 0"),
-        ("collect 0", "collected ok"),
-    ];
-    assert_eq!(rt; first_difference(alloc, &mut queue, &script)?.as_str(), "");
+    let mut queue = before_failing(rt.alloc())?;
+    let timer =
+        "offer 0 a: counted 1\nsend 0: accepted\nask 0: may post\npost 0: posted\ntick: ticked\n\
+        load: loaded 1\npull: pulled\npull: empty\nhand: handed over 1 Operation failed: \n\
+        subtract: subtracted\nfinish: finished Operation failed: no route";
+    let asked = "offer 0 b: counted 1\nsend 0: accepted\nask 0: already asked\nflush 0: requested\n\
+        take: took export\nclear: cleared\nload: loaded 1\npull: pulled\npull: empty\n\
+        hand: handed over 1 Operation failed: \nsubtract: subtracted\n\
+        finish: finished Operation failed: no route";
+    let requests = "take: took flush 0\nload: loaded 0\nfinish: finished\ncollect 0: collected ok\n\
+        shutdown 0: requested\ntake: took shutdown 0\nload: loaded 0\nfinish: finished\n\
+        close: shut down 0\ncollect 0: collected ok";
+    play(rt.alloc(), &mut queue, &[timer, asked, requests])
+}
+
+/// Five spans of producer 0, and what it then asks and posts.
+fn offer_five(alloc: Global, queue: &mut BatchMachine<ExporterBox>) -> Result<(), Fail> {
+    for _ in 0..5 {
+        for step in ["offer 0 a", "send 0", "ask 0", "post 0"] {
+            queue.step(step_of(alloc, step)?);
+        }
+    }
     Ok(())
 }
 
-/// How many enabled steps the worker takes from a load of five spans to the finish, for this size of batches.
-fn drain_steps(alloc: Global, batch_size: usize) -> Result<usize, Fail> {
-    let mut queue = machine(alloc, 5, batch_size, 1)?;
-    for _ in 0..5 {
-        queue.step(step_of(alloc, "offer 0 a")?);
-        if queue.step(Step::Send(0)) != Outcome::Accepted {
-            return Err(Fail::new("a send was refused"));
-        }
-        queue.step(Step::Ask(0));
-        queue.step(Step::Post(0));
-    }
-    if queue.step(Step::Tick) != Outcome::Ticked {
-        return Err(Fail::new("the timer was not heard"));
-    }
-    if queue.step(Step::Load) != Outcome::Loaded(5) {
-        return Err(Fail::new("the drain was not loaded with five spans"));
-    }
+/// How many enabled steps the worker takes up to the finish of its drain.
+fn drain_steps(queue: &mut BatchMachine<ExporterBox>) -> usize {
     let mut taken: usize = 0;
     for _ in 0..20 {
         for step in [Step::Pull, Step::HandOver, Step::Subtract] {
@@ -233,126 +144,126 @@ fn drain_steps(alloc: Global, batch_size: usize) -> Result<usize, Fail> {
             }
         }
     }
-    if queue.step(Step::Finish) != Outcome::Finished(None) {
-        return Err(Fail::new("the drain has not finished"));
-    }
+    taken
+}
+
+/// The same from a load of five spans, for this size of batches.
+fn drain_steps_of_five(alloc: Global, batch_size: usize) -> Result<usize, Fail> {
+    let mut queue = machine(alloc, 5, batch_size, 1)?;
+    offer_five(alloc, &mut queue)?;
+    play(alloc, &mut queue, &["tick: ticked\nload: loaded 5"])?;
+    let taken = drain_steps(&mut queue);
+    play(alloc, &mut queue, &["finish: finished"])?;
     Ok(taken)
 }
 
 /// Three steps a batch and one more a further span; a batch of all that waits ends where it meets its own size.
 #[test]
 fn a_drain_of_five_spans_takes_its_steps(rt: HostRuntime) -> Result<(), Fail> {
-    assert_eq!(rt; drain_steps(rt.alloc(), 1)?, 15);
-    assert_eq!(rt; drain_steps(rt.alloc(), 2)?, 11);
-    assert_eq!(rt; drain_steps(rt.alloc(), 0)?, 7);
+    for (batch_size, taken) in [(1, 15), (2, 11), (0, 7)] {
+        assert_eq!(rt;
+            drain_steps_of_five(rt.alloc(), batch_size)?,
+            taken,
+            "{batch_size}"
+        );
+    }
     Ok(())
+}
+
+/// The texts of outcomes, each with a semicolon behind it.
+fn texts_of(alloc: Global, outcomes: &[Outcome]) -> Result<String, AllocError> {
+    let mut text = String::new(alloc);
+    for outcome in outcomes {
+        text.push_str(text_of(alloc, outcome)?.as_str())?;
+        text.push(';')?;
+    }
+    Ok(text)
+}
+
+/// The outcomes of a run of these steps, behind one that was there.
+fn outcomes_of(alloc: Global, steps: Vec<Step>) -> Result<Vec<Outcome>, Fail> {
+    let mut queue = machine(alloc, 1, 1, 1)?;
+    let mut outcomes = vec![in alloc; Outcome::Nothing]?;
+    match queue.run(steps, &mut outcomes) {
+        Ok(()) => Ok(outcomes),
+        Err(_) => Err(Fail::new("no memory for the outcomes")),
+    }
+}
+
+fn offer_to_ask(alloc: Global) -> Result<Vec<Step>, Fail> {
+    let offer = step_of(alloc, "offer 0 a")?;
+    Ok(vec![in alloc; offer, Step::Send(0), Step::Ask(0), Step::Take]?)
 }
 
 /// A list of steps has the outcomes of its steps, behind those that were there.
 #[test]
 fn a_run_appends_its_outcomes(rt: HostRuntime) -> Result<(), Fail> {
-    let alloc = rt.alloc();
-    let mut queue = machine(alloc, 1, 1, 1)?;
-    let steps = vec![in alloc;
-        step_of(alloc, "offer 0 a")?,
-        Step::Send(0),
-        Step::Ask(0),
-        Step::Take,
-    ]?;
-    let mut outcomes = vec![in alloc; Outcome::Nothing]?;
-    assert!(rt; queue.run(steps, &mut outcomes).is_ok());
-    let mut text = String::new(alloc);
-    for outcome in &outcomes {
-        text.push_str(text_of(alloc, outcome)?.as_str())?;
-        text.push_str(";")?;
-    }
+    let outcomes = outcomes_of(rt.alloc(), offer_to_ask(rt.alloc())?)?;
+    let texts = texts_of(rt.alloc(), &outcomes)?;
     assert_eq!(rt;
-        text.as_str(),
+        texts.as_str(),
         "nothing;counted 1;accepted;may post;nothing;"
     );
-    assert!(rt; matches!(queue.slot(0), Some(Slot::Posting)));
-    assert!(rt; queue.slot(1).is_none());
-    assert_eq!(rt; *queue.worker(), Worker::Ready);
     Ok(())
 }
 
-/// An offer and a send of each of so many producers.
-fn offers_and_sends(alloc: Global, producers: usize) -> Result<Vec<Step>, Fail> {
+/// A machine shows the slot of each producer, and its worker.
+#[test]
+fn slots_and_worker_are_read(rt: HostRuntime) -> Result<(), Fail> {
+    let mut queue = machine(rt.alloc(), 1, 1, 1)?;
+    play(
+        rt.alloc(),
+        &mut queue,
+        &["offer 0 a: counted 1\nsend 0: accepted\nask 0: may post"],
+    )?;
+    assert!(rt; matches!(queue.slot(0), Some(Slot::Posting)));
+    assert!(rt; queue.slot(1).is_none());
+    assert!(rt; *queue.worker() == Worker::Ready);
+    Ok(())
+}
+
+/// An offer and a send of each of so many producers, and a pull of each span by a timer's drain.
+fn offered_and_pulled(alloc: Global, producers: usize) -> Result<Vec<Step>, Fail> {
     let mut steps = Vec::new(alloc);
     for producer in 0..producers {
         let name = format!(in alloc; "a{producer}")?;
         steps.push(Step::Offer(producer, span(alloc, name.as_str(), 1)?))?;
         steps.push(Step::Send(producer))?;
     }
-    Ok(steps)
-}
-
-#[test]
-fn a_run_takes_the_steps_of_33_producers(rt: HostRuntime) -> Result<(), Fail> {
-    let alloc = rt.alloc();
-    let mut queue = machine(alloc, 33, 33, 33)?;
-    let mut outcomes = Vec::new(alloc);
-    assert!(rt;
-        queue
-            .run(offers_and_sends(alloc, 33)?, &mut outcomes)
-            .is_ok()
-    );
-    assert_eq!(rt; outcomes.len(), 66);
-    assert_eq!(rt;
-        counts_text(alloc, &queue)?.as_str(),
-        "counter 33 dropped 0 open"
-    );
-    Ok(())
-}
-
-/// The steps of the worker up to a hand of so many spans.
-fn pulls(alloc: Global, count: usize) -> Result<Vec<Step>, AllocError> {
-    let mut steps = vec![in alloc; Step::Tick, Step::Load]?;
-    for _ in 0..count {
+    steps.push(Step::Tick)?;
+    steps.push(Step::Load)?;
+    for _ in 0..producers {
         steps.push(Step::Pull)?;
     }
     Ok(steps)
 }
 
-/// What `spans_text` says once all that was offered went in one batch.
+/// A machine in whose hand a span of each of so many producers is, by a run.
+fn in_hand(alloc: Global, producers: usize) -> Result<BatchMachine<ExporterBox>, Fail> {
+    let mut queue = machine(alloc, producers, producers, producers)?;
+    let steps = offered_and_pulled(alloc, producers)?;
+    match queue.run(steps, &mut Vec::new(alloc)) {
+        Ok(()) => Ok(queue),
+        Err(_) => Err(Fail::new("no memory for the outcomes")),
+    }
+}
+
+/// What stands once all that was offered went in one batch.
 fn one_batch(alloc: Global, count: usize) -> Result<String, AllocError> {
-    let mut text = String::from_str(alloc, "waiting [] hand [] told [a0")?;
+    let stands = "stands: counter 0 dropped 0 open; waiting [] hand [] told [a0";
+    let mut text = String::from_str(alloc, stands)?;
     for number in 1..count {
         write!(text, ",a{number}")?;
     }
-    text.push_str("]")?;
+    text.push(']')?;
     Ok(text)
-}
-
-/// A machine in whose hand a span of each of so many producers is.
-fn in_hand(alloc: Global, producers: usize) -> Result<BatchMachine<ExporterBox>, Fail> {
-    let mut queue = machine(alloc, producers, producers, producers)?;
-    let mut outcomes = Vec::new(alloc);
-    for steps in [
-        offers_and_sends(alloc, producers)?,
-        pulls(alloc, producers)?,
-    ] {
-        if queue.run(steps, &mut outcomes).is_err() {
-            return Err(Fail::new("no memory for the outcomes"));
-        }
-    }
-    Ok(queue)
 }
 
 #[test]
 fn a_batch_has_the_spans_of_33_producers(rt: HostRuntime) -> Result<(), Fail> {
-    let alloc = rt.alloc();
-    let mut queue = in_hand(alloc, 33)?;
-    assert_eq!(rt; queue.hand().len(), 33);
-    let script = [
-        ("hand", "handed over 33"),
-        ("subtract", "subtracted"),
-        ("finish", "finished"),
-    ];
-    assert_eq!(rt; first_difference(alloc, &mut queue, &script)?.as_str(), "");
-    assert_eq!(rt;
-        spans_text(alloc, &queue)?.as_str(),
-        one_batch(alloc, 33)?.as_str()
-    );
-    Ok(())
+    let stands = one_batch(rt.alloc(), 33)?;
+    let mut queue = in_hand(rt.alloc(), 33)?;
+    let counts = "counts: counter 33 dropped 0 open\nhand: handed over 33\nsubtract: subtracted\n\
+        finish: finished";
+    play(rt.alloc(), &mut queue, &[counts, stands.as_str()])
 }

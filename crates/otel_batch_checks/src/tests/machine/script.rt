@@ -1,5 +1,5 @@
 //! Scripts of the batch queue for tests: each line is a step and the outcome that it is to have, as the program's lines
-//! spell them.
+//! spell them, joined by a colon.
 
 use opentelemetry::trace::{SpanContext, SpanKind, Status, TraceState};
 use opentelemetry::{InstrumentationScope, Moment, SpanId, TraceFlags, TraceId};
@@ -151,21 +151,84 @@ pub fn text_of(alloc: Global, outcome: &Outcome) -> Result<String, AllocError> {
     }
 }
 
-/// The first line of a script whose step has another outcome, with that outcome; an empty text where there is none.
-pub fn first_difference(
+/// The text of a step's outcome. The words `counts` and `stands` are no steps: their outcome is what stands in the
+/// machine, its counts alone or its spans too.
+fn outcome_of(
     alloc: Global,
     machine: &mut BatchMachine<ExporterBox>,
-    script: &[(&str, &str)],
+    step: &str,
 ) -> Result<String, Fail> {
-    for (line, wanted) in script {
-        let outcome = machine.step(step_of(alloc, line)?);
-        let text = text_of(alloc, &outcome)?;
-        if text.as_str() != *wanted {
-            return Ok(format!(in alloc; "{line}: {text}")?);
+    match step {
+        "counts" => Ok(counts_text(alloc, machine)?),
+        "stands" => Ok(standing(alloc, machine)?),
+        _ => {
+            let outcome = machine.step(step_of(alloc, step)?);
+            Ok(text_of(alloc, &outcome)?)
+        }
+    }
+}
+
+/// The first line of a script that has another outcome, with that outcome; an empty text where there is none.
+fn first_difference(
+    alloc: Global,
+    machine: &mut BatchMachine<ExporterBox>,
+    script: &str,
+) -> Result<String, Fail> {
+    for line in script.lines() {
+        let (step, wanted) = line.split_once(": ").unwrap_or((line, ""));
+        let outcome = outcome_of(alloc, machine, step)?;
+        if outcome.as_str() != wanted {
+            return Ok(format!(in alloc; "{step}: {outcome}")?);
         }
     }
     Ok(String::new(alloc))
 }
+
+/// Plays scripts, one behind another. Fails where a line has another outcome, as a call that found no memory does where
+/// the outcome says so.
+pub fn play(
+    alloc: Global,
+    machine: &mut BatchMachine<ExporterBox>,
+    scripts: &[&str],
+) -> Result<(), Fail> {
+    for script in scripts {
+        let difference = first_difference(alloc, machine, script)?;
+        if difference.as_str().ends_with("no memory") {
+            return Err(Fail::from(AllocError));
+        }
+        if !difference.is_empty() {
+            return Err(Fail::new(difference));
+        }
+    }
+    Ok(())
+}
+
+/// Plays a script up to a pull, and then one of two scripts: the first where that pull was refused its room, which no
+/// test can do, but a run whose allocation there fails (`rt try --test --fail-alloc N`, or `tools/sweep`).
+pub fn play_by_refusal(
+    alloc: Global,
+    machine: &mut BatchMachine<ExporterBox>,
+    before: &[&str],
+    refused: &[&str],
+    granted: &[&str],
+) -> Result<(), Fail> {
+    play(alloc, machine, before)?;
+    match machine.step(Step::Pull) {
+        Outcome::NoMemory => play(alloc, machine, refused),
+        Outcome::Pulled => play(alloc, machine, granted),
+        _ => Err(Fail::new("the batch was not begun")),
+    }
+}
+
+/// Three spans of producer 0.
+pub const OFFERS: &str =
+    "offer 0 a: counted 1\nsend 0: accepted\noffer 0 b: counted 2\nsend 0: accepted\n\
+    ask 0: may post\npost 0: posted\noffer 0 c: counted 3\nsend 0: accepted\nask 0: already asked";
+
+/// The drain of the three up to its first batch, of two.
+pub const FIRST_BATCH: &str = "load: loaded 3\npull: pulled\npull: pulled";
+
+pub const SECOND_BATCH: &str = "hand: handed over 1\nsubtract: subtracted";
 
 /// The names of spans, joined by commas, between brackets.
 fn names(text: &mut String, spans: &[SpanData]) -> Result<(), AllocError> {
@@ -194,29 +257,31 @@ fn waiting_names(text: &mut String, machine: &BatchMachine<ExporterBox>) -> Resu
 }
 
 /// What waits, what is in hand, and the batches that the exporter kept.
-pub fn spans_text(
-    alloc: Global,
-    machine: &BatchMachine<ExporterBox>,
-) -> Result<String, AllocError> {
-    let mut text = String::from_str(alloc, "waiting ")?;
-    waiting_names(&mut text, machine)?;
+fn push_spans(text: &mut String, machine: &BatchMachine<ExporterBox>) -> Result<(), AllocError> {
+    text.push_str("waiting ")?;
+    waiting_names(text, machine)?;
     text.push_str(" hand ")?;
-    names(&mut text, machine.hand())?;
+    names(text, machine.hand())?;
     text.push_str(" told")?;
     if let ExporterOf::Memory(memory) = machine.exporter() {
         for batch in memory.batches() {
             text.push_str(" ")?;
-            names(&mut text, batch)?;
+            names(text, batch)?;
         }
     }
+    Ok(())
+}
+
+/// The counts of a machine and its spans.
+fn standing(alloc: Global, machine: &BatchMachine<ExporterBox>) -> Result<String, AllocError> {
+    let mut text = counts_text(alloc, machine)?;
+    text.push_str("; ")?;
+    push_spans(&mut text, machine)?;
     Ok(text)
 }
 
-/// The counter, the dropped count, and whether the machine is closed.
-pub fn counts_text(
-    alloc: Global,
-    machine: &BatchMachine<ExporterBox>,
-) -> Result<String, AllocError> {
+/// The counter, the dropped count, whether the machine is closed, and how many spans a close left.
+fn counts_text(alloc: Global, machine: &BatchMachine<ExporterBox>) -> Result<String, AllocError> {
     let counter = machine.counter();
     let dropped = machine.dropped_count();
     let word = if machine.is_closed() {
@@ -224,5 +289,10 @@ pub fn counts_text(
     } else {
         "open"
     };
-    format!(in alloc; "counter {counter} dropped {dropped} {word}")
+    match machine.stranded() {
+        Some(left) => {
+            format!(in alloc; "counter {counter} dropped {dropped} {word} {left} stranded")
+        }
+        None => format!(in alloc; "counter {counter} dropped {dropped} {word}"),
+    }
 }

@@ -6,9 +6,9 @@ use crate::tests::machine::script::sizes;
 use opentelemetry::Value;
 use otel_base::error::OTelSdkResult;
 use otel_base::resource::Resource;
-use otel_batch::machine::{BatchMachine, Outcome, Step};
+use otel_batch::machine::{BatchMachine, Step};
 use otel_export::trace::{SpanData, SpanExporter};
-use std::alloc::Global;
+use std::alloc::{AllocError, Global};
 use std::test::Fail;
 use std::time::Duration;
 
@@ -40,46 +40,58 @@ impl SpanExporter for Watching {
     }
 }
 
-fn watched(alloc: Global) -> Result<BatchMachine<Watching>, Fail> {
+/// Takes steps of a machine in front of such an exporter. The answer is what it then noted: attributes, shutdowns,
+/// seconds.
+fn noted(alloc: Global, steps: Vec<Step>) -> Result<(usize, usize, u64), Fail> {
     let exporter = Watching {
         attributes: 0,
         asked: 0,
         seconds: 0,
     };
-    Ok(BatchMachine::new(alloc, exporter, sizes(2, 2), 1)?)
+    let mut queue = BatchMachine::new(alloc, exporter, sizes(2, 2), 1)?;
+    for step in steps {
+        queue.step(step);
+    }
+    let noted = queue.exporter();
+    Ok((noted.attributes, noted.asked, noted.seconds))
+}
+
+fn posted(alloc: Global) -> Result<Step, AllocError> {
+    let builder = Resource::builder_empty(alloc).with_service_name(Value::I64(7))?;
+    Ok(Step::PostResource(builder.build()))
 }
 
 /// A posted resource reaches the exporter where the worker takes it.
 #[test]
 fn a_posted_resource_reaches_the_exporter(rt: HostRuntime) -> Result<(), Fail> {
-    let resource = Resource::builder_empty(rt.alloc())
-        .with_service_name(Value::I64(7))?
-        .build();
-    let mut queue = watched(rt.alloc())?;
-    assert_eq!(rt; queue.step(Step::PostResource(resource)), Outcome::Posted);
-    assert_eq!(rt; queue.exporter().attributes, 0);
-    assert_eq!(rt; queue.step(Step::Take), Outcome::TookResource);
-    assert_eq!(rt; queue.exporter().attributes, 1);
+    let alloc = rt.alloc();
+    let before = noted(alloc, vec![in alloc; posted(alloc)?]?)?;
+    let behind = noted(alloc, vec![in alloc; posted(alloc)?, Step::Take]?)?;
+    assert_eq!(rt; before, (0, 0, 0));
+    assert_eq!(rt; behind, (1, 0, 0));
     Ok(())
+}
+
+/// The steps of a shutdown, and so many closes.
+fn closes(alloc: Global, count: usize) -> Result<Vec<Step>, AllocError> {
+    let shutdown = Step::RequestShutdown(0);
+    let mut steps = vec![in alloc; shutdown, Step::Take, Step::Load, Step::Finish]?;
+    for _ in 0..count {
+        steps.push(Step::Close)?;
+    }
+    Ok(steps)
 }
 
 /// A completed shutdown shuts the exporter down once, in five seconds.
 #[test]
 fn a_shutdown_shuts_the_exporter_down_once(rt: HostRuntime) -> Result<(), Fail> {
-    let mut queue = watched(rt.alloc())?;
-    let drain = [
-        Step::RequestShutdown(0),
-        Step::Take,
-        Step::Load,
-        Step::Finish,
-    ];
-    for step in drain {
-        queue.step(step);
+    let alloc = rt.alloc();
+    for (count, wanted) in [(0, (0, 0, 0)), (1, (0, 1, 5)), (2, (0, 1, 5))] {
+        assert_eq!(rt;
+            noted(alloc, closes(alloc, count)?)?,
+            wanted,
+            "{count} closes"
+        );
     }
-    assert_eq!(rt; queue.exporter().asked, 0);
-    assert_eq!(rt; queue.step(Step::Close), Outcome::ShutDown(0));
-    assert_eq!(rt; queue.step(Step::Close), Outcome::NotEnabled);
-    assert_eq!(rt; queue.exporter().asked, 1);
-    assert_eq!(rt; queue.exporter().seconds, 5);
     Ok(())
 }
