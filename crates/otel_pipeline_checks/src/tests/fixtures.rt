@@ -177,6 +177,39 @@ pub(super) fn writers(
     Ok(writers)
 }
 
+/// A processor that exports into memory, and such writers behind it.
+pub(super) fn exporting_before(
+    alloc: Global,
+    board: &Rc<Cell<u64>>,
+    each_fails: &[bool],
+) -> Result<Vec<TestProcessor>, AllocError> {
+    let mut processors = exporting_alone(alloc)?;
+    processors.append(&mut writers(alloc, board, each_fails)?)?;
+    Ok(processors)
+}
+
+/// A processor that exports into memory, behind such writers.
+pub(super) fn exporting_behind(
+    alloc: Global,
+    board: &Rc<Cell<u64>>,
+    each_fails: &[bool],
+) -> Result<Vec<TestProcessor>, AllocError> {
+    let mut processors = writers(alloc, board, each_fails)?;
+    processors.append(&mut exporting_alone(alloc)?)?;
+    Ok(processors)
+}
+
+pub(super) fn exporting_alone(alloc: Global) -> Result<Vec<TestProcessor>, AllocError> {
+    let mut processors = Vec::new(alloc);
+    processors.push(exporting(alloc))?;
+    Ok(processors)
+}
+
+/// A board on which nothing is written.
+pub(super) fn empty_board(alloc: Global) -> Result<Rc<Cell<u64>>, AllocError> {
+    Ok(Rc::new(alloc, Cell::new(0))?)
+}
+
 /// A processor that exports into memory.
 pub(super) fn exporting(alloc: Global) -> TestProcessor {
     ProcessorOf::Simple(SimpleSpanProcessor::new(alloc, InMemorySpanExporter::new(alloc)))
@@ -238,6 +271,14 @@ pub(super) fn close<P: LeavesSpans, S: Drop>(
     provider: ProviderOf<P, S, RandomIdGenerator>,
 ) -> OTelSdkResult {
     provider.close().result
+}
+
+/// The text of an answer.
+pub(super) fn text_of(alloc: Global, answer: OTelSdkResult) -> Result<String, AllocError> {
+    match answer {
+        Ok(()) => String::from_str(alloc, "ok"),
+        Err(error) => error.to_string(alloc),
+    }
 }
 
 pub(super) fn recorded(span: &Span) -> Result<Option<SpanData>, AllocError> {

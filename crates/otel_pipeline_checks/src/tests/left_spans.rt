@@ -1,14 +1,13 @@
 //! What a provider reports when it is closed, of the spans that are left in its processors.
 
-use super::fixtures::{TestSampler, config_under, end, shut, start_in};
+use super::fixtures::{TestSampler, config_under, end, shut, start_in, text_of};
 use opentelemetry::Context;
 use opentelemetry_sdk::trace::Processor;
-use otel_base::error::{OTelSdkError, OTelSdkResult};
 use otel_base::resource::Resource;
 use otel_base::trace::{BatchStrings, RandomIdGenerator, ShouldSample};
 use otel_export::trace::{ExporterBox, InMemorySpanExporter};
 use otel_pipeline::trace::{
-    CloseReport, LeavesSpans, OverExporter, ProviderBuilderOf, ProviderOf, SpanProcessor,
+    LeavesSpans, OverExporter, ProviderBuilderOf, ProviderOf, SpanProcessor,
 };
 use std::alloc::{AllocError, Global};
 use std::test::Fail;
@@ -59,24 +58,49 @@ fn start_and_end<P: SpanProcessor, S: ShouldSample>(
     ended
 }
 
-fn report<P: LeavesSpans, S: Drop>(provider: ProviderOf<P, S, RandomIdGenerator>) -> CloseReport {
-    provider.close()
+/// How a provider closes, as a text: its result, how many spans were stranded, and how many are left open.
+fn report<P: LeavesSpans, S: Drop>(
+    alloc: Global,
+    provider: ProviderOf<P, S, RandomIdGenerator>,
+) -> Result<String, AllocError> {
+    let report = provider.close();
+    let (stranded, left_open) = (report.stranded, report.left_open);
+    let result = text_of(alloc, report.result)?;
+    format!(in alloc; "{result} {stranded} {left_open}")
 }
 
-/// A span ends at a batch processor behind 63 resources and that of the builder, so that there is no room for requests;
-/// then the provider is shut down twice and closed.
-fn closed_behind_resources<P: OverExporter + LeavesSpans>(
+/// A provider over a batch processor behind 63 resources and that of the builder, so that there is no room for requests.
+fn built_behind_resources<P: OverExporter + LeavesSpans>(
     alloc: Global,
     exporter: P::Exporter,
-) -> Result<(usize, [OTelSdkResult; 2], CloseReport), AllocError> {
+) -> Result<ProviderOf<P, TestSampler, RandomIdGenerator>, AllocError> {
     let batch = P::batch(alloc, exporter, &BatchStrings::default())?;
     let mut processors = Vec::new(alloc);
     processors.push(told(alloc, batch, 63)?)?;
-    let mut provider = built(alloc, processors)?;
-    let ended = start_and_end(alloc, &mut provider);
-    let shutdowns = [shut(&mut provider), shut(&mut provider)];
-    let report = report(provider);
-    Ok((ended?, shutdowns, report))
+    built(alloc, processors)
+}
+
+/// A span ends there, and the provider is shut down twice: how many processors refused the span, and what the shutdowns
+/// answered.
+fn ended_and_shut<P: SpanProcessor, S: ShouldSample>(
+    alloc: Global,
+    provider: &mut ProviderOf<P, S, RandomIdGenerator>,
+) -> Result<String, AllocError> {
+    let refused = start_and_end(alloc, provider)?;
+    let first = text_of(alloc, shut(provider))?;
+    let second = text_of(alloc, shut(provider))?;
+    format!(in alloc; "{refused}; {first}; {second}")
+}
+
+/// The same, and how the provider then closes.
+fn closed_behind_resources<P: OverExporter + LeavesSpans>(
+    alloc: Global,
+    exporter: P::Exporter,
+) -> Result<(String, String), AllocError> {
+    let mut provider = built_behind_resources::<P>(alloc, exporter)?;
+    let answers = ended_and_shut(alloc, &mut provider);
+    let report = report(alloc, provider);
+    Ok((answers?, report?))
 }
 
 /// An open provider over a processor of each kind is closed at which no span ended.
@@ -84,12 +108,11 @@ fn closed_idle<P: OverExporter + LeavesSpans>(
     alloc: Global,
     first: P::Exporter,
     second: P::Exporter,
-) -> Result<CloseReport, AllocError> {
-    let batch = P::batch(alloc, second, &BatchStrings::default())?;
+) -> Result<String, AllocError> {
     let mut processors = Vec::new(alloc);
     processors.push(P::simple(alloc, first))?;
-    processors.push(batch)?;
-    Ok(report(built(alloc, processors)?))
+    processors.push(P::batch(alloc, second, &BatchStrings::default())?)?;
+    report(alloc, built(alloc, processors)?)
 }
 
 fn memory(alloc: Global) -> ExporterBox {
@@ -99,29 +122,19 @@ fn memory(alloc: Global) -> ExporterBox {
 #[test]
 fn a_close_counts_the_spans_that_are_left(rt: HostRuntime) -> Result<(), Fail> {
     let alloc = rt.alloc();
-    let (refused, [first, second], report_of_one) = closed_behind_resources::<Processor>(
-        alloc,
-        memory(alloc),
-    )?;
-    let report_of_none = closed_idle::<Processor>(alloc, memory(alloc), memory(alloc))?;
-    assert_eq!(rt; refused, 0);
-    assert!(rt; matches!(first, Err(OTelSdkError::InternalFailure(_))));
-    assert_eq!(rt; second, Err(OTelSdkError::AlreadyShutdown));
+    let (answers, report) = closed_behind_resources::<Processor>(alloc, memory(alloc))?;
     assert_eq!(rt;
-        report_of_one,
-        CloseReport {
-            result: Ok(()),
-            stranded: 0,
-            left_open: 1
-        }
+        answers.as_str(),
+        "0; Operation failed: Shutdown errors: 1; Shutdown already invoked"
     );
-    assert_eq!(rt;
-        report_of_none,
-        CloseReport {
-            result: Ok(()),
-            stranded: 0,
-            left_open: 0
-        }
-    );
+    assert_eq!(rt; report.as_str(), "ok 0 1");
+    Ok(())
+}
+
+#[test]
+fn a_close_of_idle_processors_leaves_none(rt: HostRuntime) -> Result<(), Fail> {
+    let alloc = rt.alloc();
+    let report = closed_idle::<Processor>(alloc, memory(alloc), memory(alloc))?;
+    assert_eq!(rt; report.as_str(), "ok 0 0");
     Ok(())
 }

@@ -3,8 +3,8 @@
 //! of the machine alone, which an ordinary run has: `rt try --test --fail-alloc N` has the Nth allocation refused.
 
 use super::fixtures::{
-    Asked, TestProvider, TestSampler, answer_of, attribute_of, close, end, exporting, provider_of,
-    recorded, recorded_keys, start_in, writers,
+    Asked, TestProcessor, TestProvider, TestSampler, answer_of, attribute_of, close, empty_board,
+    end, exporting, exporting_alone, provider_of, recorded, recorded_keys, start_in, writers,
 };
 use opentelemetry::trace::SpanContext;
 use opentelemetry::{Context, Moment, SpanId};
@@ -18,15 +18,11 @@ use std::rc::Rc;
 use std::test::Fail;
 
 /// A sampler that samples every span with so many attributes; one that refuses, all but the first.
-fn sampling(
-    alloc: Global,
-    asked: &Rc<Cell<u64>>,
-    marks: usize,
-    refuses: bool,
-) -> Result<TestSampler, AllocError> {
+fn sampling(alloc: Global, marks: usize, refuses: bool) -> Result<TestSampler, AllocError> {
+    let answer = answer_of(alloc, SamplingDecision::RecordAndSample, marks)?;
     Ok(SamplerOf::Custom(Asked {
-        asked: asked.clone()?,
-        answer: answer_of(alloc, SamplingDecision::RecordAndSample, marks)?,
+        asked: empty_board(alloc)?,
+        answer,
         refuses,
     }))
 }
@@ -45,23 +41,60 @@ fn started<P: SpanProcessor, S: ShouldSample>(
 /// The second span id under seed 0, where a trace id is drawn between the two.
 const SECOND_SPAN_ID: u64 = 0x02ee_bf8c_3bbe_5e1a;
 
+/// A start that is refused and one that is not, each with what then stands on the board.
+#[derive(Debug, PartialEq, Drop)]
+struct TwoStarts {
+    is_refused: bool,
+    told: u64,
+    again: Option<SpanId>,
+    told_again: u64,
+}
+
+fn start_twice<P: SpanProcessor, S: ShouldSample>(
+    alloc: Global,
+    provider: &mut ProviderOf<P, S, RandomIdGenerator>,
+    board: &Rc<Cell<u64>>,
+) -> TwoStarts {
+    let is_refused = started(alloc, provider).is_err();
+    let told = board.get();
+    let again = started(alloc, provider).ok();
+    TwoStarts {
+        is_refused,
+        told,
+        again,
+        told_again: board.get(),
+    }
+}
+
+/// A provider of three writers, under a sampler of so many attributes.
+fn three_writers(
+    alloc: Global,
+    board: &Rc<Cell<u64>>,
+    marks: usize,
+    refuses: bool,
+) -> Result<TestProvider, AllocError> {
+    let processors = writers(alloc, board, &[false, false, false])?;
+    let sampler = sampling(alloc, marks, refuses)?;
+    Ok(provider_of(alloc, processors, sampler))
+}
+
+/// The same two starts at three writers, and whether their provider was closed.
+fn refused_then_started(alloc: Global) -> Result<(TwoStarts, bool), AllocError> {
+    let board = empty_board(alloc)?;
+    let mut provider = three_writers(alloc, &board, 0, true)?;
+    let starts = start_twice(alloc, &mut provider, &board);
+    Ok((starts, close(provider).is_ok()))
+}
+
 #[test]
 fn a_refused_start_tells_no_processor_and_succeeds_again(rt: HostRuntime) -> Result<(), Fail> {
-    let alloc = rt.alloc();
-    let asked = Rc::new(alloc, Cell::new(0))?;
-    let board = Rc::new(alloc, Cell::new(0))?;
-    let processors = writers(alloc, &board, &[false, false, false])?;
-    let mut provider = provider_of(alloc, processors, sampling(alloc, &asked, 0, true)?);
-    let refused = started(alloc, &mut provider);
-    let told = board.get();
-    let again = started(alloc, &mut provider);
-    let told_again = board.get();
-    let closed = close(provider);
-    assert!(rt; refused.is_err());
-    assert_eq!(rt; told, 0);
-    assert_eq!(rt; again, Ok(SpanId::from(SECOND_SPAN_ID)));
-    assert_eq!(rt; told_again, 123);
-    assert!(rt; closed.is_ok());
+    let wanted = TwoStarts {
+        is_refused: true,
+        told: 0,
+        again: Some(SpanId::from(SECOND_SPAN_ID)),
+        told_again: 123,
+    };
+    assert_eq!(rt; refused_then_started(rt.alloc())?, (wanted, true));
     Ok(())
 }
 
@@ -90,27 +123,35 @@ fn keys_of(alloc: Global, span: &Span) -> Option<String> {
     }
 }
 
+/// The same, again where it was refused: what then stood on the board, and what both answer of the start that was not.
+fn start_keys_again<P: SpanProcessor, S: ShouldSample>(
+    alloc: Global,
+    provider: &mut ProviderOf<P, S, RandomIdGenerator>,
+    board: &Rc<Cell<u64>>,
+) -> (u64, u64, Option<String>) {
+    let (told, keys) = start_keys(alloc, provider, board);
+    if keys.is_some() {
+        return (0, told, keys);
+    }
+    let (told_again, keys) = start_keys(alloc, provider, board);
+    (told, told_again, keys)
+}
+
+/// The same at three writers under a sampler that adds an attribute, and whether their provider was closed.
+fn grown_start(alloc: Global) -> Result<((u64, u64, Option<String>), bool), AllocError> {
+    let board = empty_board(alloc)?;
+    let mut provider = three_writers(alloc, &board, 1, false)?;
+    let started = start_keys_again(alloc, &mut provider, &board);
+    Ok((started, close(provider).is_ok()))
+}
+
 #[test]
 fn a_refused_start_of_a_list_that_grows_tells_no_processor_and_succeeds_again(
     rt: HostRuntime,
 ) -> Result<(), Fail> {
-    let alloc = rt.alloc();
-    let asked = Rc::new(alloc, Cell::new(0))?;
-    let board = Rc::new(alloc, Cell::new(0))?;
-    let processors = writers(alloc, &board, &[false, false, false])?;
-    let mut provider = provider_of(alloc, processors, sampling(alloc, &asked, 1, false)?);
-    let mut started = start_keys(alloc, &mut provider, &board);
-    let mut told_in_vain = 0;
-    if started.1.is_none() {
-        told_in_vain = started.0;
-        started = start_keys(alloc, &mut provider, &board);
-    }
-    let closed = close(provider);
-    let (told, keys) = started;
-    assert_eq!(rt; told_in_vain, 0);
-    assert_eq!(rt; told, 123);
+    let ((told_in_vain, told, keys), is_closed) = grown_start(rt.alloc())?;
+    assert_eq!(rt; (told_in_vain, told, is_closed), (0, 123, true));
     assert_eq!(rt; keys.ok_or(AllocError)?.as_str(), "given,marked,");
-    assert!(rt; closed.is_ok());
     Ok(())
 }
 
@@ -286,16 +327,27 @@ fn edit_and_end_each<P: SpanProcessor, S: ShouldSample>(
     Ok((count, refusals))
 }
 
-#[test]
-fn refused_edits_and_ends_change_nothing_and_succeed_again(rt: HostRuntime) -> Result<(), Fail> {
-    let alloc = rt.alloc();
-    let processors = vec![in alloc; exporting(alloc), exporting(alloc)]?;
+/// The same at two processors that export: how many batches they handed on, and whether those that were kept are of one
+/// span with each edit.
+fn edited_and_ended(alloc: Global) -> Result<((u64, u64), u64, bool), AllocError> {
+    let processors = two_exporting(alloc)?;
     let mut provider = provider_of(alloc, processors, TestSampler::AlwaysOn);
     let outcome = edit_and_end_each(alloc, &mut provider);
     let (exported, holds) = (handed_on(&provider), keeps_edits(&provider));
-    let closed = close(provider);
+    let is_closed = close(provider).is_ok();
+    Ok((outcome?, exported, holds && is_closed))
+}
+
+fn two_exporting(alloc: Global) -> Result<Vec<TestProcessor>, AllocError> {
+    let mut processors = exporting_alone(alloc)?;
+    processors.push(exporting(alloc))?;
+    Ok(processors)
+}
+
+#[test]
+fn refused_edits_and_ends_change_nothing_and_succeed_again(rt: HostRuntime) -> Result<(), Fail> {
+    let (outcome, exported, holds) = edited_and_ended(rt.alloc())?;
     assert!(rt; holds);
-    assert_eq!(rt; outcome?, (2, 4u64.saturating_sub(exported)));
-    assert!(rt; closed.is_ok());
+    assert_eq!(rt; outcome, (2, 4u64.saturating_sub(exported)));
     Ok(())
 }

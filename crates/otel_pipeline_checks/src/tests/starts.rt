@@ -2,8 +2,8 @@
 //! whole answer; and a tracer's clone.
 
 use super::fixtures::{
-    Asked, TestProcessor, TestProvider, TestSampler, answer_of, close, end, exporting, provider_of,
-    recorded, recorded_keys, shut, start_in, taken, writers,
+    Asked, TestProcessor, TestProvider, TestSampler, answer_of, close, empty_board, end,
+    exporting_behind, provider_of, recorded, recorded_keys, shut, start_in, taken,
 };
 use opentelemetry::trace::{SpanContext, TraceState};
 use opentelemetry::{Context, Moment, SpanId, TraceFlags, TraceId};
@@ -51,24 +51,38 @@ fn start_thrice(alloc: Global, provider: &mut TestProvider) -> Result<(), AllocE
     start_and_abandon(alloc, &Context::new(), provider)
 }
 
-#[test]
-fn a_sampler_is_asked_once_and_only_at_an_open_start(rt: HostRuntime) -> Result<(), Fail> {
-    let alloc = rt.alloc();
-    let asked = Rc::new(alloc, Cell::new(0))?;
+/// How often a sampler that drops every span is asked by them.
+fn asked_by_three_starts(alloc: Global) -> Result<u64, AllocError> {
+    let asked = empty_board(alloc)?;
     let sampler = asked_with(alloc, &asked, SamplingDecision::Drop, 0)?;
     let mut provider = empty_provider(alloc, sampler);
     let started = start_thrice(alloc, &mut provider);
     let _ = close(provider);
     started?;
-    assert_eq!(rt; asked.get(), 1);
+    Ok(asked.get())
+}
+
+#[test]
+fn a_sampler_is_asked_once_and_only_at_an_open_start(rt: HostRuntime) -> Result<(), Fail> {
+    assert_eq!(rt; asked_by_three_starts(rt.alloc())?, 1);
     Ok(())
+}
+
+/// A sampler that goes by parents, and asks one with this decision where none is active.
+fn asked_by_a_root(
+    alloc: Global,
+    asked: &Rc<Cell<u64>>,
+    decision: SamplingDecision,
+    marks: usize,
+) -> Result<TestSampler, AllocError> {
+    let delegate = asked_with(alloc, asked, decision, marks)?;
+    Ok(SamplerOf::ParentBased(Box::new(alloc, delegate)?))
 }
 
 /// How often the delegate of a sampler by parents is asked by a start in a context.
 fn delegate_asked_in(alloc: Global, cx: &Context) -> Result<u64, AllocError> {
-    let asked = Rc::new(alloc, Cell::new(0))?;
-    let delegate = asked_with(alloc, &asked, SamplingDecision::Drop, 0)?;
-    let sampler = SamplerOf::ParentBased(Box::new(alloc, delegate)?);
+    let asked = empty_board(alloc)?;
+    let sampler = asked_by_a_root(alloc, &asked, SamplingDecision::Drop, 0)?;
     let mut provider = empty_provider(alloc, sampler);
     let started = start_and_abandon(alloc, cx, &mut provider);
     let _ = close(provider);
@@ -83,25 +97,32 @@ fn parent_of(flags: u8, state: TraceState) -> Result<Context, AllocError> {
     Context::new().with_span_context(parent)
 }
 
+/// The context in which what these words say is active.
+fn context_where(active: &str) -> Result<Context, AllocError> {
+    match active {
+        "a sampled span" => parent_of(1, TraceState::new()),
+        "a span that is not sampled" => parent_of(0, TraceState::new()),
+        "the empty span context" => {
+            Context::new().with_span_context(SpanContext::empty_context())
+        }
+        _ => Ok(Context::new()),
+    }
+}
+
 #[test]
 fn a_delegate_is_asked_only_where_no_span_is_active(rt: HostRuntime) -> Result<(), Fail> {
-    let empty = Context::new().with_span_context(SpanContext::empty_context())?;
-    let cases = [
-        (
-            "a sampled span is active",
-            parent_of(1, TraceState::new())?,
-            0,
-        ),
-        (
-            "one that is not sampled is active",
-            parent_of(0, TraceState::new())?,
-            0,
-        ),
-        ("the empty span context is active", empty, 0),
-        ("nothing is active", Context::new(), 1),
-    ];
-    for (case, cx, asked) in cases {
-        assert_eq!(rt; delegate_asked_in(rt.alloc(), &cx), Ok(asked), "{case}");
+    for (active, asked) in [
+        ("a sampled span", 0),
+        ("a span that is not sampled", 0),
+        ("the empty span context", 0),
+        ("nothing", 1),
+    ] {
+        let cx = context_where(active)?;
+        assert_eq!(rt;
+            delegate_asked_in(rt.alloc(), &cx),
+            Ok(asked),
+            "{active} is active"
+        );
     }
     Ok(())
 }
@@ -143,28 +164,45 @@ fn keys_of_both(alloc: Global) -> Result<String, AllocError> {
     Ok(keys)
 }
 
+/// A provider whose sampler records each span with 33 attributes and samples none, over a writer and an exporter.
+fn recording_provider(alloc: Global) -> Result<TestProvider, AllocError> {
+    let asked = empty_board(alloc)?;
+    let processors = exporting_behind(alloc, &asked, &[false])?;
+    let sampler = asked_with(alloc, &asked, SamplingDecision::RecordOnly, 33)?;
+    Ok(provider_of(alloc, processors, sampler))
+}
+
+/// A span that is recorded in a context with 33 attributes of its own: what it was, and what processors have of it.
+fn recorded_in(alloc: Global, cx: &Context) -> Result<(String, String), AllocError> {
+    let mut provider = recording_provider(alloc)?;
+    let started = started_in(alloc, cx, 33, &mut provider);
+    let spans = taken(alloc, &provider);
+    let _ = close(provider);
+    Ok((started?, spans?))
+}
+
+/// The same of a parent with each flag.
+fn recorded_under_all_flags(alloc: Global) -> Result<(String, String), Fail> {
+    let parent = parent_of(0xff, TraceState::from_str(alloc, "foo=bar")?)?;
+    Ok(recorded_in(alloc, &parent)?)
+}
+
+/// What a span with the keys of both is, and what its writer and its exporter have of it.
+fn shown_of_both(alloc: Global) -> Result<(String, String), AllocError> {
+    let keys = keys_of_both(alloc)?;
+    let span = format!(in alloc; "fe [{keys}] notbar")?;
+    let spans = format!(in alloc; "[53175d61490b23df 7-9 {keys}][]")?;
+    Ok((span, spans))
+}
+
 #[test]
 fn a_recorded_span_keeps_its_parents_other_flags_and_is_not_exported(
     rt: HostRuntime,
 ) -> Result<(), Fail> {
-    let alloc = rt.alloc();
-    let parent = parent_of(0xff, TraceState::from_str(alloc, "foo=bar")?)?;
-    let asked = Rc::new(alloc, Cell::new(0))?;
-    let board = Rc::new(alloc, Cell::new(0))?;
-    let mut processors = writers(alloc, &board, &[false])?;
-    processors.push(exporting(alloc))?;
-    let sampler = asked_with(alloc, &asked, SamplingDecision::RecordOnly, 33)?;
-    let mut provider = provider_of(alloc, processors, sampler);
-    let started = started_in(alloc, &parent, 33, &mut provider);
-    let spans = taken(alloc, &provider);
-    let _ = close(provider);
-    let keys = keys_of_both(alloc)?;
-    let (want, want_spans) = (
-        format!(in alloc; "fe [{keys}] notbar")?,
-        format!(in alloc; "[53175d61490b23df 7-9 {keys}][]")?,
+    assert_eq!(rt;
+        recorded_under_all_flags(rt.alloc())?,
+        shown_of_both(rt.alloc())?
     );
-    assert_eq!(rt; started?.as_str(), want.as_str());
-    assert_eq!(rt; spans?.as_str(), want_spans.as_str());
     Ok(())
 }
 
@@ -186,16 +224,19 @@ fn context_of(span: &Span) -> Result<Context, AllocError> {
     Context::new().with_span_context(span.span_context().clone()?)
 }
 
-#[test]
-fn a_delegate_decides_on_a_root_alone(rt: HostRuntime) -> Result<(), Fail> {
-    let alloc = rt.alloc();
-    let asked = Rc::new(alloc, Cell::new(0))?;
-    let delegate = asked_with(alloc, &asked, SamplingDecision::RecordOnly, 1)?;
-    let sampler = SamplerOf::ParentBased(Box::new(alloc, delegate)?);
+/// The same under a sampler that goes by parents, whose delegate records and samples none.
+fn root_and_child_by_parents(alloc: Global) -> Result<(String, String), AllocError> {
+    let asked = empty_board(alloc)?;
+    let sampler = asked_by_a_root(alloc, &asked, SamplingDecision::RecordOnly, 1)?;
     let mut provider = empty_provider(alloc, sampler);
     let started = root_and_child(alloc, &mut provider);
     let _ = close(provider);
-    let (root, child) = started?;
+    started
+}
+
+#[test]
+fn a_delegate_decides_on_a_root_alone(rt: HostRuntime) -> Result<(), Fail> {
+    let (root, child) = root_and_child_by_parents(rt.alloc())?;
     assert_eq!(rt; root.as_str(), "00 [] none");
     assert_eq!(rt; child.as_str(), "00 dropped none");
     Ok(())
@@ -228,13 +269,17 @@ fn start_by<P: SpanProcessor, S: ShouldSample>(
     tracer.start(String::new(alloc), provider, Moment(7))
 }
 
-#[test]
-fn the_clone_of_a_tracer_starts_spans_of_its_library(rt: HostRuntime) -> Result<(), Fail> {
-    let alloc = rt.alloc();
+/// The same at a provider that samples every span.
+fn sampled_by_a_clone(alloc: Global) -> Result<Option<String>, AllocError> {
     let mut provider = empty_provider(alloc, TestSampler::AlwaysOn);
     let started = started_by_a_clone(alloc, &mut provider);
     let _ = close(provider);
-    let library = started?.ok_or("a span that records")?;
+    started
+}
+
+#[test]
+fn the_clone_of_a_tracer_starts_spans_of_its_library(rt: HostRuntime) -> Result<(), Fail> {
+    let library = sampled_by_a_clone(rt.alloc())?.ok_or("a span that records")?;
     assert_eq!(rt; library.as_str(), "library");
     Ok(())
 }
