@@ -287,10 +287,15 @@ pub(super) fn recorded(span: &Span) -> Result<Option<SpanData>, AllocError> {
 
 /// The keys of the attributes that a span has recorded, each with a comma behind it.
 pub(super) fn recorded_keys(alloc: Global, span: &Span) -> Result<String, AllocError> {
-    let mut keys = String::new(alloc);
-    if let Some(data) = recorded(span)? {
-        push_keys(&mut keys, &data.attributes)?;
+    match recorded(span)? {
+        Some(data) => keys_of(alloc, &data.attributes),
+        None => Ok(String::new(alloc)),
     }
+}
+
+fn keys_of(alloc: Global, attributes: &[KeyValue]) -> Result<String, AllocError> {
+    let mut keys = String::new(alloc);
+    push_keys(&mut keys, attributes)?;
     Ok(keys)
 }
 

@@ -21,16 +21,15 @@ fn told<P: SpanProcessor>(alloc: Global, mut processor: P, times: u32) -> Result
     Ok(processor)
 }
 
-/// A provider that is built over these processors.
-fn built<P: SpanProcessor>(
-    alloc: Global,
-    processors: Vec<P>,
-) -> Result<ProviderOf<P, TestSampler, RandomIdGenerator>, AllocError> {
+/// A builder of a provider that samples every span.
+fn builder<P>(alloc: Global) -> ProviderBuilderOf<P, TestSampler, RandomIdGenerator> {
     let config = config_under(alloc, TestSampler::AlwaysOn);
-    let mut builder = ProviderOf::builder(alloc, config, BatchStrings::default());
-    for processor in processors {
-        builder = with_processor(builder, processor)?;
-    }
+    ProviderOf::builder(alloc, config, BatchStrings::default())
+}
+
+fn built<P: SpanProcessor>(
+    builder: ProviderBuilderOf<P, TestSampler, RandomIdGenerator>,
+) -> Result<ProviderOf<P, TestSampler, RandomIdGenerator>, AllocError> {
     match builder.build() {
         Ok(provider) => Ok(provider),
         Err((_, error)) => Err(error),
@@ -75,9 +74,8 @@ fn built_behind_resources<P: OverExporter + LeavesSpans>(
     exporter: P::Exporter,
 ) -> Result<ProviderOf<P, TestSampler, RandomIdGenerator>, AllocError> {
     let batch = P::batch(alloc, exporter, &BatchStrings::default())?;
-    let mut processors = Vec::new(alloc);
-    processors.push(told(alloc, batch, 63)?)?;
-    built(alloc, processors)
+    let told = told(alloc, batch, 63)?;
+    built(with_processor(builder(alloc), told)?)
 }
 
 /// A span ends there, and the provider is shut down twice: how many processors refused the span, and what the shutdowns
@@ -109,10 +107,18 @@ fn closed_idle<P: OverExporter + LeavesSpans>(
     first: P::Exporter,
     second: P::Exporter,
 ) -> Result<String, AllocError> {
-    let mut processors = Vec::new(alloc);
-    processors.push(P::simple(alloc, first))?;
-    processors.push(P::batch(alloc, second, &BatchStrings::default())?)?;
-    report(alloc, built(alloc, processors)?)
+    let batch = P::batch(alloc, second, &BatchStrings::default())?;
+    report(alloc, built_over(alloc, P::simple(alloc, first), batch)?)
+}
+
+/// A provider over two processors.
+fn built_over<P: SpanProcessor>(
+    alloc: Global,
+    first: P,
+    second: P,
+) -> Result<ProviderOf<P, TestSampler, RandomIdGenerator>, AllocError> {
+    let builder = with_processor(builder(alloc), first)?;
+    built(with_processor(builder, second)?)
 }
 
 fn memory(alloc: Global) -> ExporterBox {

@@ -55,16 +55,21 @@ fn asked_of(
     Ok((answers?, spans?, closed))
 }
 
+/// The same of three writers, and what they wrote.
+fn asked_of_writers(alloc: Global) -> Result<((String, String, bool), u64), AllocError> {
+    let board = empty_board(alloc)?;
+    let answers = asked_of(alloc, writers(alloc, &board, &[false, false, false])?)?;
+    Ok((answers, board.get()))
+}
+
 #[test]
 fn starts_ends_flushes_and_shutdowns_ask_each_processor_in_its_turn(
     rt: HostRuntime,
 ) -> Result<(), Fail> {
-    let board = empty_board(rt.alloc())?;
-    let processors = writers(rt.alloc(), &board, &[false, false, false])?;
-    let (answers, spans, is_closed) = asked_of(rt.alloc(), processors)?;
+    let ((answers, spans, is_closed), written) = asked_of_writers(rt.alloc())?;
     assert_eq!(rt; answers.as_str(), "0 0; ok; ok");
     assert!(rt; is_closed);
-    assert_eq!(rt; board.get(), 123_123_123_123);
+    assert_eq!(rt; written, 123_123_123_123);
     assert_eq!(rt;
         spans.as_str(),
         "[53175d61490b23df 7-9 given,][53175d61490b23df 7-9 given,][53175d61490b23df 7-9 given,]"

@@ -173,14 +173,23 @@ fn edit(alloc: Global, span: &mut Span, kind: Kind) -> Result<(), AllocError> {
     }
 }
 
+/// What a span has recorded, also where there is no memory for a copy.
+type Recorded = Result<Option<SpanData>, AllocError>;
+
+/// Whether a span has recorded the same as before.
+fn is_as_before(span: &Span, before: &Recorded) -> bool {
+    recorded(span) == *before
+}
+
 /// Makes an edit, and makes it again where it was refused. The answer is whether the span was then as before, and the
 /// second time succeeded.
 fn edit_again(alloc: Global, span: &mut Span, kind: Kind) -> bool {
     let before = recorded(span);
-    if edit(alloc, span, kind).is_ok() {
-        return true;
-    }
-    before == recorded(span) && edit(alloc, span, kind).is_ok()
+    edit_from(alloc, span, kind, &before)
+}
+
+fn edit_from(alloc: Global, span: &mut Span, kind: Kind, before: &Recorded) -> bool {
+    edit(alloc, span, kind).is_ok() || is_as_before(span, before) && edit(alloc, span, kind).is_ok()
 }
 
 /// The same of each edit.
@@ -210,14 +219,32 @@ pub(super) fn finish_again<P: SpanProcessor, S: ShouldSample>(
     provider: &mut ProviderOf<P, S, RandomIdGenerator>,
 ) -> Option<u64> {
     let before = recorded(&span);
-    let span = match finish(span, provider) {
-        Ok(refused) => return Some(refused),
-        Err(span) => span,
-    };
-    let holds = before == recorded(&span);
+    finish_from(span, provider, &before)
+}
+
+fn finish_from<P: SpanProcessor, S: ShouldSample>(
+    span: Span,
+    provider: &mut ProviderOf<P, S, RandomIdGenerator>,
+    before: &Recorded,
+) -> Option<u64> {
     match finish(span, provider) {
-        Ok(refused) if holds => Some(refused),
-        Ok(_) => None,
+        Ok(refused) => Some(refused),
+        Err(span) => finish_as(span, provider, before),
+    }
+}
+
+/// Finishes a span that came back, if it is as before.
+fn finish_as<P: SpanProcessor, S: ShouldSample>(
+    span: Span,
+    provider: &mut ProviderOf<P, S, RandomIdGenerator>,
+    before: &Recorded,
+) -> Option<u64> {
+    if !is_as_before(&span, before) {
+        span.abandon();
+        return None;
+    }
+    match finish(span, provider) {
+        Ok(refused) => Some(refused),
         Err(span) => {
             span.abandon();
             None
@@ -232,14 +259,20 @@ fn end_again<P: SpanProcessor, S: ShouldSample>(
     provider: &mut ProviderOf<P, S, RandomIdGenerator>,
 ) -> Option<u64> {
     let before = recorded(span);
-    if let Ok(refused) = end(span, provider) {
-        return Some(refused as u64);
-    }
-    let holds = before == recorded(span);
-    match end(span, provider) {
-        Ok(refused) if holds => Some(refused as u64),
-        _ => None,
-    }
+    end_from(span, provider, &before)
+}
+
+fn end_from<P: SpanProcessor, S: ShouldSample>(
+    span: &mut Span,
+    provider: &mut ProviderOf<P, S, RandomIdGenerator>,
+    before: &Recorded,
+) -> Option<u64> {
+    let refused = match end(span, provider) {
+        Ok(refused) => refused,
+        Err(_) if is_as_before(span, before) => end(span, provider).ok()?,
+        Err(_) => return None,
+    };
+    Some(refused as u64)
 }
 
 /// Which call ends a span.

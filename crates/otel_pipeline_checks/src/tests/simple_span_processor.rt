@@ -6,7 +6,7 @@ use otel_base::error::{OTelSdkError, OTelSdkResult};
 use otel_base::resource::Resource;
 use otel_export::trace::{ExporterBox, SpanData, SpanExporter};
 use otel_pipeline::trace::{SimpleSpanProcessor, SpanProcessor};
-use std::alloc::AllocError;
+use std::alloc::{AllocError, Global};
 use std::test::Fail;
 use std::time::Duration;
 
@@ -75,19 +75,32 @@ fn set_and_shut<P: SpanProcessor>(
     Ok(shut(processor))
 }
 
+/// A resource of one attribute.
+fn resource_of_one(alloc: Global) -> Result<Resource, AllocError> {
+    let builder = Resource::builder_empty(alloc).with_service_name(Value::I64(7))?;
+    Ok(builder.build())
+}
+
+fn boxed_exporter(alloc: Global) -> Result<Processor, AllocError> {
+    let exporter = ExporterBox::Custom(Box::new(alloc, Stuck { asked: 0 })?);
+    Ok(Processor::Simple(SimpleSpanProcessor::new(alloc, exporter)))
+}
+
+fn boxed_processor(alloc: Global) -> Result<Processor, AllocError> {
+    let processor = SimpleSpanProcessor::new(alloc, Stuck { asked: 0 });
+    Ok(Processor::Custom(Box::new(alloc, processor)?))
+}
+
 #[test]
 fn the_resource_reaches_the_exporter_through_either_kind(rt: HostRuntime) -> Result<(), Fail> {
-    let alloc = rt.alloc();
-    let resource = Resource::builder_empty(alloc)
-        .with_service_name(Value::I64(7))?
-        .build();
-    let boxed = ExporterBox::Custom(Box::new(alloc, Stuck { asked: 0 })?);
-    let custom = SimpleSpanProcessor::new(alloc, Stuck { asked: 0 });
-    let mut processors = Vec::new(alloc);
-    processors.push(Processor::Simple(SimpleSpanProcessor::new(alloc, boxed)))?;
-    processors.push(Processor::Custom(Box::new(alloc, custom)?))?;
-    for processor in processors.iter_mut() {
-        assert_eq!(rt; set_and_shut(processor, &resource), Ok(Some(205)));
-    }
+    let resource = resource_of_one(rt.alloc())?;
+    assert_eq!(rt;
+        set_and_shut(&mut boxed_exporter(rt.alloc())?, &resource),
+        Ok(Some(205))
+    );
+    assert_eq!(rt;
+        set_and_shut(&mut boxed_processor(rt.alloc())?, &resource),
+        Ok(Some(205))
+    );
     Ok(())
 }

@@ -42,11 +42,16 @@ fn start_and_abandon<P: SpanProcessor, S: ShouldSample>(
     Ok(())
 }
 
+/// Starts a span where telemetry is suppressed.
+fn start_suppressed(alloc: Global, provider: &mut TestProvider) -> Result<(), AllocError> {
+    let suppressed = Context::new().with_telemetry_suppressed()?;
+    start_and_abandon(alloc, &suppressed, provider)
+}
+
 /// Starts a span in a context, in one where telemetry is suppressed, and behind a shutdown.
 fn start_thrice(alloc: Global, provider: &mut TestProvider) -> Result<(), AllocError> {
-    let suppressed = Context::new().with_telemetry_suppressed()?;
     start_and_abandon(alloc, &Context::new(), provider)?;
-    start_and_abandon(alloc, &suppressed, provider)?;
+    start_suppressed(alloc, provider)?;
     let _ = shut(provider);
     start_and_abandon(alloc, &Context::new(), provider)
 }
@@ -181,10 +186,9 @@ fn recorded_in(alloc: Global, cx: &Context) -> Result<(String, String), AllocErr
     Ok((started?, spans?))
 }
 
-/// The same of a parent with each flag.
-fn recorded_under_all_flags(alloc: Global) -> Result<(String, String), Fail> {
-    let parent = parent_of(0xff, TraceState::from_str(alloc, "foo=bar")?)?;
-    Ok(recorded_in(alloc, &parent)?)
+/// A context in which a span with each flag and a trace state is active.
+fn parent_with_all_flags(alloc: Global) -> Result<Context, Fail> {
+    Ok(parent_of(0xff, TraceState::from_str(alloc, "foo=bar")?)?)
 }
 
 /// What a span with the keys of both is, and what its writer and its exporter have of it.
@@ -199,10 +203,8 @@ fn shown_of_both(alloc: Global) -> Result<(String, String), AllocError> {
 fn a_recorded_span_keeps_its_parents_other_flags_and_is_not_exported(
     rt: HostRuntime,
 ) -> Result<(), Fail> {
-    assert_eq!(rt;
-        recorded_under_all_flags(rt.alloc())?,
-        shown_of_both(rt.alloc())?
-    );
+    let parent = parent_with_all_flags(rt.alloc())?;
+    assert_eq!(rt; recorded_in(rt.alloc(), &parent), shown_of_both(rt.alloc()));
     Ok(())
 }
 
