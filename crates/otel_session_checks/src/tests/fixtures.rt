@@ -12,7 +12,8 @@ use otel_base::trace::{
 };
 use otel_batch::trace::BatchConfig;
 use otel_export::trace::{ExporterBox, InMemorySpanExporter, SpanData, SpanExporter};
-use otel_lines::{Command, Reply};
+use otel_lines::reply_text::write_text;
+use otel_lines::{Command, Reply, parse};
 use otel_pipeline::trace::provider::provider_over;
 use otel_pipeline::trace::{
     DrainDue, KeepsBatches, LeavesSpans, ProviderOf, SimpleSpanProcessor, Span, SpanProcessor,
@@ -147,13 +148,6 @@ fn config(alloc: Global) -> Config {
     }
 }
 
-fn provider_with<P: SpanProcessor>(
-    alloc: Global,
-    processors: Vec<P>,
-) -> ProviderOf<P, Sampler, IdSource> {
-    provider_over(processors, config(alloc))
-}
-
 /// A provider that a builder makes over one processor.
 fn built_over<P: SpanProcessor>(
     alloc: Global,
@@ -176,40 +170,57 @@ pub fn provider_of<P: SpanProcessor>(
 ) -> Result<ProviderOf<P, Sampler, IdSource>, AllocError> {
     let mut processors = Vec::new(alloc);
     processors.push(processor)?;
-    Ok(provider_with(alloc, processors))
+    Ok(provider_over(processors, config(alloc)))
 }
 
-/// A processor that exports into memory.
-fn memory_processor(alloc: Global) -> Processor {
-    let memory = ExporterBox::Memory(InMemorySpanExporter::new(alloc));
-    Processor::Simple(SimpleSpanProcessor::new(alloc, memory))
+fn provider_of_two<P: SpanProcessor>(
+    alloc: Global,
+    first: P,
+    second: P,
+) -> Result<ProviderOf<P, Sampler, IdSource>, AllocError> {
+    let mut processors = Vec::new(alloc);
+    processors.push(first)?;
+    processors.push(second)?;
+    Ok(provider_over(processors, config(alloc)))
+}
+
+fn memory_exporter(alloc: Global) -> ExporterBox {
+    ExporterBox::Memory(InMemorySpanExporter::new(alloc))
+}
+
+fn stuck_exporter(alloc: Global) -> Result<ExporterBox, AllocError> {
+    Ok(ExporterBox::Custom(Box::new(alloc, Stuck)?))
+}
+
+/// A processor that exports at once.
+fn simple_processor(alloc: Global, exporter: ExporterBox) -> Processor {
+    Processor::Simple(SimpleSpanProcessor::new(alloc, exporter))
+}
+
+fn failing_processor(alloc: Global) -> Result<Processor, AllocError> {
+    Ok(Processor::Custom(Box::new(alloc, Failing)?))
 }
 
 /// A provider that exports into memory.
 pub fn memory_provider(alloc: Global) -> Result<SdkTracerProvider, AllocError> {
-    provider_of(alloc, memory_processor(alloc))
+    provider_of(alloc, simple_processor(alloc, memory_exporter(alloc)))
 }
 
 /// A provider whose exporter fails to shut down.
 pub fn stuck_provider(alloc: Global) -> Result<SdkTracerProvider, AllocError> {
-    let stuck = ExporterBox::Custom(Box::new(alloc, Stuck)?);
-    provider_of(
-        alloc,
-        Processor::Simple(SimpleSpanProcessor::new(alloc, stuck)),
-    )
+    provider_of(alloc, simple_processor(alloc, stuck_exporter(alloc)?))
 }
 
 /// A provider whose only processor fails.
 pub fn failing_provider(alloc: Global) -> Result<SdkTracerProvider, AllocError> {
-    provider_of(alloc, Processor::Custom(Box::new(alloc, Failing)?))
+    provider_of(alloc, failing_processor(alloc)?)
 }
 
 /// A provider whose first processor exports into memory, and whose second one fails.
 pub fn half_failing_provider(alloc: Global) -> Result<SdkTracerProvider, AllocError> {
-    let mut processors = Vec::new(alloc);
-    processors.push(memory_processor(alloc))?;
-    processors.push(Processor::Custom(Box::new(alloc, Failing)?))?;
-    Ok(provider_with(alloc, processors))
+    let failing = failing_processor(alloc)?;
+    let memory = simple_processor(alloc, memory_exporter(alloc));
+    provider_of_two(alloc, memory, failing)
 }
 
 /// Tells a processor so many empty resources.
@@ -221,18 +232,24 @@ fn crowd<P: SpanProcessor>(alloc: Global, processor: &mut P, count: u32) -> Resu
     Ok(())
 }
 
-/// A batch processor that was told 63 resources, and makes nothing of them before it works.
-fn crowded_processor(alloc: Global) -> Result<Processor, AllocError> {
-    let memory = ExporterBox::Memory(InMemorySpanExporter::new(alloc));
-    let batch = BatchSpanProcessor::new(alloc, memory, BatchConfig::default())?;
-    let mut processor = Processor::Batch(batch);
+/// A provider over a processor that was told 63 resources, to which the builder tells the 64th.
+fn crowded_over<P: SpanProcessor>(
+    alloc: Global,
+    processor: P,
+) -> Result<ProviderOf<P, Sampler, IdSource>, AllocError> {
+    let mut processor = processor;
     crowd(alloc, &mut processor, 63)?;
-    Ok(processor)
+    built_over(alloc, processor)
 }
 
-/// A provider over such a processor, which the builder tells the 64th resource: no request has room.
+fn batch_processor(alloc: Global) -> Result<Processor, AllocError> {
+    let memory = memory_exporter(alloc);
+    Ok(Processor::Batch(BatchSpanProcessor::new(alloc, memory, BatchConfig::default())?))
+}
+
+/// A provider over a batch processor that makes nothing of its 64 resources before it works: no request has room.
 pub fn crowded_provider(alloc: Global) -> Result<SdkTracerProvider, AllocError> {
-    built_over(alloc, crowded_processor(alloc)?)
+    crowded_over(alloc, batch_processor(alloc)?)
 }
 
 /// A session over a provider; where there is no memory for it, the provider is closed.
@@ -249,13 +266,18 @@ pub fn session_over<P: KeepsBatches>(
     }
 }
 
-/// Has a session carry out commands.
+fn commands_of(alloc: Global, text: &[u8]) -> Result<Vec<Command>, AllocError> {
+    Ok(parse(alloc, text)?.commands)
+}
+
+/// Has a session carry out the commands of a text.
 pub fn run<P: KeepsBatches, S: ShouldSample, G: IdGenerator>(
+    alloc: Global,
     session: &mut Session<P, S, G>,
-    commands: Vec<Command>,
+    text: &[u8],
     replies: &mut Vec<Reply>,
 ) -> Result<(), AllocError> {
-    session.run(commands, replies)
+    session.run(commands_of(alloc, text)?, replies)
 }
 
 /// Feeds a session a text.
@@ -267,6 +289,18 @@ pub fn feed<P: KeepsBatches, S: ShouldSample, G: IdGenerator>(
     session.feed(text, output)
 }
 
+/// Feeds a session a text that nothing but memory stops.
+pub fn feed_all<P: KeepsBatches, S: ShouldSample, G: IdGenerator>(
+    session: &mut Session<P, S, G>,
+    text: &[u8],
+    output: &mut Vec<u8>,
+) -> Result<(), AllocError> {
+    match feed(session, text, output) {
+        Ok(()) => Ok(()),
+        Err(_) => Err(AllocError),
+    }
+}
+
 /// Closes a session.
 pub fn close<P: KeepsBatches, S: ShouldSample, G: IdGenerator>(
     session: Session<P, S, G>,
@@ -275,19 +309,29 @@ pub fn close<P: KeepsBatches, S: ShouldSample, G: IdGenerator>(
     session.close(output)
 }
 
-/// Two spans are started, and the second is ended.
-pub fn two_started_and_one_ended(alloc: Global) -> Result<Vec<Command>, AllocError> {
-    let mut commands = Vec::new(alloc);
-    for span in ["s", "t"] {
-        commands.push(Command::Start {
-            span: String::from_str(alloc, span)?,
-            name: String::from_str(alloc, "a")?,
-            moment: Moment(1),
-        })?;
+/// Closes a session, and appends what its closing answers.
+pub fn close_with_answer<P: KeepsBatches, S: ShouldSample, G: IdGenerator>(
+    alloc: Global,
+    session: Session<P, S, G>,
+    output: &mut Vec<u8>,
+) -> Result<(), AllocError> {
+    match close(session, output) {
+        Ok(()) => write_text(output, "ok"),
+        Err(error) => write_error(alloc, &error, output),
     }
-    commands.push(Command::End {
-        span: String::from_str(alloc, "t")?,
-        moment: Moment(2),
-    })?;
-    Ok(commands)
+}
+
+/// Appends the text of an error.
+pub fn write_error(
+    alloc: Global,
+    error: &OTelSdkError,
+    output: &mut Vec<u8>,
+) -> Result<(), AllocError> {
+    let text = error.to_string(alloc)?;
+    write_text(output, text.as_str())
+}
+
+/// What was put out, as a text.
+pub fn text_of(output: &[u8]) -> &str {
+    str::from_utf8(output).unwrap_or("")
 }

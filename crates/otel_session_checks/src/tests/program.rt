@@ -104,6 +104,20 @@ fn status_of_fault<F: Write>(
     status_over(alloc, words, &mut input, &mut Vec::new(alloc), faults)
 }
 
+/// What comes of an output that takes no byte, and of one that loses all of them.
+fn of_failing_outputs(alloc: Global) -> Result<[(u8, usize); 2], AllocError> {
+    let full = status_of_output(alloc, &mut FullWriter)?;
+    let losing = status_of_output(alloc, &mut LosingWriter)?;
+    Ok([full, losing])
+}
+
+/// The same where faults are named to such a writer.
+fn of_failing_faults(alloc: Global, words: &[&str]) -> Result<[u8; 2], AllocError> {
+    let full = status_of_fault(alloc, words, &mut FullWriter)?;
+    let losing = status_of_fault(alloc, words, &mut LosingWriter)?;
+    Ok([full, losing])
+}
+
 #[test]
 fn a_stream_that_fails_is_status_1(rt: HostRuntime) -> Result<(), Fail> {
     let alloc = rt.alloc();
@@ -111,11 +125,9 @@ fn a_stream_that_fails_is_status_1(rt: HostRuntime) -> Result<(), Fail> {
     for bytes in inputs {
         assert_eq!(rt; status_of_input(alloc, bytes)?, (1, 0));
     }
-    assert_eq!(rt; status_of_output(alloc, &mut FullWriter)?, (1, 0));
-    assert_eq!(rt; status_of_output(alloc, &mut LosingWriter)?, (1, 0));
+    assert_eq!(rt; of_failing_outputs(alloc)?, [(1, 0), (1, 0)]);
     for words in [SIMPLE, &["trace"]] {
-        assert_eq!(rt; status_of_fault(alloc, words, &mut FullWriter)?, 1);
-        assert_eq!(rt; status_of_fault(alloc, words, &mut LosingWriter)?, 1);
+        assert_eq!(rt; of_failing_faults(alloc, words)?, [1, 1]);
     }
     Ok(())
 }

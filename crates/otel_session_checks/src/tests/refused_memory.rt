@@ -3,7 +3,7 @@
 use super::fixtures::*;
 use otel_base::error::OTelSdkError;
 use otel_base::trace::{IdGenerator, IdSource, Sampler, ShouldSample};
-use otel_lines::{Answer, Command, Reply, parse};
+use otel_lines::{Answer, Reply};
 use otel_pipeline::trace::{KeepsBatches, ProviderOf};
 use otel_session::{FeedError, Session};
 use std::alloc::{AllocError, Global};
@@ -25,26 +25,27 @@ const LIVES: [&[u8]; 12] = [
     b"shutdown",
 ];
 
-/// Lists of one command each.
-fn one_by_one(alloc: Global) -> Result<Vec<Vec<Command>>, AllocError> {
-    let mut lists = Vec::new(alloc);
-    for line in LIVES {
-        lists.push(parse(alloc, line)?.commands)?;
-    }
-    Ok(lists)
-}
-
-/// Runs each list of commands, and runs it again where it found no memory.
-fn run_each<P: KeepsBatches, S: ShouldSample, G: IdGenerator>(
+/// Runs the command of a line, and runs it again where it found no memory.
+fn run_again<P: KeepsBatches, S: ShouldSample, G: IdGenerator>(
+    alloc: Global,
     session: &mut Session<P, S, G>,
-    first: Vec<Vec<Command>>,
-    again: Vec<Vec<Command>>,
+    line: &[u8],
     replies: &mut Vec<Reply>,
 ) -> Result<(), AllocError> {
-    for (commands, again) in first.into_iter().zip(again) {
-        if run(session, commands, replies).is_err() {
-            run(session, again, replies)?;
-        }
+    if run(alloc, session, line, replies).is_ok() {
+        return Ok(());
+    }
+    run(alloc, session, line, replies)
+}
+
+/// Runs each line so.
+fn run_each<P: KeepsBatches, S: ShouldSample, G: IdGenerator>(
+    alloc: Global,
+    session: &mut Session<P, S, G>,
+    replies: &mut Vec<Reply>,
+) -> Result<(), AllocError> {
+    for line in LIVES {
+        run_again(alloc, session, line, replies)?;
     }
     Ok(())
 }
@@ -76,19 +77,41 @@ fn answers_line(line: usize, answer: &Answer) -> bool {
     }
 }
 
-/// What the runs answered, their replies, and how many batches the exporter lost.
+/// How many replies answer the commands of their lines.
+fn fitting(replies: &[Reply]) -> usize {
+    let mut count = 0usize;
+    for (line, reply) in replies.iter().enumerate() {
+        if answers_line(line, &reply.answer) {
+            count = count.saturating_add(1);
+        }
+    }
+    count
+}
+
+/// What came of runs: how they ended, how many replies there are, how many of them fit their lines, and how many spans
+/// they show or count as refused.
+type Came = (Result<(), AllocError>, [usize; 3]);
+
+fn came_of_runs<P: KeepsBatches, S: ShouldSample, G: IdGenerator>(
+    alloc: Global,
+    session: &mut Session<P, S, G>,
+) -> Came {
+    let mut replies = Vec::new(alloc);
+    let run = run_each(alloc, session, &mut replies);
+    let counts = [replies.len(), fitting(&replies), shown_or_refused(&replies)];
+    (run, counts)
+}
+
+/// What came of the runs of a session over this provider, and how many batches its exporter lost.
 fn lived<P: KeepsBatches>(
     alloc: Global,
     provider: ProviderOf<P, Sampler, IdSource>,
-    first: Vec<Vec<Command>>,
-    again: Vec<Vec<Command>>,
-) -> Result<(Result<(), AllocError>, Vec<Reply>, u64), AllocError> {
-    let mut replies = Vec::new(alloc);
+) -> Result<(Came, u64), AllocError> {
     let mut session = session_over(alloc, provider)?;
-    let run = run_each(&mut session, first, again, &mut replies);
+    let came = came_of_runs(alloc, &mut session);
     let lost = session.lost_batches();
     let _ = close(session, &mut Vec::new(alloc));
-    Ok((run, replies, lost))
+    Ok((came, lost))
 }
 
 /// `rt try --test --fail-alloc N` has the Nth allocation refused: then the command that wanted it is run again, and
@@ -96,22 +119,18 @@ fn lived<P: KeepsBatches>(
 /// its batch is counted as refused or lost.
 #[test]
 fn a_run_that_found_no_memory_succeeds_again(rt: HostRuntime) -> Result<(), Fail> {
-    let alloc = rt.alloc();
-    let (first, again) = (one_by_one(alloc)?, one_by_one(alloc)?);
-    let (run, replies, lost) = lived(alloc, memory_provider(alloc)?, first, again)?;
+    let ((run, counts), lost) = lived(rt.alloc(), memory_provider(rt.alloc())?)?;
+    let [replies, fitting, shown_or_refused] = counts;
     assert_eq!(rt; run, Ok(()));
-    assert_eq!(rt; replies.len(), LIVES.len());
-    for (line, reply) in replies.iter().enumerate() {
-        assert!(rt; answers_line(line, &reply.answer));
-    }
-    let shown_or_refused = shown_or_refused(&replies) as u64;
-    assert_eq!(rt; shown_or_refused.saturating_add(lost), 2);
+    assert_eq!(rt; replies, LIVES.len());
+    assert_eq!(rt; fitting, LIVES.len());
+    assert_eq!(rt; (shown_or_refused as u64).saturating_add(lost), 2);
     Ok(())
 }
 
 /// Feeds a line, and feeds it again where it found no memory. The answer is whether it did, and had put nothing out.
-fn feed_again<P: KeepsBatches>(
-    session: &mut Session<P, Sampler, IdSource>,
+fn feed_again<P: KeepsBatches, S: ShouldSample, G: IdGenerator>(
+    session: &mut Session<P, S, G>,
     line: &[u8],
     output: &mut Vec<u8>,
 ) -> Result<bool, FeedError> {
@@ -127,8 +146,8 @@ fn feed_again<P: KeepsBatches>(
 }
 
 /// Feeds each line so. The answer is how many ends were fed twice.
-fn feed_each<P: KeepsBatches>(
-    session: &mut Session<P, Sampler, IdSource>,
+fn feed_each<P: KeepsBatches, S: ShouldSample, G: IdGenerator>(
+    session: &mut Session<P, S, G>,
     output: &mut Vec<u8>,
 ) -> Result<usize, FeedError> {
     let mut count = 0usize;
@@ -140,36 +159,34 @@ fn feed_each<P: KeepsBatches>(
     Ok(count)
 }
 
-/// What a session fed so puts out, its close too.
+/// How many lines of spans there are, each of which ends with the count of its links.
+fn span_lines(output: &[u8]) -> usize {
+    text_of(output)
+        .lines()
+        .filter(|line| line.ends_with(" links 0 0"))
+        .count()
+}
+
+/// How many ends a session over this provider was fed twice, and how many spans it puts out, its close too.
 fn fed<P: KeepsBatches>(
     alloc: Global,
     provider: ProviderOf<P, Sampler, IdSource>,
-) -> Result<(Result<usize, FeedError>, Vec<u8>), AllocError> {
-    let mut output = Vec::new(alloc);
+) -> Result<(Result<usize, FeedError>, usize), AllocError> {
     let mut session = session_over(alloc, provider)?;
-    let fed = feed_each(&mut session, &mut output);
+    let mut output = Vec::new(alloc);
+    let ends = feed_each(&mut session, &mut output);
     let _ = close(session, &mut output);
-    Ok((fed, output))
-}
-
-/// How many lines of spans there are, each of which ends with the count of its links.
-fn span_lines(output: &[u8]) -> usize {
-    let text = str::from_utf8(output).unwrap_or("");
-    text.lines()
-        .filter(|line| line.ends_with(" links 0 0"))
-        .count()
+    Ok((ends, span_lines(&output)))
 }
 
 /// A text that found no memory puts nothing of its line out, and its line is read again. Each of both ended spans is
 /// put out once, or its end found no memory.
 #[test]
 fn a_text_that_found_no_memory_is_read_again(rt: HostRuntime) -> Result<(), Fail> {
-    let alloc = rt.alloc();
-    let (fed, output) = fed(alloc, memory_provider(alloc)?)?;
-    let Ok(ends) = fed else {
+    let (ends, shown) = fed(rt.alloc(), memory_provider(rt.alloc())?)?;
+    let Ok(ends) = ends else {
         return Err(Fail::new("a line was not read again"));
     };
-    let shown = span_lines(&output);
     assert!(rt; shown <= 2);
     assert!(rt; shown.saturating_add(ends) >= 2);
     Ok(())
