@@ -104,6 +104,13 @@ fn status_of_fault<F: Write>(
     status_over(alloc, words, &mut input, &mut Vec::new(alloc), faults)
 }
 
+/// What comes of an input that fails at once, and of one that fails behind a bad line.
+fn of_failing_inputs(alloc: Global) -> Result<[(u8, usize); 2], AllocError> {
+    let empty = status_of_input(alloc, b"")?;
+    let bad = status_of_input(alloc, b"start s a 1\nstop\n")?;
+    Ok([empty, bad])
+}
+
 /// What comes of an output that takes no byte, and of one that loses all of them.
 fn of_failing_outputs(alloc: Global) -> Result<[(u8, usize); 2], AllocError> {
     let full = status_of_output(alloc, &mut FullWriter)?;
@@ -121,10 +128,7 @@ fn of_failing_faults(alloc: Global, words: &[&str]) -> Result<[u8; 2], AllocErro
 #[test]
 fn a_stream_that_fails_is_status_1(rt: HostRuntime) -> Result<(), Fail> {
     let alloc = rt.alloc();
-    let inputs: [&'static [u8]; 2] = [b"", b"start s a 1\nstop\n"];
-    for bytes in inputs {
-        assert_eq!(rt; status_of_input(alloc, bytes)?, (1, 0));
-    }
+    assert_eq!(rt; of_failing_inputs(alloc)?, [(1, 0), (1, 0)]);
     assert_eq!(rt; of_failing_outputs(alloc)?, [(1, 0), (1, 0)]);
     for words in [SIMPLE, &["trace"]] {
         assert_eq!(rt; of_failing_faults(alloc, words)?, [1, 1]);

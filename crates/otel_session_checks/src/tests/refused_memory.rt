@@ -2,9 +2,9 @@
 
 use super::fixtures::*;
 use otel_base::error::OTelSdkError;
-use otel_base::trace::{IdGenerator, IdSource, Sampler, ShouldSample};
+use otel_base::trace::{IdGenerator, ShouldSample};
 use otel_lines::{Answer, Reply};
-use otel_pipeline::trace::{KeepsBatches, ProviderOf};
+use otel_pipeline::trace::KeepsBatches;
 use otel_session::{FeedError, Session};
 use std::alloc::{AllocError, Global};
 use std::test::Fail;
@@ -102,16 +102,17 @@ fn came_of_runs<P: KeepsBatches, S: ShouldSample, G: IdGenerator>(
     (run, counts)
 }
 
-/// What came of the runs of a session over this provider, and how many batches its exporter lost.
-fn lived<P: KeepsBatches>(
-    alloc: Global,
-    provider: ProviderOf<P, Sampler, IdSource>,
-) -> Result<(Came, u64), AllocError> {
-    let mut session = session_over(alloc, provider)?;
+/// What came of the runs of a session over this processor, and how many batches its exporter lost.
+fn lived<P: KeepsBatches>(alloc: Global, processor: P) -> Result<(Came, u64), AllocError> {
+    let mut session = session_over(alloc, provider_of(alloc, processor)?)?;
     let came = came_of_runs(alloc, &mut session);
     let lost = session.lost_batches();
-    let _ = close(session, &mut Vec::new(alloc));
+    close_unheard(alloc, session);
     Ok((came, lost))
+}
+
+fn lived_in_memory(alloc: Global) -> Result<(Came, u64), AllocError> {
+    lived(alloc, first_processor(alloc, Kind::Memory)?)
 }
 
 /// `rt try --test --fail-alloc N` has the Nth allocation refused: then the command that wanted it is run again, and
@@ -119,7 +120,7 @@ fn lived<P: KeepsBatches>(
 /// its batch is counted as refused or lost.
 #[test]
 fn a_run_that_found_no_memory_succeeds_again(rt: HostRuntime) -> Result<(), Fail> {
-    let ((run, counts), lost) = lived(rt.alloc(), memory_provider(rt.alloc())?)?;
+    let ((run, counts), lost) = lived_in_memory(rt.alloc())?;
     let [replies, fitting, shown_or_refused] = counts;
     assert_eq!(rt; run, Ok(()));
     assert_eq!(rt; replies, LIVES.len());
@@ -167,23 +168,27 @@ fn span_lines(output: &[u8]) -> usize {
         .count()
 }
 
-/// How many ends a session over this provider was fed twice, and how many spans it puts out, its close too.
+/// How many ends a session over this processor was fed twice, and how many spans it puts out, its close too.
 fn fed<P: KeepsBatches>(
     alloc: Global,
-    provider: ProviderOf<P, Sampler, IdSource>,
+    processor: P,
 ) -> Result<(Result<usize, FeedError>, usize), AllocError> {
-    let mut session = session_over(alloc, provider)?;
+    let mut session = session_over(alloc, provider_of(alloc, processor)?)?;
     let mut output = Vec::new(alloc);
     let ends = feed_each(&mut session, &mut output);
     let _ = close(session, &mut output);
     Ok((ends, span_lines(&output)))
 }
 
+fn fed_in_memory(alloc: Global) -> Result<(Result<usize, FeedError>, usize), AllocError> {
+    fed(alloc, first_processor(alloc, Kind::Memory)?)
+}
+
 /// A text that found no memory puts nothing of its line out, and its line is read again. Each of both ended spans is
 /// put out once, or its end found no memory.
 #[test]
 fn a_text_that_found_no_memory_is_read_again(rt: HostRuntime) -> Result<(), Fail> {
-    let (ends, shown) = fed(rt.alloc(), memory_provider(rt.alloc())?)?;
+    let (ends, shown) = fed_in_memory(rt.alloc())?;
     let Ok(ends) = ends else {
         return Err(Fail::new("a line was not read again"));
     };

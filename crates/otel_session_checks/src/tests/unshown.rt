@@ -1,15 +1,12 @@
 //! Spans that were exported, and that no reply has shown, since another processor refused each of them.
 
 use super::fixtures::*;
-use otel_base::trace::{IdGenerator, IdSource, Sampler, ShouldSample};
-use otel_pipeline::trace::{KeepsBatches, ProviderOf};
-use otel_session::{FeedError, Session};
 use std::alloc::{AllocError, Global};
 use std::fmt::Write as _;
 use std::test::Fail;
 
 /// The lines that start so many spans.
-fn start_lines(alloc: Global, count: u32) -> Result<String, AllocError> {
+fn start_lines(alloc: Global, count: usize) -> Result<String, AllocError> {
     let mut text = String::new(alloc);
     for number in 0..count {
         write!(text, "start s{number} a{number} 1\n")?;
@@ -17,44 +14,26 @@ fn start_lines(alloc: Global, count: u32) -> Result<String, AllocError> {
     Ok(text)
 }
 
-/// Feeds the starts of so many spans at once.
-fn feed_starts<P: KeepsBatches, S: ShouldSample, G: IdGenerator>(
-    alloc: Global,
-    session: &mut Session<P, S, G>,
-    count: u32,
-    output: &mut Vec<u8>,
-) -> Result<(), AllocError> {
-    let starts = start_lines(alloc, count)?;
-    feed_all(session, starts.as_bytes(), output)
-}
-
-/// Feeds the end of the span of this number. The answer is whether it stopped its text.
-fn is_stopped<P: KeepsBatches, S: ShouldSample, G: IdGenerator>(
-    alloc: Global,
-    session: &mut Session<P, S, G>,
-    number: u32,
-    output: &mut Vec<u8>,
-) -> Result<bool, AllocError> {
-    let end = format!(in alloc; "end s{number} 2\n")?;
-    Ok(feed(session, end.as_bytes(), output) == Err(FeedError::Memory))
-}
-
-/// Feeds the starts of so many spans at once, and then each end by itself. The answer is how many ends stopped their
-/// text.
-fn stopped_ends<P: KeepsBatches, S: ShouldSample, G: IdGenerator>(
-    alloc: Global,
-    session: &mut Session<P, S, G>,
-    count: u32,
-    output: &mut Vec<u8>,
-) -> Result<u32, AllocError> {
-    feed_starts(alloc, session, count, output)?;
-    let mut stopped = 0u32;
+/// The lines that end them.
+fn end_lines(alloc: Global, count: usize) -> Result<String, AllocError> {
+    let mut text = String::new(alloc);
     for number in 0..count {
-        if is_stopped(alloc, session, number, output)? {
-            stopped = stopped.saturating_add(1);
-        }
+        write!(text, "end s{number} 2\n")?;
     }
-    Ok(stopped)
+    Ok(text)
+}
+
+/// What is put out where so many spans are started at once and each is ended by itself, a last text is fed, and the
+/// session is closed.
+fn put_out(alloc: Global, count: usize, last: &str) -> Result<Vec<u8>, AllocError> {
+    let starts = start_lines(alloc, count)?;
+    let ends = end_lines(alloc, count)?;
+    let calls = [
+        Call::Feed(starts.as_str()),
+        Call::TryLines(ends.as_str()),
+        Call::Feed(last),
+    ];
+    played(alloc, Kind::HalfFailing, &calls)
 }
 
 /// Appends the line of the span of this number, whose start was answered so.
@@ -69,57 +48,43 @@ fn push_span_line(lines: &mut String, number: usize, started: &str) -> Result<()
     )
 }
 
-/// The lines of the spans whose starts were answered so.
-fn span_lines(alloc: Global, started: &str) -> Result<String, AllocError> {
-    let mut lines = String::new(alloc);
-    for (number, line) in started.lines().enumerate() {
-        push_span_line(&mut lines, number, line)?;
+/// Appends the answers to so many starts as they were put out, and a line for each end, which was stopped.
+fn push_starts_and_stops(text: &mut String, output: &str, count: usize) -> Result<(), AllocError> {
+    for started in output.lines().take(count) {
+        text.push_str(started)?;
+        text.push('\n')?;
     }
-    Ok(lines)
+    for _ in 0..count {
+        text.push_str("no memory\n")?;
+    }
+    Ok(())
 }
 
-/// So many spans are started and ended; then a last text is fed, and the session is closed. The answer is how many ends
-/// stopped their text.
-fn show_late<P: KeepsBatches>(
-    alloc: Global,
-    provider: ProviderOf<P, Sampler, IdSource>,
-    (count, last): (u32, &[u8]),
-    started: &mut Vec<u8>,
-    shown: &mut Vec<u8>,
-) -> Result<u32, AllocError> {
-    let mut session = session_over(alloc, provider)?;
-    let stopped = stopped_ends(alloc, &mut session, count, started);
-    let fed = feed_all(&mut session, last, shown);
-    close_with_answer(alloc, session, shown)?;
-    fed?;
-    stopped
+/// Appends the lines of the spans whose starts were answered so.
+fn push_span_lines(text: &mut String, output: &str, count: usize) -> Result<(), AllocError> {
+    for (number, started) in output.lines().take(count).enumerate() {
+        push_span_line(text, number, started)?;
+    }
+    Ok(())
 }
 
-/// What is shown behind the lines of the spans whose starts were answered so; all that is shown, if it does not begin
-/// with them.
-fn behind_spans(alloc: Global, started: &str, shown: &str) -> Result<String, AllocError> {
-    let lines = span_lines(alloc, started)?;
-    let behind = shown.strip_prefix(lines.as_str()).unwrap_or(shown);
-    String::from_str(alloc, behind)
-}
-
-/// How many ends stopped their text, and what is shown behind the lines of the spans.
-fn shown_late(alloc: Global, count: u32, last: &[u8]) -> Result<(u32, String), AllocError> {
-    let provider = half_failing_provider(alloc)?;
-    let mut started = Vec::new(alloc);
-    let mut shown = Vec::new(alloc);
-    let stopped = show_late(alloc, provider, (count, last), &mut started, &mut shown)?;
-    let behind = behind_spans(alloc, text_of(&started), text_of(&shown))?;
-    Ok((stopped, behind))
+/// What is to be put out where the starts are answered so: each end is stopped, and the spans are shown before these
+/// answers.
+fn wanted(alloc: Global, output: &str, count: usize, answers: &str) -> Result<String, AllocError> {
+    let mut text = String::new(alloc);
+    push_starts_and_stops(&mut text, output, count)?;
+    push_span_lines(&mut text, output, count)?;
+    text.push_str(answers)?;
+    Ok(text)
 }
 
 /// How many spans there are, the last text, and its answer with that of the close behind it.
-const CASES: [(u32, &[u8], &str); 3] = [
-    (1, b"", "Operation failed: Shutdown errors: 1"),
-    (33, b"", "Operation failed: Shutdown errors: 1"),
+const CASES: [(usize, &str, &str); 3] = [
+    (1, "", "Operation failed: Shutdown errors: 1"),
+    (33, "", "Operation failed: Shutdown errors: 1"),
     (
         33,
-        b"flush\n",
+        "flush\n",
         "Operation timed out after 1s\nOperation failed: Shutdown errors: 1",
     ),
 ];
@@ -127,9 +92,9 @@ const CASES: [(u32, &[u8], &str); 3] = [
 #[test]
 fn the_next_reply_or_the_close_shows_what_none_has_shown(rt: HostRuntime) -> Result<(), Fail> {
     for (count, last, answers) in CASES {
-        let (stopped, behind) = shown_late(rt.alloc(), count, last)?;
-        assert_eq!(rt; stopped, count);
-        assert_eq!(rt; behind.as_str(), answers);
+        let output = put_out(rt.alloc(), count, last)?;
+        let wanted = wanted(rt.alloc(), text_of(&output), count, answers)?;
+        assert_eq!(rt; text_of(&output), wanted.as_str());
     }
     Ok(())
 }
