@@ -1,5 +1,6 @@
 //! Each value is the same as a copy of it.
 
+use super::crossing::insert;
 use opentelemetry::baggage::{Baggage, BaggageMetadata, KeyValueMetadata};
 use opentelemetry::trace::{Event, Link, SpanBuilder, SpanContext, SpanKind, Status, TraceState};
 use opentelemetry::{
@@ -8,7 +9,7 @@ use opentelemetry::{
 use std::alloc::{AllocError, Global};
 use std::test::Fail;
 
-fn is_copied<T: Clone + PartialEq + Drop>(value: T) -> Result<bool, AllocError> {
+pub fn is_copied<T: Clone + PartialEq + Drop>(value: T) -> Result<bool, AllocError> {
     let copy = value.clone()?;
     Ok(copy == value)
 }
@@ -21,38 +22,25 @@ fn keys_are_copied(alloc: Global) -> Result<bool, AllocError> {
     Ok(is_copied(Key::new(text(alloc)?))? && is_copied(Key::from_static_str("service.name"))?)
 }
 
-/// A list of each kind.
-fn lists(alloc: Global) -> Result<[Array; 3], AllocError> {
-    let texts = vec![in alloc; text(alloc)?]?;
-    let truths = vec![in alloc; true, false]?;
-    let numbers = vec![in alloc; 1, -2]?;
-    Ok([
-        Array::Bool(truths),
-        Array::I64(numbers),
-        Array::String(texts),
-    ])
+fn list_is_copied(list: Array) -> Result<bool, AllocError> {
+    is_copied(Value::Array(list))
 }
 
+/// Whether a list of each kind is copied.
 fn lists_are_copied(alloc: Global) -> Result<bool, AllocError> {
-    for list in lists(alloc)? {
-        if !is_copied(Value::Array(list))? {
-            return Ok(false);
-        }
-    }
-    Ok(true)
+    Ok(
+        list_is_copied(Array::Bool(vec![in alloc; true, false]?))?
+            && list_is_copied(Array::I64(vec![in alloc; 1, -2]?))?
+            && list_is_copied(Array::String(vec![in alloc; text(alloc)?]?))?,
+    )
 }
 
 fn values_are_copied(alloc: Global) -> Result<bool, AllocError> {
-    for value in [
-        Value::Bool(true),
-        Value::I64(-1),
-        Value::String(text(alloc)?),
-    ] {
-        if !is_copied(value)? {
-            return Ok(false);
-        }
-    }
-    Ok(true)
+    Ok(
+        is_copied(Value::Bool(true))?
+            && is_copied(Value::I64(-1))?
+            && is_copied(Value::String(text(alloc)?))?,
+    )
 }
 
 fn attribute(alloc: Global) -> Result<KeyValue, AllocError> {
@@ -78,13 +66,9 @@ fn state(alloc: Global) -> Result<TraceState, Fail> {
 }
 
 fn span_context(alloc: Global) -> Result<SpanContext, Fail> {
-    Ok(SpanContext::new(
-        TraceId::from(1),
-        SpanId::from(2),
-        TraceFlags::SAMPLED,
-        true,
-        state(alloc)?,
-    ))
+    let state = state(alloc)?;
+    let trace_id = TraceId::from(1);
+    Ok(SpanContext::new(trace_id, SpanId::from(2), TraceFlags::SAMPLED, true, state))
 }
 
 fn error(alloc: Global) -> Result<Status, AllocError> {
@@ -94,11 +78,13 @@ fn error(alloc: Global) -> Result<Status, AllocError> {
 }
 
 fn event(alloc: Global) -> Result<Event, AllocError> {
-    Ok(Event::new(text(alloc)?, Moment(5), attributes(alloc)?, 3))
+    let attributes = attributes(alloc)?;
+    Ok(Event::new(text(alloc)?, Moment(5), attributes, 3))
 }
 
 fn link(alloc: Global) -> Result<Link, Fail> {
-    Ok(Link::new(span_context(alloc)?, attributes(alloc)?, 4))
+    let attributes = attributes(alloc)?;
+    Ok(Link::new(span_context(alloc)?, attributes, 4))
 }
 
 #[test]
@@ -111,13 +97,19 @@ fn parts_of_spans_are_copied(rt: HostRuntime) -> Result<(), Fail> {
 }
 
 fn builder(alloc: Global) -> Result<SpanBuilder, AllocError> {
+    let attributes = attributes(alloc)?;
     let builder = SpanBuilder::from_name(text(alloc)?).with_kind(SpanKind::Client);
-    Ok(builder.with_attributes(attributes(alloc)?))
+    Ok(builder.with_attributes(attributes))
 }
 
 fn scope(alloc: Global) -> Result<InstrumentationScope, AllocError> {
-    let builder = InstrumentationScope::builder(alloc, text(alloc)?).with_version(text(alloc)?);
-    builder.with_attributes(attributes(alloc)?).build()
+    let attributes = attributes(alloc)?;
+    let version = text(alloc)?;
+    let builder = InstrumentationScope::builder(alloc, text(alloc)?);
+    builder
+        .with_version(version)
+        .with_attributes(attributes)
+        .build()
 }
 
 #[test]
@@ -132,19 +124,29 @@ fn metadata(alloc: Global) -> Result<BaggageMetadata, AllocError> {
 }
 
 fn entry(alloc: Global) -> Result<KeyValueMetadata, AllocError> {
-    Ok(KeyValueMetadata::new(text(alloc)?, text(alloc)?, metadata(alloc)?))
+    let metadata = metadata(alloc)?;
+    let value = text(alloc)?;
+    Ok(KeyValueMetadata::new(text(alloc)?, value, metadata))
 }
 
 fn baggage(alloc: Global) -> Result<Baggage, Fail> {
     let mut baggage = Baggage::new(alloc);
-    let _new = baggage.insert_with_metadata(text(alloc)?, text(alloc)?, metadata(alloc)?)?;
+    insert(alloc, &mut baggage, "text", "text", "text")?;
     Ok(baggage)
+}
+
+fn entry_is_copied(alloc: Global) -> Result<bool, AllocError> {
+    is_copied(entry(alloc)?)
+}
+
+fn baggage_is_copied(alloc: Global) -> Result<bool, Fail> {
+    Ok(is_copied(baggage(alloc)?)?)
 }
 
 #[test]
 fn baggages_are_copied(rt: HostRuntime) -> Result<(), Fail> {
     assert!(rt; is_copied(metadata(rt.alloc())?)?);
-    assert!(rt; is_copied(entry(rt.alloc())?)?);
-    assert!(rt; is_copied(baggage(rt.alloc())?)?);
+    assert!(rt; entry_is_copied(rt.alloc())?);
+    assert!(rt; baggage_is_copied(rt.alloc())?);
     Ok(())
 }

@@ -10,7 +10,7 @@ use std::alloc::{AllocError, Global};
 use std::test::Fail;
 
 /// What a propagator adds to a carrier.
-fn inject<P: TextMapPropagator + Default + Drop>(
+pub fn inject<P: TextMapPropagator + Default + Drop>(
     alloc: Global,
     cx: &Context,
     carrier: &mut MapCarrier,
@@ -19,7 +19,7 @@ fn inject<P: TextMapPropagator + Default + Drop>(
 }
 
 /// What a propagator makes of a carrier.
-fn extracted<P: TextMapPropagator + Default + Drop>(
+pub fn extracted<P: TextMapPropagator + Default + Drop>(
     alloc: Global,
     carrier: &MapCarrier,
 ) -> Result<Context, AllocError> {
@@ -69,51 +69,104 @@ fn carried<P: TextMapPropagator + Default + Drop>(
 
 /// A sampled span context.
 fn span_context(alloc: Global, is_remote: bool) -> Result<SpanContext, Fail> {
+    let state = TraceState::from_str(alloc, "foo=bar,a=b")?;
     Ok(SpanContext::new(
         TraceId::from(0x4bf92f3577b34da6a3ce929d0e0e4736),
         SpanId::from(0x00f067aa0ba902b7),
         TraceFlags::SAMPLED,
         is_remote,
-        TraceState::from_str(alloc, "foo=bar,a=b")?,
+        state,
     ))
 }
 
-/// What the other side of a context of a span has.
-fn carried_span(alloc: Global) -> Result<Option<Context>, Fail> {
-    let cx = Context::new().with_span_context(span_context(alloc, false)?)?;
-    Ok(carried::<TraceContextPropagator>(alloc, &cx, "tracestate")?)
+/// A context of a span.
+pub fn in_span(span_context: SpanContext) -> Result<Context, AllocError> {
+    Context::new().with_span_context(span_context)
+}
+
+fn is_the_span_context(alloc: Global, found: &SpanContext) -> Result<bool, Fail> {
+    Ok(*found == span_context(alloc, true)?)
+}
+
+/// Whether the other side has the span context, with the mark that it came from elsewhere; nothing
+/// where it has no context.
+fn has_the_span(alloc: Global, found: Option<&Context>) -> Result<Option<bool>, Fail> {
+    match found {
+        Some(cx) => Ok(Some(is_the_span_context(alloc, cx.span_context())?)),
+        None => Ok(None),
+    }
+}
+
+/// The same of the other side of a context; nothing where the second header was left.
+fn carries_span(alloc: Global, cx: &Context) -> Result<Option<bool>, Fail> {
+    let found = carried::<TraceContextPropagator>(alloc, cx, "tracestate")?;
+    has_the_span(alloc, found.as_ref())
+}
+
+fn span_is_same(alloc: Global) -> Result<Option<bool>, Fail> {
+    let cx = in_span(span_context(alloc, false)?)?;
+    carries_span(alloc, &cx)
 }
 
 #[test]
 fn the_other_side_has_the_same_span_context(rt: HostRuntime) -> Result<(), Fail> {
-    let found = carried_span(rt.alloc())?.ok_or("the second header was left")?;
-    let wanted = span_context(rt.alloc(), true)?;
-    assert!(rt; *found.span_context() == wanted);
+    assert_eq!(rt; span_is_same(rt.alloc())?, Some(true));
+    Ok(())
+}
+
+/// Adds an entry to a baggage.
+pub fn insert(
+    alloc: Global,
+    baggage: &mut Baggage,
+    name: &str,
+    value: &str,
+    metadata: &str,
+) -> Result<(), Fail> {
+    let metadata = BaggageMetadata::new(String::from_str(alloc, metadata)?);
+    let value = String::from_str(alloc, value)?;
+    let name = String::from_str(alloc, name)?;
+    let _new = baggage.insert_with_metadata(name, value, metadata)?;
     Ok(())
 }
 
 /// A baggage of two entries.
 fn baggage(alloc: Global) -> Result<Baggage, Fail> {
     let mut baggage = Baggage::new(alloc);
-    for (name, value, metadata) in [("a", "50%", "m"), ("b", "2", "")] {
-        let name = String::from_str(alloc, name)?;
-        let value = String::from_str(alloc, value)?;
-        let metadata = BaggageMetadata::new(String::from_str(alloc, metadata)?);
-        let _new = baggage.insert_with_metadata(name, value, metadata)?;
-    }
+    insert(alloc, &mut baggage, "a", "50%", "m")?;
+    insert(alloc, &mut baggage, "b", "2", "")?;
     Ok(baggage)
 }
 
-/// What the other side of a context of a baggage has.
-fn carried_baggage(alloc: Global) -> Result<Option<Context>, Fail> {
-    let cx = Context::new().with_baggage(baggage(alloc)?)?;
-    Ok(carried::<BaggagePropagator>(alloc, &cx, "baggage")?)
+/// A context of a baggage.
+fn with_baggage(baggage: Baggage) -> Result<Context, AllocError> {
+    Context::new().with_baggage(baggage)
+}
+
+fn is_the_baggage(alloc: Global, found: &Baggage) -> Result<bool, Fail> {
+    Ok(*found == baggage(alloc)?)
+}
+
+/// Whether the other side has the baggage; nothing where it has no context.
+fn has_the_baggage(alloc: Global, found: Option<&Context>) -> Result<Option<bool>, Fail> {
+    match found {
+        Some(cx) => Ok(Some(is_the_baggage(alloc, cx.baggage())?)),
+        None => Ok(None),
+    }
+}
+
+/// The same of the other side of a context; nothing where a header was left.
+fn carries_baggage(alloc: Global, cx: &Context) -> Result<Option<bool>, Fail> {
+    let found = carried::<BaggagePropagator>(alloc, cx, "baggage")?;
+    has_the_baggage(alloc, found.as_ref())
+}
+
+fn baggage_is_same(alloc: Global) -> Result<Option<bool>, Fail> {
+    let cx = with_baggage(baggage(alloc)?)?;
+    carries_baggage(alloc, &cx)
 }
 
 #[test]
 fn the_other_side_has_the_same_baggage(rt: HostRuntime) -> Result<(), Fail> {
-    let found = carried_baggage(rt.alloc())?.ok_or("a header was left")?;
-    let wanted = baggage(rt.alloc())?;
-    assert!(rt; *found.baggage() == wanted);
+    assert_eq!(rt; baggage_is_same(rt.alloc())?, Some(true));
     Ok(())
 }

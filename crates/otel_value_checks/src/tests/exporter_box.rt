@@ -1,12 +1,11 @@
 ghost use Rattle.std.specs.Prelude.{None};
 
-use opentelemetry::trace::{SpanContext, SpanKind, Status, TraceState};
-use opentelemetry::{InstrumentationScope, Moment, SpanId, TraceFlags, TraceId, Value};
+use super::span_data::bare_span;
+use opentelemetry::trace::SpanContext;
+use opentelemetry::{InstrumentationScope, Moment, Value};
 use otel_base::error::{OTelSdkError, OTelSdkResult};
 use otel_base::resource::Resource;
-use otel_export::trace::{
-    ExporterBox, ExporterOf, InMemorySpanExporter, SpanData, SpanEvents, SpanExporter, SpanLinks,
-};
+use otel_export::trace::{ExporterBox, ExporterOf, InMemorySpanExporter, SpanData, SpanExporter};
 use std::alloc::{AllocError, Global};
 use std::fmt::Write;
 use std::test::Fail;
@@ -59,27 +58,10 @@ fn seconds_of(answer: OTelSdkResult) -> Option<u64> {
 
 /// A span that started at this moment.
 fn span_from(alloc: Global, moment: u64) -> Result<SpanData, AllocError> {
-    Ok(SpanData {
-        span_context: SpanContext::new(
-            TraceId::from(1),
-            SpanId::from(2),
-            TraceFlags::new(1),
-            false,
-            TraceState::new(),
-        ),
-        parent_span_id: SpanId::INVALID,
-        parent_span_is_remote: false,
-        span_kind: SpanKind::Internal,
-        name: String::new(alloc),
-        start_time: Moment(moment),
-        end_time: Moment(moment),
-        attributes: Vec::new(alloc),
-        dropped_attributes_count: 0,
-        events: SpanEvents::new(alloc),
-        links: SpanLinks::new(alloc),
-        status: Status::Unset,
-        instrumentation_scope: InstrumentationScope::builder(alloc, String::new(alloc)).build()?,
-    })
+    let scope = InstrumentationScope::builder(alloc, String::new(alloc)).build()?;
+    let mut span = bare_span(alloc, SpanContext::empty_context(), scope);
+    span.start_time = Moment(moment);
+    Ok(span)
 }
 
 /// So many spans, of which the first one started at this moment and each further one a moment later.
@@ -110,33 +92,57 @@ fn push_moments(text: &mut String, batch: &[SpanData]) -> Result<(), AllocError>
     Ok(())
 }
 
-/// The text of a batch of one span at moment 7 and of one of 33 spans from moment 8 on.
-fn two_batches(alloc: Global) -> Result<String, AllocError> {
-    let mut text = String::from_str(alloc, "[7 ][")?;
-    for moment in 8..41u64 {
-        write!(&mut text, "{moment} ")?;
-    }
-    text.push(']')?;
+/// Hands over so many spans, of which the first one started at this moment.
+fn hand_over<E: SpanExporter>(
+    alloc: Global,
+    exporter: &mut E,
+    moment: u64,
+    count: u64,
+) -> Result<(), Fail> {
+    let batch = batch_from(alloc, moment, count)?;
+    Ok(exporter.export(batch)?)
+}
+
+/// A flush, a shutdown within a time, and one more.
+fn flush_and_shut_down<E: SpanExporter>(exporter: &mut E) -> OTelSdkResult {
+    exporter.force_flush()?;
+    exporter.shutdown_with_timeout(Duration::from_secs(7))?;
+    exporter.shutdown()
+}
+
+/// Hands over two batches, and ends.
+fn use_up<E: SpanExporter>(alloc: Global, exporter: &mut E) -> Result<(), Fail> {
+    hand_over(alloc, exporter, 7, 1)?;
+    hand_over(alloc, exporter, 8, 33)?;
+    Ok(flush_and_shut_down(exporter)?)
+}
+
+/// What an exporter in memory kept, and how many batches it lost.
+fn kept(alloc: Global, exporter: &ExporterBox) -> Result<String, Fail> {
+    let ExporterOf::Memory(memory) = exporter else {
+        return Err(Fail::new("another exporter"));
+    };
+    let mut text = moments_of(alloc, memory.batches())?;
+    let lost = memory.lost_batches();
+    write!(text, " lost {lost}")?;
     Ok(text)
+}
+
+/// What an exporter in memory has at its end.
+fn kept_at_the_end(alloc: Global) -> Result<String, Fail> {
+    let mut exporter = ExporterBox::Memory(InMemorySpanExporter::new(alloc));
+    use_up(alloc, &mut exporter)?;
+    kept(alloc, &exporter)
 }
 
 #[test]
 fn an_exporter_in_memory_keeps_batches_in_order_and_has_nothing_to_send(
     rt: HostRuntime,
 ) -> Result<(), Fail> {
-    let alloc = rt.alloc();
-    let mut exporter = ExporterBox::Memory(InMemorySpanExporter::new(alloc));
-    exporter.export(batch_from(alloc, 7, 1)?)?;
-    exporter.export(batch_from(alloc, 8, 33)?)?;
-    exporter.force_flush()?;
-    exporter.shutdown_with_timeout(Duration::from_secs(7))?;
-    exporter.shutdown()?;
-    let ExporterOf::Memory(memory) = &exporter else {
-        return Err(Fail::new("another exporter"));
-    };
-    let moments = moments_of(alloc, memory.batches())?;
-    assert_eq!(rt; moments.as_str(), two_batches(alloc)?.as_str());
-    assert_eq!(rt; memory.lost_batches(), 0);
+    let kept = kept_at_the_end(rt.alloc())?;
+    let wanted = "[7 ][8 9 10 11 12 13 14 15 16 17 18 19 20 21 22 23 24 25 26 27 28 29 30 31 32 \
+        33 34 35 36 37 38 39 40 ] lost 0";
+    assert_eq!(rt; kept.as_str(), wanted);
     Ok(())
 }
 
@@ -146,20 +152,33 @@ fn resource_of_one(alloc: Global) -> Result<Resource, AllocError> {
     Ok(builder.build())
 }
 
+/// The seconds of the answers to a batch, a flush, a shutdown within a time, one more, and, once the
+/// exporter has a resource, to a flush.
+fn answers_of<E: SpanExporter>(
+    exporter: &mut E,
+    batch: Vec<SpanData>,
+    resource: &Resource,
+) -> [Option<u64>; 5] {
+    let exported = seconds_of(exporter.export(batch));
+    let flushed = seconds_of(exporter.force_flush());
+    let shut = seconds_of(exporter.shutdown_with_timeout(Duration::from_secs(7)));
+    let shut_again = seconds_of(exporter.shutdown());
+    exporter.set_resource(resource);
+    let flushed_again = seconds_of(exporter.force_flush());
+    [exported, flushed, shut, shut_again, flushed_again]
+}
+
+/// Those of the caller's exporter.
+fn own_answers(alloc: Global) -> Result<[Option<u64>; 5], AllocError> {
+    let batch = batch_from(alloc, 7, 1)?;
+    let resource = resource_of_one(alloc)?;
+    let mut exporter = ExporterBox::Custom(Box::new(alloc, Echo { asked: 0 })?);
+    Ok(answers_of(&mut exporter, batch, &resource))
+}
+
 #[test]
 fn an_exporter_of_the_callers_is_reached(rt: HostRuntime) -> Result<(), Fail> {
-    let alloc = rt.alloc();
-    let mut exporter = ExporterBox::Custom(Box::new(alloc, Echo { asked: 0 })?);
-    let exported = exporter.export(batch_from(alloc, 7, 1)?);
-    let flushed = exporter.force_flush();
-    let shut = exporter.shutdown_with_timeout(Duration::from_secs(7));
-    let shut_again = exporter.shutdown();
-    exporter.set_resource(&resource_of_one(alloc)?);
-    let flushed_again = exporter.force_flush();
-    assert_eq!(rt; seconds_of(exported), Some(7));
-    assert_eq!(rt; seconds_of(flushed), Some(100));
-    assert_eq!(rt; seconds_of(shut), Some(207));
-    assert_eq!(rt; seconds_of(shut_again), Some(305));
-    assert_eq!(rt; seconds_of(flushed_again), Some(500));
+    let wanted = [Some(7), Some(100), Some(207), Some(305), Some(500)];
+    assert_eq!(rt; own_answers(rt.alloc())?, wanted);
     Ok(())
 }

@@ -30,6 +30,11 @@ fn shown(alloc: Global, resource: &Resource) -> Result<String, AllocError> {
     Ok(text)
 }
 
+fn is_shown(alloc: Global, resource: &Resource, wanted: &str) -> Result<bool, AllocError> {
+    let text = shown(alloc, resource)?;
+    Ok(text.as_str() == wanted)
+}
+
 /// A caller's own detector: one attribute, under a schema.
 #[derive(Drop)]
 struct OneAttribute {
@@ -45,18 +50,38 @@ impl ResourceDetector for OneAttribute {
 
 /// One attribute, under a schema.
 pub fn under_schema(alloc: Global, value: &str) -> Result<Resource, AllocError> {
+    let builder = Resource::builder_empty(alloc);
+    Ok(with_schema(alloc, builder, "k", value)?.build())
+}
+
+/// Merges a builder over one attribute, under a schema.
+fn with_schema(
+    alloc: Global,
+    builder: ResourceBuilder,
+    key: &'static str,
+    value: &str,
+) -> Result<ResourceBuilder, AllocError> {
     let mut pairs = Vec::new(alloc);
-    pairs.push(text_pair(alloc, "k", value)?)?;
+    push_text(alloc, &mut pairs, key, value)?;
     let schema = String::from_str(alloc, "http://schema/a")?;
-    let builder = Resource::builder_empty(alloc).with_schema_url(pairs, schema)?;
-    Ok(builder.build())
+    builder.with_schema_url(pairs, schema)
+}
+
+fn push_text(
+    alloc: Global,
+    pairs: &mut Vec<KeyValue>,
+    key: &'static str,
+    value: &str,
+) -> Result<(), AllocError> {
+    pairs.push(text_pair(alloc, key, value)?)?;
+    Ok(())
 }
 
 /// A builder of two attributes, without a schema.
 fn of_two(alloc: Global) -> Result<ResourceBuilder, AllocError> {
     let mut pairs = Vec::new(alloc);
-    pairs.push(text_pair(alloc, "b", "b-value")?)?;
-    pairs.push(text_pair(alloc, "k", "old")?)?;
+    push_text(alloc, &mut pairs, "b", "b-value")?;
+    push_text(alloc, &mut pairs, "k", "old")?;
     Resource::builder_empty(alloc).with_attributes(pairs)
 }
 
@@ -64,10 +89,17 @@ fn own(alloc: Global, value: &'static str) -> OneAttribute {
     OneAttribute { value, alloc }
 }
 
+fn with_own(
+    alloc: Global,
+    builder: ResourceBuilder,
+    value: &'static str,
+) -> Result<ResourceBuilder, AllocError> {
+    builder.with_detector(Box::new(alloc, own(alloc, value))?)
+}
+
 fn own_shown(alloc: Global, value: &'static str) -> Result<String, AllocError> {
-    let detector = Box::new(alloc, own(alloc, value))?;
-    let builder = of_two(alloc)?.with_detector(detector)?;
-    shown(alloc, &builder.build())
+    let resource = with_own(alloc, of_two(alloc)?, value)?.build();
+    shown(alloc, &resource)
 }
 
 /// The builder of two attributes behind two detectors.
@@ -86,7 +118,8 @@ fn two_shown(
     first: &'static str,
     second: &'static str,
 ) -> Result<String, AllocError> {
-    shown(alloc, &behind_two(alloc, first, second)?.build())
+    let resource = behind_two(alloc, first, second)?.build();
+    shown(alloc, &resource)
 }
 
 #[test]
@@ -113,15 +146,20 @@ fn nothing_is_cloned(alloc: Global) -> bool {
     nothing.clone().unwrap() == nothing
 }
 
-fn built_with_nothing(alloc: Global) -> Result<usize, AllocError> {
-    let built = Resource::builder(alloc, &ResourceStrings::default())?
+fn with_nothing(alloc: Global, builder: ResourceBuilder) -> ResourceBuilder {
+    builder
         .with_attributes(Vec::new(alloc))
         .unwrap()
         .with_schema_url(Vec::new(alloc), String::new(alloc))
         .unwrap()
         .with_detectors(&[])
-        .unwrap();
-    Ok(built.build().len())
+        .unwrap()
+}
+
+fn built_with_nothing(alloc: Global) -> Result<usize, AllocError> {
+    let unset = ResourceStrings::default();
+    let builder = Resource::builder(alloc, &unset)?;
+    Ok(with_nothing(alloc, builder).build().len())
 }
 
 #[test]
@@ -133,64 +171,93 @@ fn what_grows_nothing_is_never_refused(rt: HostRuntime) -> Result<(), Fail> {
     Ok(())
 }
 
-/// A builder of two detected strings.
-fn detected(alloc: Global) -> Result<ResourceBuilder, AllocError> {
-    let strings = ResourceStrings {
-        attributes: Some(String::from_str(alloc, "x=1,k=old")?),
+/// Strings of a program that configures no name of a service.
+pub fn two_strings(alloc: Global, attributes: &str) -> Result<ResourceStrings, AllocError> {
+    let attributes = Some(String::from_str(alloc, attributes)?);
+    Ok(ResourceStrings {
+        attributes,
         service_name: None,
         program_name: Some(String::from_str(alloc, "p")?),
-    };
+    })
+}
+
+/// A builder of two detected strings.
+fn detected(alloc: Global) -> Result<ResourceBuilder, AllocError> {
+    let strings = two_strings(alloc, "x=1,k=old")?;
     Resource::builder(alloc, &strings)
 }
 
+/// Two values of one key.
+fn first_and_second(alloc: Global) -> Result<Vec<KeyValue>, AllocError> {
+    let mut pairs = Vec::new(alloc);
+    push_text(alloc, &mut pairs, "a", "first")?;
+    push_text(alloc, &mut pairs, "a", "second")?;
+    Ok(pairs)
+}
+
 fn with_pairs(alloc: Global, builder: ResourceBuilder) -> Result<ResourceBuilder, AllocError> {
-    let builder = builder.with_service_name(Value::I64(7))?;
-    let mut pairs = Vec::new(alloc);
-    pairs.push(text_pair(alloc, "a", "first")?)?;
-    pairs.push(text_pair(alloc, "a", "second")?)?;
-    builder.with_attributes(pairs)
+    let pairs = first_and_second(alloc)?;
+    builder
+        .with_service_name(Value::I64(7))?
+        .with_attributes(pairs)
 }
 
-fn with_own(alloc: Global, builder: ResourceBuilder) -> Result<ResourceBuilder, AllocError> {
-    builder.with_detector(Box::new(alloc, own(alloc, "own"))?)
-}
-
-fn with_schema(alloc: Global, builder: ResourceBuilder) -> Result<ResourceBuilder, AllocError> {
-    let mut pairs = Vec::new(alloc);
-    pairs.push(text_pair(alloc, "a", "third")?)?;
-    let schema = String::from_str(alloc, "http://schema/a")?;
-    builder.with_schema_url(pairs, schema)
-}
-
-/// The resource that each call of a builder had a part in, and its copy, as texts.
-fn all_shown(alloc: Global) -> Result<(String, String), AllocError> {
+/// The resource that each call of a builder had a part in.
+fn built(alloc: Global) -> Result<Resource, AllocError> {
     let builder = with_pairs(alloc, detected(alloc)?)?;
-    let builder = with_schema(alloc, with_own(alloc, builder)?)?;
-    let resource = builder.build();
-    let copy = resource.clone()?;
-    Ok((shown(alloc, &resource)?, shown(alloc, &copy)?))
+    let builder = with_own(alloc, builder, "own")?;
+    Ok(with_schema(alloc, builder, "a", "third")?.build())
 }
 
-/// How many attributes the resource has that no strings configure.
-fn configured_len(alloc: Global) -> Result<usize, AllocError> {
-    let config = Config::from_strings(alloc, &ConfigStrings::default(), 0)?;
+fn built_is_shown(alloc: Global, wanted: &str) -> Result<bool, AllocError> {
+    let resource = built(alloc)?;
+    is_shown(alloc, &resource, wanted)
+}
+
+fn built_is_shown_again(alloc: Global, wanted: &str) -> Result<bool, AllocError> {
+    match built_is_shown(alloc, wanted) {
+        Ok(is_shown) => Ok(is_shown),
+        Err(_) => built_is_shown(alloc, wanted),
+    }
+}
+
+fn copy_is_shown(alloc: Global, wanted: &str) -> Result<bool, AllocError> {
+    let copy = built(alloc)?.clone()?;
+    is_shown(alloc, &copy, wanted)
+}
+
+fn copy_is_shown_again(alloc: Global, wanted: &str) -> Result<bool, AllocError> {
+    match copy_is_shown(alloc, wanted) {
+        Ok(is_shown) => Ok(is_shown),
+        Err(_) => copy_is_shown(alloc, wanted),
+    }
+}
+
+/// How many attributes the resource has that these strings configure.
+fn configured_len(alloc: Global, strings: &ConfigStrings) -> Result<usize, AllocError> {
+    let config = Config::from_strings(alloc, strings, 0)?;
     Ok(config.resource.len())
+}
+
+/// The same of no strings.
+fn unset_len(alloc: Global) -> Result<usize, AllocError> {
+    let unset = ConfigStrings::default();
+    configured_len(alloc, &unset)
+}
+
+fn unset_len_again(alloc: Global) -> Result<usize, AllocError> {
+    match unset_len(alloc) {
+        Ok(count) => Ok(count),
+        Err(_) => unset_len(alloc),
+    }
 }
 
 #[test]
 fn a_resource_that_was_refused_is_made_again(rt: HostRuntime) -> Result<(), Fail> {
-    let configured = match configured_len(rt.alloc()) {
-        Ok(count) => count,
-        Err(_) => configured_len(rt.alloc())?,
-    };
-    assert_eq!(rt; configured, 4);
-    let (made, copied) = match all_shown(rt.alloc()) {
-        Ok(both) => both,
-        Err(_) => all_shown(rt.alloc())?,
-    };
+    assert_eq!(rt; unset_len_again(rt.alloc())?, 4);
     let wanted = "a=second;k=own;service.name=7;telemetry.sdk.language=rust;\
         telemetry.sdk.name=opentelemetry;telemetry.sdk.version=0.33.0;x=1;http://schema/a";
-    assert_eq!(rt; made.as_str(), wanted);
-    assert_eq!(rt; copied.as_str(), wanted);
+    assert!(rt; built_is_shown_again(rt.alloc(), wanted)?);
+    assert!(rt; copy_is_shown_again(rt.alloc(), wanted)?);
     Ok(())
 }

@@ -1,5 +1,6 @@
 //! Custom samplers, whose answers are their own.
 
+use super::crossing::in_span;
 use opentelemetry::trace::{Link, SpanContext, SpanKind, TraceState};
 use opentelemetry::{Context, Key, KeyValue, SpanId, TraceFlags, TraceId, Value};
 use otel_base::trace::{Sampler, SamplerOf, SamplingDecision, SamplingResult, ShouldSample};
@@ -15,11 +16,15 @@ struct Own {
 /// How much of each an answer has, and how deep a tree is: more than any small number that a copy might tell apart.
 const COUNT: u32 = 33;
 
+fn own_attribute(alloc: Global, number: u32) -> Result<KeyValue, AllocError> {
+    let key = Key::new(format!(in alloc; "sampler{number}")?);
+    Ok(KeyValue::new(key, Value::I64(i64::from(number))))
+}
+
 fn own_attributes(alloc: Global) -> Result<Vec<KeyValue>, AllocError> {
     let mut attributes = Vec::new(alloc);
     for number in 0..COUNT {
-        let key = Key::new(format!(in alloc; "sampler{number}")?);
-        attributes.push(KeyValue::new(key, Value::I64(i64::from(number))))?;
+        attributes.push(own_attribute(alloc, number)?)?;
     }
     Ok(attributes)
 }
@@ -36,10 +41,11 @@ fn own_state(alloc: Global) -> Result<TraceState, AllocError> {
 }
 
 pub fn own_answer(alloc: Global) -> Result<SamplingResult, AllocError> {
+    let trace_state = own_state(alloc)?;
     Ok(SamplingResult {
         decision: SamplingDecision::RecordOnly,
         attributes: Some(own_attributes(alloc)?),
-        trace_state: own_state(alloc)?,
+        trace_state,
     })
 }
 
@@ -73,14 +79,10 @@ impl ShouldSample for Own {
 type Tree = SamplerOf<Own>;
 
 fn sampled(alloc: Global) -> Result<Context, Fail> {
-    let span_context = SpanContext::new(
-        TraceId::from(1),
-        SpanId::from(1),
-        TraceFlags::SAMPLED,
-        true,
-        TraceState::from_str(alloc, "foo=bar")?,
-    );
-    Ok(Context::new().with_span_context(span_context)?)
+    let state = TraceState::from_str(alloc, "foo=bar")?;
+    let trace_id = TraceId::from(1);
+    let span_id = SpanId::from(1);
+    Ok(in_span(SpanContext::new(trace_id, span_id, TraceFlags::SAMPLED, true, state))?)
 }
 
 /// What a span starts in.
@@ -121,10 +123,16 @@ fn ask(alloc: Global, sampler: &Tree, parent: Parent) -> Result<SamplingResult, 
     Ok(ask_in(sampler, cx.as_ref(), "GET")?)
 }
 
+/// What the custom sampler answers under a parent.
+fn ask_own(alloc: Global, parent: Parent) -> Result<SamplingResult, Fail> {
+    let sampler = Tree::Custom(own_sampler(alloc)?);
+    ask(alloc, &sampler, parent)
+}
+
 /// Whether the custom sampler answers as it does by itself.
 fn answers_whole(alloc: Global, parent: Parent) -> Result<bool, Fail> {
-    let answer = ask(alloc, &Tree::Custom(own_sampler(alloc)?), parent)?;
-    Ok(answer == own_answer(alloc)?)
+    let wanted = own_answer(alloc)?;
+    Ok(ask_own(alloc, parent)? == wanted)
 }
 
 #[test]
@@ -178,11 +186,22 @@ fn boxed_answer(alloc: Global) -> Result<SamplingResult, AllocError> {
     sampler.should_sample(None, trace_id, "GET", &SpanKind::Internal, &[], &[])
 }
 
+/// Its decision, and how many attributes it has.
+fn boxed_parts(alloc: Global) -> Result<(SamplingDecision, Option<usize>), AllocError> {
+    let answer = boxed_answer(alloc)?;
+    let count = match &answer.attributes {
+        Some(attributes) => Some(attributes.len()),
+        None => None,
+    };
+    Ok((answer.decision, count))
+}
+
 #[test]
 fn a_custom_sampler_in_a_box_answers_whole(rt: HostRuntime) -> Result<(), Fail> {
-    let answer = boxed_answer(rt.alloc())?;
-    assert!(rt; answer.decision == SamplingDecision::RecordOnly);
-    assert_eq!(rt; answer.attributes.ok_or("attributes")?.len(), 1);
+    assert_eq!(rt;
+        boxed_parts(rt.alloc())?,
+        (SamplingDecision::RecordOnly, Some(1))
+    );
     Ok(())
 }
 
@@ -194,16 +213,21 @@ fn over_own(alloc: Global) -> Result<Tree, AllocError> {
     over(alloc, Tree::Custom(own_sampler(alloc)?))
 }
 
+/// What the sampler by the parent, over the custom one, answers.
+fn ask_over_own(alloc: Global, parent: Parent) -> Result<SamplingResult, Fail> {
+    let sampler = over_own(alloc)?;
+    ask(alloc, &sampler, parent)
+}
+
 /// Whether the sampler by the parent, over the custom one, answers the custom one's decision and nothing else. An
 /// empty list of attributes counts as none.
 fn answers_its_decision(alloc: Global, parent: Parent) -> Result<bool, Fail> {
-    let answer = ask(alloc, &over_own(alloc)?, parent)?;
     let decision = SamplingResult {
         decision: SamplingDecision::RecordOnly,
         attributes: Some(Vec::new(alloc)),
         trace_state: TraceState::new(),
     };
-    Ok(answer == decision)
+    Ok(ask_over_own(alloc, parent)? == decision)
 }
 
 #[test]
@@ -216,16 +240,22 @@ fn the_decision_of_a_delegate_counts_alone(rt: HostRuntime) -> Result<(), Fail> 
 }
 
 /// Whether the sampler by the parent, over the custom one, refuses a span without a name.
-fn refuses(alloc: Global, parent: Parent) -> Result<bool, Fail> {
-    let cx = context_of(alloc, parent)?;
-    Ok(ask_in(&over_own(alloc)?, cx.as_ref(), "").is_err())
+fn refuses_in(alloc: Global, parent_context: Option<&Context>) -> Result<bool, AllocError> {
+    let sampler = over_own(alloc)?;
+    Ok(ask_in(&sampler, parent_context, "").is_err())
+}
+
+/// The same under a sampled parent.
+fn refuses_under_sampled(alloc: Global) -> Result<bool, Fail> {
+    let cx = sampled(alloc)?;
+    Ok(refuses_in(alloc, Some(&cx))?)
 }
 
 #[test]
 fn a_custom_sampler_is_not_asked_under_a_parent(rt: HostRuntime) -> Result<(), Fail> {
     let alloc = rt.alloc();
-    assert!(rt; refuses(alloc, Parent::NoContext)?);
-    assert!(rt; !refuses(alloc, Parent::Sampled)?);
+    assert!(rt; refuses_in(alloc, None)?);
+    assert!(rt; !refuses_under_sampled(alloc)?);
     Ok(())
 }
 
