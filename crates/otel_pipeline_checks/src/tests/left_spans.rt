@@ -1,8 +1,9 @@
 //! What a provider reports when it is closed, of the spans that are left in its processors.
 
-use super::fixtures::{TestSampler, config_under, end, shut, start_in, text_of};
+use super::fixtures::{TestSampler, config_under, end, shut, start_in};
 use opentelemetry::Context;
 use opentelemetry_sdk::trace::Processor;
+use otel_base::error::{OTelSdkError, OTelSdkResult};
 use otel_base::resource::Resource;
 use otel_base::trace::{BatchStrings, RandomIdGenerator, ShouldSample};
 use otel_export::trace::{ExporterBox, InMemorySpanExporter};
@@ -57,6 +58,16 @@ fn start_and_end<P: SpanProcessor, S: ShouldSample>(
     ended
 }
 
+/// The kind of an answer, whether its reason found memory or not.
+fn kind_of(answer: &OTelSdkResult) -> &'static str {
+    match answer {
+        Ok(()) => "ok",
+        Err(OTelSdkError::AlreadyShutdown) => "already shut down",
+        Err(OTelSdkError::InternalFailure(_)) => "failed",
+        Err(_) => "another error",
+    }
+}
+
 /// How a provider closes, as a text: its result, how many spans were stranded, and how many are left open.
 fn report<P: LeavesSpans, S: Drop>(
     alloc: Global,
@@ -64,8 +75,8 @@ fn report<P: LeavesSpans, S: Drop>(
 ) -> Result<String, AllocError> {
     let report = provider.close();
     let (stranded, left_open) = (report.stranded, report.left_open);
-    let result = text_of(alloc, report.result)?;
-    format!(in alloc; "{result} {stranded} {left_open}")
+    let kind = kind_of(&report.result);
+    format!(in alloc; "{kind} {stranded} {left_open}")
 }
 
 /// A provider over a batch processor behind 63 resources and that of the builder, so that there is no room for requests.
@@ -85,8 +96,8 @@ fn ended_and_shut<P: SpanProcessor, S: ShouldSample>(
     provider: &mut ProviderOf<P, S, RandomIdGenerator>,
 ) -> Result<String, AllocError> {
     let refused = start_and_end(alloc, provider)?;
-    let first = text_of(alloc, shut(provider))?;
-    let second = text_of(alloc, shut(provider))?;
+    let first = kind_of(&shut(provider));
+    let second = kind_of(&shut(provider));
     format!(in alloc; "{refused}; {first}; {second}")
 }
 
@@ -129,10 +140,7 @@ fn memory(alloc: Global) -> ExporterBox {
 fn a_close_counts_the_spans_that_are_left(rt: HostRuntime) -> Result<(), Fail> {
     let alloc = rt.alloc();
     let (answers, report) = closed_behind_resources::<Processor>(alloc, memory(alloc))?;
-    assert_eq!(rt;
-        answers.as_str(),
-        "0; Operation failed: Shutdown errors: 1; Shutdown already invoked"
-    );
+    assert_eq!(rt; answers.as_str(), "0; failed; already shut down");
     assert_eq!(rt; report.as_str(), "ok 0 1");
     Ok(())
 }

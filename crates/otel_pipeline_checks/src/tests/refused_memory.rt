@@ -46,7 +46,7 @@ const SECOND_SPAN_ID: u64 = 0x02ee_bf8c_3bbe_5e1a;
 struct TwoStarts {
     is_refused: bool,
     told: u64,
-    again: Option<SpanId>,
+    again: SpanId,
     told_again: u64,
 }
 
@@ -54,16 +54,16 @@ fn start_twice<P: SpanProcessor, S: ShouldSample>(
     alloc: Global,
     provider: &mut ProviderOf<P, S, RandomIdGenerator>,
     board: &Rc<Cell<u64>>,
-) -> TwoStarts {
+) -> Result<TwoStarts, AllocError> {
     let is_refused = started(alloc, provider).is_err();
     let told = board.get();
-    let again = started(alloc, provider).ok();
-    TwoStarts {
+    let again = started(alloc, provider)?;
+    Ok(TwoStarts {
         is_refused,
         told,
         again,
         told_again: board.get(),
-    }
+    })
 }
 
 /// A provider of three writers, under a sampler of so many attributes.
@@ -83,7 +83,8 @@ fn refused_then_started(alloc: Global) -> Result<(TwoStarts, bool), AllocError> 
     let board = empty_board(alloc)?;
     let mut provider = three_writers(alloc, &board, 0, true)?;
     let starts = start_twice(alloc, &mut provider, &board);
-    Ok((starts, close(provider).is_ok()))
+    let is_closed = close(provider).is_ok();
+    Ok((starts?, is_closed))
 }
 
 #[test]
@@ -91,7 +92,7 @@ fn a_refused_start_tells_no_processor_and_succeeds_again(rt: HostRuntime) -> Res
     let wanted = TwoStarts {
         is_refused: true,
         told: 0,
-        again: Some(SpanId::from(SECOND_SPAN_ID)),
+        again: SpanId::from(SECOND_SPAN_ID),
         told_again: 123,
     };
     assert_eq!(rt; refused_then_started(rt.alloc())?, (wanted, true));
