@@ -1,5 +1,5 @@
-//! The machine by itself: exporters of a caller's own, counts of steps and random lists. Scripts of the steps before an
-//! exporter in memory are those of the program's mode `steps`, in `otel_session_checks`.
+//! The machine by itself: exporters of a caller's own, counts of steps and random lists. What the program's mode `steps`
+//! can show, before an exporter in memory, is asked by the rows of `otel_rows`.
 
 mod failures;
 mod random;
