@@ -60,9 +60,10 @@ impl<W: Write + Drop> SpanExporter for LineExporter<W> {
 #[cfg(test)]
 mod tests {
     use super::LineExporter;
-    use crate::providers::provider_of;
-    use opentelemetry::Moment;
-    use opentelemetry_sdk::trace::{ProviderOf, RandomIdGenerator, Sampler, SimpleSpanProcessor};
+    use crate::providers::{provider_of, trace_span};
+    use opentelemetry_sdk::trace::{
+        ProviderOf, RandomIdGenerator, Sampler, SimpleSpanProcessor, SpanProcessor,
+    };
     use std::alloc::{AllocError, Global};
     use std::test::Fail;
 
@@ -82,37 +83,40 @@ mod tests {
         )
     }
 
-    /// Starts a span of this name at a moment, and ends it two later. The answer is how many processors refused it.
-    fn trace_span(
+    /// Traces two spans. The answer is how many processors refused each.
+    fn trace_two<P: SpanProcessor>(
         alloc: Global,
-        provider: &mut LineProvider,
-        name: &str,
-        start: u64,
-    ) -> Result<usize, AllocError> {
-        let tracer = provider.tracer(String::from_str(alloc, "library")?)?;
-        let mut span = tracer.start(String::from_str(alloc, name)?, provider, Moment(start))?;
-        let refused = span.end_with_timestamp(provider, Moment(start.saturating_add(2)));
-        span.abandon();
-        refused
+        provider: &mut ProviderOf<P, Sampler, RandomIdGenerator>,
+    ) -> Result<[usize; 2], AllocError> {
+        let first = trace_span(alloc, provider, "GET", 7)?;
+        let second = trace_span(alloc, provider, "db", 8)?;
+        Ok([first, second])
+    }
+
+    /// What the exporter has written.
+    fn written(alloc: Global, provider: &LineProvider) -> Result<Vec<u8>, AllocError> {
+        match provider.processors().first() {
+            Some(processor) => processor.exporter().sink.clone(),
+            None => Ok(Vec::new(alloc)),
+        }
+    }
+
+    /// The same of the two spans, how many processors refused them, and whether the provider was shut and closed.
+    fn traced(alloc: Global) -> Result<([usize; 2], Vec<u8>, bool), AllocError> {
+        let mut provider = line_provider(alloc)?;
+        let refused = trace_two(alloc, &mut provider);
+        let is_shut = provider.shutdown().is_ok();
+        let written = written(alloc, &provider);
+        let is_closed = provider.close().result.is_ok();
+        Ok((refused?, written?, is_shut && is_closed))
     }
 
     #[test]
     fn each_span_is_written_when_it_ends(rt: HostRuntime) -> Result<(), Fail> {
-        let alloc = rt.alloc();
-        let mut provider = line_provider(alloc)?;
-        let ended = [
-            trace_span(alloc, &mut provider, "GET", 7),
-            trace_span(alloc, &mut provider, "db", 8),
-        ];
-        let shut = provider.shutdown();
-        for processor in provider.processors() {
-            let written = processor.exporter().sink.as_slice();
-            assert_eq!(rt; written, "GET 7 9\ndb 8 10\n".as_bytes());
-        }
-        let closed = provider.close();
-        assert_eq!(rt; ended, [Ok(0), Ok(0)]);
-        assert!(rt; shut.is_ok());
-        assert!(rt; closed.result.is_ok());
+        let (refused, written, is_closed) = traced(rt.alloc())?;
+        assert_eq!(rt; refused, [0, 0]);
+        assert_eq!(rt; written.as_slice(), "GET 7 9\ndb 8 10\n".as_bytes());
+        assert!(rt; is_closed);
         Ok(())
     }
 }

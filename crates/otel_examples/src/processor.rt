@@ -79,10 +79,11 @@ impl<P: LeavesSpans> LeavesSpans for FilteringProcessor<P> {
 #[cfg(test)]
 mod tests {
     use super::{FilteringProcessor, MARK};
-    use crate::providers::provider_of;
+    use crate::providers::{provider_of, push_batch, start_span};
     use opentelemetry::{Key, KeyValue, Moment, Value};
     use opentelemetry_sdk::trace::{
-        InMemorySpanExporter, ProviderOf, RandomIdGenerator, Sampler, SimpleSpanProcessor, Span,
+        InMemorySpanExporter, ProviderOf, RandomIdGenerator, Sampler, SimpleSpanProcessor,
+        SpanProcessor,
     };
     use std::alloc::{AllocError, Global};
     use std::test::Fail;
@@ -99,23 +100,14 @@ mod tests {
         provider_of(alloc, Sampler::AlwaysOn, FilteringProcessor { inner })
     }
 
-    fn start_span(
-        alloc: Global,
-        provider: &mut FilteringProvider,
-        start: u64,
-    ) -> Result<Span, AllocError> {
-        let tracer = provider.tracer(String::from_str(alloc, "library")?)?;
-        tracer.start(String::new(alloc), provider, Moment(start))
-    }
-
     /// Starts a span at a moment, sets the mark to a value, and ends it. The answer is how many processors refused it.
-    fn trace_span(
+    fn trace_marked<P: SpanProcessor>(
         alloc: Global,
-        provider: &mut FilteringProvider,
+        provider: &mut ProviderOf<P, Sampler, RandomIdGenerator>,
         start: u64,
         mark: bool,
     ) -> Result<usize, AllocError> {
-        let mut span = start_span(alloc, provider, start)?;
+        let mut span = start_span(alloc, provider, "", start)?;
         let mark = KeyValue::new(Key::from_static_str(MARK), Value::Bool(mark));
         let marked = span.set_attribute(mark);
         let refused = span.end_with_timestamp(provider, Moment(9));
@@ -124,25 +116,43 @@ mod tests {
         refused
     }
 
+    /// Traces a span with the mark and one without. The answer is how many processors refused each.
+    fn trace_both<P: SpanProcessor>(
+        alloc: Global,
+        provider: &mut ProviderOf<P, Sampler, RandomIdGenerator>,
+    ) -> Result<[usize; 2], AllocError> {
+        let first = trace_marked(alloc, provider, 7, true)?;
+        let second = trace_marked(alloc, provider, 8, false)?;
+        Ok([first, second])
+    }
+
+    /// The moments at which the exported spans started, each batch between brackets.
+    fn exported(alloc: Global, provider: &FilteringProvider) -> Result<String, AllocError> {
+        let mut text = String::new(alloc);
+        for processor in provider.processors() {
+            for batch in processor.inner.exporter().batches() {
+                push_batch(&mut text, batch)?;
+            }
+        }
+        Ok(text)
+    }
+
+    /// What came of both spans, and whether the provider was shut and closed.
+    fn traced(alloc: Global) -> Result<([usize; 2], String, bool), AllocError> {
+        let mut provider = filtering_provider(alloc)?;
+        let refused = trace_both(alloc, &mut provider);
+        let is_shut = provider.shutdown().is_ok();
+        let exported = exported(alloc, &provider);
+        let is_closed = provider.close().result.is_ok();
+        Ok((refused?, exported?, is_shut && is_closed))
+    }
+
     #[test]
     fn a_marked_span_is_kept_back_and_others_are_exported(rt: HostRuntime) -> Result<(), Fail> {
-        let alloc = rt.alloc();
-        let mut provider = filtering_provider(alloc)?;
-        let ended = [
-            trace_span(alloc, &mut provider, 7, true),
-            trace_span(alloc, &mut provider, 8, false),
-        ];
-        let shut = provider.shutdown();
-        for processor in provider.processors() {
-            let batches = processor.inner.exporter().batches();
-            assert_eq!(rt; batches.len(), 1);
-            assert_eq!(rt; batches[0].len(), 1);
-            assert_eq!(rt; batches[0][0].start_time.0, 8);
-        }
-        let closed = provider.close();
-        assert_eq!(rt; ended, [Ok(0), Ok(0)]);
-        assert!(rt; shut.is_ok());
-        assert!(rt; closed.result.is_ok());
+        let (refused, exported, is_closed) = traced(rt.alloc())?;
+        assert_eq!(rt; refused, [0, 0]);
+        assert_eq!(rt; exported.as_str(), "[8 ]");
+        assert!(rt; is_closed);
         Ok(())
     }
 }

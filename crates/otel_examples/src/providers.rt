@@ -1,9 +1,10 @@
-//! What the tests of the examples make their providers by.
+//! What the tests of the examples make their providers and their spans by, and show them by.
 
+use opentelemetry::Moment;
 use opentelemetry_sdk::Resource;
 use opentelemetry_sdk::trace::{
-    BatchStrings, ConfigOf, ProviderBuilderOf, ProviderOf, RandomIdGenerator, SpanLimits,
-    SpanProcessor,
+    BatchStrings, ConfigOf, ProviderBuilderOf, ProviderOf, RandomIdGenerator, ShouldSample, Span,
+    SpanData, SpanLimits, SpanProcessor,
 };
 use std::alloc::{AllocError, Global};
 
@@ -41,4 +42,38 @@ pub fn built<P: SpanProcessor, S: Drop>(
         Ok(provider) => Ok(provider),
         Err((_, error)) => Err(error),
     }
+}
+
+/// Starts a span of this name at a moment.
+pub fn start_span<P: SpanProcessor, S: ShouldSample>(
+    alloc: Global,
+    provider: &mut ProviderOf<P, S, RandomIdGenerator>,
+    name: &str,
+    start: u64,
+) -> Result<Span, AllocError> {
+    let tracer = provider.tracer(String::from_str(alloc, "library")?)?;
+    tracer.start(String::from_str(alloc, name)?, provider, Moment(start))
+}
+
+/// Starts such a span, and ends it two nanoseconds later. The answer is how many processors refused it.
+pub fn trace_span<P: SpanProcessor, S: ShouldSample>(
+    alloc: Global,
+    provider: &mut ProviderOf<P, S, RandomIdGenerator>,
+    name: &str,
+    start: u64,
+) -> Result<usize, AllocError> {
+    let mut span = start_span(alloc, provider, name, start)?;
+    let refused = span.end_with_timestamp(provider, Moment(start.saturating_add(2)));
+    span.abandon();
+    refused
+}
+
+/// Shows the moments at which the spans of a batch started, between brackets.
+pub fn push_batch(text: &mut String, batch: &[SpanData]) -> Result<(), AllocError> {
+    text.push('[')?;
+    for span in batch {
+        let start = span.start_time.0;
+        write!(text, "{start} ")?;
+    }
+    text.push(']')
 }

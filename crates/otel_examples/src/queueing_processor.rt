@@ -125,8 +125,7 @@ impl<E: SpanExporter> LeavesSpans for QueueingProcessor<E> {
 #[cfg(test)]
 mod tests {
     use super::QueueingProcessor;
-    use crate::providers::provider_of;
-    use opentelemetry::Moment;
+    use crate::providers::{provider_of, push_batch, trace_span};
     use opentelemetry_sdk::trace::{
         InMemorySpanExporter, ProviderOf, RandomIdGenerator, Sampler, SpanProcessor,
     };
@@ -147,56 +146,56 @@ mod tests {
         )
     }
 
-    /// Starts a span at a moment and ends it. The answer is how many processors refused it.
-    fn trace_span<P: SpanProcessor>(
+    /// Traces three spans. The answer is how many processors refused each.
+    fn trace_three<P: SpanProcessor>(
         alloc: Global,
         provider: &mut ProviderOver<P>,
-        start: u64,
-    ) -> Result<usize, AllocError> {
-        let tracer = provider.tracer(String::from_str(alloc, "library")?)?;
-        let mut span = tracer.start(String::new(alloc), provider, Moment(start))?;
-        let refused = span.end_with_timestamp(provider, Moment(9));
-        span.abandon();
-        refused
+    ) -> Result<[usize; 3], AllocError> {
+        let first = trace_span(alloc, provider, "", 7)?;
+        let second = trace_span(alloc, provider, "", 8)?;
+        let third = trace_span(alloc, provider, "", 9)?;
+        Ok([first, second, third])
     }
 
-    /// How many batches the queues of a provider have exported.
-    fn batch_count(provider: &QueueingProvider) -> usize {
-        let mut count = 0;
+    /// Flushes twice, and shuts down: whether all went well.
+    fn flush_and_shut<P: SpanProcessor>(provider: &mut ProviderOver<P>) -> bool {
+        let flushed = provider.force_flush().is_ok();
+        let again = provider.force_flush().is_ok();
+        let shut = provider.shutdown().is_ok();
+        flushed && again && shut
+    }
+
+    /// The moments at which the exported spans started, each batch between brackets, and how many spans were dropped.
+    fn exported(alloc: Global, provider: &QueueingProvider) -> Result<String, AllocError> {
+        let mut text = String::new(alloc);
         for processor in provider.processors() {
-            count = processor.exporter.batches().len();
+            for batch in processor.exporter.batches() {
+                push_batch(&mut text, batch)?;
+            }
+            let dropped = processor.dropped;
+            write!(text, " and {dropped}")?;
         }
-        count
+        Ok(text)
+    }
+
+    /// What came of three spans before a flush and behind it, and whether each request and the close went well.
+    fn traced(alloc: Global) -> Result<([usize; 3], String, String, bool), AllocError> {
+        let mut provider = queueing_provider(alloc)?;
+        let refused = trace_three(alloc, &mut provider);
+        let before = exported(alloc, &provider);
+        let went_well = flush_and_shut(&mut provider);
+        let behind = exported(alloc, &provider);
+        let is_closed = provider.close().result.is_ok();
+        Ok((refused?, before?, behind?, went_well && is_closed))
     }
 
     #[test]
     fn a_flush_exports_what_waits_in_one_batch(rt: HostRuntime) -> Result<(), Fail> {
-        let alloc = rt.alloc();
-        let mut provider = queueing_provider(alloc)?;
-        let ended = [
-            trace_span(alloc, &mut provider, 7),
-            trace_span(alloc, &mut provider, 8),
-            trace_span(alloc, &mut provider, 9),
-        ];
-        let before = batch_count(&provider);
-        let flushed = provider.force_flush();
-        let again = provider.force_flush();
-        let shut = provider.shutdown();
-        for processor in provider.processors() {
-            assert_eq!(rt; processor.dropped, 1);
-            let batches = processor.exporter.batches();
-            assert_eq!(rt; batches.len(), 1);
-            assert_eq!(rt; batches[0].len(), 2);
-            assert_eq!(rt; batches[0][0].start_time.0, 7);
-            assert_eq!(rt; batches[0][1].start_time.0, 8);
-        }
-        let closed = provider.close();
-        assert_eq!(rt; ended, [Ok(0), Ok(0), Ok(0)]);
-        assert_eq!(rt; before, 0);
-        assert!(rt; flushed.is_ok());
-        assert!(rt; again.is_ok());
-        assert!(rt; shut.is_ok());
-        assert!(rt; closed.result.is_ok());
+        let (refused, before, behind, went_well) = traced(rt.alloc())?;
+        assert_eq!(rt; refused, [0, 0, 0]);
+        assert_eq!(rt; before.as_str(), " and 1");
+        assert_eq!(rt; behind.as_str(), "[7 8 ] and 1");
+        assert!(rt; went_well);
         Ok(())
     }
 }
