@@ -78,7 +78,8 @@ mod tests {
     use opentelemetry::trace::{SpanBuilder, SpanKind};
     use opentelemetry::{Context, Key, KeyValue, Moment, Value};
     use opentelemetry_sdk::trace::{
-        InMemorySpanExporter, ProviderOf, RandomIdGenerator, SimpleSpanProcessor, Span, SpanData,
+        InMemorySpanExporter, ProviderOf, RandomIdGenerator, ShouldSample, SimpleSpanProcessor,
+        Span, SpanData, SpanProcessor,
     };
     use std::alloc::{AllocError, Global};
     use std::test::Fail;
@@ -104,22 +105,23 @@ mod tests {
     }
 
     /// Starts a span of this kind, whose builder has an attribute `a`.
-    fn start_span(
+    fn start_span<P: SpanProcessor, S: ShouldSample>(
         alloc: Global,
-        provider: &mut ServerProvider,
+        provider: &mut ProviderOf<P, S, RandomIdGenerator>,
         kind: SpanKind,
     ) -> Result<Span, AllocError> {
+        let attributes = vec![in alloc; flag("a")]?;
         let tracer = provider.tracer(String::from_str(alloc, "library")?)?;
         let builder = SpanBuilder::from_name(String::new(alloc))
             .with_kind(kind)
-            .with_attributes(vec![in alloc; flag("a")]?);
+            .with_attributes(attributes);
         tracer.build_with_context(builder, &Context::new(), provider, Moment(7))
     }
 
     /// Starts such a span, sets `c` and `d`, and gives what it would export.
-    fn recorded(
+    fn recorded<P: SpanProcessor, S: ShouldSample>(
         alloc: Global,
-        provider: &mut ServerProvider,
+        provider: &mut ProviderOf<P, S, RandomIdGenerator>,
         kind: SpanKind,
     ) -> Result<Option<SpanData>, AllocError> {
         let mut span = start_span(alloc, provider, kind)?;
