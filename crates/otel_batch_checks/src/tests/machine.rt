@@ -242,8 +242,10 @@ fn offered_and_pulled(alloc: Global, producers: usize) -> Result<Vec<Step>, Fail
 fn in_hand(alloc: Global, producers: usize) -> Result<BatchMachine<ExporterBox>, Fail> {
     let mut queue = machine(alloc, producers, producers, producers)?;
     let steps = offered_and_pulled(alloc, producers)?;
-    match queue.run(steps, &mut Vec::new(alloc)) {
-        Ok(()) => Ok(queue),
+    let (count, mut outcomes) = (steps.len(), Vec::new(alloc));
+    match queue.run(steps, &mut outcomes) {
+        Ok(()) if outcomes.len() == count => Ok(queue),
+        Ok(()) => Err(Fail::new("a step has no outcome")),
         Err(_) => Err(Fail::new("no memory for the outcomes")),
     }
 }

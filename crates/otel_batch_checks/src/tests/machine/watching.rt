@@ -2,11 +2,11 @@
 
 ghost use Rattle.std.specs.Prelude.{None};
 
-use crate::tests::machine::script::sizes;
+use crate::tests::machine::script::{sizes, text_of};
 use opentelemetry::Value;
 use otel_base::error::OTelSdkResult;
 use otel_base::resource::Resource;
-use otel_batch::machine::{BatchMachine, Step};
+use otel_batch::machine::{BatchMachine, Outcome, Step};
 use otel_export::trace::{SpanData, SpanExporter};
 use std::alloc::{AllocError, Global};
 use std::test::Fail;
@@ -40,20 +40,27 @@ impl SpanExporter for Watching {
     }
 }
 
-/// Takes steps of a machine in front of such an exporter. The answer is what it then noted: attributes, shutdowns,
-/// seconds.
-fn noted(alloc: Global, steps: Vec<Step>) -> Result<(usize, usize, u64), Fail> {
+/// Takes steps of a machine in front of such an exporter. The answer is the last one's outcome, and what the exporter
+/// then noted: attributes, shutdowns, seconds.
+fn noted(alloc: Global, steps: Vec<Step>) -> Result<(String, (usize, usize, u64)), Fail> {
     let exporter = Watching {
         attributes: 0,
         asked: 0,
         seconds: 0,
     };
     let mut queue = BatchMachine::new(alloc, exporter, sizes(2, 2), 1)?;
-    for step in steps {
-        queue.step(step);
-    }
+    let last = last_outcome(&mut queue, steps);
     let noted = queue.exporter();
-    Ok((noted.attributes, noted.asked, noted.seconds))
+    let noted = (noted.attributes, noted.asked, noted.seconds);
+    Ok((text_of(alloc, &last)?, noted))
+}
+
+fn last_outcome(queue: &mut BatchMachine<Watching>, steps: Vec<Step>) -> Outcome {
+    let mut last = Outcome::Nothing;
+    for step in steps {
+        last = queue.step(step);
+    }
+    last
 }
 
 fn posted(alloc: Global) -> Result<Step, AllocError> {
@@ -65,9 +72,11 @@ fn posted(alloc: Global) -> Result<Step, AllocError> {
 #[test]
 fn a_posted_resource_reaches_the_exporter(rt: HostRuntime) -> Result<(), Fail> {
     let alloc = rt.alloc();
-    let before = noted(alloc, vec![in alloc; posted(alloc)?]?)?;
-    let behind = noted(alloc, vec![in alloc; posted(alloc)?, Step::Take]?)?;
+    let (outcome, before) = noted(alloc, vec![in alloc; posted(alloc)?]?)?;
+    assert_eq!(rt; outcome.as_str(), "posted");
     assert_eq!(rt; before, (0, 0, 0));
+    let (outcome, behind) = noted(alloc, vec![in alloc; posted(alloc)?, Step::Take]?)?;
+    assert_eq!(rt; outcome.as_str(), "took resource");
     assert_eq!(rt; behind, (1, 0, 0));
     Ok(())
 }
@@ -86,12 +95,14 @@ fn closes(alloc: Global, count: usize) -> Result<Vec<Step>, AllocError> {
 #[test]
 fn a_shutdown_shuts_the_exporter_down_once(rt: HostRuntime) -> Result<(), Fail> {
     let alloc = rt.alloc();
-    for (count, wanted) in [(0, (0, 0, 0)), (1, (0, 1, 5)), (2, (0, 1, 5))] {
-        assert_eq!(rt;
-            noted(alloc, closes(alloc, count)?)?,
-            wanted,
-            "{count} closes"
-        );
+    for (count, outcome, wanted) in [
+        (0, "finished", (0, 0, 0)),
+        (1, "shut down 0", (0, 1, 5)),
+        (2, "not enabled", (0, 1, 5)),
+    ] {
+        let (last, noted) = noted(alloc, closes(alloc, count)?)?;
+        assert_eq!(rt; last.as_str(), outcome, "{count} closes");
+        assert_eq!(rt; noted, wanted, "{count} closes");
     }
     Ok(())
 }
