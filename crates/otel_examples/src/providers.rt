@@ -19,7 +19,7 @@ pub fn builder_under<P, S>(
         span_limits: SpanLimits::default(),
         resource: Resource::builder_empty(alloc).build(),
     };
-    ProviderOf::builder(alloc, config, BatchStrings::default())
+    ProviderOf::builder_with_config(alloc, config, BatchStrings::default())
 }
 
 /// A provider over one processor, under such a builder.

@@ -5,7 +5,7 @@
 use opentelemetry::{Key, KeyValue, Moment, Value};
 use opentelemetry_sdk::error::OTelSdkResult;
 use opentelemetry_sdk::trace::{
-    Config, ConfigStrings, ExporterBox, IdSource, InMemorySpanExporter, KeepsBatches, OverExporter,
+    ConfigStrings, ExporterBox, IdSource, InMemorySpanExporter, KeepsBatches, OverExporter,
     Processor, ProviderOf, Sampler, SpanProcessor,
 };
 use std::alloc::{AllocError, Global};
@@ -43,8 +43,7 @@ fn export_batches<P: OverExporter + KeepsBatches>(
     exporter: P::Exporter,
 ) -> Result<(usize, usize, OTelSdkResult), AllocError> {
     let strings = ConfigStrings::default();
-    let config = Config::from_strings(alloc, &strings, 0)?;
-    let builder = ProviderOf::<P, Sampler, IdSource>::builder(alloc, config, strings.batch);
+    let builder = ProviderOf::<P, Sampler, IdSource>::builder(alloc, &strings, 0)?;
     let Ok(builder) = builder.with_batch_exporter(exporter) else {
         return Err(AllocError);
     };

@@ -1,10 +1,13 @@
 -- What a provider is made of, step by step, and what making it does (OpenTelemetry specification, "TracerProvider
 -- Creation").
-use Rattle.std.specs.Prelude.{◌≡◌, ◌<◌, ℕ, Bool, true, false, List, Result}
+use Rattle.std.specs.Prelude.{◌≡◌, ◌<◌, ℕ, Bool, true, false, List, [], Result}
 use Rattle.std.specs.declared.alloc.AllocError.{AllocError}
-use Rattle.otel_base.specs.ConfigStrings.{PlainBatchStrings}
+use Rattle.otel_base.specs.Config.{IsConfigOf}
+use Rattle.otel_base.specs.ConfigStrings.{PlainBatchStrings, PlainConfigStrings}
 use Rattle.otel_base.specs.Resource.{PlainResource, merge}
 use Rattle.otel_base.specs.declared.trace.config.ConfigOf.{ConfigOf}
+use Rattle.otel_base.specs.declared.trace.id_generator.IdSourceOf.{IdSourceOf}
+use Rattle.otel_base.specs.declared.trace.sampler.SamplerOf.{SamplerOf}
 use Rattle.otel_base.specs.declared.trace.span_limit.SpanLimits.{SpanLimits}
 use Rattle.otel_export.specs.RestsOr.{RestsOr}
 use Rattle.otel_pipeline.specs.Each.{AskedAll}
@@ -18,6 +21,14 @@ pub record BuilderState (P S G : Type 0) : Type 0 where
   pub config : ConfigOf S G
   pub batch_strings : PlainBatchStrings
   pub has_given_resource : Bool
+
+-- the builder that strings and a seed begin: it has no processor, and what they configure
+pub record BeginsBy {P C G : Type 0} (strings : PlainConfigStrings) (seed : ℕ)
+    (builder : BuilderState P (SamplerOf C) (IdSourceOf G)) : Type 0 where
+  pub processors : builder.processors ≡ []
+  pub config : IsConfigOf strings seed builder.config
+  pub batch_strings : builder.batch_strings ≡ strings.batch
+  pub has_given_resource : builder.has_given_resource ≡ false
 
 -- a builder of other limits
 abbrev pub with_limits : {P S G : Type 0} → BuilderState P S G → SpanLimits → BuilderState P S G

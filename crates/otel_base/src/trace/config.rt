@@ -2,14 +2,16 @@
 //! "Environment Variable Specification"). Nothing here reads an environment: the application hands its strings in, and
 //! an absent one is a variable that nobody set.
 
-ghost use Rattle.std.specs.Prelude.{◌≡◌, IfOk, string_bytes};
+ghost use Rattle.std.specs.Prelude.{◌≡◌, IfOk, OnErr, OnOk, string_bytes};
 ghost use Rattle.std.specs.Option.{option_map};
 ghost use Rattle.otel_base.specs.Config.{AreConfiguredLimits, IsConfigOf, IsConfiguredSampler};
 ghost use Rattle.otel_base.specs.ConfigStrings.{IsConfiguredNumber, IsConfiguredRatio};
 ghost use Rattle.otel_base.specs.Sampler.{parent_based, plan};
 
 use crate::resource::{Resource, ResourceStrings};
-use crate::trace::{IdSource, RandomIdGenerator, Ratio, Sampler, SpanLimits};
+use crate::trace::{
+    IdSource, IdSourceOf, RandomIdGenerator, Ratio, Sampler, SamplerOf, SpanLimits,
+};
 use std::alloc::{AllocError, Global};
 use std::marker::Model;
 
@@ -91,9 +93,26 @@ pub struct ConfigOf<S, G> {
 /// What a provider of the SDK is made of besides its processors.
 pub type Config = ConfigOf<Sampler, IdSource>;
 
+impl<C: Drop, D: Drop> ConfigOf<SamplerOf<C>, IdSourceOf<D>> {
+    /// What the strings say takes the place of what it says, with the SDK's generator of ids under this seed. Where they
+    /// say nothing a child is sampled as its parent and every root is, a span keeps 128 of each kind, and the resource is
+    /// that of `Resource::builder`. On an error it stays as it was.
+    pub fn set_from_strings(
+        &mut self,
+        alloc: Global,
+        strings: &ConfigStrings,
+        seed: u64,
+    ) -> Result<(), AllocError>
+        ensures ok { OnOk result (IsConfigOf strings.now seed self.new) }
+        ensures err { OnErr result (self.new ≡ self.old) }
+    {
+        *self = configured(alloc, strings, seed)?;
+        Ok(())
+    }
+}
+
 impl ConfigOf<Sampler, IdSource> {
-    /// What the strings say, with the SDK's generator of ids under this seed. Where they say nothing a child is sampled
-    /// as its parent and every root is, a span keeps 128 of each kind, and the resource is that of `Resource::builder`.
+    /// What the strings say, as of `set_from_strings`.
     pub fn from_strings(
         alloc: Global,
         strings: &ConfigStrings,
@@ -101,39 +120,60 @@ impl ConfigOf<Sampler, IdSource> {
     ) -> Result<Config, AllocError>
         ensures { IfOk result (IsConfigOf strings.now seed) }
     {
-        let resources = &strings.resource;
-        Ok(ConfigOf {
-            sampler: configured_sampler(alloc, strings)?,
+        let mut config = ConfigOf {
+            sampler: Sampler::AlwaysOn,
             id_generator: IdSource::Random(RandomIdGenerator::new(seed)),
-            span_limits: configured_limits(strings),
-            resource: Resource::builder(alloc, resources)?.build(),
-        })
+            span_limits: SpanLimits::default(),
+            resource: Resource::builder_empty(alloc).build(),
+        };
+        config.set_from_strings(alloc, strings, seed)?;
+        Ok(config)
     }
 }
 
+/// What the strings say.
+fn configured<C: Drop, D: Drop>(
+    alloc: Global,
+    strings: &ConfigStrings,
+    seed: u64,
+) -> Result<ConfigOf<SamplerOf<C>, IdSourceOf<D>>, AllocError>
+    ensures { IfOk result (IsConfigOf strings.now seed) }
+{
+    let resources = &strings.resource;
+    Ok(ConfigOf {
+        sampler: configured_sampler(alloc, strings)?,
+        id_generator: IdSourceOf::Random(RandomIdGenerator::new(seed)),
+        span_limits: configured_limits(strings),
+        resource: Resource::builder(alloc, resources)?.build(),
+    })
+}
+
 /// The sampler of the configured name.
-fn configured_sampler(alloc: Global, strings: &ConfigStrings) -> Result<Sampler, AllocError>
+fn configured_sampler<C: Drop>(
+    alloc: Global,
+    strings: &ConfigStrings,
+) -> Result<SamplerOf<C>, AllocError>
     ensures { IfOk result (λ sampler. IsConfiguredSampler strings.now (plan sampler)) }
 {
     let ratio = configured_ratio(&strings.sampler_arg);
     let Some(name) = &strings.sampler else {
-        return parent_based(alloc, Sampler::AlwaysOn);
+        return parent_based(alloc, SamplerOf::AlwaysOn);
     };
     match name.as_str() {
-        "always_on" => Ok(Sampler::AlwaysOn),
-        "always_off" => Ok(Sampler::AlwaysOff),
-        "traceidratio" => Ok(Sampler::TraceIdRatioBased(ratio)),
-        "parentbased_always_off" => parent_based(alloc, Sampler::AlwaysOff),
-        "parentbased_traceidratio" => parent_based(alloc, Sampler::TraceIdRatioBased(ratio)),
+        "always_on" => Ok(SamplerOf::AlwaysOn),
+        "always_off" => Ok(SamplerOf::AlwaysOff),
+        "traceidratio" => Ok(SamplerOf::TraceIdRatioBased(ratio)),
+        "parentbased_always_off" => parent_based(alloc, SamplerOf::AlwaysOff),
+        "parentbased_traceidratio" => parent_based(alloc, SamplerOf::TraceIdRatioBased(ratio)),
         // `parentbased_always_on`, and every name that no sampler has.
-        _ => parent_based(alloc, Sampler::AlwaysOn),
+        _ => parent_based(alloc, SamplerOf::AlwaysOn),
     }
 }
 
-fn parent_based(alloc: Global, delegate: Sampler) -> Result<Sampler, AllocError>
+fn parent_based<C: Drop>(alloc: Global, delegate: SamplerOf<C>) -> Result<SamplerOf<C>, AllocError>
     ensures { IfOk result (λ sampler. plan sampler ≡ parent_based (plan delegate)) }
 {
-    Ok(Sampler::ParentBased(Box::new(alloc, delegate)?))
+    Ok(SamplerOf::ParentBased(Box::new(alloc, delegate)?))
 }
 
 /// The ratio of the sampler's argument.

@@ -4,16 +4,19 @@
 //! Nothing here reads an environment: the strings that are handed in stand for its variables. A call that needs memory
 //! and finds none gives the builder back as it was, beside the error; what was handed to that call is dropped.
 
-ghost use Rattle.std.specs.Prelude.{◌≡◌, ◌++◌, [], ◌∷◌, false, true, IsOk, MatchResult};
+ghost use Rattle.std.specs.Prelude.{◌≡◌, ◌++◌, [], ◌∷◌, false, true, IfOk, IsOk, MatchResult};
 ghost use Rattle.std.specs.Bool.{OnFalse};
 ghost use Rattle.otel_pipeline.specs.Each.{AskedAll};
 ghost use Rattle.otel_pipeline.specs.ProviderBuilder as building;
-ghost use Rattle.otel_pipeline.specs.ProviderBuilder.{Opens, RefusesResource, TakesResource, with_limits};
+ghost use Rattle.otel_pipeline.specs.ProviderBuilder.{BeginsBy, Opens, RefusesResource, TakesResource, with_limits};
 
 use crate::trace::provider::provider_over;
 use crate::trace::{OverExporter, ProviderOf, SpanProcessor};
 use otel_base::resource::Resource;
-use otel_base::trace::{BatchStrings, ConfigOf, IdSourceOf, SpanLimits};
+use otel_base::trace::{
+    BatchStrings, ConfigOf, ConfigStrings, IdSource, IdSourceOf, RandomIdGenerator, Sampler,
+    SpanLimits,
+};
 use std::alloc::{AllocError, Global};
 use std::marker::Model;
 
@@ -44,10 +47,31 @@ impl<P, S, G> Model for ProviderBuilderOf<P, S, G> {
     } };
 }
 
-impl<P, S, G> ProviderOf<P, S, G> {
-    /// Begins with no processor and with this configuration, as of `Config::from_strings`. The strings configure the
-    /// batch processors that are added later.
+impl<P> ProviderOf<P, Sampler, IdSource> {
+    /// Begins with no processor and with what the strings configure, with the SDK's generator of ids under this seed.
     pub fn builder(
+        alloc: Global,
+        strings: &ConfigStrings,
+        seed: u64,
+    ) -> Result<ProviderBuilderOf<P, Sampler, IdSource>, AllocError>
+        ensures { IfOk result (BeginsBy strings.now seed) }
+    {
+        let mut config = ConfigOf {
+            sampler: Sampler::AlwaysOn,
+            id_generator: IdSource::Random(RandomIdGenerator::new(seed)),
+            span_limits: SpanLimits::default(),
+            resource: Resource::builder_empty(alloc).build(),
+        };
+        config.set_from_strings(alloc, strings, seed)?;
+        let batch_strings = strings.batch.clone()?;
+        Ok(ProviderOf::builder_with_config(alloc, config, batch_strings))
+    }
+}
+
+impl<P, S, G> ProviderOf<P, S, G> {
+    /// Begins with no processor and with this configuration, over a sampler and a generator of any one kind each. The
+    /// strings configure the batch processors that are added later.
+    pub fn builder_with_config(
         alloc: Global,
         config: ConfigOf<S, G>,
         batch_strings: BatchStrings,

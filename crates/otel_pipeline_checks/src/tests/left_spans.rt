@@ -25,7 +25,7 @@ fn told<P: SpanProcessor>(alloc: Global, mut processor: P, times: u32) -> Result
 /// A builder of a provider that samples every span.
 fn builder<P>(alloc: Global) -> ProviderBuilderOf<P, TestSampler, RandomIdGenerator> {
     let config = config_under(alloc, TestSampler::AlwaysOn);
-    ProviderOf::builder(alloc, config, BatchStrings::default())
+    ProviderOf::builder_with_config(alloc, config, BatchStrings::default())
 }
 
 fn built<P: SpanProcessor>(

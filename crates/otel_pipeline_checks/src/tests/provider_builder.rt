@@ -86,7 +86,7 @@ fn builder_with(alloc: Global, last: Listener) -> Result<TestBuilder, AllocError
         span_limits: SpanLimits::default(),
         resource: resource_of(alloc, &[("configured", 9)])?,
     };
-    let builder = ProviderOf::builder(alloc, config, BatchStrings::default());
+    let builder = ProviderOf::builder_with_config(alloc, config, BatchStrings::default());
     let builder = made(builder.with_simple_exporter(Sink))?;
     let builder = made(builder.with_batch_exporter(Sink))?;
     made(builder.with_span_processor(ProcessorOf::Custom(last)))

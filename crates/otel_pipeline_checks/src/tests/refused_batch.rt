@@ -106,7 +106,11 @@ fn export_again<P: OverExporter + KeepsBatches>(
     second: P::Exporter,
 ) -> Result<(Option<u64>, u64, OTelSdkResult), AllocError> {
     let config = config_under(alloc, TestSampler::AlwaysOn);
-    let builder = ProviderOf::<P, _, _>::builder(alloc, config, BatchStrings::default());
+    let builder = ProviderOf::<P, _, _>::builder_with_config(
+        alloc,
+        config,
+        BatchStrings::default(),
+    );
     let builder = with_batch_again(builder, first, second)?;
     let builder = with_resource_again(alloc, builder, "a")?;
     let builder = with_resource_again(alloc, builder, "b")?;

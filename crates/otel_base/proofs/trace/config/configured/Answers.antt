@@ -1,7 +1,7 @@
 use Rattle.std.proofs.Common.{rules, subst}
 use Rattle.otel_base.specs.ConfigStrings.{PlainConfigStrings}
 use Rattle.otel_base.specs.DetectedResource.{IsDetected}
-use Rattle.otel_base.proofs.trace.config.ConfigOf+Sampler+IdSource.from_strings.Goals as goal
+use Rattle.otel_base.proofs.trace.config.configured.Goals as goal
 
 pub returns : goal.returns
 returns g c = record {
