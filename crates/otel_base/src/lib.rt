@@ -1,4 +1,5 @@
-//! What the SDK stands on: its errors, ids, samplers and limits.
+//! What the SDK stands on: how its calls fail, the resources that say who speaks, where ids come from, which spans are
+//! sampled and how much they keep, the strings that configure all this, and what travels in headers; with their laws.
 #![tactic(auto)]
 
 pub mod error;

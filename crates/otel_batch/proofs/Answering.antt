@@ -55,15 +55,14 @@ error_has OutOfMemory is = is
 -- a result that keeps the first error has the first of the errors
 pub kept_error : (before after : Result (Unit {0}) OTelSdkError) (error more : Option OTelSdkError) → IsErrorOf before error →
     KeepsFailure before more after → IsErrorOf after (first_error error more)
-kept_error (Ok u) after None more is kept = kept
-kept_error (Ok u) after (Some e) more is kept = absurd is
-kept_error (Err e) after (Some f) more is kept = rw kept is
-kept_error (Err e) after None more is kept = absurd (error_has e is)
+kept_error (Ok u) after None more is keeps = rw keeps.kept keeps.says
+kept_error (Ok u) after (Some e) more is keeps = absurd is
+kept_error (Err e) after (Some f) more is keeps = rw keeps.kept is
+kept_error (Err e) after None more is keeps = absurd (error_has e is)
 
 pub refusal_kept : (before : Result (Unit {0}) OTelSdkError) →
     KeepsFailure before (Some OutOfMemory) (first_failure before (Err OutOfMemory))
-refusal_kept (Ok u) = tt
-refusal_kept (Err e) = refl
+refusal_kept before = record { answer = Err OutOfMemory; says = tt; kept = refl }
 
 -- a drain with this reason and this error between its load and its finish, which found no memory or did
 record HoldsAnswer (reason : Why) (error : Option OTelSdkError) (refused : Bool) (s : Counts) : Type 0 where

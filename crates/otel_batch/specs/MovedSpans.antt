@@ -1,7 +1,6 @@
 -- Where the spans go in one step of the batch queue, and what the exporter is asked.
 use Rattle.std.specs.Prelude.{◌≡◌, ℕ, [], ◌∷◌, ◌++◌, Option, Result, slice_get}
 use Rattle.otel_base.specs.declared.error.OTelSdkError.{OTelSdkError}
-use Rattle.otel_export.specs.RestsOr.{RestsOr, StaysOr}
 use Rattle.otel_export.specs.Telling.{Tells}
 use Rattle.otel_batch.specs.Slots.{held}
 use Rattle.otel_batch.specs.Messages.{resource_in}
@@ -44,8 +43,7 @@ module _ {E : Type 0} (calls : Ghosts E) where
 
   -- the exporter is handed the resource of the first message
   pub record PassesResource (s t : Machine E) : Type 0 where
-    pub gives : StaysOr (λ x y. calls.resource_gives x (resource_in (slice_get s.control.messages 0)) y)
-        s.exporter t.exporter
+    pub gives : calls.resource_gives s.exporter (resource_in (slice_get s.control.messages 0)) t.exporter
     pub told : calls.told t.exporter ≡ calls.told s.exporter
     pub hand : t.hand ≡ s.hand
     pub waiting : t.waiting ≡ s.waiting
@@ -53,7 +51,7 @@ module _ {E : Type 0} (calls : Ghosts E) where
   -- the exporter is shut down, in five seconds; its answer is dropped
   pub record ShutsExporter (s t : Machine E) : Type 0 where
     pub answer : Result (Unit {0}) OTelSdkError
-    pub gives : RestsOr (λ x given y. calls.shutdown_gives x 5_000_000_000 given y) s.exporter answer t.exporter
+    pub gives : calls.shutdown_gives s.exporter 5_000_000_000 answer t.exporter
     pub told : calls.told t.exporter ≡ calls.told s.exporter
     pub hand : t.hand ≡ s.hand
     pub waiting : t.waiting ≡ s.waiting

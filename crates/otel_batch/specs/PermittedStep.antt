@@ -303,12 +303,14 @@ IsErrorOf (Err OutOfMemory) (Some OutOfMemory) = Unit {0}
 IsErrorOf _ _ = ⊥
 
 -- the drain's result behind an export whose answer had this error: an error that was there before, else that answer
-abbrev pub KeepsFailure : (before : Result (Unit {0}) OTelSdkError) → Option OTelSdkError
-    → (after : Result (Unit {0}) OTelSdkError) → Type 0
-KeepsFailure (Ok u) error after = IsErrorOf after error
-KeepsFailure (Err e) error after = after ≡ Err e
+pub record KeepsFailure (before : Result (Unit {0}) OTelSdkError) (error : Option OTelSdkError)
+    (after : Result (Unit {0}) OTelSdkError) : Type 0 where
+  pub answer : Result (Unit {0}) OTelSdkError
+  pub says : IsErrorOf answer error
+  pub kept : after ≡ first_failure before answer
 
--- the hand is exported, and the drain's result is the exporter's answer unless a batch failed before
+-- the hand is exported, with the error of this batch, and the drain's result is the exporter's answer unless a batch
+-- failed before
 abbrev pub HandOverRow : Counts → Outcome → Counts → Type 0
 HandOverRow s (outcome.HandedOver k e) t =
     (s.control.worker ≡ worker.Handing)

@@ -1,11 +1,12 @@
 //! An exporter of one's own: it writes a line for each span to anything that takes bytes.
 //!
-//! An exporter says what it tells, which here is nothing, and has `export`. Of the other calls it has those that it has
-//! a use for: what the sink keeps back is sent on at a flush and at the shutdown. Among exporters of other kinds, this
-//! one is `ExporterBox::Custom(Box::new(alloc, LineExporter::new(alloc, sink))?)`.
+//! An exporter says what it tells, which here is nothing, and has `export`, `shutdown_with_timeout` and `set_resource`.
+//! What the sink keeps back is sent on at the shutdown, and where a holder of the exporter calls `force_flush`, which no
+//! processor of the SDK does. The lines do not name the resource. Among exporters of other kinds, this one is `ExporterBox::Custom(Box::new(alloc, LineExporter::new(alloc, sink))?)`.
 
 ghost use Rattle.std.specs.Prelude.{None};
 
+use opentelemetry_sdk::Resource;
 use opentelemetry_sdk::error::{OTelSdkError, OTelSdkResult};
 use opentelemetry_sdk::trace::{SpanData, SpanExporter};
 use std::alloc::Global;
@@ -55,6 +56,8 @@ impl<W: Write + Drop> SpanExporter for LineExporter<W> {
     fn shutdown_with_timeout(&mut self, _timeout: Duration) -> OTelSdkResult {
         self.force_flush()
     }
+
+    fn set_resource(&mut self, _resource: &Resource) {}
 }
 
 #[cfg(test)]

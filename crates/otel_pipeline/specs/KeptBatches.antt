@@ -2,13 +2,12 @@
 -- batches behind those that are kept.
 use Rattle.std.specs.Prelude.{◌≡◌, ◌++◌, ◌&&◌, not, ℕ, List, [], ◌∷◌, Bool, true, false, Result, Ok, Err, refl}
 use Rattle.std.specs.declared.alloc.AllocError.{AllocError}
-use Rattle.std.proofs.Common.{ap, sym, ◌∙◌, append-nil, append_assoc, inl, inr}
+use Rattle.std.proofs.Common.{ap, sym, ◌∙◌, append-nil, append_assoc}
 use Rattle.opentelemetry.specs.Plain.{PlainContext}
 use Rattle.otel_base.specs.Resource.{PlainResource}
 use Rattle.otel_base.specs.declared.error.OTelSdkError.{OTelSdkError}
 use Rattle.otel_export.specs.ExporterKinds.{ExporterGives}
 use Rattle.otel_export.specs.PlainSpanData.{PlainSpanData, is_sampled}
-use Rattle.otel_export.specs.RestsOr.{RestsOr, StaysOr}
 use Rattle.otel_export.specs.StoredBatches.{StoredBatches, StoresBatch}
 use Rattle.otel_export.specs.declared.trace.exporter_box.ExporterOf.{ExporterOf}
 use Rattle.otel_export.specs.declared.trace.exporter_box.ExporterOf.TheVariants as exporters
@@ -49,9 +48,9 @@ pub record ExporterAppends {E : Type 0} (calls : exporting.Ghosts E) (keeps : E 
   pub exports : (old : E) (batch : List PlainSpanData) (answer : Result (Unit {0}) OTelSdkError) (new : E)
       → calls.export_gives old batch answer new → Grows (keeps old) (keeps new)
   pub shuts : (old : E) (timeout : ℕ) (answer : Result (Unit {0}) OTelSdkError) (new : E)
-      → RestsOr (λ x given y. calls.shutdown_gives x timeout given y) old answer new → Grows (keeps old) (keeps new)
+      → calls.shutdown_gives old timeout answer new → Grows (keeps old) (keeps new)
   pub passes : (old : E) (resource : PlainResource) (new : E)
-      → StaysOr (λ x y. calls.resource_gives x resource y) old new → Grows (keeps old) (keeps new)
+      → calls.resource_gives old resource new → Grows (keeps old) (keeps new)
 
 -- the batches that an exporter keeps, and how many it lost; none where it is not the one in memory
 abbrev pub exporter_keeps : {C : Type 0} → ExporterOf StoredBatches C → List (List PlainSpanData)
@@ -116,47 +115,26 @@ simple_stays {E} keeps loses old new h = (
       (λ (p : SimpleProcessor E). loses p.exporter) h.0,
 )
 
--- a call that leaves what it may keep as it was
-leaves_batches : (old : StoredBatches) (answer : Result (Unit {0}) OTelSdkError) (new : StoredBatches)
-    → RestsOr (λ m r n. (r ≡ Ok tt) × (n ≡ m)) old answer new → Grows old.batches new.batches
-leaves_batches old answer new (inl h) = nothing_more (λ (s : StoredBatches). s.batches) old new h.1
-leaves_batches old answer new (inr h) = nothing_more (λ (s : StoredBatches). s.batches) old new h.1
-
 -- a shutdown of an exporter of either kind
-kinds_shut : {C : Type 0} (custom : C → Result (Unit {0}) OTelSdkError → C → Type 0)
-    (old : ExporterOf StoredBatches C) (answer : Result (Unit {0}) OTelSdkError) (new : ExporterOf StoredBatches C)
-    → ExporterGives (λ m n. RestsOr (λ a r b. (r ≡ Ok tt) × (b ≡ a)) m answer n) (λ c d. custom c answer d) old new
-    → Grows (exporter_keeps old) (exporter_keeps new)
-kinds_shut custom (exporters.Memory m) answer (exporters.Memory n) h = leaves_batches m answer n h
-kinds_shut custom (exporters.Memory m) answer (exporters.Custom d) h = absurd h
-kinds_shut custom (exporters.Custom c) answer (exporters.Memory n) h = absurd h
-kinds_shut custom (exporters.Custom c) answer (exporters.Custom d) h = ([], refl)
-
 pub exporter_shuts : {C : Type 0} (custom : C → Result (Unit {0}) OTelSdkError → C → Type 0)
     (old : ExporterOf StoredBatches C) (answer : Result (Unit {0}) OTelSdkError) (new : ExporterOf StoredBatches C)
-    → RestsOr (λ x given y. ExporterGives
-    (λ m n. RestsOr (λ a r b. (r ≡ Ok tt) × (b ≡ a)) m given n) (λ c d. custom c given d) x y) old answer new
+    → ExporterGives (λ m n. (answer ≡ Ok tt) × (n ≡ m)) (λ c d. custom c answer d) old new
     → Grows (exporter_keeps old) (exporter_keeps new)
-exporter_shuts custom old answer new (inl h) = nothing_more exporter_keeps old new h.1
-exporter_shuts custom old answer new (inr h) = kinds_shut custom old answer new h
+exporter_shuts custom (exporters.Memory m) answer (exporters.Memory n) h =
+    nothing_more (λ (s : StoredBatches). s.batches) m n h.1
+exporter_shuts custom (exporters.Memory m) answer (exporters.Custom d) h = absurd h
+exporter_shuts custom (exporters.Custom c) answer (exporters.Memory n) h = absurd h
+exporter_shuts custom (exporters.Custom c) answer (exporters.Custom d) h = ([], refl)
 
 -- an exporter of either kind was handed a resource
-kinds_pass : {C : Type 0} (custom : C → C → Type 0) (old new : ExporterOf StoredBatches C)
-    → ExporterGives (λ m n. StaysOr (λ a b. b ≡ a) m n) (λ c d. custom c d) old new
-    → Grows (exporter_keeps old) (exporter_keeps new)
-kinds_pass custom (exporters.Memory m) (exporters.Memory n) (inl h) =
-    nothing_more (λ (s : StoredBatches). s.batches) m n h
-kinds_pass custom (exporters.Memory m) (exporters.Memory n) (inr h) =
-    nothing_more (λ (s : StoredBatches). s.batches) m n h
-kinds_pass custom (exporters.Memory m) (exporters.Custom d) h = absurd h
-kinds_pass custom (exporters.Custom c) (exporters.Memory n) h = absurd h
-kinds_pass custom (exporters.Custom c) (exporters.Custom d) h = ([], refl)
-
 pub exporter_passes : {C : Type 0} (custom : C → C → Type 0) (old new : ExporterOf StoredBatches C)
-    → StaysOr (λ x y. ExporterGives (λ m n. StaysOr (λ a b. b ≡ a) m n) (λ c d. custom c d) x y) old new
+    → ExporterGives (λ m n. n ≡ m) (λ c d. custom c d) old new
     → Grows (exporter_keeps old) (exporter_keeps new)
-exporter_passes custom old new (inl h) = nothing_more exporter_keeps old new h
-exporter_passes custom old new (inr h) = kinds_pass custom old new h
+exporter_passes custom (exporters.Memory m) (exporters.Memory n) h =
+    nothing_more (λ (s : StoredBatches). s.batches) m n h
+exporter_passes custom (exporters.Memory m) (exporters.Custom d) h = absurd h
+exporter_passes custom (exporters.Custom c) (exporters.Memory n) h = absurd h
+exporter_passes custom (exporters.Custom c) (exporters.Custom d) h = ([], refl)
 
 -- a call that leaves a simple processor as it was
 pub simple_rests : {E : Type 0} (keeps : E → List (List PlainSpanData)) (old new : SimpleProcessor E)

@@ -9,7 +9,6 @@ use Rattle.otel_base.specs.declared.trace.config.ConfigOf.{ConfigOf}
 use Rattle.otel_base.specs.declared.trace.id_generator.IdSourceOf.{IdSourceOf}
 use Rattle.otel_base.specs.declared.trace.sampler.SamplerOf.{SamplerOf}
 use Rattle.otel_base.specs.declared.trace.span_limit.SpanLimits.{SpanLimits}
-use Rattle.otel_export.specs.RestsOr.{RestsOr}
 use Rattle.otel_pipeline.specs.Each.{AskedAll}
 use Rattle.otel_pipeline.specs.Provider.{ProviderState}
 use Rattle.otel_pipeline.specs.declared.trace.span_processor.SpanProcessor.{Ghosts}
@@ -50,10 +49,10 @@ with_resource builder resource = record builder {
 }
 
 module _ {P : Type 0} (calls : Ghosts P) where
-  -- a processor was told the resource: it answers as its call can, or rests, and tells what it told
+  -- a processor was told the resource: it answers as its call can, and tells what it told
   pub record TakesResource (resource : PlainResource) (old : P) (answer : Result (Unit {0}) AllocError) (new : P)
       : Type 0 where
-    pub gives : RestsOr (λ x given y. calls.resource_gives x resource given y) old answer new
+    pub gives : calls.resource_gives old resource answer new
     pub told : calls.told new ≡ calls.told old
 
   -- the provider that a builder makes is open, and each processor took its resource

@@ -3,7 +3,6 @@ use Rattle.std.specs.declared.alloc.AllocError.{AllocError}
 use Rattle.otel_base.specs.Resource.{PlainResource}
 use Rattle.otel_base.specs.declared.error.OTelSdkError.{OTelSdkError}
 use Rattle.otel_export.specs.PlainSpanData.{PlainSpanData, is_sampled}
-use Rattle.otel_export.specs.RestsOr.{RestsOr, StaysOr}
 use Rattle.otel_export.specs.Telling.{Tells}
 use Rattle.otel_export.specs.declared.trace.export.SpanExporter.{Ghosts}
 use Rattle.otel_pipeline.specs.ProcessorTelling.{ProcessorTelling, spans_told}
@@ -43,17 +42,17 @@ module _ {E : Type 0} (calls : Ghosts E) where
   abbrev pub SimpleEnds : SimpleProcessor E → PlainSpanData → Result (Unit {0}) AllocError → SimpleProcessor E → Type 0
   SimpleEnds old span = ExportsIf (not old.is_shut && is_sampled span) old span
 
-  -- a shutdown: its exporter did what its shutdown with this timeout and this answer may do, or nothing with Ok
+  -- a shutdown: its exporter did what its shutdown with this timeout and this answer may do
   pub record SimpleShuts (old : SimpleProcessor E) (timeout : ℕ) (answer : Result (Unit {0}) OTelSdkError)
       (new : SimpleProcessor E) : Type 0 where
-    pub gives : RestsOr (λ x given y. calls.shutdown_gives x timeout given y) old.exporter answer new.exporter
+    pub gives : calls.shutdown_gives old.exporter timeout answer new.exporter
     pub told : calls.told new.exporter ≡ calls.told old.exporter
     pub rest : new ≡ record old { exporter = new.exporter; is_shut = true }
 
-  -- a resource: its exporter did with it what its call may do, or nothing
+  -- a resource: its exporter did with it what its call may do
   pub record HandsResource (old : SimpleProcessor E) (resource : PlainResource)
       (answer : Result (Unit {0}) AllocError) (new : SimpleProcessor E) : Type 0 where
-    pub gives : StaysOr (λ x y. calls.resource_gives x resource y) old.exporter new.exporter
+    pub gives : calls.resource_gives old.exporter resource new.exporter
     pub told : calls.told new.exporter ≡ calls.told old.exporter
     pub ok : answer ≡ Ok tt
     pub rest : new ≡ record old { exporter = new.exporter }

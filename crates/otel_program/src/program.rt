@@ -46,6 +46,7 @@ use otel_steps::{Sizes, answer_lines, machine_sized};
 use std::alloc::{AllocError, Global};
 use std::io;
 use std::io::{Read, Write};
+use std::time::Duration;
 
 const USAGE: &str = "usage: otel_trace trace SEED simple | trace SEED batch Q B | steps Q B P\n";
 
@@ -75,6 +76,12 @@ impl SpanExporter for NoExporter {
     fn export(&mut self, _batch: Vec<SpanData>) -> OTelSdkResult {
         Ok(())
     }
+
+    fn shutdown_with_timeout(&mut self, _timeout: Duration) -> OTelSdkResult {
+        Ok(())
+    }
+
+    fn set_resource(&mut self, _resource: &Resource) {}
 }
 
 /// What stands for a sampler of another's own, of which the program has none: it drops every span.

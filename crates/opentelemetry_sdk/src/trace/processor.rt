@@ -28,7 +28,6 @@ pub type Processor = ProcessorOf<ExporterBox, Box<dyn SpanProcessor>>;
 impl<E: SpanExporter, C: SpanProcessor> SpanProcessor for ProcessorOf<E, C> {
     ghost use Rattle.std.specs.Prelude.{◌≡◌, Ok};
     ghost use Rattle.otel_batch.specs.declared.machine.state.Request.TheVariants as request;
-    ghost use Rattle.otel_export.specs.RestsOr.{RestsOr};
     ghost use Rattle.otel_pipeline.specs.SimpleProcessor.{HandsResource, SimpleEnds, SimpleShuts, simple_telling};
     ghost use Rattle.opentelemetry_sdk.specs.BatchProcessor.{BatchEnds, BatchRequests, BatchTakesResource, batch_telling};
     ghost use Rattle.opentelemetry_sdk.specs.ProcessorKinds.{ProcessorGives};
@@ -53,9 +52,9 @@ impl<E: SpanExporter, C: SpanProcessor> SpanProcessor for ProcessorOf<E, C> {
         (λ a b. BatchRequests E.SpanExporter request.Shutdown a r b) (λ a b. C.shutdown_gives a timeout r b) p q };
 
     ghost resource_gives = { λ p resource r q. ProcessorGives
-        (λ a b. RestsOr (λ x answer y. HandsResource E.SpanExporter x resource answer y) a r b)
-        (λ a b. RestsOr (λ x answer y. BatchTakesResource E.SpanExporter x resource answer y) a r b)
-        (λ a b. RestsOr (λ x answer y. C.resource_gives x resource answer y) a r b) p q };
+        (λ a b. HandsResource E.SpanExporter a resource r b)
+        (λ a b. BatchTakesResource E.SpanExporter a resource r b)
+        (λ a b. C.resource_gives a resource r b) p q };
 
     fn on_start(&mut self, span: &mut Span, cx: &Context) {
         match self {

@@ -9,6 +9,7 @@ mod watching;
 
 use crate::tests::machine::script::{machine, play, sizes, span, step_of, text_of};
 use otel_base::error::{OTelSdkError, OTelSdkResult};
+use otel_base::resource::Resource;
 use otel_batch::machine::{BatchMachine, Outcome, Slot, Step, Worker};
 use otel_export::trace::{ExporterBox, SpanData, SpanExporter};
 use std::alloc::{AllocError, Global};
@@ -51,6 +52,8 @@ impl SpanExporter for Failing {
     fn shutdown_with_timeout(&mut self, timeout: Duration) -> OTelSdkResult {
         Err(OTelSdkError::Timeout(timeout))
     }
+
+    fn set_resource(&mut self, _resource: &Resource) {}
 }
 
 /// An exporter that fails at every second batch, from the first one on.
@@ -72,6 +75,12 @@ impl SpanExporter for Alternating {
         }
         Ok(())
     }
+
+    fn shutdown_with_timeout(&mut self, _timeout: Duration) -> OTelSdkResult {
+        Ok(())
+    }
+
+    fn set_resource(&mut self, _resource: &Resource) {}
 }
 
 fn before_alternating(alloc: Global) -> Result<BatchMachine<ExporterBox>, AllocError> {

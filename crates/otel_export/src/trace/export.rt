@@ -7,7 +7,7 @@ ghost use Rattle.std.specs.Duration.{as_nanos};
 ghost use Rattle.otel_base.specs.Resource.{PlainResource};
 ghost use Rattle.otel_base.specs.declared.error.OTelSdkError.{OTelSdkError};
 ghost use Rattle.otel_export.specs.PlainSpanData.{PlainSpanData};
-ghost use Rattle.otel_export.specs.RestsOr.{RestsOr, StaysOr};
+ghost use Rattle.otel_export.specs.RestsOr.{RestsOr};
 ghost use Rattle.otel_export.specs.Telling.{Tells};
 
 use crate::trace::SpanData;
@@ -15,8 +15,9 @@ use otel_base::error::OTelSdkResult;
 use otel_base::resource::Resource;
 use std::time::Duration;
 
-/// Sends ended spans to a backend (OpenTelemetry specification, "Span Exporter"). An exporter writes `export`; of the
-/// other calls, which do nothing by default, those that it has a use for.
+/// Sends ended spans to a backend (OpenTelemetry specification, "Span Exporter"). An exporter writes `export`,
+/// `shutdown_with_timeout` and `set_resource`, so that none of the three is left out unseen, and `force_flush` where it
+/// has a use for it.
 pub trait SpanExporter: Drop {
     /// The batches that it was handed so far, or nothing where it does not tell.
     ghost told: { Self → Option (List (List PlainSpanData)) };
@@ -25,15 +26,14 @@ pub trait SpanExporter: Drop {
     ghost export_gives: { Self → List PlainSpanData → Result (Unit {0}) OTelSdkError
         → Self → Type 0 } = { λ _ _ _ _. Unit {0} };
 
-    /// What a shutdown does, where it does anything: the exporter before it, the timeout in nanoseconds, the answer,
-    /// and the exporter after it.
+    /// What a shutdown does: the exporter before it, the timeout in nanoseconds, the answer, and the exporter after it.
     ghost shutdown_gives: { Self → ℕ → Result (Unit {0}) OTelSdkError
         → Self → Type 0 } = { λ _ _ _ _. Unit {0} };
 
     /// What a flush does, where it does anything.
     ghost flush_gives: { Self → Result (Unit {0}) OTelSdkError → Self → Type 0 } = { λ _ _ _. Unit {0} };
 
-    /// What it does with the resource, where it does anything.
+    /// What it does with the resource: the exporter before it, the resource, and the exporter after it.
     ghost resource_gives: { Self → PlainResource → Self → Type 0 } = { λ _ _ _. Unit {0} };
 
     /// Takes a batch over. It ends the telling, or appends the batch to it. An exporter may answer `OutOfMemory` for
@@ -44,26 +44,19 @@ pub trait SpanExporter: Drop {
         ensures gives { export_gives self.old batch.items result self.new };
 
     /// No batch comes after it. Errors as those of `export`; a second one may be `AlreadyShutdown`.
-    fn shutdown_with_timeout(&mut self, _timeout: Duration) -> OTelSdkResult
+    fn shutdown_with_timeout(&mut self, timeout: Duration) -> OTelSdkResult
         ensures told { told self.new ≡ told self.old }
-        ensures gives { RestsOr
-            (λ old answer new. shutdown_gives old (as_nanos _timeout) answer new)
-            self.old result self.new }
-    {
-        Ok(())
-    }
+        ensures gives { shutdown_gives self.old (as_nanos timeout) result self.new };
 
     /// The same with 5 seconds.
     fn shutdown(&mut self) -> OTelSdkResult
         ensures told { told self.new ≡ told self.old }
-        ensures gives { RestsOr
-            (λ old answer new. shutdown_gives old 5_000_000_000 answer new)
-            self.old result self.new }
+        ensures gives { shutdown_gives self.old 5_000_000_000 result self.new }
     {
         self.shutdown_with_timeout(Duration::from_secs(5))
     }
 
-    /// Sends on what was taken over and not sent yet. Errors as those of `export`.
+    /// Sends on what was taken over and not sent yet; by default there is nothing. Errors as those of `export`.
     fn force_flush(&mut self) -> OTelSdkResult
         ensures told { told self.new ≡ told self.old }
         ensures gives { RestsOr flush_gives self.old result self.new }
@@ -72,15 +65,14 @@ pub trait SpanExporter: Drop {
     }
 
     /// The spans of the batches to come are of this resource.
-    fn set_resource(&mut self, _resource: &Resource)
+    fn set_resource(&mut self, resource: &Resource)
         ensures told { told self.new ≡ told self.old }
-        ensures gives { StaysOr (λ old new. resource_gives old _resource.now new) self.old self.new }
-    {}
+        ensures gives { resource_gives self.old resource.now self.new };
 }
 
 impl SpanExporter for Box<dyn SpanExporter> {
     ghost use Rattle.std.specs.Prelude.{◌≡◌};
-    ghost use Rattle.otel_export.specs.RestsOr.{RestsOr, StaysOr};
+    ghost use Rattle.otel_export.specs.RestsOr.{RestsOr};
 
     ghost told = { λ b. (SpanExporter-box b).told b.value };
 
@@ -88,13 +80,13 @@ impl SpanExporter for Box<dyn SpanExporter> {
         × (SpanExporter-box b).export_gives b.value batch r v };
 
     ghost shutdown_gives = { λ b t r c. (v : _) × (c ≡ record b { value = v })
-        × RestsOr (λ x a y. (SpanExporter-box b).shutdown_gives x t a y) b.value r v };
+        × (SpanExporter-box b).shutdown_gives b.value t r v };
 
     ghost flush_gives = { λ b r c. (v : _) × (c ≡ record b { value = v })
         × RestsOr (SpanExporter-box b).flush_gives b.value r v };
 
     ghost resource_gives = { λ b s c. (v : _) × (c ≡ record b { value = v })
-        × StaysOr (λ x y. (SpanExporter-box b).resource_gives x s y) b.value v };
+        × (SpanExporter-box b).resource_gives b.value s v };
 
     fn export(&mut self, batch: Vec<SpanData>) -> OTelSdkResult {
         let inner = &mut **self;

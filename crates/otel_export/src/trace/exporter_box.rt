@@ -20,7 +20,7 @@ pub type ExporterBox = ExporterOf<InMemorySpanExporter, Box<dyn SpanExporter>>;
 
 impl<M: SpanExporter, C: SpanExporter> SpanExporter for ExporterOf<M, C> {
     ghost use Rattle.otel_export.specs.ExporterKinds.{ExporterGives};
-    ghost use Rattle.otel_export.specs.RestsOr.{RestsOr, StaysOr};
+    ghost use Rattle.otel_export.specs.RestsOr.{RestsOr};
     ghost use Rattle.otel_export.specs.declared.trace.exporter_box.ExporterOf.TheVariants as kinds;
 
     ghost told = { λ e. elim e [ kinds.Memory m ↦ M.told m | kinds.Custom c ↦ C.told c ] };
@@ -28,17 +28,15 @@ impl<M: SpanExporter, C: SpanExporter> SpanExporter for ExporterOf<M, C> {
     ghost export_gives = { λ e batch r f. ExporterGives (λ m n. M.export_gives m batch r n)
         (λ c d. C.export_gives c batch r d) e f };
 
-    ghost shutdown_gives = { λ e t r f. ExporterGives
-        (λ m n. RestsOr (λ x a y. M.shutdown_gives x t a y) m r n)
-        (λ c d. RestsOr (λ x a y. C.shutdown_gives x t a y) c r d) e f };
+    ghost shutdown_gives = { λ e t r f. ExporterGives (λ m n. M.shutdown_gives m t r n)
+        (λ c d. C.shutdown_gives c t r d) e f };
 
     ghost flush_gives = { λ e r f. ExporterGives
         (λ m n. RestsOr M.flush_gives m r n)
         (λ c d. RestsOr C.flush_gives c r d) e f };
 
-    ghost resource_gives = { λ e s f. ExporterGives
-        (λ m n. StaysOr (λ x y. M.resource_gives x s y) m n)
-        (λ c d. StaysOr (λ x y. C.resource_gives x s y) c d) e f };
+    ghost resource_gives = { λ e s f. ExporterGives (λ m n. M.resource_gives m s n)
+        (λ c d. C.resource_gives c s d) e f };
 
     #[inline(always)]
     fn export(&mut self, batch: Vec<SpanData>) -> OTelSdkResult {

@@ -5,8 +5,10 @@ ghost use Rattle.std.specs.Option.{option_map};
 
 use crate::trace::{SpanData, SpanExporter};
 use otel_base::error::{OTelSdkError, OTelSdkResult};
+use otel_base::resource::Resource;
 use std::alloc::Global;
 use std::marker::Model;
+use std::time::Duration;
 
 /// Keeps each batch that it was handed, in order. It tells them until one found no memory.
 #[derive(Debug, Drop)]
@@ -83,4 +85,12 @@ impl SpanExporter for InMemorySpanExporter {
             }
         }
     }
+
+    /// It goes on taking batches, which can be read behind a shutdown too.
+    fn shutdown_with_timeout(&mut self, _timeout: Duration) -> OTelSdkResult {
+        Ok(())
+    }
+
+    /// It keeps no resource.
+    fn set_resource(&mut self, _resource: &Resource) {}
 }

@@ -44,7 +44,6 @@ pub trait StoresBatches: SpanExporter {
 }
 
 impl<C: SpanExporter> StoresBatches for ExporterOf<InMemorySpanExporter, C> {
-    ghost use Rattle.otel_export.specs.RestsOr.{RestsOr, StaysOr};
     ghost use Rattle.otel_pipeline.specs.KeptBatches.{exporter_appends, exporter_keeps, exporter_loses};
     ghost use Rattle.otel_pipeline.specs.KeptBatches.{exporter_passes, exporter_shuts};
 
@@ -55,9 +54,9 @@ impl<C: SpanExporter> StoresBatches for ExporterOf<InMemorySpanExporter, C> {
     ghost appends = { record {
       exports = exporter_appends C.export_gives;
       shuts = λ old timeout answer new given.
-          exporter_shuts (λ c r d. RestsOr (λ x y z. C.shutdown_gives x timeout y z) c r d) old answer new given;
+          exporter_shuts (λ c r d. C.shutdown_gives c timeout r d) old answer new given;
       passes = λ old resource new given.
-          exporter_passes (λ c d. StaysOr (λ x y. C.resource_gives x resource y) c d) old new given;
+          exporter_passes (λ c d. C.resource_gives c resource d) old new given;
     } };
 
     fn batches(&self) -> &[Vec<SpanData>] {

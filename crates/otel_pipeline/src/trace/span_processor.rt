@@ -21,7 +21,6 @@ ghost use Rattle.opentelemetry.specs.Plain.{PlainContext};
 ghost use Rattle.otel_base.specs.Resource.{PlainResource};
 ghost use Rattle.otel_base.specs.declared.error.OTelSdkError.{OTelSdkError};
 ghost use Rattle.otel_export.specs.PlainSpanData.{PlainSpanData};
-ghost use Rattle.otel_export.specs.RestsOr.{RestsOr};
 ghost use Rattle.otel_pipeline.specs.ProcessorTelling.{ProcessorTelling, TakesNothing, TakesSpan, silent};
 ghost use Rattle.otel_pipeline.specs.SpanHistory.{PlainSpan, IsEdited};
 
@@ -54,8 +53,7 @@ pub trait SpanProcessor: Drop {
     ghost shutdown_gives: { Self → ℕ → Result (Unit {0}) OTelSdkError
         → Self → Type 0 } = { λ _ _ _ _. Unit {0} };
 
-    /// What it does with the resource, where it does anything: the processor before it, the resource, the answer, and
-    /// the processor after it.
+    /// What it does with the resource: the processor before it, the resource, the answer, and the processor after it.
     ghost resource_gives: { Self → PlainResource → Result (Unit {0}) AllocError
         → Self → Type 0 } = { λ _ _ _ _. Unit {0} };
 
@@ -94,19 +92,13 @@ pub trait SpanProcessor: Drop {
     }
 
     /// The spans to come are of this resource. `AllocError` where there is no memory to keep it.
-    fn set_resource(&mut self, _resource: &Resource) -> Result<(), AllocError>
+    fn set_resource(&mut self, resource: &Resource) -> Result<(), AllocError>
         ensures told { told self.new ≡ told self.old }
-        ensures gives { RestsOr
-            (λ old answer new. resource_gives old _resource.now answer new)
-            self.old result self.new }
-    {
-        Ok(())
-    }
+        ensures gives { resource_gives self.old resource.now result self.new };
 }
 
 impl SpanProcessor for Box<dyn SpanProcessor> {
     ghost use Rattle.std.specs.Prelude.{◌≡◌};
-    ghost use Rattle.otel_export.specs.RestsOr.{RestsOr};
 
     ghost told = { λ b. (SpanProcessor-box b).told b.value };
 
@@ -123,7 +115,7 @@ impl SpanProcessor for Box<dyn SpanProcessor> {
         × (SpanProcessor-box b).shutdown_gives b.value t r v };
 
     ghost resource_gives = { λ b s r c. (v : _) × (c ≡ record b { value = v })
-        × RestsOr (λ x a y. (SpanProcessor-box b).resource_gives x s a y) b.value r v };
+        × (SpanProcessor-box b).resource_gives b.value s r v };
 
     fn on_start(&mut self, span: &mut Span, cx: &Context) {
         let inner = &mut **self;

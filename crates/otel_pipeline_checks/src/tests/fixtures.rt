@@ -82,6 +82,10 @@ impl SpanProcessor for Writer {
         self.write();
         self.answer()
     }
+
+    fn set_resource(&mut self, _resource: &Resource) -> Result<(), AllocError> {
+        Ok(())
+    }
 }
 
 /// A sampler that answers the same to every question, and counts how often it is asked. Where it refuses, it finds no

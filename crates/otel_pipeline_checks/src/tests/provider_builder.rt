@@ -71,6 +71,12 @@ impl SpanExporter for Sink {
     fn export(&mut self, _batch: Vec<SpanData>) -> OTelSdkResult {
         Ok(())
     }
+
+    fn shutdown_with_timeout(&mut self, _timeout: Duration) -> OTelSdkResult {
+        Ok(())
+    }
+
+    fn set_resource(&mut self, _resource: &Resource) {}
 }
 
 type TestProcessor = ProcessorOf<Sink, Listener>;

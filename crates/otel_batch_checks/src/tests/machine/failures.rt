@@ -6,6 +6,7 @@ use crate::tests::machine::script::{
     FIRST_BATCH, OFFERS, SECOND_BATCH, play, play_by_refusal, sizes,
 };
 use otel_base::error::{OTelSdkError, OTelSdkResult};
+use otel_base::resource::Resource;
 use otel_batch::machine::BatchMachine;
 use otel_export::trace::{ExporterBox, SpanData, SpanExporter};
 use std::alloc::Global;
@@ -31,6 +32,12 @@ impl SpanExporter for FailingFirst {
             None => Ok(()),
         }
     }
+
+    fn shutdown_with_timeout(&mut self, _timeout: Duration) -> OTelSdkResult {
+        Ok(())
+    }
+
+    fn set_resource(&mut self, _resource: &Resource) {}
 }
 
 /// A machine of two producers whose exporter fails with these errors.
