@@ -37,13 +37,14 @@ use Rattle.otel_export.specs.declared.trace.export.SpanExporter.{Ghosts}
 use Rattle.otel_batch.proofs.Draining.{is_busy}
 use Rattle.otel_batch.proofs.Runs.{run-sound}
 use Rattle.otel_batch.proofs.Silence.{run-stays_silent}
-use Rattle.opentelemetry_sdk.specs.WorkedOff.{CollectsAnswer, WorksOff, is_idle_worker, next_of_worker, own_error}
-use Rattle.opentelemetry_sdk.specs.BatchProcessor.{IsAtRest, Requests, queue_telling}
+use Rattle.opentelemetry_sdk.specs.WorkedOff.{CollectsAnswer, WorksOff, is_idle_worker, next_of_worker, own_error, own_refusal}
+use Rattle.opentelemetry_sdk.specs.BatchProcessor.{ClosesIfOk, IsAtRest, Requests, ShutdownAnswers, queue_telling}
 use Rattle.opentelemetry_sdk.proofs.Going.{goes_runs}
 use Rattle.opentelemetry_sdk.proofs.Ending.{EndsIdle, QueuesNone, SpanGoes, one_slot}
 use Rattle.opentelemetry_sdk.proofs.Lone.{IsAlone, goes_alone}
 use Rattle.opentelemetry_sdk.proofs.Telling.{TellsError, goes_tells}
-use Rattle.opentelemetry_sdk.proofs.Shutting.{goes_open, message_shuts, no_request, shutdowns}
+use Rattle.opentelemetry_sdk.proofs.Asking.{Kind, flushing, goes_open, no_request, requests_in, shutting}
+use Rattle.opentelemetry_sdk.proofs.Closing.{TellsShutdown, goes_tells_shutdown}
 use Rattle.opentelemetry_sdk.proofs.Resting.{goes_hands_on, goes_idle, goes_on_waiting, hands_on_told, heard_in, idle_rests, rest_empty}
 
 -- behind a call the queue is at rest again, no span more is heard, and no drop is counted
@@ -160,11 +161,16 @@ pub record Posted {E : Type 0} (asked : Request) (s posted : Machine E) : Type 0
   pub keeps : Keeps s posted
   pub dropped : posted.control.dropped ≡ s.control.dropped
   pub closed : posted.control.closed ≡ s.control.closed
-  pub flush : asked ≡ request.Flush → shutdowns (counts posted) ≡ 0
+  pub flush : asked ≡ request.Flush → requests_in shutting (counts posted) ≡ 0
+  pub shutdown : asked ≡ request.Shutdown → requests_in flushing (counts posted) ≡ 0
 
-flush_shuts : (asked : Request) → asked ≡ request.Flush → message_shuts (message_of asked 0) ≡ 0
+flush_shuts : (asked : Request) → asked ≡ request.Flush → shutting.of_message (message_of asked 0) ≡ 0
 flush_shuts request.Flush e = refl
 flush_shuts request.Shutdown e = absurd (cc)
+
+shutdown_flushes : (asked : Request) → asked ≡ request.Shutdown → flushing.of_message (message_of asked 0) ≡ 0
+shutdown_flushes request.Shutdown e = refl
+shutdown_flushes request.Flush e = absurd (cc)
 
 -- at rest nobody asks for anything
 none_asks : {E : Type 0} (s : Machine E) → IsSound (counts s) → IsAtRest s → (p : ℕ) →
@@ -201,12 +207,17 @@ posted_is asked s posted sound rest row keeps =
       keeps = keeps;
       dropped = ap (λ c. c.control.dropped) row.3;
       closed = ap (λ c. c.control.closed) row.3;
-      flush = λ is.
-          let before = no_request s.control.messages (none_asks s sound rest) in
-          let more = flush_shuts asked is in
-          let both = sum_by-append message_shuts s.control.messages (message_of asked 0 ∷ []) in
-          rw (messages, worker) (omega (arith, before, more, both));
+      flush = λ is. posted_kind shutting messages worker (flush_shuts asked is);
+      shutdown = λ is. posted_kind flushing messages worker (shutdown_flushes asked is);
     }
+  where
+    posted_kind : (kind : Kind) → posted.control.messages ≡ s.control.messages ++ message_of asked 0 ∷ [] →
+        posted.control.worker ≡ worker.Ready → kind.of_message (message_of asked 0) ≡ 0 →
+        requests_in kind (counts posted) ≡ 0
+    posted_kind kind messages worker more =
+        let before = no_request kind s.control.messages (none_asks s sound rest) in
+        let both = sum_by-append kind.of_message s.control.messages (message_of asked 0 ∷ []) in
+        rw (messages, worker) (omega (arith, before, more, both))
 
 -- what an answered request leaves
 pub record AnsweredRests {E : Type 0} (calls : Ghosts E) (asked : Request) (s : Machine E)
@@ -296,7 +307,7 @@ ticks s _ t is row = absurd row
 
 -- a telling to which nothing was told
 pub takes_none : (t : ProcessorTelling) → TakesNothing t t
-takes_none t = record { spans = refl; heard = same t.heard; dropped = refl; never_reopens = λ h. h }
+takes_none t = record { spans = refl; heard = same t.heard; dropped = refl; takes_all = refl; never_reopens = λ h. h }
   where
     same : (told : Option (List PlainSpanData)) → Tells told [] told
     same None = tt
@@ -308,7 +319,7 @@ module _ {E : Type 0} (calls : Ghosts E) where
       (IsTrue (not q.control.closed) → IsTrue (not p.control.closed)) →
       TakesNothing (queue_telling calls p) (queue_telling calls q)
   tells_nothing p q again reopens =
-      record { spans = refl; heard = again.heard; dropped = again.dropped; never_reopens = reopens }
+      record { spans = refl; heard = again.heard; dropped = again.dropped; takes_all = refl; never_reopens = reopens }
 
   -- one span more is heard where it waits last
   heard_last : (told : Option (List PlainSpanData)) (waiting : List PlainSpanData) (span : PlainSpanData) →
@@ -330,6 +341,8 @@ module _ {E : Type 0} (calls : Ghosts E) where
   takes_span p q span sound ends = record {
     spans = tt;
     handed = by_state p.control.closed (is_sampled span) ends.goes ends.skips;
+    not_refused = λ _. refl;
+    takes_all = refl;
     is_open = ap not ends.leaves.closed;
   }
     where
@@ -457,6 +470,37 @@ module _ {E : Type 0} (calls : Ghosts E) where
       rw collected.collects.2 collected.collects.1 in
       tells.answered answer last.permitted.0
 
+  -- who asked for a shutdown has an answer by whether its own drain found memory
+  shutdown_says : (asked : Request) (s m : Machine E) (answer : Result (Unit {0}) OTelSdkError) (t : Machine E) →
+      IsSound (counts s) → IsAtRest s → Stepped calls s (step_of asked 0) outcome.Requested m →
+      (collected : CollectsAnswer calls m answer t) → asked ≡ request.Shutdown →
+      ShutdownAnswers (own_refusal false collected.outcomes) answer t.control.closed
+  shutdown_says asked s m answer t sound rest steps collected is =
+      let at = posted_is asked s m sound rest
+      (request_row asked (counts s) outcome.Requested (counts m) steps.permitted)
+      (request_keeps asked s outcome.Requested m steps.moved) in
+      let begins : TellsShutdown false (counts m) = record {
+        held = λ h. absurd (let no : is_busy m.control.worker ≡ false = rw at.ready refl in cc);
+        found = λ h. refl;
+        answered = λ given has. absurd (let no : Some (slot.Waiting asked) ≡ Some (slot.Answered given) = sym at.waits ∙ has in cc);
+      } in
+      let works = collected.works in
+      let tells = goes_tells_shutdown calls false m works.steps collected.outcomes collected.answered steps.sound
+      at.alone (at.shutdown is) begins works.goes in
+      let last : Stepped calls collected.answered (step.Collect 0) (outcome.Collected answer) t =
+      rw collected.collects.2 collected.collects.1 in
+      let same : t.control.closed ≡ collected.answered.control.closed =
+      ap (λ c. c.control.closed) last.permitted.1 in
+      rw same (tells.answered answer last.permitted.0)
+
+  -- what the answer of a shutdown means
+  closes_if_ok : (refused : Bool) (s : Machine E) (answer : Result (Unit {0}) OTelSdkError) (t : Machine E) →
+      s.control.closed ≡ false → ShutdownAnswers refused answer t.control.closed → ClosesIfOk s answer t
+  closes_if_ok false s (Ok u) t was_open says = says.1
+  closes_if_ok false s (Err e) t was_open says = absurd (let no = says.0 in cc)
+  closes_if_ok true s (Ok u) t was_open says = absurd (let no = says.0 in cc)
+  closes_if_ok true s (Err e) t was_open says = says.1 ∙ sym was_open
+
   -- a request behind a shutdown changes nothing
   pub request_closed : (asked : Request) (s t : Machine E) → Stepped calls s (step_of asked 0) outcome.Closed t →
       (s.control.closed ≡ true) × (t ≡ s)
@@ -491,6 +535,7 @@ module _ {E : Type 0} (calls : Ghosts E) where
     pub told : TakesNothing (queue_telling calls s) (queue_telling calls t)
     pub emptied : OnOk answer (t.waiting ≡ [])
     pub is_open : asked ≡ request.Flush → t.control.closed ≡ s.control.closed
+    pub shutdown : asked ≡ request.Shutdown → ClosesIfOk s answer t
     pub rest : IsAtRest t
 
   pub made_answered : (asked : Request) (s m : Machine E) (answer : Result (Unit {0}) OTelSdkError) (t : Machine E) →
@@ -506,10 +551,12 @@ module _ {E : Type 0} (calls : Ghosts E) where
               posts = (m, steps, refl);
               answers = collected;
               says = flush_says asked s m answer t sound rest steps collected;
+              shuts = shutdown_says asked s m answer t sound rest steps collected;
             }));
         told = tells_nothing calls s t left.again (λ _. ap not row.1);
         emptied = left.emptied;
         is_open = left.flush;
+        shutdown = λ is. closes_if_ok _ s answer t row.1 (shutdown_says asked s m answer t sound rest steps collected is);
         rest = left.again.rest;
       }
 
@@ -521,6 +568,7 @@ module _ {E : Type 0} (calls : Ghosts E) where
     told = rw is (takes_none (queue_telling calls s));
     emptied = tt;
     is_open = λ _. ap (λ m. m.control.closed) is;
+    shutdown = λ _. ap (λ m. m.control.closed) is;
     rest = rw is rest;
   }
 

@@ -3,7 +3,8 @@ pub mod Producer
 pub mod Worker
 pub mod Ending
 pub mod Lone
-pub mod Shutting
+pub mod Asking
 pub mod Resting
 pub mod Telling
+pub mod Closing
 pub mod Calls

@@ -22,7 +22,7 @@ use Rattle.otel_batch.proofs.Answering.{kept_error, refusal_kept}
 use Rattle.otel_batch.proofs.Draining.{is_busy}
 use Rattle.opentelemetry_sdk.specs.WorkedOff.{GoesBy, error_next, next_of_worker, own_error}
 use Rattle.opentelemetry_sdk.proofs.Lone.{IsAlone, next_alone}
-use Rattle.opentelemetry_sdk.proofs.Shutting.{next_stays, shutdowns, why_shuts, worker_shuts}
+use Rattle.opentelemetry_sdk.proofs.Asking.{finishing_why, next_none, of_worker, requests_in, shutting}
 use Rattle.opentelemetry_sdk.proofs.Worker.{has_next, next_permitted}
 
 -- the drain that the worker is in has this error so far, and so has the answer of the producer, if it has one
@@ -134,7 +134,7 @@ answers_tell error s t p answer one n is says =
 
 finish_tells_for : (y : Why) (error : Option OTelSdkError) (s : Counts) (e : Option OTelSdkError) (t : Counts) →
     length s.control.slots ≡ 1 → is_answered (slot_at s 0) ≡ false → IsErrorOf s.control.result error →
-    why_shuts y ≡ 0 → FinishRowFor y s e t → TellsError error t
+    shutting.of_why y ≡ 0 → FinishRowFor y s e t → TellsError error t
 finish_tells_for why.Asked error s e t one n says none row =
     tells_rest s t n (ap (λ c. c.control.slots) row.1) error (rw row.1 refl)
 finish_tells_for why.Timer error s e t one n says none row =
@@ -144,17 +144,18 @@ finish_tells_for (why.Flush p) error s e t one n says none row =
 finish_tells_for (why.Shutdown p) error s e t one n says none row = absurd (omega (arith, none))
 
 finish_tells : (error : Option OTelSdkError) (s : Counts) (o : Outcome) (t : Counts) → length s.control.slots ≡ 1 →
-    is_answered (slot_at s 0) ≡ false → shutdowns s ≡ 0 → TellsError error s → FinishRow s o t →
+    is_answered (slot_at s 0) ≡ false → requests_in shutting s ≡ 0 → TellsError error s → FinishRow s o t →
     TellsError (error_next error o) t
 finish_tells error s (outcome.Finished e) t one n none h row =
-    let reason : worker_shuts s.control.why s.control.worker ≡ why_shuts s.control.why = rw row.0 refl in
-    finish_tells_for s.control.why error s e t one n (h.result (rw row.0 refl)) (omega (arith, none, reason)) row.1
+    finish_tells_for s.control.why error s e t one n (h.result (rw row.0 refl)) (finishing_why shutting s none row.0)
+    row.1
 finish_tells error s outcome.NotEnabled t one n none h row = rw row.1 h
 finish_tells error s _ t one n none h row = absurd row
 
 -- the worker's next step
 next_tells : (w : Worker) (error : Option OTelSdkError) (s : Counts) (o : Outcome) (t : Counts) →
-    s.control.worker ≡ w → length s.control.slots ≡ 1 → is_answered (slot_at s 0) ≡ false → shutdowns s ≡ 0 →
+    s.control.worker ≡ w → length s.control.slots ≡ 1 → is_answered (slot_at s 0) ≡ false →
+    requests_in shutting s ≡ 0 →
     TellsError error s → Permitted s (next_step w) o t → TellsError (error_next error o) t
 next_tells worker.Ready error s o t is one n none h row = take_tells error s o t n h row
 next_tells worker.Clearing error s o t is one n none h row = clear_tells error s o t n h row
@@ -164,19 +165,19 @@ next_tells worker.Handing error s o t is one n none h row = hand_over_tells erro
 next_tells (worker.Subtracting k) error s o t is one n none h row = subtract_tells error s o t n h row
 next_tells worker.Finishing error s o t is one n none h row = finish_tells error s o t one n none h row
 next_tells (worker.Closing p) error s o t is one n none h row =
-    absurd (let shuts : worker_shuts s.control.why s.control.worker ≡ 1 = rw is refl in omega (arith, none, shuts))
+    absurd (let shuts : of_worker shutting s.control.why s.control.worker ≡ 1 = rw is refl in omega (arith, none, shuts))
 next_tells worker.Gone error s o t is one n none h row = take_tells error s o t n h row
 
 module _ {E : Type 0} (calls : Ghosts E) where
   -- so it is all along the worker's run
   pub goes_tells : (error : Option OTelSdkError) (s : Machine E) (xs : List Step) (os : List Outcome) (t : Machine E) →
-      IsSound (counts s) → IsAlone (counts s) → shutdowns (counts s) ≡ 0 → TellsError error (counts s) →
+      IsSound (counts s) → IsAlone (counts s) → requests_in shutting (counts s) ≡ 0 → TellsError error (counts s) →
       GoesBy calls next_of_worker s xs os t → TellsError (own_error error os) (counts t)
   goes_tells error s [] [] t sound a none h goes = rw goes h
   goes_tells error s (x ∷ xs) (o ∷ os) t sound a none h goes =
       let has = has_next s.control x goes.0 in
       let row = next_permitted calls s x o goes.1 has goes.2 in
-      let stays = next_stays s.control.worker (counts s) o (counts goes.1) refl none row in
+      let stays = next_none shutting s.control.worker (counts s) o (counts goes.1) refl none row in
       let next = next_tells s.control.worker error (counts s) o (counts goes.1) refl a.one has.unanswered none h row in
       let alone = next_alone s.control.worker (counts s) o (counts goes.1) sound a has.unanswered row in
       goes_tells (error_next error o) goes.1 xs os t goes.2.sound alone stays.none next goes.3

@@ -1,12 +1,12 @@
 -- The batch processor: a batch queue with one producer and a worker that works where it is called. Each of its calls is
 -- a run of that queue.
-use Rattle.std.specs.Prelude.{◌≡◌, ◌+◌, ◌||◌, ℕ, not, true, nat_le, List, [], ◌∷◌, Option, Some, None}
+use Rattle.std.specs.Prelude.{◌≡◌, ◌+◌, ◌||◌, ℕ, not, Bool, true, false, nat_le, List, [], ◌∷◌, Option, Some, None}
 use Rattle.std.specs.Prelude.{Result, Ok, Err, MatchBool, MatchOption, MatchResult, length}
 use Rattle.std.specs.Prelude.{if◌then◌else◌}
 use Rattle.std.specs.declared.alloc.AllocError.{AllocError}
 use Rattle.otel_base.specs.Resource.{PlainResource}
 use Rattle.otel_base.specs.declared.error.OTelSdkError.{OTelSdkError}
-use Rattle.otel_base.specs.declared.error.OTelSdkError.TheVariants.{AlreadyShutdown}
+use Rattle.otel_base.specs.declared.error.OTelSdkError.TheVariants.{AlreadyShutdown, OutOfMemory}
 use Rattle.otel_export.specs.PlainSpanData.{PlainSpanData}
 use Rattle.otel_export.specs.Telling.{and_then_told}
 use Rattle.otel_pipeline.specs.ProcessorTelling.{ProcessorTelling, spans_told}
@@ -24,7 +24,7 @@ use Rattle.otel_batch.specs.declared.machine.step.Outcome.{Outcome}
 use Rattle.otel_batch.specs.declared.machine.step.Outcome.TheVariants as outcome
 use Rattle.otel_batch.specs.declared.machine.step.Step.TheVariants as step
 use Rattle.otel_export.specs.declared.trace.export.SpanExporter.{Ghosts}
-use Rattle.opentelemetry_sdk.specs.WorkedOff.{CollectsAnswer, TicksAndWorks, WorkerWorks, WorksOff, next_of_producer, own_error}
+use Rattle.opentelemetry_sdk.specs.WorkedOff.{CollectsAnswer, TicksAndWorks, WorkerWorks, WorksOff, next_of_producer, own_error, own_refusal}
 
 -- a batch processor: its queue, the time between two drains by the timer in nanoseconds, and when the timer was started
 -- last, if it was
@@ -58,14 +58,22 @@ pub record IsAtRest {E : Type 0} (m : Machine E) : Type 0 where
   pub hand : m.hand ≡ []
   pub left : m.control.closed ≡ true → m.waiting ≡ []
 
+-- the answer of a shutdown that is carried out, and whether the queue is then closed, by whether its own drain found no
+-- memory for a batch
+abbrev pub ShutdownAnswers : (refused : Bool) → Result (Unit {0}) OTelSdkError → (closed : Bool) → Type 0
+ShutdownAnswers false answer closed = (answer ≡ Ok tt) × (closed ≡ true)
+ShutdownAnswers true answer closed = (answer ≡ Err OutOfMemory) × (closed ≡ false)
+
 module _ {E : Type 0} (calls : Ghosts E) where
-  -- what a queue with its exporter tells: the spans of the exporter's batches, followed by those that wait
+  -- what a queue with its exporter tells: the spans of the exporter's batches, followed by those that wait. It takes
+  -- every span that is handed to it
   abbrev pub queue_telling : Machine E → ProcessorTelling
   queue_telling m = record {
     spans = None;
     heard = and_then_told (spans_told (calls.told m.exporter)) m.waiting;
     waiting = length m.waiting;
     dropped = m.control.dropped;
+    takes_all = true;
     is_open = not m.control.closed;
   }
 
@@ -80,13 +88,16 @@ module _ {E : Type 0} (calls : Ghosts E) where
     pub exporter : t.exporter ≡ s.exporter
 
   -- a request that is carried out: it is posted, the worker works until it is answered, and the answer is collected.
-  -- That of a flush is the first error of its own drain, which is the last, but for the text of a failure
+  -- That of a flush is the first error of its own drain, which is the last, but for the text of a failure. That of a
+  -- shutdown says whether its own drain found memory, and so whether the queue is closed
   pub record AnswersRequest (asked : Request) (s : Machine E) (answer : Result (Unit {0}) OTelSdkError)
       (t : Machine E) : Type 0 where
     pub posted : Machine E
     pub posts : Run calls s (step_of asked 0 ∷ []) (outcome.Requested ∷ []) posted
     pub answers : CollectsAnswer calls posted answer t
     pub says : asked ≡ request.Flush → IsErrorOf answer (own_error None answers.outcomes)
+    pub shuts : asked ≡ request.Shutdown
+        → ShutdownAnswers (own_refusal false answers.outcomes) answer t.control.closed
 
   -- a request: an error that changes nothing behind a completed shutdown or where the control queue is full, and else
   -- carried out
@@ -113,11 +124,17 @@ module _ {E : Type 0} (calls : Ghosts E) where
     pub ok : answer ≡ Ok tt
     pub rest : new ≡ record old { machine = new.machine }
 
+  -- what the answer of a shutdown means: with Ok the queue is closed, with an error it is as open as before
+  abbrev pub ClosesIfOk : Machine E → Result (Unit {0}) OTelSdkError → Machine E → Type 0
+  ClosesIfOk s answer t =
+      MatchResult answer (λ _. t.control.closed ≡ true) (λ _. t.control.closed ≡ s.control.closed)
+
   -- a flush or a shutdown. Where the queue is closed behind it, no span was left behind
   pub record BatchRequests (asked : Request) (old : BatchProcessor E) (answer : Result (Unit {0}) OTelSdkError)
       (new : BatchProcessor E) : Type 0 where
     pub requests : Requests asked old.machine answer new.machine
     pub rest : new ≡ record old { machine = new.machine }
+    pub shutdown : asked ≡ request.Shutdown → ClosesIfOk old.machine answer new.machine
     pub left : new.machine.control.closed ≡ true → stranded_in new.machine ≡ Some 0
 
   -- the worker works until it has nothing to do

@@ -1,6 +1,6 @@
 -- Runs of a batch queue in which nobody chooses: each step is the next one of the producer that has a span, or of the
 -- worker, up to where there is none.
-use Rattle.std.specs.Prelude.{◌≡◌, ◌&&◌, ◌||◌, ◌==◌, Bool, List, [], ◌∷◌, Option, Some, None, Result, length}
+use Rattle.std.specs.Prelude.{◌≡◌, ◌&&◌, ◌||◌, ◌==◌, Bool, true, false, List, [], ◌∷◌, Option, Some, None, Result, length}
 use Rattle.std.specs.Prelude.{slice_get, if◌then◌else◌}
 use Rattle.std.specs.Result.{result_err}
 use Rattle.otel_base.specs.declared.error.OTelSdkError.{OTelSdkError}
@@ -55,6 +55,17 @@ error_next before o = error_after before o
 abbrev pub own_error : Option OTelSdkError → List Outcome → Option OTelSdkError
 own_error before [] = before
 own_error before (o ∷ os) = own_error (error_next before o) os
+
+-- whether a drain found no memory for a batch, behind one more outcome, where a load begins the next drain
+abbrev pub refusal_next : Bool → Outcome → Bool
+refusal_next before (outcome.Loaded target) = false
+refusal_next before outcome.NoMemory = true
+refusal_next before _ = before
+
+-- whether the last drain that these outcomes loaded found no memory for a batch; with none this
+abbrev pub own_refusal : Bool → List Outcome → Bool
+own_refusal before [] = before
+own_refusal before (o ∷ os) = own_refusal (refusal_next before o) os
 
 module _ {E : Type 0} (calls : Ghosts E) where
   -- a run in which each step is the next one of the state before it

@@ -67,6 +67,13 @@ impl<P: LeavesSpans> LeavesSpans for FilteringProcessor<P> {
 
     ghost open_over = { λ p. P.open_over p.inner };
 
+    // It tells nothing, so there is nothing that what it leaves could agree with.
+    ghost use Rattle.std.specs.Prelude.{false};
+
+    ghost leaves_told = { λ _. false };
+
+    ghost tells_left = { λ _. tt };
+
     fn stranded(&self) -> Option<usize> {
         self.inner.stranded()
     }

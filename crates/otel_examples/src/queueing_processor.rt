@@ -49,16 +49,17 @@ impl<E> QueueingProcessor<E> {
 }
 
 impl<E: SpanExporter> SpanProcessor for QueueingProcessor<E> {
-    ghost use Rattle.std.specs.Prelude.{None, length, not};
+    ghost use Rattle.std.specs.Prelude.{None, false, length, not};
     ghost use Rattle.otel_export.specs.Telling.{and_then_told};
     ghost use Rattle.otel_pipeline.specs.ProcessorTelling.{spans_told};
 
-    // What is heard is what the exporter tells, and then what waits.
+    // What is heard is what the exporter tells, and then what waits. A span may be refused, for want of memory.
     ghost told = { λ p. record {
       spans = None;
       heard = and_then_told (spans_told (E.told p.exporter)) p.waiting.items;
       waiting = length p.waiting.items;
       dropped = p.dropped;
+      takes_all = false;
       is_open = not p.is_shut;
     } };
 
@@ -103,11 +104,17 @@ impl<E: SpanExporter> SpanProcessor for QueueingProcessor<E> {
 }
 
 impl<E: SpanExporter> LeavesSpans for QueueingProcessor<E> {
-    ghost use Rattle.std.specs.Prelude.{None, Some, if◌then◌else◌, length};
+    ghost use Rattle.std.specs.Prelude.{None, Some, true, if◌then◌else◌, length};
+    ghost use Rattle.otel_pipeline.specs.LeftSpans.{left_unless_shut};
 
     ghost closed_over = { λ p. if p.is_shut then Some (length p.waiting.items) else None };
 
     ghost open_over = { λ p. if p.is_shut then 0 else length p.waiting.items };
+
+    // What it leaves while it is open is what its telling says waits.
+    ghost leaves_told = { λ _. true };
+
+    ghost tells_left = { λ p. left_unless_shut p.is_shut (length p.waiting.items) };
 
     fn stranded(&self) -> Option<usize> {
         if self.is_shut {

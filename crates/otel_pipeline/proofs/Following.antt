@@ -1,6 +1,7 @@
 -- What each processor of a list was told, after one end and after many.
 use Rattle.std.proofs.Common.{◌≡◌, ℕ, ◌+◌, ◌<◌, ◌≤◌, Bool, true, false, ◌&&◌, List, [], ◌∷◌, ◌++◌, map, Option, Some, None, Result, Ok, Err, refl, sym, ◌∙◌, ap, subst, append_assoc, append-nil, arith, inl, inr}
-use Rattle.std.specs.Bool.{IsTrue}
+use Rattle.std.specs.Bool.{IsTrue, IsFalse}
+use Rattle.std.specs.Result.{IsOk}
 use Rattle.std.specs.List.{AllZip}
 use Rattle.std.proofs.lemmas.List.{map-append}
 use Rattle.otel_export.specs.PlainSpanData.{PlainSpanData, is_sampled}
@@ -35,24 +36,25 @@ counts_both a n b m c h k =
     }
 
 -- one delivery in front of others that are one list after another
-first_both : (b : Bool) (delivery : Delivery) (xs ys : List Delivery) (first second : List PlainSpanData) (n m : ℕ)
-    → ((rest : List PlainSpanData) (k : ℕ) → Reaches xs rest k → Reaches (xs ++ ys) (rest ++ second) (k + m))
-    → ReachesFirst b delivery (Reaches xs) first n → ReachesFirst b delivery (Reaches (xs ++ ys)) (first ++ second) (n + m)
-first_both true delivery xs ys first second n m others (inl (rest, e, h)) =
+first_both : (b all : Bool) (delivery : Delivery) (xs ys : List Delivery) (first second : List PlainSpanData) (n m : ℕ)
+    → ((rest : List PlainSpanData) (k : ℕ) → Reaches all xs rest k → Reaches all (xs ++ ys) (rest ++ second) (k + m))
+    → ReachesFirst b all delivery (Reaches all xs) first n
+    → ReachesFirst b all delivery (Reaches all (xs ++ ys)) (first ++ second) (n + m)
+first_both true all delivery xs ys first second n m others (inl (rest, e, h)) =
     inl (rest ++ second, ap (λ (l : List PlainSpanData). l ++ second) e, others rest n h)
-first_both true delivery xs ys first second n m others (inr (inl (refused, h))) = inr (inl (refused, others first n h))
-first_both true delivery xs ys first second n m others (inr (inr (fewer, e, h))) = inr (inr (fewer + m, omega arith, others first fewer h))
-first_both false delivery xs ys first second n m others h = others first n h
+first_both true all delivery xs ys first second n m others (inr (inl (may, refused, h))) = inr (inl (may, refused, others first n h))
+first_both true all delivery xs ys first second n m others (inr (inr (fewer, e, h))) = inr (inr (fewer + m, omega arith, others first fewer h))
+first_both false all delivery xs ys first second n m others h = others first n h
 
 -- what reaches a processor of one list of deliveries after another
-Reaches-append : (xs ys : List Delivery) (first second : List PlainSpanData) (n m : ℕ)
-    → Reaches xs first n → Reaches ys second m → Reaches (xs ++ ys) (first ++ second) (n + m)
-Reaches-append [] ys first second n m h k =
+Reaches-append : (all : Bool) (xs ys : List Delivery) (first second : List PlainSpanData) (n m : ℕ)
+    → Reaches all xs first n → Reaches all ys second m → Reaches all (xs ++ ys) (first ++ second) (n + m)
+Reaches-append all [] ys first second n m h k =
     let same : m ≡ n + m = omega (arith, h.1) in
-    let missed : Reaches ys second (n + m) = subst (λ (l : ℕ). Reaches ys second l) same k in
-    subst (λ (l : List PlainSpanData). Reaches ys (l ++ second) (n + m)) (sym h.0) missed
-Reaches-append (x ∷ xs) ys first second n m h k =
-    first_both (is_sampled x.span) x xs ys first second n m (λ rest fewer l. Reaches-append xs ys rest second fewer m l k) h
+    let missed : Reaches all ys second (n + m) = subst (λ (l : ℕ). Reaches all ys second l) same k in
+    subst (λ (l : List PlainSpanData). Reaches all ys (l ++ second) (n + m)) (sym h.0) missed
+Reaches-append all (x ∷ xs) ys first second n m h k =
+    first_both (is_sampled x.span) all x xs ys first second n m (λ rest fewer l. Reaches-append all xs ys rest second fewer m l k) h
 
 -- an answer that is an error counts
 abbrev pub IsCounted : {T E : Type 0} → Result T E → ℕ → Type 0
@@ -62,55 +64,72 @@ IsCounted (Err _) n = 0 < n
 -- what one delivery leads to, at a processor that was open, and at one that was shut
 abbrev FollowsOne : Bool → Bool → ProcessorTelling → Delivery → ProcessorTelling → Type 0
 FollowsOne true sampled before delivery after =
-    (reached : List PlainSpanData) × (missed : ℕ) × ReachesFirst sampled delivery (Reaches []) reached missed
+    (reached : List PlainSpanData) × (missed : ℕ)
+    × ReachesFirst sampled before.takes_all delivery (Reaches before.takes_all []) reached missed
     × Tells before.heard reached after.heard × CountsUp before.dropped missed after.dropped
 FollowsOne false sampled before delivery after = Hears before [] after
 
 -- nothing more was heard
-hears_nothing : (before after : ProcessorTelling) → Tells before.heard [] after.heard → after.dropped ≡ before.dropped → Hears before [] after
-hears_nothing before after heard dropped = record {
+hears_nothing : (before after : ProcessorTelling) → Tells before.heard [] after.heard → after.dropped ≡ before.dropped
+    → after.takes_all ≡ before.takes_all → Hears before [] after
+hears_nothing before after heard dropped all = record {
   reached = [];
   missed = 0;
   reaches = (refl, refl);
   heard = heard;
   dropped = counts_nothing before.dropped after.dropped dropped;
+  takes_all = all;
 }
 
 -- a span that is not due is not heard
-hears_none : (before after : ProcessorTelling) → HearsNothing before after → Hears before [] after
-hears_none before after h = hears_nothing before after (tells_same before.heard after.heard h.heard) h.dropped
+hears_none : (before after : ProcessorTelling) → HearsNothing before after → after.takes_all ≡ before.takes_all
+    → Hears before [] after
+hears_none before after h all = hears_nothing before after (tells_same before.heard after.heard h.heard) h.dropped all
+
+-- a test that fails where it holds is false
+refuted : (all : Bool) → (IsTrue all → ⊥) → IsFalse all
+refuted true fails = absurd (fails refl)
+refuted false fails = refl
 
 -- a span that was handed over reaches the processor, or it was refused or missed
 handed_over : {T E : Type 0} (is_open sampled : Bool) (before : ProcessorTelling) (span : PlainSpanData)
     (answer : Result T E) (n : ℕ) (after : ProcessorTelling)
     → HandsOver (is_open && sampled) before span answer after → IsCounted answer n
+    → (IsTrue before.takes_all → IsOk answer) → after.takes_all ≡ before.takes_all
     → FollowsOne is_open sampled before (record { span = span; refused = n }) after
-handed_over true true before span (Ok _) n after (inl h) counted =
+handed_over true true before span (Ok _) n after (inl h) counted takes all =
     (span ∷ [], 0, inl ([], refl, (refl, refl)), h.heard, counts_nothing before.dropped after.dropped h.dropped)
-handed_over true true before span (Ok _) n after (inr h) counted =
+handed_over true true before span (Ok _) n after (inr h) counted takes all =
     ([], 1, inr (inr (0, refl, (refl, refl))), tells_same before.heard after.heard h.heard, h.dropped)
-handed_over true true before span (Err _) n after h counted =
-    ([], 0, inr (inl (counted, (refl, refl))), tells_same before.heard after.heard h.heard, counts_nothing before.dropped after.dropped h.dropped)
-handed_over true false before span answer n after h counted =
+handed_over true true before span (Err e) n after h counted takes all =
+    ([], 0, inr (inl (refuted before.takes_all (λ all_taken. let no = takes all_taken in cc), counted, (refl, refl))), tells_same before.heard after.heard h.heard, counts_nothing before.dropped after.dropped h.dropped)
+handed_over true false before span answer n after h counted takes all =
     ([], 0, (refl, refl), tells_same before.heard after.heard h.heard, counts_nothing before.dropped after.dropped h.dropped)
-handed_over false sampled before span answer n after h counted = hears_none before after h
+handed_over false sampled before span answer n after h counted takes all = hears_none before after h all
 
 -- a delivery that leads from one telling to another is followed
 follows_by : (is_open : Bool) (before : ProcessorTelling) (delivery : Delivery) (after : ProcessorTelling)
     → before.is_open ≡ is_open → Tells before.spans (delivery.span ∷ []) after.spans
     → FollowsOne is_open (is_sampled delivery.span) before delivery after → after.is_open ≡ before.is_open
-    → Follows before (delivery ∷ []) after
-follows_by true before delivery after e spans (reached, missed, reaches, heard, dropped) stays = record {
+    → after.takes_all ≡ before.takes_all → Follows before (delivery ∷ []) after
+follows_by true before delivery after e spans (reached, missed, reaches, heard, dropped) stays all = record {
   spans = spans;
   while_open = delivery ∷ [];
   while_shut = [];
   whole = refl;
   still_open = λ _. refl;
   was_shut = λ shut. cc;
-  hears = record { reached = reached; missed = missed; reaches = reaches; heard = heard; dropped = dropped };
+  hears = record {
+    reached = reached;
+    missed = missed;
+    reaches = reaches;
+    heard = heard;
+    dropped = dropped;
+    takes_all = all;
+  };
   never_reopens = λ open_now. cc;
 }
-follows_by false before delivery after e spans h stays = record {
+follows_by false before delivery after e spans h stays all = record {
   spans = spans;
   while_open = [];
   while_shut = delivery ∷ [];
@@ -126,7 +145,8 @@ follows_one : {T E : Type 0} (before : ProcessorTelling) (span : PlainSpanData) 
     → TakesSpan before span answer after → IsCounted answer n → Follows before (record { span = span; refused = n } ∷ []) after
 follows_one before span answer n after h counted =
     follows_by before.is_open before (record { span = span; refused = n }) after refl h.spans
-    (handed_over before.is_open (is_sampled span) before span answer n after h.handed counted) h.is_open
+    (handed_over before.is_open (is_sampled span) before span answer n after h.handed counted h.not_refused h.takes_all)
+    h.is_open h.takes_all
 
 -- a processor that was asked to flush or to shut down follows no delivery
 follows_nothing : (before after : ProcessorTelling) → TakesNothing before after → Follows before [] after
@@ -137,7 +157,7 @@ follows_nothing before after h = record {
   whole = refl;
   still_open = λ _. refl;
   was_shut = λ _. refl;
-  hears = hears_nothing before after h.heard h.dropped;
+  hears = hears_nothing before after h.heard h.dropped h.takes_all;
   never_reopens = h.never_reopens;
 }
 
@@ -147,6 +167,7 @@ takes_nothing telling = record {
   spans = refl;
   heard = tells_same telling.heard telling.heard refl;
   dropped = refl;
+  takes_all = refl;
   never_reopens = λ is_open. is_open;
 }
 
@@ -155,9 +176,11 @@ hears_append : (a b c : ProcessorTelling) (xs ys : List Delivery) → Hears a xs
 hears_append a b c xs ys h k = record {
   reached = h.reached ++ k.reached;
   missed = h.missed + k.missed;
-  reaches = Reaches-append xs ys h.reached k.reached h.missed k.missed h.reaches k.reaches;
+  reaches = Reaches-append a.takes_all xs ys h.reached k.reached h.missed k.missed h.reaches
+      (subst (λ (all : Bool). Reaches all ys k.reached k.missed) h.takes_all k.reaches);
   heard = tells_append a.heard h.reached b.heard k.reached c.heard h.heard k.heard;
   dropped = counts_both a.dropped h.missed b.dropped k.missed c.dropped h.dropped k.dropped;
+  takes_all = k.takes_all ∙ h.takes_all;
 }
 
 -- the spans of one list of deliveries after another

@@ -15,29 +15,31 @@ pub record Delivery : Type 0 where
 abbrev pub spans_of : List Delivery → List PlainSpanData
 spans_of deliveries = map (λ delivery. delivery.span) deliveries
 
--- one delivery in front of others, of which `Others` says what reaches a processor: a sampled span reaches it, or the
--- processor refused it, or it counts as missed
-abbrev pub ReachesFirst : Bool → Delivery → (List PlainSpanData → ℕ → Type 0) → List PlainSpanData → ℕ → Type 0
-ReachesFirst true delivery Others reached missed =
+-- one delivery in front of others, of which `Others` says what reaches a processor: a sampled span reaches it, or it
+-- counts as missed, or the processor refused it, which one that takes all does not
+abbrev pub ReachesFirst : (is_sampled takes_all : Bool) → Delivery → (List PlainSpanData → ℕ → Type 0)
+    → List PlainSpanData → ℕ → Type 0
+ReachesFirst true takes_all delivery Others reached missed =
     ((rest : List PlainSpanData) × (reached ≡ delivery.span ∷ rest) × Others rest missed)
-    ⊎ (((0 < delivery.refused) × Others reached missed)
+    ⊎ ((IsFalse takes_all × (0 < delivery.refused) × Others reached missed)
     ⊎ ((fewer : ℕ) × (missed ≡ fewer + 1) × Others reached fewer))
-ReachesFirst false delivery Others reached missed = Others reached missed
+ReachesFirst false takes_all delivery Others reached missed = Others reached missed
 
 -- the spans that reach an open processor of a list of deliveries, and how many it missed at a full queue: the sampled
--- ones, each once and in order, but for refused and missed ones
-abbrev pub Reaches : List Delivery → List PlainSpanData → ℕ → Type 0
-Reaches [] reached missed = (reached ≡ []) × (missed ≡ 0)
-Reaches (delivery ∷ deliveries) reached missed =
-    ReachesFirst (is_sampled delivery.span) delivery (Reaches deliveries) reached missed
+-- ones, each once and in order, but for missed ones and, where it does not take all, those that it refused
+abbrev pub Reaches : (takes_all : Bool) → List Delivery → List PlainSpanData → ℕ → Type 0
+Reaches takes_all [] reached missed = (reached ≡ []) × (missed ≡ 0)
+Reaches takes_all (delivery ∷ deliveries) reached missed =
+    ReachesFirst (is_sampled delivery.span) takes_all delivery (Reaches takes_all deliveries) reached missed
 
 -- an open processor before and after deliveries: what reached it is heard, and what it missed counts as dropped
 pub record Hears (before : ProcessorTelling) (deliveries : List Delivery) (after : ProcessorTelling) : Type 0 where
   pub reached : List PlainSpanData
   pub missed : ℕ
-  pub reaches : Reaches deliveries reached missed
+  pub reaches : Reaches before.takes_all deliveries reached missed
   pub heard : Tells before.heard reached after.heard
   pub dropped : CountsUp before.dropped missed after.dropped
+  pub takes_all : after.takes_all ≡ before.takes_all
 
 -- a processor before and after deliveries. It tells their spans. It was open for the first of them, which it hears, and
 -- shut for the others, of which it hears nothing

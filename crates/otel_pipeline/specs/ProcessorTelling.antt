@@ -1,21 +1,23 @@
 -- What a processor says that it was given, and what reached its exporter or waits in front of it.
 use Rattle.std.specs.Prelude.{◌≡◌, ℕ, ◌+◌, ◌-◌, ◌^◌, ◌&&◌, ◌<◌, ◌≤◌, ◌⊎◌, Bool, true, false, List, [], ◌∷◌, Option}
-use Rattle.std.specs.Prelude.{Some, None, Result, Ok, Err, IsTrue}
+use Rattle.std.specs.Prelude.{Some, None, Result, Ok, Err, IsOk, IsTrue}
 use Rattle.otel_export.specs.PlainSpanData.{PlainSpanData, is_sampled, spans_in}
 use Rattle.otel_export.specs.Telling.{Tells}
 
 -- the spans that a processor tells itself; the spans that its exporter heard, followed by those that wait in front of
--- it, or nothing; how many spans wait there; how many found the queue full; and whether it still takes spans to export
+-- it, or nothing; how many spans wait there; how many found the queue full; whether it takes every span that is handed
+-- to it, with no answer that refuses one; and whether it still takes spans to export
 pub record ProcessorTelling : Type 0 where
   pub spans : Option (List PlainSpanData)
   pub heard : Option (List PlainSpanData)
   pub waiting : ℕ
   pub dropped : ℕ
+  pub takes_all : Bool
   pub is_open : Bool
 
 -- a processor that tells nothing
 abbrev pub silent : ProcessorTelling
-silent = record { spans = None; heard = None; waiting = 0; dropped = 0; is_open = false }
+silent = record { spans = None; heard = None; waiting = 0; dropped = 0; takes_all = false; is_open = false }
 
 -- the spans of the batches that an exporter tells
 abbrev pub spans_told : Option (List (List PlainSpanData)) → Option (List PlainSpanData)
@@ -49,11 +51,14 @@ HandsOver true before span (Ok _) after = HearsOne before span after ⊎ DropsOn
 HandsOver true before span (Err _) after = HearsNothing before after
 HandsOver false before span answer after = HearsNothing before after
 
--- an ended span was given to a processor: it is due where it is sampled and the processor open
+-- an ended span was given to a processor: it is due where it is sampled and the processor open, and one that takes all
+-- does not refuse it
 pub record TakesSpan {T E : Type 0} (before : ProcessorTelling) (span : PlainSpanData) (answer : Result T E)
     (after : ProcessorTelling) : Type 0 where
   pub spans : Tells before.spans (span ∷ []) after.spans
   pub handed : HandsOver (before.is_open && is_sampled span) before span answer after
+  pub not_refused : IsTrue before.takes_all → IsOk answer
+  pub takes_all : after.takes_all ≡ before.takes_all
   pub is_open : after.is_open ≡ before.is_open
 
 -- a processor was asked to flush or to shut down: no span is told anew, a telling may end, and an open one may close
@@ -61,4 +66,5 @@ pub record TakesNothing (before after : ProcessorTelling) : Type 0 where
   pub spans : after.spans ≡ before.spans
   pub heard : Tells before.heard [] after.heard
   pub dropped : after.dropped ≡ before.dropped
+  pub takes_all : after.takes_all ≡ before.takes_all
   pub never_reopens : IsTrue after.is_open → IsTrue before.is_open

@@ -1,4 +1,4 @@
-use Rattle.std.specs.Prelude.{◌≡◌, ℕ, ◌&&◌, not, Bool, true, [], ◌∷◌, None, Result, Ok, MatchBool, MatchResult}
+use Rattle.std.specs.Prelude.{◌≡◌, ℕ, ◌&&◌, not, Bool, true, false, [], ◌∷◌, None, Result, Ok, MatchBool, MatchResult}
 use Rattle.std.specs.declared.alloc.AllocError.{AllocError}
 use Rattle.otel_base.specs.Resource.{PlainResource}
 use Rattle.otel_base.specs.declared.error.OTelSdkError.{OTelSdkError}
@@ -13,13 +13,15 @@ pub record SimpleProcessor (E : Type 0) : Type 0 where
   pub is_shut : Bool
 
 module _ {E : Type 0} (calls : Ghosts E) where
-  -- what it tells: the spans of its exporter's batches; nothing waits, and none is dropped
+  -- what it tells: the spans of its exporter's batches; nothing waits, none is dropped, and one may be refused, for want
+  -- of memory for its batch
   abbrev pub simple_telling : SimpleProcessor E → ProcessorTelling
   simple_telling p = record {
     spans = None;
     heard = spans_told (calls.told p.exporter);
     waiting = 0;
     dropped = 0;
+    takes_all = false;
     is_open = not p.is_shut;
   }
 

@@ -224,9 +224,16 @@ impl<E: SpanExporter> DrainDue for BatchSpanProcessor<E> {
 }
 
 impl<E: SpanExporter> LeavesSpans for BatchSpanProcessor<E> {
+    ghost use Rattle.std.specs.Prelude.{true, length};
+    ghost use Rattle.otel_pipeline.specs.LeftSpans.{left_unless_shut};
+
     ghost closed_over = { λ p. stranded_in p.machine };
 
     ghost open_over = { batch_open_over };
+
+    ghost leaves_told = { λ _. true };
+
+    ghost tells_left = { λ p. left_unless_shut p.machine.control.closed (length p.machine.waiting) };
 
     fn stranded(&self) -> Option<usize> {
         self.stranded()

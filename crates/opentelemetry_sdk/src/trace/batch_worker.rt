@@ -14,7 +14,7 @@ ghost use Rattle.otel_batch.specs.declared.machine.state.Request.TheVariants as 
 ghost use Rattle.otel_batch.specs.declared.machine.step.Outcome as outcomes;
 ghost use Rattle.opentelemetry_sdk.specs.WorkedOff.{CollectsAnswer, TicksAndWorks, WorkerWorks, WorksOff, last_error};
 ghost use Rattle.opentelemetry_sdk.specs.WorkedOff.{next_of_producer, next_of_worker, producers_next};
-ghost use Rattle.opentelemetry_sdk.specs.BatchProcessor.{IsAtRest, OffersSpan, PostsResource, Requests, queue_telling};
+ghost use Rattle.opentelemetry_sdk.specs.BatchProcessor.{ClosesIfOk, IsAtRest, OffersSpan, PostsResource, Requests, queue_telling};
 
 use otel_base::error::{OTelSdkError, OTelSdkResult};
 use otel_base::resource::Resource;
@@ -57,6 +57,7 @@ pub(crate) fn make_request<E: SpanExporter>(
     ensures told { TakesNothing (queue_telling E.SpanExporter machine.old) (queue_telling E.SpanExporter machine.new) }
     ensures emptied { OnOk result (machine.new.waiting ≡ []) }
     ensures is_open { asked ≡ request.Flush → machine.new.control.closed ≡ machine.old.control.closed }
+    ensures shutdown { asked ≡ request.Shutdown → ClosesIfOk machine.old result machine.new }
     ensures left { machine.new.control.closed ≡ true → stranded_in machine.new ≡ Some 0 }
     ensures rest { IsAtRest machine.new }
 {

@@ -123,8 +123,10 @@ impl<E: SpanExporter, C: SpanProcessor> DrainDue for ProcessorOf<E, C> {
     }
 }
 
+/// Nothing is asked of a processor of the caller's own: it counts as one that leaves none.
 impl<E: SpanExporter, C: SpanProcessor> LeavesSpans for ProcessorOf<E, C> {
-    ghost use Rattle.std.specs.Prelude.{None};
+    ghost use Rattle.std.specs.Prelude.{None, true, false, not, length};
+    ghost use Rattle.otel_pipeline.specs.LeftSpans.{left_unless_shut, none_left};
     ghost use Rattle.otel_batch.specs.MachineState.{stranded_in};
     ghost use Rattle.opentelemetry_sdk.specs.BatchProcessor.{batch_open_over};
     ghost use Rattle.opentelemetry_sdk.specs.declared.trace.processor.ProcessorOf.TheVariants as kinds;
@@ -139,6 +141,14 @@ impl<E: SpanExporter, C: SpanProcessor> LeavesSpans for ProcessorOf<E, C> {
       | kinds.Simple _ ↦ 0
       | kinds.Batch batch ↦ batch_open_over batch
       | kinds.Custom _ ↦ 0
+    ] };
+
+    ghost leaves_told = { λ p. elim p [ kinds.Simple _ ↦ true | kinds.Batch _ ↦ true | kinds.Custom _ ↦ false ] };
+
+    ghost tells_left = { λ p. elim p [
+      | kinds.Simple simple ↦ none_left (not simple.is_shut)
+      | kinds.Batch batch ↦ left_unless_shut batch.machine.control.closed (length batch.machine.waiting)
+      | kinds.Custom _ ↦ tt
     ] };
 
     /// Only a batch processor has a queue.

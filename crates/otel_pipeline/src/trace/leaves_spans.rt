@@ -1,6 +1,7 @@
 //! How many spans a processor leaves in its queue, for whoever closes a provider (`ProviderOf::close`).
 
-ghost use Rattle.std.specs.Prelude.{◌≡◌, ℕ, Option, None};
+ghost use Rattle.std.specs.Prelude.{◌≡◌, ℕ, Bool, Option, None};
+ghost use Rattle.otel_pipeline.specs.LeftSpans.{LeavesTold};
 
 use crate::trace::SpanProcessor;
 
@@ -19,9 +20,23 @@ pub trait LeavesSpans: SpanProcessor {
     /// How many spans wait; 0 once it is closed.
     fn left_open(&self) -> usize
         ensures { result ≡ open_over self.now };
+
+    /// Whether it leaves what its telling says; one that claims nothing says false.
+    ghost leaves_told: { Self → Bool };
+
+    /// While such a processor is open, it leaves as many as its telling says wait.
+    ghost tells_left: { (p : Self) → LeavesTold (leaves_told p) (Self.SpanProcessor.told p).is_open (open_over p)
+        (Self.SpanProcessor.told p).waiting };
 }
 
+/// Nothing is asked of a boxed processor: it counts as one that leaves none, whatever it tells.
 impl LeavesSpans for Box<dyn SpanProcessor> {
+    ghost use Rattle.std.specs.Prelude.{false};
+
+    ghost leaves_told = { λ _. false };
+
+    ghost tells_left = { λ _. tt };
+
     fn stranded(&self) -> Option<usize> {
         None
     }

@@ -90,6 +90,13 @@ impl<E: SpanExporter> SpanProcessor for SimpleSpanProcessor<E> {
 }
 
 impl<E: SpanExporter> LeavesSpans for SimpleSpanProcessor<E> {
+    ghost use Rattle.std.specs.Prelude.{true, not};
+    ghost use Rattle.otel_pipeline.specs.LeftSpans.{none_left};
+
+    ghost leaves_told = { λ _. true };
+
+    ghost tells_left = { λ p. none_left (not p.is_shut) };
+
     /// It has no queue.
     fn stranded(&self) -> Option<usize> {
         None

@@ -34,6 +34,9 @@ returns-clause-emptied g c = (made g c).emptied
 pub returns-clause-is_open : goal.returns-clause-is_open
 returns-clause-is_open g c = (made g c).is_open
 
+pub returns-clause-shutdown : goal.returns-clause-shutdown
+returns-clause-shutdown g c = (made g c).shutdown
+
 pub returns-clause-left : goal.returns-clause-left
 returns-clause-left g c = none_stranded c.match-post_request.machine (made g c).rest
 
