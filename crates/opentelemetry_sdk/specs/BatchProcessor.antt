@@ -64,6 +64,10 @@ abbrev pub ShutdownAnswers : (refused : Bool) → Result (Unit {0}) OTelSdkError
 ShutdownAnswers false answer closed = (answer ≡ Ok tt) × (closed ≡ true)
 ShutdownAnswers true answer closed = (answer ≡ Err OutOfMemory) × (closed ≡ false)
 
+-- what the answer of a shutdown means: with Ok the queue is closed, with an error it is as open as before
+abbrev pub ClosesIfOk : {E : Type 0} → Machine E → Result (Unit {0}) OTelSdkError → Machine E → Type 0
+ClosesIfOk s answer t = MatchResult answer (λ _. t.control.closed ≡ true) (λ _. t.control.closed ≡ s.control.closed)
+
 module _ {E : Type 0} (calls : Ghosts E) where
   -- what a queue with its exporter tells: the spans of the exporter's batches, followed by those that wait. It takes
   -- every span that is handed to it
@@ -123,11 +127,6 @@ module _ {E : Type 0} (calls : Ghosts E) where
     pub offers : OffersSpan old.machine span new.machine
     pub ok : answer ≡ Ok tt
     pub rest : new ≡ record old { machine = new.machine }
-
-  -- what the answer of a shutdown means: with Ok the queue is closed, with an error it is as open as before
-  abbrev pub ClosesIfOk : Machine E → Result (Unit {0}) OTelSdkError → Machine E → Type 0
-  ClosesIfOk s answer t =
-      MatchResult answer (λ _. t.control.closed ≡ true) (λ _. t.control.closed ≡ s.control.closed)
 
   -- a flush or a shutdown. Where the queue is closed behind it, no span was left behind
   pub record BatchRequests (asked : Request) (old : BatchProcessor E) (answer : Result (Unit {0}) OTelSdkError)

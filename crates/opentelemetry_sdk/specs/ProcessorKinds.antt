@@ -1,6 +1,9 @@
-use Rattle.std.specs.Prelude.{◌≡◌, Result, Ok}
-use Rattle.otel_pipeline.specs.SimpleProcessor.{SimpleProcessor}
-use Rattle.opentelemetry_sdk.specs.BatchProcessor.{BatchProcessor}
+use Rattle.std.specs.Prelude.{◌≡◌, ℕ, Bool, true, false, not, length, Result, Ok}
+use Rattle.otel_export.specs.declared.trace.export.SpanExporter.{Ghosts}
+use Rattle.otel_pipeline.specs.LeftSpans.{LeavesTold, left_unless_shut, none_left}
+use Rattle.otel_pipeline.specs.ProcessorTelling.{ProcessorTelling}
+use Rattle.otel_pipeline.specs.SimpleProcessor.{SimpleProcessor, simple_telling}
+use Rattle.opentelemetry_sdk.specs.BatchProcessor.{BatchProcessor, batch_open_over, batch_telling}
 use Rattle.opentelemetry_sdk.specs.declared.trace.processor.ProcessorOf.{ProcessorOf}
 use Rattle.opentelemetry_sdk.specs.declared.trace.processor.ProcessorOf.TheVariants as kinds
 
@@ -18,3 +21,28 @@ ProcessorGives simple batch custom old new = elim old [
 pub record NothingDue {P E : Type 0} (old : P) (answer : Result (Unit {0}) E) (new : P) : Type 0 where
   pub ok : answer ≡ Ok tt
   pub rest : new ≡ old
+
+-- how many spans wait in a processor of any kind while it is open; of one of the caller's own nothing is asked
+abbrev pub open_over_by_kind : {E C : Type 0} → ProcessorOf E C → ℕ
+open_over_by_kind (kinds.Simple _) = 0
+open_over_by_kind (kinds.Batch batch) = batch_open_over batch
+open_over_by_kind (kinds.Custom _) = 0
+
+-- whether it leaves what its telling says
+abbrev pub leaves_told_by_kind : {E C : Type 0} → ProcessorOf E C → Bool
+leaves_told_by_kind (kinds.Simple _) = true
+leaves_told_by_kind (kinds.Batch _) = true
+leaves_told_by_kind (kinds.Custom _) = false
+
+module _ {E C : Type 0} (calls : Ghosts E) (told : C → ProcessorTelling) where
+  -- what a processor of any kind tells
+  abbrev pub telling_by_kind : ProcessorOf E C → ProcessorTelling
+  telling_by_kind (kinds.Simple simple) = simple_telling calls simple
+  telling_by_kind (kinds.Batch batch) = batch_telling calls batch
+  telling_by_kind (kinds.Custom custom) = told custom
+
+  pub tells_left_by_kind : (p : ProcessorOf E C) → LeavesTold (leaves_told_by_kind p) (telling_by_kind p).is_open
+      (open_over_by_kind p) (telling_by_kind p).waiting
+  tells_left_by_kind (kinds.Simple simple) = none_left (not simple.is_shut)
+  tells_left_by_kind (kinds.Batch batch) = left_unless_shut batch.machine.control.closed (length batch.machine.waiting)
+  tells_left_by_kind (kinds.Custom custom) = tt

@@ -28,16 +28,11 @@ pub type Processor = ProcessorOf<ExporterBox, Box<dyn SpanProcessor>>;
 impl<E: SpanExporter, C: SpanProcessor> SpanProcessor for ProcessorOf<E, C> {
     ghost use Rattle.std.specs.Prelude.{◌≡◌, Ok};
     ghost use Rattle.otel_batch.specs.declared.machine.state.Request.TheVariants as request;
-    ghost use Rattle.otel_pipeline.specs.SimpleProcessor.{HandsResource, SimpleEnds, SimpleShuts, simple_telling};
-    ghost use Rattle.opentelemetry_sdk.specs.BatchProcessor.{BatchEnds, BatchRequests, BatchTakesResource, batch_telling};
-    ghost use Rattle.opentelemetry_sdk.specs.ProcessorKinds.{ProcessorGives};
-    ghost use Rattle.opentelemetry_sdk.specs.declared.trace.processor.ProcessorOf.TheVariants as kinds;
+    ghost use Rattle.otel_pipeline.specs.SimpleProcessor.{HandsResource, SimpleEnds, SimpleShuts};
+    ghost use Rattle.opentelemetry_sdk.specs.BatchProcessor.{BatchEnds, BatchRequests, BatchTakesResource};
+    ghost use Rattle.opentelemetry_sdk.specs.ProcessorKinds.{ProcessorGives, telling_by_kind};
 
-    ghost told = { λ p. elim p [
-      | kinds.Simple simple ↦ simple_telling E.SpanExporter simple
-      | kinds.Batch batch ↦ batch_telling E.SpanExporter batch
-      | kinds.Custom custom ↦ C.told custom
-    ] };
+    ghost told = { telling_by_kind E.SpanExporter C.told };
 
     ghost start_gives = { λ p span cx edited q. ProcessorGives (λ a b. (b ≡ a) × (edited ≡ span))
         (λ a b. (b ≡ a) × (edited ≡ span)) (λ a b. C.start_gives a span cx edited b) p q };
@@ -125,10 +120,9 @@ impl<E: SpanExporter, C: SpanProcessor> DrainDue for ProcessorOf<E, C> {
 
 /// Nothing is asked of a processor of the caller's own: it counts as one that leaves none.
 impl<E: SpanExporter, C: SpanProcessor> LeavesSpans for ProcessorOf<E, C> {
-    ghost use Rattle.std.specs.Prelude.{None, true, false, not, length};
-    ghost use Rattle.otel_pipeline.specs.LeftSpans.{left_unless_shut, none_left};
+    ghost use Rattle.std.specs.Prelude.{None};
     ghost use Rattle.otel_batch.specs.MachineState.{stranded_in};
-    ghost use Rattle.opentelemetry_sdk.specs.BatchProcessor.{batch_open_over};
+    ghost use Rattle.opentelemetry_sdk.specs.ProcessorKinds.{leaves_told_by_kind, open_over_by_kind, tells_left_by_kind};
     ghost use Rattle.opentelemetry_sdk.specs.declared.trace.processor.ProcessorOf.TheVariants as kinds;
 
     ghost closed_over = { λ p. elim p [
@@ -137,19 +131,11 @@ impl<E: SpanExporter, C: SpanProcessor> LeavesSpans for ProcessorOf<E, C> {
       | kinds.Custom _ ↦ None
     ] };
 
-    ghost open_over = { λ p. elim p [
-      | kinds.Simple _ ↦ 0
-      | kinds.Batch batch ↦ batch_open_over batch
-      | kinds.Custom _ ↦ 0
-    ] };
+    ghost open_over = { open_over_by_kind };
 
-    ghost leaves_told = { λ p. elim p [ kinds.Simple _ ↦ true | kinds.Batch _ ↦ true | kinds.Custom _ ↦ false ] };
+    ghost leaves_told = { leaves_told_by_kind };
 
-    ghost tells_left = { λ p. elim p [
-      | kinds.Simple simple ↦ none_left (not simple.is_shut)
-      | kinds.Batch batch ↦ left_unless_shut batch.machine.control.closed (length batch.machine.waiting)
-      | kinds.Custom _ ↦ tt
-    ] };
+    ghost tells_left = { tells_left_by_kind E.SpanExporter C.told };
 
     /// Only a batch processor has a queue.
     fn stranded(&self) -> Option<usize> {
