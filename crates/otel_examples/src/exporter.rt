@@ -2,7 +2,8 @@
 //!
 //! An exporter says what it tells, which here is nothing, and has `export`, `shutdown_with_timeout` and `set_resource`.
 //! What the sink keeps back is sent on at the shutdown, and where a holder of the exporter calls `force_flush`, which no
-//! processor of the SDK does. The lines do not name the resource. Among exporters of other kinds, this one is `ExporterBox::Custom(Box::new(alloc, LineExporter::new(alloc, sink))?)`.
+//! processor of the SDK does. The lines do not name the resource. Among exporters of other kinds, this one is
+//! `ExporterBox::Custom(Box::new(alloc, LineExporter::new(alloc, sink))?)`.
 
 ghost use Rattle.std.specs.Prelude.{None};
 
