@@ -1,5 +1,5 @@
-//! OpenTelemetry's SDK for traces under the paths of the Rust crate: this crate names what the crates below it hold, and
-//! has no code of its own.
+//! OpenTelemetry's SDK for traces under the paths of the Rust crate: the batch processor and the kinds of processors, and
+//! the names of what the crates below it hold.
 #![tactic(auto)]
 
 pub mod error;

@@ -1,4 +1,5 @@
-//! The lines of the program: commands and steps are read from bytes, and replies, outcomes and states are written as bytes.
+//! The program's lines: commands are read from bytes, and replies are written as bytes. The mode `steps` has its own
+//! (`otel_steps`), and takes them apart and writes them by the same calls.
 #![tactic(auto)]
 
 pub mod command;
