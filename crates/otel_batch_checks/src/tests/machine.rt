@@ -1,13 +1,14 @@
 //! The machine by itself: exporters of a caller's own, counts of steps and random lists. What the program's mode `steps`
 //! can show, before an exporter in memory, is asked by the rows of `otel_rows`.
 
+mod chunks;
 mod failures;
 mod random;
 mod refusals;
 mod script;
 mod watching;
 
-use crate::tests::machine::script::{machine, play, sizes, span, step_of, text_of};
+use crate::tests::machine::script::{machine, play, push_numbered, sizes, span, step_of, text_of};
 use otel_base::error::{OTelSdkError, OTelSdkResult};
 use otel_base::resource::Resource;
 use otel_batch::machine::{BatchMachine, Outcome, Slot, Step, Worker};
@@ -261,12 +262,9 @@ fn in_hand(alloc: Global, producers: usize) -> Result<BatchMachine<ExporterBox>,
 
 /// What stands once all that was offered went in one batch.
 fn one_batch(alloc: Global, count: usize) -> Result<String, AllocError> {
-    let stands = "stands: counter 0 dropped 0 open; waiting [] hand [] told [a0";
+    let stands = "stands: counter 0 dropped 0 open; waiting [] hand [] told ";
     let mut text = String::from_str(alloc, stands)?;
-    for number in 1..count {
-        write!(text, ",a{number}")?;
-    }
-    text.push(']')?;
+    push_numbered(&mut text, 0..count)?;
     Ok(text)
 }
 

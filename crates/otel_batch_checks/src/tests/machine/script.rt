@@ -10,6 +10,7 @@ use otel_export::trace::{
     ExporterBox, ExporterOf, InMemorySpanExporter, SpanData, SpanEvents, SpanLinks,
 };
 use std::alloc::{AllocError, Global};
+use std::ops::Range;
 use std::test::Fail;
 
 /// A span of this name, with these flags.
@@ -130,7 +131,8 @@ fn bare_text(outcome: &Outcome) -> &'static str {
         Outcome::NoMemory => "no memory",
         Outcome::Subtracted => "subtracted",
         Outcome::Finished(None) => "finished",
-        _ => "not enabled",
+        Outcome::NotEnabled => "not enabled",
+        _ => "no bare outcome",
     }
 }
 
@@ -229,6 +231,17 @@ pub const OFFERS: &str =
 pub const FIRST_BATCH: &str = "load: loaded 3\npull: pulled\npull: pulled";
 
 pub const SECOND_BATCH: &str = "hand: handed over 1\nsubtract: subtracted";
+
+/// The names of numbered spans as `names` writes them: an `a` and the number.
+pub fn push_numbered(text: &mut String, numbers: Range<usize>) -> Result<(), AllocError> {
+    let first = numbers.start;
+    text.push_str("[")?;
+    for number in numbers {
+        let comma = if number > first { "," } else { "" };
+        write!(text, "{comma}a{number}")?;
+    }
+    text.push_str("]")
+}
 
 /// The names of spans, joined by commas, between brackets.
 fn names(text: &mut String, spans: &[SpanData]) -> Result<(), AllocError> {
