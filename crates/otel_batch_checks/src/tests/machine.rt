@@ -134,15 +134,11 @@ fn the_answer_of_an_exporter_is_the_result_of_a_drain(rt: HostRuntime) -> Result
     play(rt.alloc(), &mut queue, &[timer, asked, requests])
 }
 
-/// Five spans of producer 0, and what it then asks and posts.
-fn offer_five(alloc: Global, queue: &mut BatchMachine<ExporterBox>) -> Result<(), Fail> {
-    for _ in 0..5 {
-        for step in ["offer 0 a", "send 0", "ask 0", "post 0"] {
-            queue.step(step_of(alloc, step)?);
-        }
-    }
-    Ok(())
-}
+/// Five producers send a span each, and the worker starts a drain of them.
+const FIVE_LOADED: &str =
+    "offer 0 a: counted 1\nsend 0: accepted\noffer 1 b: counted 2\nsend 1: accepted\n\
+    offer 2 c: counted 3\nsend 2: accepted\noffer 3 d: counted 4\nsend 3: accepted\n\
+    offer 4 e: counted 5\nsend 4: accepted\ntick: ticked\nload: loaded 5";
 
 /// How many enabled steps the worker takes up to the finish of its drain.
 fn drain_steps(queue: &mut BatchMachine<ExporterBox>) -> usize {
@@ -157,25 +153,27 @@ fn drain_steps(queue: &mut BatchMachine<ExporterBox>) -> usize {
     taken
 }
 
-/// The same from a load of five spans, for this size of batches.
-fn drain_steps_of_five(alloc: Global, batch_size: usize) -> Result<usize, Fail> {
-    let mut queue = machine(alloc, 5, batch_size, 1)?;
-    offer_five(alloc, &mut queue)?;
-    play(alloc, &mut queue, &["tick: ticked\nload: loaded 5"])?;
+/// The same from a load of five spans, for this size of batches. The batches are to be these.
+fn drain_steps_of_five(alloc: Global, batch_size: usize, batches: &str) -> Result<usize, Fail> {
+    let mut queue = machine(alloc, 5, batch_size, 5)?;
+    play(alloc, &mut queue, &[FIVE_LOADED])?;
     let taken = drain_steps(&mut queue);
-    play(alloc, &mut queue, &["finish: finished"])?;
+    let stands = "finish: finished\nstands: counter 0 dropped 0 open; waiting [] hand [] told ";
+    let finish = format!(in alloc; "{stands}{batches}")?;
+    play(alloc, &mut queue, &[finish.as_str()])?;
     Ok(taken)
 }
 
 /// Three steps a batch and one more a further span; a batch of all that waits ends where it meets its own size.
 #[test]
 fn a_drain_of_five_spans_takes_its_steps(rt: HostRuntime) -> Result<(), Fail> {
-    for (batch_size, taken) in [(1, 15), (2, 11), (0, 7)] {
-        assert_eq!(rt;
-            drain_steps_of_five(rt.alloc(), batch_size)?,
-            taken,
-            "{batch_size}"
-        );
+    for (batch_size, taken, batches) in [
+        (1, 15, "[a] [b] [c] [d] [e]"),
+        (2, 11, "[a,b] [c,d] [e]"),
+        (0, 7, "[a,b,c,d,e]"),
+    ] {
+        let steps = drain_steps_of_five(rt.alloc(), batch_size, batches)?;
+        assert_eq!(rt; steps, taken, "{batch_size}");
     }
     Ok(())
 }

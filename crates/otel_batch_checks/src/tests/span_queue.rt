@@ -15,17 +15,24 @@ fn same_item(queue: &SpanQueue<u64>, plain: &VecDeque<u64>, index: usize) -> boo
     queue.get(index).copied() == plain.get(index).copied()
 }
 
-/// Whether the queue shows what the plain one does: how many items there are, and the first, the middle and the last.
+/// Whether the queue shows the items of the plain one, and none behind them.
+fn same_items(queue: &SpanQueue<u64>, plain: &VecDeque<u64>) -> bool {
+    for index in 0..plain.len() {
+        if !same_item(queue, plain, index) {
+            return false;
+        }
+    }
+    queue.get(plain.len()).is_none()
+}
+
+/// Whether the queue shows what the plain one does: how many items there are, and which.
 fn agrees(queue: &SpanQueue<u64>, plain: &VecDeque<u64>, limit: usize) -> bool {
     let len = plain.len();
     queue.len() == len
         && queue.capacity() == limit
         && queue.is_empty() == (len == 0)
         && queue.is_full() == (len == limit)
-        && same_item(queue, plain, 0)
-        && same_item(queue, plain, len / 2)
-        && same_item(queue, plain, len.saturating_sub(1))
-        && queue.get(len).is_none()
+        && same_items(queue, plain)
 }
 
 /// Puts an item into both: whether it was refused just where the plain queue has as many as it may.
@@ -147,18 +154,37 @@ fn a_queue_that_is_too_large_is_refused(rt: HostRuntime) {
     assert!(rt; !has_memory(alloc, 1 << 56));
 }
 
-/// Puts three texts and takes one, and lets the others go with the queue.
-fn first_text(alloc: Global) -> Result<Option<String>, AllocError> {
+/// The text that a full queue refuses to take.
+fn refused_text(
+    alloc: Global,
+    queue: &mut SpanQueue<String>,
+    text: &str,
+) -> Result<Option<String>, AllocError> {
+    Ok(queue.try_push_back(String::from_str(alloc, text)?).err())
+}
+
+/// Puts texts into a queue of two, and takes one: the last that was refused, and the one taken. The others go with the
+/// queue.
+fn refused_and_first(
+    alloc: Global,
+    texts: &[&str],
+) -> Result<(Option<String>, Option<String>), AllocError> {
     let mut queue = SpanQueue::with_capacity(alloc, 2)?;
-    for text in ["a", "b", "c"] {
-        let _ = queue.try_push_back(String::from_str(alloc, text)?);
+    let mut refused = None;
+    for text in texts {
+        refused = refused_text(alloc, &mut queue, text)?;
     }
-    Ok(queue.pop_front())
+    Ok((refused, queue.pop_front()))
 }
 
 #[test]
 fn texts_are_queued(rt: HostRuntime) -> Result<(), Fail> {
-    let first = first_text(rt.alloc())?;
-    assert_eq!(rt; first.as_deref(), Some("a"));
+    let (refused, first) = refused_and_first(rt.alloc(), &["a", "b"])?;
+    assert_eq!(rt; (refused.as_deref(), first.as_deref()), (None, Some("a")));
+    let (refused, first) = refused_and_first(rt.alloc(), &["a", "b", "c"])?;
+    assert_eq!(rt;
+        (refused.as_deref(), first.as_deref()),
+        (Some("c"), Some("a"))
+    );
     Ok(())
 }

@@ -7,7 +7,7 @@ use crate::tests::machine::script::{
 };
 use otel_base::error::OTelSdkError;
 use otel_batch::machine::{BatchMachine, Outcome, Step};
-use otel_export::trace::{ExporterBox, ExporterOf};
+use otel_export::trace::{ExporterBox, ExporterOf, SpanData};
 use std::alloc::Global;
 use std::test::Fail;
 
@@ -56,92 +56,127 @@ fn a_shutdown_refused_its_room_leaves_the_machine_open(rt: HostRuntime) -> Resul
     )
 }
 
-/// Hands over a batch of so many spans. The answer is how many batches the exporter lost by that.
-fn lost_by_handing_over(queue: &mut BatchMachine<ExporterBox>, count: usize) -> Result<u64, Fail> {
+/// Takes a step, which is to have this outcome.
+fn take(queue: &mut BatchMachine<ExporterBox>, step: Step, wanted: Outcome) -> Result<(), Fail> {
+    if queue.step(step) == wanted {
+        Ok(())
+    } else {
+        Err(Fail::new("a step has another outcome"))
+    }
+}
+
+/// Hands over a batch of so many spans. The answer is whether the exporter keeps it.
+fn kept_by_handing_over(queue: &mut BatchMachine<ExporterBox>, count: usize) -> Result<bool, Fail> {
     match queue.step(Step::HandOver) {
-        Outcome::HandedOver(handed, None) if handed == count => Ok(0),
-        Outcome::HandedOver(handed, Some(OTelSdkError::OutOfMemory)) if handed == count => Ok(1),
+        Outcome::HandedOver(handed, None) if handed == count => Ok(true),
+        Outcome::HandedOver(handed, Some(OTelSdkError::OutOfMemory)) if handed == count => {
+            Ok(false)
+        }
         _ => Err(Fail::new("the batch was not handed over")),
     }
 }
 
-/// What the first pull of a timer's drain answers.
-fn pulled_by_a_timer(queue: &mut BatchMachine<ExporterBox>) -> Outcome {
-    queue.step(Step::Tick);
-    queue.step(Step::Load);
-    queue.step(Step::Pull)
+/// What the first pull of a timer's drain of one span answers.
+fn pulled_by_a_timer(queue: &mut BatchMachine<ExporterBox>) -> Result<Outcome, Fail> {
+    take(queue, Step::Tick, Outcome::Ticked)?;
+    take(queue, Step::Load, Outcome::Loaded(1))?;
+    Ok(queue.step(Step::Pull))
 }
 
 /// Pulls a span by a timer's drain, and by another one where that was refused its room, which is its result.
 fn pull_again(queue: &mut BatchMachine<ExporterBox>) -> Result<(), Fail> {
-    if pulled_by_a_timer(queue) == Outcome::Pulled {
+    if pulled_by_a_timer(queue)? == Outcome::Pulled {
         return Ok(());
     }
     let refused = Outcome::Finished(Some(OTelSdkError::OutOfMemory));
-    if queue.step(Step::Finish) == refused && pulled_by_a_timer(queue) == Outcome::Pulled {
+    take(queue, Step::Finish, refused)?;
+    if pulled_by_a_timer(queue)? == Outcome::Pulled {
         Ok(())
     } else {
         Err(Fail::new("the pull was not made again"))
     }
 }
 
-/// How many batches the exporter lost by a timer's drain of one span, whose result says so too.
-fn lost_by_a_timer(alloc: Global, queue: &mut BatchMachine<ExporterBox>) -> Result<u64, Fail> {
-    let offered = span(alloc, "a", 1)?;
-    queue.step(Step::Offer(0, offered));
-    queue.step(Step::Send(0));
+/// Whether the exporter keeps the batch of a timer's drain of one span, of this name. The drain's result says so too.
+fn kept_by_a_timer(
+    alloc: Global,
+    queue: &mut BatchMachine<ExporterBox>,
+    name: &str,
+) -> Result<bool, Fail> {
+    let offer = Step::Offer(0, span(alloc, name, 1)?);
+    take(queue, offer, Outcome::Counted(1))?;
+    take(queue, Step::Send(0), Outcome::Accepted)?;
     pull_again(queue)?;
-    let lost = lost_by_handing_over(queue, 1)?;
-    queue.step(Step::Subtract);
+    let is_kept = kept_by_handing_over(queue, 1)?;
+    take(queue, Step::Subtract, Outcome::Subtracted)?;
     match queue.step(Step::Finish) {
-        Outcome::Finished(None) if lost == 0 => Ok(0),
-        Outcome::Finished(Some(OTelSdkError::OutOfMemory)) if lost == 1 => Ok(1),
+        Outcome::Finished(None) if is_kept => Ok(true),
+        Outcome::Finished(Some(OTelSdkError::OutOfMemory)) if !is_kept => Ok(false),
         _ => Err(Fail::new("the drain has another result")),
     }
 }
 
 /// The same of a shutdown's drain of two spans, which fill the queue: it closes the machine all the same, and its
 /// answer is Ok.
-fn lost_by_a_shutdown(alloc: Global, queue: &mut BatchMachine<ExporterBox>) -> Result<u64, Fail> {
+fn kept_by_a_shutdown(alloc: Global, queue: &mut BatchMachine<ExporterBox>) -> Result<bool, Fail> {
     let script = "offer 0 e: counted 1\nsend 0: accepted\noffer 1 f: counted 2\nsend 1: accepted\n\
         offer 0 g: counted 3\nsend 0: full\nundo 0: undone\nshutdown 0: requested\n\
         take: took shutdown 0\nload: loaded 2\npull: pulled\npull: pulled";
     play(alloc, queue, &[script])?;
-    let lost = lost_by_handing_over(queue, 2)?;
+    let is_kept = kept_by_handing_over(queue, 2)?;
     let closed =
         "subtract: subtracted\nfinish: finished\nclose: shut down 0\ncollect 0: collected ok";
     let late = "offer 0 h: counted 1\nsend 0: closed\nundo 0: undone\n\
         counts: counter 0 dropped 1 closed 0 stranded";
     play(alloc, queue, &[closed, late])?;
-    Ok(lost)
+    Ok(is_kept)
 }
 
-/// How many batches the exporter keeps, and how many it lost.
-fn kept_and_lost(queue: &BatchMachine<ExporterBox>) -> (u64, u64) {
-    match queue.exporter() {
-        ExporterOf::Memory(memory) => (memory.batches().len() as u64, memory.lost_batches()),
-        ExporterOf::Custom(_) => (0, 0),
+/// The names of the spans of the five batches.
+const BATCHES: [&[&str]; 5] = [&["a"], &["b"], &["c"], &["d"], &["e", "f"]];
+
+fn are_named(spans: &[SpanData], names: &[&str]) -> bool {
+    spans.len() == names.len()
+        && spans
+            .iter()
+            .zip(names)
+            .all(|(span, name)| span.name.as_str() == *name)
+}
+
+/// Whether the exporter keeps just these of the five batches, in order, and counts the others as lost.
+fn keeps(queue: &BatchMachine<ExporterBox>, kept: [bool; 5]) -> bool {
+    let ExporterOf::Memory(memory) = queue.exporter() else {
+        return false;
+    };
+    let mut batches = memory.batches().iter();
+    let mut lost = 0u64;
+    for (names, is_kept) in BATCHES.iter().zip(kept) {
+        if !is_kept {
+            lost = lost.saturating_add(1);
+        } else if !batches.next().is_some_and(|batch| are_named(batch, names)) {
+            return false;
+        }
     }
+    batches.next().is_none() && memory.lost_batches() == lost
 }
 
-/// Four drains of a timer and one of a shutdown: how many batches the exporter keeps, how many it lost, and how many
-/// of the drains told so.
-fn kept_lost_and_told(alloc: Global) -> Result<(u64, u64, u64), Fail> {
+/// Four drains of a timer and one of a shutdown: whether the exporter keeps the batches that its answers say.
+fn keeps_what_it_says(alloc: Global) -> Result<bool, Fail> {
     let mut queue = machine(alloc, 2, 2, 2)?;
-    let mut told = 0u64;
-    for _ in 0..4 {
-        told = told.saturating_add(lost_by_a_timer(alloc, &mut queue)?);
-    }
-    told = told.saturating_add(lost_by_a_shutdown(alloc, &mut queue)?);
-    let (kept, lost) = kept_and_lost(&queue);
-    Ok((kept, lost, told))
+    let kept = [
+        kept_by_a_timer(alloc, &mut queue, "a")?,
+        kept_by_a_timer(alloc, &mut queue, "b")?,
+        kept_by_a_timer(alloc, &mut queue, "c")?,
+        kept_by_a_timer(alloc, &mut queue, "d")?,
+        kept_by_a_shutdown(alloc, &mut queue)?,
+    ];
+    Ok(keeps(&queue, kept))
 }
 
 #[test]
 fn an_exporter_refused_its_growth_keeps_its_batches_and_is_shut_down(
     rt: HostRuntime,
 ) -> Result<(), Fail> {
-    let (kept, lost, told) = kept_lost_and_told(rt.alloc())?;
-    assert_eq!(rt; (kept, lost), (5u64.saturating_sub(told), told));
+    assert!(rt; keeps_what_it_says(rt.alloc())?);
     Ok(())
 }
