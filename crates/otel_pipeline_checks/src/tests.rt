@@ -7,5 +7,6 @@ mod processors;
 mod provider_builder;
 mod refused_batch;
 mod refused_memory;
+mod run_processors;
 mod simple_span_processor;
 mod starts;

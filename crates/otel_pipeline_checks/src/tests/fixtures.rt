@@ -9,9 +9,11 @@ use otel_base::trace::{
     ConfigOf, RandomIdGenerator, SamplerOf, SamplingDecision, SamplingResult, ShouldSample,
     SpanLimits,
 };
-use otel_export::trace::{InMemorySpanExporter, SpanData};
+use otel_export::trace::{ExporterBox, InMemorySpanExporter, SpanData};
 use otel_pipeline::trace::provider::provider_over;
-use otel_pipeline::trace::{LeavesSpans, ProviderOf, SimpleSpanProcessor, Span, SpanProcessor};
+use otel_pipeline::trace::{
+    KeepsBatches, LeavesSpans, ProviderOf, SimpleSpanProcessor, Span, SpanProcessor,
+};
 use std::alloc::{AllocError, Global};
 use std::cell::Cell;
 use std::fmt::Write;
@@ -203,9 +205,11 @@ pub(super) fn exporting_behind(
     Ok(processors)
 }
 
-pub(super) fn exporting_alone(alloc: Global) -> Result<Vec<TestProcessor>, AllocError> {
+/// A processor that exports into memory.
+fn exporting_alone(alloc: Global) -> Result<Vec<TestProcessor>, AllocError> {
+    let exporter = InMemorySpanExporter::new(alloc);
     let mut processors = Vec::new(alloc);
-    processors.push(exporting(alloc))?;
+    processors.push(ProcessorOf::Simple(SimpleSpanProcessor::new(alloc, exporter)))?;
     Ok(processors)
 }
 
@@ -214,9 +218,9 @@ pub(super) fn empty_board(alloc: Global) -> Result<Rc<Cell<u64>>, AllocError> {
     Ok(Rc::new(alloc, Cell::new(0))?)
 }
 
-/// A processor that exports into memory.
-pub(super) fn exporting(alloc: Global) -> TestProcessor {
-    ProcessorOf::Simple(SimpleSpanProcessor::new(alloc, InMemorySpanExporter::new(alloc)))
+/// An exporter in memory, in a box that may have one of any kind.
+pub(super) fn memory(alloc: Global) -> ExporterBox {
+    ExporterBox::Memory(InMemorySpanExporter::new(alloc))
 }
 
 /// An open provider over these processors under this sampler, which draws the ids of seed 0.
@@ -275,6 +279,18 @@ pub(super) fn close<P: LeavesSpans, S: Drop>(
     provider: ProviderOf<P, S, RandomIdGenerator>,
 ) -> OTelSdkResult {
     provider.close().result
+}
+
+/// How many batches the processors of a provider handed to their exporters, which kept or lost them.
+pub(super) fn handed_on<P: KeepsBatches, S>(provider: &ProviderOf<P, S, RandomIdGenerator>) -> u64 {
+    let mut count = 0u64;
+    for processor in provider.processors() {
+        let kept = processor.batches().len() as u64;
+        count = count
+            .saturating_add(kept)
+            .saturating_add(processor.lost_batches());
+    }
+    count
 }
 
 /// The text of an answer.

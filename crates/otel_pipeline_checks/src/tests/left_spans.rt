@@ -1,12 +1,11 @@
 //! What a provider reports when it is closed, of the spans that are left in its processors.
 
-use super::fixtures::{TestSampler, config_under, end, shut, start_in};
+use super::fixtures::{TestSampler, config_under, end, memory, shut, start_in};
 use opentelemetry::Context;
 use opentelemetry_sdk::trace::Processor;
 use otel_base::error::{OTelSdkError, OTelSdkResult};
 use otel_base::resource::Resource;
 use otel_base::trace::{BatchStrings, RandomIdGenerator, ShouldSample};
-use otel_export::trace::{ExporterBox, InMemorySpanExporter};
 use otel_pipeline::trace::{
     LeavesSpans, OverExporter, ProviderBuilderOf, ProviderOf, SpanProcessor,
 };
@@ -130,10 +129,6 @@ fn built_over<P: SpanProcessor>(
 ) -> Result<ProviderOf<P, TestSampler, RandomIdGenerator>, AllocError> {
     let builder = with_processor(builder(alloc), first)?;
     built(with_processor(builder, second)?)
-}
-
-fn memory(alloc: Global) -> ExporterBox {
-    ExporterBox::Memory(InMemorySpanExporter::new(alloc))
 }
 
 #[test]

@@ -15,20 +15,29 @@ use std::rc::Rc;
 use std::test::Fail;
 use std::time::Duration;
 
-/// A processor that writes on a board the values of each resource that it is told, a digit each, in the order of their
-/// keys. It refuses so many resources first.
+/// A processor that writes on a board, for each resource that it is told, its own digit, that of each value in the order
+/// of the keys, and how many bytes the schema has. It refuses so many resources first.
 #[derive(Drop)]
 struct Listener {
+    digit: u64,
     board: Rc<Cell<u64>>,
     refusals: u64,
 }
 
 impl Listener {
-    fn write(&self, value: &Value) {
-        if let Value::I64(digit) = value {
-            let before = self.board.get().saturating_mul(10);
-            self.board.set(before.saturating_add(digit.unsigned_abs()));
+    fn write(&self, digit: u64) {
+        let before = self.board.get().saturating_mul(10);
+        self.board.set(before.saturating_add(digit));
+    }
+
+    fn write_all(&self, resource: &Resource) {
+        self.write(self.digit);
+        for (_, value) in resource {
+            if let Value::I64(number) = value {
+                self.write(number.unsigned_abs());
+            }
         }
+        self.write(resource.schema_url().unwrap_or("").len() as u64);
     }
 }
 
@@ -48,9 +57,7 @@ impl SpanProcessor for Listener {
     }
 
     fn set_resource(&mut self, resource: &Resource) -> Result<(), AllocError> {
-        for (_, value) in resource {
-            self.write(value);
-        }
+        self.write_all(resource);
         if self.refusals > 0 {
             self.refusals -= 1;
             return Err(AllocError);
@@ -84,24 +91,46 @@ type TestProcessor = ProcessorOf<Sink, Listener>;
 // No span starts, so that a number stands for a sampler of one's own, and one for a generator.
 type TestBuilder = ProviderBuilderOf<TestProcessor, SamplerOf<u8>, IdSourceOf<u8>>;
 
-/// A builder of three processors, of which the last is this one.
-fn builder_with(alloc: Global, last: Listener) -> Result<TestBuilder, AllocError> {
+fn empty_builder(alloc: Global) -> Result<TestBuilder, AllocError> {
     let config = ConfigOf {
         sampler: SamplerOf::AlwaysOn,
         id_generator: IdSourceOf::Random(RandomIdGenerator::new(0)),
         span_limits: SpanLimits::default(),
-        resource: resource_of(alloc, &[("configured", 9)])?,
+        resource: resource_of(alloc, &[("configured", 9)], "urn:nine")?,
     };
-    let builder = ProviderOf::builder_with_config(alloc, config, BatchStrings::default());
-    let builder = made(builder.with_simple_exporter(Sink))?;
-    let builder = made(builder.with_batch_exporter(Sink))?;
-    made(builder.with_span_processor(ProcessorOf::Custom(last)))
+    Ok(ProviderOf::builder_with_config(alloc, config, BatchStrings::default()))
 }
 
-/// The builder with two resources that share a key, of which the second one's value counts.
+/// A listener of this digit on the board behind the builder's processors.
+fn with_listener(
+    builder: TestBuilder,
+    digit: u64,
+    board: &Rc<Cell<u64>>,
+    refusals: u64,
+) -> Result<TestBuilder, AllocError> {
+    let listener = Listener {
+        digit,
+        board: board.clone()?,
+        refusals,
+    };
+    made(builder.with_span_processor(ProcessorOf::Custom(listener)))
+}
+
+fn with_exporters(builder: TestBuilder) -> Result<TestBuilder, AllocError> {
+    let builder = made(builder.with_simple_exporter(Sink))?;
+    made(builder.with_batch_exporter(Sink))
+}
+
+/// A builder of four processors: the first and the last are listeners, of which the first refuses once.
+fn builder_of_four(alloc: Global, board: &Rc<Cell<u64>>) -> Result<TestBuilder, AllocError> {
+    let builder = with_listener(empty_builder(alloc)?, 6, board, 1)?;
+    with_listener(with_exporters(builder)?, 7, board, 0)
+}
+
+/// The builder with two resources that share a key, of which the second one's value counts. The first has a schema.
 fn with_resources(alloc: Global, builder: TestBuilder) -> Result<TestBuilder, AllocError> {
-    let first = resource_of(alloc, &[("a", 1), ("c", 2)])?;
-    let second = resource_of(alloc, &[("a", 3), ("b", 4)])?;
+    let first = resource_of(alloc, &[("a", 1), ("c", 2)], "urn:s")?;
+    let second = resource_of(alloc, &[("a", 3), ("b", 4)], "")?;
     let builder = made(builder.with_resource(first))?;
     made(builder.with_resource(second))
 }
@@ -130,14 +159,23 @@ fn built<P: LeavesSpans, S: Drop, G: Drop>(
     }
 }
 
-fn resource_of(alloc: Global, pairs: &[(&'static str, i64)]) -> Result<Resource, AllocError> {
+fn resource_of(
+    alloc: Global,
+    pairs: &[(&'static str, i64)],
+    schema: &str,
+) -> Result<Resource, AllocError> {
     let mut attributes = Vec::new(alloc);
     for (key, number) in pairs {
         attributes.push(KeyValue::new(Key::from_static_str(key), Value::I64(*number)))?;
     }
-    let builder = Resource::builder_empty(alloc).with_attributes(attributes)?;
+    let schema = String::from_str(alloc, schema)?;
+    let builder = Resource::builder_empty(alloc).with_schema_url(attributes, schema)?;
     Ok(builder.build())
 }
+
+/// What the two listeners write in their order: each its digit, the values of `a`, `b` and `c`, and the length of the
+/// schema.
+const TOLD: u64 = 6_342_573_425;
 
 #[test]
 fn processors_are_told_the_resources_that_were_handed_in_as_one(
@@ -145,18 +183,15 @@ fn processors_are_told_the_resources_that_were_handed_in_as_one(
 ) -> Result<(), Fail> {
     let alloc = rt.alloc();
     let board = Rc::new(alloc, Cell::new(0))?;
-    let last = Listener {
-        board: board.clone()?,
-        refusals: 1,
-    };
-    let builder = with_resources(alloc, builder_with(alloc, last)?)?;
+    let builder = with_resources(alloc, builder_of_four(alloc, &board)?)?;
     let builder = builder.with_sampler(SamplerOf::AlwaysOff);
     let Err(builder) = built(builder.with_id_generator(1).with_max_events_per_span(3)) else {
         return Err(Fail::from("made in spite of a refusal"));
     };
-    assert_eq!(rt; board.get(), 342);
+    assert_eq!(rt; board.get(), TOLD);
+    board.set(0);
     let answer = built(builder).ok();
-    assert_eq!(rt; board.get(), 342_342);
-    assert_eq!(rt; answer, Some((3, Ok(()))));
+    assert_eq!(rt; board.get(), TOLD);
+    assert_eq!(rt; answer, Some((4, Ok(()))));
     Ok(())
 }

@@ -1,14 +1,15 @@
 //! A provider that is built over a batch processor, and a span that it exports, where one allocation is refused:
 //! `rt try --test --fail-alloc N` has the Nth refused. Each call that finds no memory is made again.
 
-use super::fixtures::{TestSampler, attribute_of, config_under, flush, start_in};
+use super::fixtures::{
+    TestSampler, attribute_of, config_under, flush, handed_on, memory, start_in,
+};
 use super::refused_memory::finish_again;
 use opentelemetry::{Context, Moment};
 use opentelemetry_sdk::trace::Processor;
 use otel_base::error::OTelSdkResult;
 use otel_base::resource::Resource;
 use otel_base::trace::{BatchStrings, RandomIdGenerator, ShouldSample};
-use otel_export::trace::{ExporterBox, InMemorySpanExporter};
 use otel_pipeline::trace::{
     DrainDue, KeepsBatches, OverExporter, ProviderBuilderOf, ProviderOf, SpanProcessor,
 };
@@ -68,7 +69,7 @@ fn build_again<P: SpanProcessor, S: Drop>(
 }
 
 /// Starts a span, again where that finds no memory, and finishes it. The answer is how many processors refused it.
-fn start_and_finish<P: SpanProcessor, S: ShouldSample>(
+fn start_and_finish<P: KeepsBatches, S: ShouldSample>(
     alloc: Global,
     provider: &mut ProviderOf<P, S, RandomIdGenerator>,
 ) -> Result<Option<u64>, AllocError> {
@@ -87,15 +88,6 @@ fn drain_again<P: DrainDue, S: Drop>(
         let _ = provider.run_processors(Moment(seconds * 1_000_000_000));
     }
     flush(provider)
-}
-
-/// How many batches the first processor's exporter kept or lost.
-fn handed_on<P: KeepsBatches, S>(provider: &ProviderOf<P, S, RandomIdGenerator>) -> u64 {
-    let Some(first) = provider.processors().first() else {
-        return 0;
-    };
-    let kept = first.batches().len() as u64;
-    kept.saturating_add(first.lost_batches())
 }
 
 /// Exports a span. The answer is how many processors refused it, how many batches were handed on, and how flush and
@@ -125,9 +117,7 @@ fn export_again<P: OverExporter + KeepsBatches>(
 #[test]
 fn a_span_leaves_in_a_batch_where_an_allocation_is_refused(rt: HostRuntime) -> Result<(), Fail> {
     let alloc = rt.alloc();
-    let first = ExporterBox::Memory(InMemorySpanExporter::new(alloc));
-    let second = ExporterBox::Memory(InMemorySpanExporter::new(alloc));
-    let exported = export_again::<Processor>(alloc, first, second)?;
+    let exported = export_again::<Processor>(alloc, memory(alloc), memory(alloc))?;
     assert_eq!(rt; exported, (Some(0), 1, Ok(())));
     Ok(())
 }

@@ -3,15 +3,15 @@
 //! of the machine alone, which an ordinary run has: `rt try --test --fail-alloc N` has the Nth allocation refused.
 
 use super::fixtures::{
-    Asked, TestProcessor, TestProvider, TestSampler, answer_of, attribute_of, close, empty_board,
-    end, exporting, exporting_alone, provider_of, recorded, recorded_keys, start_in, writers,
+    Asked, TestProvider, TestSampler, answer_of, attribute_of, close, empty_board, end, handed_on,
+    memory, provider_of, recorded, recorded_keys, start_in, writers,
 };
 use opentelemetry::trace::SpanContext;
 use opentelemetry::{Context, Moment, SpanId};
-use opentelemetry_sdk::trace::ProcessorOf;
+use opentelemetry_sdk::trace::Processor;
 use otel_base::trace::{RandomIdGenerator, SamplerOf, SamplingDecision, ShouldSample};
-use otel_export::trace::{InMemorySpanExporter, SpanData};
-use otel_pipeline::trace::{ProviderOf, Span, SpanProcessor};
+use otel_export::trace::SpanData;
+use otel_pipeline::trace::{KeepsBatches, ProviderOf, SimpleSpanProcessor, Span, SpanProcessor};
 use std::alloc::{AllocError, Global};
 use std::cell::Cell;
 use std::rc::Rc;
@@ -213,34 +213,53 @@ fn finish<P: SpanProcessor, S: ShouldSample>(
     }
 }
 
-/// Finishes a span, and finishes it again where it came back, which it must do as it was. The answer is how many
-/// processors refused it.
-pub(super) fn finish_again<P: SpanProcessor, S: ShouldSample>(
+/// What an end that finds no memory is to leave: what the span has recorded, and how many batches were handed on.
+type Before = (Recorded, u64);
+
+fn before_end<P: KeepsBatches, S>(
+    span: &Span,
+    provider: &ProviderOf<P, S, RandomIdGenerator>,
+) -> Before {
+    (recorded(span), handed_on(provider))
+}
+
+/// Whether it is left so.
+fn is_left<P: KeepsBatches, S>(
+    span: &Span,
+    provider: &ProviderOf<P, S, RandomIdGenerator>,
+    before: &Before,
+) -> bool {
+    is_as_before(span, &before.0) && handed_on(provider) == before.1
+}
+
+/// Finishes a span, and finishes it again where it came back, which it must do as it was, with nothing handed on. The
+/// answer is how many processors refused it.
+pub(super) fn finish_again<P: KeepsBatches, S: ShouldSample>(
     span: Span,
     provider: &mut ProviderOf<P, S, RandomIdGenerator>,
 ) -> Option<u64> {
-    let before = recorded(&span);
+    let before = before_end(&span, provider);
     finish_from(span, provider, &before)
 }
 
-fn finish_from<P: SpanProcessor, S: ShouldSample>(
+fn finish_from<P: KeepsBatches, S: ShouldSample>(
     span: Span,
     provider: &mut ProviderOf<P, S, RandomIdGenerator>,
-    before: &Recorded,
+    before: &Before,
 ) -> Option<u64> {
     match finish(span, provider) {
         Ok(refused) => Some(refused),
-        Err(span) => finish_as(span, provider, before),
+        Err(span) => finish_left(span, provider, before),
     }
 }
 
-/// Finishes a span that came back, if it is as before.
-fn finish_as<P: SpanProcessor, S: ShouldSample>(
+/// Finishes a span that came back, if all is as before.
+fn finish_left<P: KeepsBatches, S: ShouldSample>(
     span: Span,
     provider: &mut ProviderOf<P, S, RandomIdGenerator>,
-    before: &Recorded,
+    before: &Before,
 ) -> Option<u64> {
-    if !is_as_before(&span, before) {
+    if !is_left(&span, provider, before) {
         span.abandon();
         return None;
     }
@@ -253,24 +272,24 @@ fn finish_as<P: SpanProcessor, S: ShouldSample>(
     }
 }
 
-/// Ends a span, and ends it again where that found no memory, which must leave it as it was. The answer is how many
-/// processors refused it.
-fn end_again<P: SpanProcessor, S: ShouldSample>(
+/// Ends a span, and ends it again where that found no memory, which must leave it as it was and hand nothing on. The
+/// answer is how many processors refused it.
+fn end_again<P: KeepsBatches, S: ShouldSample>(
     span: &mut Span,
     provider: &mut ProviderOf<P, S, RandomIdGenerator>,
 ) -> Option<u64> {
-    let before = recorded(span);
+    let before = before_end(span, provider);
     end_from(span, provider, &before)
 }
 
-fn end_from<P: SpanProcessor, S: ShouldSample>(
+fn end_from<P: KeepsBatches, S: ShouldSample>(
     span: &mut Span,
     provider: &mut ProviderOf<P, S, RandomIdGenerator>,
-    before: &Recorded,
+    before: &Before,
 ) -> Option<u64> {
     let refused = match end(span, provider) {
         Ok(refused) => refused,
-        Err(_) if is_as_before(span, before) => end(span, provider).ok()?,
+        Err(_) if is_left(span, provider, before) => end(span, provider).ok()?,
         Err(_) => return None,
     };
     Some(refused as u64)
@@ -285,7 +304,7 @@ enum Ending {
 
 /// Starts a span, edits it in each way, and ends it: whether each edit did what it must, and how many processors
 /// refused the span.
-fn edit_and_end<P: SpanProcessor, S: ShouldSample>(
+fn edit_and_end<P: KeepsBatches, S: ShouldSample>(
     alloc: Global,
     provider: &mut ProviderOf<P, S, RandomIdGenerator>,
     ending: Ending,
@@ -300,29 +319,11 @@ fn edit_and_end<P: SpanProcessor, S: ShouldSample>(
     Ok((edited, refused))
 }
 
-/// How many batches the processors of a provider handed to their exporters, which kept or lost them.
-fn handed_on(provider: &TestProvider) -> u64 {
-    let mut count = 0u64;
-    for processor in provider.processors() {
-        if let ProcessorOf::Simple(simple) = processor {
-            count = count.saturating_add(heard(simple.exporter()));
-        }
-    }
-    count
-}
-
-fn heard(exporter: &InMemorySpanExporter) -> u64 {
-    let kept = exporter.batches().len() as u64;
-    kept.saturating_add(exporter.lost_batches())
-}
-
 /// Whether each batch that was kept is of one span with each edit.
-fn keeps_edits(provider: &TestProvider) -> bool {
+fn keeps_edits<P: KeepsBatches, S>(provider: &ProviderOf<P, S, RandomIdGenerator>) -> bool {
     let mut holds = true;
     for processor in provider.processors() {
-        if let ProcessorOf::Simple(simple) = processor {
-            holds = are_edited(simple.exporter().batches()) && holds;
-        }
+        holds = are_edited(processor.batches()) && holds;
     }
     holds
 }
@@ -347,7 +348,7 @@ fn is_edited(batch: &[SpanData]) -> bool {
 }
 
 /// How many spans were edited as they must, and how many refusals of processors there were.
-fn edit_and_end_each<P: SpanProcessor, S: ShouldSample>(
+fn edit_and_end_each<P: KeepsBatches, S: ShouldSample>(
     alloc: Global,
     provider: &mut ProviderOf<P, S, RandomIdGenerator>,
 ) -> Result<(u64, u64), AllocError> {
@@ -372,16 +373,22 @@ fn edited_and_ended(alloc: Global) -> Result<((u64, u64), u64, bool), AllocError
     Ok((outcome?, exported, holds && is_closed))
 }
 
-fn two_exporting(alloc: Global) -> Result<Vec<TestProcessor>, AllocError> {
-    let mut processors = exporting_alone(alloc)?;
-    processors.push(exporting(alloc))?;
+fn two_exporting(alloc: Global) -> Result<Vec<Processor>, AllocError> {
+    let mut processors = Vec::new(alloc);
+    processors.push(exporting_boxed(alloc))?;
+    processors.push(exporting_boxed(alloc))?;
     Ok(processors)
 }
 
+fn exporting_boxed(alloc: Global) -> Processor {
+    Processor::Simple(SimpleSpanProcessor::new(alloc, memory(alloc)))
+}
+
+/// Two spans end at two processors: each of the four deliveries is exported once, or refused.
 #[test]
 fn refused_edits_and_ends_change_nothing_and_succeed_again(rt: HostRuntime) -> Result<(), Fail> {
-    let (outcome, exported, holds) = edited_and_ended(rt.alloc())?;
+    let ((ended, refused), exported, holds) = edited_and_ended(rt.alloc())?;
     assert!(rt; holds);
-    assert_eq!(rt; outcome, (2, 4u64.saturating_sub(exported)));
+    assert_eq!(rt; (ended, refused.saturating_add(exported)), (2, 4));
     Ok(())
 }
