@@ -1,13 +1,13 @@
 //! The program `otel_rows`: each line of its input is a row that asks one question of the libraries, and a line of
 //! output answers it. A row is a word and its fields, between single spaces; docs/ROWS.md has the words. Empty lines
-//! and lines that begin with `#` are printed as they came.
+//! and lines that begin with `#` are printed as they came. A row that says none of what it may say is a bad row.
 #![tactic(auto)]
 
+mod processors;
 mod programs;
-mod queues;
 mod spans;
 
-use otel_value_rows::fields::{Row, row_of};
+use otel_value_rows::fields::{Row, RowError, row_of};
 use programs::Run;
 use std::alloc::{AllocError, Global};
 use std::io;
@@ -27,9 +27,26 @@ fn main(rt: HostRuntime) -> io::Result<()> {
 fn answer_lines(alloc: Global, text: &str, out: &mut Vec<u8>) -> Result<(), AllocError> {
     let mut run: Option<Run> = None;
     for line in text.lines() {
-        run = answer_line(alloc, run, line, out)?;
+        run = answer_or_refuse(alloc, run, line, out)?;
     }
     programs::finish(alloc, run, out)
+}
+
+/// Answers one line, where it is no bad row, and gives the program that is still being read.
+fn answer_or_refuse(
+    alloc: Global,
+    run: Option<Run>,
+    line: &str,
+    out: &mut Vec<u8>,
+) -> Result<Option<Run>, AllocError> {
+    match answer_line(alloc, run, line, out) {
+        Ok(run) => Ok(run),
+        Err(RowError::Memory) => Err(AllocError),
+        Err(RowError::Field) => {
+            put_line(out, "bad row")?;
+            Ok(None)
+        }
+    }
 }
 
 /// Answers one line, and gives the program that is still being read.
@@ -38,7 +55,7 @@ fn answer_line(
     run: Option<Run>,
     line: &str,
     out: &mut Vec<u8>,
-) -> Result<Option<Run>, AllocError> {
+) -> Result<Option<Run>, RowError> {
     if let Some(written) = line.strip_prefix('>') {
         return programs::with_input(alloc, run, written);
     }
@@ -56,11 +73,11 @@ fn answer_line(
 }
 
 /// Answers a row of one line.
-fn answer_row(alloc: Global, row: &Row, out: &mut Vec<u8>) -> Result<(), AllocError> {
+fn answer_row(alloc: Global, row: &Row, out: &mut Vec<u8>) -> Result<(), RowError> {
     let mut answer = String::new(alloc);
     let is_known = otel_value_rows::answer(alloc, row, &mut answer)?
         || spans::answer(alloc, row, &mut answer)?
-        || queues::answer(alloc, row, &mut answer)?;
+        || processors::answer(alloc, row, &mut answer)?;
     put_line(
         out,
         if is_known {
@@ -68,7 +85,8 @@ fn answer_row(alloc: Global, row: &Row, out: &mut Vec<u8>) -> Result<(), AllocEr
         } else {
             "no such word"
         },
-    )
+    )?;
+    Ok(())
 }
 
 /// Puts a line out.

@@ -1,7 +1,7 @@
 //! Runs of the program `otel_trace`.
 
 use otel_program::run_program;
-use otel_value_rows::fields::{Row, push_bytes, push_time};
+use otel_value_rows::fields::{Row, RowError, push_bytes, push_time, small_number_of};
 use std::alloc::{AllocError, Global};
 
 /// A run of the program: its arguments, and its input so far.
@@ -20,11 +20,7 @@ pub fn started(alloc: Global, row: Row) -> Run {
 }
 
 /// A run with the input of a line more; a line behind no run is left out.
-pub fn with_input(
-    alloc: Global,
-    run: Option<Run>,
-    written: &str,
-) -> Result<Option<Run>, AllocError> {
+pub fn with_input(alloc: Global, run: Option<Run>, written: &str) -> Result<Option<Run>, RowError> {
     let Some(mut run) = run else {
         return Ok(None);
     };
@@ -34,13 +30,13 @@ pub fn with_input(
 
 /// Puts the input of a line, without its `>`, behind other bytes: a space and a line, which is written as a field is,
 /// `> ` and bytes that no line feed follows, or `N ` and a line that comes N times.
-fn push_input(alloc: Global, input: &mut Vec<u8>, written: &str) -> Result<(), AllocError> {
+fn push_input(alloc: Global, input: &mut Vec<u8>, written: &str) -> Result<(), RowError> {
     let (how, line) = written.split_once(' ').unwrap_or((written, ""));
     if how == ">" {
         return push_bytes(alloc, input, line);
     }
     if !how.is_empty() {
-        return push_lines(alloc, input, how.parse::<u32>().unwrap_or(0), line);
+        return Ok(push_lines(alloc, input, small_number_of(how)?, line)?);
     }
     push_bytes(alloc, input, line)?;
     input.push(b'\n')?;

@@ -2,7 +2,7 @@
 //! 7, its events happen at 8, and it ends at 9.
 
 use opentelemetry::propagation::{Extractor, Injector, MapCarrier, TextMapPropagator};
-use opentelemetry::trace::{Event, Link, SpanBuilder, SpanContext, Status};
+use opentelemetry::trace::{Event, Link, SpanBuilder, SpanContext};
 use opentelemetry::{Context, Key, KeyValue, Moment, Value};
 use otel_base::propagation::TraceContextPropagator;
 use otel_base::resource::Resource;
@@ -12,7 +12,8 @@ use otel_lines::reply_text::write_batches;
 use otel_pipeline::trace::provider::provider_over;
 use otel_pipeline::trace::{ProviderOf, SimpleSpanProcessor, Span, SpanEdit};
 use otel_program::program::{NoSampler, TraceSampler};
-use otel_value_rows::fields::Row;
+use otel_value_rows::fields::{Row, RowError, pair_of, small_number_of};
+use otel_value_rows::status_of;
 use std::alloc::{AllocError, Global};
 use std::fmt::Write;
 
@@ -23,7 +24,7 @@ type RowProvider = ProviderOf<
 >;
 
 /// Answers a row whose word is one of these; false where it is none.
-pub fn answer(alloc: Global, row: &Row, out: &mut String) -> Result<bool, AllocError> {
+pub fn answer(alloc: Global, row: &Row, out: &mut String) -> Result<bool, RowError> {
     match row.word.as_str() {
         "span" => answer_span(alloc, row, out)?,
         "start" => answer_start(alloc, row, out)?,
@@ -34,8 +35,8 @@ pub fn answer(alloc: Global, row: &Row, out: &mut String) -> Result<bool, AllocE
 
 /// `span LIMITS GIVEN .. start EDIT ..`: starts a span with what is given in front of `start`, makes the edits behind
 /// it, and shows what it would export; where an edit is `end`, what was exported and how many processors refused.
-fn answer_span(alloc: Global, row: &Row, out: &mut String) -> Result<(), AllocError> {
-    let mut provider = provider_of(alloc, limits_of(row), SamplerOf::AlwaysOn)?;
+fn answer_span(alloc: Global, row: &Row, out: &mut String) -> Result<(), RowError> {
+    let mut provider = provider_of(alloc, limits_of(row.field(0))?, SamplerOf::AlwaysOn)?;
     let shown = show_span(alloc, row, &mut provider, out);
     let _ = provider.close();
     shown
@@ -58,21 +59,29 @@ fn provider_of(
     Ok(provider_over(processors, config))
 }
 
-/// The limits that the first field writes: attributes, events, links, attributes of an event, and of a link, between
-/// commas; 128 where it writes none.
-fn limits_of(row: &Row) -> SpanLimits {
+/// The limits of attributes, events, links, attributes of an event, and of a link, between commas; 128 where a text is
+/// `-`, or has no more.
+fn limits_of(text: &str) -> Result<SpanLimits, RowError> {
     let mut limits = SpanLimits::default();
-    for (i, part) in row.field(0).split(',').enumerate() {
-        let limit = part.parse::<u32>().unwrap_or(128);
+    for (i, part) in text.split(',').enumerate() {
+        let limit = limit_of(part)?;
         match i {
             0 => limits.max_attributes_per_span = limit,
             1 => limits.max_events_per_span = limit,
             2 => limits.max_links_per_span = limit,
             3 => limits.max_attributes_per_event = limit,
-            _ => limits.max_attributes_per_link = limit,
+            4 => limits.max_attributes_per_link = limit,
+            _ => return Err(RowError::Field),
         }
     }
-    limits
+    Ok(limits)
+}
+
+fn limit_of(text: &str) -> Result<u32, RowError> {
+    if text == "-" {
+        return Ok(128);
+    }
+    small_number_of(text)
 }
 
 /// Starts the span of a row, edits it, and shows it.
@@ -81,15 +90,16 @@ fn show_span(
     row: &Row,
     provider: &mut RowProvider,
     out: &mut String,
-) -> Result<(), AllocError> {
+) -> Result<(), RowError> {
     let mut span = start_given(alloc, row, provider)?;
     let edited = edit_all(alloc, row, &mut span, provider);
     let recorded = recorded_of(&span);
     span.abandon();
     match edited? {
-        Some(refused) => show_exported(alloc, provider, refused, out),
-        None => show_recorded(alloc, recorded?, out),
+        Some(refused) => show_exported(alloc, provider, refused, out)?,
+        None => show_recorded(alloc, recorded?, out)?,
     }
+    Ok(())
 }
 
 fn recorded_of(span: &Span) -> Result<Option<SpanData>, AllocError> {
@@ -97,61 +107,79 @@ fn recorded_of(span: &Span) -> Result<Option<SpanData>, AllocError> {
 }
 
 /// Starts a span of the builder that the fields in front of `start` fill.
-fn start_given(alloc: Global, row: &Row, provider: &mut RowProvider) -> Result<Span, AllocError> {
+fn start_given(alloc: Global, row: &Row, provider: &mut RowProvider) -> Result<Span, RowError> {
     let builder = builder_of(alloc, row)?;
     let tracer = provider.tracer(String::new(alloc))?;
-    tracer.build_with_context(builder, &Context::new(), provider, Moment(7))
+    Ok(tracer.build_with_context(builder, &Context::new(), provider, Moment(7))?)
 }
 
 /// The builder that the fields in front of `start` fill.
-fn builder_of(alloc: Global, row: &Row) -> Result<SpanBuilder, AllocError> {
+fn builder_of(alloc: Global, row: &Row) -> Result<SpanBuilder, RowError> {
+    check_given(row)?;
     let builder = SpanBuilder::from_name(name_given(alloc, row)?);
     let builder = builder.with_attributes(attributes_given(alloc, row)?);
     let builder = builder.with_events(events_given(alloc, row)?);
     Ok(builder.with_links(links_given(alloc, row)?))
 }
 
+/// The word of a field, and what stands behind its first colon.
+fn halves_of(field: &str) -> (&str, &str) {
+    field.split_once(':').unwrap_or((field, ""))
+}
+
+/// Whether each field in front of `start` gives the builder something, and there is a `start`.
+fn check_given(row: &Row) -> Result<(), RowError> {
+    for field in row.fields.iter().skip(1) {
+        match halves_of(field.as_str()).0 {
+            "name" | "attribute" | "event" | "link" => {}
+            "start" => return Ok(()),
+            _ => break,
+        }
+    }
+    Err(RowError::Field)
+}
+
 fn name_given(alloc: Global, row: &Row) -> Result<String, AllocError> {
     for field in row.fields.iter() {
-        match field.as_str().split_once(':') {
-            Some(("name", rest)) => return String::from_str(alloc, rest),
-            None if field.as_str() == "start" => break,
+        match halves_of(field.as_str()) {
+            ("name", rest) => return String::from_str(alloc, rest),
+            ("start", _) => break,
             _ => {}
         }
     }
     Ok(String::new(alloc))
 }
 
-fn attributes_given(alloc: Global, row: &Row) -> Result<Vec<KeyValue>, AllocError> {
+fn attributes_given(alloc: Global, row: &Row) -> Result<Vec<KeyValue>, RowError> {
     let mut attributes = Vec::new(alloc);
     for field in row.fields.iter() {
-        match field.as_str().split_once(':') {
-            Some(("attribute", rest)) => attributes.push(attribute_of(alloc, rest)?)?,
-            None if field.as_str() == "start" => break,
+        match halves_of(field.as_str()) {
+            ("attribute", rest) => attributes.push(attribute_of(alloc, rest)?)?,
+            ("start", _) => break,
             _ => {}
         }
     }
     Ok(attributes)
 }
 
-fn events_given(alloc: Global, row: &Row) -> Result<Vec<Event>, AllocError> {
+fn events_given(alloc: Global, row: &Row) -> Result<Vec<Event>, RowError> {
     let mut events = Vec::new(alloc);
     for field in row.fields.iter() {
-        match field.as_str().split_once(':') {
-            Some(("event", rest)) => events.push(event_of(alloc, rest)?)?,
-            None if field.as_str() == "start" => break,
+        match halves_of(field.as_str()) {
+            ("event", rest) => events.push(event_of(alloc, rest)?)?,
+            ("start", _) => break,
             _ => {}
         }
     }
     Ok(events)
 }
 
-fn links_given(alloc: Global, row: &Row) -> Result<Vec<Link>, AllocError> {
+fn links_given(alloc: Global, row: &Row) -> Result<Vec<Link>, RowError> {
     let mut links = Vec::new(alloc);
     for field in row.fields.iter() {
-        match field.as_str().split_once(':') {
-            Some(("link", rest)) => links.push(link_of(alloc, rest)?)?,
-            None if field.as_str() == "start" => break,
+        match halves_of(field.as_str()) {
+            ("link", rest) => links.push(link_of(alloc, rest)?)?,
+            ("start", _) => break,
             _ => {}
         }
     }
@@ -164,14 +192,14 @@ fn edit_all(
     row: &Row,
     span: &mut Span,
     provider: &mut RowProvider,
-) -> Result<Option<usize>, AllocError> {
+) -> Result<Option<usize>, RowError> {
     let mut refused = None;
     let mut is_started = false;
     for field in row.fields.iter() {
         match field.as_str() {
-            "start" => is_started = true,
-            "end" => refused = Some(end(span, provider)?),
+            "end" if is_started => refused = Some(end(span, provider)?),
             field if is_started => edit(span, edit_of(alloc, field)?)?,
+            "start" => is_started = true,
             _ => {}
         }
     }
@@ -182,27 +210,28 @@ fn end(span: &mut Span, provider: &mut RowProvider) -> Result<usize, AllocError>
     span.end_with_timestamp(provider, Moment(9))
 }
 
-/// The edit that a field writes; a status that is unset where it writes none.
-fn edit_of(alloc: Global, field: &str) -> Result<SpanEdit, AllocError> {
-    let (word, rest) = field.split_once(':').unwrap_or((field, ""));
+/// The edit that a field writes.
+fn edit_of(alloc: Global, field: &str) -> Result<SpanEdit, RowError> {
+    let (word, rest) = halves_of(field);
     match word {
         "attribute" => Ok(SpanEdit::SetAttribute(attribute_of(alloc, rest)?)),
         "event" => Ok(SpanEdit::AddEvent(event_of(alloc, rest)?)),
         "link" => Ok(SpanEdit::AddLink(link_of(alloc, rest)?)),
         "name" => Ok(SpanEdit::UpdateName(String::from_str(alloc, rest)?)),
-        _ => Ok(SpanEdit::SetStatus(status_of(alloc, rest)?)),
+        "status" => Ok(SpanEdit::SetStatus(status_of(alloc, rest)?)),
+        _ => Err(RowError::Field),
     }
 }
 
 /// The attribute of `KEY=VALUE`.
-fn attribute_of(alloc: Global, text: &str) -> Result<KeyValue, AllocError> {
-    let (key, value) = text.split_once('=').unwrap_or((text, ""));
+fn attribute_of(alloc: Global, text: &str) -> Result<KeyValue, RowError> {
+    let (key, value) = pair_of(text)?;
     let key = Key::new(String::from_str(alloc, key)?);
     Ok(KeyValue::new(key, Value::String(String::from_str(alloc, value)?)))
 }
 
 /// The attributes of `KEY=VALUE,..`.
-fn attributes_of(alloc: Global, text: &str) -> Result<Vec<KeyValue>, AllocError> {
+fn attributes_of(alloc: Global, text: &str) -> Result<Vec<KeyValue>, RowError> {
     let mut attributes = Vec::new(alloc);
     for part in text.split(',') {
         if !part.is_empty() {
@@ -213,36 +242,28 @@ fn attributes_of(alloc: Global, text: &str) -> Result<Vec<KeyValue>, AllocError>
 }
 
 /// The event of `NAME:KEY=VALUE,..:COUNT`, of which the last two may be absent.
-fn event_of(alloc: Global, text: &str) -> Result<Event, AllocError> {
-    let (name, rest) = text.split_once(':').unwrap_or((text, ""));
-    let (attributes, count) = rest.split_once(':').unwrap_or((rest, ""));
+fn event_of(alloc: Global, text: &str) -> Result<Event, RowError> {
+    let (name, rest) = halves_of(text);
+    let (attributes, count) = halves_of(rest);
+    let count = count_of(count)?;
     let name = String::from_str(alloc, name)?;
-    let attributes = attributes_of(alloc, attributes)?;
-    Ok(Event::new(name, Moment(8), attributes, count_of(count)))
+    Ok(Event::new(name, Moment(8), attributes_of(alloc, attributes)?, count))
 }
 
 /// The link of `KEY=VALUE,..:COUNT`, of which both may be absent. It points to the empty span context.
-fn link_of(alloc: Global, text: &str) -> Result<Link, AllocError> {
-    let (attributes, count) = text.split_once(':').unwrap_or((text, ""));
+fn link_of(alloc: Global, text: &str) -> Result<Link, RowError> {
+    let (attributes, count) = halves_of(text);
+    let count = count_of(count)?;
     let attributes = attributes_of(alloc, attributes)?;
-    Ok(Link::new(SpanContext::empty_context(), attributes, count_of(count)))
+    Ok(Link::new(SpanContext::empty_context(), attributes, count))
 }
 
-/// The number that a text writes; zero where it writes none.
-fn count_of(text: &str) -> u32 {
-    text.parse::<u32>().unwrap_or(0)
-}
-
-/// The status of `ok`, `error:TEXT` or `unset`.
-fn status_of(alloc: Global, text: &str) -> Result<Status, AllocError> {
-    let (word, description) = text.split_once(':').unwrap_or((text, ""));
-    match word {
-        "ok" => Ok(Status::Ok),
-        "error" => Ok(Status::Error {
-            description: String::from_str(alloc, description)?,
-        }),
-        _ => Ok(Status::Unset),
+/// The number that a text writes; zero where it is empty.
+fn count_of(text: &str) -> Result<u32, RowError> {
+    if text.is_empty() {
+        return Ok(0);
     }
+    small_number_of(text)
 }
 
 /// Makes an edit: one that brings a count as a value, the others by their own calls.
@@ -348,22 +369,23 @@ fn show_attributes(
 
 /// `start SAMPLER CONTEXT TRACESTATE`: starts a span in a context and another one as a root, and shows who the first
 /// one is, whether it records, the trace state that goes on from it, and the span id of the second one.
-fn answer_start(alloc: Global, row: &Row, out: &mut String) -> Result<(), AllocError> {
+fn answer_start(alloc: Global, row: &Row, out: &mut String) -> Result<(), RowError> {
     let cx = context_of(alloc, row)?;
     let sampler = sampler_of(alloc, row.field(0))?;
     let mut provider = provider_of(alloc, SpanLimits::default(), sampler)?;
     let shown = show_starts(alloc, &cx, &mut provider, out);
     let _ = provider.close();
-    shown
+    Ok(shown?)
 }
 
-/// The sampler of this name; one that samples every span where none has it.
-fn sampler_of(alloc: Global, name: &str) -> Result<TraceSampler, AllocError> {
+/// The sampler of this name.
+fn sampler_of(alloc: Global, name: &str) -> Result<TraceSampler, RowError> {
     match name {
+        "always_on" => Ok(SamplerOf::AlwaysOn),
         "always_off" => Ok(SamplerOf::AlwaysOff),
-        "parentbased_always_on" => parent_based(alloc, SamplerOf::AlwaysOn),
-        "parentbased_always_off" => parent_based(alloc, SamplerOf::AlwaysOff),
-        _ => Ok(SamplerOf::AlwaysOn),
+        "parentbased_always_on" => Ok(parent_based(alloc, SamplerOf::AlwaysOn)?),
+        "parentbased_always_off" => Ok(parent_based(alloc, SamplerOf::AlwaysOff)?),
+        _ => Err(RowError::Field),
     }
 }
 
@@ -371,13 +393,23 @@ fn parent_based(alloc: Global, delegate: SamplerOf<NoSampler>) -> Result<TraceSa
     Ok(SamplerOf::ParentBased(Box::new(alloc, delegate)?))
 }
 
-/// The context of a field: `empty`, in which the empty span context is active, `suppressed`, in which telemetry is, or
-/// that which a `traceparent` says, with a `tracestate` in the next field; in any other nothing is active.
-fn context_of(alloc: Global, row: &Row) -> Result<Context, AllocError> {
+/// The context of a field: `-`, in which nothing is active, `empty`, in which the empty span context is, `suppressed`,
+/// in which telemetry is, or that which a `traceparent` says, with a `tracestate` in the next field.
+fn context_of(alloc: Global, row: &Row) -> Result<Context, RowError> {
     match row.field(1) {
-        "empty" => Context::new().with_span_context(SpanContext::empty_context()),
-        "suppressed" => Context::new().with_telemetry_suppressed(),
-        _ => received(alloc, row),
+        "-" => Ok(Context::new()),
+        "empty" => Ok(Context::new().with_span_context(SpanContext::empty_context())?),
+        "suppressed" => Ok(Context::new().with_telemetry_suppressed()?),
+        _ => said(received(alloc, row)?),
+    }
+}
+
+/// The context, if a span is active in it.
+fn said(cx: Context) -> Result<Context, RowError> {
+    if cx.has_active_span() {
+        Ok(cx)
+    } else {
+        Err(RowError::Field)
     }
 }
 

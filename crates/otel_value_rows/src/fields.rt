@@ -1,8 +1,28 @@
 //! A row's fields. In a field `\s` is a space, `\t` a tab, `\n` a line feed, `\r` a carriage return, `\b` a backslash,
 //! `\e` nothing, and `\N.` the byte of the number N. `\{N*TEXT}` is TEXT N times, where `#` is the number of the time,
-//! from 0, in three digits. A field `-` alone is none.
+//! from 0, in three digits. A field `-` alone is none. What is written otherwise makes its row a bad one.
 
-use std::alloc::{AllocError, Global};
+use std::alloc::{AllocError, AllocFailed, Global};
+
+/// Why a row has no answer.
+#[derive(Drop)]
+pub enum RowError {
+    /// A field says none of what it may say.
+    Field,
+    Memory,
+}
+
+impl From<AllocError> for RowError {
+    fn from(_error: AllocError) -> RowError {
+        RowError::Memory
+    }
+}
+
+impl<T: Drop> From<AllocFailed<T>> for RowError {
+    fn from(_failed: AllocFailed<T>) -> RowError {
+        RowError::Memory
+    }
+}
 
 /// A line: its word and the fields behind it.
 #[derive(Drop)]
@@ -38,14 +58,29 @@ impl Row {
         }
     }
 
-    /// The number that a field writes; zero where it writes none.
-    pub fn number(&self, i: usize) -> u64 {
-        self.field(i).parse::<u64>().unwrap_or(0)
+    /// The number that a field writes.
+    pub fn number(&self, i: usize) -> Result<u64, RowError> {
+        number_of(self.field(i))
     }
 }
 
+/// The number that a text writes.
+pub fn number_of(text: &str) -> Result<u64, RowError> {
+    text.parse::<u64>().or(Err(RowError::Field))
+}
+
+/// The same below 2^32.
+pub fn small_number_of(text: &str) -> Result<u32, RowError> {
+    text.parse::<u32>().or(Err(RowError::Field))
+}
+
+/// What stands around the first equals sign of a text.
+pub fn pair_of(text: &str) -> Result<(&str, &str), RowError> {
+    text.split_once('=').ok_or(RowError::Field)
+}
+
 /// The row of a line.
-pub fn row_of(alloc: Global, line: &str) -> Result<Row, AllocError> {
+pub fn row_of(alloc: Global, line: &str) -> Result<Row, RowError> {
     let mut word = String::new(alloc);
     let mut fields = Vec::new(alloc);
     for (i, part) in line.split(' ').enumerate() {
@@ -55,6 +90,16 @@ pub fn row_of(alloc: Global, line: &str) -> Result<Row, AllocError> {
             fields.push(text_of(alloc, part)?)?;
         }
     }
+    Ok(Row { word, fields })
+}
+
+/// The parts of a text, between slashes, as the fields of a row without a word.
+pub fn parts_of(alloc: Global, text: &str) -> Result<Row, AllocError> {
+    let mut fields = Vec::new(alloc);
+    for part in text.split('/') {
+        fields.push(String::from_str(alloc, part)?)?;
+    }
+    let word = String::new(alloc);
     Ok(Row { word, fields })
 }
 
@@ -68,18 +113,15 @@ pub fn put_short(out: &mut String, text: &str) -> Result<(), AllocError> {
     }
 }
 
-/// The text that a field writes; what is no text is left out.
-pub fn text_of(alloc: Global, field: &str) -> Result<String, AllocError> {
+/// The text that a field writes.
+fn text_of(alloc: Global, field: &str) -> Result<String, RowError> {
     let mut bytes = Vec::new(alloc);
     push_bytes(alloc, &mut bytes, field)?;
-    match String::from_utf8(bytes) {
-        Ok(text) => Ok(text),
-        Err(_) => Ok(String::new(alloc)),
-    }
+    String::from_utf8(bytes).or(Err(RowError::Field))
 }
 
 /// Puts the bytes that a field writes behind others.
-pub fn push_bytes(alloc: Global, bytes: &mut Vec<u8>, field: &str) -> Result<(), AllocError> {
+pub fn push_bytes(alloc: Global, bytes: &mut Vec<u8>, field: &str) -> Result<(), RowError> {
     for (i, part) in field.split('\\').enumerate() {
         if i == 0 {
             bytes.extend_from_slice(part.as_bytes())?;
@@ -91,7 +133,7 @@ pub fn push_bytes(alloc: Global, bytes: &mut Vec<u8>, field: &str) -> Result<(),
 }
 
 /// Puts what stands behind a backslash behind other bytes.
-fn push_escaped(alloc: Global, bytes: &mut Vec<u8>, part: &str) -> Result<(), AllocError> {
+fn push_escaped(alloc: Global, bytes: &mut Vec<u8>, part: &str) -> Result<(), RowError> {
     let rest = if let Some(rest) = part.strip_prefix('s') {
         bytes.push(b' ')?;
         rest
@@ -114,15 +156,14 @@ fn push_escaped(alloc: Global, bytes: &mut Vec<u8>, part: &str) -> Result<(), Al
     } else {
         push_numbered(bytes, part)?
     };
-    bytes.extend_from_slice(rest.as_bytes())
+    bytes.extend_from_slice(rest.as_bytes())?;
+    Ok(())
 }
 
 /// Puts the byte of a number that ends in a point behind other bytes, and gives the rest.
-fn push_numbered<'a>(bytes: &mut Vec<u8>, part: &'a str) -> Result<&'a str, AllocError> {
-    let Some((number, rest)) = part.split_once('.') else {
-        return Ok(part);
-    };
-    bytes.push(number.parse::<u8>().unwrap_or(0))?;
+fn push_numbered<'a>(bytes: &mut Vec<u8>, part: &'a str) -> Result<&'a str, RowError> {
+    let (number, rest) = part.split_once('.').ok_or(RowError::Field)?;
+    bytes.push(number.parse::<u8>().or(Err(RowError::Field))?)?;
     Ok(rest)
 }
 
@@ -131,14 +172,10 @@ fn push_repeated<'a>(
     alloc: Global,
     bytes: &mut Vec<u8>,
     part: &'a str,
-) -> Result<&'a str, AllocError> {
-    let Some((repeated, rest)) = part.split_once('}') else {
-        return Ok(part);
-    };
-    let Some((times, text)) = repeated.split_once('*') else {
-        return Ok(rest);
-    };
-    for time in 0..times.parse::<u32>().unwrap_or(0) {
+) -> Result<&'a str, RowError> {
+    let (repeated, rest) = part.split_once('}').ok_or(RowError::Field)?;
+    let (times, text) = repeated.split_once('*').ok_or(RowError::Field)?;
+    for time in 0..small_number_of(times)? {
         push_time(alloc, bytes, text, time)?;
     }
     Ok(rest)

@@ -4,13 +4,13 @@ mod baggage;
 mod both;
 mod trace;
 
-use crate::fields::Row;
+use crate::fields::{Row, RowError};
 use opentelemetry::Context;
 use opentelemetry::propagation::{Extractor, Injector, MapCarrier};
 use std::alloc::{AllocError, Global};
 
 /// Answers a row whose word is one of these; false where it is none.
-pub fn answer(alloc: Global, row: &Row, out: &mut String) -> Result<bool, AllocError> {
+pub fn answer(alloc: Global, row: &Row, out: &mut String) -> Result<bool, RowError> {
     Ok(
         trace::answer(alloc, row, out)?
             || baggage::answer(alloc, row, out)?

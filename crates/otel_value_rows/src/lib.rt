@@ -7,11 +7,12 @@ mod headers;
 mod sdk;
 mod values;
 
-use fields::Row;
-use std::alloc::{AllocError, Global};
+use fields::{Row, RowError};
+use std::alloc::Global;
+pub use values::status_of;
 
 /// Answers a row whose word is one of these; false where it is none.
-pub fn answer(alloc: Global, row: &Row, out: &mut String) -> Result<bool, AllocError> {
+pub fn answer(alloc: Global, row: &Row, out: &mut String) -> Result<bool, RowError> {
     Ok(
         values::answer(alloc, row, out)?
             || headers::answer(alloc, row, out)?

@@ -7,11 +7,11 @@ mod ids;
 mod resource;
 mod sampling;
 
-use crate::fields::Row;
-use std::alloc::{AllocError, Global};
+use crate::fields::{Row, RowError};
+use std::alloc::Global;
 
 /// Answers a row whose word is one of these; false where it is none.
-pub fn answer(alloc: Global, row: &Row, out: &mut String) -> Result<bool, AllocError> {
+pub fn answer(alloc: Global, row: &Row, out: &mut String) -> Result<bool, RowError> {
     Ok(
         resource::answer(alloc, row, out)?
             || sampling::answer(alloc, row, out)?
@@ -21,7 +21,7 @@ pub fn answer(alloc: Global, row: &Row, out: &mut String) -> Result<bool, AllocE
 }
 
 /// The same of the words that make a text of numbers and names alone.
-fn values_answer(alloc: Global, row: &Row, out: &mut String) -> Result<bool, AllocError> {
+fn values_answer(alloc: Global, row: &Row, out: &mut String) -> Result<bool, RowError> {
     Ok(
         batch::answer(alloc, row, out)?
             || errors::answer(alloc, row, out)?

@@ -4,23 +4,26 @@ mod attributes;
 mod baggages;
 mod carriers;
 mod contexts;
+mod equality;
 mod ids;
 mod spans;
 mod states;
 
-use crate::fields::Row;
+use crate::fields::{Row, RowError};
+pub use attributes::{integer_of, integers_of, truth_of};
 pub use baggages::{baggage_of, put_entries};
-pub use spans::put_span;
+pub use ids::numbered_flags_of;
+pub use spans::{put_span, status_of};
 pub use states::state_of;
-use std::alloc::{AllocError, Global};
+use std::alloc::Global;
 
 /// Answers a row whose word is one of these; false where it is none.
-pub fn answer(alloc: Global, row: &Row, out: &mut String) -> Result<bool, AllocError> {
+pub fn answer(alloc: Global, row: &Row, out: &mut String) -> Result<bool, RowError> {
     Ok(answer_text(alloc, row, out)? || answer_whole(alloc, row, out)?)
 }
 
 /// Answers a row that asks of texts and of what stands at their ends.
-fn answer_text(alloc: Global, row: &Row, out: &mut String) -> Result<bool, AllocError> {
+fn answer_text(alloc: Global, row: &Row, out: &mut String) -> Result<bool, RowError> {
     Ok(
         ids::answer(row, out)?
             || attributes::answer(alloc, row, out)?
@@ -29,11 +32,12 @@ fn answer_text(alloc: Global, row: &Row, out: &mut String) -> Result<bool, Alloc
 }
 
 /// Answers a row that asks of values that have others in them.
-fn answer_whole(alloc: Global, row: &Row, out: &mut String) -> Result<bool, AllocError> {
+fn answer_whole(alloc: Global, row: &Row, out: &mut String) -> Result<bool, RowError> {
     Ok(
         baggages::answer(alloc, row, out)?
             || carriers::answer(alloc, row, out)?
             || spans::answer(alloc, row, out)?
-            || contexts::answer(alloc, row, out)?,
+            || contexts::answer(alloc, row, out)?
+            || equality::answer(alloc, row, out)?,
     )
 }

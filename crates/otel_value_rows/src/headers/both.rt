@@ -2,7 +2,7 @@
 
 use super::trace::{carrier_of, context_of};
 use super::{put_active, set_given, text_at};
-use crate::fields::Row;
+use crate::fields::{Row, RowError};
 use crate::values::{baggage_of, put_entries};
 use opentelemetry::Context;
 use opentelemetry::propagation::{FieldIter, MapCarrier, TextMapPropagator};
@@ -15,12 +15,12 @@ use std::alloc::{AllocError, Global};
 type BuiltIn = CompositePropagator<TraceContextPropagator, BaggagePropagator>;
 
 /// Answers a row whose word is one of these; false where it is none.
-pub fn answer(alloc: Global, row: &Row, out: &mut String) -> Result<bool, AllocError> {
+pub fn answer(alloc: Global, row: &Row, out: &mut String) -> Result<bool, RowError> {
     match row.word.as_str() {
         "inject-all" => put_injected(&injected(alloc, row)?, out)?,
         "cross-all" => put_crossed(alloc, row, out)?,
         "extract-all" => put_extracted(alloc, row, out)?,
-        "header-names" => put_names(fields_of(row.field(0)), out)?,
+        "header-names" => put_names(fields_of(row.field(0))?, out)?,
         "header-names-error" => put_error(FieldsError, out)?,
         _ => return Ok(false),
     }
@@ -28,13 +28,13 @@ pub fn answer(alloc: Global, row: &Row, out: &mut String) -> Result<bool, AllocE
 }
 
 /// A context with a span of four fields and the baggage of a fifth.
-fn context_of_both(alloc: Global, row: &Row) -> Result<Context, AllocError> {
+fn context_of_both(alloc: Global, row: &Row) -> Result<Context, RowError> {
     let cx = context_of(alloc, row)?;
-    cx.with_baggage(baggage_of(alloc, row.field(4))?)
+    Ok(cx.with_baggage(baggage_of(alloc, row.field(4))?)?)
 }
 
 /// What a carrier has of it.
-fn injected(alloc: Global, row: &Row) -> Result<MapCarrier, AllocError> {
+fn injected(alloc: Global, row: &Row) -> Result<MapCarrier, RowError> {
     let cx = context_of_both(alloc, row)?;
     let mut carrier = MapCarrier::new(alloc);
     BuiltIn::default().inject_context(alloc, &cx, &mut carrier)?;
@@ -63,24 +63,27 @@ fn put_read(
 }
 
 /// Puts out the entries and the span that the other side has.
-fn put_crossed(alloc: Global, row: &Row, out: &mut String) -> Result<(), AllocError> {
+fn put_crossed(alloc: Global, row: &Row, out: &mut String) -> Result<(), RowError> {
     let carrier = injected(alloc, row)?;
-    put_read(alloc, &Context::new(), &carrier, out)
+    put_read(alloc, &Context::new(), &carrier, out)?;
+    Ok(())
 }
 
 /// Puts out what a context with both has once the headers of three further fields were read over it.
-fn put_extracted(alloc: Global, row: &Row, out: &mut String) -> Result<(), AllocError> {
+fn put_extracted(alloc: Global, row: &Row, out: &mut String) -> Result<(), RowError> {
     let mut carrier = carrier_of(alloc, row.given(5), row.given(6))?;
     set_given(alloc, &mut carrier, "baggage", row.given(7))?;
-    put_read(alloc, &context_of_both(alloc, row)?, &carrier, out)
+    put_read(alloc, &context_of_both(alloc, row)?, &carrier, out)?;
+    Ok(())
 }
 
 /// The names of the headers of the propagator of a name.
-fn fields_of(name: &str) -> FieldIter {
+fn fields_of(name: &str) -> Result<FieldIter, RowError> {
     match name {
-        "trace-context" => TraceContextPropagator::new().fields(),
-        "baggage" => BaggagePropagator::new().fields(),
-        _ => BuiltIn::default().fields(),
+        "trace-context" => Ok(TraceContextPropagator::new().fields()),
+        "baggage" => Ok(BaggagePropagator::new().fields()),
+        "built-in" => Ok(BuiltIn::default().fields()),
+        _ => Err(RowError::Field),
     }
 }
 

@@ -2,12 +2,12 @@
 
 use super::resource::{push_resource, strings_of};
 use super::sampling::push_ratio;
-use crate::fields::Row;
+use crate::fields::{Row, RowError};
 use otel_base::trace::{Config, ConfigStrings, Sampler};
 use std::alloc::{AllocError, Global};
 
 /// Answers a row whose word is one of these; false where it is none.
-pub fn answer(alloc: Global, row: &Row, out: &mut String) -> Result<bool, AllocError> {
+pub fn answer(alloc: Global, row: &Row, out: &mut String) -> Result<bool, RowError> {
     match row.word.as_str() {
         "config-limits" => push_limits(alloc, row, out)?,
         "config-sampler" => push_configured_sampler(alloc, row, out)?,

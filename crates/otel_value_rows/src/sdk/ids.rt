@@ -1,15 +1,14 @@
 //! The ids that the SDK's generator draws.
 
-use crate::fields::Row;
+use crate::fields::{Row, RowError};
 use otel_base::trace::{IdGenerator, IdSource, RandomIdGenerator};
-use std::alloc::AllocError;
 
 /// Answers a row whose word is one of these; false where it is none.
-pub fn answer(row: &Row, out: &mut String) -> Result<bool, AllocError> {
+pub fn answer(row: &Row, out: &mut String) -> Result<bool, RowError> {
     if row.word.as_str() != "ids" {
         return Ok(false);
     }
-    let mut source = IdSource::Random(RandomIdGenerator::new(row.number(0)));
+    let mut source = IdSource::Random(RandomIdGenerator::new(row.number(0)?));
     for (i, kind) in row.fields.iter().skip(1).enumerate() {
         if i > 0 {
             out.push(' ')?;
@@ -20,12 +19,17 @@ pub fn answer(row: &Row, out: &mut String) -> Result<bool, AllocError> {
 }
 
 /// The next id of a kind, `trace` or `span`.
-fn push_next(source: &mut IdSource, kind: &str, out: &mut String) -> Result<(), AllocError> {
-    if kind == "trace" {
-        let trace_id = source.new_trace_id();
-        write!(out, "{trace_id}")
-    } else {
-        let span_id = source.new_span_id();
-        write!(out, "{span_id}")
+fn push_next(source: &mut IdSource, kind: &str, out: &mut String) -> Result<(), RowError> {
+    match kind {
+        "trace" => {
+            let trace_id = source.new_trace_id();
+            write!(out, "{trace_id}")?;
+        }
+        "span" => {
+            let span_id = source.new_span_id();
+            write!(out, "{span_id}")?;
+        }
+        _ => return Err(RowError::Field),
     }
+    Ok(())
 }

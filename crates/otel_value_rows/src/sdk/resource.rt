@@ -2,7 +2,8 @@
 //! then its schema. A value is a text; `bool:true`, `i64:7` and `i64s:1,2` are values of other kinds. Pairs are written
 //! as `key=value;key=value;`.
 
-use crate::fields::Row;
+use crate::fields::{Row, RowError, pair_of};
+use crate::values::{integer_of, integers_of, truth_of};
 use opentelemetry::{Array, Key, KeyValue, Value};
 use otel_base::resource::{
     EnvResourceDetector, Resource, ResourceBuilder, ResourceDetector, ResourceStrings,
@@ -11,7 +12,7 @@ use otel_base::resource::{
 use std::alloc::{AllocError, Global};
 
 /// Answers a row whose word is one of these; false where it is none.
-pub fn answer(alloc: Global, row: &Row, out: &mut String) -> Result<bool, AllocError> {
+pub fn answer(alloc: Global, row: &Row, out: &mut String) -> Result<bool, RowError> {
     match row.word.as_str() {
         "resource" => push_built(alloc, row, out)?,
         "sdk-detector" => push_sdk(alloc, row, out)?,
@@ -99,7 +100,7 @@ struct Builders {
 }
 
 /// What the steps of a row's fields make, from this field on.
-fn builders_of(alloc: Global, row: &Row, first: usize) -> Result<Builders, AllocError> {
+fn builders_of(alloc: Global, row: &Row, first: usize) -> Result<Builders, RowError> {
     let mut builders = Builders {
         current: Resource::builder_empty(alloc),
         aside: Vec::new(alloc),
@@ -111,17 +112,14 @@ fn builders_of(alloc: Global, row: &Row, first: usize) -> Result<Builders, Alloc
 }
 
 /// `new` sets the builder aside for an empty one, and `merge` merges it over the one that was set aside last.
-fn stepped(alloc: Global, builders: Builders, step: &str) -> Result<Builders, AllocError> {
+fn stepped(alloc: Global, builders: Builders, step: &str) -> Result<Builders, RowError> {
     let Builders { current, mut aside } = builders;
     let current = match step {
         "new" => {
             aside.push(current)?;
             Resource::builder_empty(alloc)
         }
-        "merge" => match aside.pop() {
-            Some(first) => merged(alloc, first, current)?,
-            None => current,
-        },
+        "merge" => merged(alloc, aside.pop().ok_or(RowError::Field)?, current)?,
         _ => changed(alloc, current, step)?,
     };
     Ok(Builders { current, aside })
@@ -147,18 +145,16 @@ fn changed(
     alloc: Global,
     builder: ResourceBuilder,
     step: &str,
-) -> Result<ResourceBuilder, AllocError> {
-    let Some((name, text)) = step.split_once(':') else {
-        return Ok(builder);
-    };
+) -> Result<ResourceBuilder, RowError> {
+    let (name, text) = step.split_once(':').ok_or(RowError::Field)?;
     match name {
-        "attributes" => builder.with_attributes(pairs_of(alloc, text)?),
+        "attributes" => Ok(builder.with_attributes(pairs_of(alloc, text)?)?),
         "each" => with_each(alloc, builder, text),
-        "service-name" => builder.with_service_name(value_of(alloc, text)?),
+        "service-name" => Ok(builder.with_service_name(value_of(alloc, text)?)?),
         "schema" => under_schema(alloc, builder, text),
-        "env" => with_env(alloc, builder, text),
-        "envs" => with_envs(alloc, builder, text),
-        _ => Ok(builder),
+        "env" => Ok(with_env(alloc, builder, text)?),
+        "envs" => Ok(with_envs(alloc, builder, text)?),
+        _ => Err(RowError::Field),
     }
 }
 
@@ -166,7 +162,7 @@ fn with_each(
     alloc: Global,
     mut builder: ResourceBuilder,
     text: &str,
-) -> Result<ResourceBuilder, AllocError> {
+) -> Result<ResourceBuilder, RowError> {
     for pair in pairs_of(alloc, text)? {
         builder = builder.with_attribute(pair)?;
     }
@@ -178,10 +174,10 @@ fn under_schema(
     alloc: Global,
     builder: ResourceBuilder,
     text: &str,
-) -> Result<ResourceBuilder, AllocError> {
+) -> Result<ResourceBuilder, RowError> {
     let (schema, pairs) = text.split_once('|').unwrap_or((text, ""));
     let pairs = pairs_of(alloc, pairs)?;
-    builder.with_schema_url(pairs, String::from_str(alloc, schema)?)
+    Ok(builder.with_schema_url(pairs, String::from_str(alloc, schema)?)?)
 }
 
 /// The detector of an attributes string.
@@ -215,11 +211,12 @@ fn with_envs(
     builder.with_detectors(&detectors)
 }
 
-/// The pairs that a text writes; what has no equals sign is none.
-fn pairs_of(alloc: Global, text: &str) -> Result<Vec<KeyValue>, AllocError> {
+/// The pairs that a text writes.
+fn pairs_of(alloc: Global, text: &str) -> Result<Vec<KeyValue>, RowError> {
     let mut pairs = Vec::new(alloc);
     for part in text.split(';') {
-        if let Some((key, value)) = part.split_once('=') {
+        if !part.is_empty() {
+            let (key, value) = pair_of(part)?;
             let key = Key::new(String::from_str(alloc, key)?);
             pairs.push(KeyValue::new(key, value_of(alloc, value)?))?;
         }
@@ -227,50 +224,43 @@ fn pairs_of(alloc: Global, text: &str) -> Result<Vec<KeyValue>, AllocError> {
     Ok(pairs)
 }
 
-fn value_of(alloc: Global, text: &str) -> Result<Value, AllocError> {
+fn value_of(alloc: Global, text: &str) -> Result<Value, RowError> {
     if let Some(truth) = text.strip_prefix("bool:") {
-        Ok(Value::Bool(truth == "true"))
+        Ok(Value::Bool(truth_of(truth)?))
     } else if let Some(number) = text.strip_prefix("i64:") {
-        Ok(Value::I64(number.parse::<i64>().unwrap_or(0)))
+        Ok(Value::I64(integer_of(number)?))
     } else if let Some(numbers) = text.strip_prefix("i64s:") {
-        Ok(Value::Array(Array::I64(numbers_of(alloc, numbers)?)))
+        Ok(Value::Array(Array::I64(integers_of(alloc, numbers)?)))
     } else {
         Ok(Value::String(String::from_str(alloc, text)?))
     }
 }
 
-fn numbers_of(alloc: Global, text: &str) -> Result<Vec<i64>, AllocError> {
-    let mut numbers = Vec::new(alloc);
-    for number in text.split(',') {
-        numbers.push(number.parse::<i64>().unwrap_or(0))?;
-    }
-    Ok(numbers)
-}
-
-fn push_stepped(alloc: Global, row: &Row, out: &mut String) -> Result<(), AllocError> {
+fn push_stepped(alloc: Global, row: &Row, out: &mut String) -> Result<(), RowError> {
     let built = builders_of(alloc, row, 0)?;
-    push_resource(&built.current.build(), out)
+    push_resource(&built.current.build(), out)?;
+    Ok(())
 }
 
 /// The value of the key in front of the steps.
-fn push_got(alloc: Global, row: &Row, out: &mut String) -> Result<(), AllocError> {
+fn push_got(alloc: Global, row: &Row, out: &mut String) -> Result<(), RowError> {
     let key = Key::new(String::from_str(alloc, row.field(0))?);
     let resource = builders_of(alloc, row, 1)?.current.build();
     match resource.get(&key)? {
-        Some(value) => push_value(&value, out),
-        None => out.push_str("none"),
+        Some(value) => push_value(&value, out)?,
+        None => out.push_str("none")?,
     }
+    Ok(())
 }
 
 /// Whether what the steps make is the same as what they set aside.
-fn push_equal(alloc: Global, row: &Row, out: &mut String) -> Result<(), AllocError> {
+fn push_equal(alloc: Global, row: &Row, out: &mut String) -> Result<(), RowError> {
     let Builders { current, mut aside } = builders_of(alloc, row, 0)?;
-    let Some(other) = aside.pop() else {
-        return out.push_str("nothing set aside");
-    };
+    let other = aside.pop().ok_or(RowError::Field)?;
     out.push_str(if other.build() == current.build() {
         "same"
     } else {
         "different"
-    })
+    })?;
+    Ok(())
 }

@@ -1,7 +1,7 @@
 //! Ratios, and what samplers decide.
 
 use super::config::sampler_strings;
-use crate::fields::Row;
+use crate::fields::{Row, RowError, number_of};
 use opentelemetry::trace::{SpanContext, SpanKind, TraceState};
 use opentelemetry::{Context, SpanId, TraceFlags, TraceId};
 use otel_base::trace::{
@@ -10,7 +10,7 @@ use otel_base::trace::{
 use std::alloc::{AllocError, Global};
 
 /// Answers a row whose word is one of these; false where it is none.
-pub fn answer(alloc: Global, row: &Row, out: &mut String) -> Result<bool, AllocError> {
+pub fn answer(alloc: Global, row: &Row, out: &mut String) -> Result<bool, RowError> {
     match row.word.as_str() {
         "ratio" => push_read_ratio(row, out)?,
         "ratio-of" => push_made_ratio(row, out)?,
@@ -29,11 +29,12 @@ fn push_read_ratio(row: &Row, out: &mut String) -> Result<(), AllocError> {
     }
 }
 
-fn push_made_ratio(row: &Row, out: &mut String) -> Result<(), AllocError> {
-    match Ratio::new(row.number(0), row.number(1)) {
-        Ok(ratio) => push_ratio(&ratio, out),
-        Err(RatioError::ZeroDenominator) => out.push_str("ZeroDenominator"),
+fn push_made_ratio(row: &Row, out: &mut String) -> Result<(), RowError> {
+    match Ratio::new(row.number(0)?, row.number(1)?) {
+        Ok(ratio) => push_ratio(&ratio, out)?,
+        Err(RatioError::ZeroDenominator) => out.push_str("ZeroDenominator")?,
     }
+    Ok(())
 }
 
 /// Shows a ratio.
@@ -45,21 +46,17 @@ pub fn push_ratio(ratio: &Ratio, out: &mut String) -> Result<(), AllocError> {
 }
 
 /// What a ratio decides on a trace.
-fn push_samples(row: &Row, out: &mut String) -> Result<(), AllocError> {
-    let Ok(ratio) = Ratio::new(row.number(0), row.number(1)) else {
-        return out.push_str("ZeroDenominator");
-    };
+fn push_samples(row: &Row, out: &mut String) -> Result<(), RowError> {
+    let ratio = Ratio::new(row.number(0)?, row.number(1)?).or(Err(RowError::Field))?;
     let sampler = Sampler::TraceIdRatioBased(ratio);
-    let answer = ask(&sampler, None, trace_of(row.field(2)))?;
-    out.push_str(decision_name(answer.decision))
+    let answer = ask(&sampler, None, trace_of(row.field(2))?)?;
+    out.push_str(decision_name(answer.decision))?;
+    Ok(())
 }
 
-/// The trace id of a text, and the invalid one where it writes none.
-fn trace_of(text: &str) -> TraceId {
-    match TraceId::from_hex(text) {
-        Ok(trace_id) => trace_id,
-        Err(_) => TraceId::INVALID,
-    }
+/// The trace id of a text.
+fn trace_of(text: &str) -> Result<TraceId, RowError> {
+    TraceId::from_hex(text).or(Err(RowError::Field))
 }
 
 fn ask(
@@ -85,18 +82,31 @@ fn push_sampled(
     row: &Row,
     is_copied: bool,
     out: &mut String,
-) -> Result<(), AllocError> {
-    let strings = sampler_strings(alloc, row)?;
-    let mut sampler = Config::from_strings(alloc, &strings, 0)?.sampler;
-    for _ in 0..row.number(4) {
-        sampler = Sampler::ParentBased(Box::new(alloc, sampler)?);
-    }
+) -> Result<(), RowError> {
+    let sampler = sampler_of(alloc, row)?;
     if !is_copied {
         return push_answer(alloc, &sampler, row, out);
     }
     match sampler.try_clone()? {
         Some(copy) => push_answer(alloc, &copy, row, out),
-        None => out.push_str("no copy"),
+        None => Ok(out.push_str("no copy")?),
+    }
+}
+
+/// The sampler that the first two fields configure, below as many as the fifth says, where it is there.
+fn sampler_of(alloc: Global, row: &Row) -> Result<Sampler, RowError> {
+    let strings = sampler_strings(alloc, row)?;
+    let mut sampler = Config::from_strings(alloc, &strings, 0)?.sampler;
+    for _ in 0..depth_of(row)? {
+        sampler = Sampler::ParentBased(Box::new(alloc, sampler)?);
+    }
+    Ok(sampler)
+}
+
+fn depth_of(row: &Row) -> Result<u64, RowError> {
+    match row.fields.get(4) {
+        Some(depth) => number_of(depth.as_str()),
+        None => Ok(0),
     }
 }
 
@@ -106,10 +116,11 @@ fn push_answer(
     sampler: &Sampler,
     row: &Row,
     out: &mut String,
-) -> Result<(), AllocError> {
+) -> Result<(), RowError> {
     let parent = parent_of(alloc, row.field(2))?;
-    let answer = ask(sampler, parent.as_ref(), trace_of(row.field(3)))?;
-    push_result(alloc, &answer, out)
+    let answer = ask(sampler, parent.as_ref(), trace_of(row.field(3))?)?;
+    push_result(alloc, &answer, out)?;
+    Ok(())
 }
 
 fn push_result(alloc: Global, answer: &SamplingResult, out: &mut String) -> Result<(), AllocError> {
@@ -128,13 +139,14 @@ fn push_result(alloc: Global, answer: &SamplingResult, out: &mut String) -> Resu
 }
 
 /// The context that a span starts in.
-fn parent_of(alloc: Global, name: &str) -> Result<Option<Context>, AllocError> {
+fn parent_of(alloc: Global, name: &str) -> Result<Option<Context>, RowError> {
     match name {
+        "root" => Ok(None),
         "no-span" => Ok(Some(Context::new())),
-        "empty" => under(SpanContext::empty_context()),
-        "sampled" => under(remote_span(alloc, TraceFlags::SAMPLED)?),
-        "unsampled" => under(remote_span(alloc, TraceFlags::new(0xfe))?),
-        _ => Ok(None),
+        "empty" => Ok(under(SpanContext::empty_context())?),
+        "sampled" => Ok(under(remote_span(alloc, TraceFlags::SAMPLED)?)?),
+        "unsampled" => Ok(under(remote_span(alloc, TraceFlags::new(0xfe))?)?),
+        _ => Err(RowError::Field),
     }
 }
 

@@ -1,12 +1,12 @@
 //! Keys, attributes and their values.
 
-use crate::fields::Row;
+use crate::fields::{Row, RowError};
 use opentelemetry::{Array, Key, KeyValue, Value};
 use std::alloc::{AllocError, Global};
 use std::hash::{DefaultHasher, Hash, Hasher};
 
 /// Answers a row whose word is one of these; false where it is none.
-pub fn answer(alloc: Global, row: &Row, out: &mut String) -> Result<bool, AllocError> {
+pub fn answer(alloc: Global, row: &Row, out: &mut String) -> Result<bool, RowError> {
     match row.word.as_str() {
         "key" => put_key(&key_of(alloc, row.field(0))?, out)?,
         "keys" => put_keys(alloc, row, out)?,
@@ -18,12 +18,13 @@ pub fn answer(alloc: Global, row: &Row, out: &mut String) -> Result<bool, AllocE
 }
 
 /// The key of a text. Behind a star stands the text of a constant.
-pub fn key_of(alloc: Global, text: &str) -> Result<Key, AllocError> {
+pub fn key_of(alloc: Global, text: &str) -> Result<Key, RowError> {
     match text {
         "*B" => Ok(Key::from_static_str("B")),
         "*a" => Ok(Key::from_static_str("a")),
         "*b" => Ok(Key::from_static_str("b")),
         "*a \"b\"" => Ok(Key::from_static_str("a \"b\"")),
+        _ if text.starts_with('*') => Err(RowError::Field),
         _ => Ok(Key::new(String::from_str(alloc, text)?)),
     }
 }
@@ -35,11 +36,12 @@ fn put_key(key: &Key, out: &mut String) -> Result<(), AllocError> {
 }
 
 /// Puts out how one key stands to another, and whether their hashes are the same.
-fn put_keys(alloc: Global, row: &Row, out: &mut String) -> Result<(), AllocError> {
+fn put_keys(alloc: Global, row: &Row, out: &mut String) -> Result<(), RowError> {
     let first = key_of(alloc, row.field(0))?;
     let second = key_of(alloc, row.field(1))?;
     out.push_str(order_of(first < second, first == second))?;
-    put_hashes(&first, &second, out)
+    put_hashes(&first, &second, out)?;
+    Ok(())
 }
 
 fn put_hashes(first: &Key, second: &Key, out: &mut String) -> Result<(), AllocError> {
@@ -67,37 +69,49 @@ pub fn order_of(is_less: bool, is_same: bool) -> &'static str {
 }
 
 /// The value of the kind that the field at a place names, whose items the field behind it has.
-fn value_of(alloc: Global, row: &Row, i: usize) -> Result<Value, AllocError> {
+fn value_of(alloc: Global, row: &Row, i: usize) -> Result<Value, RowError> {
     let text = row.field(i.saturating_add(1));
     match row.field(i) {
-        "bool" => Ok(Value::Bool(text == "true")),
-        "i64" => Ok(Value::I64(number_of(text))),
+        "bool" => Ok(Value::Bool(truth_of(text)?)),
+        "i64" => Ok(Value::I64(integer_of(text)?)),
         "string" => Ok(Value::String(String::from_str(alloc, text)?)),
-        "bools" => Ok(Value::Array(Array::Bool(bools_of(alloc, text)?))),
-        "i64s" => Ok(Value::Array(Array::I64(numbers_of(alloc, text)?))),
-        _ => Ok(Value::Array(Array::String(texts_of(alloc, text)?))),
+        "bools" => Ok(Value::Array(Array::Bool(truths_of(alloc, text)?))),
+        "i64s" => Ok(Value::Array(Array::I64(integers_of(alloc, text)?))),
+        "strings" => Ok(Value::Array(Array::String(texts_of(alloc, text)?))),
+        _ => Err(RowError::Field),
     }
 }
 
-fn number_of(text: &str) -> i64 {
-    text.parse::<i64>().unwrap_or(0)
+/// The truth value that a text writes.
+pub fn truth_of(text: &str) -> Result<bool, RowError> {
+    match text {
+        "true" => Ok(true),
+        "false" => Ok(false),
+        _ => Err(RowError::Field),
+    }
 }
 
-fn bools_of(alloc: Global, text: &str) -> Result<Vec<bool>, AllocError> {
+/// The integer that a text writes.
+pub fn integer_of(text: &str) -> Result<i64, RowError> {
+    text.parse::<i64>().or(Err(RowError::Field))
+}
+
+fn truths_of(alloc: Global, text: &str) -> Result<Vec<bool>, RowError> {
     let mut items = Vec::new(alloc);
     for item in text.split(',') {
         if !item.is_empty() {
-            items.push(item == "true")?;
+            items.push(truth_of(item)?)?;
         }
     }
     Ok(items)
 }
 
-fn numbers_of(alloc: Global, text: &str) -> Result<Vec<i64>, AllocError> {
+/// The integers that a text writes, with commas between them.
+pub fn integers_of(alloc: Global, text: &str) -> Result<Vec<i64>, RowError> {
     let mut items = Vec::new(alloc);
     for item in text.split(',') {
         if !item.is_empty() {
-            items.push(number_of(item))?;
+            items.push(integer_of(item)?)?;
         }
     }
     Ok(items)
@@ -120,14 +134,15 @@ fn put_value(value: &Value, out: &mut String) -> Result<(), AllocError> {
 }
 
 /// The attribute of three fields from a place on: its key, and its value's kind and items.
-fn attribute_of(alloc: Global, row: &Row, i: usize) -> Result<KeyValue, AllocError> {
+fn attribute_of(alloc: Global, row: &Row, i: usize) -> Result<KeyValue, RowError> {
     let key = key_of(alloc, row.field(i))?;
     Ok(KeyValue::new(key, value_of(alloc, row, i.saturating_add(1))?))
 }
 
 /// Puts out whether two attributes are the same.
-fn put_attributes(alloc: Global, row: &Row, out: &mut String) -> Result<(), AllocError> {
+fn put_attributes(alloc: Global, row: &Row, out: &mut String) -> Result<(), RowError> {
     let first = attribute_of(alloc, row, 0)?;
     let second = attribute_of(alloc, row, 3)?;
-    out.push_str(if first == second { "same" } else { "other" })
+    out.push_str(if first == second { "same" } else { "other" })?;
+    Ok(())
 }

@@ -1,11 +1,11 @@
 //! Baggages. Their entries are written as a list, `name=value|` or `name=value;metadata|` each.
 
-use crate::fields::{Row, put_short};
+use crate::fields::{Row, RowError, pair_of, put_short};
 use opentelemetry::baggage::{Baggage, BaggageError, BaggageMetadata};
 use std::alloc::{AllocError, Global};
 
 /// Answers a row whose word is one of these; false where it is none.
-pub fn answer(alloc: Global, row: &Row, out: &mut String) -> Result<bool, AllocError> {
+pub fn answer(alloc: Global, row: &Row, out: &mut String) -> Result<bool, RowError> {
     match row.word.as_str() {
         "baggage-insert" => put_inserted(alloc, row, out)?,
         "baggage-get" => put_found(alloc, row, out)?,
@@ -17,10 +17,11 @@ pub fn answer(alloc: Global, row: &Row, out: &mut String) -> Result<bool, AllocE
 }
 
 /// The baggage of a list. What its limits do not allow is left out.
-pub fn baggage_of(alloc: Global, list: &str) -> Result<Baggage, AllocError> {
+pub fn baggage_of(alloc: Global, list: &str) -> Result<Baggage, RowError> {
     let mut baggage = Baggage::new(alloc);
     for part in list.split('|') {
-        if let Some((name, rest)) = part.split_once('=') {
+        if !part.is_empty() {
+            let (name, rest) = pair_of(part)?;
             let (value, metadata) = halves_of(rest);
             insert_allowed(alloc, &mut baggage, name, value, metadata)?;
         }
@@ -91,12 +92,13 @@ fn put_counted(alloc: Global, baggage: &Baggage, out: &mut String) -> Result<(),
     put_entries(alloc, baggage, out)
 }
 
-fn put_inserted(alloc: Global, row: &Row, out: &mut String) -> Result<(), AllocError> {
+fn put_inserted(alloc: Global, row: &Row, out: &mut String) -> Result<(), RowError> {
     let mut baggage = baggage_of(alloc, row.field(0))?;
     let name = row.field(1);
     let outcome = inserted(alloc, &mut baggage, name, row.field(2), row.given(3));
     put_outcome(outcome, out)?;
-    put_counted(alloc, &baggage, out)
+    put_counted(alloc, &baggage, out)?;
+    Ok(())
 }
 
 fn put_outcome(
@@ -111,10 +113,11 @@ fn put_outcome(
 }
 
 /// Puts out what a copy of a baggage has under a name.
-fn put_found(alloc: Global, row: &Row, out: &mut String) -> Result<(), AllocError> {
+fn put_found(alloc: Global, row: &Row, out: &mut String) -> Result<(), RowError> {
     let baggage = baggage_of(alloc, row.field(0))?.clone()?;
     out.push_str(baggage.get(row.field(1)).unwrap_or("none"))?;
-    put_metadata(&baggage, row.field(1), out)
+    put_metadata(&baggage, row.field(1), out)?;
+    Ok(())
 }
 
 /// Puts out the metadata under a name where there is some.
@@ -131,14 +134,15 @@ fn put_metadata(baggage: &Baggage, name: &str, out: &mut String) -> Result<(), A
 }
 
 /// Puts out the value of each name that is taken out in turn, and what is left.
-fn put_removed(alloc: Global, row: &Row, out: &mut String) -> Result<(), AllocError> {
+fn put_removed(alloc: Global, row: &Row, out: &mut String) -> Result<(), RowError> {
     let mut baggage = baggage_of(alloc, row.field(0))?;
     for (i, name) in row.fields.iter().enumerate() {
         if i > 0 {
             put_value(baggage.remove(name.as_str()), out)?;
         }
     }
-    put_counted(alloc, &baggage, out)
+    put_counted(alloc, &baggage, out)?;
+    Ok(())
 }
 
 fn put_value(
@@ -152,10 +156,12 @@ fn put_value(
 }
 
 /// Puts out what an error says.
-fn put_error(name: &str, out: &mut String) -> Result<(), AllocError> {
+fn put_error(name: &str, out: &mut String) -> Result<(), RowError> {
     let error = match name {
         "Limit" => BaggageError::Limit,
-        _ => BaggageError::Memory,
+        "Memory" => BaggageError::Memory,
+        _ => return Err(RowError::Field),
     };
-    write!(out, "{error}")
+    write!(out, "{error}")?;
+    Ok(())
 }

@@ -3,13 +3,13 @@
 use super::baggages::{baggage_of, insert_allowed, put_entries};
 use super::spans::put_span;
 use super::states::state_of;
-use crate::fields::Row;
+use crate::fields::{Row, RowError, number_of, pair_of};
 use opentelemetry::trace::SpanContext;
 use opentelemetry::{Context, SpanId, TraceFlags, TraceId};
 use std::alloc::{AllocError, Global};
 
 /// Answers a row whose word is one of these; false where it is none.
-pub fn answer(alloc: Global, row: &Row, out: &mut String) -> Result<bool, AllocError> {
+pub fn answer(alloc: Global, row: &Row, out: &mut String) -> Result<bool, RowError> {
     match row.word.as_str() {
         "context" => put_context(alloc, &context_of(alloc, row)?, out)?,
         _ => return Ok(false),
@@ -18,7 +18,7 @@ pub fn answer(alloc: Global, row: &Row, out: &mut String) -> Result<bool, AllocE
 }
 
 /// The context that the steps of a row make of the empty one.
-fn context_of(alloc: Global, row: &Row) -> Result<Context, AllocError> {
+fn context_of(alloc: Global, row: &Row) -> Result<Context, RowError> {
     let mut cx = Context::new();
     for step in &row.fields {
         cx = with_step(alloc, &cx, step.as_str())?;
@@ -27,36 +27,38 @@ fn context_of(alloc: Global, row: &Row) -> Result<Context, AllocError> {
 }
 
 /// A context with one step more.
-fn with_step(alloc: Global, cx: &Context, step: &str) -> Result<Context, AllocError> {
+fn with_step(alloc: Global, cx: &Context, step: &str) -> Result<Context, RowError> {
     let (name, rest) = step.split_once(':').unwrap_or((step, ""));
     match name {
-        "span" => cx.with_span_context(span_of(alloc, rest)?),
-        "remote" => cx.with_remote_span_context(span_of(alloc, rest)?),
-        "baggage" => cx.with_baggage(baggage_of(alloc, rest)?),
+        "span" => Ok(cx.with_span_context(span_of(alloc, rest)?)?),
+        "remote" => Ok(cx.with_remote_span_context(span_of(alloc, rest)?)?),
+        "baggage" => Ok(cx.with_baggage(baggage_of(alloc, rest)?)?),
         "insert" => with_entry(alloc, cx, rest),
-        "suppress" => cx.with_telemetry_suppressed(),
-        _ => cx.clone(),
+        "suppress" => Ok(cx.with_telemetry_suppressed()?),
+        "copy" => Ok(cx.clone()?),
+        _ => Err(RowError::Field),
     }
 }
 
 /// The sampled remote span context of a span's id and a trace state behind a colon; the empty one of an empty text.
-fn span_of(alloc: Global, text: &str) -> Result<SpanContext, AllocError> {
-    let Some((span_id, state)) = text.split_once(':') else {
+fn span_of(alloc: Global, text: &str) -> Result<SpanContext, RowError> {
+    if text.is_empty() {
         return Ok(SpanContext::empty_context());
-    };
+    }
+    let (span_id, state) = text.split_once(':').ok_or(RowError::Field)?;
     let trace_id = TraceId::from(7);
-    let span_id = SpanId::from(span_id.parse::<u64>().unwrap_or(0));
+    let span_id = SpanId::from(number_of(span_id)?);
     let state = state_of(alloc, Some(state))?;
     let flags = TraceFlags::SAMPLED;
     Ok(SpanContext::new(trace_id, span_id, flags, true, state))
 }
 
 /// A context with an entry more in a copy of its baggage.
-fn with_entry(alloc: Global, cx: &Context, entry: &str) -> Result<Context, AllocError> {
+fn with_entry(alloc: Global, cx: &Context, entry: &str) -> Result<Context, RowError> {
+    let (name, value) = pair_of(entry)?;
     let mut baggage = cx.baggage().clone()?;
-    let (name, value) = entry.split_once('=').unwrap_or((entry, ""));
     insert_allowed(alloc, &mut baggage, name, value, None)?;
-    cx.with_baggage(baggage)
+    Ok(cx.with_baggage(baggage)?)
 }
 
 /// Puts out a context: its entries, whether telemetry is suppressed, and its span.

@@ -1,18 +1,18 @@
 //! Ids and flags.
 
-use crate::fields::Row;
+use crate::fields::{Row, RowError};
 use opentelemetry::{SpanId, TraceFlags, TraceId};
 use std::alloc::AllocError;
 
 /// Answers a row whose word is one of these; false where it is none.
-pub fn answer(row: &Row, out: &mut String) -> Result<bool, AllocError> {
+pub fn answer(row: &Row, out: &mut String) -> Result<bool, RowError> {
     let text = row.field(0);
     match row.word.as_str() {
         "trace-id" => put_trace_id(text, out)?,
         "span-id" => put_span_id(text, out)?,
         "trace-number" => put_trace_number(text, out)?,
-        "span-number" => put_span_number(row.number(0), out)?,
-        "flags" => put_flags(flags_of(text), out)?,
+        "span-number" => put_span_number(row.number(0)?, out)?,
+        "flags" => put_flags(flags_of(text)?, out)?,
         _ => return Ok(false),
     }
     Ok(true)
@@ -56,9 +56,11 @@ fn put_bytes(bytes: &[u8], out: &mut String) -> Result<(), AllocError> {
 }
 
 /// Puts out the id of a number.
-fn put_trace_number(text: &str, out: &mut String) -> Result<(), AllocError> {
-    let id = TraceId::from(text.parse::<u128>().unwrap_or(0));
-    write!(out, "{id}")
+fn put_trace_number(text: &str, out: &mut String) -> Result<(), RowError> {
+    let number = text.parse::<u128>().or(Err(RowError::Field))?;
+    let id = TraceId::from(number);
+    write!(out, "{id}")?;
+    Ok(())
 }
 
 /// The same of a span's id.
@@ -68,12 +70,18 @@ fn put_span_number(number: u64, out: &mut String) -> Result<(), AllocError> {
 }
 
 /// The flags that a text names or whose number it writes.
-fn flags_of(text: &str) -> TraceFlags {
+fn flags_of(text: &str) -> Result<TraceFlags, RowError> {
     match text {
-        "sampled" => TraceFlags::SAMPLED,
-        "default" => TraceFlags::default(),
-        number => TraceFlags::new(number.parse::<u8>().unwrap_or(0)),
+        "sampled" => Ok(TraceFlags::SAMPLED),
+        "default" => Ok(TraceFlags::default()),
+        number => numbered_flags_of(number),
     }
+}
+
+/// The flags whose number a text writes.
+pub fn numbered_flags_of(text: &str) -> Result<TraceFlags, RowError> {
+    let number = text.parse::<u8>().or(Err(RowError::Field))?;
+    Ok(TraceFlags::new(number))
 }
 
 /// Puts out flags: their number, their text, whether they say sampled, their numbers with that bit set and then

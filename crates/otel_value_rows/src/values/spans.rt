@@ -2,8 +2,8 @@
 
 use super::attributes::{key_of, order_of};
 use super::states::state_of;
-use crate::fields::Row;
-use opentelemetry::trace::{SpanBuilder, SpanContext, SpanKind, Status};
+use crate::fields::{Row, RowError, number_of};
+use opentelemetry::trace::{Event, Link, SpanBuilder, SpanContext, SpanKind, Status, TraceState};
 use opentelemetry::{
     InstrumentationScope, InstrumentationScopeBuilder, KeyValue, Moment, SpanId, TraceFlags,
     TraceId, Value,
@@ -11,7 +11,7 @@ use opentelemetry::{
 use std::alloc::{AllocError, Global};
 
 /// Answers a row whose word is one of these; false where it is none.
-pub fn answer(alloc: Global, row: &Row, out: &mut String) -> Result<bool, AllocError> {
+pub fn answer(alloc: Global, row: &Row, out: &mut String) -> Result<bool, RowError> {
     match row.word.as_str() {
         "span-context" => put_validity(alloc, &span_context_of(alloc, row)?, out)?,
         "statuses" => put_statuses(alloc, row, out)?,
@@ -23,12 +23,12 @@ pub fn answer(alloc: Global, row: &Row, out: &mut String) -> Result<bool, AllocE
 }
 
 /// A copy of a sampled remote span context of two ids and a trace state.
-fn span_context_of(alloc: Global, row: &Row) -> Result<SpanContext, AllocError> {
-    let trace_id = TraceId::from(u128::from(row.number(0)));
-    let span_id = SpanId::from(row.number(1));
+fn span_context_of(alloc: Global, row: &Row) -> Result<SpanContext, RowError> {
+    let trace_id = TraceId::from(u128::from(row.number(0)?));
+    let span_id = SpanId::from(row.number(1)?);
     let state = state_of(alloc, row.given(2))?;
     let flags = TraceFlags::SAMPLED;
-    SpanContext::new(trace_id, span_id, flags, true, state).clone()
+    Ok(SpanContext::new(trace_id, span_id, flags, true, state).clone()?)
 }
 
 /// Puts out whether a span context is valid, sampled, remote, and another than the empty one; then itself.
@@ -68,7 +68,7 @@ pub fn put_span(
 }
 
 /// The status that a text names, or an error whose description stands behind `error:`.
-fn status_of(alloc: Global, text: &str) -> Result<Status, AllocError> {
+pub fn status_of(alloc: Global, text: &str) -> Result<Status, RowError> {
     if let Some(description) = text.strip_prefix("error:") {
         return Ok(Status::Error {
             description: String::from_str(alloc, description)?,
@@ -77,19 +77,21 @@ fn status_of(alloc: Global, text: &str) -> Result<Status, AllocError> {
     match text {
         "unset" => Ok(Status::Unset),
         "ok" => Ok(Status::Ok),
-        _ => Ok(Status::default()),
+        "default" => Ok(Status::default()),
+        _ => Err(RowError::Field),
     }
 }
 
 /// Puts out how a copy of one status stands to another.
-fn put_statuses(alloc: Global, row: &Row, out: &mut String) -> Result<(), AllocError> {
+fn put_statuses(alloc: Global, row: &Row, out: &mut String) -> Result<(), RowError> {
     let first = status_of(alloc, row.field(0))?.clone()?;
     let second = status_of(alloc, row.field(1))?;
-    out.push_str(order_of(first < second, first == second))
+    out.push_str(order_of(first < second, first == second))?;
+    Ok(())
 }
 
 /// The attributes of a list of keys, with a bar behind each; each value is 7.
-fn attributes_of(alloc: Global, list: &str) -> Result<Vec<KeyValue>, AllocError> {
+pub fn attributes_of(alloc: Global, list: &str) -> Result<Vec<KeyValue>, RowError> {
     let mut attributes = Vec::new(alloc);
     for text in list.split('|') {
         if !text.is_empty() {
@@ -99,24 +101,57 @@ fn attributes_of(alloc: Global, list: &str) -> Result<Vec<KeyValue>, AllocError>
     Ok(attributes)
 }
 
-/// A copy of a builder for which a name, a kind, a start and attributes were set.
-fn builder_of(alloc: Global, row: &Row) -> Result<SpanBuilder, AllocError> {
-    let builder = SpanBuilder::from_name(String::from_str(alloc, row.field(0))?);
-    let builder = with_start(with_kind(builder, row.given(1)), row);
-    with_attributes(alloc, builder, row.given(3))?.clone()
+/// The events of a list of names, with a bar behind each; each happens at 8.
+pub fn events_of(alloc: Global, list: &str) -> Result<Vec<Event>, AllocError> {
+    let mut events = Vec::new(alloc);
+    for name in list.split('|') {
+        if !name.is_empty() {
+            let name = String::from_str(alloc, name)?;
+            events.push(Event::new(name, Moment(8), Vec::new(alloc), 0))?;
+        }
+    }
+    Ok(events)
 }
 
-fn with_kind(builder: SpanBuilder, name: Option<&str>) -> SpanBuilder {
+/// The links to spans of trace 1, of a list of their numbers, with a bar behind each.
+pub fn links_of(alloc: Global, list: &str) -> Result<Vec<Link>, RowError> {
+    let mut links = Vec::new(alloc);
+    for number in list.split('|') {
+        if !number.is_empty() {
+            let span_context = numbered_context_of(number)?;
+            links.push(Link::new(span_context, Vec::new(alloc), 0))?;
+        }
+    }
+    Ok(links)
+}
+
+/// The sampled local span context of trace 1 and the span of a number.
+pub fn numbered_context_of(number: &str) -> Result<SpanContext, RowError> {
+    let span_id = SpanId::from(number_of(number)?);
+    let flags = TraceFlags::SAMPLED;
+    Ok(SpanContext::new(TraceId::from(1), span_id, flags, false, TraceState::new()))
+}
+
+/// A copy of a builder for which a name, a kind, a start, attributes, events and links were set.
+pub fn builder_of(alloc: Global, row: &Row) -> Result<SpanBuilder, RowError> {
+    let builder = SpanBuilder::from_name(String::from_str(alloc, row.field(0))?);
+    let builder = with_start(with_kind(builder, row.given(1))?, row.given(2))?;
+    let builder = with_attributes(alloc, builder, row.given(3))?;
+    let builder = with_events(alloc, builder, row.given(4))?;
+    Ok(with_links(alloc, builder, row.given(5))?.clone()?)
+}
+
+fn with_kind(builder: SpanBuilder, name: Option<&str>) -> Result<SpanBuilder, RowError> {
     match name {
-        Some(name) => builder.with_kind(kind_of(name)),
-        None => builder,
+        Some(name) => Ok(builder.with_kind(kind_of(name)?)),
+        None => Ok(builder),
     }
 }
 
-fn with_start(builder: SpanBuilder, row: &Row) -> SpanBuilder {
-    match row.given(2) {
-        Some(_) => builder.with_start_time(Moment(row.number(2))),
-        None => builder,
+fn with_start(builder: SpanBuilder, start: Option<&str>) -> Result<SpanBuilder, RowError> {
+    match start {
+        Some(start) => Ok(builder.with_start_time(Moment(number_of(start)?))),
+        None => Ok(builder),
     }
 }
 
@@ -124,21 +159,44 @@ fn with_attributes(
     alloc: Global,
     builder: SpanBuilder,
     list: Option<&str>,
-) -> Result<SpanBuilder, AllocError> {
+) -> Result<SpanBuilder, RowError> {
     match list {
         Some(list) => Ok(builder.with_attributes(attributes_of(alloc, list)?)),
         None => Ok(builder),
     }
 }
 
-fn kind_of(name: &str) -> SpanKind {
+fn with_events(
+    alloc: Global,
+    builder: SpanBuilder,
+    list: Option<&str>,
+) -> Result<SpanBuilder, AllocError> {
+    match list {
+        Some(list) => Ok(builder.with_events(events_of(alloc, list)?)),
+        None => Ok(builder),
+    }
+}
+
+fn with_links(
+    alloc: Global,
+    builder: SpanBuilder,
+    list: Option<&str>,
+) -> Result<SpanBuilder, RowError> {
+    match list {
+        Some(list) => Ok(builder.with_links(links_of(alloc, list)?)),
+        None => Ok(builder),
+    }
+}
+
+pub fn kind_of(name: &str) -> Result<SpanKind, RowError> {
     match name {
-        "Client" => SpanKind::Client,
-        "Server" => SpanKind::Server,
-        "Producer" => SpanKind::Producer,
-        "Consumer" => SpanKind::Consumer,
-        "Internal" => SpanKind::Internal,
-        _ => SpanKind::default(),
+        "Client" => Ok(SpanKind::Client),
+        "Server" => Ok(SpanKind::Server),
+        "Producer" => Ok(SpanKind::Producer),
+        "Consumer" => Ok(SpanKind::Consumer),
+        "Internal" => Ok(SpanKind::Internal),
+        "default" => Ok(SpanKind::default()),
+        _ => Err(RowError::Field),
     }
 }
 
@@ -173,7 +231,7 @@ fn put_count(attributes: &[KeyValue], out: &mut String) -> Result<(), AllocError
 }
 
 /// A copy of a scope for which a name, a version, a schema's address and attributes were set.
-fn scope_of(alloc: Global, row: &Row) -> Result<InstrumentationScope, AllocError> {
+pub fn scope_of(alloc: Global, row: &Row) -> Result<InstrumentationScope, RowError> {
     let name = String::from_str(alloc, row.field(0))?;
     let builder = InstrumentationScope::builder(alloc, name);
     let builder = with_url(
@@ -181,7 +239,7 @@ fn scope_of(alloc: Global, row: &Row) -> Result<InstrumentationScope, AllocError
         row.owned(alloc, 2)?,
     );
     let attributes = attributes_of(alloc, row.given(3).unwrap_or(""))?;
-    builder.with_attributes(attributes).build()?.clone()
+    Ok(builder.with_attributes(attributes).build()?.clone()?)
 }
 
 fn with_version(

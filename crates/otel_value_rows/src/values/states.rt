@@ -1,11 +1,11 @@
 //! Trace states.
 
-use crate::fields::Row;
+use crate::fields::{Row, RowError, pair_of};
 use opentelemetry::trace::{TraceState, TraceStateError};
 use std::alloc::{AllocError, Global};
 
 /// Answers a row whose word is one of these; false where it is none.
-pub fn answer(alloc: Global, row: &Row, out: &mut String) -> Result<bool, AllocError> {
+pub fn answer(alloc: Global, row: &Row, out: &mut String) -> Result<bool, RowError> {
     match row.word.as_str() {
         "tracestate" => put_read(alloc, row.field(0), out)?,
         "tracestate-pairs" => put_paired(alloc, row.field(0), out)?,
@@ -18,15 +18,15 @@ pub fn answer(alloc: Global, row: &Row, out: &mut String) -> Result<bool, AllocE
     Ok(true)
 }
 
-/// The trace state of a text; the empty one where there is no text, or where it is none of a trace state.
-pub fn state_of(alloc: Global, text: Option<&str>) -> Result<TraceState, AllocError> {
+/// The trace state of a text; the empty one where there is no text.
+pub fn state_of(alloc: Global, text: Option<&str>) -> Result<TraceState, RowError> {
     let Some(text) = text else {
         return Ok(TraceState::new());
     };
     match TraceState::from_str(alloc, text) {
         Ok(state) => Ok(state),
-        Err(TraceStateError::Memory) => Err(AllocError),
-        Err(_) => Ok(TraceState::new()),
+        Err(TraceStateError::Memory) => Err(RowError::Memory),
+        Err(_) => Err(RowError::Field),
     }
 }
 
@@ -47,10 +47,11 @@ fn put_read(alloc: Global, text: &str, out: &mut String) -> Result<(), AllocErro
 }
 
 /// The pairs of a list, `key=value|` each.
-fn pairs_of(alloc: Global, list: &str) -> Result<Vec<(String, String)>, AllocError> {
+fn pairs_of(alloc: Global, list: &str) -> Result<Vec<(String, String)>, RowError> {
     let mut pairs = Vec::new(alloc);
     for part in list.split('|') {
-        if let Some((key, value)) = part.split_once('=') {
+        if !part.is_empty() {
+            let (key, value) = pair_of(part)?;
             let key = String::from_str(alloc, key)?;
             pairs.push((key, String::from_str(alloc, value)?))?;
         }
@@ -58,35 +59,41 @@ fn pairs_of(alloc: Global, list: &str) -> Result<Vec<(String, String)>, AllocErr
     Ok(pairs)
 }
 
-fn put_paired(alloc: Global, list: &str, out: &mut String) -> Result<(), AllocError> {
+fn put_paired(alloc: Global, list: &str, out: &mut String) -> Result<(), RowError> {
     let pairs = pairs_of(alloc, list)?;
-    put_state(alloc, TraceState::from_key_value(alloc, pairs), out)
+    put_state(alloc, TraceState::from_key_value(alloc, pairs), out)?;
+    Ok(())
 }
 
-fn put_inserted(alloc: Global, row: &Row, out: &mut String) -> Result<(), AllocError> {
+fn put_inserted(alloc: Global, row: &Row, out: &mut String) -> Result<(), RowError> {
     let state = state_of(alloc, row.given(0))?;
     let key = String::from_str(alloc, row.field(1))?;
     let value = String::from_str(alloc, row.field(2))?;
-    put_state(alloc, state.insert(alloc, key, value), out)
+    put_state(alloc, state.insert(alloc, key, value), out)?;
+    Ok(())
 }
 
-fn put_deleted(alloc: Global, row: &Row, out: &mut String) -> Result<(), AllocError> {
+fn put_deleted(alloc: Global, row: &Row, out: &mut String) -> Result<(), RowError> {
     let state = state_of(alloc, row.given(0))?;
-    put_state(alloc, state.delete(alloc, row.field(1)), out)
+    put_state(alloc, state.delete(alloc, row.field(1)), out)?;
+    Ok(())
 }
 
-fn put_found(alloc: Global, row: &Row, out: &mut String) -> Result<(), AllocError> {
+fn put_found(alloc: Global, row: &Row, out: &mut String) -> Result<(), RowError> {
     let state = state_of(alloc, row.given(0))?;
-    out.push_str(state.get(row.field(1)).unwrap_or("none"))
+    out.push_str(state.get(row.field(1)).unwrap_or("none"))?;
+    Ok(())
 }
 
 /// Puts out what an error says.
-fn put_error(name: &str, out: &mut String) -> Result<(), AllocError> {
+fn put_error(name: &str, out: &mut String) -> Result<(), RowError> {
     let error = match name {
         "Key" => TraceStateError::Key,
         "Value" => TraceStateError::Value,
         "List" => TraceStateError::List,
-        _ => TraceStateError::Memory,
+        "Memory" => TraceStateError::Memory,
+        _ => return Err(RowError::Field),
     };
-    write!(out, "{error}")
+    write!(out, "{error}")?;
+    Ok(())
 }

@@ -1,4 +1,4 @@
-//! The batch processor: what its calls answer one after another, and what its exporter was told.
+//! Processors: what the calls of one answer one after another, and what its exporter was told.
 
 ghost use Rattle.std.specs.Prelude.{None};
 
@@ -9,10 +9,10 @@ use opentelemetry::{
 use opentelemetry_sdk::error::{OTelSdkError, OTelSdkResult};
 use opentelemetry_sdk::resource::Resource;
 use opentelemetry_sdk::trace::{
-    BatchConfig, BatchConfigBuilder, BatchSpanProcessor, DrainDue, SpanData, SpanEvents,
-    SpanExporter, SpanLinks, SpanProcessor,
+    BatchConfig, BatchConfigBuilder, BatchSpanProcessor, DrainDue, SimpleSpanProcessor, SpanData,
+    SpanEvents, SpanExporter, SpanLinks, SpanProcessor,
 };
-use otel_value_rows::fields::Row;
+use otel_value_rows::fields::{Row, RowError, number_of};
 use std::alloc::{AllocError, Global};
 use std::fmt::Write;
 use std::time::Duration;
@@ -74,89 +74,132 @@ impl SpanExporter for Writing {
     }
 }
 
-type RowProcessor = BatchSpanProcessor<Writing>;
-
-/// `batch-processor EXPORTER QUEUE BATCH CALL ..`: each call's answer, how many spans were dropped, and what the exporter
-/// was told.
-pub fn answer(alloc: Global, row: &Row, out: &mut String) -> Result<bool, AllocError> {
-    if row.word.as_str() != "batch-processor" {
-        return Ok(false);
+/// Answers a row whose word is one of these; false where it is none.
+pub fn answer(alloc: Global, row: &Row, out: &mut String) -> Result<bool, RowError> {
+    match row.word.as_str() {
+        "batch-processor" => answer_batch(alloc, row, out)?,
+        "simple-processor" => answer_simple(alloc, row, out)?,
+        _ => return Ok(false),
     }
-    let exporter = exporter_named(alloc, row.field(0));
-    let mut processor = BatchSpanProcessor::new(alloc, exporter, config_of(row))?;
-    for call in row.fields.iter().skip(3) {
-        answer_call(alloc, &mut processor, call.as_str(), out)?;
-    }
-    write!(
-        out,
-        "dropped {} told{}",
-        processor.dropped_count(),
-        processor.exporter().told
-    )?;
     Ok(true)
 }
 
-/// The exporter of a name: `slow`, `slow-once`, `failing:N`, which fails at its call of this number, or another, which
-/// never fails.
-fn exporter_named(alloc: Global, name: &str) -> Writing {
-    let (_, number) = name.split_once(':').unwrap_or((name, ""));
-    let slow_calls = match name {
-        "slow" => u64::MAX,
-        "slow-once" => 1,
-        _ => 0,
+/// `batch-processor EXPORTER QUEUE BATCH CALL ..`: each call's answer, how many spans were dropped, and what the exporter
+/// was told.
+fn answer_batch(alloc: Global, row: &Row, out: &mut String) -> Result<(), RowError> {
+    let config = config_of(row)?;
+    let exporter = exporter_named(alloc, row.field(0))?;
+    let mut processor = BatchSpanProcessor::new(alloc, exporter, config)?;
+    for call in row.fields.iter().skip(3) {
+        answer_batch_call(alloc, &mut processor, call.as_str(), out)?;
+    }
+    let dropped = processor.dropped_count();
+    write!(out, "dropped {dropped} told{}", processor.exporter().told)?;
+    Ok(())
+}
+
+/// `simple-processor EXPORTER CALL ..`: each call's answer, and what the exporter was told.
+fn answer_simple(alloc: Global, row: &Row, out: &mut String) -> Result<(), RowError> {
+    let exporter = exporter_named(alloc, row.field(0))?;
+    let mut processor = SimpleSpanProcessor::new(alloc, exporter);
+    for call in row.fields.iter().skip(1) {
+        if !answer_call(alloc, &mut processor, call.as_str(), out)? {
+            return Err(RowError::Field);
+        }
+    }
+    write!(out, "told{}", processor.exporter().told)?;
+    Ok(())
+}
+
+/// The exporter of a name: `memory`, `slow`, `slow-once`, or `failing:N`, which fails at its call of this number.
+fn exporter_named(alloc: Global, name: &str) -> Result<Writing, RowError> {
+    let (slow_calls, failing) = match name {
+        "memory" => (0, 0),
+        "slow" => (u64::MAX, 0),
+        "slow-once" => (1, 0),
+        _ => (0, failing_call(name)?),
     };
-    Writing {
+    Ok(Writing {
         slow_calls,
-        failing: number_in(number),
+        failing,
         calls: 0,
         told: String::new(alloc),
+    })
+}
+
+fn failing_call(name: &str) -> Result<u64, RowError> {
+    match name.strip_prefix("failing:") {
+        Some(number) => number_of(number),
+        None => Err(RowError::Field),
     }
 }
 
-fn config_of(row: &Row) -> BatchConfig {
-    BatchConfigBuilder::default()
-        .with_max_queue_size(row.number(1) as usize)
-        .with_max_export_batch_size(row.number(2) as usize)
-        .build()
+fn config_of(row: &Row) -> Result<BatchConfig, RowError> {
+    let queue = row.number(1)?;
+    let batch = row.number(2)?;
+    Ok(
+        BatchConfigBuilder::default()
+            .with_max_queue_size(queue as usize)
+            .with_max_export_batch_size(batch as usize)
+            .build(),
+    )
 }
 
-/// Makes a call and puts out what it answers.
-fn answer_call(
+/// Makes a call of a batch processor and puts out what it answers.
+fn answer_batch_call(
     alloc: Global,
-    processor: &mut RowProcessor,
+    processor: &mut BatchSpanProcessor<Writing>,
     call: &str,
     out: &mut String,
-) -> Result<(), AllocError> {
+) -> Result<(), RowError> {
+    if answer_call(alloc, processor, call, out)? {
+        return Ok(());
+    }
     let (word, rest) = call.split_once(':').unwrap_or((call, ""));
     match word {
-        "end" => put_taken(processor.on_end(span_named(alloc, rest, 1)?), out),
-        "unsampled" => put_taken(processor.on_end(span_named(alloc, rest, 0)?), out),
-        "resource" => put_taken(set_resource(alloc, processor, rest), out),
-        "resources" => put_taken(set_resources(alloc, processor, number_in(rest)), out),
-        "flush" => put_said(processor.force_flush(), out),
-        "shutdown" => put_said(processor.shutdown(), out),
-        "worker" => put_said(processor.run_worker(), out),
-        "stranded" => put_stranded(processor.stranded(), out),
-        "due" => put_said(processor.drain_due(Moment(number_in(rest))), out),
-        _ => out.push_str("no such call, "),
+        "worker" => put_said(processor.run_worker(), out)?,
+        "stranded" => put_stranded(processor.stranded(), out)?,
+        "due" => put_said(processor.drain_due(Moment(number_of(rest)?)), out)?,
+        _ => return Err(RowError::Field),
     }
+    Ok(())
 }
 
-fn number_in(text: &str) -> u64 {
-    text.parse::<u64>().unwrap_or(0)
+/// Makes a call of a processor of any kind, and puts out what it answers; false where it is none.
+fn answer_call<P: SpanProcessor>(
+    alloc: Global,
+    processor: &mut P,
+    call: &str,
+    out: &mut String,
+) -> Result<bool, RowError> {
+    let (word, rest) = call.split_once(':').unwrap_or((call, ""));
+    match word {
+        "end" => put_taken(processor.on_end(span_named(alloc, rest, 1)?), out)?,
+        "unsampled" => put_taken(processor.on_end(span_named(alloc, rest, 0)?), out)?,
+        "resource" => put_taken(set_resource(alloc, processor, rest), out)?,
+        "resources" => put_taken(set_resources(alloc, processor, number_of(rest)?), out)?,
+        "flush" => put_said(processor.force_flush(), out)?,
+        "shutdown" => put_said(processor.shutdown(), out)?,
+        _ => return Ok(false),
+    }
+    Ok(true)
 }
 
 /// Sets a resource of one attribute.
-fn set_resource(alloc: Global, processor: &mut RowProcessor, key: &str) -> Result<(), AllocError> {
+fn set_resource<P: SpanProcessor>(
+    alloc: Global,
+    processor: &mut P,
+    key: &str,
+) -> Result<(), AllocError> {
     let attribute = KeyValue::new(Key::new(String::from_str(alloc, key)?), Value::Bool(true));
     let builder = Resource::builder_empty(alloc).with_attribute(attribute)?;
     processor.set_resource(&builder.build())
 }
 
 /// Sets an empty resource as often.
-fn set_resources(
+fn set_resources<P: SpanProcessor>(
     alloc: Global,
-    processor: &mut RowProcessor,
+    processor: &mut P,
     count: u64,
 ) -> Result<(), AllocError> {
     let resource = Resource::builder_empty(alloc).build();
