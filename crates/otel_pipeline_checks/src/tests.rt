@@ -6,6 +6,7 @@ mod left_spans;
 mod processors;
 mod provider_builder;
 mod refused_batch;
+mod refused_builder;
 mod refused_memory;
 mod run_processors;
 mod simple_span_processor;

@@ -18,6 +18,7 @@ use std::alloc::{AllocError, Global};
 use std::cell::Cell;
 use std::fmt::Write;
 use std::rc::Rc;
+use std::test::Fail;
 use std::time::Duration;
 
 /// A processor that writes its digit on a board that several share, at each start, end, flush and shutdown, and keeps
@@ -145,7 +146,7 @@ pub(super) fn attribute_of(key: &'static str) -> KeyValue {
 }
 
 /// So many of them.
-fn attributes_of(
+pub(super) fn attributes_of(
     alloc: Global,
     key: &'static str,
     count: usize,
@@ -282,7 +283,7 @@ pub(super) fn close<P: LeavesSpans, S: Drop>(
 }
 
 /// How many batches the processors of a provider handed to their exporters, which kept or lost them.
-pub(super) fn handed_on<P: KeepsBatches, S>(provider: &ProviderOf<P, S, RandomIdGenerator>) -> u64 {
+pub(super) fn handed_on<P: KeepsBatches, S, G>(provider: &ProviderOf<P, S, G>) -> u64 {
     let mut count = 0u64;
     for processor in provider.processors() {
         let kept = processor.batches().len() as u64;
@@ -291,6 +292,12 @@ pub(super) fn handed_on<P: KeepsBatches, S>(provider: &ProviderOf<P, S, RandomId
             .saturating_add(processor.lost_batches());
     }
     count
+}
+
+/// What a test answers where a call that found no memory finds none when it is made again. `tools/sweep` tells it from
+/// an `AllocError`, by which a test stops at what it makes but once.
+pub(super) fn refused_again() -> Fail {
+    Fail::new("a call that was made again found no memory again")
 }
 
 /// The text of an answer.

@@ -2,7 +2,7 @@
 //! `rt try --test --fail-alloc N` has the Nth refused. Each call that finds no memory is made again.
 
 use super::fixtures::{
-    TestSampler, attribute_of, config_under, flush, handed_on, memory, start_in,
+    TestSampler, attribute_of, config_under, flush, handed_on, memory, refused_again, start_in,
 };
 use super::refused_memory::finish_again;
 use opentelemetry::{Context, Moment};
@@ -11,7 +11,7 @@ use otel_base::error::OTelSdkResult;
 use otel_base::resource::Resource;
 use otel_base::trace::{BatchStrings, RandomIdGenerator, ShouldSample};
 use otel_pipeline::trace::{
-    DrainDue, KeepsBatches, OverExporter, ProviderBuilderOf, ProviderOf, SpanProcessor,
+    DrainDue, KeepsBatches, OverExporter, ProviderBuilderOf, ProviderOf, Span, SpanProcessor,
 };
 use std::alloc::{AllocError, Global};
 use std::test::Fail;
@@ -21,14 +21,14 @@ fn with_batch_again<P: OverExporter, S: Drop>(
     builder: ProviderBuilderOf<P, S, RandomIdGenerator>,
     first: P::Exporter,
     second: P::Exporter,
-) -> Result<ProviderBuilderOf<P, S, RandomIdGenerator>, AllocError> {
+) -> Result<ProviderBuilderOf<P, S, RandomIdGenerator>, Fail> {
     let builder = match builder.with_batch_exporter(first) {
         Ok(builder) => return Ok(builder),
         Err((builder, _)) => builder,
     };
     match builder.with_batch_exporter(second) {
         Ok(builder) => Ok(builder),
-        Err((_, error)) => Err(error),
+        Err(_) => Err(refused_again()),
     }
 }
 
@@ -43,28 +43,41 @@ fn with_resource_again<P: Drop, S: Drop>(
     alloc: Global,
     builder: ProviderBuilderOf<P, S, RandomIdGenerator>,
     key: &'static str,
-) -> Result<ProviderBuilderOf<P, S, RandomIdGenerator>, AllocError> {
+) -> Result<ProviderBuilderOf<P, S, RandomIdGenerator>, Fail> {
     let builder = match builder.with_resource(resource_of(alloc, key)?) {
         Ok(builder) => return Ok(builder),
         Err((builder, _)) => builder,
     };
     match builder.with_resource(resource_of(alloc, key)?) {
         Ok(builder) => Ok(builder),
-        Err((_, error)) => Err(error),
+        Err(_) => Err(refused_again()),
     }
 }
 
 /// Builds, and builds again where that finds no memory.
 fn build_again<P: SpanProcessor, S: Drop>(
     builder: ProviderBuilderOf<P, S, RandomIdGenerator>,
-) -> Result<ProviderOf<P, S, RandomIdGenerator>, AllocError> {
+) -> Result<ProviderOf<P, S, RandomIdGenerator>, Fail> {
     let builder = match builder.build() {
         Ok(provider) => return Ok(provider),
         Err((builder, _)) => builder,
     };
     match builder.build() {
         Ok(provider) => Ok(provider),
-        Err((_, error)) => Err(error),
+        Err(_) => Err(refused_again()),
+    }
+}
+
+fn start_again<P: SpanProcessor, S: ShouldSample>(
+    alloc: Global,
+    provider: &mut ProviderOf<P, S, RandomIdGenerator>,
+) -> Result<Span, Fail> {
+    if let Ok(span) = start_in(alloc, &Context::new(), 1, provider) {
+        return Ok(span);
+    }
+    match start_in(alloc, &Context::new(), 1, provider) {
+        Ok(span) => Ok(span),
+        Err(_) => Err(refused_again()),
     }
 }
 
@@ -72,11 +85,8 @@ fn build_again<P: SpanProcessor, S: Drop>(
 fn start_and_finish<P: KeepsBatches, S: ShouldSample>(
     alloc: Global,
     provider: &mut ProviderOf<P, S, RandomIdGenerator>,
-) -> Result<Option<u64>, AllocError> {
-    let span = match start_in(alloc, &Context::new(), 1, provider) {
-        Ok(span) => span,
-        Err(_) => start_in(alloc, &Context::new(), 1, provider)?,
-    };
+) -> Result<Option<u64>, Fail> {
+    let span = start_again(alloc, provider)?;
     Ok(finish_again(span, provider))
 }
 
@@ -96,7 +106,7 @@ fn export_again<P: OverExporter + KeepsBatches>(
     alloc: Global,
     first: P::Exporter,
     second: P::Exporter,
-) -> Result<(Option<u64>, u64, OTelSdkResult), AllocError> {
+) -> Result<(Option<u64>, u64, OTelSdkResult), Fail> {
     let config = config_under(alloc, TestSampler::AlwaysOn);
     let builder = ProviderOf::<P, _, _>::builder_with_config(
         alloc,

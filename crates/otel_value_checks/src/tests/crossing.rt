@@ -18,12 +18,19 @@ pub fn inject<P: TextMapPropagator + Default + Drop>(
     P::default().inject_context(alloc, cx, carrier)
 }
 
-/// What a propagator makes of a carrier.
+/// What a propagator makes of a context and a carrier.
 pub fn extracted<P: TextMapPropagator + Default + Drop>(
     alloc: Global,
+    cx: &Context,
     carrier: &MapCarrier,
 ) -> Result<Context, AllocError> {
-    P::default().extract_with_context(alloc, &Context::new(), carrier)
+    P::default().extract_with_context(alloc, cx, carrier)
+}
+
+/// What a test answers where a call that found no memory finds none when it is made again. `tools/sweep` tells it from
+/// an `AllocError`, by which a test stops at what it makes but once.
+pub fn refused_again() -> Fail {
+    Fail::new("a call that was made again found no memory again")
 }
 
 /// Injects, and injects again where there was no memory. The answer is whether the carrier then had no header of the
@@ -33,35 +40,61 @@ fn inject_again<P: TextMapPropagator + Default + Drop>(
     cx: &Context,
     last: &str,
     carrier: &mut MapCarrier,
-) -> Result<bool, AllocError> {
+) -> Result<bool, Fail> {
     if inject::<P>(alloc, cx, carrier).is_ok() {
         return Ok(true);
     }
     let holds = carrier.get(last).is_none();
-    inject::<P>(alloc, cx, carrier)?;
-    Ok(holds)
-}
-
-/// Extracts, and extracts again where there was no memory.
-fn extract_again<P: TextMapPropagator + Default + Drop>(
-    alloc: Global,
-    carrier: &MapCarrier,
-) -> Result<Context, AllocError> {
-    match extracted::<P>(alloc, carrier) {
-        Ok(cx) => Ok(cx),
-        Err(_) => extracted::<P>(alloc, carrier),
+    match inject::<P>(alloc, cx, carrier) {
+        Ok(()) => Ok(holds),
+        Err(_) => Err(refused_again()),
     }
 }
 
-/// What the other side has; nothing where a refused injection left the header of the name that is set last.
+/// The context that the other side has before it reads: of span 7, with one entry.
+fn before(alloc: Global) -> Result<Context, Fail> {
+    let mut baggage = Baggage::new(alloc);
+    insert(alloc, &mut baggage, "before", "1", "")?;
+    let (trace_id, span_id) = (TraceId::from(1), SpanId::from(7));
+    let flags = TraceFlags::default();
+    let span = SpanContext::new(trace_id, span_id, flags, false, TraceState::new());
+    Ok(in_span(span)?.with_baggage(baggage)?)
+}
+
+fn is_as_before(cx: &Context) -> bool {
+    cx.span_context().span_id() == SpanId::from(7) && cx.baggage().get("before") == Some("1")
+}
+
+/// Extracts over a context, and extracts again where there was no memory; nothing where the context and the carrier
+/// were not left as they were.
+fn extract_again<P: TextMapPropagator + Default + Drop>(
+    alloc: Global,
+    cx: &Context,
+    carrier: &MapCarrier,
+) -> Result<Option<Context>, Fail> {
+    let headers = carrier.keys(alloc)?.len();
+    if let Ok(found) = extracted::<P>(alloc, cx, carrier) {
+        return Ok(Some(found));
+    }
+    if !is_as_before(cx) || carrier.keys(alloc)?.len() != headers {
+        return Ok(None);
+    }
+    match extracted::<P>(alloc, cx, carrier) {
+        Ok(found) => Ok(Some(found)),
+        Err(_) => Err(refused_again()),
+    }
+}
+
+/// What the other side has; nothing where a refused injection left the header of the name that is set last, or a
+/// refused extraction did not leave all as it was.
 fn carried<P: TextMapPropagator + Default + Drop>(
     alloc: Global,
     cx: &Context,
     last: &str,
-) -> Result<Option<Context>, AllocError> {
+) -> Result<Option<Context>, Fail> {
     let mut carrier = MapCarrier::new(alloc);
     if inject_again::<P>(alloc, cx, last, &mut carrier)? {
-        extract_again::<P>(alloc, &carrier).map(Some)
+        extract_again::<P>(alloc, &before(alloc)?, &carrier)
     } else {
         Ok(None)
     }

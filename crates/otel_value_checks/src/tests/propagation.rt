@@ -64,7 +64,7 @@ fn is_greeted(alloc: Global) -> Result<bool, AllocError> {
 }
 
 fn has_span(alloc: Global, carrier: &MapCarrier) -> Result<bool, AllocError> {
-    let cx = extracted::<Greeting>(alloc, carrier)?;
+    let cx = extracted::<Greeting>(alloc, &Context::new(), carrier)?;
     Ok(cx.has_active_span())
 }
 

@@ -1,6 +1,7 @@
 //! Resources of detectors of one's own, what takes no memory, and what is made again where memory is refused:
 //! `rt try --test --fail-alloc N` has the Nth allocation refused.
 
+use super::crossing::refused_again;
 use opentelemetry::{Key, KeyValue, Value};
 use otel_base::resource::{
     EnvResourceDetector, Resource, ResourceBuilder, ResourceDetector, ResourceStrings,
@@ -214,10 +215,13 @@ fn built_is_shown(alloc: Global, wanted: &str) -> Result<bool, AllocError> {
     is_shown(alloc, &resource, wanted)
 }
 
-fn built_is_shown_again(alloc: Global, wanted: &str) -> Result<bool, AllocError> {
+fn built_is_shown_again(alloc: Global, wanted: &str) -> Result<bool, Fail> {
+    if let Ok(is_shown) = built_is_shown(alloc, wanted) {
+        return Ok(is_shown);
+    }
     match built_is_shown(alloc, wanted) {
         Ok(is_shown) => Ok(is_shown),
-        Err(_) => built_is_shown(alloc, wanted),
+        Err(_) => Err(refused_again()),
     }
 }
 
@@ -226,10 +230,13 @@ fn copy_is_shown(alloc: Global, wanted: &str) -> Result<bool, AllocError> {
     is_shown(alloc, &copy, wanted)
 }
 
-fn copy_is_shown_again(alloc: Global, wanted: &str) -> Result<bool, AllocError> {
+fn copy_is_shown_again(alloc: Global, wanted: &str) -> Result<bool, Fail> {
+    if let Ok(is_shown) = copy_is_shown(alloc, wanted) {
+        return Ok(is_shown);
+    }
     match copy_is_shown(alloc, wanted) {
         Ok(is_shown) => Ok(is_shown),
-        Err(_) => copy_is_shown(alloc, wanted),
+        Err(_) => Err(refused_again()),
     }
 }
 
@@ -245,10 +252,13 @@ fn unset_len(alloc: Global) -> Result<usize, AllocError> {
     configured_len(alloc, &unset)
 }
 
-fn unset_len_again(alloc: Global) -> Result<usize, AllocError> {
+fn unset_len_again(alloc: Global) -> Result<usize, Fail> {
+    if let Ok(count) = unset_len(alloc) {
+        return Ok(count);
+    }
     match unset_len(alloc) {
         Ok(count) => Ok(count),
-        Err(_) => unset_len(alloc),
+        Err(_) => Err(refused_again()),
     }
 }
 
@@ -259,5 +269,36 @@ fn a_resource_that_was_refused_is_made_again(rt: HostRuntime) -> Result<(), Fail
         telemetry.sdk.name=opentelemetry;telemetry.sdk.version=0.33.0;x=1;http://schema/a";
     assert!(rt; built_is_shown_again(rt.alloc(), wanted)?);
     assert!(rt; copy_is_shown_again(rt.alloc(), wanted)?);
+    Ok(())
+}
+
+/// Whether a value is this text.
+fn is_text(found: Option<&Value>, wanted: &str) -> bool {
+    match found {
+        Some(Value::String(text)) => text.as_str() == wanted,
+        _ => false,
+    }
+}
+
+/// Whether a resource gives back this text, again where that found no memory, which must leave the resource as it was.
+fn gives_again(resource: &Resource, key: &Key, wanted: &str) -> Result<bool, Fail> {
+    if let Ok(found) = resource.get(key) {
+        return Ok(is_text(found.as_ref(), wanted));
+    }
+    let is_left = resource.len() == 1 && is_text(resource.get_ref(key), wanted);
+    match resource.get(key) {
+        Ok(found) => Ok(is_left && is_text(found.as_ref(), wanted)),
+        Err(_) => Err(refused_again()),
+    }
+}
+
+fn value_is_given_again(alloc: Global, wanted: &str) -> Result<bool, Fail> {
+    let resource = under_schema(alloc, wanted)?;
+    gives_again(&resource, &Key::from_static_str("k"), wanted)
+}
+
+#[test]
+fn a_value_that_was_refused_is_given_again(rt: HostRuntime) -> Result<(), Fail> {
+    assert!(rt; value_is_given_again(rt.alloc(), "v")?);
     Ok(())
 }
