@@ -53,7 +53,7 @@ const USAGE: &str = "usage: otel_trace trace SEED simple | trace SEED batch Q B 
 /// The exit status where all went well.
 const DONE: u8 = 0;
 
-/// The exit status where reading, writing, closing or memory failed.
+/// The exit status where reading, writing, closing or memory failed, or a batch was lost.
 const FAILED: u8 = 1;
 
 /// The exit status of a bad line or of wrong arguments.
@@ -143,14 +143,14 @@ struct ProgramOutput {
     text: Vec<u8>,
     /// The first bad line.
     bad_line: Option<u64>,
-    /// Memory was missing, or the session closed with an error.
+    /// Memory was missing, a processor refused a span, a batch was lost, or the session closed with an error.
     has_failed: bool,
 }
 
 /// Runs the program over any reader and writers, and answers its exit status: 0 at the end of the input; 2 for a bad
-/// line or wrong arguments; 1 where reading, writing or the closing fails or memory is missing, also where 2 would be
-/// due. `words` are the arguments without the program's name; wrong ones are found before anything is read. How far a
-/// run of status 1 came is left open.
+/// line or wrong arguments; 1 where reading, writing or the closing fails, memory is missing or a batch was lost, also
+/// where 2 would be due. `words` are the arguments without the program's name; wrong ones are found before anything is
+/// read. How far a run of status 1 came is left open.
 pub fn run_program<R: Read, W: Write, F: Write>(
     alloc: Global,
     words: &[String],
@@ -482,7 +482,7 @@ fn finish<P: KeepsBatches, S: ShouldSample, G: IdGenerator>(
             bad_line: Some(line),
             has_failed: !has_closed,
         },
-        Err(FeedError::Memory) => ProgramOutput {
+        Err(FeedError::Memory | FeedError::Refused | FeedError::BatchLost) => ProgramOutput {
             text,
             bad_line: None,
             has_failed: true,

@@ -13,7 +13,7 @@ use Rattle.otel_pipeline.specs.KeptBatches.{Grows}
 use Rattle.otel_lines.specs.Commands.{PlainCommand, may_lose, plain_command, plain_commands}
 use Rattle.otel_lines.specs.PlainReply.{PlainReply}
 use Rattle.otel_export.specs.PlainSpanData.{spans_in}
-use Rattle.otel_session.specs.SessionDelivery.{EmptiedBehind, EmptiesIfOk, Histories, Course, course_of, Describe, Demands, Replies, DemandAll, Demanded, SessionState, CarriesOutOne, session_batches, batches_of_first, unshown, CarriesOut, Shows, NoneLeft, LosesNone, RunsAll, Refuses, RunsBeginning}
+use Rattle.otel_session.specs.SessionDelivery.{EmptiedBehind, EmptiesIfOk, Histories, Course, course_of, Describe, Demands, Replies, DemandAll, Demanded, SessionState, CarriesOutOne, session_batches, batches_of_first, unshown, CarriesOut, Shows, NoneLeft, LosesNone, RunsAll, HasNoReply, RunsBeginning}
 use Rattle.otel_lines.specs.declared.command.Command.{Command}
 use Rattle.otel_session.proofs.EmptiedLemmas.{emptied_more, emptied_nothing}
 use Rattle.otel_session.proofs.HeardLemmas.{all_follow, all_heard}
@@ -48,6 +48,7 @@ module _ {P S G : Type 0} (calls : Ghosts P) (timer : timing.Ghosts P) (keeps : 
   carries_nothing : (session : SessionState P S G) → CarriesOut calls timer keeps sampler ids session [] [] session
   carries_nothing session = record {
     scope = refl;
+    lost_before = refl;
     demanded = λ histories describes. record {
       deliveries = [];
       after = histories;
@@ -107,6 +108,7 @@ module _ {P S G : Type 0} (calls : Ghosts P) (timer : timing.Ghosts P) (keeps : 
       → CarriesOut calls timer keeps sampler ids old (done ++ command ∷ []) (replies ++ reply ∷ []) (marked new)
   carries_more old middle new done replies command reply carried answers = record {
     scope = ap (λ (s : SessionState P S G). s.scope) answers.rest ∙ carried.scope;
+    lost_before = ap (λ (s : SessionState P S G). s.lost_before) answers.rest ∙ carried.lost_before;
     demanded = λ histories describes. demands_more old middle new histories done replies command reply carried.scope describes (carried.demanded histories describes) answers;
   }
 
@@ -162,13 +164,13 @@ module _ {P S G : Type 0} (calls : Ghosts P) (timer : timing.Ghosts P) (keeps : 
             (emptied_more calls (plain_commands ran.done) replies (plain_command command) reply answered.provider.processors answers.empties));
       }
 
-  -- one more, which was refused
-  pub ran_refused : (old middle new : SessionState P S G) (commands queue left : List Command) (replies before now : List PlainReply) (command : Command)
+  -- one more, which has no reply
+  pub ran_stopped : (Why : SessionState P S G → Command → SessionState P S G → Type 0) (old middle new : SessionState P S G) (commands queue left : List Command) (replies before now : List PlainReply) (command : Command)
       → queue ≡ command ∷ left → Ran old commands queue replies middle → now ≡ before ++ replies
-      → Refuses calls timer keeps sampler ids middle command new → RunsBeginning calls timer keeps sampler ids old commands before now new
-  ran_refused old middle new commands queue left replies before now command popped ran appended refuses = record {
+      → HasNoReply calls timer keeps sampler ids Why middle command new → RunsBeginning calls timer keeps sampler ids Why old commands before now new
+  ran_stopped Why old middle new commands queue left replies before now command popped ran appended stopped = record {
     done = ran.done;
-    refused = command;
+    last = command;
     left = left;
     middle = middle;
     parts = ran.parts ∙ ap (λ (l : List Command). ran.done ++ l) popped;
@@ -180,5 +182,5 @@ module _ {P S G : Type 0} (calls : Ghosts P) (timer : timing.Ghosts P) (keeps : 
       none_left = ran.none_left;
       emptied = ran.emptied;
     };
-    refuses = refuses;
+    stopped = stopped;
   }

@@ -3,7 +3,7 @@
 -- history is stored.
 use Rattle.std.specs.Prelude.{◌≡◌, ◌≢◌, ℕ, List, [], ◌∷◌, ◌++◌, Option, Some, None, map, take, drop, slice_get}
 use Rattle.std.specs.Prelude.{IsFalse, Bool, true, false, Result, Ok, Err, MatchBool, if◌then◌else◌, ◌⊎◌, ◌≤◌, length}
-use Rattle.std.specs.Prelude.{All, IsTrue, codes}
+use Rattle.std.specs.Prelude.{All, IsTrue, codes, not, ◌==◌}
 use Rattle.std.specs.List.{flat_map}
 use Rattle.std.specs.Option.{option_map, option_map_or}
 use Rattle.opentelemetry.specs.Plain.{PlainContext, PlainScope, PlainSpanContext, scope_named, text}
@@ -25,17 +25,19 @@ use Rattle.otel_pipeline.specs.declared.trace.span_processor.SpanProcessor.{Ghos
 use Rattle.otel_pipeline.specs.declared.trace.drain_due.DrainDue as timing
 use Rattle.otel_pipeline.specs.declared.trace.keeps_batches.KeepsBatches as keeping
 use Rattle.otel_lines.specs.Commands.{PlainCommand, start, child, remote, attr, event, status, inject, end, flush}
-use Rattle.otel_lines.specs.Commands.{run, shutdown, may_lose, plain_command, plain_commands}
+use Rattle.otel_lines.specs.Commands.{run, shutdown, is_end, may_lose, plain_command, plain_commands}
 use Rattle.otel_pipeline.specs.KeptBatches.{Grows}
 use Rattle.otel_session.specs.Headers.{AnswersHeaders, SaysContext, child_cx}
 use Rattle.otel_session.specs.OpenSpans.{NamedSpans, SameSpans, MayStart, ChildMayStart, RemoteMayStart, named, is_name, start_answer}
 use Rattle.otel_lines.specs.AnswerText.{replies_text}
 use Rattle.otel_lines.specs.Lines.{SpellsNothing, TextSpells}
-use Rattle.otel_lines.specs.PlainReply.{PlainReply, NoneRefused}
+use Rattle.otel_lines.specs.PlainReply.{PlainReply, NoneRefused, counts_refusals}
 use Rattle.otel_lines.specs.ReplyText.{span_lines}
 use Rattle.otel_session.specs.Traces.{ChildrenAgree, KeepsContexts}
 use Rattle.otel_session.specs.declared.session.FeedError.{FeedError}
 use Rattle.otel_session.specs.declared.session.FeedError.TheVariants as feeds
+use Rattle.otel_session.specs.declared.session.RunError.{RunError}
+use Rattle.otel_session.specs.declared.session.RunError.TheVariants as runs
 use Rattle.otel_lines.specs.declared.command.Command.{Command}
 use Rattle.otel_lines.specs.declared.reply.Answer.{Answer}
 use Rattle.otel_lines.specs.declared.reply.Answer.TheVariants as answers
@@ -104,20 +106,23 @@ losses_of_first keeps processors = option_map_or keeps.lost (slice_get processor
 abbrev pub exported_in : List PlainReply → List PlainSpanData
 exported_in replies = flat_map (λ reply. reply.exported) replies
 
--- a session: its provider, the library's scope, its spans, and how many batches its replies have shown
+-- a session: its provider, the library's scope, its spans, how many batches its replies have shown, and how many were
+-- lost before it
 pub record SessionState (P S G : Type 0) : Type 0 where
   pub provider : ProviderState P S G
   pub scope : PlainScope
   pub spans : NamedSpans
   pub shown : ℕ
+  pub lost_before : ℕ
 
--- a new session under a provider: it has no spans, and shows no batch from before it
+-- a new session under a provider: it has no spans, and shows and counts no batch from before it
 abbrev pub session_under : {P S G : Type 0} → keeping.Ghosts P → ProviderState P S G → SessionState P S G
 session_under keeps provider = record {
   provider = provider;
   scope = scope_named (codes "otel_trace");
   spans = [];
   shown = length (batches_of_first keeps provider.processors);
+  lost_before = losses_of_first keeps provider.processors;
 }
 
 -- where a session stands, by histories of its spans
@@ -128,6 +133,11 @@ course_of session histories = record { provider = session.provider; histories = 
 abbrev pub or_no_memory : Result (Unit {0}) OTelSdkError → Result (Unit {0}) OTelSdkError
 or_no_memory (Ok _) = Err errors.OutOfMemory
 or_no_memory (Err error) = Err error
+
+-- the error of a text that is fed, where its commands are stopped by this one
+abbrev pub feed_error : RunError → FeedError
+feed_error runs.Memory = feeds.Memory
+feed_error runs.BatchLost = feeds.BatchLost
 
 -- what is said of a call of the provider
 abbrev pub call_answer : Result (Unit {0}) OTelSdkError → Answer
@@ -289,20 +299,6 @@ module _ {P S G : Type 0} (sampler : sampling.Ghosts S) (ids : drawing.Ghosts G)
     pub asks : MayAsk p old command q
     pub processors : q.processors ≡ p.processors
 
-module _ {P S G : Type 0} (calls : Ghosts P) (timer : timing.Ghosts P) (sampler : sampling.Ghosts S)
-    (ids : drawing.Ghosts G) where
-  -- a command was carried out as it demands, with an answer that no reply tells
-  abbrev pub CarriesOutUntold : PlainScope → ProviderState P S G → NamedSpans → PlainCommand → ProviderState P S G
-      → NamedSpans → Type 0
-  CarriesOutUntold scope p old command q new =
-      (answer : Answer) × CarriesOutOne calls timer sampler ids scope p old command answer q new
-
-  -- a command has no reply: it was refused, or carried out
-  abbrev pub MayCarryOut : PlainScope → ProviderState P S G → NamedSpans → PlainCommand → ProviderState P S G
-      → NamedSpans → Type 0
-  MayCarryOut scope p old command q new =
-      RefusesOne sampler ids p old command q new ⊎ CarriesOutUntold scope p old command q new
-
 module _ {P S G : Type 0} (calls : Ghosts P) where
   -- the shutdown of a session's provider with a timeout: where it was shut nothing happens
   abbrev pub ShutsIfOpen : ProviderState P S G → ℕ → Result (Unit {0}) OTelSdkError → ProviderState P S G → Type 0
@@ -361,6 +357,10 @@ module _ {P S G : Type 0} (keeps : keeping.Ghosts P) where
   abbrev pub LosesNone : SessionState P S G → SessionState P S G → Type 0
   LosesNone old new = session_losses new ≡ session_losses old
 
+  -- whether a batch was lost since the session began, by the exporter's own count
+  abbrev pub has_lost : SessionState P S G → Bool
+  has_lost session = not (session_losses session == session.lost_before)
+
 module _ {P S G : Type 0} (calls : Ghosts P) (timer : timing.Ghosts P) (keeps : keeping.Ghosts P)
     (sampler : sampling.Ghosts S) (ids : drawing.Ghosts G) where
   -- one command with its reply: its answer is as demanded, each processor follows what it delivers, it shows the spans
@@ -415,6 +415,7 @@ module _ {P S G : Type 0} (calls : Ghosts P) (timer : timing.Ghosts P) (keeps : 
   pub record CarriesOut (old : SessionState P S G) (commands : List Command) (replies : List PlainReply)
       (new : SessionState P S G) : Type 0 where
     pub scope : new.scope ≡ old.scope
+    pub lost_before : new.lost_before ≡ old.lost_before
     pub demanded : (histories : Histories) → Describe histories old.spans
         → Demanded old histories (plain_commands commands) replies new
 
@@ -429,23 +430,64 @@ module _ {P S G : Type 0} (calls : Ghosts P) (timer : timing.Ghosts P) (keeps : 
     pub none_left : NoneLeft keeps replies new
     pub emptied : EmptiedBehind calls (plain_commands commands) replies new.provider.processors
 
-  -- a command found no memory: it was refused, or carried out without a reply, and what it exported is left to show
-  pub record Refuses (old : SessionState P S G) (command : Command) (new : SessionState P S G) : Type 0 where
-    pub asked : MayCarryOut calls timer sampler ids old.scope old.provider old.spans
-        (plain_command command) new.provider new.spans
+  -- a command was refused for want of memory
+  abbrev pub IsRefused : SessionState P S G → Command → SessionState P S G → Type 0
+  IsRefused old command new =
+      RefusesOne sampler ids old.provider old.spans (plain_command command) new.provider new.spans
+
+  -- a command was carried out as it demands, with this answer
+  abbrev pub IsCarriedOut : SessionState P S G → Command → Answer → SessionState P S G → Type 0
+  IsCarriedOut old command answer new = CarriesOutOne calls timer sampler ids old.scope old.provider old.spans
+      (plain_command command) answer new.provider new.spans
+
+  -- a command was carried out with an answer that no reply tells, and no batch was lost, but at a flush, a run or a
+  -- shutdown
+  pub record IsUntold (old : SessionState P S G) (command : Command) (answer : Answer) (new : SessionState P S G)
+      : Type 0 where
+    pub carried : IsCarriedOut old command answer new
+    pub loses_none : IsFalse (may_lose (plain_command command)) → LosesNone keeps old new
+
+  -- a command was carried out that ended a span whose batch was lost
+  pub record LosesBatch (old : SessionState P S G) (command : Command) (new : SessionState P S G) : Type 0 where
+    pub answer : Answer
+    pub carried : IsCarriedOut old command answer new
+    pub ends_span : is_end (plain_command command) ≡ true
+    pub loses_one : ¬ LosesNone keeps old new
+
+  -- why a command has no reply, by the error: it was refused for want of memory, or carried out, and then its reply
+  -- found none; or a batch was lost
+  abbrev pub RunStops : RunError → SessionState P S G → Command → SessionState P S G → Type 0
+  RunStops runs.Memory old command new =
+      IsRefused old command new ⊎ ((answer : Answer) × IsUntold old command answer new)
+  RunStops runs.BatchLost old command new = LosesBatch old command new
+
+  -- the same where replies are written, which stops at a refusal too
+  abbrev pub FeedStops : FeedError → SessionState P S G → Command → SessionState P S G → Type 0
+  FeedStops (feeds.Line n) old command new = ⊥
+  FeedStops feeds.Memory old command new = IsRefused old command new
+      ⊎ ((answer : Answer) × IsUntold old command answer new × (counts_refusals answer ≡ false))
+  FeedStops feeds.Refused old command new =
+      (answer : Answer) × IsUntold old command answer new × (counts_refusals answer ≡ true)
+  FeedStops feeds.BatchLost old command new = LosesBatch old command new
+
+  -- a command has no reply, and this is why; what it exported is left to show
+  pub record HasNoReply (Why : SessionState P S G → Command → SessionState P S G → Type 0) (old : SessionState P S G)
+      (command : Command) (new : SessionState P S G) : Type 0 where
+    pub why : Why old command new
     pub rest : new ≡ record old { provider = new.provider; spans = new.spans }
     pub keeps_batches : Grows (session_batches keeps old) (session_batches keeps new)
 
-  -- a beginning of the commands was carried out, each with its reply, and the one behind it found no memory
-  pub record RunsBeginning (old : SessionState P S G) (commands : List Command) (before now : List PlainReply)
+  -- a beginning of the commands was carried out, each with its reply, and the one behind it has none
+  pub record RunsBeginning (Why : SessionState P S G → Command → SessionState P S G → Type 0)
+      (old : SessionState P S G) (commands : List Command) (before now : List PlainReply)
       (new : SessionState P S G) : Type 0 where
     pub done : List Command
-    pub refused : Command
+    pub last : Command
     pub left : List Command
     pub middle : SessionState P S G
-    pub parts : commands ≡ done ++ refused ∷ left
+    pub parts : commands ≡ done ++ last ∷ left
     pub ran : RunsAll old done before now middle
-    pub refuses : Refuses middle refused new
+    pub stopped : HasNoReply Why middle last new
 
   -- the same where the replies were written: none counts a refusal
   pub record WritesAll (old : SessionState P S G) (commands : List Command) (before now : List ℕ)
@@ -455,12 +497,13 @@ module _ {P S G : Type 0} (calls : Ghosts P) (timer : timing.Ghosts P) (keeps : 
     pub none_refused : NoneRefused replies
     pub ran : RunsAll old commands [] replies new
 
-  pub record WritesBeginning (old : SessionState P S G) (commands : List Command) (before now : List ℕ)
+  pub record WritesBeginning (Why : SessionState P S G → Command → SessionState P S G → Type 0)
+      (old : SessionState P S G) (commands : List Command) (before now : List ℕ)
       (new : SessionState P S G) : Type 0 where
     pub replies : List PlainReply
     pub written : now ≡ before ++ replies_text replies
     pub none_refused : NoneRefused replies
-    pub ran : RunsBeginning old commands [] replies new
+    pub ran : RunsBeginning Why old commands [] replies new
 
   -- a text was fed whole: its lines up to the first bad one spell the commands that were carried out
   abbrev pub FeedsUpTo : SessionState P S G → List ℕ → Option ℕ → List ℕ → List ℕ → SessionState P S G → Type 0
@@ -475,39 +518,42 @@ module _ {P S G : Type 0} (calls : Ghosts P) (timer : timing.Ghosts P) (keeps : 
     pub nothing_written : now ≡ before
     pub nothing_done : new ≡ old
 
-  -- memory ran out behind a beginning of the commands that the text spells
-  pub record FeedsSome (old : SessionState P S G) (bytes before now : List ℕ) (new : SessionState P S G) : Type 0 where
+  -- a beginning of the commands that the text spells was carried out, and this is why the one behind it has no reply
+  pub record FeedsSome (Why : SessionState P S G → Command → SessionState P S G → Type 0)
+      (old : SessionState P S G) (bytes before now : List ℕ) (new : SessionState P S G) : Type 0 where
     pub commands : List Command
     pub bad_line : Option ℕ
     pub spelled : TextSpells bytes (plain_commands commands) bad_line
-    pub wrote : WritesBeginning old commands before now new
-
-  abbrev pub FeedsBeginning : SessionState P S G → List ℕ → List ℕ → List ℕ → SessionState P S G → Type 0
-  FeedsBeginning old bytes before now new = FeedsNothing old bytes before now new ⊎ FeedsSome old bytes before now new
+    pub wrote : WritesBeginning Why old commands before now new
 
   -- what feeding a text does, by its answer
   abbrev pub Feeds : {T : Type 0} → SessionState P S G → List ℕ → List ℕ → Result T FeedError → List ℕ
       → SessionState P S G → Type 0
   Feeds old bytes before (Ok _) now new = FeedsUpTo old bytes None before now new
   Feeds old bytes before (Err (feeds.Line n)) now new = FeedsUpTo old bytes (Some n) before now new
-  Feeds old bytes before (Err feeds.Memory) now new = FeedsBeginning old bytes before now new
+  Feeds old bytes before (Err feeds.Memory) now new =
+      FeedsNothing old bytes before now new ⊎ FeedsSome (FeedStops feeds.Memory) old bytes before now new
+  Feeds old bytes before (Err error) now new = FeedsSome (FeedStops error) old bytes before now new
 
   -- the lines of the spans that no reply has shown are appended, those exported by the shutdown among them; where there
-  -- is no memory for them, none is
+  -- is no memory for them, none is. The answer is that of the shutdown, unless that is Ok and memory was missing: for
+  -- the lines, or for a batch that was lost since the session began
   pub record Closes (session : SessionState P S G) (before : List ℕ) (answer : Result (Unit {0}) OTelSdkError)
       (now : List ℕ) : Type 0 where
     pub provider : ProviderState P S G
     pub shutdown : Result (Unit {0}) OTelSdkError
     pub shuts : ShutsIfOpen calls session.provider 5_000_000_000 shutdown provider
-    pub writes : ((answer ≡ shutdown)
+    pub writes : ((answer ≡ (if has_lost keeps (record session { provider = provider })
+        then or_no_memory shutdown else shutdown))
         × (now ≡ before ++ span_lines (unshown keeps (record session { provider = provider }))))
         ⊎ ((answer ≡ or_no_memory shutdown) × (now ≡ before)
         × (unshown keeps (record session { provider = provider }) ≢ []))
 
-  -- a text was fed to a session, whole or up to its first bad line, and the session closed well
+  -- a text was fed to a session, whole or up to its first bad line, and the session closed well: no batch was lost
   pub record Finishes (session : SessionState P S G) (bytes : List ℕ) (bad_line : Option ℕ)
       (now : List ℕ) : Type 0 where
     pub written : List ℕ
     pub after : SessionState P S G
     pub feeds : FeedsUpTo session bytes bad_line [] written after
     pub closes : Closes after written (Ok tt) now
+    pub loses_none : losses_of_first keeps closes.provider.processors ≡ session.lost_before

@@ -6,4 +6,4 @@ mod headers;
 mod open_spans;
 pub mod session;
 
-pub use session::{FeedError, Session};
+pub use session::{FeedError, RunError, Session};

@@ -1,7 +1,7 @@
 //! A session: commands against one provider, each with a reply. What its commands deliver to the exporters is stated by
 //! the histories of its spans, apart from the code that fills them.
 
-ghost use Rattle.std.specs.Prelude.{◌≡◌, ◌++◌, drop, false, length, map, IfErr, IfOk, IsFalse, MatchResult, OnOk, OnErr, codes, string_bytes};
+ghost use Rattle.std.specs.Prelude.{◌≡◌, ◌++◌, ◌∷◌, [], drop, length, map, if◌then◌else◌, IfErr, IfOk, IsFalse, OnOk, OnErr, codes, string_bytes};
 ghost use Rattle.std.specs.List.{flat_map};
 ghost use Rattle.opentelemetry.specs.Plain.{scope_named, text};
 ghost use Rattle.opentelemetry.specs.PlainContexts.{root_cx};
@@ -11,18 +11,18 @@ ghost use Rattle.otel_pipeline.specs.SpanHistory.{set_attribute};
 ghost use Rattle.otel_lines.specs.Commands.{is_end, may_lose, plain_command};
 ghost use Rattle.otel_lines.specs.AnswerText.{answer_line};
 ghost use Rattle.otel_pipeline.specs.KeptBatches.{Grows};
-ghost use Rattle.otel_lines.specs.PlainReply.{counts_refusals};
 ghost use Rattle.otel_lines.specs.ReplyText.{span_lines};
 ghost use Rattle.otel_session.specs.SessionDelivery.{
   CarriesOutOne,
   Closes,
   Describe,
   EmptiesIfOk,
+  FeedStops,
   Feeds,
   Histories,
   LosesNone,
-  MayCarryOut,
   RefusesOne,
+  RunStops,
   RunsAll,
   RunsBeginning,
   ShutsIfOpen,
@@ -58,6 +58,28 @@ use std::marker::Model;
 use std::mem;
 use thiserror::Error;
 
+/// Why commands were not carried out to their end.
+#[derive(Clone, Copy, Debug, PartialEq, Eq, Error)]
+pub enum RunError {
+    /// There was no memory.
+    #[error("no memory")]
+    Memory,
+    /// A command ended a span whose batch the first processor's exporter lost.
+    #[error("a batch was lost")]
+    BatchLost,
+}
+
+impl From<AllocError> for RunError {
+    ghost use Rattle.std.specs.Prelude.{◌≡◌};
+    ghost use Rattle.otel_session.specs.declared.session.RunError.TheVariants as runs;
+
+    ghost from_gives = { λ _ error. error ≡ runs.Memory };
+
+    fn from(_error: AllocError) -> RunError {
+        RunError::Memory
+    }
+}
+
 /// Why a text was not carried out to its end.
 #[derive(Clone, Copy, Debug, PartialEq, Eq, Error)]
 pub enum FeedError {
@@ -67,6 +89,37 @@ pub enum FeedError {
     /// There was no memory.
     #[error("no memory")]
     Memory,
+    /// A command ended a span that a processor refused.
+    #[error("a processor refused a span")]
+    Refused,
+    /// A command ended a span whose batch the first processor's exporter lost.
+    #[error("a batch was lost")]
+    BatchLost,
+}
+
+impl From<AllocError> for FeedError {
+    ghost use Rattle.std.specs.Prelude.{◌≡◌};
+    ghost use Rattle.otel_session.specs.declared.session.FeedError.TheVariants as feeds;
+
+    ghost from_gives = { λ _ error. error ≡ feeds.Memory };
+
+    fn from(_error: AllocError) -> FeedError {
+        FeedError::Memory
+    }
+}
+
+impl From<RunError> for FeedError {
+    ghost use Rattle.std.specs.Prelude.{◌≡◌};
+    ghost use Rattle.otel_session.specs.SessionDelivery.{feed_error};
+
+    ghost from_gives = { λ error fed. fed ≡ feed_error error };
+
+    fn from(error: RunError) -> FeedError {
+        match error {
+            RunError::Memory => FeedError::Memory,
+            RunError::BatchLost => FeedError::BatchLost,
+        }
+    }
 }
 
 /// The name of the library whose spans a session makes.
@@ -80,6 +133,8 @@ pub struct Session<P, S, G> {
     root: Context,
     spans: OpenSpans,
     shown: usize,
+    // How many batches of the first processor had found no memory when the session began.
+    lost_before: u64,
     // Room for the texts of replies, one after another.
     text: String,
     alloc: Global,
@@ -92,7 +147,13 @@ impl<P, S, G> Model for Session<P, S, G> {
 
     ghost Value = { SessionState P S G };
 
-    ghost view = { λ a. record { provider = a.provider; scope = a.tracer; spans = a.spans; shown = a.shown } };
+    ghost view = { λ a. record {
+      provider = a.provider;
+      scope = a.tracer;
+      spans = a.spans;
+      shown = a.shown;
+      lost_before = a.lost_before;
+    } };
 
     ghost invariant = { λ a. a.root ≡ root_cx };
 }
@@ -107,8 +168,8 @@ fn tracer_of<P, S, G>(
 }
 
 impl<P: KeepsBatches, S: ShouldSample, G: IdGenerator> Session<P, S, G> {
-    /// A session with no spans. It shows no batch that is kept already. Where there is no memory for its scope, the
-    /// provider comes back.
+    /// A session with no spans. It shows no batch that is kept already, and counts none that was lost already. Where
+    /// there is no memory for its scope, the provider comes back.
     pub fn new(
         alloc: Global,
         provider: ProviderOf<P, S, G>,
@@ -121,12 +182,14 @@ impl<P: KeepsBatches, S: ShouldSample, G: IdGenerator> Session<P, S, G> {
             Err(error) => return Err((provider, error)),
         };
         let shown = kept_by_first(provider.processors()).len();
+        let lost_before = lost_by_first(provider.processors());
         Ok(Session {
             provider,
             tracer,
             root: Context::new(),
             spans: OpenSpans::new(alloc),
             shown,
+            lost_before,
             text: String::new(alloc),
             alloc,
         })
@@ -139,46 +202,46 @@ impl<P: KeepsBatches, S: ShouldSample, G: IdGenerator> Session<P, S, G> {
         self.spans.have_histories();
     }
 
-    /// Carries commands out in order and appends a reply for each. Where memory runs out, also for the batch of a span
-    /// that the first processor exported, a beginning of the commands was carried out, each with its reply, except that
-    /// the last one may be without. A processor that refused a span is counted in the reply.
-    pub fn run(
-        &mut self,
-        commands: Vec<Command>,
-        replies: &mut Vec<Reply>,
-    ) -> Result<(), AllocError>
+    /// Carries commands out in order and appends a reply for each. On an error a beginning of the commands was carried
+    /// out, each with its reply; the one behind it has none, and the error says why. A processor that refused a span is
+    /// counted in the reply.
+    pub fn run(&mut self, commands: Vec<Command>, replies: &mut Vec<Reply>) -> Result<(), RunError>
         ensures ok { OnOk result (RunsAll P.SpanProcessor P.DrainDue.own P.KeepsBatches.own S.ShouldSample
             G.IdGenerator self.old commands.items replies.old.items replies.new.items self.new) }
-
-        // Where memory ran out.
-        ensures err { OnErr result (RunsBeginning P.SpanProcessor P.DrainDue.own P.KeepsBatches.own S.ShouldSample
-            G.IdGenerator self.old commands.items replies.old.items replies.new.items self.new) }
+        ensures err { IfErr result (λ error. RunsBeginning P.SpanProcessor P.DrainDue.own P.KeepsBatches.own
+            S.ShouldSample G.IdGenerator (RunStops P.SpanProcessor P.DrainDue.own P.KeepsBatches.own S.ShouldSample
+            G.IdGenerator error) self.old commands.items replies.old.items replies.new.items self.new) }
     {
         let mut queue = VecDeque::from_vec(commands);
         while let Some(command) = queue.pop_front() {
             let answer = self.answer(command)?;
-            let exported = copied_spans(self.alloc, self.unshown())?;
-            replies.push(Reply { exported, answer })?;
+            self.push_reply(answer, replies)?;
             self.mark_shown();
         }
         Ok(())
     }
 
+    /// Appends the reply of an answer, with copies of the spans that no reply has shown, or nothing.
+    fn push_reply(&self, answer: Answer, replies: &mut Vec<Reply>) -> Result<(), AllocError>
+        ensures ok { OnOk result (replies.new.items ≡ replies.old.items
+            ++ (record { exported = unshown P.KeepsBatches.own self.now; answer = answer }) ∷ []) }
+        ensures err { OnErr result (replies.new.items ≡ replies.old.items) }
+    {
+        let exported = copied_spans(self.alloc, self.unshown())?;
+        replies.push(Reply { exported, answer })?;
+        Ok(())
+    }
+
     /// Carries out the commands that the lines of a text spell, up to the first line that is none, and appends the text
-    /// of each reply. `Line` names the first bad line, from 1 and with empty lines counted. `Memory` comes where memory
-    /// runs out, also where a processor refused a span for want of it, which no text tells: the output then has the
-    /// replies of a beginning of the commands, and at most one more command was carried out. What that one exported is
-    /// left for the next reply.
+    /// of each reply. `Line` names the first bad line, from 1 and with empty lines counted. On another error the output
+    /// has the replies of a beginning of the commands; behind `Refused` and `BatchLost`, which no text tells, one more
+    /// was carried out, and behind `Memory` at most one. What that one exported is left for the next reply.
     pub fn feed(&mut self, text: &[u8], output: &mut Vec<u8>) -> Result<(), FeedError>
         ensures { Feeds P.SpanProcessor P.DrainDue.own P.KeepsBatches.own S.ShouldSample G.IdGenerator self.old
             text.now output.old.items result output.new.items self.new }
     {
-        let Ok(script) = parse(self.alloc, text) else {
-            return Err(FeedError::Memory);
-        };
-        let Ok(()) = self.run_and_write(script.commands, output) else {
-            return Err(FeedError::Memory);
-        };
+        let script = parse(self.alloc, text)?;
+        self.run_and_write(script.commands, output)?;
         match script.bad_line {
             None => Ok(()),
             Some(line) => Err(FeedError::Line(line)),
@@ -187,7 +250,7 @@ impl<P: KeepsBatches, S: ShouldSample, G: IdGenerator> Session<P, S, G> {
 
     /// Spends the session: its spans are abandoned, the provider is shut down where it is open, and the lines of the
     /// spans that no reply has shown are appended. The answer is that of the shutdown, or `OutOfMemory` where that is
-    /// Ok and the lines found no memory.
+    /// Ok and the lines found no memory or the first processor's exporter has lost a batch since the session began.
     pub fn close(self, output: &mut Vec<u8>) -> OTelSdkResult
         ensures { Closes P.SpanProcessor P.DrainDue.own P.KeepsBatches.own S.ShouldSample G.IdGenerator self
             output.old.items result output.new.items }
@@ -198,58 +261,60 @@ impl<P: KeepsBatches, S: ShouldSample, G: IdGenerator> Session<P, S, G> {
             root: _,
             spans,
             shown,
+            lost_before,
             text: _,
             alloc,
         } = self;
         spans.abandon();
         let shutdown = shut_down(&mut provider);
+        let has_lost = lost_by_first(provider.processors()) != lost_before;
         let unshown = unshown_by_first(provider.processors(), shown);
         let written = write_batches(alloc, output, unshown);
         let _ = provider.close();
-        close_answer(shutdown, written)
+        close_answer(shutdown, has_lost || written.is_err())
     }
 
     /// Carries commands out in order, and appends the text of each reply before the next command. It stops behind a
-    /// command whose reply counts a refusal, or finds no memory.
+    /// command whose answer counts a refusal, or whose reply finds no memory.
     fn run_and_write(
         &mut self,
         commands: Vec<Command>,
         output: &mut Vec<u8>,
-    ) -> Result<(), AllocError>
+    ) -> Result<(), FeedError>
         ensures ok { OnOk result (WritesAll P.SpanProcessor P.DrainDue.own P.KeepsBatches.own S.ShouldSample
             G.IdGenerator self.old commands.items output.old.items output.new.items self.new) }
-        ensures err { OnErr result (WritesBeginning P.SpanProcessor P.DrainDue.own P.KeepsBatches.own S.ShouldSample
-            G.IdGenerator self.old commands.items output.old.items output.new.items self.new) }
+        ensures err { IfErr result (λ error. WritesBeginning P.SpanProcessor P.DrainDue.own P.KeepsBatches.own
+            S.ShouldSample G.IdGenerator (FeedStops P.SpanProcessor P.DrainDue.own P.KeepsBatches.own S.ShouldSample
+            G.IdGenerator error) self.old commands.items output.old.items output.new.items self.new) }
     {
         let mut queue = VecDeque::from_vec(commands);
         while let Some(command) = queue.pop_front() {
             let answer = self.answer(command)?;
-            self.write_unrefused(answer, output)?;
+            if answer.counts_refusals() {
+                return Err(FeedError::Refused);
+            }
+            self.write_answer(answer, output)?;
             self.mark_shown();
         }
         Ok(())
     }
 
-    /// Writes a reply whose answer counts no refusal, or nothing.
-    fn write_unrefused(&mut self, answer: Answer, output: &mut Vec<u8>) -> Result<(), AllocError>
-        ensures ok { OnOk result ((counts_refusals answer ≡ false)
-            × (output.new.items ≡ output.old.items ++
-            (span_lines (unshown P.KeepsBatches.own self.old) ++ answer_line answer))) }
+    /// Writes the reply of an answer, with the lines of the spans that no reply has shown, or nothing.
+    fn write_answer(&mut self, answer: Answer, output: &mut Vec<u8>) -> Result<(), AllocError>
+        ensures ok { OnOk result (output.new.items ≡ output.old.items ++
+            (span_lines (unshown P.KeepsBatches.own self.old) ++ answer_line answer)) }
         ensures err { OnErr result (output.new.items ≡ output.old.items) }
         ensures rest { self.new ≡ self.old }
     {
-        if answer.counts_refusals() {
-            return Err(AllocError);
-        }
         let mut text = mem::replace(&mut self.text, String::new(self.alloc));
         let written = write_reply(&mut text, output, self.unshown(), answer);
         self.text = text;
         written
     }
 
-    /// Carries one command out. It is also an error where the first processor's exporter lost the batch of an ended
-    /// span. On an error the command was refused or carried out, and what it exported is left for the next reply.
-    fn answer(&mut self, command: Command) -> Result<Answer, AllocError>
+    /// Carries one command out. Where the first processor's exporter lost the batch of a span that it ended, it was
+    /// carried out, and that is the answer. Where there was no memory, it was refused.
+    fn answer(&mut self, command: Command) -> Result<Answer, RunError>
         ensures ok { IfOk result (λ answer. CarriesOutOne P.SpanProcessor P.DrainDue.own S.ShouldSample G.IdGenerator
             self.old.scope self.old.provider self.old.spans
             (plain_command command) answer self.new.provider self.new.spans) }
@@ -257,9 +322,8 @@ impl<P: KeepsBatches, S: ShouldSample, G: IdGenerator> Session<P, S, G> {
             → LosesNone P.KeepsBatches.own self.old self.new) }
         ensures empties { IfOk result (λ answer. EmptiesIfOk P.SpanProcessor (plain_command command) answer
             self.new.provider.processors) }
-        ensures err { OnErr result
-            (MayCarryOut P.SpanProcessor P.DrainDue.own S.ShouldSample G.IdGenerator self.old.scope self.old.provider
-            self.old.spans (plain_command command) self.new.provider self.new.spans) }
+        ensures err { IfErr result (λ error. RunStops P.SpanProcessor P.DrainDue.own P.KeepsBatches.own S.ShouldSample
+            G.IdGenerator error self.old command self.new) }
         ensures rest { self.new ≡ record self.old { provider = self.new.provider; spans = self.new.spans } }
         ensures keeps { Grows (session_batches P.KeepsBatches.own self.old)
             (session_batches P.KeepsBatches.own self.new) }
@@ -275,7 +339,7 @@ impl<P: KeepsBatches, S: ShouldSample, G: IdGenerator> Session<P, S, G> {
             command,
         )?;
         if ends_span && self.lost_batches() != lost {
-            return Err(AllocError);
+            return Err(RunError::BatchLost);
         }
         Ok(answer)
     }
@@ -314,13 +378,13 @@ fn shut_down<P: SpanProcessor, S: Drop, G: Drop>(
     }
 }
 
-/// What closing answers: what the shutdown did, and where that is Ok, whether the lines found memory.
-fn close_answer(shutdown: OTelSdkResult, written: Result<(), AllocError>) -> OTelSdkResult
-    ensures { MatchResult written (λ _. result ≡ shutdown) (λ _. result ≡ or_no_memory shutdown) }
+/// What closing answers: what the shutdown did, and where that is Ok, whether anything found no memory.
+fn close_answer(shutdown: OTelSdkResult, found_no_memory: bool) -> OTelSdkResult
+    ensures { result ≡ (if found_no_memory then or_no_memory shutdown else shutdown) }
 {
-    match (written, shutdown) {
-        (Err(_), Ok(())) => Err(OTelSdkError::OutOfMemory),
-        (_, shutdown) => shutdown,
+    match shutdown {
+        Ok(()) if found_no_memory => Err(OTelSdkError::OutOfMemory),
+        shutdown => shutdown,
     }
 }
 

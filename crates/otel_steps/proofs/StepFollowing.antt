@@ -1,69 +1,126 @@
 -- Lines of steps, followed one by one.
-use Rattle.std.proofs.Common.{◌≡◌, ◌≢◌, ℕ, ◌+◌, List, [], ◌∷◌, ◌++◌, Option, None, Some, inl, inr, refl, sym, ap, subst, ◌∙◌}
+use Rattle.std.proofs.Common.{◌≡◌, ◌≢◌, ℕ, suc, ◌+◌, List, [], ◌∷◌, ◌++◌, length, Option, None, Some, inl, inr, refl, sym, ap, subst, ◌∙◌, arith, length-append}
 use Rattle.std.proofs.lemmas.List.{append_assoc, append-nil}
 use Rattle.std.specs.Str.Lines.{lines}
 use Rattle.otel_batch.specs.MachineState.{Machine}
 use Rattle.otel_export.specs.StoredBatches.{StoredBatches}
-use Rattle.otel_steps.specs.StepAnswers.{AnswersLines, ObeysEach, Obeys}
+use Rattle.otel_steps.specs.StepAnswers.{AnswersBeginning, AnswersLines, MayObey, ObeysEach, Obeys}
 use Rattle.otel_steps.specs.StepLines.{ReadsOrder}
 use Rattle.otel_steps.specs.StepTexts.{outcome_text, state_text}
 use Rattle.otel_steps.specs.declared.steps.lines.Order.{Order}
 use Rattle.otel_steps.specs.declared.steps.lines.Order.TheVariants as orders
 
--- so many lines of a text were followed, and rest stands behind them: whatever follows the rest follows the whole
+-- lines, and others behind them
+obeys_append : (m middle after : Machine StoredBatches) (number : ℕ) (done more : List (List ℕ)) (bad_line : Option ℕ) (answers rest : List ℕ) → ObeysEach m number done None answers middle → ObeysEach middle (number + length done) more bad_line rest after
+    → ObeysEach m number (done ++ more) bad_line (answers ++ rest) after
+obeys_append m middle after number [] more bad_line answers rest h f =
+    let none : number + 0 ≡ number = omega arith in
+    subst (λ (a : List ℕ). ObeysEach m number more bad_line (a ++ rest) after) (sym h.1)
+    (subst (λ (s : Machine StoredBatches). ObeysEach s number more bad_line rest after) h.2
+    (subst (λ (n : ℕ). ObeysEach middle n more bad_line rest after) none f))
+obeys_append m middle after number ([] ∷ done) more bad_line answers rest h f =
+    let one : number + suc (length done) ≡ (number + 1) + length done = omega arith in
+    obeys_append m middle after (number + 1) done more bad_line answers rest h (subst (λ (n : ℕ). ObeysEach middle n more bad_line rest after) one f)
+obeys_append m middle after number ((b ∷ bytes) ∷ done) more bad_line answers rest (inl h) f =
+    let numbered : None ≡ Some (number + 1) = h.numbered in let no : ⊥ = cc in absurd no
+obeys_append m middle after number ((b ∷ bytes) ∷ done) more bad_line answers rest (inr h) f =
+    let one : number + suc (length done) ≡ (number + 1) + length done = omega arith in
+    inr (record {
+      order = h.order;
+      answer = h.answer;
+      rest = h.rest ++ rest;
+      next = h.next;
+      reads = h.reads;
+      obeys = h.obeys;
+      others = obeys_append h.next middle after (number + 1) done more bad_line h.rest rest h.others (subst (λ (n : ℕ). ObeysEach middle n more bad_line rest after) one f);
+      joined = ap (λ (a : List ℕ). a ++ rest) h.joined ∙ append_assoc h.answer h.rest rest;
+    })
+
+-- so many lines of a text were obeyed and answered, and rest stands behind them
 pub record HasFollowed (start now : Machine StoredBatches) (text rest before out : List ℕ) (number : ℕ) : Type 0 where
+  pub done : List (List ℕ)
   pub written : List ℕ
+  pub parts : lines text ≡ done ++ lines rest
+  pub counted : number ≡ length done
   pub appended : out ≡ before ++ written
-  pub goes_on : (bad_line : Option ℕ) (answers : List ℕ) (after : Machine StoredBatches) → ObeysEach now number (lines rest) bad_line answers after → ObeysEach start 0 (lines text) bad_line (written ++ answers) after
+  pub obeyed : ObeysEach start 0 done None written now
 
 -- none was followed yet
 pub followed_none : (start : Machine StoredBatches) (text before : List ℕ) → HasFollowed start start text text before before 0
-followed_none start text before = record { written = []; appended = sym (append-nil before); goes_on = λ bad_line answers after h. h }
+followed_none start text before = record { done = []; written = []; parts = refl; counted = refl; appended = sym (append-nil before); obeyed = (refl, refl, refl) }
 
--- an empty line
-pub followed_blank : (start now : Machine StoredBatches) (text rest line behind before out : List ℕ) (number : ℕ) → HasFollowed start now text rest before out number → lines rest ≡ line ∷ lines behind → line ≡ []
-    → HasFollowed start now text behind before out (number + 1)
-followed_blank start now text rest line behind before out number h next blank = record {
-  written = h.written;
-  appended = h.appended;
-  goes_on = λ bad_line answers after f. h.goes_on bad_line answers after (subst (λ all. ObeysEach now number all bad_line answers after) (sym (next ∙ ap (λ l. l ∷ lines behind) blank)) f);
+-- one more
+follow_one : (start now next : Machine StoredBatches) (text rest line behind before out longer answer : List ℕ) (number : ℕ) → HasFollowed start now text rest before out number → lines rest ≡ line ∷ lines behind
+    → ((n : ℕ) → ObeysEach now n (line ∷ []) None answer next) → longer ≡ out ++ answer → HasFollowed start next text behind before longer (number + 1)
+follow_one start now next text rest line behind before out longer answer number h parts one e = record {
+  done = h.done ++ line ∷ [];
+  written = h.written ++ answer;
+  parts = h.parts ∙ ap (λ (l : List (List ℕ)). h.done ++ l) parts ∙ sym (append_assoc h.done (line ∷ []) (lines behind));
+  counted = let counted : number ≡ length h.done = h.counted in omega (arith, length-append h.done (line ∷ []));
+  appended = e ∙ ap (λ (o : List ℕ). o ++ answer) h.appended ∙ append_assoc before h.written answer;
+  obeyed = obeys_append start now next 0 h.done (line ∷ []) None h.written answer h.obeyed (one (0 + length h.done));
 }
 
--- one line, which is not empty, and those behind it
-follow_more : (now next : Machine StoredBatches) (line : List ℕ) (more : List (List ℕ)) (number : ℕ) (order : Order) (answer : List ℕ) (bad_line : Option ℕ) (answers : List ℕ) (after : Machine StoredBatches)
-    → line ≢ [] → ReadsOrder line order → Obeys now order answer next → ObeysEach next (number + 1) more bad_line answers after → ObeysEach now number (line ∷ more) bad_line (answer ++ answers) after
-follow_more now next [] more number order answer bad_line answers after some reads obeys f = absurd (some refl)
-follow_more now next (b ∷ line) more number order answer bad_line answers after some reads obeys f =
+-- an empty one
+obeys_blank : (now : Machine StoredBatches) (line : List ℕ) (number : ℕ) → line ≡ [] → ObeysEach now number (line ∷ []) None [] now
+obeys_blank now [] number blank = (refl, refl, refl)
+obeys_blank now (b ∷ line) number blank = let no : ⊥ = cc in absurd no
+
+pub followed_blank : (start now : Machine StoredBatches) (text rest line behind before out : List ℕ) (number : ℕ) → HasFollowed start now text rest before out number → lines rest ≡ line ∷ lines behind → line ≡ []
+    → HasFollowed start now text behind before out (number + 1)
+followed_blank start now text rest line behind before out number h parts blank =
+    follow_one start now now text rest line behind before out out [] number h parts (λ n. obeys_blank now line n blank) (sym (append-nil out))
+
+-- one that reads as an order
+obeys_one : (now next : Machine StoredBatches) (line : List ℕ) (number : ℕ) (order : Order) (answer : List ℕ) → line ≢ [] → ReadsOrder line order → Obeys now order answer next → ObeysEach now number (line ∷ []) None answer next
+obeys_one now next [] number order answer some reads obeys = absurd (some refl)
+obeys_one now next (b ∷ line) number order answer some reads obeys =
     inr (record {
       order = order;
       answer = answer;
-      rest = answers;
+      rest = [];
       next = next;
       reads = reads;
       obeys = obeys;
-      others = f;
-      joined = refl;
+      others = (refl, refl, refl);
+      joined = sym (append-nil answer);
     })
 
--- a line that reads as an order
 pub followed_more : (start now next : Machine StoredBatches) (text rest line behind before out longer : List ℕ) (number : ℕ) (order : Order) (answer : List ℕ) → HasFollowed start now text rest before out number
     → lines rest ≡ line ∷ lines behind → line ≢ [] → ReadsOrder line order → Obeys now order answer next → longer ≡ out ++ answer
     → HasFollowed start next text behind before longer (number + 1)
-followed_more start now next text rest line behind before out longer number order answer h parts some reads obeys e = record {
-  written = h.written ++ answer;
-  appended = e ∙ ap (λ o. o ++ answer) h.appended ∙ append_assoc before h.written answer;
-  goes_on = λ bad_line answers after f.
-      subst (λ all. ObeysEach start 0 (lines text) bad_line all after) (sym (append_assoc h.written answer answers))
-      (h.goes_on bad_line (answer ++ answers) after
-      (subst (λ all. ObeysEach now number all bad_line (answer ++ answers) after) (sym parts)
-      (follow_more now next line (lines behind) number order answer bad_line answers after some reads obeys f)));
-}
+followed_more start now next text rest line behind before out longer number order answer h parts some reads obeys e =
+    follow_one start now next text rest line behind before out longer answer number h parts (λ n. obeys_one now next line n order answer some reads obeys) e
+
+-- one that gets no answer
+pub followed_untold : (start now after : Machine StoredBatches) (text rest line behind before out : List ℕ) (number : ℕ) → HasFollowed start now text rest before out number → lines rest ≡ line ∷ lines behind → MayObey now line after
+    → (answers : List ℕ) × (out ≡ before ++ answers) × AnswersBeginning start text answers after
+followed_untold start now after text rest line behind before out number h parts untold = (
+  h.written,
+  h.appended,
+  record {
+    done = h.done;
+    last = line;
+    left = lines behind;
+    middle = now;
+    parts = h.parts ∙ ap (λ (l : List (List ℕ)). h.done ++ l) parts;
+    obeyed = h.obeyed;
+    untold = untold;
+  },
+)
 
 -- nothing more is answered
 nothing_more : (start now : Machine StoredBatches) (text rest before out : List ℕ) (number : ℕ) (bad_line : Option ℕ) → HasFollowed start now text rest before out number → ObeysEach now number (lines rest) bad_line [] now
     → (answers : List ℕ) × (out ≡ before ++ answers) × AnswersLines start text bad_line answers now
 nothing_more start now text rest before out number bad_line h f =
-    (h.written, h.appended, subst (λ all. ObeysEach start 0 (lines text) bad_line all now) (append-nil h.written) (h.goes_on bad_line [] now f))
+    let counted : number ≡ 0 + length h.done = let counted : number ≡ length h.done = h.counted in omega arith in
+    let behind = subst (λ (n : ℕ). ObeysEach now n (lines rest) bad_line [] now) counted f in
+    let whole = obeys_append start now now 0 h.done (lines rest) bad_line h.written [] h.obeyed behind in (
+      h.written,
+      h.appended,
+      subst (λ (all : List (List ℕ)). ObeysEach start 0 all bad_line h.written now) (sym h.parts)
+          (subst (λ (a : List ℕ). ObeysEach start 0 (h.done ++ lines rest) bad_line a now) (append-nil h.written) whole),
+    )
 
 -- no line is left
 pub followed_all : (start now : Machine StoredBatches) (text rest before out : List ℕ) (number : ℕ) → HasFollowed start now text rest before out number → lines rest ≡ []

@@ -37,6 +37,15 @@ Obeys m (orders.Step step) text after =
     (outcome : Outcome) × Stepped memory_calls m step outcome after × (text ≡ line (outcome_text after.hand outcome))
 Obeys m orders.State text after = (after ≡ m) × (text ≡ line (state_text m))
 
+-- what an order does that gets no answer: its step is taken
+abbrev pub ObeysUntold : Machine StoredBatches → Order → Machine StoredBatches → Type 0
+ObeysUntold m (orders.Step step) after = (outcome : Outcome) × Stepped memory_calls m step outcome after
+ObeysUntold m orders.State after = after ≡ m
+
+-- a line gets no answer: nothing is done, or what it reads as
+abbrev pub MayObey : Machine StoredBatches → List ℕ → Machine StoredBatches → Type 0
+MayObey m bytes after = (after ≡ m) ⊎ ((order : Order) × ReadsOrder bytes order × ObeysUntold m order after)
+
 -- the line of this number is bad: nothing is done, and nothing answered
 pub record RefusesOrder (m : Machine StoredBatches) (number : ℕ) (bytes : List ℕ) (bad_line : Option ℕ) (text : List ℕ)
     (after : Machine StoredBatches) : Type 0 where
@@ -69,3 +78,14 @@ ObeysEach m number ((b ∷ bytes) ∷ more) bad_line text after =
 -- what a text does to a machine, and the text that answers it
 abbrev pub AnswersLines : Machine StoredBatches → List ℕ → Option ℕ → List ℕ → Machine StoredBatches → Type 0
 AnswersLines m text bad_line answers after = ObeysEach m 0 (lines text) bad_line answers after
+
+-- the lines of a text in front of one of them were obeyed and answered, and that one got no answer
+pub record AnswersBeginning (m : Machine StoredBatches) (text answers : List ℕ) (after : Machine StoredBatches)
+    : Type 0 where
+  pub done : List (List ℕ)
+  pub last : List ℕ
+  pub left : List (List ℕ)
+  pub middle : Machine StoredBatches
+  pub parts : lines text ≡ done ++ last ∷ left
+  pub obeyed : ObeysEach m 0 done None answers middle
+  pub untold : MayObey middle last after

@@ -1,10 +1,10 @@
 //! The mode `steps`: the lines of a text are steps of a batch queue over an exporter in memory, taken one by one, and
 //! each is answered by a line.
 
-ghost use Rattle.std.specs.Prelude.{◌≡◌, ◌++◌, List, [], Option, ℕ, IfOk, IsOk, OnOk};
+ghost use Rattle.std.specs.Prelude.{◌≡◌, ◌++◌, List, [], Option, ℕ, IfOk, IsOk, OnErr, OnOk};
 ghost use Rattle.opentelemetry.specs.Text.{TextGrows};
 ghost use Rattle.otel_batch.specs.MachineRun.{Stepped};
-ghost use Rattle.otel_steps.specs.StepAnswers.{AnswersLines, Obeys, machine_of, memory_calls};
+ghost use Rattle.otel_steps.specs.StepAnswers.{AnswersBeginning, AnswersLines, Obeys, ObeysUntold, machine_of, memory_calls};
 ghost use Rattle.otel_steps.specs.StepTexts.{outcome_text};
 
 use crate::steps::lines::{Order, order_of};
@@ -48,8 +48,8 @@ pub fn machine_sized(
 
 /// Takes the steps that the lines of a text spell, one by one, and appends the line that answers each. At its end and
 /// at a bad line no further step is taken; a bad line's number is answered, from 1 and with empty lines
-/// counted. Where memory runs out, the steps before were taken and answered, and perhaps one more was taken; a text
-/// whose answer is empty wants none.
+/// counted. Where memory runs out, a beginning of the lines was obeyed and answered, and at most one more step was
+/// taken; a text whose answer is empty wants none.
 pub fn answer_lines(
     alloc: Global,
     machine: &mut BatchMachine<InMemorySpanExporter>,
@@ -58,6 +58,8 @@ pub fn answer_lines(
 ) -> Result<Option<u64>, AllocError>
     ensures answered { IfOk result (λ bad_line. (answers : List ℕ) × (out.new.items ≡ out.old.items ++ answers)
         × AnswersLines machine.old text.now bad_line answers machine.new) }
+    ensures err { OnErr result ((answers : List ℕ) × (out.new.items ≡ out.old.items ++ answers)
+        × AnswersBeginning machine.old text.now answers machine.new) }
     ensures free { (bad_line : Option ℕ) → AnswersLines machine.old text.now bad_line [] machine.old
         → IsOk result }
 {
@@ -78,16 +80,17 @@ pub fn answer_lines(
     Ok(None)
 }
 
-/// Takes one step, or looks at the state, and appends the line that answers it. The line is put together in `answer`,
-/// whose room serves one line after another.
+/// Takes one step, or looks at the state, and appends the line that answers it. Where there is no memory for the line,
+/// the step was taken. The line is put together in `answer`, whose room serves one line after another.
 fn obey(
     machine: &mut BatchMachine<InMemorySpanExporter>,
     order: Order,
     answer: &mut String,
     out: &mut Vec<u8>,
 ) -> Result<(), AllocError>
-    ensures { OnOk result ((text : List ℕ) × (out.new.items ≡ out.old.items ++ text)
+    ensures ok { OnOk result ((text : List ℕ) × (out.new.items ≡ out.old.items ++ text)
         × Obeys machine.old order text machine.new) }
+    ensures err { OnErr result ((out.new.items ≡ out.old.items) × ObeysUntold machine.old order machine.new) }
 {
     answer.clear();
     match order {
@@ -98,14 +101,15 @@ fn obey(
     write_text(out, answer.as_str())
 }
 
-/// Takes one step, and appends the text of its outcome.
+/// Takes one step, and appends the text of its outcome. Where there is no memory for that, the step was taken.
 fn take_step(
     machine: &mut BatchMachine<InMemorySpanExporter>,
     step: Step,
     answer: &mut String,
 ) -> Result<(), AllocError>
-    ensures { OnOk result ((outcome : Outcome) × Stepped memory_calls machine.old step outcome machine.new
+    ensures ok { OnOk result ((outcome : Outcome) × Stepped memory_calls machine.old step outcome machine.new
         × TextGrows answer.old (outcome_text machine.new.hand outcome) answer.new) }
+    ensures err { OnErr result ((outcome : Outcome) × Stepped memory_calls machine.old step outcome machine.new) }
 {
     let outcome = machine.step(step);
     push_outcome(answer, &outcome, machine.hand())

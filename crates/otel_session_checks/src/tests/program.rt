@@ -1,7 +1,7 @@
 //! Runs of the program over streams that fail, and the texts of errors. All other runs are rows of `otel_rows`.
 
 use otel_program::run_program;
-use otel_session::FeedError;
+use otel_session::{FeedError, RunError};
 use std::alloc::{AllocError, Global};
 use std::io;
 use std::io::{Read, Write};
@@ -66,7 +66,7 @@ fn words_of(alloc: Global, words: &[&str]) -> Result<Vec<String>, AllocError> {
 }
 
 /// The status of a run over these streams.
-fn status_over<R: Read, W: Write, F: Write>(
+pub fn status_over<R: Read, W: Write, F: Write>(
     alloc: Global,
     words: &[&str],
     input: &mut R,
@@ -146,7 +146,18 @@ fn a_fault_that_nobody_hears_is_status_1(rt: HostRuntime) -> Result<(), Fail> {
 fn what_stopped_a_text_says_so(rt: HostRuntime) -> Result<(), Fail> {
     let line = FeedError::Line(2).to_string(rt.alloc())?;
     assert_eq!(rt; line.as_str(), "line 2: cannot read");
-    let memory = FeedError::Memory.to_string(rt.alloc())?;
-    assert_eq!(rt; memory.as_str(), "no memory");
+    for (error, text) in [
+        (FeedError::Memory, "no memory"),
+        (FeedError::Refused, "a processor refused a span"),
+        (FeedError::BatchLost, "a batch was lost"),
+    ] {
+        assert_eq!(rt; error.to_string(rt.alloc())?.as_str(), text);
+    }
+    for (error, text) in [
+        (RunError::Memory, "no memory"),
+        (RunError::BatchLost, "a batch was lost"),
+    ] {
+        assert_eq!(rt; error.to_string(rt.alloc())?.as_str(), text);
+    }
     Ok(())
 }

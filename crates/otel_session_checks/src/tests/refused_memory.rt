@@ -1,11 +1,12 @@
 //! A session where one allocation is refused.
 
 use super::fixtures::*;
+use super::program::status_over;
 use otel_base::error::OTelSdkError;
 use otel_base::trace::{IdGenerator, ShouldSample};
 use otel_lines::{Answer, Reply};
 use otel_pipeline::trace::KeepsBatches;
-use otel_session::{FeedError, Session};
+use otel_session::{FeedError, RunError, Session};
 use std::alloc::{AllocError, Global};
 use std::test::Fail;
 
@@ -31,7 +32,7 @@ fn run_again<P: KeepsBatches, S: ShouldSample, G: IdGenerator>(
     session: &mut Session<P, S, G>,
     line: &[u8],
     replies: &mut Vec<Reply>,
-) -> Result<(), AllocError> {
+) -> Result<(), RunError> {
     if run(alloc, session, line, replies).is_ok() {
         return Ok(());
     }
@@ -43,7 +44,7 @@ fn run_each<P: KeepsBatches, S: ShouldSample, G: IdGenerator>(
     alloc: Global,
     session: &mut Session<P, S, G>,
     replies: &mut Vec<Reply>,
-) -> Result<(), AllocError> {
+) -> Result<(), RunError> {
     for line in LIVES {
         run_again(alloc, session, line, replies)?;
     }
@@ -90,7 +91,7 @@ fn fitting(replies: &[Reply]) -> usize {
 
 /// What came of runs: how they ended, how many replies there are, how many of them fit their lines, and how many spans
 /// they show or count as refused.
-type Came = (Result<(), AllocError>, [usize; 3]);
+type Came = (Result<(), RunError>, [usize; 3]);
 
 fn came_of_runs<P: KeepsBatches, S: ShouldSample, G: IdGenerator>(
     alloc: Global,
@@ -194,5 +195,33 @@ fn a_text_that_found_no_memory_is_read_again(rt: HostRuntime) -> Result<(), Fail
     };
     assert!(rt; shown <= 2);
     assert!(rt; shown.saturating_add(ends) >= 2);
+    Ok(())
+}
+
+const BATCHES_OF_ONE: [&str; 5] = ["trace", "1", "batch", "5", "1"];
+
+/// Lines that start and end five spans, of which none is exported before the end of the input. The last batch has the
+/// exporter's list grow.
+const FIVE_SPANS: &str = "start a a 1\nstart b b 1\nstart c c 1\nstart d d 1\nstart e e 1\n\
+    end a 2\nend b 2\nend c 2\nend d 2\nend e 2\n";
+
+/// The status of a run of the program over these lines, and how many spans it writes.
+fn traced(alloc: Global, lines: &str) -> Result<(u8, usize), AllocError> {
+    let mut input = lines.as_bytes();
+    let mut output = Vec::new(alloc);
+    let mut faults = Vec::new(alloc);
+    let status = status_over(alloc, &BATCHES_OF_ONE, &mut input, &mut output, &mut faults)?;
+    Ok((status, span_lines(&output)))
+}
+
+/// A run that wrote fewer spans than ended says so by its status. One request is refused, so one of two runs is whole.
+#[test]
+fn a_program_that_lost_a_batch_is_status_1(rt: HostRuntime) -> Result<(), Fail> {
+    let first = traced(rt.alloc(), FIVE_SPANS)?;
+    let second = traced(rt.alloc(), FIVE_SPANS)?;
+    for (status, spans) in [first, second] {
+        assert!(rt; status == 1 || (status, spans) == (0, 5));
+    }
+    assert!(rt; first == (0, 5) || second == (0, 5));
     Ok(())
 }

@@ -1,9 +1,6 @@
 //! Sessions over exporters and processors of one's own, and over providers that were used before.
 
 use super::fixtures::*;
-use otel_base::trace::{IdGenerator, IdSource, Sampler, ShouldSample};
-use otel_pipeline::trace::{KeepsBatches, ProviderOf};
-use otel_session::Session;
 use std::alloc::{AllocError, Global};
 use std::test::Fail;
 
@@ -61,7 +58,7 @@ const REFUSED: [Call<'static>; 3] = [
 ];
 
 const REFUSALS: &str = "answered\nanswered\nended, refused by 1\n\
-    no such span\nno memory\nignored\nOperation failed: Shutdown errors: 1";
+    no such span\na processor refused a span\nignored\nOperation failed: Shutdown errors: 1";
 
 #[test]
 fn a_refused_span_is_counted_in_a_reply_and_stops_a_text(rt: HostRuntime) -> Result<(), Fail> {
@@ -70,50 +67,61 @@ fn a_refused_span_is_counted_in_a_reply_and_stops_a_text(rt: HostRuntime) -> Res
     Ok(())
 }
 
-/// What a run answers, and how many replies it makes.
-fn run_counted<P: KeepsBatches, S: ShouldSample, G: IdGenerator>(
+/// What a session puts out for these calls over a processor that had lost three batches before, and loses so many at
+/// each end, at each flush and drain, and at a shutdown.
+fn played_with_losses(
     alloc: Global,
-    session: &mut Session<P, S, G>,
-    text: &str,
-) -> (Result<(), AllocError>, usize) {
-    let mut replies = Vec::new(alloc);
-    let run = run(alloc, session, text.as_bytes(), &mut replies);
-    (run, replies.len())
-}
-
-/// The same of a session over this provider.
-fn run_over<P: KeepsBatches>(
-    alloc: Global,
-    provider: ProviderOf<P, Sampler, IdSource>,
-    text: &str,
-) -> Result<(Result<(), AllocError>, usize), AllocError> {
-    let mut session = session_over(alloc, provider)?;
-    let counted = run_counted(alloc, &mut session, text);
-    close_unheard(alloc, session);
-    Ok(counted)
-}
-
-/// The same over a processor that loses as many batches at each end, and at each flush, drain and shutdown.
-fn run_losing(
-    alloc: Global,
-    at_an_end: u64,
-    at_a_flush: u64,
-    text: &str,
-) -> Result<(Result<(), AllocError>, usize), AllocError> {
+    [at_an_end, at_a_flush, at_a_shutdown]: [u64; 3],
+    calls: &[Call<'_>],
+) -> Result<Vec<u8>, AllocError> {
     let processor = Losing {
         at_an_end,
         at_a_flush,
-        lost: 0,
+        at_a_shutdown,
+        lost: 3,
     };
-    run_over(alloc, provider_of(alloc, processor)?, text)
+    played_losing(alloc, processor, calls)
 }
 
+/// A span is started by a run, and its end is fed.
+const AN_END: [Call<'static>; 2] = [Call::Run("start s a 1\n"), Call::Try("end s 2\n")];
+
+/// Two texts of which neither ends a span.
+const NO_END: [Call<'static>; 2] = [Call::Feed("flush\nrun 3\n"), Call::Run("flush\nshutdown\n")];
+
+/// How many batches are lost, two calls, and what is answered to them and at the close. A loss at an end stops the
+/// calls there, and any loss is told by the close.
+const LOSSES: [([u64; 3], [Call<'static>; 2], &str); 6] = [
+    ([0, 0, 0], AN_END, "answered\nended\nok"),
+    (
+        [1, 0, 0],
+        AN_END,
+        "answered\na batch was lost\nOperation found no memory",
+    ),
+    (
+        [0, 0, 1],
+        AN_END,
+        "answered\nended\nOperation found no memory",
+    ),
+    ([1, 0, 0], NO_END, "ok\nok\nanswered\nanswered\nok"),
+    (
+        [0, 1, 0],
+        NO_END,
+        "ok\nok\nanswered\nanswered\nOperation found no memory",
+    ),
+    (
+        [0, 0, 1],
+        NO_END,
+        "ok\nok\nanswered\nanswered\nOperation found no memory",
+    ),
+];
+
 #[test]
-fn a_lost_batch_stops_a_run_at_an_end_alone(rt: HostRuntime) -> Result<(), Fail> {
-    let ended = run_losing(rt.alloc(), 1, 0, TWO_STARTED_AND_ONE_ENDED)?;
-    assert_eq!(rt; ended, (Err(AllocError), 2));
-    let flushed = run_losing(rt.alloc(), 0, 1, "flush\nrun 3\nshutdown\n")?;
-    assert_eq!(rt; flushed, (Ok(()), 3));
+fn a_lost_batch_is_told_at_its_end_and_by_the_close(rt: HostRuntime) -> Result<(), Fail> {
+    for (losses, calls, answers) in LOSSES {
+        let output = played_with_losses(rt.alloc(), losses, &calls)?;
+        assert_eq!(rt; text_of(&output), answers);
+    }
     Ok(())
 }
 

@@ -55,7 +55,7 @@ fn push_starts_and_stops(text: &mut String, output: &str, count: usize) -> Resul
         text.push('\n')?;
     }
     for _ in 0..count {
-        text.push_str("no memory\n")?;
+        text.push_str("a processor refused a span\n")?;
     }
     Ok(())
 }

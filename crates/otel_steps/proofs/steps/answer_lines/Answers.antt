@@ -1,12 +1,13 @@
 -- One line more is followed.
-use Rattle.std.proofs.Common.{◌≡◌, ◌≢◌, [], length, arith, rules}
+use Rattle.std.proofs.Common.{◌≡◌, ◌≢◌, ◌∙◌, ◌++◌, ℕ, List, [], length, arith, rules, inl, inr, refl}
 use Rattle.std.proofs.lemmas.List.{nil_from_length}
+use Rattle.otel_steps.specs.StepAnswers.{AnswersBeginning}
 use Rattle.otel_steps.specs.StepLines.{ReadsOrder}
 use Rattle.otel_batch.specs.declared.machine.step.Step.TheVariants as steps
 use Rattle.otel_steps.specs.declared.steps.lines.Order.{Order}
 use Rattle.otel_steps.specs.declared.steps.lines.Order.TheVariants as orders
-use Rattle.opentelemetry.proofs.Clauses.{fails_on_err}
-use Rattle.otel_steps.proofs.StepFollowing.{followed_none, followed_blank, followed_all, followed_bad, followed_more, silent_blank, silent_not_read}
+use Rattle.opentelemetry.proofs.Clauses.{always_on_err, fails_on_err}
+use Rattle.otel_steps.proofs.StepFollowing.{followed_none, followed_blank, followed_all, followed_bad, followed_more, followed_untold, silent_blank, silent_not_read}
 use Rattle.otel_steps.proofs.steps.answer_lines.Goals as goal
 
 pub loop-line-init : goal.loop-line-init
@@ -34,14 +35,28 @@ loop-line-preserved c =
     let next = c.in-Some.ensures in
     let some : c.in-Some.line.now ≢ [] = search rules in
     let reads : ReadsOrder c.in-Some.line.now c.in-Some-2.order = rw c.in-Some-2.is at c.in_ok-order.ensures.found in
-    let obeyed = c.in_ok-obey.ensures in
+    let obeyed = c.in_ok-obey.ensures.ok in
     record {
       followed = followed_more c.args.machine.now c.loop-line.machine c.obey.new.machine c.args.text.now c.loop-line.rest.now c.in-Some.line.now c.in-Some.behind.now c.args.out.now.items c.loop-line.out.items c.obey.new.out.items c.loop-line.number c.in-Some-2.order obeyed.0 c.loop-line.invariant.followed next.0 some reads obeyed.2 obeyed.1;
       room = omega (arith, next.1);
       silent = λ bad_line h. absurd (silent_not_read c.args.machine.now c.args.machine.now c.loop-line.rest.now c.in-Some.line.now c.in-Some.behind.now c.loop-line.number bad_line next.0 some (c.loop-line.invariant.silent bad_line h) c.in-Some-2.order reads);
     }
 
--- an error comes behind a line that reads as an order
+-- an error comes at a line that gets no answer
+pub returns-in_err-order-clause-err : goal.returns-in_err-order-clause-err
+returns-in_err-order-clause-err c =
+    always_on_err {P = (answers : List ℕ) × (c.loop-line.out.items ≡ c.args.out.now.items ++ answers) × AnswersBeginning c.args.machine.now c.args.text.now answers c.loop-line.machine} _
+    (followed_untold c.args.machine.now c.loop-line.machine c.loop-line.machine c.args.text.now c.loop-line.rest.now c.in-Some.line.now c.in-Some.behind.now c.args.out.now.items c.loop-line.out.items c.loop-line.number c.loop-line.invariant.followed c.in-Some.ensures.0 (inl refl))
+
+pub returns-in_err-obey-clause-err : goal.returns-in_err-obey-clause-err
+returns-in_err-obey-clause-err c =
+    let reads : ReadsOrder c.in-Some.line.now c.in-Some-2.order = rw c.in-Some-2.is at c.in_ok-order.ensures.found in
+    let untold = c.in_err-obey.ensures.err in
+    let followed = followed_untold c.args.machine.now c.loop-line.machine c.obey.new.machine c.args.text.now c.loop-line.rest.now c.in-Some.line.now c.in-Some.behind.now c.args.out.now.items c.loop-line.out.items c.loop-line.number c.loop-line.invariant.followed c.in-Some.ensures.0 (inr (c.in-Some-2.order, reads, untold.1)) in
+    always_on_err {P = (answers : List ℕ) × (c.obey.new.out.items ≡ c.args.out.now.items ++ answers) × AnswersBeginning c.args.machine.now c.args.text.now answers c.obey.new.machine} _
+    (followed.0, untold.0 ∙ followed.1, followed.2)
+
+-- and that line reads as an order
 pub returns-in_err-order-clause-free : goal.returns-in_err-order-clause-free
 returns-in_err-order-clause-free c =
     let some : c.in-Some.line.now ≢ [] = search rules in

@@ -9,7 +9,7 @@ use Rattle.otel_session.proofs.session.Session.close.Goals as goal
 pub returns : goal.returns
 returns g c =
     let inside = c.self.inside in
-    let session : SessionState g.row.P.Denot g.row.S.Denot g.row.G.Denot = record { provider = inside.provider; scope = inside.tracer; spans = inside.spans; shown = inside.shown } in
+    let session : SessionState g.row.P.Denot g.row.S.Denot g.row.G.Denot = record { provider = inside.provider; scope = inside.tracer; spans = inside.spans; shown = inside.shown; lost_before = inside.lost_before } in
     let before = c.args.output.now.items in
     let now = c.write_batches-written.new.out.items in
     let batches = c.unshown_by_first-unshown.ensures ∙ ap (λ (processors : List g.row.P.Denot). drop inside.shown (batches_of_first g.P.KeepsBatches processors)) c.processors.ensures in
