@@ -33,7 +33,7 @@ fed_anew calls timer batches sampler ids old new bytes before now answer said e 
 
 -- a text that was stopped behind a beginning of its commands
 pub fed_some : {P S G : Type 0} (calls : Ghosts P) (timer : timing.Ghosts P) (batches : keeping.Ghosts P) (sampler : sampling.Ghosts S) (ids : drawing.Ghosts G) (error : FeedError) (old new : SessionState P S G) (bytes before now : List ℕ)
-    → FeedsSome calls timer batches sampler ids (FeedStops calls timer batches sampler ids error) old bytes before now new → Feeds {T = Unit {0}} calls timer batches sampler ids old bytes before (Err error) now new
+    → FeedsSome calls timer batches sampler ids (FeedStops calls timer batches sampler ids error) old bytes before now new → Feeds calls timer batches sampler ids {T = Unit {0}} old bytes before (Err error) now new
 fed_some calls timer batches sampler ids (feeds.Line n) old new bytes before now h = absurd h.wrote.ran.stopped.why
 fed_some calls timer batches sampler ids feeds.Memory old new bytes before now h = inr h
 fed_some calls timer batches sampler ids feeds.Refused old new bytes before now h = h

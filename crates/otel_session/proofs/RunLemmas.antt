@@ -13,7 +13,9 @@ use Rattle.otel_pipeline.specs.KeptBatches.{Grows}
 use Rattle.otel_lines.specs.Commands.{PlainCommand, may_lose, plain_command, plain_commands}
 use Rattle.otel_lines.specs.PlainReply.{PlainReply}
 use Rattle.otel_export.specs.PlainSpanData.{spans_in}
-use Rattle.otel_session.specs.SessionDelivery.{EmptiedBehind, EmptiesIfOk, Histories, Course, course_of, Describe, Demands, Replies, DemandAll, Demanded, SessionState, CarriesOutOne, session_batches, batches_of_first, unshown, CarriesOut, Shows, NoneLeft, LosesNone, RunsAll, HasNoReply, RunsBeginning}
+use Rattle.otel_session.specs.SessionDelivery.{EmptiedBehind, EmptiesIfOk, Histories, Course, course_of, Describe, Demands, Replies, DemandAll, Demanded, SessionState, CarriesOutOne, session_batches, batches_of_first, unshown, CarriesOut, Shows, NoneLeft, LosesNone, RunsAll, AnswerStops, RunStops, FeedStops, HasNoReply, RunsBeginning, feed_error}
+use Rattle.otel_session.specs.declared.session.RunError.{RunError}
+use Rattle.otel_session.specs.declared.session.RunError.TheVariants as runs
 use Rattle.otel_lines.specs.declared.command.Command.{Command}
 use Rattle.otel_session.proofs.EmptiedLemmas.{emptied_more, emptied_nothing}
 use Rattle.otel_session.proofs.HeardLemmas.{all_follow, all_heard}
@@ -163,6 +165,17 @@ module _ {P S G : Type 0} (calls : Ghosts P) (timer : timing.Ghosts P) (keeps : 
             (subst (λ (l : List PlainCommand). EmptiedBehind calls l (replies ++ reply ∷ []) answered.provider.processors) (sym (map-append plain_command ran.done (command ∷ [])))
             (emptied_more calls (plain_commands ran.done) replies (plain_command command) reply answered.provider.processors answers.empties));
       }
+
+  -- a command that has no answer has no reply
+  pub stops_run : (error : RunError) (old : SessionState P S G) (command : Command) (new : SessionState P S G)
+      → AnswerStops calls timer keeps sampler ids error old command new → RunStops calls timer keeps sampler ids error old command new
+  stops_run runs.Memory old command new h = inl h
+  stops_run runs.BatchLost old command new h = h
+
+  pub stops_feed : (error : RunError) (old : SessionState P S G) (command : Command) (new : SessionState P S G)
+      → AnswerStops calls timer keeps sampler ids error old command new → FeedStops calls timer keeps sampler ids (feed_error error) old command new
+  stops_feed runs.Memory old command new h = inl h
+  stops_feed runs.BatchLost old command new h = h
 
   -- one more, which has no reply
   pub ran_stopped : (Why : SessionState P S G → Command → SessionState P S G → Type 0) (old middle new : SessionState P S G) (commands queue left : List Command) (replies before now : List PlainReply) (command : Command)

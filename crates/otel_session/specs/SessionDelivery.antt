@@ -454,8 +454,12 @@ module _ {P S G : Type 0} (calls : Ghosts P) (timer : timing.Ghosts P) (keeps : 
     pub ends_span : is_end (plain_command command) ≡ true
     pub loses_one : ¬ LosesNone keeps old new
 
-  -- why a command has no reply, by the error: it was refused for want of memory, or carried out, and then its reply
-  -- found none; or a batch was lost
+  -- why a command has no answer, by the error
+  abbrev pub AnswerStops : RunError → SessionState P S G → Command → SessionState P S G → Type 0
+  AnswerStops runs.Memory old command new = IsRefused old command new
+  AnswerStops runs.BatchLost old command new = LosesBatch old command new
+
+  -- why a command has no reply, by the error: it has no answer, or the reply found no memory
   abbrev pub RunStops : RunError → SessionState P S G → Command → SessionState P S G → Type 0
   RunStops runs.Memory old command new =
       IsRefused old command new ⊎ ((answer : Answer) × IsUntold old command answer new)

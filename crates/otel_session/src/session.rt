@@ -1,7 +1,7 @@
 //! A session: commands against one provider, each with a reply. What its commands deliver to the exporters is stated by
 //! the histories of its spans, apart from the code that fills them.
 
-ghost use Rattle.std.specs.Prelude.{◌≡◌, ◌++◌, ◌∷◌, [], drop, length, map, if◌then◌else◌, IfErr, IfOk, IsFalse, OnOk, OnErr, codes, string_bytes};
+ghost use Rattle.std.specs.Prelude.{◌≡◌, ◌++◌, ◌∷◌, [], drop, length, map, is_err, ◌||◌, if◌then◌else◌, IfErr, IfOk, IsFalse, OnOk, OnErr, codes, string_bytes};
 ghost use Rattle.std.specs.List.{flat_map};
 ghost use Rattle.opentelemetry.specs.Plain.{scope_named, text};
 ghost use Rattle.opentelemetry.specs.PlainContexts.{root_cx};
@@ -13,6 +13,7 @@ ghost use Rattle.otel_lines.specs.AnswerText.{answer_line};
 ghost use Rattle.otel_pipeline.specs.KeptBatches.{Grows};
 ghost use Rattle.otel_lines.specs.ReplyText.{span_lines};
 ghost use Rattle.otel_session.specs.SessionDelivery.{
+  AnswerStops,
   CarriesOutOne,
   Closes,
   Describe,
@@ -271,7 +272,7 @@ impl<P: KeepsBatches, S: ShouldSample, G: IdGenerator> Session<P, S, G> {
         let unshown = unshown_by_first(provider.processors(), shown);
         let written = write_batches(alloc, output, unshown);
         let _ = provider.close();
-        close_answer(shutdown, has_lost || written.is_err())
+        close_answer(shutdown, has_lost, written)
     }
 
     /// Carries commands out in order, and appends the text of each reply before the next command. It stops behind a
@@ -322,8 +323,8 @@ impl<P: KeepsBatches, S: ShouldSample, G: IdGenerator> Session<P, S, G> {
             → LosesNone P.KeepsBatches.own self.old self.new) }
         ensures empties { IfOk result (λ answer. EmptiesIfOk P.SpanProcessor (plain_command command) answer
             self.new.provider.processors) }
-        ensures err { IfErr result (λ error. RunStops P.SpanProcessor P.DrainDue.own P.KeepsBatches.own S.ShouldSample
-            G.IdGenerator error self.old command self.new) }
+        ensures err { IfErr result (λ error. AnswerStops P.SpanProcessor P.DrainDue.own P.KeepsBatches.own
+            S.ShouldSample G.IdGenerator error self.old command self.new) }
         ensures rest { self.new ≡ record self.old { provider = self.new.provider; spans = self.new.spans } }
         ensures keeps { Grows (session_batches P.KeepsBatches.own self.old)
             (session_batches P.KeepsBatches.own self.new) }
@@ -378,12 +379,16 @@ fn shut_down<P: SpanProcessor, S: Drop, G: Drop>(
     }
 }
 
-/// What closing answers: what the shutdown did, and where that is Ok, whether anything found no memory.
-fn close_answer(shutdown: OTelSdkResult, found_no_memory: bool) -> OTelSdkResult
-    ensures { result ≡ (if found_no_memory then or_no_memory shutdown else shutdown) }
+/// What closing answers: what the shutdown did, and where that is Ok, whether a batch or the lines found no memory.
+fn close_answer(
+    shutdown: OTelSdkResult,
+    has_lost: bool,
+    written: Result<(), AllocError>,
+) -> OTelSdkResult
+    ensures { result ≡ (if has_lost || is_err written then or_no_memory shutdown else shutdown) }
 {
     match shutdown {
-        Ok(()) if found_no_memory => Err(OTelSdkError::OutOfMemory),
+        Ok(()) if has_lost || written.is_err() => Err(OTelSdkError::OutOfMemory),
         shutdown => shutdown,
     }
 }

@@ -1,27 +1,34 @@
-use Rattle.std.proofs.Common.{ℕ, Option, subst, refl, inl, inr}
+use Rattle.std.proofs.Common.{ℕ, Option, subst, refl, inl}
+use Rattle.std.proofs.lemmas.Result.{err_from_is_err_and}
 use Rattle.otel_lines.specs.Commands.{plain_commands}
 use Rattle.otel_lines.specs.Lines.{TextSpells}
 use Rattle.opentelemetry.proofs.Clauses.{fails_on_err}
+use Rattle.otel_session.proofs.FeedLemmas.{fed_some}
 use Rattle.otel_session.proofs.session.Session.feed.Goals as goal
 
-pub returns-in_default : goal.returns-in_default
-returns-in_default g c = inl (record {
-  says_something = fails_on_err c.in_default.ensures.free;
-  nothing_written = refl;
-  nothing_done = refl;
-})
+pub returns-in_err-script : goal.returns-in_err-script
+returns-in_err-script g c =
+    let p = err_from_is_err_and c.from_residual.result c.from_residual.ensures.1 in
+    rw (p.1, p.2) (inl (record {
+      says_something = fails_on_err c.in_err-script.ensures.free;
+      nothing_written = refl;
+      nothing_done = refl;
+    }))
 
-pub returns-in_default-run_and_write : goal.returns-in_default-run_and_write
-returns-in_default-run_and_write g c = inr (record {
-  commands = c.in-Ok.script.commands.items;
-  bad_line = c.in-Ok.script.bad_line;
-  spelled = c.in-Ok.ensures.spelled;
-  wrote = c.in_default-run_and_write.ensures.err;
-})
+pub returns-in_err-run_and_write : goal.returns-in_err-run_and_write
+returns-in_err-run_and_write g c =
+    let p = err_from_is_err_and c.from_residual-in_err-run_and_write.result c.from_residual-in_err-run_and_write.ensures.1 in
+    rw (p.1, p.2)
+    (fed_some g.P.SpanProcessor g.P.DrainDue g.P.KeepsBatches g.S.ShouldSample g.G.IdGenerator c.in_err-run_and_write.field-0.0 c.args.self.now c.run_and_write.new.self c.args.text.now c.args.output.now.items c.run_and_write.new.output.items (record {
+      commands = c.in_ok-script.script.commands.items;
+      bad_line = c.in_ok-script.script.bad_line;
+      spelled = c.in_ok-script.ensures.spelled;
+      wrote = c.in_err-run_and_write.ensures.err;
+    }))
 
 pub returns-in-Some : goal.returns-in-Some
 returns-in-Some g c = (
-  c.in-Ok.script.commands.items,
-  subst (λ (bad_line : Option ℕ). TextSpells c.args.text.now (plain_commands c.in-Ok.script.commands.items) bad_line) c.in-Some.is c.in-Ok.ensures.spelled,
-  c.in-Ok-run_and_write.ensures.ok,
+  c.in_ok-script.script.commands.items,
+  subst (λ (bad_line : Option ℕ). TextSpells c.args.text.now (plain_commands c.in_ok-script.script.commands.items) bad_line) c.in-Some.is c.in_ok-script.ensures.spelled,
+  c.in_ok-run_and_write.ensures.ok,
 )
