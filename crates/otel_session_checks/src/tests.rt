@@ -3,5 +3,6 @@
 mod fixtures;
 mod program;
 mod refused_memory;
+mod refused_texts;
 mod session;
 mod unshown;
