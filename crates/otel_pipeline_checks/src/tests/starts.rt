@@ -285,3 +285,38 @@ fn the_clone_of_a_tracer_starts_spans_of_its_library(rt: HostRuntime) -> Result<
     assert_eq!(rt; library.as_str(), "library");
     Ok(())
 }
+
+/// Whether a span starts and records.
+fn records<P: SpanProcessor, S: ShouldSample>(
+    alloc: Global,
+    tracer: &SdkTracer,
+    provider: &mut ProviderOf<P, S, RandomIdGenerator>,
+) -> Result<bool, AllocError> {
+    let span = start_by(alloc, tracer, provider)?;
+    let is_recording = span.is_recording();
+    span.abandon();
+    Ok(is_recording)
+}
+
+/// The same of two spans under one tracer.
+fn both_record<P: SpanProcessor, S: ShouldSample>(
+    alloc: Global,
+    provider: &mut ProviderOf<P, S, RandomIdGenerator>,
+) -> Result<bool, AllocError> {
+    let tracer = provider.tracer(String::new(alloc))?;
+    Ok(records(alloc, &tracer, provider)? && records(alloc, &tracer, provider)?)
+}
+
+fn both_record_without_lists(alloc: Global) -> Result<bool, AllocError> {
+    let mut provider = empty_provider(alloc, TestSampler::AlwaysOn);
+    let both = both_record(alloc, &mut provider);
+    let _ = close(provider);
+    both
+}
+
+/// `tools/sweep` finds one request for memory here that it could refuse, that of the tracer.
+#[test]
+fn starts_whose_lists_do_not_grow_ask_for_no_memory(rt: HostRuntime) -> Result<(), Fail> {
+    assert!(rt; both_record_without_lists(rt.alloc())?);
+    Ok(())
+}

@@ -2,10 +2,12 @@
 
 use super::crossing::insert;
 use opentelemetry::baggage::{Baggage, BaggageMetadata, KeyValueMetadata};
+use opentelemetry::propagation::{Extractor, MapCarrier};
 use opentelemetry::trace::{Event, Link, SpanBuilder, SpanContext, SpanKind, Status, TraceState};
 use opentelemetry::{
     Array, InstrumentationScope, Key, KeyValue, Moment, SpanId, TraceFlags, TraceId, Value,
 };
+use otel_export::trace::{SpanEvents, SpanLinks};
 use std::alloc::{AllocError, Global};
 use std::test::Fail;
 
@@ -148,5 +150,33 @@ fn baggages_are_copied(rt: HostRuntime) -> Result<(), Fail> {
     assert!(rt; is_copied(metadata(rt.alloc())?)?);
     assert!(rt; entry_is_copied(rt.alloc())?);
     assert!(rt; baggage_is_copied(rt.alloc())?);
+    Ok(())
+}
+
+fn empty_lists_are_copied(alloc: Global) -> Result<bool, AllocError> {
+    Ok(
+        is_copied(SpanEvents::new(alloc))?
+            && is_copied(SpanLinks::new(alloc))?
+            && is_copied(SpanBuilder::from_name(String::new(alloc)).with_attributes(Vec::new(
+                alloc,
+            )))?,
+    )
+}
+
+fn empty_metadata_is_copied(alloc: Global) -> Result<bool, AllocError> {
+    is_copied(BaggageMetadata::new(String::new(alloc)))
+}
+
+fn empty_carrier_is_copied(alloc: Global) -> Result<bool, AllocError> {
+    let copy = MapCarrier::new(alloc).clone()?;
+    Ok(copy.keys(alloc)?.is_empty())
+}
+
+/// `tools/sweep` finds no request for memory here that it could refuse.
+#[test]
+fn copies_of_what_is_empty_ask_for_no_memory(rt: HostRuntime) -> Result<(), Fail> {
+    assert!(rt; empty_lists_are_copied(rt.alloc())?);
+    assert!(rt; empty_metadata_is_copied(rt.alloc())?);
+    assert!(rt; empty_carrier_is_copied(rt.alloc())?);
     Ok(())
 }

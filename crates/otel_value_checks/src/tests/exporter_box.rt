@@ -146,6 +146,47 @@ fn an_exporter_in_memory_keeps_batches_in_order_and_has_nothing_to_send(
     Ok(())
 }
 
+/// How many batches an exporter keeps, and how many it lost.
+fn kept_and_lost(exporter: &InMemorySpanExporter) -> (usize, u64) {
+    (exporter.batches().len(), exporter.lost_batches())
+}
+
+/// Hands a batch of a span over that started at this moment.
+fn hand_one(
+    alloc: Global,
+    exporter: &mut InMemorySpanExporter,
+    moment: u64,
+) -> Result<(), AllocError> {
+    let _ = exporter.export(batch_from(alloc, moment, 1)?);
+    Ok(())
+}
+
+/// What an exporter keeps and lost: of two batches, once it is reset, and of one more; and the moment of that.
+type Reset = ([(usize, u64); 3], String);
+
+fn reset_between(alloc: Global) -> Result<Reset, AllocError> {
+    let mut exporter = InMemorySpanExporter::new(alloc);
+    hand_one(alloc, &mut exporter, 7)?;
+    hand_one(alloc, &mut exporter, 8)?;
+    let before = kept_and_lost(&exporter);
+    exporter.reset();
+    let reset = kept_and_lost(&exporter);
+    hand_one(alloc, &mut exporter, 9)?;
+    let moments = moments_of(alloc, exporter.batches())?;
+    Ok(([before, reset, kept_and_lost(&exporter)], moments))
+}
+
+/// Where a batch was lost (`rt try --test --fail-alloc N`), a reset does not forget that, and the next one is kept.
+#[test]
+fn a_reset_forgets_the_batches_and_not_how_many_were_lost(rt: HostRuntime) -> Result<(), Fail> {
+    let ([before, reset, behind], moments) = reset_between(rt.alloc())?;
+    assert!(rt; before == (2, 0) || before == (1, 1));
+    assert_eq!(rt; reset, (0, before.1));
+    assert_eq!(rt; behind, (1, before.1));
+    assert_eq!(rt; moments.as_str(), "[9 ]");
+    Ok(())
+}
+
 /// A resource of one attribute.
 fn resource_of_one(alloc: Global) -> Result<Resource, AllocError> {
     let builder = Resource::builder_empty(alloc).with_service_name(Value::I64(7))?;
