@@ -84,8 +84,8 @@ pub fn answer(alloc: Global, row: &Row, out: &mut String) -> Result<bool, RowErr
     Ok(true)
 }
 
-/// `batch-processor EXPORTER QUEUE BATCH CALL ..`: each call's answer, how many spans were dropped, and what the exporter
-/// was told.
+/// `batch-processor EXPORTER QUEUE BATCH CALL ..`: each call's answer, how many spans were dropped, and what the
+/// exporter was told.
 fn answer_batch(alloc: Global, row: &Row, out: &mut String) -> Result<(), RowError> {
     let config = config_of(row)?;
     let exporter = exporter_named(alloc, row.field(0))?;

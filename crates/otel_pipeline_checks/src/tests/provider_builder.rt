@@ -15,8 +15,8 @@ use std::rc::Rc;
 use std::test::Fail;
 use std::time::Duration;
 
-/// A processor that writes on a board, for each resource that it is told, its own digit, that of each value in the order
-/// of the keys, and how many bytes the schema has. It refuses so many resources first.
+/// A processor that writes on a board, for each resource that it is told, its own digit, that of each value in the
+/// order of the keys, and how many bytes the schema has. It refuses so many resources first.
 #[derive(Drop)]
 struct Listener {
     digit: u64,
