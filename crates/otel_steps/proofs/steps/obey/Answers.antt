@@ -7,13 +7,13 @@ use Rattle.otel_steps.proofs.StepTexts.{line_of}
 use Rattle.otel_steps.proofs.steps.obey.Goals as goal
 use Rattle.otel_steps.proofs.steps.obey.Goals.{in-Step+in_ok-take_step-in-Step, in-State+in_ok-push_state-in-State}
 
-pub returns : goal.returns
-returns c =
+pub returns-clause-ok : goal.returns-clause-ok
+returns-clause-ok c =
     let ended : string_bytes c.push.new.self ≡ string_bytes c.match-order.answer ++ 10 ∷ [] = search rules in
     let cleared : string_bytes c.clear.new.self ≡ [] = search rules in
     let obeyed : Obeys c.args.machine.now c.args.order c.as_str.result.now c.match-order.machine = elim c.match-order.branch [
       | in-Step+in_ok-take_step-in-Step w ↦
-          let h = w.in_ok-take_step-in-Step.ensures in
+          let h = w.in_ok-take_step-in-Step.ensures.ok in
           rw (w.in-Step.is, w.machine-is) (
             h.0,
             h.1,
