@@ -1,7 +1,6 @@
 //! Sessions over exporters and processors of one's own, and over providers that were used before.
 
 use super::fixtures::*;
-use std::alloc::{AllocError, Global};
 use std::test::Fail;
 
 /// What a session over each of these answers to a line that names no span, and how it closes.
@@ -67,60 +66,44 @@ fn a_refused_span_is_counted_in_a_reply_and_stops_a_text(rt: HostRuntime) -> Res
     Ok(())
 }
 
-/// What a session puts out for these calls over a processor that had lost three batches before, and loses so many at
-/// each end, at each flush and drain, and at a shutdown.
-fn played_with_losses(
-    alloc: Global,
-    [at_an_end, at_a_flush, at_a_shutdown]: [u64; 3],
-    calls: &[Call<'_>],
-) -> Result<Vec<u8>, AllocError> {
-    let processor = Losing {
-        at_an_end,
-        at_a_flush,
-        at_a_shutdown,
-        lost: 3,
-    };
-    played_losing(alloc, processor, calls)
-}
-
 /// A span is started by a run, and its end is fed.
 const AN_END: [Call<'static>; 2] = [Call::Run("start s a 1\n"), Call::Try("end s 2\n")];
+
+/// What is put out where the end's reply shows the span, and where its batch counts as lost, so that the close does.
+const AN_ENDED_SPAN: &str = "answered\n\
+    span 5c0fdf91ec9a7bfc61da6f3dc380d507 53175d61490b23df 0000000000000000 01 1 2 a unset \
+    attrs [] 0 events [] 0 links 0 0\nended\n";
+
+const A_LOST_BATCH: &str = "answered\na batch was lost\n\
+    span 5c0fdf91ec9a7bfc61da6f3dc380d507 53175d61490b23df 0000000000000000 01 1 2 a unset \
+    attrs [] 0 events [] 0 links 0 0\n";
 
 /// Two texts of which neither ends a span.
 const NO_END: [Call<'static>; 2] = [Call::Feed("flush\nrun 3\n"), Call::Run("flush\nshutdown\n")];
 
-/// How many batches are lost, two calls, and what is answered to them and at the close. A loss at an end stops the
-/// calls there, and any loss is told by the close.
-const LOSSES: [([u64; 3], [Call<'static>; 2], &str); 6] = [
-    ([0, 0, 0], AN_END, "answered\nended\nok"),
-    (
-        [1, 0, 0],
-        AN_END,
-        "answered\na batch was lost\nOperation found no memory",
-    ),
+const FOUR_ANSWERS: &str = "ok\nok\nanswered\nanswered\n";
+
+/// How many batches are lost at an end, at a flush or a drain, and at a shutdown, two calls, what is put out for them,
+/// and what the close answers. A loss at an end stops the calls there, and any loss is told by the close.
+const LOSSES: [([u64; 3], [Call<'static>; 2], &str, &str); 6] = [
+    ([0, 0, 0], AN_END, AN_ENDED_SPAN, "ok"),
+    ([1, 0, 0], AN_END, A_LOST_BATCH, "Operation found no memory"),
     (
         [0, 0, 1],
         AN_END,
-        "answered\nended\nOperation found no memory",
+        AN_ENDED_SPAN,
+        "Operation found no memory",
     ),
-    ([1, 0, 0], NO_END, "ok\nok\nanswered\nanswered\nok"),
-    (
-        [0, 1, 0],
-        NO_END,
-        "ok\nok\nanswered\nanswered\nOperation found no memory",
-    ),
-    (
-        [0, 0, 1],
-        NO_END,
-        "ok\nok\nanswered\nanswered\nOperation found no memory",
-    ),
+    ([1, 0, 0], NO_END, FOUR_ANSWERS, "ok"),
+    ([0, 1, 0], NO_END, FOUR_ANSWERS, "Operation found no memory"),
+    ([0, 0, 1], NO_END, FOUR_ANSWERS, "Operation found no memory"),
 ];
 
 #[test]
 fn a_lost_batch_is_told_at_its_end_and_by_the_close(rt: HostRuntime) -> Result<(), Fail> {
-    for (losses, calls, answers) in LOSSES {
-        let output = played_with_losses(rt.alloc(), losses, &calls)?;
-        assert_eq!(rt; text_of(&output), answers);
+    for (losses, calls, answers, closed) in LOSSES {
+        let output = played_losing(rt.alloc(), losses, &calls)?;
+        assert_eq!(rt; text_of(&output).strip_prefix(answers), Some(closed));
     }
     Ok(())
 }
