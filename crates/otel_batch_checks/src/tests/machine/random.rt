@@ -31,141 +31,131 @@ fn span_at(alloc: Global, moment: u64, flags: u8) -> Result<SpanData, AllocError
     Ok(made)
 }
 
-/// A machine, the words by which its steps are drawn, and what their outcomes say.
-#[derive(Drop)]
-struct List {
-    alloc: Global,
-    words: RandomIdGenerator,
-    queue: BatchMachine<Recording>,
-    ledger: Ledger,
+/// What is drawn for a turn.
+#[derive(Clone, Copy)]
+struct Turn {
+    /// Whose turn it is, below 20.
+    kind: u64,
+    producer: usize,
+    /// Which of several steps is taken, below 240.
+    choice: u64,
+    /// How many turns were before it. A span that is offered starts then.
+    moment: u64,
 }
 
-impl List {
-    fn below(&mut self, bound: u64) -> u64 {
-        below(&mut self.words, bound)
+fn drawn_turn(words: &mut RandomIdGenerator, moment: u64) -> Turn {
+    Turn {
+        kind: below(words, 20),
+        producer: below(words, 3) as usize,
+        choice: below(words, 240),
+        moment,
     }
+}
 
-    /// An idle producer offers a span; one in five is not sampled.
-    fn offer(&mut self, p: usize, moment: u64) -> Result<(), AllocError> {
-        let is_sampled = self.below(5) > 0;
-        let span = span_at(self.alloc, moment, is_sampled as u8)?;
-        let outcome = self.queue.step(Step::Offer(p, span));
-        self.ledger.note_offer(p, moment, is_sampled, &outcome);
-        Ok(())
+/// An idle producer offers a span; one in five is not sampled.
+fn offer(
+    alloc: Global,
+    queue: &mut BatchMachine<Recording>,
+    ledger: &mut Ledger,
+    turn: Turn,
+) -> Result<(), AllocError> {
+    let is_sampled = turn.choice % 5 > 0;
+    let span = span_at(alloc, turn.moment, is_sampled as u8)?;
+    let outcome = queue.step(Step::Offer(turn.producer, span));
+    ledger.note_offer(turn.producer, turn.moment, is_sampled, &outcome);
+    Ok(())
+}
+
+/// An enabled step of an idle producer. Most are offers.
+fn idle_turn(
+    alloc: Global,
+    queue: &mut BatchMachine<Recording>,
+    ledger: &mut Ledger,
+    turn: Turn,
+) -> Result<(), AllocError> {
+    let p = turn.producer;
+    match turn.choice % 40 {
+        0 => ledger.note_request(Request::Shutdown, p, &queue.step(Step::RequestShutdown(p))),
+        1..5 => ledger.note_request(Request::Flush, p, &queue.step(Step::RequestFlush(p))),
+        _ => offer(alloc, queue, ledger, turn),
     }
+}
 
-    fn request(&mut self, request: Request, p: usize) -> Result<(), AllocError> {
-        let outcome = self.queue.step(match request {
-            Request::Flush => Step::RequestFlush(p),
-            Request::Shutdown => Step::RequestShutdown(p),
-        });
-        self.ledger.note_request(request, p, &outcome)
+/// An enabled step of a producer, if it has one.
+fn producer_turn(
+    alloc: Global,
+    queue: &mut BatchMachine<Recording>,
+    ledger: &mut Ledger,
+    turn: Turn,
+) -> Result<(), AllocError> {
+    let p = turn.producer;
+    match queue.slot(p) {
+        Some(Slot::Idle) => return idle_turn(alloc, queue, ledger, turn),
+        Some(Slot::Holding(_, _)) => return ledger.note_send(p, &queue.step(Step::Send(p))),
+        Some(Slot::Refused) => ledger.note_undo(&queue.step(Step::Undo(p))),
+        Some(Slot::Asking) => ledger.note_ask(&queue.step(Step::Ask(p))),
+        Some(Slot::Posting) => return ledger.note_post(&queue.step(Step::Post(p))),
+        Some(Slot::Resetting) => ledger.note_reset(&queue.step(Step::Reset(p))),
+        Some(Slot::Answered(_)) => ledger.note_collect(p, &queue.step(Step::Collect(p))),
+        Some(Slot::Waiting(_)) | None => {}
     }
+    Ok(())
+}
 
-    /// An enabled step of an idle producer. Most are offers.
-    fn idle_turn(&mut self, p: usize, moment: u64) -> Result<(), AllocError> {
-        match self.below(40) {
-            0 => self.request(Request::Shutdown, p),
-            1..5 => self.request(Request::Flush, p),
-            _ => self.offer(p, moment),
-        }
+/// The worker takes a message, or its timer runs out.
+fn ready_turn(queue: &mut BatchMachine<Recording>, ledger: &mut Ledger, turn: Turn) {
+    if turn.choice % 4 == 0 {
+        ledger.note_tick(&queue.step(Step::Tick));
+    } else {
+        ledger.note_take(&queue.step(Step::Take));
     }
+}
 
-    /// An enabled step of this producer, if it has one.
-    fn producer_turn(&mut self, p: usize, moment: u64) -> Result<(), AllocError> {
-        let (queue, ledger) = (&mut self.queue, &mut self.ledger);
-        match queue.slot(p) {
-            Some(Slot::Idle) => return self.idle_turn(p, moment),
-            Some(Slot::Holding(_, _)) => return ledger.note_send(p, &queue.step(Step::Send(p))),
-            Some(Slot::Refused) => ledger.note_undo(&queue.step(Step::Undo(p))),
-            Some(Slot::Asking) => ledger.note_ask(&queue.step(Step::Ask(p))),
-            Some(Slot::Posting) => return ledger.note_post(&queue.step(Step::Post(p))),
-            Some(Slot::Resetting) => ledger.note_reset(&queue.step(Step::Reset(p))),
-            Some(Slot::Answered(_)) => ledger.note_collect(p, &queue.step(Step::Collect(p))),
-            Some(Slot::Waiting(_)) | None => {}
-        }
-        Ok(())
+/// The worker ends its work in one of six turns, so that more spans come behind its drain.
+fn close_turn(queue: &mut BatchMachine<Recording>, ledger: &mut Ledger, turn: Turn) {
+    if turn.choice % 6 == 0 {
+        ledger.note_close(&queue.step(Step::Close));
     }
+}
 
-    /// The worker takes a message, or its timer runs out.
-    fn ready_turn(&mut self) {
-        if self.below(4) == 0 {
-            self.ledger.note_tick(&self.queue.step(Step::Tick));
-        } else {
-            self.ledger.note_take(&self.queue.step(Step::Take));
-        }
+/// An enabled step of the worker, if it has one.
+fn worker_turn(
+    queue: &mut BatchMachine<Recording>,
+    ledger: &mut Ledger,
+    turn: Turn,
+) -> Result<(), AllocError> {
+    match *queue.worker() {
+        Worker::Ready => ready_turn(queue, ledger, turn),
+        Worker::Clearing => ledger.note_clear(&queue.step(Step::Clear)),
+        Worker::Loading(_) => ledger.note_load(&queue.step(Step::Load)),
+        Worker::Pulling => return ledger.note_pull(&queue.step(Step::Pull)),
+        Worker::Handing => return ledger.note_hand_over(&queue.step(Step::HandOver)),
+        Worker::Subtracting(_) => ledger.note_subtract(&queue.step(Step::Subtract)),
+        Worker::Finishing => ledger.note_finish(&queue.step(Step::Finish)),
+        Worker::Closing(_) => close_turn(queue, ledger, turn),
+        Worker::Gone => {}
     }
+    Ok(())
+}
 
-    /// The worker ends its work in one of six turns, so that more spans come behind its drain.
-    fn close_turn(&mut self) {
-        if self.below(6) == 0 {
-            self.ledger.note_close(&self.queue.step(Step::Close));
-        }
-    }
+fn resource_turn(
+    alloc: Global,
+    queue: &mut BatchMachine<Recording>,
+    ledger: &mut Ledger,
+) -> Result<(), AllocError> {
+    let resource = Resource::builder_empty(alloc).build();
+    ledger.note_resource(&queue.step(Step::PostResource(resource)))
+}
 
-    /// An enabled step of the worker, if it has one.
-    fn worker_turn(&mut self) -> Result<(), AllocError> {
-        let (queue, ledger) = (&mut self.queue, &mut self.ledger);
-        match *queue.worker() {
-            Worker::Ready => self.ready_turn(),
-            Worker::Clearing => ledger.note_clear(&queue.step(Step::Clear)),
-            Worker::Loading(_) => ledger.note_load(&queue.step(Step::Load)),
-            Worker::Pulling => return ledger.note_pull(&queue.step(Step::Pull)),
-            Worker::Handing => return ledger.note_hand_over(&queue.step(Step::HandOver)),
-            Worker::Subtracting(_) => ledger.note_subtract(&queue.step(Step::Subtract)),
-            Worker::Finishing => ledger.note_finish(&queue.step(Step::Finish)),
-            Worker::Closing(_) => self.close_turn(),
-            Worker::Gone => {}
-        }
-        Ok(())
-    }
-
-    fn resource_turn(&mut self) -> Result<(), AllocError> {
-        let resource = Resource::builder_empty(self.alloc).build();
-        let outcome = self.queue.step(Step::PostResource(resource));
-        self.ledger.note_resource(&outcome)
-    }
-
-    /// Takes a step of any kind, unless it is enabled.
-    fn out_of_turn(&mut self, p: usize) {
-        let (drawn, is_producers) = (self.below(8), self.below(2) == 0);
-        let (step, is_enabled) = if is_producers {
-            producers_step(drawn, self.queue.slot(p), p)
-        } else {
-            workers_step(drawn, self.queue.worker())
-        };
-        if !is_enabled {
-            let outcome = self.queue.step(step);
-            self.ledger.note_out_of_turn(&outcome);
-        }
-    }
-
-    /// Takes a turn of one of 20 kinds: of a flood most are posts of resources, and few the worker's.
-    fn turn(&mut self, is_flood: bool, moment: u64) -> Result<(), AllocError> {
-        let p = self.below(3) as usize;
-        let (workers, resources) = if is_flood { (4, 15) } else { (11, 12) };
-        let drawn = self.below(20);
-        if drawn < 2 {
-            self.out_of_turn(p);
-            return Ok(());
-        }
-        if drawn < workers {
-            return self.worker_turn();
-        }
-        if drawn < resources {
-            return self.resource_turn();
-        }
-        self.producer_turn(p, moment)
-    }
-
-    /// Takes 200 turns, and looks at what stands then.
-    fn turns(&mut self, is_flood: bool) -> Result<(), AllocError> {
-        for moment in 0..200 {
-            self.turn(is_flood, moment)?;
-        }
-        let moments = kept_moments(self.alloc, &self.queue)?;
-        self.ledger.compare(&self.queue, &moments);
-        Ok(())
+/// Takes a step of any kind, unless it is enabled.
+fn out_of_turn(queue: &mut BatchMachine<Recording>, ledger: &mut Ledger, turn: Turn) {
+    let (step, is_enabled) = if turn.choice % 16 < 8 {
+        producers_step(turn.choice % 8, queue.slot(turn.producer), turn.producer)
+    } else {
+        workers_step(turn.choice % 8, queue.worker())
+    };
+    if !is_enabled {
+        ledger.note_out_of_turn(&queue.step(step));
     }
 }
 
@@ -197,6 +187,28 @@ fn workers_step(drawn: u64, worker: &Worker) -> (Step, bool) {
     }
 }
 
+/// Takes a turn. Of a flood most are posts of resources, and few the worker's.
+fn take_turn(
+    alloc: Global,
+    queue: &mut BatchMachine<Recording>,
+    ledger: &mut Ledger,
+    is_flood: bool,
+    turn: Turn,
+) -> Result<(), AllocError> {
+    let (workers, resources) = if is_flood { (4, 15) } else { (11, 12) };
+    if turn.kind < 2 {
+        out_of_turn(queue, ledger, turn);
+        return Ok(());
+    }
+    if turn.kind < workers {
+        return worker_turn(queue, ledger, turn);
+    }
+    if turn.kind < resources {
+        return resource_turn(alloc, queue, ledger);
+    }
+    producer_turn(alloc, queue, ledger, turn)
+}
+
 /// Appends the moments of spans.
 fn push_moments(moments: &mut Vec<u64>, spans: &[SpanData]) -> Result<(), AllocError> {
     for span in spans {
@@ -220,25 +232,24 @@ fn kept_moments(alloc: Global, queue: &BatchMachine<Recording>) -> Result<Vec<u6
     Ok(moments)
 }
 
-/// The list of this seed: the first rule that it broke, or an empty text, and what it and those before it met. One in
-/// ten is a flood of resources.
+/// The list of this seed, of 200 turns: the first rule that it broke, or an empty text, and what it and those before it
+/// met. One in ten is a flood of resources.
 fn list_of(alloc: Global, seed: u64, seen: Seen) -> Result<(&'static str, Seen), AllocError> {
     let mut words = RandomIdGenerator::new(seed);
     let queue_size = below(&mut words, 6) as usize;
     let batch_size = (below(&mut words, 4) as usize).min(queue_size);
     let producers = (below(&mut words, 3) as usize).saturating_add(1);
     let exporter = Recording::new(alloc);
-    let queue = BatchMachine::new(alloc, exporter, sizes(queue_size, batch_size), producers)?;
-    let ledger = Ledger::new(alloc, queue_size, batch_size, seen);
-    let mut list = List {
-        alloc,
-        words,
-        queue,
-        ledger,
-    };
-    list.ledger.add_producers(producers)?;
-    list.turns(seed % 10 == 0)?;
-    Ok(list.ledger.told())
+    let mut queue = BatchMachine::new(alloc, exporter, sizes(queue_size, batch_size), producers)?;
+    let mut ledger = Ledger::new(alloc, queue_size, batch_size, seen);
+    ledger.add_producers(producers)?;
+    for moment in 0..200 {
+        let turn = drawn_turn(&mut words, moment);
+        take_turn(alloc, &mut queue, &mut ledger, seed % 10 == 0, turn)?;
+    }
+    let moments = kept_moments(alloc, &queue)?;
+    ledger.compare(&queue, &moments);
+    Ok(ledger.told())
 }
 
 #[test]

@@ -4,7 +4,7 @@
 use crate::tests::machine::random::recording::{Recording, Said, answer_to, told_by};
 use crate::tests::machine::random::seen::{Seen, count};
 use otel_base::error::OTelSdkError;
-use otel_batch::machine::{BatchMachine, Outcome, Request, Why};
+use otel_batch::machine::{BatchMachine, Outcome, Request, Slot, Why};
 use std::alloc::{AllocError, Global};
 use std::collections::VecDeque;
 
@@ -239,9 +239,7 @@ impl Ledger {
         };
         self.expect(collected.is_some() && collected == due, "an answer");
         match due {
-            Some(Said::Dropped) => {
-                count(&mut self.seen.dropped_requests);
-            }
+            Some(Said::Dropped) => count(&mut self.seen.dropped_requests),
             Some(Said::TimedOut(_)) | Some(Said::Failed(_)) => {
                 count(&mut self.seen.failed_requests);
             }
@@ -387,8 +385,9 @@ impl Ledger {
         self.expect(*outcome == Outcome::ShutDown(waiting), "a close");
         let counted = self.handed.saturating_add(waiting);
         self.expect(self.accepted.len() == counted, "a close's count");
-        if let Why::Shutdown(p) = self.drain.why {
-            self.answer(p, Said::Fine);
+        match self.drain.why {
+            Why::Shutdown(p) => self.answer(p, Said::Fine),
+            _ => self.expect(false, "a close behind a shutdown"),
         }
         while let Some(note) = self.messages.pop_front() {
             if let Note::Request(_, p) = note {
@@ -421,6 +420,14 @@ impl Ledger {
             "whether it is closed",
         );
         self.expect(queue.stranded() == self.stranded, "the stranded spans");
+        for p in 0..self.producers.len() {
+            let is_due = self
+                .producers
+                .get(p)
+                .is_some_and(|producer| producer.due.is_some());
+            let is_answered = matches!(queue.slot(p), Some(Slot::Answered(_)));
+            self.expect(is_answered == is_due, "the answered requests");
+        }
     }
 }
 
