@@ -378,22 +378,28 @@ impl Ledger {
         }
     }
 
+    /// The control queue is empty from now on, and each of its requests dropped.
+    fn drop_messages(&mut self) {
+        for _ in 0..MOST_MESSAGES {
+            if let Some(Note::Request(_, p)) = self.messages.pop_front() {
+                self.answer(p, Said::Dropped);
+            }
+        }
+    }
+
     /// The shutdown is answered, every request in the control queue is dropped, and the outcome says how many spans
     /// wait. What was accepted is what was handed over, and those.
     pub fn note_close(&mut self, outcome: &Outcome) {
         let waiting = self.waiting();
         self.expect(*outcome == Outcome::ShutDown(waiting), "a close");
         let counted = self.handed.saturating_add(waiting);
-        self.expect(self.accepted.len() == counted, "a close's count");
+        let accepted = self.accepted.len();
+        self.expect(accepted == counted, "a close's count");
         match self.drain.why {
             Why::Shutdown(p) => self.answer(p, Said::Fine),
             _ => self.expect(false, "a close behind a shutdown"),
         }
-        while let Some(note) = self.messages.pop_front() {
-            if let Note::Request(_, p) = note {
-                self.answer(p, Said::Dropped);
-            }
-        }
+        self.drop_messages();
         self.stranded = Some(waiting);
         count(&mut self.seen.closes);
         if waiting > 0 {
@@ -401,33 +407,48 @@ impl Ledger {
         }
     }
 
-    /// Compares a machine with what its outcomes say. The moments are those of the spans that its exporter kept, that
-    /// are in its hand and that wait.
-    pub fn compare(&mut self, queue: &BatchMachine<Recording>, moments: &[u64]) {
+    /// What of a machine is not what its outcomes say, or an empty text. The moments are those of the spans that its
+    /// exporter kept, that are in its hand and that wait.
+    fn difference(&self, queue: &BatchMachine<Recording>, moments: &[u64]) -> &'static str {
         let exporter = queue.exporter();
-        self.expect(moments == self.accepted.as_slice(), "the spans");
-        self.expect(exporter.lengths() == self.lengths.as_slice(), "the batches");
-        self.expect(
-            exporter.moments().len() == self.handed,
-            "the exported spans",
-        );
-        self.expect(queue.waiting_len() == self.waiting(), "the waiting spans");
-        self.expect(queue.counter() == self.counter, "the counter");
-        self.expect(queue.messages_len() == self.messages.len(), "the messages");
-        self.expect(queue.dropped_count() == self.full, "the dropped spans");
-        self.expect(
-            queue.is_closed() == self.is_closed(),
-            "whether it is closed",
-        );
-        self.expect(queue.stranded() == self.stranded, "the stranded spans");
-        for p in 0..self.producers.len() {
-            let is_due = self
-                .producers
-                .get(p)
-                .is_some_and(|producer| producer.due.is_some());
-            let is_answered = matches!(queue.slot(p), Some(Slot::Answered(_)));
-            self.expect(is_answered == is_due, "the answered requests");
+        if moments != self.accepted.as_slice() {
+            return "the spans";
         }
+        if exporter.lengths() != self.lengths.as_slice() {
+            return "the batches";
+        }
+        if exporter.moments().len() != self.handed || queue.waiting_len() != self.waiting() {
+            return "where the spans are";
+        }
+        if queue.counter() != self.counter || queue.dropped_count() != self.full {
+            return "the counts";
+        }
+        if queue.messages_len() != self.messages.len() {
+            return "the messages";
+        }
+        if queue.is_closed() != self.is_closed() || queue.stranded() != self.stranded {
+            return "the close";
+        }
+        ""
+    }
+
+    /// Whether just the producers that are due an answer have one.
+    fn answers_agree(&self, queue: &BatchMachine<Recording>) -> bool {
+        for (p, producer) in self.producers.iter().enumerate() {
+            let is_answered = matches!(queue.slot(p), Some(Slot::Answered(_)));
+            if is_answered != producer.due.is_some() {
+                return false;
+            }
+        }
+        true
+    }
+
+    /// Compares a machine with what its outcomes say.
+    pub fn compare(&mut self, queue: &BatchMachine<Recording>, moments: &[u64]) {
+        let difference = self.difference(queue, moments);
+        self.expect(difference.is_empty(), difference);
+        let agree = self.answers_agree(queue);
+        self.expect(agree, "the answers");
     }
 }
 
