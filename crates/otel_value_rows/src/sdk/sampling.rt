@@ -83,7 +83,11 @@ fn push_sampled(
     is_copied: bool,
     out: &mut String,
 ) -> Result<(), RowError> {
-    let sampler = sampler_of(alloc, row)?;
+    let strings = sampler_strings(alloc, row)?;
+    let mut sampler = Config::from_strings(alloc, &strings, 0)?.sampler;
+    for _ in 0..depth_of(row)? {
+        sampler = Sampler::ParentBased(Box::new(alloc, sampler)?);
+    }
     if !is_copied {
         return push_answer(alloc, &sampler, row, out);
     }
@@ -93,16 +97,7 @@ fn push_sampled(
     }
 }
 
-/// The sampler that the first two fields configure, below as many as the fifth says, where it is there.
-fn sampler_of(alloc: Global, row: &Row) -> Result<Sampler, RowError> {
-    let strings = sampler_strings(alloc, row)?;
-    let mut sampler = Config::from_strings(alloc, &strings, 0)?.sampler;
-    for _ in 0..depth_of(row)? {
-        sampler = Sampler::ParentBased(Box::new(alloc, sampler)?);
-    }
-    Ok(sampler)
-}
-
+/// How many samplers that go by parents stand above the configured one; none where no field says it.
 fn depth_of(row: &Row) -> Result<u64, RowError> {
     match row.fields.get(4) {
         Some(depth) => number_of(depth.as_str()),
