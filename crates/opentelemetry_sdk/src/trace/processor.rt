@@ -6,10 +6,10 @@ use otel_base::error::OTelSdkResult;
 use otel_base::resource::Resource;
 use otel_base::trace::BatchStrings;
 use otel_batch::trace::BatchConfigBuilder;
-use otel_export::trace::{ExporterBox, SpanData, SpanExporter};
+use otel_export::trace::{ExporterBox, SpanData, SpanExporter, StoresBatches};
+use otel_kept::KeepsBatches;
 use otel_pipeline::trace::{
-    DrainDue, KeepsBatches, LeavesSpans, OverExporter, SimpleSpanProcessor, Span, SpanProcessor,
-    StoresBatches,
+    DrainDue, LeavesSpans, OverExporter, SimpleSpanProcessor, Span, SpanProcessor,
 };
 use std::alloc::{AllocError, Global};
 use std::time::Duration;
@@ -156,7 +156,7 @@ impl<E: SpanExporter, C: SpanProcessor> LeavesSpans for ProcessorOf<E, C> {
 }
 
 impl<E: StoresBatches, C: SpanProcessor> KeepsBatches for ProcessorOf<E, C> {
-    ghost use Rattle.otel_pipeline.specs.KeptBatches.{simple_appends, simple_rests, simple_stays};
+    ghost use Rattle.otel_kept.specs.ProcessorKeeps.{simple_appends, simple_rests, simple_stays};
     ghost use Rattle.opentelemetry_sdk.specs.KeptByBatch.{batch_stays, due_appends, requests_appends, stays};
     ghost use Rattle.opentelemetry_sdk.specs.KeptByKinds.{processor_appends, processor_keeps, processor_loses};
     ghost use Rattle.opentelemetry_sdk.specs.KeptByKinds.{processor_stays};

@@ -1,30 +1,10 @@
-//! The batches that the in-memory exporter of a processor keeps, which the replies of a session show.
+//! The batches that an exporter keeps, which a caller can read again.
 
 ghost use Rattle.std.specs.Prelude.{◌≡◌, ℕ, List, map};
+ghost use Rattle.otel_export.specs.KeptBatches.{ExporterAppends};
 ghost use Rattle.otel_export.specs.PlainSpanData.{PlainSpanData};
-ghost use Rattle.otel_pipeline.specs.KeptBatches.{ExporterAppends, OnlyAppends};
 
-use crate::trace::{DrainDue, LeavesSpans};
-use otel_export::trace::{ExporterOf, InMemorySpanExporter, SpanData, SpanExporter};
-
-/// A processor whose exporter may keep its batches. At a start, an end, a flush, a shutdown or a drain batches may only
-/// come behind those that are kept.
-pub trait KeepsBatches: DrainDue + LeavesSpans {
-    /// The batches that are kept; none where the exporter keeps none.
-    ghost kept: { Self → List (List PlainSpanData) };
-
-    fn batches(&self) -> &[Vec<SpanData>]
-        ensures { map (λ batch. batch.items) result.now ≡ kept self.now };
-
-    /// How many batches were handed to such an exporter and found no memory.
-    ghost lost: { Self → ℕ };
-
-    fn lost_batches(&self) -> u64
-        ensures { result ≡ lost self.now };
-
-    /// None of these calls takes back a batch, and a start of a span loses none.
-    ghost appends: { OnlyAppends Self.SpanProcessor Self.DrainDue.own kept lost };
-}
+use crate::trace::{ExporterOf, InMemorySpanExporter, SpanData, SpanExporter};
 
 /// An exporter that may keep its batches. None of its calls takes back a batch.
 pub trait StoresBatches: SpanExporter {
@@ -44,8 +24,8 @@ pub trait StoresBatches: SpanExporter {
 }
 
 impl<C: SpanExporter> StoresBatches for ExporterOf<InMemorySpanExporter, C> {
-    ghost use Rattle.otel_pipeline.specs.KeptBatches.{exporter_appends, exporter_keeps, exporter_loses};
-    ghost use Rattle.otel_pipeline.specs.KeptBatches.{exporter_passes, exporter_shuts};
+    ghost use Rattle.otel_export.specs.KeptBatches.{exporter_appends, exporter_keeps, exporter_loses};
+    ghost use Rattle.otel_export.specs.KeptBatches.{exporter_passes, exporter_shuts};
 
     ghost kept = { exporter_keeps };
 
