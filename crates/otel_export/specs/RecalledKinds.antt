@@ -3,9 +3,10 @@ use Rattle.std.specs.Prelude.{◌≡◌, ◌++◌, ℕ, zero, suc, List, [], Opt
 use Rattle.std.proofs.Common.{ap, sym, subst, ◌∙◌, append_assoc}
 use Rattle.otel_export.specs.KeptBatches.{exporter_keeps, exporter_loses}
 use Rattle.otel_export.specs.PlainSpanData.{PlainSpanData}
-use Rattle.otel_export.specs.RecalledBatches.{exporter_recalled, stored_behind, told_behind}
+use Rattle.otel_export.specs.RecalledBatches.{ExporterRecalls, exporter_recalled, stored_behind, told_behind}
 use Rattle.otel_export.specs.StoredBatches.{StoredBatches, told_unless_lost}
 use Rattle.otel_export.specs.Telling.{Tells}
+use Rattle.otel_export.specs.declared.trace.export.SpanExporter.{Ghosts}
 use Rattle.otel_export.specs.declared.trace.exporter_box.ExporterOf.{ExporterOf}
 use Rattle.otel_export.specs.declared.trace.exporter_box.ExporterOf.TheVariants as exporters
 
@@ -21,6 +22,21 @@ tells_behind xs before more None h = tt
 tells_behind xs None more (Some l) h = ap (λ t. told_behind xs t) h
 tells_behind xs (Some k) more (Some l) h =
     ap (λ (y : List _). Some y) (append_assoc xs k more) ∙ ap (λ t. told_behind xs t) h
+
+-- from one exporter to another, and from and to those behind which batches are recalled, the telling goes on alike
+module _ {E : Type 0} {calls : Ghosts E} {keeps : E → List (List PlainSpanData)} {loses : E → ℕ}
+    {recalled : List (List PlainSpanData) → E → E → Type 0} (recalls : ExporterRecalls calls keeps loses recalled)
+    (bs : List (List PlainSpanData)) (e r f s : E) (before : recalled bs e r) (after : recalled bs f s) where
+  pub exporter_tells_behind : (more : List (List PlainSpanData)) → Tells (calls.told e) more (calls.told f)
+      → Tells (calls.told r) more (calls.told s)
+  exporter_tells_behind more h =
+      subst (λ x. Tells x more (calls.told s)) (sym (recalls.told bs e r before))
+      (subst (λ x. Tells (told_behind bs (calls.told e)) more x) (sym (recalls.told bs f s after))
+      (tells_behind bs (calls.told e) more (calls.told f) h))
+
+  pub exporter_tells_same : calls.told f ≡ calls.told e → calls.told s ≡ calls.told r
+  exporter_tells_same same =
+      recalls.told bs f s after ∙ ap (λ x. told_behind bs x) same ∙ sym (recalls.told bs e r before)
 
 -- the batches of the exporter in memory are told behind those that are recalled, or none is
 unless_lost_behind : (bs : List (List PlainSpanData)) (lost : ℕ) (batches : List (List PlainSpanData))

@@ -1,8 +1,9 @@
 //! The batches that the exporter of a processor keeps, which the replies of a session show.
 
-ghost use Rattle.std.specs.Prelude.{◌≡◌, ℕ, List, map};
+ghost use Rattle.std.specs.Prelude.{◌≡◌, ℕ, List, [], map};
 ghost use Rattle.otel_export.specs.PlainSpanData.{PlainSpanData};
 ghost use Rattle.otel_kept.specs.ProcessorKeeps.{OnlyAppends};
+ghost use Rattle.otel_kept.specs.RecalledBatches.{Recalls};
 
 use otel_export::trace::SpanData;
 use otel_pipeline::trace::{DrainDue, LeavesSpans};
@@ -22,6 +23,17 @@ pub trait KeepsBatches: DrainDue + LeavesSpans {
     fn lost_batches(&self) -> u64
         ensures { result ≡ lost self.now };
 
+    /// The second is the first with these batches in front of those that are kept, and nothing else is another.
+    ghost recalled: { List (List PlainSpanData) → Self → Self → Type 0 };
+
+    /// Forgets the batches that are kept.
+    fn forget_batches(&mut self)
+        ensures recalled { recalled (kept self.old) self.new self.old }
+        ensures none { kept self.new ≡ [] };
+
     /// None of these calls takes back a batch, and a start of a span loses none.
     ghost appends: { OnlyAppends Self.SpanProcessor Self.DrainDue.own kept lost };
+
+    /// To forget batches changes nothing that a later call does, but for what is kept and heard.
+    ghost recalls: { Recalls Self.SpanProcessor Self.DrainDue.own kept lost recalled };
 }
