@@ -1,5 +1,7 @@
 pub mod Cuts
 pub mod Fields
+pub mod JoinedLines
+pub mod JoinedTexts
 pub mod Listed
 pub mod OneReading
 pub mod Spelled

@@ -3,6 +3,7 @@
 #![tactic(auto)]
 
 pub mod command;
+pub mod laws;
 pub mod lines;
 pub mod reply;
 pub mod reply_text;
