@@ -1,7 +1,5 @@
--- A batch processor over an exporter whose batches are recalled: each of its calls does the same.
-use Rattle.std.specs.Prelude.{◌≡◌, ◌+◌, ℕ, nat_le, Bool, true, false, List, [], ◌∷◌, Option, Some, None, Result, refl}
-use Rattle.std.specs.Prelude.{MatchBool, MatchOption}
-use Rattle.std.specs.declared.alloc.AllocError.{AllocError}
+-- The requests and the worker of a batch processor over an exporter whose batches are recalled: they do the same.
+use Rattle.std.specs.Prelude.{◌≡◌, ℕ, Bool, true, false, List, [], ◌∷◌, Result, MatchBool}
 use Rattle.std.proofs.Common.{ap, sym, subst}
 use Rattle.otel_base.specs.declared.error.OTelSdkError.{OTelSdkError}
 use Rattle.otel_export.specs.PlainSpanData.{PlainSpanData}
@@ -13,11 +11,10 @@ use Rattle.otel_batch.specs.KnownRequests.{step_of}
 use Rattle.otel_batch.specs.declared.machine.state.Request.{Request}
 use Rattle.otel_batch.specs.declared.machine.step.Outcome.TheVariants as outcome
 use Rattle.otel_batch.specs.declared.machine.step.Step.TheVariants as step
-use Rattle.opentelemetry_sdk.specs.BatchProcessor.{AnswersRequest, BatchDue, BatchEnds, BatchProcessor, BatchRequests}
-use Rattle.opentelemetry_sdk.specs.BatchProcessor.{DrainsByTimer, Requests, TellsTime, WorksAndTellsTime}
-use Rattle.opentelemetry_sdk.specs.RecalledOffers.{offers_before}
-use Rattle.opentelemetry_sdk.specs.RecalledSteps.{Over, goes_over, in_front_of, run_over}
-use Rattle.opentelemetry_sdk.specs.WorkedOff.{TicksAndWorks, WorkerWorks, next_of_worker}
+use Rattle.opentelemetry_sdk.specs.BatchProcessor.{AnswersRequest, BatchProcessor, Requests}
+use Rattle.opentelemetry_sdk.specs.RecalledRuns.{goes_over, run_over}
+use Rattle.opentelemetry_sdk.specs.RecalledSteps.{Over, in_front_of}
+use Rattle.opentelemetry_sdk.specs.WorkedOff.{WorkerWorks, next_of_worker}
 
 -- the same batch processor in front of another exporter
 abbrev pub batch_before : {E : Type 0} → BatchProcessor E → E → BatchProcessor E

@@ -1,65 +1,25 @@
--- The calls of a batch processor over an exporter whose batches are recalled, one by one.
-use Rattle.std.specs.Prelude.{◌≡◌, ◌+◌, ℕ, nat_le, Bool, true, false, List, [], ◌∷◌, Option, Some, None, Result, refl}
+-- What is due at a batch processor over an exporter whose batches are recalled: it does the same.
+use Rattle.std.specs.Prelude.{◌≡◌, ◌+◌, ℕ, nat_le, Bool, true, false, List, [], ◌∷◌, Option, Some, None, Result}
 use Rattle.std.specs.Prelude.{MatchBool, MatchOption}
-use Rattle.std.specs.declared.alloc.AllocError.{AllocError}
 use Rattle.std.proofs.Common.{ap, sym, subst}
 use Rattle.otel_base.specs.declared.error.OTelSdkError.{OTelSdkError}
 use Rattle.otel_export.specs.PlainSpanData.{PlainSpanData}
 use Rattle.otel_export.specs.RecalledBatches.{ExporterRecalls}
 use Rattle.otel_export.specs.declared.trace.export.SpanExporter.{Ghosts}
 use Rattle.otel_batch.specs.MachineState.{Machine}
-use Rattle.otel_batch.specs.declared.machine.state.Request.{Request}
 use Rattle.otel_batch.specs.declared.machine.step.Outcome.TheVariants as outcome
 use Rattle.otel_batch.specs.declared.machine.step.Step.TheVariants as step
-use Rattle.opentelemetry_sdk.specs.BatchProcessor.{BatchDue, BatchEnds, BatchProcessor, BatchRequests, DrainsByTimer}
+use Rattle.opentelemetry_sdk.specs.BatchProcessor.{BatchDue, BatchProcessor, DrainsByTimer}
 use Rattle.opentelemetry_sdk.specs.BatchProcessor.{TellsTime, WorksAndTellsTime}
-use Rattle.opentelemetry_sdk.specs.RecalledByBatch.{BatchOver, batch_before, requests_over, works_over}
-use Rattle.opentelemetry_sdk.specs.RecalledOffers.{offers_before}
-use Rattle.opentelemetry_sdk.specs.RecalledSteps.{Over, in_front_of, run_over}
+use Rattle.opentelemetry_sdk.specs.RecalledByBatch.{BatchOver, batch_before, works_over}
+use Rattle.opentelemetry_sdk.specs.RecalledCalls.{batch_same}
+use Rattle.opentelemetry_sdk.specs.RecalledRuns.{run_over}
+use Rattle.opentelemetry_sdk.specs.RecalledSteps.{Over, in_front_of}
 use Rattle.opentelemetry_sdk.specs.WorkedOff.{TicksAndWorks}
 
 module _ {E : Type 0} (calls : Ghosts E) {keeps : E → List (List PlainSpanData)} {loses : E → ℕ}
     {recalled : List (List PlainSpanData) → E → E → Type 0} (recalls : ExporterRecalls calls keeps loses recalled)
     (bs : List (List PlainSpanData)) where
-  -- the first is so in front of any exporter, and the processor is as it was
-  pub batch_rests : {A : Type 0} (p q : BatchProcessor E) (e : E) → recalled bs p.machine.exporter e → (q ≡ p) × A
-      → BatchOver calls recalls bs (λ a b. (b ≡ a) × A) p e q
-  batch_rests p q e behind h = (
-    e,
-    subst (λ (r : BatchProcessor E). recalled bs r.machine.exporter e) (sym h.0) behind,
-    (ap (λ (r : BatchProcessor E). batch_before r e) h.0, h.1),
-  )
-
-  -- an end
-  pub ends_over : (span : PlainSpanData) (answer : Result (Unit {0}) AllocError) (p q : BatchProcessor E) (e : E)
-      → recalled bs p.machine.exporter e → BatchEnds calls p span answer q
-      → BatchOver calls recalls bs (λ a b. BatchEnds calls a span answer b) p e q
-  ends_over span answer p q e behind h = (
-    e,
-    subst (λ x. recalled bs x e) (sym h.offers.exporter) behind,
-    record {
-      offers = offers_before calls p.machine span q.machine e h.offers;
-      ok = h.ok;
-      rest = ap (λ (r : BatchProcessor E). batch_before r e) h.rest;
-    },
-  )
-
-  -- a flush or a shutdown
-  pub asks_over : (asked : Request) (answer : Result (Unit {0}) OTelSdkError) (p q : BatchProcessor E) (e : E)
-      → recalled bs p.machine.exporter e → BatchRequests calls asked p answer q
-      → BatchOver calls recalls bs (λ a b. BatchRequests calls asked a answer b) p e q
-  asks_over asked answer p q e behind h =
-      let g = requests_over calls recalls bs asked p.machine answer q.machine e behind h.requests in (
-        g.0,
-        g.1,
-        record {
-          requests = g.2;
-          rest = ap (λ (r : BatchProcessor E). batch_before r g.0) h.rest;
-          shutdown = h.shutdown;
-          left = h.left;
-        },
-      )
-
   ticks_over : (s : Machine E) (answer : Result (Unit {0}) OTelSdkError) (t : Machine E) (e : E)
       → recalled bs s.exporter e → TicksAndWorks calls s answer t
       → Over calls recalls bs (λ a b. TicksAndWorks calls a answer b) s e t
@@ -79,11 +39,7 @@ module _ {E : Type 0} (calls : Ghosts E) {keeps : E → List (List PlainSpanData
       by_time true h =
           let g = ticks_over p.machine answer q.machine e behind h.drains in
           (g.0, g.1, record { drains = g.2; rest = ap (λ (r : BatchProcessor E). batch_before r g.0) h.rest })
-      by_time false h = (
-        e,
-        subst (λ (r : BatchProcessor E). recalled bs r.machine.exporter e) (sym h.1) behind,
-        (h.0, ap (λ (r : BatchProcessor E). batch_before r e) h.1),
-      )
+      by_time false h = let g = batch_same calls recalls bs p q e behind h.1 in (g.0, g.1, (h.0, g.2))
 
       by_last : (last : Option ℕ) → MatchOption last
           ((answer ≡ worked) × (q ≡ record p { last = Some now }))
@@ -107,11 +63,7 @@ module _ {E : Type 0} (calls : Ghosts E) {keeps : E → List (List PlainSpanData
       by_state : (A : Type 0) (closed : Bool) → MatchBool closed (A × (q ≡ p)) (WorksAndTellsTime calls now p answer q)
           → BatchOver calls recalls bs (λ a b. MatchBool closed (A × (b ≡ a)) (WorksAndTellsTime calls now a answer b))
           p e q
-      by_state A true h = (
-        e,
-        subst (λ (r : BatchProcessor E). recalled bs r.machine.exporter e) (sym h.1) behind,
-        (h.0, ap (λ (r : BatchProcessor E). batch_before r e) h.1),
-      )
+      by_state A true h = let g = batch_same calls recalls bs p q e behind h.1 in (g.0, g.1, (h.0, g.2))
       by_state A false h =
           let works = works_over calls recalls bs p.machine h.worked h.idle.machine e behind h.works.works in
           let tells = tells_over now h.idle h.worked answer q works.0 works.1 h.tells in (

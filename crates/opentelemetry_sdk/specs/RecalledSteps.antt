@@ -1,18 +1,17 @@
--- A run of a batch queue over an exporter whose batches are recalled: it takes the same steps, to the same answers.
-use Rattle.std.specs.Prelude.{◌≡◌, List, [], ◌∷◌, ℕ, Option, refl}
-use Rattle.std.proofs.Common.{ap, sym, subst, ◌∙◌}
+-- A step of a batch queue over an exporter whose batches are recalled: it is the same step, to the same outcome.
+use Rattle.std.specs.Prelude.{List, [], ◌∷◌, ℕ, refl}
+use Rattle.std.proofs.Common.{sym, subst}
 use Rattle.otel_export.specs.PlainSpanData.{PlainSpanData}
 use Rattle.otel_export.specs.RecalledBatches.{ExporterRecalls}
 use Rattle.otel_export.specs.RecalledKinds.{exporter_tells_behind, exporter_tells_same}
 use Rattle.otel_export.specs.declared.trace.export.SpanExporter.{Ghosts}
-use Rattle.otel_batch.specs.MachineState.{Control, Machine}
-use Rattle.otel_batch.specs.MachineRun.{Run, Stepped}
+use Rattle.otel_batch.specs.MachineState.{Machine}
+use Rattle.otel_batch.specs.MachineRun.{Stepped}
 use Rattle.otel_batch.specs.MovedSpans.{Keeps, Moved}
 use Rattle.otel_batch.specs.declared.machine.step.Outcome.{Outcome}
 use Rattle.otel_batch.specs.declared.machine.step.Outcome.TheVariants as outcome
 use Rattle.otel_batch.specs.declared.machine.step.Step.{Step}
 use Rattle.otel_batch.specs.declared.machine.step.Step.TheVariants as step
-use Rattle.opentelemetry_sdk.specs.WorkedOff.{GoesBy}
 
 -- the same queue in front of another exporter
 abbrev pub in_front_of : {E : Type 0} → Machine E → E → Machine E
@@ -81,58 +80,17 @@ module _ {E : Type 0} (calls : Ghosts E) {keeps : E → List (List PlainSpanData
       )
   moved_over s _ _ t e behind m = keeps_over s t e behind m
 
-  pub run_over : (s : Machine E) (xs : List Step) (os : List Outcome) (t : Machine E) (e : E)
-      → recalled bs s.exporter e → Run calls s xs os t → Over (λ a b. Run calls a xs os b) s e t
-  run_over s [] [] t e behind run = (
-    e,
-    subst (λ m. recalled bs m.exporter e) (sym run) behind,
-    ap (λ m. in_front_of m e) run,
-  )
-  run_over s (x ∷ xs) (o ∷ os) t e behind run =
-      let h = moved_over s x o run.0 e behind run.1.moved in
-      let rest = run_over run.0 xs os t h.0 h.1 run.2 in (
-        rest.0,
-        rest.1,
-        (
-          in_front_of run.0 h.0,
-          record {
-            permitted = run.1.permitted;
-            moved = h.2;
-            requests = run.1.requests;
-            goes_on = run.1.goes_on;
-            sound = run.1.sound;
-          },
-          rest.2,
-        ),
+  pub stepped_over : (s : Machine E) (x : Step) (o : Outcome) (t : Machine E) (e : E) → recalled bs s.exporter e
+      → Stepped calls s x o t → Over (λ a b. Stepped calls a x o b) s e t
+  stepped_over s x o t e behind m =
+      let h = moved_over s x o t e behind m.moved in (
+        h.0,
+        h.1,
+        record {
+          permitted = m.permitted;
+          moved = h.2;
+          requests = m.requests;
+          goes_on = m.goes_on;
+          sound = m.sound;
+        },
       )
-  run_over s [] (o ∷ os) t e behind run = absurd run
-  run_over s (x ∷ xs) [] t e behind run = absurd run
-
-  pub goes_over : (next : Control → Option Step) (s : Machine E) (xs : List Step) (os : List Outcome) (t : Machine E)
-      (e : E) → recalled bs s.exporter e → GoesBy calls next s xs os t
-      → Over (λ a b. GoesBy calls next a xs os b) s e t
-  goes_over next s [] [] t e behind goes = (
-    e,
-    subst (λ m. recalled bs m.exporter e) (sym goes) behind,
-    ap (λ m. in_front_of m e) goes,
-  )
-  goes_over next s (x ∷ xs) (o ∷ os) t e behind goes =
-      let h = moved_over s x o goes.1 e behind goes.2.moved in
-      let rest = goes_over next goes.1 xs os t h.0 h.1 goes.3 in (
-        rest.0,
-        rest.1,
-        (
-          goes.0,
-          in_front_of goes.1 h.0,
-          record {
-            permitted = goes.2.permitted;
-            moved = h.2;
-            requests = goes.2.requests;
-            goes_on = goes.2.goes_on;
-            sound = goes.2.sound;
-          },
-          rest.2,
-        ),
-      )
-  goes_over next s [] (o ∷ os) t e behind goes = absurd goes
-  goes_over next s (x ∷ xs) [] t e behind goes = absurd goes

@@ -1,5 +1,5 @@
 -- A simple processor over an exporter whose batches are recalled: each of its calls does the same.
-use Rattle.std.specs.Prelude.{◌≡◌, ◌++◌, ◌&&◌, not, ℕ, List, [], ◌∷◌, Bool, true, false, Option, Some, None, Result}
+use Rattle.std.specs.Prelude.{◌≡◌, ◌&&◌, not, ℕ, List, [], ◌∷◌, Bool, true, false, Option, Some, None, Result}
 use Rattle.std.specs.Prelude.{Ok, Err, refl}
 use Rattle.std.specs.declared.alloc.AllocError.{AllocError}
 use Rattle.std.proofs.Common.{ap, sym, subst, ◌∙◌}

@@ -161,7 +161,8 @@ impl<E: StoresBatches, C: SpanProcessor> KeepsBatches for ProcessorOf<E, C> {
     ghost use Rattle.opentelemetry_sdk.specs.KeptByKinds.{processor_appends, processor_keeps, processor_loses};
     ghost use Rattle.opentelemetry_sdk.specs.KeptByKinds.{processor_stays};
     ghost use Rattle.otel_kept.specs.RecalledBySimple.{simple_ends_over, simple_same, simple_shuts_over};
-    ghost use Rattle.opentelemetry_sdk.specs.RecalledDue.{asks_over, batch_rests, due_over, ends_over};
+    ghost use Rattle.opentelemetry_sdk.specs.RecalledCalls.{asks_over, batch_same, ends_over};
+    ghost use Rattle.opentelemetry_sdk.specs.RecalledDue.{due_over};
     ghost use Rattle.opentelemetry_sdk.specs.RecalledByKinds.{processor_recalled, processor_recalls};
     ghost use Rattle.opentelemetry_sdk.specs.RecalledLaws.{processor_heard, processor_kept, processor_lost};
     ghost use Rattle.opentelemetry_sdk.specs.RecalledLaws.{processor_more, processor_none};
@@ -194,7 +195,7 @@ impl<E: StoresBatches, C: SpanProcessor> KeepsBatches for ProcessorOf<E, C> {
     ghost recalls = { record {
       starts = λ bs span cx edited. processor_recalls E.recalled bs _ _ _
           (λ a b e behind h. let g = simple_same E.SpanExporter E.recalls bs a b e behind h.0 in (g.0, g.1, (g.2, h.1)))
-          (λ a b e behind h. batch_rests E.SpanExporter E.recalls bs a b e behind h);
+          (λ a b e behind h. let g = batch_same E.SpanExporter E.recalls bs a b e behind h.0 in (g.0, g.1, (g.2, h.1)));
       ends = λ bs span answer. processor_recalls E.recalled bs _ _ _
           (λ a b e behind h. simple_ends_over E.SpanExporter E.recalls bs span answer a b e behind h)
           (λ a b e behind h. ends_over E.SpanExporter E.recalls bs span answer a b e behind h);
