@@ -72,3 +72,31 @@ pub custom_heard : (bs : List (List PlainSpanData)) (told : ProcessorTelling) �
     → told ≡ heard_behind (spans_in bs) told
 custom_heard bs told none = ap (λ x. record told { heard = x }) (told_behind_none told.heard)
     ∙ ap (λ (l : List (List PlainSpanData)). heard_behind (spans_in l) told) (sym none)
+
+-- batches of a processor of any kind are recalled in one way, where those of its exporter are
+pub processor_once : {E C : Type 0} (recalled : List (List PlainSpanData) → E → E → Type 0)
+    (bs : List (List PlainSpanData)) → ((e r s : E) → recalled bs e r → recalled bs e s → s ≡ r)
+    → (p r s : ProcessorOf E C) → processor_recalled recalled bs p r → processor_recalled recalled bs p s → s ≡ r
+processor_once recalled bs once (kinds.Simple a) (kinds.Simple r) (kinds.Simple s) h g =
+    ap (λ x. kinds.Simple x)
+    (g.0 ∙ ap (λ e. simple_before a e) (once a.exporter r.exporter s.exporter h.1 g.1) ∙ sym h.0)
+processor_once recalled bs once (kinds.Simple a) (kinds.Simple r) (kinds.Batch s) h g = absurd g
+processor_once recalled bs once (kinds.Simple a) (kinds.Simple r) (kinds.Custom s) h g = absurd g
+processor_once recalled bs once (kinds.Simple a) (kinds.Batch r) s h g = absurd h
+processor_once recalled bs once (kinds.Simple a) (kinds.Custom r) s h g = absurd h
+processor_once recalled bs once (kinds.Batch a) (kinds.Simple r) s h g = absurd h
+processor_once recalled bs once (kinds.Batch a) (kinds.Batch r) (kinds.Simple s) h g = absurd g
+processor_once recalled bs once (kinds.Batch a) (kinds.Batch r) (kinds.Batch s) h g =
+    ap (λ x. kinds.Batch x)
+    (g.0
+    ∙ ap (λ e. batch_before a e)
+    (once a.machine.exporter r.machine.exporter s.machine.exporter h.1 g.1)
+    ∙ sym h.0)
+processor_once recalled bs once (kinds.Batch a) (kinds.Batch r) (kinds.Custom s) h g = absurd g
+processor_once recalled bs once (kinds.Batch a) (kinds.Custom r) s h g = absurd h
+processor_once recalled bs once (kinds.Custom a) (kinds.Simple r) s h g = absurd h
+processor_once recalled bs once (kinds.Custom a) (kinds.Batch r) s h g = absurd h
+processor_once recalled bs once (kinds.Custom a) (kinds.Custom r) (kinds.Simple s) h g = absurd g
+processor_once recalled bs once (kinds.Custom a) (kinds.Custom r) (kinds.Batch s) h g = absurd g
+processor_once recalled bs once (kinds.Custom a) (kinds.Custom r) (kinds.Custom s) h g =
+    ap (λ x. kinds.Custom x) (g.1 ∙ sym h.1)

@@ -33,6 +33,7 @@ pub record ExporterRecalls {E : Type 0} (calls : Ghosts E) (keeps : E → List (
       → calls.told r ≡ told_behind bs (calls.told e)
   pub kept : (bs : List (List PlainSpanData)) (e r : E) → recalled bs e r → keeps r ≡ bs ++ keeps e
   pub lost : (bs : List (List PlainSpanData)) (e r : E) → recalled bs e r → loses r ≡ loses e
+  pub once : (bs : List (List PlainSpanData)) (e r s : E) → recalled bs e r → recalled bs e s → s ≡ r
   pub none : (e : E) → recalled [] e e
   pub more : (bs cs : List (List PlainSpanData)) (e r s : E) → recalled bs e r → recalled cs r s
       → recalled (cs ++ bs) e s

@@ -87,3 +87,15 @@ more_recalled bs cs (exporters.Custom c) (exporters.Memory n) s h g = absurd h
 more_recalled bs cs (exporters.Custom c) (exporters.Custom d) (exporters.Memory n) h g = absurd g
 more_recalled bs cs (exporters.Custom c) (exporters.Custom d) (exporters.Custom k) h g =
     (ap (λ (l : List (List PlainSpanData)). l ++ bs) g.0 ∙ h.0, g.1 ∙ h.1)
+
+-- batches are recalled in one way
+pub recalled_once : {C : Type 0} (bs : List (List PlainSpanData)) (e r s : ExporterOf StoredBatches C)
+    → exporter_recalled bs e r → exporter_recalled bs e s → s ≡ r
+recalled_once bs (exporters.Memory m) (exporters.Memory n) (exporters.Memory k) h g =
+    ap (λ x. exporters.Memory x) (g ∙ sym h)
+recalled_once bs (exporters.Memory m) (exporters.Memory n) (exporters.Custom d) h g = absurd g
+recalled_once bs (exporters.Memory m) (exporters.Custom d) s h g = absurd h
+recalled_once bs (exporters.Custom c) (exporters.Memory n) s h g = absurd h
+recalled_once bs (exporters.Custom c) (exporters.Custom d) (exporters.Memory n) h g = absurd g
+recalled_once bs (exporters.Custom c) (exporters.Custom d) (exporters.Custom k) h g =
+    ap (λ x. exporters.Custom x) (g.1 ∙ sym h.1)

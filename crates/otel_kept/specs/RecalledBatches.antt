@@ -1,5 +1,5 @@
 -- Batches put in front of those that the exporter of a processor keeps: nothing else that the processor does is another.
-use Rattle.std.specs.Prelude.{◌≡◌, ◌++◌, ℕ, List, [], Result}
+use Rattle.std.specs.Prelude.{◌≡◌, ◌++◌, ℕ, List, [], ◌∷◌, Result}
 use Rattle.std.specs.declared.alloc.AllocError.{AllocError}
 use Rattle.opentelemetry.specs.Plain.{PlainContext}
 use Rattle.otel_base.specs.declared.error.OTelSdkError.{OTelSdkError}
@@ -31,6 +31,15 @@ pub record Recalls {P : Type 0} (calls : Ghosts P) (timer : timing.Ghosts P) (ke
       → calls.told r ≡ heard_behind (spans_in bs) (calls.told p)
   pub kept : (bs : List (List PlainSpanData)) (p r : P) → recalled bs p r → keeps r ≡ bs ++ keeps p
   pub lost : (bs : List (List PlainSpanData)) (p r : P) → recalled bs p r → loses r ≡ loses p
+  pub once : (bs : List (List PlainSpanData)) (p r s : P) → recalled bs p r → recalled bs p s → s ≡ r
   pub none : (p : P) → recalled [] p p
   pub more : (bs cs : List (List PlainSpanData)) (p r s : P) → recalled bs p r → recalled cs r s
       → recalled (cs ++ bs) p s
+
+-- the first of these processors has batches recalled, and the others are the same; where there is none, no batch is
+abbrev pub FirstRecalled : {P : Type 0} → (List (List PlainSpanData) → P → P → Type 0) → List (List PlainSpanData)
+    → List P → List P → Type 0
+FirstRecalled recalled bs [] [] = bs ≡ []
+FirstRecalled recalled bs [] (r ∷ rs) = ⊥
+FirstRecalled recalled bs (p ∷ ps) [] = ⊥
+FirstRecalled recalled bs (p ∷ ps) (r ∷ rs) = recalled bs p r × (rs ≡ ps)

@@ -163,7 +163,7 @@ impl<E: StoresBatches, C: SpanProcessor> KeepsBatches for ProcessorOf<E, C> {
     ghost use Rattle.otel_kept.specs.RecalledBySimple.{simple_ends_over, simple_same, simple_shuts_over};
     ghost use Rattle.opentelemetry_sdk.specs.RecalledCalls.{asks_over, batch_same, ends_over};
     ghost use Rattle.opentelemetry_sdk.specs.RecalledDue.{due_over};
-    ghost use Rattle.opentelemetry_sdk.specs.RecalledByKinds.{processor_recalled, processor_recalls};
+    ghost use Rattle.opentelemetry_sdk.specs.RecalledByKinds.{processor_once, processor_recalled, processor_recalls};
     ghost use Rattle.opentelemetry_sdk.specs.RecalledLaws.{processor_heard, processor_kept, processor_lost};
     ghost use Rattle.opentelemetry_sdk.specs.RecalledLaws.{processor_more, processor_none};
     ghost use Rattle.otel_batch.specs.declared.machine.state.Request.TheVariants as request;
@@ -212,6 +212,7 @@ impl<E: StoresBatches, C: SpanProcessor> KeepsBatches for ProcessorOf<E, C> {
       told = λ bs p r h. processor_heard E.SpanExporter E.recalls C.told bs p r h;
       kept = λ bs p r h. processor_kept E.SpanExporter E.recalls bs p r h;
       lost = λ bs p r h. processor_lost E.SpanExporter E.recalls bs p r h;
+      once = λ bs p r s h g. processor_once E.recalled bs (λ e f k. E.recalls.once bs e f k) p r s h g;
       none = λ p. processor_none E.SpanExporter E.recalls p;
       more = λ bs cs p r s h g. processor_more E.SpanExporter E.recalls bs cs p r s h g;
     } };

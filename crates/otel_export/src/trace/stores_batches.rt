@@ -42,7 +42,7 @@ impl<C: SpanExporter> StoresBatches for ExporterOf<InMemorySpanExporter, C> {
     ghost use Rattle.otel_export.specs.RecalledBatches.{exporter_recalled, exporter_recalls, memory_exports};
     ghost use Rattle.otel_export.specs.RecalledBatches.{memory_stays, stored_behind};
     ghost use Rattle.otel_export.specs.RecalledKinds.{more_recalled, none_recalled, recalled_keeps, recalled_loses};
-    ghost use Rattle.otel_export.specs.RecalledKinds.{recalled_tells};
+    ghost use Rattle.otel_export.specs.RecalledKinds.{recalled_once, recalled_tells};
 
     ghost kept = { exporter_keeps };
 
@@ -68,6 +68,7 @@ impl<C: SpanExporter> StoresBatches for ExporterOf<InMemorySpanExporter, C> {
       told = λ bs e r h. recalled_tells C.told bs e r h;
       kept = λ bs e r h. recalled_keeps bs e r h;
       lost = λ bs e r h. recalled_loses bs e r h;
+      once = λ bs e r s h g. recalled_once bs e r s h g;
       none = none_recalled;
       more = λ bs cs e r s h g. more_recalled bs cs e r s h g;
     } };
