@@ -47,5 +47,5 @@ module _ {P S G : Type 0} (calls : Calls P S G) where
     pub written : List ℕ
     pub after : SessionState P S G
     pub feeds : Writes [] written (λ replies. FeedsUpTo calls session bytes bad_line replies after)
-    pub closes : Closes calls after written (Ok tt) now
+    pub closes : Closes after written (Ok tt) now
     pub loses_none : losses_of_first calls.keeps closes.provider.processors ≡ session.lost_before

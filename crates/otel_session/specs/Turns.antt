@@ -105,7 +105,7 @@ module _ {P S G : Type 0} (calls : Calls P S G) where
     pub turns : List (Turn P S G)
     pub after : Histories
     pub are_turns : AreTurns old.scope (course_of old histories) commands turns (course_of new after)
-    pub replies : replies ≡ map reply_of turns
+    pub replied_to : replies ≡ map reply_of turns
     pub describes : Describe after new.spans
 
   -- commands were carried out, each with its reply, whatever histories the spans had

@@ -312,6 +312,7 @@ impl<P: KeepsBatches, S: ShouldSample, G: IdGenerator> Session<P, S, G> {
         ensures keeps { Grows (session_batches P.KeepsBatches.own self.old)
             (session_batches P.KeepsBatches.own self.new) }
     {
+        self.spans.have_histories();
         let ends_span = command.ends_span();
         let lost = self.lost_batches();
         let answer = carry_out(
@@ -420,11 +421,6 @@ fn carry_out<P: KeepsBatches, S: ShouldSample, G: IdGenerator>(
     ensures err { OnErr result (RefusesOne
         (calls_of P.SpanProcessor P.DrainDue.own P.KeepsBatches.own S.ShouldSample G.IdGenerator)
         provider.old spans.old (plain_command command) provider.new spans.new) }
-    ensures keeps { Grows (batches_of_first P.KeepsBatches.own provider.old.processors)
-        (batches_of_first P.KeepsBatches.own provider.new.processors) }
-    ensures loses { IsFalse (is_end (plain_command command)) → IsFalse (may_lose (plain_command command))
-        → losses_of_first P.KeepsBatches.own provider.new.processors
-        ≡ losses_of_first P.KeepsBatches.own provider.old.processors }
 {
     match command {
         Command::Start { span, name, moment } => {
