@@ -1,10 +1,5 @@
-pub mod CloseLemmas
-pub mod EmptiedLemmas
-pub mod FeedLemmas
-pub mod HeardLemmas
-pub mod RunLemmas
-pub mod ShownLemmas
-pub mod StepLemmas
-pub mod NamedLemmas
-pub mod TraceLemmas
+pub mod CarryLemmas
 pub mod HeaderLemmas
+pub mod KeptLemmas
+pub mod NamedLemmas
+pub mod TurnLemmas
