@@ -15,10 +15,10 @@ use Rattle.otel_batch.specs.PlainBatchConfig.{PlainBatchConfig, cut_to_queue, de
 use Rattle.otel_export.specs.StoredBatches.{StoredBatches}
 use Rattle.otel_export.specs.declared.trace.exporter_box.ExporterOf.{ExporterOf}
 use Rattle.otel_export.specs.declared.trace.exporter_box.ExporterOf.TheVariants as exporters
-use Rattle.otel_pipeline.specs.KeptBatches.{exporter_keeps, exporter_loses}
+use Rattle.otel_export.specs.KeptBatches.{exporter_keeps, exporter_loses}
 use Rattle.otel_pipeline.specs.Provider.{ProviderState}
 use Rattle.otel_pipeline.specs.declared.trace.drain_due.DrainDue as timing
-use Rattle.otel_pipeline.specs.declared.trace.keeps_batches.KeepsBatches as keeping
+use Rattle.otel_kept.specs.declared.keeps_batches.KeepsBatches as keeping
 use Rattle.otel_pipeline.specs.declared.trace.span_processor.SpanProcessor.{Ghosts}
 use Rattle.opentelemetry_sdk.specs.BatchProcessor.{first_processor}
 use Rattle.opentelemetry_sdk.specs.KeptByKinds.{processor_keeps, processor_loses}

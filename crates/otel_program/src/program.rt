@@ -36,10 +36,11 @@ use otel_base::trace::{
 };
 use otel_batch::trace::BatchConfigBuilder;
 use otel_export::trace::{ExporterOf, InMemorySpanExporter, SpanData, SpanExporter};
+use otel_kept::KeepsBatches;
 use otel_lines::lines::number_of;
 use otel_pipeline::trace::provider::provider_over;
 use otel_pipeline::trace::{
-    DrainDue, KeepsBatches, ProviderOf, SimpleSpanProcessor, SpanProcessor,
+    DrainDue, ProviderOf, SimpleSpanProcessor, SpanProcessor,
 };
 use otel_session::{FeedError, Session};
 use otel_steps::{Sizes, answer_lines, machine_sized};

@@ -7,7 +7,8 @@ use Rattle.opentelemetry.specs.PlainContexts.{root_cx}
 use Rattle.otel_base.specs.declared.error.OTelSdkError.{OTelSdkError}
 use Rattle.otel_base.specs.declared.error.OTelSdkError.TheVariants as errors
 use Rattle.otel_pipeline.specs.Deliveries.{Delivery, EachFollows}
-use Rattle.otel_pipeline.specs.KeptBatches.{OnlyAppends, appends_none}
+use Rattle.otel_export.specs.KeptBatches.{appends_none}
+use Rattle.otel_kept.specs.ProcessorKeeps.{OnlyAppends}
 use Rattle.otel_pipeline.specs.Provider.{ProviderState, ShutsDown}
 use Rattle.otel_pipeline.specs.SpanHistory.{SpanHistory, Edit, begun, over, data_of, span_of}
 use Rattle.otel_pipeline.proofs.Following.{EachFollows-same, delivered_follows}

@@ -11,13 +11,14 @@ use Rattle.otel_base.specs.declared.trace.sampler.SamplingDecision.TheVariants a
 use Rattle.otel_export.specs.PlainSpanData.{PlainSpanData}
 use Rattle.otel_pipeline.specs.Each.{Each}
 use Rattle.otel_pipeline.specs.Ending.{Delivers, TakesAndTells}
-use Rattle.otel_pipeline.specs.KeptBatches.{Grows, OnlyAppends, appends_none}
+use Rattle.otel_export.specs.KeptBatches.{Grows, appends_none}
+use Rattle.otel_kept.specs.ProcessorKeeps.{OnlyAppends}
 use Rattle.otel_pipeline.specs.Provider.{FlushesProcessor, ProviderState, RunsProcessor, ShutsDown, ShutsProcessor}
 use Rattle.otel_pipeline.specs.SpanHistory.{PlainSpan, SpanStart, SpanHistory, begun, over, span_of}
 use Rattle.otel_pipeline.specs.Starting.{PassesThrough, Decided, StartsOpen}
 use Rattle.otel_pipeline.specs.declared.trace.span_processor.SpanProcessor.{Ghosts}
 use Rattle.otel_pipeline.specs.declared.trace.drain_due.DrainDue as timing
-use Rattle.otel_pipeline.specs.declared.trace.keeps_batches.KeepsBatches as keeping
+use Rattle.otel_kept.specs.declared.keeps_batches.KeepsBatches as keeping
 use Rattle.otel_lines.specs.Commands.{PlainCommand, start, child, remote, attr, event, status, inject, end, flush, run, shutdown, is_end}
 use Rattle.otel_lines.specs.declared.reply.Answer.{Answer}
 use Rattle.otel_lines.specs.declared.reply.Answer.TheVariants as answers

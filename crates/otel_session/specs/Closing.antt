@@ -3,7 +3,7 @@ use Rattle.std.specs.Prelude.{◌≡◌, ◌≢◌, ◌⊎◌, ◌++◌, ℕ, Li
 use Rattle.otel_base.specs.declared.error.OTelSdkError.{OTelSdkError}
 use Rattle.otel_base.specs.declared.error.OTelSdkError.TheVariants as errors
 use Rattle.otel_pipeline.specs.Provider.{ProviderState}
-use Rattle.otel_pipeline.specs.declared.trace.keeps_batches.KeepsBatches as keeping
+use Rattle.otel_kept.specs.declared.keeps_batches.KeepsBatches as keeping
 use Rattle.otel_lines.specs.ReplyText.{span_lines}
 use Rattle.otel_session.specs.Calls.{Calls, losses_of_first}
 use Rattle.otel_session.specs.Fed.{FeedsUpTo, Writes}

@@ -10,3 +10,4 @@ pub mod Stops
 pub mod Traces
 pub mod Turn
 pub mod Turns
+pub mod Forgotten

@@ -2,8 +2,8 @@
 use Rattle.std.specs.Prelude.{◌≡◌, ◌≤◌, ◌==◌, ◌⊎◌, ◌++◌, ◌∷◌, ℕ, Bool, List, [], drop, length, not, take}
 use Rattle.std.specs.List.{flat_map}
 use Rattle.otel_export.specs.PlainSpanData.{PlainSpanData, spans_in}
-use Rattle.otel_pipeline.specs.KeptBatches.{Grows}
-use Rattle.otel_pipeline.specs.declared.trace.keeps_batches.KeepsBatches as keeping
+use Rattle.otel_export.specs.KeptBatches.{Grows}
+use Rattle.otel_kept.specs.declared.keeps_batches.KeepsBatches as keeping
 use Rattle.otel_pipeline.specs.declared.trace.span_processor.SpanProcessor.{Ghosts}
 use Rattle.otel_lines.specs.Commands.{PlainCommand}
 use Rattle.otel_lines.specs.PlainReply.{PlainReply}

@@ -1,7 +1,7 @@
 -- Why the commands of a session were not carried out to their end: one was refused, or has no reply.
 use Rattle.std.specs.Prelude.{◌≡◌, ◌⊎◌, ◌∷◌, ◌++◌, List, true}
 use Rattle.opentelemetry.specs.PlainContexts.{root_cx}
-use Rattle.otel_pipeline.specs.KeptBatches.{Grows}
+use Rattle.otel_export.specs.KeptBatches.{Grows}
 use Rattle.otel_pipeline.specs.Provider.{ProviderState}
 use Rattle.otel_lines.specs.Commands.{PlainCommand, start, child, remote, attr, event, status, inject, end, flush}
 use Rattle.otel_lines.specs.Commands.{run, shutdown, is_end, plain_command}

@@ -6,9 +6,9 @@ use Rattle.opentelemetry.specs.PlainContexts.{root_cx}
 use Rattle.otel_export.specs.PlainSpanData.{spans_in}
 use Rattle.otel_pipeline.specs.SpanHistory.{set_attribute, set_status}
 use Rattle.otel_pipeline.specs.Deliveries.{Delivery, EachFollows}
-use Rattle.otel_pipeline.specs.KeptBatches.{Grows}
+use Rattle.otel_export.specs.KeptBatches.{Grows}
 use Rattle.otel_pipeline.specs.Provider.{Flushes, ProviderState, RunsDue}
-use Rattle.otel_pipeline.specs.declared.trace.keeps_batches.KeepsBatches as keeping
+use Rattle.otel_kept.specs.declared.keeps_batches.KeepsBatches as keeping
 use Rattle.otel_lines.specs.Commands.{PlainCommand, start, child, remote, attr, event, status, inject, end, flush}
 use Rattle.otel_lines.specs.Commands.{run, shutdown, may_lose, plain_commands}
 use Rattle.otel_lines.specs.PlainReply.{PlainReply}

@@ -13,7 +13,7 @@ ghost use Rattle.otel_session.specs.Traces.{ChildrenAgree, KeepsContexts};
 ghost use Rattle.otel_session.specs.Turns.{SessionState, TookTurns, delivered_in};
 
 use otel_base::trace::{IdGenerator, ShouldSample};
-use otel_pipeline::trace::KeepsBatches;
+use otel_kept::KeepsBatches;
 
 /// Each processor follows all that was delivered, in order; and one that was open hears all of it, also where commands
 /// shut it down, since nothing is delivered behind that.

@@ -5,7 +5,7 @@ ghost use Rattle.std.specs.Prelude.{◌≡◌, ◌++◌, ◌∷◌, [], drop, le
 ghost use Rattle.std.specs.List.{flat_map};
 ghost use Rattle.opentelemetry.specs.Plain.{scope_named, text};
 ghost use Rattle.opentelemetry.specs.PlainContexts.{root_cx};
-ghost use Rattle.otel_pipeline.specs.KeptBatches.{Grows};
+ghost use Rattle.otel_export.specs.KeptBatches.{Grows};
 ghost use Rattle.otel_pipeline.specs.SpanEdits.{plain_edit};
 ghost use Rattle.otel_pipeline.specs.SpanHistory.{set_attribute};
 ghost use Rattle.otel_lines.specs.Commands.{is_end, may_lose, plain_command};
@@ -32,8 +32,9 @@ use otel_base::trace::{IdGenerator, ShouldSample};
 use otel_export::trace::SpanData;
 use otel_lines::reply_text::{write_batches, write_reply};
 use otel_lines::{Answer, Command, Reply, parse};
+use otel_kept::KeepsBatches;
 use otel_pipeline::trace::{
-    DrainDue, KeepsBatches, ProviderOf, SdkTracer, SpanEdit, SpanProcessor,
+    DrainDue, ProviderOf, SdkTracer, SpanEdit, SpanProcessor,
 };
 use std::alloc::{AllocError, Global};
 use std::collections::VecDeque;
