@@ -1,16 +1,23 @@
 //! The laws of the turns that the commands of a session take, over the definitions alone. Each function does nothing; its
 //! contract is the law, for every processor that may keep batches, every sampler and every source of ids.
 
-ghost use Rattle.std.specs.Prelude.{◌≡◌, List, false};
+ghost use Rattle.std.specs.Prelude.{◌≡◌, ◌+◌, ◌++◌, ℕ, List, Option, None, Result, false, length, option_map};
+ghost use Rattle.std.specs.Io.{IsEmptyOrEndsWith};
+ghost use Rattle.std.specs.Str.Lines.{lines};
+ghost use Rattle.otel_base.specs.declared.error.OTelSdkError.{OTelSdkError};
 ghost use Rattle.otel_pipeline.specs.Deliveries.{EachFollows, EachOpenHears};
 ghost use Rattle.otel_pipeline.specs.Hops.{GoesByParents};
 ghost use Rattle.otel_lines.specs.Commands.{PlainCommand};
 ghost use Rattle.otel_lines.specs.PlainReply.{PlainReply};
 ghost use Rattle.otel_session.specs.Calls.{calls_of};
+ghost use Rattle.otel_lines.specs.declared.command.Command.{Command};
+ghost use Rattle.otel_session.specs.Closing.{Closes};
+ghost use Rattle.otel_session.specs.Fed.{FeedsUpTo};
+ghost use Rattle.otel_session.specs.Forgotten.{HasForgotten, RunsWhole};
 ghost use Rattle.otel_session.specs.OpenSpans.{Describe, Histories};
 ghost use Rattle.otel_session.specs.Shown.{EmptiedBehind, Shows};
 ghost use Rattle.otel_session.specs.Traces.{ChildrenAgree, KeepsContexts};
-ghost use Rattle.otel_session.specs.Turns.{SessionState, TookTurns, delivered_in};
+ghost use Rattle.otel_session.specs.Turns.{Runs, SessionState, TookTurns, delivered_in};
 
 use otel_base::trace::{IdGenerator, ShouldSample};
 use otel_kept::KeepsBatches;
@@ -63,4 +70,34 @@ pub fn flushed_runs_leave_none_waiting<P: KeepsBatches, S: ShouldSample, G: IdGe
         (calls_of P.SpanProcessor P.DrainDue.own P.KeepsBatches.own S.ShouldSample G.IdGenerator)
         old histories commands replies new
         → EmptiedBehind P.SpanProcessor commands replies new.provider.processors }
+{}
+
+/// A session that has forgotten what its replies have shown carries commands out as it would, had it forgotten nothing:
+/// with the same replies; and it closes so.
+pub fn forgetting_changes_nothing<P: KeepsBatches, S: ShouldSample, G: IdGenerator>()
+    ensures runs { (whole now after : SessionState P S G) (histories : Histories) (commands : List Command)
+        (replies : List PlainReply) → HasForgotten P.KeepsBatches.own whole now → Describe histories now.spans → Runs
+        (calls_of P.SpanProcessor P.DrainDue.own P.KeepsBatches.own S.ShouldSample G.IdGenerator)
+        now commands replies after → RunsWhole
+        (calls_of P.SpanProcessor P.DrainDue.own P.KeepsBatches.own S.ShouldSample G.IdGenerator)
+        whole commands replies after }
+    ensures closes { (whole now : SessionState P S G) (before text : List ℕ)
+        (answer : Result (Unit {0}) OTelSdkError) → HasForgotten P.KeepsBatches.own whole now → Closes
+        (calls_of P.SpanProcessor P.DrainDue.own P.KeepsBatches.own S.ShouldSample G.IdGenerator)
+        now before answer text → Closes
+        (calls_of P.SpanProcessor P.DrainDue.own P.KeepsBatches.own S.ShouldSample G.IdGenerator)
+        whole before answer text }
+{}
+
+/// Texts that are fed one after another are one text, where the first of them ends as a line does: its replies are
+/// theirs, and its lines are counted through.
+pub fn feeds_join<P: KeepsBatches, S: ShouldSample, G: IdGenerator>()
+    ensures { (old middle new : SessionState P S G) (first second : List ℕ) (bad_line : Option ℕ)
+        (replies more : List PlainReply) → IsEmptyOrEndsWith first 10 → FeedsUpTo
+        (calls_of P.SpanProcessor P.DrainDue.own P.KeepsBatches.own S.ShouldSample G.IdGenerator)
+        old first None replies middle → FeedsUpTo
+        (calls_of P.SpanProcessor P.DrainDue.own P.KeepsBatches.own S.ShouldSample G.IdGenerator)
+        middle second bad_line more new → FeedsUpTo
+        (calls_of P.SpanProcessor P.DrainDue.own P.KeepsBatches.own S.ShouldSample G.IdGenerator)
+        old (first ++ second) (option_map (λ n. length (lines first) + n) bad_line) (replies ++ more) new }
 {}

@@ -13,6 +13,8 @@ ghost use Rattle.otel_lines.specs.AnswerText.{answer_line};
 ghost use Rattle.otel_lines.specs.ReplyText.{span_lines};
 ghost use Rattle.otel_session.specs.Calls.{batches_of_first, calls_of, losses_of_first};
 ghost use Rattle.otel_session.specs.Closing.{Closes, or_no_memory};
+ghost use Rattle.otel_kept.specs.RecalledBatches.{FirstRecalled};
+ghost use Rattle.otel_session.specs.Forgotten.{HasForgotten};
 ghost use Rattle.otel_session.specs.Fed.{FeedStops, Feeds, Writes};
 ghost use Rattle.otel_session.specs.OpenSpans.{Describe, Histories};
 ghost use Rattle.otel_session.specs.ProviderTurns.{ShutsIfOpen, call_answer};
@@ -344,6 +346,19 @@ impl<P: KeepsBatches, S: ShouldSample, G: IdGenerator> Session<P, S, G> {
         lost_by_first(self.provider.processors())
     }
 
+    /// Forgets what replies have shown: where they have shown every batch that the first processor's exporter keeps, that
+    /// gives all of them up; else nothing happens. No later reply, answer or delivery is another for it.
+    pub fn forget_shown(&mut self)
+        ensures forgets { HasForgotten P.KeepsBatches.own self.old self.new }
+        ensures frees { self.old.shown ≡ length (session_batches P.KeepsBatches.own self.old)
+            → session_batches P.KeepsBatches.own self.new ≡ [] }
+    {
+        if self.shown == kept_by_first(self.provider.processors()).len() {
+            forget_first(&mut self.provider);
+            self.shown = 0;
+        }
+    }
+
     /// A reply has shown what the first processor exported so far.
     fn mark_shown(&mut self)
         ensures { self.new ≡ record self.old { shown = length (session_batches P.KeepsBatches.own self.old) } }
@@ -404,6 +419,19 @@ fn unshown_by_first<P: KeepsBatches>(processors: &[P], shown: usize) -> &[Vec<Sp
         ≡ drop shown (batches_of_first P.KeepsBatches.own processors.now) }
 {
     batches_since(kept_by_first(processors), shown)
+}
+
+/// The exporter of the first processor forgets the batches that it keeps. All else is as it was.
+fn forget_first<P: KeepsBatches, S, G>(provider: &mut ProviderOf<P, S, G>)
+    ensures recalled { FirstRecalled P.KeepsBatches.own.recalled
+        (batches_of_first P.KeepsBatches.own provider.old.processors)
+        provider.new.processors provider.old.processors }
+    ensures none { batches_of_first P.KeepsBatches.own provider.new.processors ≡ [] }
+    ensures rest { provider.new ≡ record provider.old { processors = provider.new.processors } }
+{
+    if let Some(first) = provider.first_processor_mut() {
+        first.forget_batches();
+    }
 }
 
 /// Carries one command out on the parts of a session; a lost batch is no error.
