@@ -1,19 +1,31 @@
 //! The laws of the turns that the commands of a session take, over the definitions alone. Each function does nothing; its
 //! contract is the law, for every processor that may keep batches, every sampler and every source of ids.
 
-ghost use Rattle.std.specs.Prelude.{◌≡◌, List, false};
+ghost use Rattle.std.specs.Prelude.{◌≡◌, ◌++◌, List, false};
 ghost use Rattle.otel_pipeline.specs.Deliveries.{EachFollows, EachOpenHears};
 ghost use Rattle.otel_pipeline.specs.Hops.{GoesByParents};
 ghost use Rattle.otel_lines.specs.Commands.{PlainCommand};
 ghost use Rattle.otel_lines.specs.PlainReply.{PlainReply};
+ghost use Rattle.otel_lines.specs.declared.command.Command.{Command};
 ghost use Rattle.otel_session.specs.Calls.{calls_of};
 ghost use Rattle.otel_session.specs.OpenSpans.{Describe, Histories};
 ghost use Rattle.otel_session.specs.Shown.{EmptiedBehind, Shows};
 ghost use Rattle.otel_session.specs.Traces.{ChildrenAgree, KeepsContexts};
-ghost use Rattle.otel_session.specs.Turns.{SessionState, TookTurns, delivered_in};
+ghost use Rattle.otel_session.specs.Turns.{Runs, SessionState, TookTurns, delivered_in};
 
 use otel_base::trace::{IdGenerator, ShouldSample};
 use otel_pipeline::trace::KeepsBatches;
+
+/// A run, and another from where it ends, are one run.
+pub fn runs_are_joined<P: KeepsBatches, S: ShouldSample, G: IdGenerator>()
+    ensures { (old middle new : SessionState P S G) (first rest : List Command) (shown then_shown : List PlainReply)
+        → Runs (calls_of P.SpanProcessor P.DrainDue.own P.KeepsBatches.own S.ShouldSample G.IdGenerator)
+        old first shown middle
+        → Runs (calls_of P.SpanProcessor P.DrainDue.own P.KeepsBatches.own S.ShouldSample G.IdGenerator)
+        middle rest then_shown new
+        → Runs (calls_of P.SpanProcessor P.DrainDue.own P.KeepsBatches.own S.ShouldSample G.IdGenerator)
+        old (first ++ rest) (shown ++ then_shown) new }
+{}
 
 /// Each processor follows all that was delivered, in order; and one that was open hears all of it, also where commands
 /// shut it down, since nothing is delivered behind that.
