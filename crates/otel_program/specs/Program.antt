@@ -25,7 +25,9 @@ use Rattle.opentelemetry_sdk.specs.KeptByKinds.{processor_keeps, processor_loses
 use Rattle.opentelemetry_sdk.specs.declared.trace.processor.ProcessorOf.{ProcessorOf}
 use Rattle.opentelemetry_sdk.specs.declared.trace.processor.ProcessorOf.TheVariants as kinds
 use Rattle.otel_lines.specs.Lines.{IsMoment}
-use Rattle.otel_session.specs.SessionDelivery.{Finishes, session_under}
+use Rattle.otel_session.specs.Calls.{calls_of}
+use Rattle.otel_session.specs.Closing.{Finishes}
+use Rattle.otel_session.specs.Turns.{session_under}
 use Rattle.otel_steps.specs.StepAnswers.{AnswersLines, machine_of}
 use Rattle.otel_steps.specs.declared.steps.Sizes.{Sizes}
 use Rattle.otel_program.specs.declared.program.Asked.{Asked}
@@ -125,7 +127,7 @@ module _ {P S G : Type 0} (calls : Ghosts P) (timer : timing.Ghosts P) (keeps : 
   -- when it closes, and nothing else
   abbrev pub WritesText : ProviderState P S G → List ℕ → Option ℕ → Option (List ℕ) → Option (List ℕ) → Type 0
   WritesText provider input bad_line before after = (text : List ℕ)
-      × Finishes calls timer keeps sampler ids (session_under keeps provider) input bad_line text
+      × Finishes (calls_of calls timer keeps sampler ids) (session_under keeps provider) input bad_line text
       × Appends before after text
 
   -- the whole input was read, and the output was given what a session under a provider writes for it

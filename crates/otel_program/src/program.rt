@@ -5,7 +5,9 @@ ghost use Rattle.std.specs.Prelude.{◌≡◌, ◌≢◌, ◌⊎◌, ◌≤◌, 
 ghost use Rattle.std.specs.Io.KnownBytes.{Appends, IsAtEnd};
 ghost use Rattle.otel_batch.specs.MachineState.{Machine};
 ghost use Rattle.otel_export.specs.StoredBatches.{StoredBatches};
-ghost use Rattle.otel_session.specs.SessionDelivery.{Finishes, session_under};
+ghost use Rattle.otel_session.specs.Calls.{calls_of};
+ghost use Rattle.otel_session.specs.Closing.{Finishes};
+ghost use Rattle.otel_session.specs.Turns.{session_under};
 ghost use Rattle.otel_program.specs.Program.{
   AsksFor,
   AsksForNoTrace,
@@ -435,7 +437,7 @@ fn run_session<P: KeepsBatches, S: ShouldSample, G: IdGenerator>(
     input: &[u8],
 ) -> ProgramOutput
     ensures { result.has_failed ≡ false →
-        Finishes P.SpanProcessor P.DrainDue.own P.KeepsBatches.own S.ShouldSample G.IdGenerator
+        Finishes (calls_of P.SpanProcessor P.DrainDue.own P.KeepsBatches.own S.ShouldSample G.IdGenerator)
         (session_under P.KeepsBatches.own provider)
         input.now result.bad_line result.text.items }
 {
@@ -466,7 +468,7 @@ fn finish<P: KeepsBatches, S: ShouldSample, G: IdGenerator>(
     input: &[u8],
 ) -> ProgramOutput
     ensures { result.has_failed ≡ false →
-        Finishes P.SpanProcessor P.DrainDue.own P.KeepsBatches.own S.ShouldSample G.IdGenerator
+        Finishes (calls_of P.SpanProcessor P.DrainDue.own P.KeepsBatches.own S.ShouldSample G.IdGenerator)
         session input.now result.bad_line result.text.items }
 {
     let mut text = Vec::new(alloc);

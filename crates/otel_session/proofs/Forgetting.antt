@@ -1,7 +1,7 @@
 -- What a session does that has forgotten batches, it does had it never forgotten any.
 use Rattle.std.proofs.Common.{rules, ◌≡◌, ◌++◌, ◌+◌, ◌≤◌, ℕ, Bool, true, false, IsFalse, List, [], ◌∷◌, Option, Some, None, Result, Ok, Err, MatchBool, map, length, drop, refl, sym, ◌∙◌, ap, subst, arith, append_assoc, append-nil}
 use Rattle.std.proofs.Math.Seq.{drop-append-add}
-use Rattle.std.proofs.lemmas.List.{length-append, map-append}
+use Rattle.std.proofs.lemmas.List.{length-append}
 use Rattle.opentelemetry.specs.PlainSpanBuilder.{named_builder}
 use Rattle.opentelemetry.specs.Plain.{PlainScope}
 use Rattle.opentelemetry.specs.PlainContexts.{root_cx}
@@ -239,32 +239,3 @@ module _ {P S G : Type 0} (calls : Calls P S G) (law : RecallsNothingElse calls)
         lost_before = ran.lost_before;
         took = λ others also. took_again now after rs again.processors others (plain_commands commands) replies h again.first (ran.took others also);
       })
-
-module _ {P S G : Type 0} (calls : Calls P S G) where
-  turns_join : (scope : PlainScope) (old middle new : Course P S G) (first others : List PlainCommand) (turns more : List (Turn P S G))
-      → AreTurns calls scope old first turns middle → AreTurns calls scope middle others more new → AreTurns calls scope old (first ++ others) (turns ++ more) new
-  turns_join scope old middle new [] others [] more h k = subst (λ (c : Course P S G). AreTurns calls scope c others more new) h k
-  turns_join scope old middle new [] others (turn ∷ turns) more h k = absurd h
-  turns_join scope old middle new (command ∷ first) others [] more h k = absurd h
-  turns_join scope old middle new (command ∷ first) others (turn ∷ turns) more h k =
-      (h.0, h.1, h.2, turns_join scope (replied calls turn.behind) middle new first others turns more h.3 k)
-
-  -- one run and another one from where it ended are one run
-  pub runs_join : (old middle new : SessionState P S G) (first others : List Command) (replies more : List PlainReply)
-      → Runs calls old first replies middle → Runs calls middle others more new → Runs calls old (first ++ others) (replies ++ more) new
-  runs_join old middle new first others replies more h k = record {
-    scope = k.scope ∙ h.scope;
-    lost_before = k.lost_before ∙ h.lost_before;
-    took = λ histories describes.
-        let one = h.took histories describes in
-        let two = k.took one.after one.describes in record {
-          turns = one.turns ++ two.turns;
-          after = two.after;
-          are_turns = subst (λ (l : List PlainCommand). AreTurns calls old.scope (course_of old histories) l (one.turns ++ two.turns) (course_of new two.after)) (sym (map-append plain_command first others))
-              (turns_join old.scope (course_of old histories) (course_of middle one.after) (course_of new two.after) (plain_commands first) (plain_commands others) one.turns two.turns one.are_turns
-              (subst (λ (s : PlainScope). AreTurns calls s (course_of middle one.after) (plain_commands others) two.turns (course_of new two.after)) h.scope two.are_turns));
-          replied_to = ap (λ (l : List PlainReply). l ++ more) one.replied_to ∙ ap (λ (l : List PlainReply). map (reply_of calls) one.turns ++ l) two.replied_to
-              ∙ sym (map-append (reply_of calls) one.turns two.turns);
-          describes = two.describes;
-        };
-  }

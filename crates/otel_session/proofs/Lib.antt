@@ -1,7 +1,15 @@
+pub mod AnswerLemmas
 pub mod CarryLemmas
+pub mod CloseLemmas
+pub mod EmptiedLemmas
+pub mod FeedLemmas
 pub mod HeaderLemmas
+pub mod HeardLemmas
 pub mod KeptLemmas
 pub mod NamedLemmas
+pub mod RunLemmas
+pub mod ShownLemmas
+pub mod TraceLemmas
 pub mod TurnLemmas
 pub mod Forgetting
 pub mod Streaming

@@ -23,7 +23,9 @@ use Rattle.otel_session.specs.Forgotten.{HasForgotten, RunsWhole, Streams}
 use Rattle.otel_session.specs.OpenSpans.{Describe, Histories}
 use Rattle.otel_session.specs.Shown.{has_lost, unshown}
 use Rattle.otel_session.specs.Turns.{Runs, SessionState}
-use Rattle.otel_session.proofs.Forgetting.{RecallsNothingElse, kept_again, lost_again, run_recalled, runs_join, shown_again, shuts_or_again}
+use Rattle.otel_session.proofs.FeedLemmas.{finishes}
+use Rattle.otel_session.proofs.RunLemmas.{runs_join}
+use Rattle.otel_session.proofs.Forgetting.{RecallsNothingElse, kept_again, lost_again, run_recalled, shown_again, shuts_or_again}
 
 abbrev Batches : Type 0
 Batches = List (List PlainSpanData)
@@ -146,3 +148,10 @@ module _ {P S G : Type 0} (calls : Calls P S G) (law : RecallsNothingElse calls)
         written = w.written;
         are_some = λ none. w.are_some (f ∙ none);
       })
+
+  -- a session that was fed pieces, and closed well
+  pub streams_finish : (begun now : SessionState P S G) (bytes : List ℕ) (bad_line : Option ℕ) (replies : List PlainReply) (text : List ℕ)
+      → Streams calls begun bytes bad_line replies now → NoneRefused replies → Closes calls now (replies_text replies) (Ok tt) text → Finishes calls begun bytes bad_line text
+  streams_finish begun now bytes bad_line replies text h none closed =
+      finishes calls begun h.whole bytes bad_line (replies_text replies) text (Ok tt) (record { replies = replies; written = refl; none_refused = none; these = h.feeds }) refl
+      (closes_whole h.whole now (replies_text replies) text (Ok tt) h.forgot closed)

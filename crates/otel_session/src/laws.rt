@@ -9,8 +9,8 @@ ghost use Rattle.otel_pipeline.specs.Deliveries.{EachFollows, EachOpenHears};
 ghost use Rattle.otel_pipeline.specs.Hops.{GoesByParents};
 ghost use Rattle.otel_lines.specs.Commands.{PlainCommand};
 ghost use Rattle.otel_lines.specs.PlainReply.{PlainReply};
-ghost use Rattle.otel_session.specs.Calls.{calls_of};
 ghost use Rattle.otel_lines.specs.declared.command.Command.{Command};
+ghost use Rattle.otel_session.specs.Calls.{calls_of};
 ghost use Rattle.otel_session.specs.Closing.{Closes};
 ghost use Rattle.otel_session.specs.Fed.{FeedsUpTo};
 ghost use Rattle.otel_session.specs.Forgotten.{HasForgotten, RunsWhole};
@@ -21,6 +21,17 @@ ghost use Rattle.otel_session.specs.Turns.{Runs, SessionState, TookTurns, delive
 
 use otel_base::trace::{IdGenerator, ShouldSample};
 use otel_kept::KeepsBatches;
+
+/// A run, and another from where it ends, are one run.
+pub fn runs_join<P: KeepsBatches, S: ShouldSample, G: IdGenerator>()
+    ensures { (old middle new : SessionState P S G) (first rest : List Command) (shown then_shown : List PlainReply)
+        → Runs (calls_of P.SpanProcessor P.DrainDue.own P.KeepsBatches.own S.ShouldSample G.IdGenerator)
+        old first shown middle
+        → Runs (calls_of P.SpanProcessor P.DrainDue.own P.KeepsBatches.own S.ShouldSample G.IdGenerator)
+        middle rest then_shown new
+        → Runs (calls_of P.SpanProcessor P.DrainDue.own P.KeepsBatches.own S.ShouldSample G.IdGenerator)
+        old (first ++ rest) (shown ++ then_shown) new }
+{}
 
 /// Each processor follows all that was delivered, in order; and one that was open hears all of it, also where commands
 /// shut it down, since nothing is delivered behind that.

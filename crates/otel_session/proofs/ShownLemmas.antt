@@ -1,0 +1,96 @@
+-- The replies of turns show the batches that came meanwhile, in order and each once.
+use Rattle.std.proofs.Common.{◌≡◌, ◌≤◌, ◌-◌, ◌+◌, ◌⊎◌, ℕ, List, [], ◌∷◌, ◌++◌, length, take, drop, map, refl, sym, ◌∙◌, ap, subst, arith, length-append, length-take-le, drop_of_length-le, inl, inr}
+use Rattle.std.proofs.Math.Seq.{take-append-add, drop-append_seam}
+use Rattle.std.proofs.lemmas.List.{drop-append-le}
+use Rattle.std.proofs.lemmas.List.Concat.{flat_map-append}
+use Rattle.opentelemetry.specs.Plain.{PlainScope}
+use Rattle.otel_export.specs.PlainSpanData.{PlainSpanData, spans_in}
+use Rattle.otel_export.specs.KeptBatches.{Grows, appends_more, appends_none}
+use Rattle.otel_lines.specs.Commands.{PlainCommand}
+use Rattle.otel_lines.specs.PlainReply.{PlainReply}
+use Rattle.otel_session.specs.Calls.{Calls, batches_of_first}
+use Rattle.otel_session.specs.OpenSpans.{Histories}
+use Rattle.otel_session.specs.Shown.{Shows, exported_in}
+use Rattle.otel_session.specs.Turn.{Course, Turn}
+use Rattle.otel_session.specs.Turns.{AreTurns, SessionState, course_of, replied, reply_of}
+
+abbrev Batches : Type 0
+Batches = List (List PlainSpanData)
+
+grows_length : {X : Type 0} (xs ys : List X) → Grows xs ys → length xs ≤ length ys
+grows_length xs ys h = let e = ap length h.1 ∙ length-append xs h.0 in omega (arith, e)
+
+-- nothing shown
+none_shown : (batches : Batches) (n : ℕ) → n ≤ length batches → [] ≡ spans_in (drop n (take n batches))
+none_shown batches n h = ap spans_in (sym (drop_of_length-le (take n batches) (subst (λ (m : ℕ). m ≤ n) (sym (length-take-le n batches h)) (omega arith))))
+
+-- batches and a beginning of those behind them
+taken : (batches more all : Batches) (n : ℕ) → all ≡ batches ++ more → length batches ≤ n → take n all ≡ batches ++ take (n - length batches) more
+taken batches more all n e h =
+    let sum : n ≡ length batches + (n - length batches) = omega (arith, h) in
+    ap (take n) e ∙ ap (λ (k : ℕ). take k (batches ++ more)) sum ∙ take-append-add batches more (n - length batches)
+
+-- what two replies show one after the other
+both_shown : (batches rest : Batches) (a : ℕ) → a ≤ length batches → spans_in (drop a batches) ++ spans_in (drop (length batches) (batches ++ rest)) ≡ spans_in (drop a (batches ++ rest))
+both_shown batches rest a h =
+    ap (λ (l : Batches). spans_in (drop a batches) ++ spans_in l) (drop-append_seam batches rest)
+    ∙ sym (flat_map-append (λ b. b) (drop a batches) rest)
+    ∙ ap spans_in (sym (drop-append-le a batches rest h))
+
+module _ {P S G : Type 0} (calls : Calls P S G) where
+  abbrev kept : Course P S G → Batches
+  kept course = batches_of_first calls.keeps course.provider.processors
+
+  -- from a course to another the replies show the batches that came, in order and each once
+  record ShowsTo (old : Course P S G) (replies : List PlainReply) (new : Course P S G) : Type 0 where
+    grows : Grows (kept old) (kept new)
+    not_fewer : old.shown ≤ length (kept old) → old.shown ≤ new.shown
+    no_more : old.shown ≤ length (kept old) → new.shown ≤ length (kept new)
+    exported : old.shown ≤ length (kept old) → exported_in replies ≡ spans_in (drop old.shown (take new.shown (kept new)))
+
+  shows_none : (course : Course P S G) → ShowsTo course [] course
+  shows_none course = record { grows = appends_none _ _ refl; not_fewer = λ within. omega arith; no_more = λ within. within; exported = none_shown (kept course) course.shown }
+
+  shows_more : (turn : Turn P S G) (replies : List PlainReply) (new : Course P S G) → Grows (kept turn.before) (kept turn.behind) → ShowsTo (replied calls turn.behind) replies new → ShowsTo turn.before (reply_of calls turn ∷ replies) new
+  shows_more turn replies new grew h =
+      let batches = kept turn.behind in
+      let all : length batches ≤ length batches = omega arith in
+      let longer = grows_length _ _ grew in
+      let fewer : length batches ≤ new.shown = h.not_fewer all in
+      let whole = taken batches h.grows.0 (kept new) new.shown h.grows.1 fewer in record {
+        grows = appends_more _ _ _ grew h.grows;
+        not_fewer = λ within. omega (arith, within, longer, fewer);
+        no_more = λ within. h.no_more all;
+        exported = λ within.
+            ap (λ (l : List PlainSpanData). spans_in (drop turn.before.shown batches) ++ l) (h.exported all ∙ ap (λ (l : Batches). spans_in (drop (length batches) l)) whole)
+            ∙ both_shown batches (take (new.shown - length batches) h.grows.0) turn.before.shown (omega (arith, within, longer))
+            ∙ ap (λ (l : Batches). spans_in (drop turn.before.shown l)) (sym whole);
+      }
+
+  all_show : (scope : PlainScope) (old new : Course P S G) (commands : List PlainCommand) (turns : List (Turn P S G)) → AreTurns calls scope old commands turns new → ShowsTo old (map (reply_of calls) turns) new
+  all_show scope old new [] [] h = subst (λ (c : Course P S G). ShowsTo old [] c) (sym h) (shows_none old)
+  all_show scope old new [] (turn ∷ turns) h = absurd h
+  all_show scope old new (command ∷ commands) [] h = absurd h
+  all_show scope old new (command ∷ commands) (turn ∷ turns) h = subst (λ (c : Course P S G). ShowsTo c (map (reply_of calls) (turn ∷ turns)) new) h.0
+      (shows_more turn (map (reply_of calls) turns) new h.1.grows (all_show scope (replied calls turn.behind) new commands turns h.3))
+
+  -- behind a reply none is left to show
+  none_behind : (scope : PlainScope) (old new : Course P S G) (commands : List PlainCommand) (turns : List (Turn P S G)) → AreTurns calls scope (replied calls old) commands turns new → new.shown ≡ length (kept new)
+  none_behind scope old new [] [] h = ap (λ (c : Course P S G). c.shown) h ∙ sym (ap (λ (c : Course P S G). length (kept c)) h)
+  none_behind scope old new [] (turn ∷ turns) h = absurd h
+  none_behind scope old new (command ∷ commands) [] h = absurd h
+  none_behind scope old new (command ∷ commands) (turn ∷ turns) h = none_behind scope turn.behind new commands turns h.3
+
+  none_left : (scope : PlainScope) (old new : Course P S G) (commands : List PlainCommand) (turns : List (Turn P S G)) → AreTurns calls scope old commands turns new → (map (reply_of calls) turns ≡ []) ⊎ (new.shown ≡ length (kept new))
+  none_left scope old new commands [] h = inl refl
+  none_left scope old new [] (turn ∷ turns) h = absurd h
+  none_left scope old new (command ∷ commands) (turn ∷ turns) h = inr (none_behind scope turn.behind new commands turns h.3)
+
+  pub all_shown : (old new : SessionState P S G) (histories after : Histories) (commands : List PlainCommand) (turns : List (Turn P S G)) (replies : List PlainReply) → replies ≡ map (reply_of calls) turns
+      → AreTurns calls old.scope (course_of old histories) commands turns (course_of new after) → Shows calls.keeps old replies new
+  all_shown old new histories after commands turns replies told h = subst (λ (rs : List PlainReply). Shows calls.keeps old rs new) (sym told)
+      (let shows = all_show old.scope (course_of old histories) (course_of new after) commands turns h in record {
+        grows = shows.grows;
+        in_order = λ within. record { not_fewer = shows.not_fewer within; no_more_than_kept = shows.no_more within; exported = shows.exported within };
+        none_left = none_left old.scope (course_of old histories) (course_of new after) commands turns h;
+      })
