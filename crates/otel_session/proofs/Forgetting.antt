@@ -58,15 +58,18 @@ module _ {P S G : Type 0} (calls : Calls P S G) (law : RecallsNothingElse calls)
   behind_again (Some history) begins turn rs h k = nobody_again _ _ turn rs h k
   behind_again None begins turn rs h k =
       let started = starts_again calls.processor calls.timer calls.keeps.kept calls.keeps.lost calls.keeps.recalled law bs calls.sampler calls.ids turn.before.provider rs begins.scope
-      (named_builder begins.name) begins.cx begins.moment k.history turn.behind.provider h k.starts in
-      (started.0, started.1, record {
-        history = k.history;
-        starts = started.2;
-        told = told_again calls.processor calls.timer calls.keeps.kept calls.keeps.lost calls.keeps.recalled law bs turn.before.provider.processors rs turn.behind.provider.processors started.0 h started.1 k.told;
-        says = k.says;
-        delivers = k.delivers;
-        rest = ap (λ (c : Course P S G). shift c started.0) k.rest;
-      })
+      (named_builder begins.name) begins.cx begins.moment k.history turn.behind.provider h k.starts in (
+        started.0,
+        started.1,
+        record {
+          history = k.history;
+          starts = started.2;
+          told = told_again calls.processor calls.timer calls.keeps.kept calls.keeps.lost calls.keeps.recalled law bs turn.before.provider.processors rs turn.behind.provider.processors started.0 h started.1 k.told;
+          says = k.says;
+          delivers = k.delivers;
+          rest = ap (λ (c : Course P S G). shift c started.0) k.rest;
+        },
+      )
 
   start_again : (begins : Start) (turn : Turn P S G) (rs : List P) → FirstRecalled calls.keeps.recalled bs turn.before.provider.processors rs
       → StartTurn calls begins turn → Again (StartTurn calls begins) turn rs
@@ -83,15 +86,18 @@ module _ {P S G : Type 0} (calls : Calls P S G) (law : RecallsNothingElse calls)
   end_again span moment (Some (over context limits)) turn rs h k = nobody_again _ _ turn rs h k
   end_again span moment (Some (begun from edits)) turn rs h k =
       let ended = delivers_again calls.processor calls.timer calls.keeps.kept calls.keeps.lost calls.keeps.recalled law bs turn.before.provider.is_shut (data_of from edits moment) turn.before.provider.processors rs
-      turn.behind.provider.processors k.refused h k.delivered in
-      (ended.0, ended.1, record {
-        refused = k.refused;
-        delivered = ended.2;
-        says = k.says;
-        delivers = k.delivers;
-        provider = ap (λ (p : ProviderState P S G). record p { processors = ended.0 }) k.provider;
-        rest = ap (λ (c : Course P S G). shift c ended.0) k.rest;
-      })
+      turn.behind.provider.processors k.refused h k.delivered in (
+        ended.0,
+        ended.1,
+        record {
+          refused = k.refused;
+          delivered = ended.2;
+          says = k.says;
+          delivers = k.delivers;
+          provider = ap (λ (p : ProviderState P S G). record p { processors = ended.0 }) k.provider;
+          rest = ap (λ (c : Course P S G). shift c ended.0) k.rest;
+        },
+      )
 
   -- a call of the provider
   asks_again : (Gives : ProviderState P S G → Result (Unit {0}) OTelSdkError → ProviderState P S G → Type 0)
@@ -233,9 +239,12 @@ module _ {P S G : Type 0} (calls : Calls P S G) (law : RecallsNothingElse calls)
       → (ss : List P) × FirstRecalled calls.keeps.recalled bs after.provider.processors ss × Runs calls (with_batches now rs) commands replies (with_batches after ss)
   run_recalled now after rs histories commands replies h describes ran =
       let took = ran.took histories describes in
-      let again = turns_again now.scope (course_of now histories) (course_of after took.after) rs (plain_commands commands) took.turns h took.are_turns in
-      (again.processors, again.first, record {
-        scope = ran.scope;
-        lost_before = ran.lost_before;
-        took = λ others also. took_again now after rs again.processors others (plain_commands commands) replies h again.first (ran.took others also);
-      })
+      let again = turns_again now.scope (course_of now histories) (course_of after took.after) rs (plain_commands commands) took.turns h took.are_turns in (
+        again.processors,
+        again.first,
+        record {
+          scope = ran.scope;
+          lost_before = ran.lost_before;
+          took = λ others also. took_again now after rs again.processors others (plain_commands commands) replies h again.first (ran.took others also);
+        },
+      )

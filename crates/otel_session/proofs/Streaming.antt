@@ -125,9 +125,9 @@ module _ {P S G : Type 0} (calls : Calls P S G) (law : RecallsNothingElse calls)
       let lost = lost_again calls law h.batches k.provider.processors again.0 again.1 in
       let shown = shown_again calls law h.batches now.shown k.provider.processors again.0 again.1 in
       let same_lost : has_lost calls.keeps (record now { provider = k.provider }) ≡ has_lost calls.keeps (record now { provider = record k.provider { processors = again.0 }; shown = length h.batches + now.shown })
-          = ap (λ (n : ℕ). not (n == now.lost_before)) (sym lost) in
+      = ap (λ (n : ℕ). not (n == now.lost_before)) (sym lost) in
       let same_shown : unshown calls.keeps (record now { provider = k.provider }) ≡ unshown calls.keeps (record now { provider = record k.provider { processors = again.0 }; shown = length h.batches + now.shown })
-          = ap spans_in (sym shown) in
+      = ap spans_in (sym shown) in
       subst (λ (s : SessionState P S G). Closes calls s before answer after) (sym h.rest) (record {
         provider = record k.provider { processors = again.0 };
         shutdown = k.shutdown;

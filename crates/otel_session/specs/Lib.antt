@@ -2,6 +2,7 @@ pub mod Calls
 pub mod Closing
 pub mod Fed
 pub mod Headers
+pub mod Laws
 pub mod OpenSpans
 pub mod ProviderTurns
 pub mod Shown

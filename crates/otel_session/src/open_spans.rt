@@ -27,8 +27,8 @@ ghost use Rattle.otel_session.specs.Turn.{TakesTurn};
 use crate::headers::answer_with_headers;
 use opentelemetry::{Context, Moment};
 use otel_base::trace::{IdGenerator, ShouldSample};
-use otel_lines::{Answer, SpanIdentity};
 use otel_kept::KeepsBatches;
+use otel_lines::{Answer, SpanIdentity};
 use otel_pipeline::trace::{ProviderOf, SdkTracer, Span, SpanEdit, SpanProcessor};
 use std::alloc::{AllocError, Global};
 use std::collections::BTreeMap;
@@ -77,10 +77,9 @@ impl OpenSpans {
         name: String,
         now: Moment,
     ) -> Result<Answer, AllocError>
-        ensures ok { IfOk result (λ answer. TakesTurn (StartTurn
-            (calls_of P.SpanProcessor P.DrainDue.own P.KeepsBatches.own S.ShouldSample G.IdGenerator)
-            (start_in tracer.now cx.now (string_bytes span) (string_bytes name) now.0))
-            provider.old self.old answer provider.new self.new) }
+        ensures ok { IfOk result (λ answer. TakesTurn (StartTurn (calls_of P.SpanProcessor P.DrainDue.own
+            P.KeepsBatches.own S.ShouldSample G.IdGenerator) (start_in tracer.now cx.now (string_bytes span)
+            (string_bytes name) now.0)) provider.old self.old answer provider.new self.new) }
         ensures asks { OnErr result (MayStart
             (calls_of P.SpanProcessor P.DrainDue.own P.KeepsBatches.own S.ShouldSample G.IdGenerator)
             provider.old cx.now (string_bytes name) (named self.old (string_bytes span)) provider.new) }
@@ -99,13 +98,11 @@ impl OpenSpans {
         name: String,
         now: Moment,
     ) -> Result<Answer, AllocError>
-        ensures ok { IfOk result (λ answer. TakesTurn (λ turn. ChildTurn
-            (calls_of P.SpanProcessor P.DrainDue.own P.KeepsBatches.own S.ShouldSample G.IdGenerator)
-            (start_in tracer.now root_cx (string_bytes span) (string_bytes name) now.0)
-            (turn.before.histories parent.now) turn) provider.old self.old answer provider.new self.new) }
-        ensures asks { OnErr result (ChildMayStart
-            (calls_of P.SpanProcessor P.DrainDue.own P.KeepsBatches.own S.ShouldSample G.IdGenerator)
-            provider.old (named self.old parent.now) (string_bytes name)
+        ensures ok { IfOk result (λ answer. TakesTurn (λ turn. ChildTurn (calls_of P.SpanProcessor P.DrainDue.own
+            P.KeepsBatches.own S.ShouldSample G.IdGenerator) (start_in tracer.now root_cx (string_bytes span) (string_bytes
+            name) now.0) (turn.before.histories parent.now) turn) provider.old self.old answer provider.new self.new) }
+        ensures asks { OnErr result (ChildMayStart (calls_of P.SpanProcessor P.DrainDue.own P.KeepsBatches.own
+            S.ShouldSample G.IdGenerator) provider.old (named self.old parent.now) (string_bytes name)
             (named self.old (string_bytes span)) provider.new) }
         ensures err { OnErr result (SameSpans self.old self.new) }
     {
@@ -189,9 +186,8 @@ fn start_under<P: KeepsBatches, S: ShouldSample, G: IdGenerator>(
     name: String,
     now: Moment,
 ) -> Result<Answer, AllocError>
-    ensures ok { IfOk result (λ answer. TakesTurn (StartTurn
-        (calls_of P.SpanProcessor P.DrainDue.own P.KeepsBatches.own S.ShouldSample G.IdGenerator)
-        (start_in tracer.now cx.now (string_bytes span) (string_bytes name) now.0))
+    ensures ok { IfOk result (λ answer. TakesTurn (StartTurn (calls_of P.SpanProcessor P.DrainDue.own P.KeepsBatches.own
+        S.ShouldSample G.IdGenerator) (start_in tracer.now cx.now (string_bytes span) (string_bytes name) now.0))
         provider.old (by_name spans.old.entries) answer provider.new (by_name spans.new.entries)) }
     ensures asks { OnErr result (MayStart
         (calls_of P.SpanProcessor P.DrainDue.own P.KeepsBatches.own S.ShouldSample G.IdGenerator)

@@ -32,12 +32,10 @@ use opentelemetry::{Context, Key, KeyValue, Moment, Value};
 use otel_base::error::{OTelSdkError, OTelSdkResult};
 use otel_base::trace::{IdGenerator, ShouldSample};
 use otel_export::trace::SpanData;
+use otel_kept::KeepsBatches;
 use otel_lines::reply_text::{write_batches, write_reply};
 use otel_lines::{Answer, Command, Reply, parse};
-use otel_kept::KeepsBatches;
-use otel_pipeline::trace::{
-    DrainDue, ProviderOf, SdkTracer, SpanEdit, SpanProcessor,
-};
+use otel_pipeline::trace::{DrainDue, ProviderOf, SdkTracer, SpanEdit, SpanProcessor};
 use std::alloc::{AllocError, Global};
 use std::collections::VecDeque;
 use std::marker::Model;
