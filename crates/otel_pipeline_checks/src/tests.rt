@@ -2,6 +2,7 @@
 //! the proof of a test carries no facts of the pipeline.
 
 mod fixtures;
+mod kept_batches;
 mod left_spans;
 mod processors;
 mod provider_builder;
