@@ -1,6 +1,7 @@
 //! `run_program` is all of the program `otel_trace` but the words and streams that it is given.
 #![tactic(auto)]
 
+mod pieces;
 pub mod program;
 
 pub use program::run_program;
