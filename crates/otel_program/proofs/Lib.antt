@@ -1,2 +1,4 @@
+pub mod Cut
 pub mod ProgramLemmas
 pub mod ReadPieces
+pub mod StepStream

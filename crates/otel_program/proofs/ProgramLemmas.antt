@@ -1,5 +1,5 @@
 -- What the arguments of the program ask for, and what it does with its streams.
-use Rattle.std.proofs.Common.{◌≡◌, ℕ, ◌<◌, ◌≤◌, ◌++◌, ◌-◌, List, [], ◌∷◌, drop, take, map, length, Option, Some, None, IfSome, IfOk, Result, Ok, MatchOption, codes, refl, ◌∙◌, sym, ap, subst, arith}
+use Rattle.std.proofs.Common.{◌≡◌, ℕ, ◌<◌, ◌≤◌, ◌++◌, ◌-◌, List, [], ◌∷◌, drop, take, map, length, Option, Some, None, IfSome, IfOk, Result, Ok, MatchOption, codes, inl, inr, refl, ◌∙◌, sym, ap, subst, arith}
 use Rattle.std.proofs.Math.ListN.{get_or}
 use Rattle.std.proofs.lemmas.List.{take_all}
 use Rattle.std.specs.Str.Parse.{digits_value}
@@ -9,10 +9,15 @@ use Rattle.otel_base.specs.declared.trace.id_generator.IdGenerator as drawing
 use Rattle.otel_pipeline.specs.Provider.{ProviderState}
 use Rattle.otel_pipeline.specs.declared.trace.span_processor.SpanProcessor.{Ghosts}
 use Rattle.otel_pipeline.specs.declared.trace.drain_due.DrainDue as timing
-use Rattle.otel_program.specs.Program.{AsksFor, AsksForSteps, MemoryProcessor, NamesProcessor, StepsSized, TracesAsked, TracesWhole, WriteSizes, IsProviderOf, memory_batches}
+use Rattle.otel_program.specs.Arguments.{AsksFor, AsksForSteps, NamesProcessor, WriteSizes}
+use Rattle.otel_program.specs.Program.{MemoryProcessor, TracesAsked, TracesWhole, IsProviderOf, memory_batches}
 use Rattle.otel_program.specs.declared.program.Asked.{Asked}
 use Rattle.otel_program.specs.declared.program.AskedProcessor.{AskedProcessor}
 use Rattle.otel_program.specs.declared.program.AskedProcessor.TheVariants as asks
+use Rattle.otel_program.specs.StepRuns.{StepsBegun, StepsSized}
+use Rattle.otel_program.specs.Streams.{EndsAs, EndsWith, Reports, Streams}
+use Rattle.otel_program.specs.declared.run_end.RunEnd.{RunEnd}
+use Rattle.otel_program.specs.declared.run_end.RunEnd.TheVariants as ends
 use Rattle.otel_steps.specs.declared.steps.Sizes.{Sizes}
 
 -- what a list of one is made of
@@ -87,11 +92,35 @@ steps_once words sizes other asks more =
     let same : sizes_of sizes.queue sizes.batch sizes.producers ≡ sizes_of other.queue other.batch other.producers = rw (queue, batch, producers) refl in
     same
 
--- what is stepped by the sizes that words ask for, is by any sizes that they ask for
-pub steps_sized : (words : List (List ℕ)) (sizes other : Sizes) (input input_after : Option (List ℕ)) (bad_line : Option ℕ) (output output_after : Option (List ℕ)) → AsksForSteps words sizes → AsksForSteps words other
-    → StepsSized other input input_after bad_line output output_after → StepsSized sizes input input_after bad_line output output_after
-steps_sized words sizes other input input_after bad_line output output_after asks more h =
-    subst (λ (s : Sizes). StepsSized s input input_after bad_line output output_after) (sym (steps_once words sizes other asks more)) h
+-- a run by the sizes that words ask for, is one by any sizes that they ask for
+pub steps_sized : (words : List (List ℕ)) (sizes other : Sizes) (s : Streams) (end : RunEnd) → AsksForSteps words sizes → AsksForSteps words other
+    → EndsAs (StepsSized other s) (StepsBegun other s) s end → EndsAs (StepsSized sizes s) (StepsBegun sizes s) s end
+steps_sized words sizes other s end asks more h =
+    subst (λ (z : Sizes). EndsAs (StepsSized z s) (StepsBegun z s) s end) (sym (steps_once words sizes other asks more)) h
+
+-- how a run ended, by its status
+pub ends_with : (Whole : Option ℕ → Type 0) (Begun Silent : Type 0) (s : Streams) (faults faults_after : Option (List ℕ)) (end : RunEnd) (status : ℕ) → ((bad_line : Option ℕ) → Whole bad_line → Begun)
+    → EndsAs Whole Begun s end → Reports end Silent faults faults_after status → EndsWith Whole Begun Silent s faults faults_after status
+ends_with Whole Begun Silent s faults faults_after ends.Done status begins h r = record {
+  done = λ _. (h.0, h.1, r.1);
+  refused = λ e. absurd (omega (arith, e, r.0));
+  failed = λ e. absurd (omega (arith, e, r.0));
+}
+ends_with Whole Begun Silent s faults faults_after (ends.BadLine line) status begins h (inl failed) = record {
+  done = λ e. absurd (omega (arith, e, failed));
+  refused = λ e. absurd (omega (arith, e, failed));
+  failed = λ _. begins (Some line) h;
+}
+ends_with Whole Begun Silent s faults faults_after (ends.BadLine line) status begins h (inr refused) = record {
+  done = λ e. absurd (omega (arith, e, refused.0));
+  refused = λ _. (line, h, refused.1);
+  failed = λ e. absurd (omega (arith, e, refused.0));
+}
+ends_with Whole Begun Silent s faults faults_after ends.Failed status begins h failed = record {
+  done = λ e. absurd (omega (arith, e, failed));
+  refused = λ e. absurd (omega (arith, e, failed));
+  failed = λ _. h;
+}
 
 -- the first letter of the first word
 abbrev first_letter : List (List ℕ) → ℕ

@@ -1,2 +1,5 @@
+pub mod Arguments
 pub mod Pieces
 pub mod Program
+pub mod StepRuns
+pub mod Streams

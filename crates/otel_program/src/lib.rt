@@ -3,5 +3,7 @@
 
 mod pieces;
 pub mod program;
+pub mod run_end;
+mod step_stream;
 
 pub use program::run_program;

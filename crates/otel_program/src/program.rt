@@ -3,28 +3,31 @@
 
 ghost use Rattle.std.specs.Prelude.{◌≡◌, ◌≢◌, ◌⊎◌, ◌≤◌, ℕ, List, Some, None, IfOk, IfSome, OnOk, MatchOption, false, true, map, string_bytes};
 ghost use Rattle.std.specs.Io.KnownBytes.{Appends, IsAtEnd};
-ghost use Rattle.otel_batch.specs.MachineState.{Machine};
-ghost use Rattle.otel_export.specs.StoredBatches.{StoredBatches};
 ghost use Rattle.otel_session.specs.SessionDelivery.{Finishes, session_under};
-ghost use Rattle.otel_program.specs.Program.{
+ghost use Rattle.otel_program.specs.Arguments.{
   AsksFor,
   AsksForNoTrace,
   AsksForNothing,
   AsksForSteps,
-  IsProviderOf,
   NamesProcessor,
-  SamplesRoots,
-  StepsSized,
-  TracesAsked,
-  TracesWhole,
   WriteSizes,
-  WritesText,
   bad_line_text,
-  processor_of,
   usage_text,
 };
-ghost use Rattle.otel_steps.specs.StepAnswers.{AnswersLines, machine_of};
+ghost use Rattle.otel_program.specs.Program.{
+  IsProviderOf,
+  SamplesRoots,
+  TracesAsked,
+  TracesWhole,
+  WritesText,
+  processor_of,
+};
+ghost use Rattle.otel_program.specs.StepRuns.{StepsBegun, StepsSized};
+ghost use Rattle.otel_program.specs.Streams.{EndsWith, Reports, Streams, streams};
 
+use crate::pieces::write_whole;
+use crate::run_end::RunEnd;
+use crate::step_stream::step_input;
 use opentelemetry::trace::{Link, SpanKind, TraceState};
 use opentelemetry::{Context, KeyValue, TraceId};
 use opentelemetry_sdk::trace::{BatchSpanProcessor, ProcessorOf};
@@ -42,9 +45,8 @@ use otel_pipeline::trace::{
     DrainDue, KeepsBatches, ProviderOf, SimpleSpanProcessor, SpanProcessor,
 };
 use otel_session::{FeedError, Session};
-use otel_steps::{Sizes, answer_lines, machine_sized};
+use otel_steps::Sizes;
 use std::alloc::{AllocError, Global};
-use std::io;
 use std::io::{Read, Write};
 use std::time::Duration;
 
@@ -183,17 +185,15 @@ pub fn run_program<R: Read, W: Write, F: Write>(
         × Appends (F.contents faults.old) (F.contents faults.new) (bad_line_text line) }
 
     // One batch queue over the whole input.
-    ensures steps_done { (sizes : Sizes) → AsksForSteps (map string_bytes words.now) sizes → result ≡ 0 →
-        StepsSized sizes (R.remaining input.old) (R.remaining input.new)
-        None (W.contents output.old) (W.contents output.new)
-        × (faults.new ≡ faults.old) }
-    ensures steps_bad_line { (sizes : Sizes) → AsksForSteps (map string_bytes words.now) sizes → result ≡ 2
-        → (line : ℕ) × StepsSized sizes (R.remaining input.old) (R.remaining input.new)
-        (Some line) (W.contents output.old) (W.contents output.new)
-        × Appends (F.contents faults.old) (F.contents faults.new) (bad_line_text line) }
+    ensures steps { (sizes : Sizes) → AsksForSteps (map string_bytes words.now) sizes →
+        let s : Streams = streams (R.remaining input.old) (R.remaining input.new)
+        (W.contents output.old) (W.contents output.new) in
+        EndsWith (StepsSized sizes s) (StepsBegun sizes s) (faults.new ≡ faults.old) s
+        (F.contents faults.old) (F.contents faults.new) result }
 {
     if let Some(sizes) = sizes_of(words) {
-        return step_input(alloc, sizes, input, output, faults);
+        let end = step_input(alloc, sizes, input, output);
+        return status_of(alloc, end, faults);
     }
     match provider_for(alloc, words) {
         None => refuse(faults, USAGE),
@@ -271,53 +271,14 @@ fn sizes_in(queue: &str, batch: &str, producers: &str) -> Option<Sizes>
     })
 }
 
-/// Answers the whole input by the steps of one batch queue.
-fn step_input<R: Read, W: Write, F: Write>(
-    alloc: Global,
-    sizes: Sizes,
-    input: &mut R,
-    output: &mut W,
-    faults: &mut F,
-) -> u8
-    ensures status { result ≤ 2 }
-    ensures done { result ≡ 0 →
-        StepsSized sizes (R.remaining input.old) (R.remaining input.new)
-        None (W.contents output.old) (W.contents output.new)
-        × (faults.new ≡ faults.old) }
-    ensures bad_line { result ≡ 2 → (line : ℕ)
-        × StepsSized sizes (R.remaining input.old) (R.remaining input.new)
-        (Some line) (W.contents output.old) (W.contents output.new)
-        × Appends (F.contents faults.old) (F.contents faults.new) (bad_line_text line) }
+/// Names a bad line, and answers the status for how a run ended.
+fn status_of<F: Write>(alloc: Global, end: RunEnd, faults: &mut F) -> u8
+    ensures { Reports end (faults.new ≡ faults.old) (F.contents faults.old) (F.contents faults.new) result }
 {
-    let mut bytes = Vec::new(alloc);
-    if input.read_to_end(&mut bytes).is_err() {
-        return FAILED;
-    }
-    let outcome = run_steps(alloc, sizes, &bytes);
-    write_outcome(alloc, outcome, output, faults)
-}
-
-/// One batch queue, stepped by the lines of an input.
-fn run_steps(alloc: Global, sizes: Sizes, input: &[u8]) -> ProgramOutput
-    ensures { result.has_failed ≡ false →
-        (after : Machine StoredBatches)
-        × AnswersLines (machine_of sizes) input.now result.bad_line result.text.items after }
-{
-    let Ok(mut machine) = machine_sized(alloc, sizes) else {
-        return failed(alloc);
-    };
-    let mut text = Vec::new(alloc);
-    match answer_lines(alloc, &mut machine, input, &mut text) {
-        Ok(bad_line) => ProgramOutput {
-            text,
-            bad_line,
-            has_failed: false,
-        },
-        Err(_) => ProgramOutput {
-            text,
-            bad_line: None,
-            has_failed: true,
-        },
+    match end {
+        RunEnd::Done => DONE,
+        RunEnd::BadLine(line) => name_bad_line(alloc, line, faults),
+        RunEnd::Failed => FAILED,
     }
 }
 
@@ -395,14 +356,6 @@ fn write_outcome<W: Write, F: Write>(
         Some(line) => name_bad_line(alloc, line, faults),
     };
     if outcome.has_failed { FAILED } else { status }
-}
-
-/// Writes bytes and sends them on.
-fn write_whole<W: Write>(writer: &mut W, bytes: &[u8]) -> io::Result<()>
-    ensures { OnOk result (Appends (W.contents writer.old) (W.contents writer.new) bytes.now) }
-{
-    writer.write_all(bytes)?;
-    writer.flush()
 }
 
 /// Writes what was wrong, and answers the status for it.

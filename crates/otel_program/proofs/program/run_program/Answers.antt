@@ -1,5 +1,9 @@
 use Rattle.std.proofs.Common.{Some, None, rules}
-use Rattle.otel_program.proofs.ProgramLemmas.{found, one_mode, steps_sized, traces_asked}
+use Rattle.otel_program.proofs.ProgramLemmas.{ends_with, found, one_mode, steps_sized, traces_asked}
+use Rattle.otel_program.proofs.StepStream.{all_begun}
+use Rattle.otel_program.specs.StepRuns.{StepsBegun, StepsSized}
+use Rattle.otel_program.specs.Streams.{streams}
+use Rattle.otel_steps.specs.StepAnswers.{machine_of}
 use Rattle.otel_program.specs.Program.{IsProviderOf}
 use Rattle.otel_program.proofs.program.run_program.Goals as goal
 
@@ -15,18 +19,11 @@ returns-in-Some-clause-done g c = λ asked asks _. absurd (one_mode _ asked c.in
 pub returns-in-Some-clause-bad_line : goal.returns-in-Some-clause-bad_line
 returns-in-Some-clause-bad_line g c = λ asked asks _. absurd (one_mode _ asked c.in-Some.sizes asks c.in-Some.ensures)
 
-pub returns-in-Some-clause-steps_done : goal.returns-in-Some-clause-steps_done
-returns-in-Some-clause-steps_done g c = λ sizes asks e. (
-  steps_sized _ sizes c.in-Some.sizes _ _ None _ _ asks c.in-Some.ensures (c.step_input.ensures.done e).0,
-  (c.step_input.ensures.done e).1,
-)
-
-pub returns-in-Some-clause-steps_bad_line : goal.returns-in-Some-clause-steps_bad_line
-returns-in-Some-clause-steps_bad_line g c = λ sizes asks e. (
-  (c.step_input.ensures.bad_line e).0,
-  steps_sized _ sizes c.in-Some.sizes _ _ (Some (c.step_input.ensures.bad_line e).0) _ _ asks c.in-Some.ensures (c.step_input.ensures.bad_line e).1,
-  (c.step_input.ensures.bad_line e).2,
-)
+pub returns-in-Some-clause-steps : goal.returns-in-Some-clause-steps
+returns-in-Some-clause-steps g c = λ sizes asks.
+    let s = streams (g.R.Read.remaining c.args.input.now) (g.R.Read.remaining c.step_input-end.new.input) (g.W.Write.contents c.args.output.now) (g.W.Write.contents c.step_input-end.new.output) in
+    ends_with (StepsSized sizes s) (StepsBegun sizes s) _ s _ _ c.step_input-end.result c.status_of.result (λ bad_line h. all_begun (machine_of sizes) s bad_line h)
+    (steps_sized _ sizes c.in-Some.sizes s c.step_input-end.result asks c.in-Some.ensures c.step_input-end.ensures) c.status_of.ensures
 
 pub returns-in-None-clause-bad_line : goal.returns-in-None-clause-bad_line
 returns-in-None-clause-bad_line g c = λ asked asks _. absurd (c.in-None.ensures asked asks)
@@ -50,14 +47,8 @@ returns-in-Some-Ok-clause-bad_line g c = λ asked asks e. (
   (c.trace_input.ensures.bad_line e).2,
 )
 
-pub returns-in-None-clause-steps_done : goal.returns-in-None-clause-steps_done
-returns-in-None-clause-steps_done g c = λ sizes asks _. absurd (c.in_default.ensures sizes asks)
+pub returns-in-None-clause-steps : goal.returns-in-None-clause-steps
+returns-in-None-clause-steps g c = λ sizes asks. absurd (c.in_default.ensures sizes asks)
 
-pub returns-in-None-clause-steps_bad_line : goal.returns-in-None-clause-steps_bad_line
-returns-in-None-clause-steps_bad_line g c = λ sizes asks _. absurd (c.in_default.ensures sizes asks)
-
-pub returns-in-Some-Ok-clause-steps_done : goal.returns-in-Some-Ok-clause-steps_done
-returns-in-Some-Ok-clause-steps_done g c = λ sizes asks _. absurd (c.in_default.ensures sizes asks)
-
-pub returns-in-Some-Ok-clause-steps_bad_line : goal.returns-in-Some-Ok-clause-steps_bad_line
-returns-in-Some-Ok-clause-steps_bad_line g c = λ sizes asks _. absurd (c.in_default.ensures sizes asks)
+pub returns-in-Some-Ok-clause-steps : goal.returns-in-Some-Ok-clause-steps
+returns-in-Some-Ok-clause-steps g c = λ sizes asks. absurd (c.in_default.ensures sizes asks)
