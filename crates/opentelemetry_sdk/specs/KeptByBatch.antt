@@ -5,7 +5,7 @@ use Rattle.std.proofs.Common.{ap}
 use Rattle.otel_base.specs.declared.error.OTelSdkError.{OTelSdkError}
 use Rattle.otel_export.specs.PlainSpanData.{PlainSpanData}
 use Rattle.otel_export.specs.declared.trace.export.SpanExporter.{Ghosts}
-use Rattle.otel_pipeline.specs.KeptBatches.{ExporterAppends, Grows, appends_more, nothing_more}
+use Rattle.otel_export.specs.KeptBatches.{ExporterAppends, Grows, appends_more, nothing_more}
 use Rattle.otel_batch.specs.MachineState.{Control, Machine, counts}
 use Rattle.otel_batch.specs.MachineRun.{Run}
 use Rattle.otel_batch.specs.MovedSpans.{Moved}

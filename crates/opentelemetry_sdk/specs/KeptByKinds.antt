@@ -1,7 +1,7 @@
 -- What a processor of any kind keeps of its batches and how many it lost, and that none of its calls takes back a batch.
 use Rattle.std.specs.Prelude.{◌≡◌, ℕ, List, [], refl}
 use Rattle.otel_export.specs.PlainSpanData.{PlainSpanData}
-use Rattle.otel_pipeline.specs.KeptBatches.{Grows}
+use Rattle.otel_export.specs.KeptBatches.{Grows}
 use Rattle.otel_pipeline.specs.SimpleProcessor.{SimpleProcessor}
 use Rattle.opentelemetry_sdk.specs.BatchProcessor.{BatchProcessor}
 use Rattle.opentelemetry_sdk.specs.ProcessorKinds.{ProcessorGives}

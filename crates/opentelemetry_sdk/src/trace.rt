@@ -19,10 +19,12 @@ pub use otel_batch::trace::{
 };
 pub use otel_export::trace::{
     ExporterBox, ExporterOf, InMemorySpanExporter, SpanData, SpanEvents, SpanExporter, SpanLinks,
+    StoresBatches,
 };
+pub use otel_kept::KeepsBatches;
 pub use otel_pipeline::trace::{
-    CloseReport, DrainDue, KeepsBatches, LeavesSpans, OverExporter, ProviderBuilderOf, ProviderOf,
-    SdkTracer, SimpleSpanProcessor, Span, SpanEdit, SpanProcessor, StoresBatches,
+    CloseReport, DrainDue, LeavesSpans, OverExporter, ProviderBuilderOf, ProviderOf, SdkTracer,
+    SimpleSpanProcessor, Span, SpanEdit, SpanProcessor,
 };
 pub use processor::{Processor, ProcessorOf};
 

@@ -5,6 +5,7 @@
 //! runs (`laws`).
 
 pub mod batch_machine;
+mod kept_batches;
 mod producer_steps;
 mod queue;
 mod slots;

@@ -2,5 +2,8 @@ pub mod PlainSpanData
 pub mod SameSpanData
 pub mod StoredBatches
 pub mod ExporterKinds
+pub mod KeptBatches
+pub mod RecalledBatches
+pub mod RecalledKinds
 pub mod RestsOr
 pub mod Telling

@@ -6,6 +6,7 @@ pub mod exporter_box;
 pub mod in_memory_exporter;
 pub mod links;
 pub mod span_data;
+pub mod stores_batches;
 
 pub use events::SpanEvents;
 pub use export::SpanExporter;
@@ -13,3 +14,4 @@ pub use exporter_box::{ExporterBox, ExporterOf};
 pub use in_memory_exporter::InMemorySpanExporter;
 pub use links::SpanLinks;
 pub use span_data::SpanData;
+pub use stores_batches::StoresBatches;

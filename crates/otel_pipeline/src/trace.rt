@@ -2,7 +2,6 @@
 
 pub mod close_report;
 pub mod drain_due;
-pub mod keeps_batches;
 pub mod leaves_spans;
 mod limits;
 pub mod over_exporter;
@@ -16,7 +15,6 @@ pub mod tracer;
 
 pub use close_report::CloseReport;
 pub use drain_due::DrainDue;
-pub use keeps_batches::{KeepsBatches, StoresBatches};
 pub use leaves_spans::LeavesSpans;
 pub use over_exporter::OverExporter;
 pub use provider::ProviderOf;

@@ -13,16 +13,18 @@ use Rattle.otel_batch.specs.PlainBatchConfig.{PlainBatchConfig, cut_to_queue, de
 use Rattle.otel_export.specs.StoredBatches.{StoredBatches}
 use Rattle.otel_export.specs.declared.trace.exporter_box.ExporterOf.{ExporterOf}
 use Rattle.otel_export.specs.declared.trace.exporter_box.ExporterOf.TheVariants as exporters
-use Rattle.otel_pipeline.specs.KeptBatches.{exporter_keeps, exporter_loses}
+use Rattle.otel_export.specs.KeptBatches.{exporter_keeps, exporter_loses}
 use Rattle.otel_pipeline.specs.Provider.{ProviderState}
 use Rattle.otel_pipeline.specs.declared.trace.drain_due.DrainDue as timing
-use Rattle.otel_pipeline.specs.declared.trace.keeps_batches.KeepsBatches as keeping
+use Rattle.otel_kept.specs.declared.keeps_batches.KeepsBatches as keeping
 use Rattle.otel_pipeline.specs.declared.trace.span_processor.SpanProcessor.{Ghosts}
 use Rattle.opentelemetry_sdk.specs.BatchProcessor.{first_processor}
 use Rattle.opentelemetry_sdk.specs.KeptByKinds.{processor_keeps, processor_loses}
 use Rattle.opentelemetry_sdk.specs.declared.trace.processor.ProcessorOf.{ProcessorOf}
 use Rattle.opentelemetry_sdk.specs.declared.trace.processor.ProcessorOf.TheVariants as kinds
-use Rattle.otel_session.specs.SessionDelivery.{Finishes, session_under}
+use Rattle.otel_session.specs.Calls.{calls_of}
+use Rattle.otel_session.specs.Closing.{Finishes}
+use Rattle.otel_session.specs.Turns.{session_under}
 use Rattle.otel_program.specs.declared.program.Asked.{Asked}
 use Rattle.otel_program.specs.declared.program.AskedProcessor.{AskedProcessor}
 use Rattle.otel_program.specs.declared.program.AskedProcessor.TheVariants as asks
@@ -76,7 +78,7 @@ module _ {P S G : Type 0} (calls : Ghosts P) (timer : timing.Ghosts P) (keeps : 
   -- when it closes, and nothing else
   abbrev pub WritesText : ProviderState P S G → List ℕ → Option ℕ → Option (List ℕ) → Option (List ℕ) → Type 0
   WritesText provider input bad_line before after = (text : List ℕ)
-      × Finishes calls timer keeps sampler ids (session_under keeps provider) input bad_line text
+      × Finishes (calls_of calls timer keeps sampler ids) (session_under keeps provider) input bad_line text
       × Appends before after text
 
   -- the whole input was read, and the output was given what a session under a provider writes for it

@@ -3,7 +3,9 @@
 
 ghost use Rattle.std.specs.Prelude.{◌≡◌, ◌≢◌, ◌⊎◌, ◌≤◌, ℕ, List, Some, None, IfOk, IfSome, OnOk, MatchOption, false, true, map, string_bytes};
 ghost use Rattle.std.specs.Io.KnownBytes.{Appends, IsAtEnd};
-ghost use Rattle.otel_session.specs.SessionDelivery.{Finishes, session_under};
+ghost use Rattle.otel_session.specs.Calls.{calls_of};
+ghost use Rattle.otel_session.specs.Closing.{Finishes};
+ghost use Rattle.otel_session.specs.Turns.{session_under};
 ghost use Rattle.otel_program.specs.Arguments.{
   AsksFor,
   AsksForNoTrace,
@@ -39,10 +41,11 @@ use otel_base::trace::{
 };
 use otel_batch::trace::BatchConfigBuilder;
 use otel_export::trace::{ExporterOf, InMemorySpanExporter, SpanData, SpanExporter};
+use otel_kept::KeepsBatches;
 use otel_lines::lines::number_of;
 use otel_pipeline::trace::provider::provider_over;
 use otel_pipeline::trace::{
-    DrainDue, KeepsBatches, ProviderOf, SimpleSpanProcessor, SpanProcessor,
+    DrainDue, ProviderOf, SimpleSpanProcessor, SpanProcessor,
 };
 use otel_session::{FeedError, Session};
 use otel_steps::Sizes;
@@ -387,7 +390,7 @@ fn run_session<P: KeepsBatches, S: ShouldSample, G: IdGenerator>(
     input: &[u8],
 ) -> ProgramOutput
     ensures { result.has_failed ≡ false →
-        Finishes P.SpanProcessor P.DrainDue.own P.KeepsBatches.own S.ShouldSample G.IdGenerator
+        Finishes (calls_of P.SpanProcessor P.DrainDue.own P.KeepsBatches.own S.ShouldSample G.IdGenerator)
         (session_under P.KeepsBatches.own provider)
         input.now result.bad_line result.text.items }
 {
@@ -418,7 +421,7 @@ fn finish<P: KeepsBatches, S: ShouldSample, G: IdGenerator>(
     input: &[u8],
 ) -> ProgramOutput
     ensures { result.has_failed ≡ false →
-        Finishes P.SpanProcessor P.DrainDue.own P.KeepsBatches.own S.ShouldSample G.IdGenerator
+        Finishes (calls_of P.SpanProcessor P.DrainDue.own P.KeepsBatches.own S.ShouldSample G.IdGenerator)
         session input.now result.bad_line result.text.items }
 {
     let mut text = Vec::new(alloc);

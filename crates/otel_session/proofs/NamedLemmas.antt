@@ -9,18 +9,16 @@ use Rattle.std.specs.Map.{lookup}
 use Rattle.std.specs.String.{string_cmp}
 use Rattle.std.proofs.lemmas.Map.Text.{btree_map_updates_text, is_eq-slice_cmp}
 use Rattle.opentelemetry.proofs.TextMapLemmas.{equal_from}
-use Rattle.opentelemetry.specs.Plain.{PlainContext, PlainScope}
-use Rattle.otel_base.specs.declared.trace.sampler.ShouldSample as sampling
-use Rattle.otel_base.specs.declared.trace.id_generator.IdGenerator as drawing
+use Rattle.opentelemetry.specs.Plain.{PlainContext}
 use Rattle.otel_pipeline.specs.Provider.{ProviderState}
 use Rattle.std.specs.Option.{option_map}
 use Rattle.otel_pipeline.specs.SpanHistory.{PlainSpan, SpanHistory, HasHistory, Edit, edited, edited_if, ended, span_of}
 use Rattle.otel_pipeline.proofs.SpanLaws.{keeps_history, over_history}
-use Rattle.otel_pipeline.specs.declared.trace.span_processor.SpanProcessor.{Ghosts}
-use Rattle.otel_lines.specs.declared.reply.Answer.TheVariants as answers
 use Rattle.otel_lines.specs.declared.reply.Answer.{Answer}
-use Rattle.otel_session.specs.OpenSpans.{HaveHistories, NamedSpans, named, by_name, is_name, PutsSpan, SameSpans, StartsNamed, PutsStarted, MayStart, ChildMayStart}
+use Rattle.otel_session.specs.Calls.{Calls}
+use Rattle.otel_session.specs.OpenSpans.{ChildMayStart, Describe, HaveHistories, Histories, MayStart, NamedSpans, SameSpans, by_name, is_name, named}
 use Rattle.otel_session.specs.Headers.{child_cx}
+use Rattle.otel_session.specs.Turn.{TakesTurn, Turn}
 
 named-lookup : {Y : Type 0} (entries : List (String Y × PlainSpan)) (q : List ℕ) → named (by_name entries) q ≡ lookup (is_at (λ k. slice_cmp nat_cmp q (string_bytes k))) entries
 named-lookup [] q = refl
@@ -29,6 +27,10 @@ named-lookup (entry ∷ entries) q = ap (cond (is_name q (string_bytes entry.0))
 -- the span of a name is what the map has there
 pub named-get : {Y : Type 0} (m : BTreeMap (String Y) PlainSpan) (q : List ℕ) → named (by_name m.entries) q ≡ get_by_text m q
 named-get m q = named-lookup m.entries q
+
+-- a name was given a span, and each other name has what it had
+abbrev pub PutsSpan : NamedSpans → List ℕ → PlainSpan → NamedSpans → Type 0
+PutsSpan old name span new = (q : List ℕ) → named new q ≡ (if is_name q name then Some span else named old q)
 
 -- one name was given a span
 pub puts_span : {Y : Type 0} (m n : BTreeMap (String Y) PlainSpan) (s : List ℕ) (span : PlainSpan) → UpdatesBy string_cmp (λ k. slice_cmp nat_cmp s (string_bytes k)) m n (Some span)
@@ -65,39 +67,27 @@ puts_written {Y} m written entries s value span same e h =
     subst (λ (l : List (String Y × PlainSpan)). PutsSpan (by_name m.entries) s span (by_name l)) (sym e)
     (subst (λ (v : PlainSpan). PutsSpan (by_name m.entries) s v (by_name written.entries)) same (puts_span m written s value h))
 
--- a start under a name that has a span, which stays
-pub starts_taken : {P S G : Type 0} (calls : Ghosts P) (sampler : sampling.Ghosts S) (ids : drawing.Ghosts G) (p : ProviderState P S G) (scope : PlainScope) (old new : NamedSpans) (name : List ℕ) (cx : PlainContext) (called : List ℕ) (now : ℕ) (span : PlainSpan)
-    → named old name ≡ Some span → PutsSpan old name span new → StartsNamed calls sampler ids p scope old name cx called now (named old name) answers.SpanExists p new
-starts_taken {P} {S} {G} calls sampler ids p scope old new name cx called now span there put =
-    subst (λ (found : Option PlainSpan). StartsNamed calls sampler ids p scope old name cx called now found answers.SpanExists p new) (sym there) (refl, refl, put_same old new name span there put)
-
--- a start under a name that has none
-pub starts_free : {P S G : Type 0} (calls : Ghosts P) (sampler : sampling.Ghosts S) (ids : drawing.Ghosts G) (p q : ProviderState P S G) (scope : PlainScope) (old new : NamedSpans) (name : List ℕ) (cx : PlainContext) (called : List ℕ) (now : ℕ) (answer : Answer)
-    → named old name ≡ None → PutsStarted calls sampler ids p scope old name cx called now answer q new → StartsNamed calls sampler ids p scope old name cx called now (named old name) answer q new
-starts_free {P} {S} {G} calls sampler ids p q scope old new name cx called now answer free h =
-    subst (λ (found : Option PlainSpan). StartsNamed calls sampler ids p scope old name cx called now found answer q new) (sym free) h
-
--- a start that is refused, under a name that has no span
-pub may_start_free : {P S G : Type 0} (sampler : sampling.Ghosts S) (ids : drawing.Ghosts G) (p q : ProviderState P S G) (cx : PlainContext) (called : List ℕ) (found : Option PlainSpan)
-    → found ≡ None → MayStart sampler ids p cx called None q → MayStart sampler ids p cx called found q
-may_start_free {P} {S} {G} sampler ids p q cx called found free h = subst (λ (o : Option PlainSpan). MayStart sampler ids p cx called o q) (sym free) h
-
 -- two clauses of a result that is an error
 pub on_err_both : {T E : Type 0} {A B C : Type 0} (r : Result T E) → (A → B → C) → OnErr r A → OnErr r B → OnErr r C
 on_err_both (Ok x) f h k = tt
 on_err_both (Err e) f h k = f h k
 
-module _ {P S G : Type 0} (sampler : sampling.Ghosts S) (ids : drawing.Ghosts G) where
-  -- a start that is refused leaves each processor as it was
-  pub refused_start_asks_none : (p q : ProviderState P S G) (cx : PlainContext) (called : List ℕ) (found : Option PlainSpan) → MayStart sampler ids p cx called found q → q.processors ≡ p.processors
-  refused_start_asks_none p q cx called (Some span) h = absurd h
-  refused_start_asks_none p q cx called None (inl e) = ap (λ (r : ProviderState P S G). r.processors) e
-  refused_start_asks_none p q cx called None (inr h) = ap (λ (r : ProviderState P S G). r.processors) h.rest
+module _ {P S G : Type 0} (calls : Calls P S G) where
+  -- a start that is refused, under a name that has no span
+  pub may_start_free : (p q : ProviderState P S G) (cx : PlainContext) (name : List ℕ) (found : Option PlainSpan)
+      → found ≡ None → MayStart calls p cx name None q → MayStart calls p cx name found q
+  may_start_free p q cx name found free h = subst (λ (o : Option PlainSpan). MayStart calls p cx name o q) (sym free) h
 
-  pub refused_child_asks_none : (p q : ProviderState P S G) (parent : Option PlainSpan) (called : List ℕ) (found : Option PlainSpan) → ChildMayStart sampler ids p parent called found q → q.processors ≡ p.processors
-  refused_child_asks_none p q None called found e = ap (λ (r : ProviderState P S G). r.processors) e
-  refused_child_asks_none p q (Some parent) called found (inl e) = ap (λ (r : ProviderState P S G). r.processors) e
-  refused_child_asks_none p q (Some parent) called found (inr h) = refused_start_asks_none p q (child_cx parent.span_context) called found h
+  -- a start that is refused leaves each processor as it was
+  pub refused_start_asks_none : (p q : ProviderState P S G) (cx : PlainContext) (name : List ℕ) (found : Option PlainSpan) → MayStart calls p cx name found q → q.processors ≡ p.processors
+  refused_start_asks_none p q cx name (Some span) h = absurd h
+  refused_start_asks_none p q cx name None (inl e) = ap (λ (r : ProviderState P S G). r.processors) e
+  refused_start_asks_none p q cx name None (inr h) = ap (λ (r : ProviderState P S G). r.processors) h.rest
+
+  pub refused_child_asks_none : (p q : ProviderState P S G) (parent : Option PlainSpan) (name : List ℕ) (found : Option PlainSpan) → ChildMayStart calls p parent name found q → q.processors ≡ p.processors
+  refused_child_asks_none p q None name found e = ap (λ (r : ProviderState P S G). r.processors) e
+  refused_child_asks_none p q (Some parent) name found (inl e) = ap (λ (r : ProviderState P S G). r.processors) e
+  refused_child_asks_none p q (Some parent) name found (inr h) = refused_start_asks_none p q (child_cx parent.span_context) name found h
 
 put_history : (spans : NamedSpans) (span was : PlainSpan) (q : List ℕ) (b : Bool) → HaveHistories spans → HasHistory span → (if b then Some span else named spans q) ≡ Some was → HasHistory was
 put_history spans span was q true have has e = let same : span ≡ was = cc in subst HasHistory same has
@@ -126,14 +116,26 @@ edited_has edit span has = keeps_history {T = Unit {0}} {E = Unit {0}} (Ok tt) e
 pub ended_has : (span : PlainSpan) → HasHistory (ended span)
 ended_has span = over_history span.span_context span.limits None refl
 
-module _ {P S G : Type 0} (calls : Ghosts P) (sampler : sampling.Ghosts S) (ids : drawing.Ghosts G) where
-  started_histories : (p q : ProviderState P S G) (scope : PlainScope) (old new : NamedSpans) (name : List ℕ) (cx : PlainContext) (called : List ℕ) (now : ℕ) (found : Option PlainSpan) (answer : Answer)
-      → HaveHistories old → StartsNamed calls sampler ids p scope old name cx called now found answer q new → HaveHistories new
-  started_histories p q scope old new name cx called now None answer have h = puts_history old new name (span_of h.history) have (record { history = h.history; is = refl }) h.put
-  started_histories p q scope old new name cx called now (Some span) answer have h = same_histories old new have h.2
+-- the history of a span that is there
+pub by_history : (found : Option SpanHistory) (span : PlainSpan) → Some span ≡ option_map span_of found → (h : SpanHistory) × (found ≡ Some h) × (span_of h ≡ span)
+by_history None span e = cc
+by_history (Some h) span e = (h, refl, cc e)
 
-  -- spans with histories have them behind a start, be it refused or not
-  pub start_keeps_histories : {E : Type 0} (result : Result Answer E) (p q : ProviderState P S G) (scope : PlainScope) (old new : NamedSpans) (name : List ℕ) (cx : PlainContext) (called : List ℕ) (now : ℕ) (found : Option PlainSpan)
-      → HaveHistories old → IfOk result (λ answer. StartsNamed calls sampler ids p scope old name cx called now found answer q new) → OnErr result (SameSpans old new) → HaveHistories new
-  start_keeps_histories (Ok answer) p q scope old new name cx called now found have ok err = started_histories p q scope old new name cx called now found answer have ok
-  start_keeps_histories (Err e) p q scope old new name cx called now found have ok err = same_histories old new have err
+-- spans that histories describe have them
+pub described_have : (histories : Histories) (spans : NamedSpans) → Describe histories spans → HaveHistories spans
+described_have histories spans describes = λ name span there.
+    let found = by_history (histories name) span (sym there ∙ describes name) in
+    record { history = found.0; is = sym found.2 }
+
+-- so spans have histories behind a turn
+pub took_histories : {P S G : Type 0} (Is : Turn P S G → Type 0) (p q : ProviderState P S G) (old new : NamedSpans) (answer : Answer) → HaveHistories old → TakesTurn Is p old answer q new → HaveHistories new
+took_histories Is p q old new answer have takes =
+    let first = described old have in
+    let took = takes (record { provider = p; histories = first.0; shown = 0 }) first.1 in
+    described_have took.histories new took.describes
+
+-- be it that the turn was taken or refused
+pub start_keeps_histories : {P S G E : Type 0} (Is : Turn P S G → Type 0) (result : Result Answer E) (p q : ProviderState P S G) (old new : NamedSpans)
+    → HaveHistories old → IfOk result (λ answer. TakesTurn Is p old answer q new) → OnErr result (SameSpans old new) → HaveHistories new
+start_keeps_histories Is (Ok answer) p q old new have ok err = took_histories Is p q old new answer have ok
+start_keeps_histories Is (Err e) p q old new have ok err = same_histories old new have err

@@ -1,4 +1,13 @@
+pub mod Calls
+pub mod Closing
+pub mod Fed
 pub mod Headers
 pub mod OpenSpans
-pub mod SessionDelivery
+pub mod ProviderTurns
+pub mod Shown
+pub mod SpanTurns
+pub mod Stops
 pub mod Traces
+pub mod Turn
+pub mod Turns
+pub mod Forgotten

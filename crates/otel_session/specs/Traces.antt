@@ -22,7 +22,7 @@ is_shutdown _ = false
 
 -- the names of spans of a trace, with that of a child of one of them where a command started it
 abbrev pub with_child : (List ℕ → Bool) → PlainCommand → Answer → List ℕ → Bool
-with_child is_in (child span parent called moment) answer =
+with_child is_in (child span parent name moment) answer =
     λ q. is_in q || (is_name q span && (is_in parent && made_span answer))
 with_child is_in _ answer = is_in
 

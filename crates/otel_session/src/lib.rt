@@ -3,6 +3,7 @@
 
 mod exported;
 mod headers;
+pub mod laws;
 mod open_spans;
 pub mod session;
 

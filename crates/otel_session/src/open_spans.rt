@@ -1,30 +1,34 @@
 //! The spans of a session by name. They must be spent: each is abandoned when the session closes.
 
-ghost use Rattle.std.specs.Prelude.{◌≡◌, [], IfOk, OnErr, string_bytes, map, if◌then◌else◌};
+ghost use Rattle.std.specs.Prelude.{◌≡◌, [], IfOk, OnErr, string_bytes, if◌then◌else◌};
 ghost use Rattle.std.specs.Option.{option_map};
+ghost use Rattle.opentelemetry.specs.PlainContexts.{root_cx};
 ghost use Rattle.otel_pipeline.specs.SpanEdits.{plain_edit};
+ghost use Rattle.otel_session.specs.Calls.{calls_of};
 ghost use Rattle.otel_session.specs.Headers.{child_cx};
 ghost use Rattle.otel_session.specs.OpenSpans.{
+  AnswersInject,
   ChildMayStart,
-  ChildStartsNamed,
-  EditsNamed,
-  EndsNamed,
+  Describe,
   HaveHistories,
-  MayDeliver,
-  InjectsNamed,
+  Histories,
   MayStart,
   SameSpans,
-  StartsNamed,
   by_name,
+  edit_answer,
+  edited_in,
   identity_of,
   named,
   start_answer,
 };
+ghost use Rattle.otel_session.specs.SpanTurns.{ChildTurn, EndTurn, StartTurn, start_in};
+ghost use Rattle.otel_session.specs.Turn.{TakesTurn};
 
 use crate::headers::answer_with_headers;
 use opentelemetry::{Context, Moment};
 use otel_base::trace::{IdGenerator, ShouldSample};
 use otel_lines::{Answer, SpanIdentity};
+use otel_kept::KeepsBatches;
 use otel_pipeline::trace::{ProviderOf, SdkTracer, Span, SpanEdit, SpanProcessor};
 use std::alloc::{AllocError, Global};
 use std::collections::BTreeMap;
@@ -64,103 +68,107 @@ impl OpenSpans {
 
     /// Starts a span under a name in a context. The name's place in the map comes first, so that a start that is refused
     /// asked no processor.
-    pub(crate) fn start_in<P: SpanProcessor, S: ShouldSample, G: IdGenerator>(
+    pub(crate) fn start_in<P: KeepsBatches, S: ShouldSample, G: IdGenerator>(
         &mut self,
-        name: String,
+        span: String,
         cx: &Context,
         tracer: &SdkTracer,
         provider: &mut ProviderOf<P, S, G>,
-        called: String,
+        name: String,
         now: Moment,
     ) -> Result<Answer, AllocError>
-        ensures ok { IfOk result (λ answer. StartsNamed P.SpanProcessor S.ShouldSample G.IdGenerator provider.old
-            tracer.now self.old (string_bytes name) cx.now
-            (string_bytes called) now.0 (named self.old (string_bytes name)) answer provider.new self.new) }
-        ensures told { map P.told provider.new.processors ≡ map P.told provider.old.processors }
-        ensures asks { OnErr result (MayStart S.ShouldSample G.IdGenerator provider.old cx.now (string_bytes called)
-            (named self.old (string_bytes name)) provider.new) }
+        ensures ok { IfOk result (λ answer. TakesTurn (StartTurn
+            (calls_of P.SpanProcessor P.DrainDue.own P.KeepsBatches.own S.ShouldSample G.IdGenerator)
+            (start_in tracer.now cx.now (string_bytes span) (string_bytes name) now.0))
+            provider.old self.old answer provider.new self.new) }
+        ensures asks { OnErr result (MayStart
+            (calls_of P.SpanProcessor P.DrainDue.own P.KeepsBatches.own S.ShouldSample G.IdGenerator)
+            provider.old cx.now (string_bytes name) (named self.old (string_bytes span)) provider.new) }
         ensures err { OnErr result (SameSpans self.old self.new) }
     {
-        start_under(&mut self.spans, name, cx, tracer, provider, called, now)
+        start_under(&mut self.spans, span, cx, tracer, provider, name, now)
     }
 
     /// Starts a span under a name, as a child of the span of another name.
-    pub(crate) fn start_child<P: SpanProcessor, S: ShouldSample, G: IdGenerator>(
+    pub(crate) fn start_child<P: KeepsBatches, S: ShouldSample, G: IdGenerator>(
         &mut self,
-        name: String,
+        span: String,
         parent: &str,
         tracer: &SdkTracer,
         provider: &mut ProviderOf<P, S, G>,
-        called: String,
+        name: String,
         now: Moment,
     ) -> Result<Answer, AllocError>
-        ensures ok { IfOk result (λ answer. ChildStartsNamed P.SpanProcessor S.ShouldSample G.IdGenerator provider.old
-            tracer.now self.old (string_bytes name) (named self.old parent.now)
-            (string_bytes called) now.0 answer provider.new self.new) }
-        ensures told { map P.told provider.new.processors ≡ map P.told provider.old.processors }
-        ensures asks { OnErr result (ChildMayStart S.ShouldSample G.IdGenerator provider.old
-            (named self.old parent.now) (string_bytes called) (named self.old (string_bytes name)) provider.new) }
+        ensures ok { IfOk result (λ answer. TakesTurn (λ turn. ChildTurn
+            (calls_of P.SpanProcessor P.DrainDue.own P.KeepsBatches.own S.ShouldSample G.IdGenerator)
+            (start_in tracer.now root_cx (string_bytes span) (string_bytes name) now.0)
+            (turn.before.histories parent.now) turn) provider.old self.old answer provider.new self.new) }
+        ensures asks { OnErr result (ChildMayStart
+            (calls_of P.SpanProcessor P.DrainDue.own P.KeepsBatches.own S.ShouldSample G.IdGenerator)
+            provider.old (named self.old parent.now) (string_bytes name)
+            (named self.old (string_bytes span)) provider.new) }
         ensures err { OnErr result (SameSpans self.old self.new) }
     {
         let Some(cx) = self.context_of(parent)? else {
             return Ok(Answer::NoSuchSpan);
         };
-        self.start_in(name, &cx, tracer, provider, called, now)
+        self.start_in(span, &cx, tracer, provider, name, now)
     }
 
     /// The context in which the span of a name is active.
-    fn context_of(&self, name: &str) -> Result<Option<Context>, AllocError>
+    fn context_of(&self, span: &str) -> Result<Option<Context>, AllocError>
         ensures { IfOk result (λ cx. cx
-            ≡ option_map (λ span. child_cx span.span_context) (named self.now name.now)) }
+            ≡ option_map (λ found. child_cx found.span_context) (named self.now span.now)) }
     {
-        let Some(span) = self.spans.get(name) else {
+        let Some(found) = self.spans.get(span) else {
             return Ok(None);
         };
-        let cx = Context::new().with_span_context(span.span_context().clone()?)?;
+        let cx = Context::new().with_span_context(found.span_context().clone()?)?;
         Ok(Some(cx))
     }
 
     /// What is said of the headers of the span of a name.
-    pub(crate) fn inject(&self, alloc: Global, name: &str) -> Result<Answer, AllocError>
-        ensures { IfOk result (InjectsNamed (named self.now name.now)) }
+    pub(crate) fn inject(&self, alloc: Global, span: &str) -> Result<Answer, AllocError>
+        ensures { IfOk result (λ answer. (histories : Histories) → Describe histories self.now
+            → AnswersInject (histories span.now) answer) }
     {
-        let Some(cx) = self.context_of(name)? else {
+        let Some(cx) = self.context_of(span)? else {
             return Ok(Answer::NoSuchSpan);
         };
         answer_with_headers(alloc, &cx)
     }
 
     /// Edits the span of a name.
-    pub(crate) fn edit(&mut self, name: &str, edit: SpanEdit) -> Result<Answer, AllocError>
-        ensures ok { IfOk result (λ answer. EditsNamed self.old name.now (plain_edit edit)
-            (named self.old name.now) answer self.new) }
+    pub(crate) fn edit(&mut self, span: &str, edit: SpanEdit) -> Result<Answer, AllocError>
+        ensures ok { IfOk result (λ answer. (histories : Histories) → Describe histories self.old
+            → (answer ≡ edit_answer (histories span.now))
+            × Describe (edited_in histories span.now (plain_edit edit)) self.new) }
         ensures err { OnErr result (SameSpans self.old self.new) }
     {
-        let Some(span) = self.spans.get_mut(name) else {
+        let Some(found) = self.spans.get_mut(span) else {
             return Ok(Answer::NoSuchSpan);
         };
-        let is_recording = span.is_recording();
-        span.edit(edit)?;
+        let is_recording = found.is_recording();
+        found.edit(edit)?;
         Ok(answer_to_edit(is_recording))
     }
 
     /// Ends the span of a name.
     pub(crate) fn end<P: SpanProcessor, S: Drop, G: Drop>(
         &mut self,
-        name: &str,
+        span: &str,
         provider: &mut ProviderOf<P, S, G>,
         moment: Moment,
     ) -> Result<Answer, AllocError>
-        ensures ok { IfOk result (λ answer. EndsNamed P.SpanProcessor provider.old self.old name.now moment.0
-            (named self.old name.now) answer provider.new self.new) }
-        ensures asks { MayDeliver P.SpanProcessor provider.old.processors provider.new.processors }
+        ensures ok { IfOk result (λ answer. TakesTurn (λ turn. EndTurn P.SpanProcessor span.now moment.0
+            (turn.before.histories span.now) turn) provider.old self.old answer provider.new self.new) }
         ensures err { OnErr result (SameSpans self.old self.new × (provider.new ≡ provider.old)) }
     {
-        let Some(span) = self.spans.get_mut(name) else {
+        let Some(found) = self.spans.get_mut(span) else {
             return Ok(Answer::NoSuchSpan);
         };
-        let is_recording = span.is_recording();
-        let refused = span.end_with_timestamp(provider, moment)?;
+        let is_recording = found.is_recording();
+        let refused = found.end_with_timestamp(provider, moment)?;
         Ok(answer_to_end(is_recording, refused))
     }
 
@@ -172,28 +180,29 @@ impl OpenSpans {
 }
 
 /// Starts a span under a name of a map, in a context. The name's place comes first.
-fn start_under<P: SpanProcessor, S: ShouldSample, G: IdGenerator>(
+fn start_under<P: KeepsBatches, S: ShouldSample, G: IdGenerator>(
     spans: &mut BTreeMap<String, Span>,
-    name: String,
+    span: String,
     cx: &Context,
     tracer: &SdkTracer,
     provider: &mut ProviderOf<P, S, G>,
-    called: String,
+    name: String,
     now: Moment,
 ) -> Result<Answer, AllocError>
-    ensures ok { IfOk result (λ answer. StartsNamed P.SpanProcessor S.ShouldSample G.IdGenerator provider.old
-        tracer.now (by_name spans.old.entries) (string_bytes name) cx.now (string_bytes called) now.0
-        (named (by_name spans.old.entries) (string_bytes name)) answer provider.new (by_name spans.new.entries)) }
-    ensures told { map P.told provider.new.processors ≡ map P.told provider.old.processors }
-    ensures asks { OnErr result (MayStart S.ShouldSample G.IdGenerator provider.old cx.now (string_bytes called)
-        (named (by_name spans.old.entries) (string_bytes name)) provider.new) }
+    ensures ok { IfOk result (λ answer. TakesTurn (StartTurn
+        (calls_of P.SpanProcessor P.DrainDue.own P.KeepsBatches.own S.ShouldSample G.IdGenerator)
+        (start_in tracer.now cx.now (string_bytes span) (string_bytes name) now.0))
+        provider.old (by_name spans.old.entries) answer provider.new (by_name spans.new.entries)) }
+    ensures asks { OnErr result (MayStart
+        (calls_of P.SpanProcessor P.DrainDue.own P.KeepsBatches.own S.ShouldSample G.IdGenerator)
+        provider.old cx.now (string_bytes name) (named (by_name spans.old.entries) (string_bytes span)) provider.new) }
     ensures err { OnErr result (SameSpans (by_name spans.old.entries) (by_name spans.new.entries)) }
 {
-    match spans.entry(name)? {
-        Entry::Vacant(place) => match tracer.start_with_context(called, cx, provider, now) {
-            Ok(span) => {
-                let answer = answer_to_start(&span);
-                place.insert(span);
+    match spans.entry(span)? {
+        Entry::Vacant(place) => match tracer.start_with_context(name, cx, provider, now) {
+            Ok(started) => {
+                let answer = answer_to_start(&started);
+                place.insert(started);
                 Ok(answer)
             }
             Err(error) => {

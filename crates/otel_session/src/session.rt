@@ -5,40 +5,24 @@ ghost use Rattle.std.specs.Prelude.{◌≡◌, ◌++◌, ◌∷◌, [], drop, le
 ghost use Rattle.std.specs.List.{flat_map};
 ghost use Rattle.opentelemetry.specs.Plain.{scope_named, text};
 ghost use Rattle.opentelemetry.specs.PlainContexts.{root_cx};
-ghost use Rattle.otel_export.specs.PlainSpanData.{spans_in};
+ghost use Rattle.otel_export.specs.KeptBatches.{Grows};
 ghost use Rattle.otel_pipeline.specs.SpanEdits.{plain_edit};
 ghost use Rattle.otel_pipeline.specs.SpanHistory.{set_attribute};
 ghost use Rattle.otel_lines.specs.Commands.{is_end, may_lose, plain_command};
 ghost use Rattle.otel_lines.specs.AnswerText.{answer_line};
-ghost use Rattle.otel_pipeline.specs.KeptBatches.{Grows};
 ghost use Rattle.otel_lines.specs.ReplyText.{span_lines};
-ghost use Rattle.otel_session.specs.SessionDelivery.{
-  AnswerStops,
-  CarriesOutOne,
-  Closes,
-  Describe,
-  EmptiesIfOk,
-  FeedStops,
-  Feeds,
-  Histories,
-  LosesNone,
-  RefusesOne,
-  RunStops,
-  RunsAll,
-  RunsBeginning,
-  ShutsIfOpen,
-  WritesAll,
-  WritesBeginning,
-  bare_event,
-  batches_of_first,
-  call_answer,
-  losses_of_first,
-  or_no_memory,
-  session_batches,
-  session_losses,
-  session_under,
-  unshown,
-};
+ghost use Rattle.otel_session.specs.Calls.{batches_of_first, calls_of, losses_of_first};
+ghost use Rattle.otel_session.specs.Closing.{Closes, or_no_memory};
+ghost use Rattle.otel_kept.specs.RecalledBatches.{FirstRecalled};
+ghost use Rattle.otel_session.specs.Forgotten.{HasForgotten};
+ghost use Rattle.otel_session.specs.Fed.{FeedStops, Feeds, Writes};
+ghost use Rattle.otel_session.specs.OpenSpans.{Describe, Histories};
+ghost use Rattle.otel_session.specs.ProviderTurns.{ShutsIfOpen, call_answer};
+ghost use Rattle.otel_session.specs.Shown.{session_batches, session_losses, unshown};
+ghost use Rattle.otel_session.specs.SpanTurns.{bare_event};
+ghost use Rattle.otel_session.specs.Stops.{AnswerStops, Answers, Gains, RefusesOne, RunStops, RunsBeginning};
+ghost use Rattle.otel_session.specs.Turn.{TakesTurn};
+ghost use Rattle.otel_session.specs.Turns.{IsCarriedOut, Runs, session_under};
 
 use crate::exported::{batches_since, copied_spans};
 use crate::headers::remote_context;
@@ -50,8 +34,9 @@ use otel_base::trace::{IdGenerator, ShouldSample};
 use otel_export::trace::SpanData;
 use otel_lines::reply_text::{write_batches, write_reply};
 use otel_lines::{Answer, Command, Reply, parse};
+use otel_kept::KeepsBatches;
 use otel_pipeline::trace::{
-    DrainDue, KeepsBatches, ProviderOf, SdkTracer, SpanEdit, SpanProcessor,
+    DrainDue, ProviderOf, SdkTracer, SpanEdit, SpanProcessor,
 };
 use std::alloc::{AllocError, Global};
 use std::collections::VecDeque;
@@ -111,7 +96,7 @@ impl From<AllocError> for FeedError {
 
 impl From<RunError> for FeedError {
     ghost use Rattle.std.specs.Prelude.{◌≡◌};
-    ghost use Rattle.otel_session.specs.SessionDelivery.{feed_error};
+    ghost use Rattle.otel_session.specs.Fed.{feed_error};
 
     ghost from_gives = { λ error fed. fed ≡ feed_error error };
 
@@ -144,7 +129,7 @@ pub struct Session<P, S, G> {
 impl<P, S, G> Model for Session<P, S, G> {
     ghost use Rattle.std.specs.Prelude.{◌≡◌};
     ghost use Rattle.opentelemetry.specs.PlainContexts.{root_cx};
-    ghost use Rattle.otel_session.specs.SessionDelivery.{SessionState};
+    ghost use Rattle.otel_session.specs.Turns.{SessionState};
 
     ghost Value = { SessionState P S G };
 
@@ -207,11 +192,12 @@ impl<P: KeepsBatches, S: ShouldSample, G: IdGenerator> Session<P, S, G> {
     /// out, each with its reply; the one behind it has none, and the error says why. A processor that refused a span is
     /// counted in the reply.
     pub fn run(&mut self, commands: Vec<Command>, replies: &mut Vec<Reply>) -> Result<(), RunError>
-        ensures ok { OnOk result (RunsAll P.SpanProcessor P.DrainDue.own P.KeepsBatches.own S.ShouldSample
-            G.IdGenerator self.old commands.items replies.old.items replies.new.items self.new) }
-        ensures err { IfErr result (λ error. RunsBeginning P.SpanProcessor P.DrainDue.own P.KeepsBatches.own
-            S.ShouldSample G.IdGenerator (RunStops P.SpanProcessor P.DrainDue.own P.KeepsBatches.own S.ShouldSample
-            G.IdGenerator error) self.old commands.items replies.old.items replies.new.items self.new) }
+        ensures ok { OnOk result (Gains replies.old.items replies.new.items (λ added. Runs
+            (calls_of P.SpanProcessor P.DrainDue.own P.KeepsBatches.own S.ShouldSample G.IdGenerator)
+            self.old commands.items added self.new)) }
+        ensures err { IfErr result (λ error. Gains replies.old.items replies.new.items (λ added. RunStops
+            (calls_of P.SpanProcessor P.DrainDue.own P.KeepsBatches.own S.ShouldSample G.IdGenerator)
+            error self.old commands.items added self.new)) }
     {
         let mut queue = VecDeque::from_vec(commands);
         while let Some(command) = queue.pop_front() {
@@ -238,8 +224,9 @@ impl<P: KeepsBatches, S: ShouldSample, G: IdGenerator> Session<P, S, G> {
     /// has the replies of a beginning of the commands; behind `Refused` and `BatchLost`, which no text tells, one more
     /// was carried out, and behind `Memory` at most one. What that one exported is left for the next reply.
     pub fn feed(&mut self, text: &[u8], output: &mut Vec<u8>) -> Result<(), FeedError>
-        ensures { Feeds P.SpanProcessor P.DrainDue.own P.KeepsBatches.own S.ShouldSample G.IdGenerator self.old
-            text.now output.old.items result output.new.items self.new }
+        ensures { Writes output.old.items output.new.items (λ replies. Feeds
+            (calls_of P.SpanProcessor P.DrainDue.own P.KeepsBatches.own S.ShouldSample G.IdGenerator)
+            self.old text.now result replies self.new) }
     {
         let script = parse(self.alloc, text)?;
         self.run_and_write(script.commands, output)?;
@@ -253,8 +240,9 @@ impl<P: KeepsBatches, S: ShouldSample, G: IdGenerator> Session<P, S, G> {
     /// spans that no reply has shown are appended. The answer is that of the shutdown, or `OutOfMemory` where that is
     /// Ok and the lines found no memory or the first processor's exporter has lost a batch since the session began.
     pub fn close(self, output: &mut Vec<u8>) -> OTelSdkResult
-        ensures { Closes P.SpanProcessor P.DrainDue.own P.KeepsBatches.own S.ShouldSample G.IdGenerator self
-            output.old.items result output.new.items }
+        ensures { Closes
+            (calls_of P.SpanProcessor P.DrainDue.own P.KeepsBatches.own S.ShouldSample G.IdGenerator)
+            self output.old.items result output.new.items }
     {
         let Session {
             mut provider,
@@ -282,11 +270,12 @@ impl<P: KeepsBatches, S: ShouldSample, G: IdGenerator> Session<P, S, G> {
         commands: Vec<Command>,
         output: &mut Vec<u8>,
     ) -> Result<(), FeedError>
-        ensures ok { OnOk result (WritesAll P.SpanProcessor P.DrainDue.own P.KeepsBatches.own S.ShouldSample
-            G.IdGenerator self.old commands.items output.old.items output.new.items self.new) }
-        ensures err { IfErr result (λ error. WritesBeginning P.SpanProcessor P.DrainDue.own P.KeepsBatches.own
-            S.ShouldSample G.IdGenerator (FeedStops P.SpanProcessor P.DrainDue.own P.KeepsBatches.own S.ShouldSample
-            G.IdGenerator error) self.old commands.items output.old.items output.new.items self.new) }
+        ensures ok { OnOk result (Writes output.old.items output.new.items (λ replies. Runs
+            (calls_of P.SpanProcessor P.DrainDue.own P.KeepsBatches.own S.ShouldSample G.IdGenerator)
+            self.old commands.items replies self.new)) }
+        ensures err { IfErr result (λ error. Writes output.old.items output.new.items (λ replies. FeedStops
+            (calls_of P.SpanProcessor P.DrainDue.own P.KeepsBatches.own S.ShouldSample G.IdGenerator)
+            error self.old commands.items replies self.new)) }
     {
         let mut queue = VecDeque::from_vec(commands);
         while let Some(command) = queue.pop_front() {
@@ -316,19 +305,17 @@ impl<P: KeepsBatches, S: ShouldSample, G: IdGenerator> Session<P, S, G> {
     /// Carries one command out. Where the first processor's exporter lost the batch of a span that it ended, it was
     /// carried out, and that is the answer. Where there was no memory, it was refused.
     fn answer(&mut self, command: Command) -> Result<Answer, RunError>
-        ensures ok { IfOk result (λ answer. CarriesOutOne P.SpanProcessor P.DrainDue.own S.ShouldSample G.IdGenerator
-            self.old.scope self.old.provider self.old.spans
-            (plain_command command) answer self.new.provider self.new.spans) }
-        ensures loses_none { OnOk result (IsFalse (may_lose (plain_command command))
-            → LosesNone P.KeepsBatches.own self.old self.new) }
-        ensures empties { IfOk result (λ answer. EmptiesIfOk P.SpanProcessor (plain_command command) answer
-            self.new.provider.processors) }
-        ensures err { IfErr result (λ error. AnswerStops P.SpanProcessor P.DrainDue.own P.KeepsBatches.own
-            S.ShouldSample G.IdGenerator error self.old command self.new) }
+        ensures ok { IfOk result (λ answer. Answers
+            (calls_of P.SpanProcessor P.DrainDue.own P.KeepsBatches.own S.ShouldSample G.IdGenerator)
+            self.old command answer self.new) }
+        ensures err { IfErr result (λ error. AnswerStops
+            (calls_of P.SpanProcessor P.DrainDue.own P.KeepsBatches.own S.ShouldSample G.IdGenerator)
+            error self.old command self.new) }
         ensures rest { self.new ≡ record self.old { provider = self.new.provider; spans = self.new.spans } }
         ensures keeps { Grows (session_batches P.KeepsBatches.own self.old)
             (session_batches P.KeepsBatches.own self.new) }
     {
+        self.spans.have_histories();
         let ends_span = command.ends_span();
         let lost = self.lost_batches();
         let answer = carry_out(
@@ -359,6 +346,19 @@ impl<P: KeepsBatches, S: ShouldSample, G: IdGenerator> Session<P, S, G> {
         lost_by_first(self.provider.processors())
     }
 
+    /// Forgets what replies have shown: where they have shown every batch that the first processor's exporter keeps, that
+    /// gives all of them up; else nothing happens. No later reply, answer or delivery is another for it.
+    pub fn forget_shown(&mut self)
+        ensures forgets { HasForgotten P.KeepsBatches.own self.old self.new }
+        ensures frees { self.old.shown ≡ length (session_batches P.KeepsBatches.own self.old)
+            → session_batches P.KeepsBatches.own self.new ≡ [] }
+    {
+        if self.shown == kept_by_first(self.provider.processors()).len() {
+            forget_first(&mut self.provider);
+            self.shown = 0;
+        }
+    }
+
     /// A reply has shown what the first processor exported so far.
     fn mark_shown(&mut self)
         ensures { self.new ≡ record self.old { shown = length (session_batches P.KeepsBatches.own self.old) } }
@@ -371,7 +371,7 @@ impl<P: KeepsBatches, S: ShouldSample, G: IdGenerator> Session<P, S, G> {
 fn shut_down<P: SpanProcessor, S: Drop, G: Drop>(
     provider: &mut ProviderOf<P, S, G>,
 ) -> OTelSdkResult
-    ensures { ShutsIfOpen P.SpanProcessor provider.old 5_000_000_000 result provider.new }
+    ensures { ShutsIfOpen P.SpanProcessor provider.old result provider.new }
 {
     match provider.shutdown() {
         Err(OTelSdkError::AlreadyShutdown) => Ok(()),
@@ -421,6 +421,19 @@ fn unshown_by_first<P: KeepsBatches>(processors: &[P], shown: usize) -> &[Vec<Sp
     batches_since(kept_by_first(processors), shown)
 }
 
+/// The exporter of the first processor forgets the batches that it keeps. All else is as it was.
+fn forget_first<P: KeepsBatches, S, G>(provider: &mut ProviderOf<P, S, G>)
+    ensures recalled { FirstRecalled P.KeepsBatches.own.recalled
+        (batches_of_first P.KeepsBatches.own provider.old.processors)
+        provider.new.processors provider.old.processors }
+    ensures none { batches_of_first P.KeepsBatches.own provider.new.processors ≡ [] }
+    ensures rest { provider.new ≡ record provider.old { processors = provider.new.processors } }
+{
+    if let Some(first) = provider.first_processor_mut() {
+        first.forget_batches();
+    }
+}
+
 /// Carries one command out on the parts of a session; a lost batch is no error.
 fn carry_out<P: KeepsBatches, S: ShouldSample, G: IdGenerator>(
     alloc: Global,
@@ -431,18 +444,12 @@ fn carry_out<P: KeepsBatches, S: ShouldSample, G: IdGenerator>(
     command: Command,
 ) -> Result<Answer, AllocError>
     requires { root.now ≡ root_cx }
-    ensures ok { IfOk result (λ answer. CarriesOutOne P.SpanProcessor P.DrainDue.own S.ShouldSample G.IdGenerator
-        tracer.now provider.old spans.old
-        (plain_command command) answer provider.new spans.new) }
-    ensures empties { IfOk result (λ answer. EmptiesIfOk P.SpanProcessor (plain_command command) answer
-        provider.new.processors) }
-    ensures err { OnErr result
-        (RefusesOne S.ShouldSample G.IdGenerator provider.old spans.old (plain_command command) provider.new spans.new) }
-    ensures keeps { Grows (batches_of_first P.KeepsBatches.own provider.old.processors)
-        (batches_of_first P.KeepsBatches.own provider.new.processors) }
-    ensures loses { IsFalse (is_end (plain_command command)) → IsFalse (may_lose (plain_command command))
-        → losses_of_first P.KeepsBatches.own provider.new.processors
-        ≡ losses_of_first P.KeepsBatches.own provider.old.processors }
+    ensures ok { IfOk result (λ answer. TakesTurn (IsCarriedOut
+        (calls_of P.SpanProcessor P.DrainDue.own P.KeepsBatches.own S.ShouldSample G.IdGenerator)
+        tracer.now (plain_command command)) provider.old spans.old answer provider.new spans.new) }
+    ensures err { OnErr result (RefusesOne
+        (calls_of P.SpanProcessor P.DrainDue.own P.KeepsBatches.own S.ShouldSample G.IdGenerator)
+        provider.old spans.old (plain_command command) provider.new spans.new) }
 {
     match command {
         Command::Start { span, name, moment } => {

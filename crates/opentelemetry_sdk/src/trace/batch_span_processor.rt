@@ -18,7 +18,7 @@ use otel_base::error::{OTelSdkError, OTelSdkResult};
 use otel_base::resource::Resource;
 use otel_batch::machine::{BatchMachine, Request};
 use otel_batch::trace::BatchConfig;
-use otel_export::trace::{SpanData, SpanExporter};
+use otel_export::trace::{SpanData, SpanExporter, StoresBatches};
 use otel_pipeline::trace::{DrainDue, LeavesSpans, Span, SpanProcessor};
 use std::alloc::{AllocError, Global};
 use std::marker::Model;
@@ -162,6 +162,21 @@ impl<E: SpanExporter> BatchSpanProcessor<E> {
         }
         self.last_tick = Some(now);
         drain_by_tick(&mut self.machine)
+    }
+}
+
+impl<E: StoresBatches> BatchSpanProcessor<E> {
+    ghost use Rattle.std.specs.Prelude.{[]};
+    ghost use Rattle.opentelemetry_sdk.specs.RecalledByBatch.{batch_before};
+
+    /// Forgets the batches that the exporter keeps. All else is as it was.
+    pub fn forget_batches(&mut self)
+        ensures rest { self.new ≡ batch_before self.old self.new.machine.exporter }
+        ensures recalled { E.recalled (E.kept self.old.machine.exporter) self.new.machine.exporter
+            self.old.machine.exporter }
+        ensures none { E.kept self.new.machine.exporter ≡ [] }
+    {
+        self.machine.forget_batches();
     }
 }
 

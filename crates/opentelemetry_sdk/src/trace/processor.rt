@@ -6,10 +6,10 @@ use otel_base::error::OTelSdkResult;
 use otel_base::resource::Resource;
 use otel_base::trace::BatchStrings;
 use otel_batch::trace::BatchConfigBuilder;
-use otel_export::trace::{ExporterBox, SpanData, SpanExporter};
+use otel_export::trace::{ExporterBox, SpanData, SpanExporter, StoresBatches};
+use otel_kept::KeepsBatches;
 use otel_pipeline::trace::{
-    DrainDue, KeepsBatches, LeavesSpans, OverExporter, SimpleSpanProcessor, Span, SpanProcessor,
-    StoresBatches,
+    DrainDue, LeavesSpans, OverExporter, SimpleSpanProcessor, Span, SpanProcessor,
 };
 use std::alloc::{AllocError, Global};
 use std::time::Duration;
@@ -156,15 +156,23 @@ impl<E: SpanExporter, C: SpanProcessor> LeavesSpans for ProcessorOf<E, C> {
 }
 
 impl<E: StoresBatches, C: SpanProcessor> KeepsBatches for ProcessorOf<E, C> {
-    ghost use Rattle.otel_pipeline.specs.KeptBatches.{simple_appends, simple_rests, simple_stays};
+    ghost use Rattle.otel_kept.specs.ProcessorKeeps.{simple_appends, simple_rests, simple_stays};
     ghost use Rattle.opentelemetry_sdk.specs.KeptByBatch.{batch_stays, due_appends, requests_appends, stays};
     ghost use Rattle.opentelemetry_sdk.specs.KeptByKinds.{processor_appends, processor_keeps, processor_loses};
     ghost use Rattle.opentelemetry_sdk.specs.KeptByKinds.{processor_stays};
+    ghost use Rattle.otel_kept.specs.RecalledBySimple.{simple_ends_over, simple_same, simple_shuts_over};
+    ghost use Rattle.opentelemetry_sdk.specs.RecalledCalls.{asks_over, batch_same, ends_over};
+    ghost use Rattle.opentelemetry_sdk.specs.RecalledDue.{due_over};
+    ghost use Rattle.opentelemetry_sdk.specs.RecalledByKinds.{processor_once, processor_recalled, processor_recalls};
+    ghost use Rattle.opentelemetry_sdk.specs.RecalledLaws.{processor_heard, processor_kept, processor_lost};
+    ghost use Rattle.opentelemetry_sdk.specs.RecalledLaws.{processor_more, processor_none};
     ghost use Rattle.otel_batch.specs.declared.machine.state.Request.TheVariants as request;
 
     ghost kept = { processor_keeps E.kept };
 
     ghost lost = { processor_loses E.lost };
+
+    ghost recalled = { processor_recalled E.recalled };
 
     ghost appends = { record {
       starts = λ p span cx edited q given. processor_stays E.kept E.lost _ _ _
@@ -184,6 +192,31 @@ impl<E: StoresBatches, C: SpanProcessor> KeepsBatches for ProcessorOf<E, C> {
           (λ a b h. due_appends E.SpanExporter E.kept E.appends a now answer b h) p q given;
     } };
 
+    ghost recalls = { record {
+      starts = λ bs span cx edited. processor_recalls E.recalled bs _ _ _
+          (λ a b e behind h. let g = simple_same E.SpanExporter E.recalls bs a b e behind h.0 in (g.0, g.1, (g.2, h.1)))
+          (λ a b e behind h. let g = batch_same E.SpanExporter E.recalls bs a b e behind h.0 in (g.0, g.1, (g.2, h.1)));
+      ends = λ bs span answer. processor_recalls E.recalled bs _ _ _
+          (λ a b e behind h. simple_ends_over E.SpanExporter E.recalls bs span answer a b e behind h)
+          (λ a b e behind h. ends_over E.SpanExporter E.recalls bs span answer a b e behind h);
+      flushes = λ bs answer. processor_recalls E.recalled bs _ _ _
+          (λ a b e behind h. let g = simple_same E.SpanExporter E.recalls bs a b e behind h.1 in (g.0, g.1, (h.0, g.2)))
+          (λ a b e behind h. asks_over E.SpanExporter E.recalls bs request.Flush answer a b e behind h);
+      shuts = λ bs timeout answer. processor_recalls E.recalled bs _ _ _
+          (λ a b e behind h. simple_shuts_over E.SpanExporter E.recalls bs timeout answer a b e behind h)
+          (λ a b e behind h. asks_over E.SpanExporter E.recalls bs request.Shutdown answer a b e behind h);
+      runs = λ bs now answer. processor_recalls E.recalled bs _ _ _
+          (λ a b e behind h. let g = simple_same E.SpanExporter E.recalls bs a b e behind h.rest in
+          (g.0, g.1, record { ok = h.ok; rest = g.2 }))
+          (λ a b e behind h. due_over E.SpanExporter E.recalls bs now answer a b e behind h);
+      told = λ bs p r h. processor_heard E.SpanExporter E.recalls C.told bs p r h;
+      kept = λ bs p r h. processor_kept E.SpanExporter E.recalls bs p r h;
+      lost = λ bs p r h. processor_lost E.SpanExporter E.recalls bs p r h;
+      once = λ bs p r s h g. processor_once E.recalled bs (λ e f k. E.recalls.once bs e f k) p r s h g;
+      none = λ p. processor_none E.SpanExporter E.recalls p;
+      more = λ bs cs p r s h g. processor_more E.SpanExporter E.recalls bs cs p r s h g;
+    } };
+
     fn batches(&self) -> &[Vec<SpanData>] {
         match self {
             ProcessorOf::Simple(simple) => simple.exporter().batches(),
@@ -197,6 +230,15 @@ impl<E: StoresBatches, C: SpanProcessor> KeepsBatches for ProcessorOf<E, C> {
             ProcessorOf::Simple(simple) => simple.exporter().lost_batches(),
             ProcessorOf::Batch(batch) => batch.exporter().lost_batches(),
             ProcessorOf::Custom(_) => 0,
+        }
+    }
+
+    /// One of the caller's own keeps none.
+    fn forget_batches(&mut self) {
+        match self {
+            ProcessorOf::Simple(simple) => simple.forget_batches(),
+            ProcessorOf::Batch(batch) => batch.forget_batches(),
+            ProcessorOf::Custom(_) => {}
         }
     }
 }

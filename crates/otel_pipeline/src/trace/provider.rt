@@ -110,6 +110,22 @@ impl<P, S, G> ProviderOf<P, S, G> {
     }
 }
 
+impl<P, S, G> ProviderOf<P, S, G> {
+    ghost use Rattle.std.specs.Borrow.{LendsIf, sem};
+    ghost use Rattle.std.specs.List.{IsItemAtMut};
+    ghost use Rattle.std.specs.Prelude.{slice_set};
+    ghost use Rattle.otel_pipeline.specs.contracts.trace.provider.ProviderOf.{the_row};
+
+    /// The first processor, to be changed where it is: its exporter in memory may forget its batches, say.
+    pub fn first_processor_mut(&mut self) -> Option<&mut P>
+        ensures* writes_back { sem 𝓛 (LendsIf (the_row P.row S.row G.row) P.row self.entry result
+            (λ first. record self.old { processors = slice_set self.old.processors 0 first }) self.old) }
+        ensures value { IsItemAtMut self.old.processors 0 result }
+    {
+        self.processors.first_mut()
+    }
+}
+
 impl<P, S, G: IdGenerator> ProviderOf<P, S, G> {
     /// The ids of a new span in a context. The span id is drawn first; a trace id is drawn only where no span is
     /// active.

@@ -7,7 +7,7 @@ use crate::trace::{LeavesSpans, Span, SpanProcessor};
 use opentelemetry::Context;
 use otel_base::error::OTelSdkResult;
 use otel_base::resource::Resource;
-use otel_export::trace::{SpanData, SpanExporter};
+use otel_export::trace::{SpanData, SpanExporter, StoresBatches};
 use std::alloc::{AllocError, Global};
 use std::marker::Model;
 use std::time::Duration;
@@ -43,6 +43,17 @@ impl<E> SimpleSpanProcessor<E> {
         ensures { result.now ≡ self.now.exporter }
     {
         &self.exporter
+    }
+}
+
+impl<E: StoresBatches> SimpleSpanProcessor<E> {
+    /// Forgets the batches that the exporter keeps. All else is as it was.
+    pub fn forget_batches(&mut self)
+        ensures rest { self.new ≡ record self.old { exporter = self.new.exporter } }
+        ensures recalled { E.recalled (E.kept self.old.exporter) self.new.exporter self.old.exporter }
+        ensures none { E.kept self.new.exporter ≡ [] }
+    {
+        self.exporter.forget_batches();
     }
 }
 

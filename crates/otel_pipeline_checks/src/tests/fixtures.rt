@@ -10,10 +10,9 @@ use otel_base::trace::{
     SpanLimits,
 };
 use otel_export::trace::{ExporterBox, InMemorySpanExporter, SpanData};
+use otel_kept::KeepsBatches;
 use otel_pipeline::trace::provider::provider_over;
-use otel_pipeline::trace::{
-    KeepsBatches, LeavesSpans, ProviderOf, SimpleSpanProcessor, Span, SpanProcessor,
-};
+use otel_pipeline::trace::{LeavesSpans, ProviderOf, SimpleSpanProcessor, Span, SpanProcessor};
 use std::alloc::{AllocError, Global};
 use std::cell::Cell;
 use std::fmt::Write;

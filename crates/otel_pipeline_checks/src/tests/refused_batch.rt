@@ -10,8 +10,9 @@ use opentelemetry_sdk::trace::Processor;
 use otel_base::error::OTelSdkResult;
 use otel_base::resource::Resource;
 use otel_base::trace::{BatchStrings, RandomIdGenerator, ShouldSample};
+use otel_kept::KeepsBatches;
 use otel_pipeline::trace::{
-    DrainDue, KeepsBatches, OverExporter, ProviderBuilderOf, ProviderOf, Span, SpanProcessor,
+    DrainDue, OverExporter, ProviderBuilderOf, ProviderOf, Span, SpanProcessor,
 };
 use std::alloc::{AllocError, Global};
 use std::test::Fail;

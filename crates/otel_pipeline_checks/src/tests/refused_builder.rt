@@ -6,9 +6,8 @@ use opentelemetry::{Context, Moment, SpanId};
 use opentelemetry_sdk::trace::Processor;
 use otel_base::trace::{BatchStrings, ConfigStrings, IdSource, Sampler};
 use otel_export::trace::SpanData;
-use otel_pipeline::trace::{
-    KeepsBatches, OverExporter, ProviderBuilderOf, ProviderOf, Span, SpanProcessor,
-};
+use otel_kept::KeepsBatches;
+use otel_pipeline::trace::{OverExporter, ProviderBuilderOf, ProviderOf, Span, SpanProcessor};
 use std::alloc::{AllocError, Global};
 use std::test::Fail;
 

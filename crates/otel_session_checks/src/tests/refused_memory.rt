@@ -5,7 +5,7 @@ use super::program::status_over;
 use otel_base::error::OTelSdkError;
 use otel_base::trace::{IdGenerator, ShouldSample};
 use otel_lines::{Answer, Reply};
-use otel_pipeline::trace::KeepsBatches;
+use otel_kept::KeepsBatches;
 use otel_session::{FeedError, RunError, Session};
 use std::alloc::{AllocError, Global};
 use std::test::Fail;

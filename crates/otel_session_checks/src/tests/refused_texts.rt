@@ -4,7 +4,7 @@
 use super::fixtures::*;
 use super::program::status_over;
 use otel_base::trace::{IdGenerator, ShouldSample};
-use otel_pipeline::trace::KeepsBatches;
+use otel_kept::KeepsBatches;
 use otel_session::Session;
 use std::alloc::{AllocError, Global};
 use std::test::Fail;

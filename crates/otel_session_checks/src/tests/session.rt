@@ -23,6 +23,25 @@ fn a_session_closes_as_its_provider_does(rt: HostRuntime) -> Result<(), Fail> {
     Ok(())
 }
 
+/// Two texts: a span is ended in the first one and another in the second, and a child is started of one that is over.
+const TWO_TEXTS: [&str; 2] = [
+    "start s a 1\nend s 2\nstart t b 3\n",
+    "end t 4\nend s 5\nchild u s c 6\nend u 7\nflush\n",
+];
+
+#[test]
+fn what_was_shown_is_forgotten_unseen(rt: HostRuntime) -> Result<(), Fail> {
+    let [first, second] = TWO_TEXTS;
+    for (kind, _) in CLOSES {
+        let kept = [Call::Feed(first), Call::Feed(second)];
+        let forgotten = [Call::Feed(first), Call::Forget, Call::Feed(second), Call::Forget];
+        let wanted = played(rt.alloc(), kind, &kept)?;
+        let output = played(rt.alloc(), kind, &forgotten)?;
+        assert_eq!(rt; text_of(&output), text_of(&wanted));
+    }
+    Ok(())
+}
+
 /// Lines that end a span and ask for a shutdown twice, and what is answered to them where no request has room.
 const TWO_SHUTDOWNS: &str = "start s a 1\nend s 2\nshutdown\nshutdown\n";
 

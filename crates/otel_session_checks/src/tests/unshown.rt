@@ -23,14 +23,15 @@ fn end_lines(alloc: Global, count: usize) -> Result<String, AllocError> {
     Ok(text)
 }
 
-/// What is put out where so many spans are started at once and each is ended by itself, a last text is fed, and the
-/// session is closed.
+/// What is put out where so many spans are started at once and each is ended by itself, the session is to forget what was
+/// shown, a last text is fed, and the session is closed.
 fn put_out(alloc: Global, count: usize, last: &str) -> Result<Vec<u8>, AllocError> {
     let starts = start_lines(alloc, count)?;
     let ends = end_lines(alloc, count)?;
     let calls = [
         Call::Feed(starts.as_str()),
         Call::TryLines(ends.as_str()),
+        Call::Forget,
         Call::Feed(last),
     ];
     played(alloc, Kind::HalfFailing, &calls)

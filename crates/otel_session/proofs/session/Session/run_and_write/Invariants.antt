@@ -1,13 +1,13 @@
 use Rattle.std.proofs.Common.{◌≡◌, ◌++◌, List}
 use Rattle.std.specs.VecDeque.{deque_len}
-use Rattle.otel_lines.specs.AnswerText.{replies_text}
-use Rattle.otel_lines.specs.PlainReply.{PlainReply, NoneRefused}
+use Rattle.otel_session.specs.Calls.{calls_of}
+use Rattle.otel_session.specs.Fed.{Writes}
 use Rattle.otel_session.proofs.RunLemmas.{Ran}
 use Rattle.otel_session.proofs.session.Session.run_and_write.Given as goal
 
 abbrev pub invariant-loop-command : goal.invariant-loop-command
-invariant-loop-command g l = (replies : List PlainReply) × (l.output.items ≡ l.fn.output.items ++ replies_text replies) × NoneRefused replies
-    × Ran g.P.SpanProcessor g.P.DrainDue g.P.KeepsBatches g.S.ShouldSample g.G.IdGenerator l.fn.self l.fn.commands.items l.queue.items replies l.self
+invariant-loop-command g l = Writes l.fn.output.items l.output.items
+    (λ replies. Ran (calls_of g.P.SpanProcessor g.P.DrainDue g.P.KeepsBatches g.S.ShouldSample g.G.IdGenerator) l.fn.self l.fn.commands.items l.queue.items replies l.self)
 
 abbrev pub decreases-loop-command : goal.decreases-loop-command
 decreases-loop-command g l = deque_len l.queue

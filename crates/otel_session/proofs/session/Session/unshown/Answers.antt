@@ -1,7 +1,9 @@
 use Rattle.std.proofs.Common.{List, drop, sym, ap, ◌∙◌}
 use Rattle.std.proofs.lemmas.List.Folds.{flat_map-map}
 use Rattle.otel_export.specs.PlainSpanData.{spans_in}
-use Rattle.otel_session.specs.SessionDelivery.{SessionState, batches_of_first, unshown}
+use Rattle.otel_session.specs.Calls.{batches_of_first}
+use Rattle.otel_session.specs.Shown.{unshown}
+use Rattle.otel_session.specs.Turns.{SessionState}
 use Rattle.otel_session.proofs.session.Session.unshown.Goals as goal
 
 pub returns : goal.returns

@@ -1,0 +1,3 @@
+pub mod ProcessorKeeps
+pub mod RecalledBatches
+pub mod RecalledBySimple
