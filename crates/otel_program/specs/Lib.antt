@@ -3,3 +3,4 @@ pub mod Pieces
 pub mod Program
 pub mod StepRuns
 pub mod Streams
+pub mod TraceRuns

@@ -1,7 +1,7 @@
 -- The provider that the mode `trace` is asked for, and what a session under it does with the streams. Of the bytes of a
 -- stream it speaks where the stream tells them.
-use Rattle.std.specs.Prelude.{◌≡◌, ℕ, false, List, [], ◌∷◌, Option, IfSome}
-use Rattle.std.specs.Io.KnownBytes.{Appends, IsAtEnd}
+use Rattle.std.specs.Prelude.{◌≡◌, ◌⊎◌, ℕ, false, List, [], ◌∷◌, Option}
+use Rattle.std.specs.Io.KnownBytes.{Appends}
 use Rattle.rand_xoshiro.specs.SplitMix64.{splitmix_seed}
 use Rattle.rand_xoshiro.specs.Xoshiro256.{of_seed}
 use Rattle.otel_base.specs.Limits.{default_limits}
@@ -10,6 +10,7 @@ use Rattle.otel_base.specs.declared.trace.sampler.SamplerOf.{SamplerOf}
 use Rattle.otel_base.specs.declared.trace.sampler.ShouldSample as sampling
 use Rattle.otel_base.specs.declared.trace.id_generator.IdGenerator as drawing
 use Rattle.otel_batch.specs.PlainBatchConfig.{PlainBatchConfig, cut_to_queue, default_batch_config}
+use Rattle.otel_export.specs.RecalledBatches.{exporter_recalled}
 use Rattle.otel_export.specs.StoredBatches.{StoredBatches}
 use Rattle.otel_export.specs.declared.trace.exporter_box.ExporterOf.{ExporterOf}
 use Rattle.otel_export.specs.declared.trace.exporter_box.ExporterOf.TheVariants as exporters
@@ -20,11 +21,12 @@ use Rattle.otel_kept.specs.declared.keeps_batches.KeepsBatches as keeping
 use Rattle.otel_pipeline.specs.declared.trace.span_processor.SpanProcessor.{Ghosts}
 use Rattle.opentelemetry_sdk.specs.BatchProcessor.{first_processor}
 use Rattle.opentelemetry_sdk.specs.KeptByKinds.{processor_keeps, processor_loses}
+use Rattle.opentelemetry_sdk.specs.RecalledByKinds.{processor_recalled}
 use Rattle.opentelemetry_sdk.specs.declared.trace.processor.ProcessorOf.{ProcessorOf}
 use Rattle.opentelemetry_sdk.specs.declared.trace.processor.ProcessorOf.TheVariants as kinds
-use Rattle.otel_session.specs.Calls.{calls_of}
-use Rattle.otel_session.specs.Closing.{Finishes}
-use Rattle.otel_session.specs.Turns.{session_under}
+use Rattle.otel_session.specs.Calls.{Calls, calls_of}
+use Rattle.otel_program.specs.Streams.{Streams}
+use Rattle.otel_program.specs.TraceRuns.{TracesBegun, TracesWhole}
 use Rattle.otel_program.specs.declared.program.Asked.{Asked}
 use Rattle.otel_program.specs.declared.program.AskedProcessor.{AskedProcessor}
 use Rattle.otel_program.specs.declared.program.AskedProcessor.TheVariants as asks
@@ -66,31 +68,23 @@ abbrev pub memory_batches : {C D : Type 0} → keeping.Ghosts (MemoryProcessor C
 memory_batches = record {
   kept = processor_keeps exporter_keeps;
   lost = processor_loses exporter_loses;
+  recalled = processor_recalled exporter_recalled;
 }
 
--- the whole of a stream's bytes, behind which the stream is at its end
-abbrev pub ReadsWhole : Option (List ℕ) → Option (List ℕ) → List ℕ → Type 0
-ReadsWhole before after bytes = IfSome before (λ all. bytes ≡ all) × IsAtEnd after
+-- what is said of the calls of such a processor, and of the sampler and the source of ids beside it
+abbrev pub memory_calls : {C D E : Type 0} → Ghosts (MemoryProcessor C D) → timing.Ghosts (MemoryProcessor C D)
+    → sampling.Ghosts (SamplerOf E) → drawing.Ghosts (List ℕ) → Calls (MemoryProcessor C D) (SamplerOf E) (List ℕ)
+memory_calls processor timer sampler ids = calls_of processor timer memory_batches sampler ids
 
-module _ {P S G : Type 0} (calls : Ghosts P) (timer : timing.Ghosts P) (keeps : keeping.Ghosts P)
-    (sampler : sampling.Ghosts S) (ids : drawing.Ghosts G) where
-  -- a writer was given what a session under a provider writes for an input, whole or up to its first bad line, and
-  -- when it closes, and nothing else
-  abbrev pub WritesText : ProviderState P S G → List ℕ → Option ℕ → Option (List ℕ) → Option (List ℕ) → Type 0
-  WritesText provider input bad_line before after = (text : List ℕ)
-      × Finishes (calls_of calls timer keeps sampler ids) (session_under keeps provider) input bad_line text
-      × Appends before after text
+module _ {C D E : Type 0} (calls : Calls (MemoryProcessor C D) (SamplerOf E) (List ℕ)) (asked : Asked) where
+  -- the output was given what a session writes for the whole input, under the provider that is asked for
+  abbrev pub TracesAsked : Streams → Option ℕ → Type 0
+  TracesAsked s bad_line = (provider : ProviderState (MemoryProcessor C D) (SamplerOf E) (List ℕ))
+      × IsProviderOf asked provider × TracesWhole calls provider s bad_line
 
-  -- the whole input was read, and the output was given what a session under a provider writes for it
-  abbrev pub TracesWhole : ProviderState P S G → Option (List ℕ) → Option (List ℕ) → Option ℕ
-      → Option (List ℕ) → Option (List ℕ) → Type 0
-  TracesWhole provider input input_after bad_line output output_after = (bytes : List ℕ)
-      × ReadsWhole input input_after bytes × WritesText provider bytes bad_line output output_after
-
--- the same under the provider that is asked for
-abbrev pub TracesAsked : {C D E : Type 0} → Ghosts (MemoryProcessor C D) → timing.Ghosts (MemoryProcessor C D)
-    → sampling.Ghosts (SamplerOf E) → drawing.Ghosts (List ℕ) → Asked → Option (List ℕ) → Option (List ℕ) → Option ℕ
-    → Option (List ℕ) → Option (List ℕ) → Type 0
-TracesAsked {C} {D} {E} calls timer sampler ids asked input input_after bad_line output output_after =
-    (provider : ProviderState (MemoryProcessor C D) (SamplerOf E) (List ℕ)) × IsProviderOf asked provider
-    × TracesWhole calls timer memory_batches sampler ids provider input input_after bad_line output output_after
+  -- the output was given a beginning of what such a session writes for a beginning of the input; or nothing, where
+  -- there was no memory for the provider
+  abbrev pub BeginsAsked : Streams → Type 0
+  BeginsAsked s = Appends s.output s.output_after []
+      ⊎ ((provider : ProviderState (MemoryProcessor C D) (SamplerOf E) (List ℕ))
+      × IsProviderOf asked provider × TracesBegun calls provider s)

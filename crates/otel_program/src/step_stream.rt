@@ -3,18 +3,16 @@
 
 ghost use Rattle.std.specs.Prelude.{◌≡◌, ◌++◌, ◌+◌, ◌⊎◌, List, ℕ, IfOk, IfSome, OnErr, length};
 ghost use Rattle.std.specs.Io.KnownBytes.{Appends};
-ghost use Rattle.std.specs.Str.Lines.{lines as lines_of};
-ghost use Rattle.otel_program.specs.declared.run_end.RunEnd.TheVariants as ends;
 ghost use Rattle.otel_program.specs.Pieces.{AppendsBeginning};
 ghost use Rattle.otel_program.specs.StepRuns.{StepsAll, StepsBegun, StepsSized, StepsSome};
 ghost use Rattle.otel_program.specs.Streams.{EndsAs, Streams, streams};
 ghost use Rattle.otel_steps.specs.StepAnswers.{AnswersLines, BeginsAnswers};
 
+use crate::counted::{bad_line_behind, lines_counted};
 use crate::pieces::{Pieces, write_whole};
 use crate::run_end::RunEnd;
 use otel_batch::machine::BatchMachine;
 use otel_export::trace::InMemorySpanExporter;
-use otel_lines::lines::first_line;
 use otel_steps::{Sizes, answer_lines, machine_sized};
 use std::alloc::Global;
 use std::io;
@@ -90,27 +88,4 @@ fn answer_piece<W: Write>(
     let answered = answer_lines(alloc, machine, text, answers);
     write_whole(output, answers)?;
     Ok(answered?)
-}
-
-/// The line of this number behind so many lines, or a failure where a number of 64 bits cannot count them.
-fn bad_line_behind(before: u64, line: u64) -> RunEnd
-    ensures { (result ≡ ends.Failed) ⊎ (result ≡ ends.BadLine (before + line)) }
-{
-    match before.checked_add(line) {
-        Some(number) => RunEnd::BadLine(number),
-        None => RunEnd::Failed,
-    }
-}
-
-/// How many lines there are with those of a text behind so many; none where a number of 64 bits cannot count them.
-fn lines_counted(before: u64, text: &[u8]) -> Option<u64>
-    ensures { IfSome result (λ count. count ≡ before + length (lines_of text.now)) }
-{
-    let mut count = before;
-    let mut rest = text;
-    while let Some((_, behind)) = first_line(rest) {
-        rest = behind;
-        count = count.checked_add(1)?;
-    }
-    Some(count)
 }
