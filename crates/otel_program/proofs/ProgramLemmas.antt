@@ -1,18 +1,24 @@
 -- What the arguments of the program ask for, and what it does with its streams.
-use Rattle.std.proofs.Common.{◌≡◌, ℕ, ◌<◌, ◌≤◌, ◌++◌, ◌-◌, List, [], ◌∷◌, drop, take, map, length, Option, Some, None, IfSome, IfOk, Result, Ok, MatchOption, codes, refl, ◌∙◌, sym, ap, subst, arith}
+use Rattle.std.proofs.Common.{◌≡◌, ℕ, ◌<◌, ◌≤◌, ◌++◌, ◌-◌, List, [], ◌∷◌, drop, take, map, length, Option, Some, None, IfSome, IfOk, Result, Ok, MatchOption, codes, inl, inr, refl, ◌∙◌, sym, ap, subst, arith}
 use Rattle.std.proofs.Math.ListN.{get_or}
 use Rattle.std.proofs.lemmas.List.{take_all}
 use Rattle.std.specs.Str.Parse.{digits_value}
 use Rattle.otel_base.specs.declared.trace.sampler.SamplerOf.{SamplerOf}
-use Rattle.otel_base.specs.declared.trace.sampler.ShouldSample as sampling
-use Rattle.otel_base.specs.declared.trace.id_generator.IdGenerator as drawing
 use Rattle.otel_pipeline.specs.Provider.{ProviderState}
-use Rattle.otel_pipeline.specs.declared.trace.span_processor.SpanProcessor.{Ghosts}
-use Rattle.otel_pipeline.specs.declared.trace.drain_due.DrainDue as timing
-use Rattle.otel_program.specs.Program.{AsksFor, AsksForSteps, MemoryProcessor, NamesProcessor, StepsSized, TracesAsked, TracesWhole, WriteSizes, IsProviderOf, memory_batches}
+use Rattle.otel_program.specs.Arguments.{AsksFor, AsksForSteps, NamesProcessor, WriteSizes}
+use Rattle.otel_program.specs.Program.{BeginsAsked, IsProviderOf, MemoryProcessor, TracesAsked}
+use Rattle.otel_program.specs.TraceRuns.{TracesBegun, TracesWhole}
+use Rattle.otel_program.proofs.TraceStream.{all_begun}
+use Rattle.otel_session.specs.Calls.{Calls}
+use Rattle.otel_session.specs.Turns.{session_under}
+use Rattle.std.proofs.KnownBytes.{Appends-nil}
 use Rattle.otel_program.specs.declared.program.Asked.{Asked}
 use Rattle.otel_program.specs.declared.program.AskedProcessor.{AskedProcessor}
 use Rattle.otel_program.specs.declared.program.AskedProcessor.TheVariants as asks
+use Rattle.otel_program.specs.StepRuns.{StepsBegun, StepsSized}
+use Rattle.otel_program.specs.Streams.{EndsAs, EndsWith, Reports, Streams, streams}
+use Rattle.otel_program.specs.declared.run_end.RunEnd.{RunEnd}
+use Rattle.otel_program.specs.declared.run_end.RunEnd.TheVariants as ends
 use Rattle.otel_steps.specs.declared.steps.Sizes.{Sizes}
 
 -- what a list of one is made of
@@ -87,11 +93,35 @@ steps_once words sizes other asks more =
     let same : sizes_of sizes.queue sizes.batch sizes.producers ≡ sizes_of other.queue other.batch other.producers = rw (queue, batch, producers) refl in
     same
 
--- what is stepped by the sizes that words ask for, is by any sizes that they ask for
-pub steps_sized : (words : List (List ℕ)) (sizes other : Sizes) (input input_after : Option (List ℕ)) (bad_line : Option ℕ) (output output_after : Option (List ℕ)) → AsksForSteps words sizes → AsksForSteps words other
-    → StepsSized other input input_after bad_line output output_after → StepsSized sizes input input_after bad_line output output_after
-steps_sized words sizes other input input_after bad_line output output_after asks more h =
-    subst (λ (s : Sizes). StepsSized s input input_after bad_line output output_after) (sym (steps_once words sizes other asks more)) h
+-- a run by the sizes that words ask for, is one by any sizes that they ask for
+pub steps_sized : (words : List (List ℕ)) (sizes other : Sizes) (s : Streams) (end : RunEnd) → AsksForSteps words sizes → AsksForSteps words other
+    → EndsAs (StepsSized other s) (StepsBegun other s) s end → EndsAs (StepsSized sizes s) (StepsBegun sizes s) s end
+steps_sized words sizes other s end asks more h =
+    subst (λ (z : Sizes). EndsAs (StepsSized z s) (StepsBegun z s) s end) (sym (steps_once words sizes other asks more)) h
+
+-- how a run ended, by its status
+pub ends_with : (Whole : Option ℕ → Type 0) (Begun Silent : Type 0) (s : Streams) (faults faults_after : Option (List ℕ)) (end : RunEnd) (status : ℕ) → ((bad_line : Option ℕ) → Whole bad_line → Begun)
+    → EndsAs Whole Begun s end → Reports end Silent faults faults_after status → EndsWith Whole Begun Silent s faults faults_after status
+ends_with Whole Begun Silent s faults faults_after ends.Done status begins h r = record {
+  done = λ _. (h.0, h.1, r.1);
+  refused = λ e. absurd (omega (arith, e, r.0));
+  failed = λ e. absurd (omega (arith, e, r.0));
+}
+ends_with Whole Begun Silent s faults faults_after (ends.BadLine line) status begins h (inl failed) = record {
+  done = λ e. absurd (omega (arith, e, failed));
+  refused = λ e. absurd (omega (arith, e, failed));
+  failed = λ _. begins (Some line) h;
+}
+ends_with Whole Begun Silent s faults faults_after (ends.BadLine line) status begins h (inr refused) = record {
+  done = λ e. absurd (omega (arith, e, refused.0));
+  refused = λ _. (line, h, refused.1);
+  failed = λ e. absurd (omega (arith, e, refused.0));
+}
+ends_with Whole Begun Silent s faults faults_after ends.Failed status begins h failed = record {
+  done = λ e. absurd (omega (arith, e, failed));
+  refused = λ e. absurd (omega (arith, e, failed));
+  failed = λ _. h;
+}
 
 -- the first letter of the first word
 abbrev first_letter : List (List ℕ) → ℕ
@@ -107,12 +137,6 @@ other_mode words more others e f = let letters : 116 ≡ 115 = ap first_letter (
 pub one_mode : (words : List (List ℕ)) (asked : Asked) (sizes : Sizes) → AsksFor words asked → AsksForSteps words sizes → ⊥
 one_mode words asked sizes traces steps =
     other_mode words (traces.digits ∷ traces.kind) (steps.queue ∷ steps.batch ∷ steps.producers ∷ []) traces.words_are steps.words_are
-
--- what was read onto nothing is the whole
-pub whole_read : (stream : Option (List ℕ)) (before now bytes : List ℕ) → before ≡ [] → bytes ≡ now
-    → IfSome stream (λ all. now ≡ before ++ all) → IfSome stream (λ all. bytes ≡ all)
-whole_read None before now bytes e f h = tt
-whole_read (Some all) before now bytes e f h = f ∙ h ∙ ap (λ b. b ++ all) e
 
 -- words name one processor
 named_once : (words : List (List ℕ)) (asked other : AskedProcessor) → NamesProcessor words asked → NamesProcessor words other → asked ≡ other
@@ -148,11 +172,25 @@ asks_once words asked other h k =
 pub found : {T E : Type 0} (P : T → Type 0) (made : Result T E) (value : T) → made ≡ Ok value → IfOk made P → P value
 found P made value e h = subst (λ m. IfOk m P) e h
 
--- what is traced under the provider that words ask for, is under any that they ask for
-pub traces_asked : {C D E : Type 0} (calls : Ghosts (MemoryProcessor C D)) (timer : timing.Ghosts (MemoryProcessor C D)) (sampler : sampling.Ghosts (SamplerOf E)) (ids : drawing.Ghosts (List ℕ)) (words : List (List ℕ)) (asked other : Asked)
-    (provider : ProviderState (MemoryProcessor C D) (SamplerOf E) (List ℕ)) (input input_after : Option (List ℕ)) (bad_line : Option ℕ)
-    (output output_after : Option (List ℕ)) → AsksFor words asked → AsksFor words other → IsProviderOf other provider
-    → TracesWhole calls timer memory_batches sampler ids provider input input_after bad_line output output_after
-    → TracesAsked calls timer sampler ids asked input input_after bad_line output output_after
-traces_asked calls timer sampler ids words asked other provider input input_after bad_line output output_after h k is traces =
-    subst (λ (a : Asked). TracesAsked calls timer sampler ids a input input_after bad_line output output_after) (asks_once words other asked k h) (provider, is, traces)
+module _ {C D E : Type 0} (calls : Calls (MemoryProcessor C D) (SamplerOf E) (List ℕ)) where
+  -- what is traced under the provider that words ask for, is under any that they ask for
+  pub traces_asked : (words : List (List ℕ)) (asked other : Asked) (provider : ProviderState (MemoryProcessor C D) (SamplerOf E) (List ℕ)) (s : Streams) (end : RunEnd) → AsksFor words asked → AsksFor words other → IsProviderOf other provider
+      → EndsAs (TracesWhole calls provider s) (TracesBegun calls provider s) s end → EndsAs (TracesAsked calls asked s) (BeginsAsked calls asked s) s end
+  traces_asked words asked other provider s end h k is traces = by end (subst (λ (a : Asked). IsProviderOf a provider) (asks_once words other asked k h) is) traces
+    where
+      by : (end : RunEnd) → IsProviderOf asked provider → EndsAs (TracesWhole calls provider s) (TracesBegun calls provider s) s end → EndsAs (TracesAsked calls asked s) (BeginsAsked calls asked s) s end
+      by ends.Done is traces = ((provider, is, traces.0), traces.1)
+      by (ends.BadLine line) is traces = (provider, is, traces)
+      by ends.Failed is traces = inr (provider, is, traces)
+
+  -- what such a provider's session wrote whole is a beginning
+  pub asked_begun : (asked : Asked) (s : Streams) (bad_line : Option ℕ) → TracesAsked calls asked s bad_line → BeginsAsked calls asked s
+  asked_begun asked s bad_line h = inr (h.0, h.1, all_begun calls (session_under calls.keeps h.0) s bad_line h.2)
+
+  -- no provider was made
+  pub none_asked : (asked : Asked) (input output faults : Option (List ℕ)) (Silent : Type 0) → EndsWith (TracesAsked calls asked (streams input input output output)) (BeginsAsked calls asked (streams input input output output)) Silent (streams input input output output) faults faults 1
+  none_asked asked input output faults Silent = record {
+    done = λ e. absurd (omega (arith, e));
+    refused = λ e. absurd (omega (arith, e));
+    failed = λ _. inl (Appends-nil output);
+  }

@@ -1,1 +1,6 @@
+pub mod Arguments
+pub mod Pieces
 pub mod Program
+pub mod StepRuns
+pub mod Streams
+pub mod TraceRuns

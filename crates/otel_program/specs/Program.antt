@@ -1,8 +1,7 @@
--- What the program does with its arguments and its three streams. Of the bytes of a stream it speaks where the stream
--- tells them.
-use Rattle.std.specs.Prelude.{◌≡◌, ℕ, false, List, [], ◌∷◌, ◌++◌, Option, IfSome, codes}
-use Rattle.std.specs.Fmt.{decimal}
-use Rattle.std.specs.Io.KnownBytes.{Appends, IsAtEnd}
+-- The provider that the mode `trace` is asked for, and what a session under it does with the streams. Of the bytes of a
+-- stream it speaks where the stream tells them.
+use Rattle.std.specs.Prelude.{◌≡◌, ◌⊎◌, ℕ, false, List, [], ◌∷◌, Option}
+use Rattle.std.specs.Io.KnownBytes.{Appends}
 use Rattle.rand_xoshiro.specs.SplitMix64.{splitmix_seed}
 use Rattle.rand_xoshiro.specs.Xoshiro256.{of_seed}
 use Rattle.otel_base.specs.Limits.{default_limits}
@@ -10,8 +9,8 @@ use Rattle.otel_base.specs.Sampler.{plan, always_on, parent_based}
 use Rattle.otel_base.specs.declared.trace.sampler.SamplerOf.{SamplerOf}
 use Rattle.otel_base.specs.declared.trace.sampler.ShouldSample as sampling
 use Rattle.otel_base.specs.declared.trace.id_generator.IdGenerator as drawing
-use Rattle.otel_batch.specs.MachineState.{Machine}
 use Rattle.otel_batch.specs.PlainBatchConfig.{PlainBatchConfig, cut_to_queue, default_batch_config}
+use Rattle.otel_export.specs.RecalledBatches.{exporter_recalled}
 use Rattle.otel_export.specs.StoredBatches.{StoredBatches}
 use Rattle.otel_export.specs.declared.trace.exporter_box.ExporterOf.{ExporterOf}
 use Rattle.otel_export.specs.declared.trace.exporter_box.ExporterOf.TheVariants as exporters
@@ -22,61 +21,15 @@ use Rattle.otel_kept.specs.declared.keeps_batches.KeepsBatches as keeping
 use Rattle.otel_pipeline.specs.declared.trace.span_processor.SpanProcessor.{Ghosts}
 use Rattle.opentelemetry_sdk.specs.BatchProcessor.{first_processor}
 use Rattle.opentelemetry_sdk.specs.KeptByKinds.{processor_keeps, processor_loses}
+use Rattle.opentelemetry_sdk.specs.RecalledByKinds.{processor_recalled}
 use Rattle.opentelemetry_sdk.specs.declared.trace.processor.ProcessorOf.{ProcessorOf}
 use Rattle.opentelemetry_sdk.specs.declared.trace.processor.ProcessorOf.TheVariants as kinds
-use Rattle.otel_lines.specs.Lines.{IsMoment}
-use Rattle.otel_session.specs.Calls.{calls_of}
-use Rattle.otel_session.specs.Closing.{Finishes}
-use Rattle.otel_session.specs.Turns.{session_under}
-use Rattle.otel_steps.specs.StepAnswers.{AnswersLines, machine_of}
-use Rattle.otel_steps.specs.declared.steps.Sizes.{Sizes}
+use Rattle.otel_session.specs.Calls.{Calls, calls_of}
+use Rattle.otel_program.specs.Streams.{Streams}
+use Rattle.otel_program.specs.TraceRuns.{TracesBegun, TracesWhole}
 use Rattle.otel_program.specs.declared.program.Asked.{Asked}
 use Rattle.otel_program.specs.declared.program.AskedProcessor.{AskedProcessor}
 use Rattle.otel_program.specs.declared.program.AskedProcessor.TheVariants as asks
-
--- the words of a processor: `simple`, or `batch Q B`
-abbrev pub NamesProcessor : List (List ℕ) → AskedProcessor → Type 0
-NamesProcessor words asks.Simple = words ≡ codes "simple" ∷ []
-NamesProcessor words (asks.Batch queue batch) =
-    (q : List ℕ) × (b : List ℕ) × IsMoment q queue × IsMoment b batch × (words ≡ codes "batch" ∷ q ∷ b ∷ [])
-
--- the words `trace SEED` and those of a processor. Seed and sizes are written as a moment is: in decimal digits alone,
--- in range of 64 bits
-pub record AsksFor (words : List (List ℕ)) (asked : Asked) : Type 0 where
-  pub digits : List ℕ
-  pub kind : List (List ℕ)
-  pub seed : IsMoment digits asked.seed
-  pub processor : NamesProcessor kind asked.processor
-  pub words_are : words ≡ codes "trace" ∷ digits ∷ kind
-
--- words that are no such ones
-abbrev pub AsksForNoTrace : List (List ℕ) → Type 0
-AsksForNoTrace words = (asked : Asked) → AsksFor words asked → ⊥
-
--- three numbers write these sizes
-abbrev pub WriteSizes : List ℕ → List ℕ → List ℕ → Sizes → Type 0
-WriteSizes queue batch producers sizes =
-    IsMoment queue sizes.queue × IsMoment batch sizes.batch × IsMoment producers sizes.producers
-
--- the words `steps Q B P`, where the sizes are written as a moment is
-pub record AsksForSteps (words : List (List ℕ)) (sizes : Sizes) : Type 0 where
-  pub queue : List ℕ
-  pub batch : List ℕ
-  pub producers : List ℕ
-  pub written : WriteSizes queue batch producers sizes
-  pub words_are : words ≡ codes "steps" ∷ queue ∷ batch ∷ producers ∷ []
-
--- words of neither kind
-abbrev pub AsksForNothing : List (List ℕ) → Type 0
-AsksForNothing words = AsksForNoTrace words × ((sizes : Sizes) → AsksForSteps words sizes → ⊥)
-
--- what is said of wrong words
-abbrev pub usage_text : List ℕ
-usage_text = codes "usage: otel_trace trace SEED simple | trace SEED batch Q B | steps Q B P" ++ 10 ∷ []
-
--- what is said of a bad line
-abbrev pub bad_line_text : ℕ → List ℕ
-bad_line_text line = codes "line " ++ (decimal line ++ (codes ": cannot read" ++ 10 ∷ []))
 
 -- what the program's processors are: one that exports into memory, each span as it ends or in batches, or one of any
 -- other kind
@@ -115,41 +68,23 @@ abbrev pub memory_batches : {C D : Type 0} → keeping.Ghosts (MemoryProcessor C
 memory_batches = record {
   kept = processor_keeps exporter_keeps;
   lost = processor_loses exporter_loses;
+  recalled = processor_recalled exporter_recalled;
 }
 
--- the whole of a stream's bytes, behind which the stream is at its end
-abbrev pub ReadsWhole : Option (List ℕ) → Option (List ℕ) → List ℕ → Type 0
-ReadsWhole before after bytes = IfSome before (λ all. bytes ≡ all) × IsAtEnd after
+-- what is said of the calls of such a processor, and of the sampler and the source of ids beside it
+abbrev pub memory_calls : {C D E : Type 0} → Ghosts (MemoryProcessor C D) → timing.Ghosts (MemoryProcessor C D)
+    → sampling.Ghosts (SamplerOf E) → drawing.Ghosts (List ℕ) → Calls (MemoryProcessor C D) (SamplerOf E) (List ℕ)
+memory_calls processor timer sampler ids = calls_of processor timer memory_batches sampler ids
 
-module _ {P S G : Type 0} (calls : Ghosts P) (timer : timing.Ghosts P) (keeps : keeping.Ghosts P)
-    (sampler : sampling.Ghosts S) (ids : drawing.Ghosts G) where
-  -- a writer was given what a session under a provider writes for an input, whole or up to its first bad line, and
-  -- when it closes, and nothing else
-  abbrev pub WritesText : ProviderState P S G → List ℕ → Option ℕ → Option (List ℕ) → Option (List ℕ) → Type 0
-  WritesText provider input bad_line before after = (text : List ℕ)
-      × Finishes (calls_of calls timer keeps sampler ids) (session_under keeps provider) input bad_line text
-      × Appends before after text
+module _ {C D E : Type 0} (calls : Calls (MemoryProcessor C D) (SamplerOf E) (List ℕ)) (asked : Asked) where
+  -- the output was given what a session writes for the whole input, under the provider that is asked for
+  abbrev pub TracesAsked : Streams → Option ℕ → Type 0
+  TracesAsked s bad_line = (provider : ProviderState (MemoryProcessor C D) (SamplerOf E) (List ℕ))
+      × IsProviderOf asked provider × TracesWhole calls provider s bad_line
 
-  -- the whole input was read, and the output was given what a session under a provider writes for it
-  abbrev pub TracesWhole : ProviderState P S G → Option (List ℕ) → Option (List ℕ) → Option ℕ
-      → Option (List ℕ) → Option (List ℕ) → Type 0
-  TracesWhole provider input input_after bad_line output output_after = (bytes : List ℕ)
-      × ReadsWhole input input_after bytes × WritesText provider bytes bad_line output output_after
-
--- the same under the provider that is asked for
-abbrev pub TracesAsked : {C D E : Type 0} → Ghosts (MemoryProcessor C D) → timing.Ghosts (MemoryProcessor C D)
-    → sampling.Ghosts (SamplerOf E) → drawing.Ghosts (List ℕ) → Asked → Option (List ℕ) → Option (List ℕ) → Option ℕ
-    → Option (List ℕ) → Option (List ℕ) → Type 0
-TracesAsked {C} {D} {E} calls timer sampler ids asked input input_after bad_line output output_after =
-    (provider : ProviderState (MemoryProcessor C D) (SamplerOf E) (List ℕ)) × IsProviderOf asked provider
-    × TracesWhole calls timer memory_batches sampler ids provider input input_after bad_line output output_after
-
--- the whole input was read, and the output was given what answers its lines, as they step a new batch queue
-pub record StepsSized (sizes : Sizes) (input input_after : Option (List ℕ)) (bad_line : Option ℕ)
-    (output output_after : Option (List ℕ)) : Type 0 where
-  pub bytes : List ℕ
-  pub answers : List ℕ
-  pub after : Machine StoredBatches
-  pub read : ReadsWhole input input_after bytes
-  pub answered : AnswersLines (machine_of sizes) bytes bad_line answers after
-  pub written : Appends output output_after answers
+  -- the output was given a beginning of what such a session writes for a beginning of the input; or nothing, where
+  -- there was no memory for the provider
+  abbrev pub BeginsAsked : Streams → Type 0
+  BeginsAsked s = Appends s.output s.output_after []
+      ⊎ ((provider : ProviderState (MemoryProcessor C D) (SamplerOf E) (List ℕ))
+      × IsProviderOf asked provider × TracesBegun calls provider s)

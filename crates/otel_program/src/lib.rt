@@ -1,6 +1,11 @@
 //! `run_program` is all of the program `otel_trace` but the words and streams that it is given.
 #![tactic(auto)]
 
+mod counted;
+mod pieces;
 pub mod program;
+pub mod run_end;
+mod step_stream;
+mod trace_stream;
 
 pub use program::run_program;

@@ -1,32 +1,33 @@
-//! What the program does with its arguments and its three streams. It reads the whole input, feeds it to one session
-//! and closes that, or has its lines step one batch queue, and then writes the output and behind it what was wrong.
+//! What the program does with its arguments and its three streams. It feeds its lines to one session as they come and
+//! closes that, or has them step one batch queue, and at the end says what was wrong.
 
 ghost use Rattle.std.specs.Prelude.{◌≡◌, ◌≢◌, ◌⊎◌, ◌≤◌, ℕ, List, Some, None, IfOk, IfSome, OnOk, MatchOption, false, true, map, string_bytes};
-ghost use Rattle.std.specs.Io.KnownBytes.{Appends, IsAtEnd};
-ghost use Rattle.otel_batch.specs.MachineState.{Machine};
-ghost use Rattle.otel_export.specs.StoredBatches.{StoredBatches};
-ghost use Rattle.otel_session.specs.Calls.{calls_of};
-ghost use Rattle.otel_session.specs.Closing.{Finishes};
-ghost use Rattle.otel_session.specs.Turns.{session_under};
-ghost use Rattle.otel_program.specs.Program.{
+ghost use Rattle.std.specs.Io.KnownBytes.{Appends};
+ghost use Rattle.otel_program.specs.Arguments.{
   AsksFor,
   AsksForNoTrace,
   AsksForNothing,
   AsksForSteps,
-  IsProviderOf,
   NamesProcessor,
-  SamplesRoots,
-  StepsSized,
-  TracesAsked,
-  TracesWhole,
   WriteSizes,
-  WritesText,
   bad_line_text,
-  processor_of,
   usage_text,
 };
-ghost use Rattle.otel_steps.specs.StepAnswers.{AnswersLines, machine_of};
+ghost use Rattle.otel_program.specs.Program.{
+  BeginsAsked,
+  IsProviderOf,
+  SamplesRoots,
+  TracesAsked,
+  memory_calls,
+  processor_of,
+};
+ghost use Rattle.otel_program.specs.StepRuns.{StepsBegun, StepsSized};
+ghost use Rattle.otel_program.specs.Streams.{EndsWith, Reports, Streams, streams};
 
+use crate::pieces::write_whole;
+use crate::run_end::RunEnd;
+use crate::step_stream::step_input;
+use crate::trace_stream::trace_input;
 use opentelemetry::trace::{Link, SpanKind, TraceState};
 use opentelemetry::{Context, KeyValue, TraceId};
 use opentelemetry_sdk::trace::{BatchSpanProcessor, ProcessorOf};
@@ -41,13 +42,9 @@ use otel_export::trace::{ExporterOf, InMemorySpanExporter, SpanData, SpanExporte
 use otel_kept::KeepsBatches;
 use otel_lines::lines::number_of;
 use otel_pipeline::trace::provider::provider_over;
-use otel_pipeline::trace::{
-    DrainDue, ProviderOf, SimpleSpanProcessor, SpanProcessor,
-};
-use otel_session::{FeedError, Session};
-use otel_steps::{Sizes, answer_lines, machine_sized};
+use otel_pipeline::trace::{DrainDue, ProviderOf, SimpleSpanProcessor, SpanProcessor};
+use otel_steps::Sizes;
 use std::alloc::{AllocError, Global};
-use std::io;
 use std::io::{Read, Write};
 use std::time::Duration;
 
@@ -139,21 +136,11 @@ pub enum AskedProcessor {
     Batch { queue: usize, batch: usize },
 }
 
-/// How a session or a batch queue over the whole input ended.
-#[derive(Debug, Drop)]
-struct ProgramOutput {
-    /// The texts of the replies and the lines of closing, or the answers to steps.
-    text: Vec<u8>,
-    /// The first bad line.
-    bad_line: Option<u64>,
-    /// Memory was missing, a processor refused a span, a batch was lost, or the session closed with an error.
-    has_failed: bool,
-}
-
 /// Runs the program over any reader and writers, and answers its exit status: 0 at the end of the input; 2 for a bad
 /// line or wrong arguments; 1 where reading, writing or the closing fails, memory is missing or a batch was lost, also
 /// where 2 would be due. `words` are the arguments without the program's name; wrong ones are found before anything is
-/// read. How far a run of status 1 came is left open.
+/// read. Lines are answered as they come: what answers them is written and sent on before more is read, and a run of
+/// status 1 has written a beginning. Behind a bad line nothing is read.
 pub fn run_program<R: Read, W: Write, F: Write>(
     alloc: Global,
     words: &[String],
@@ -162,45 +149,40 @@ pub fn run_program<R: Read, W: Write, F: Write>(
     faults: &mut F,
 ) -> u8
     ensures status { result ≤ 2 }
-
-    // Wrong arguments.
-    ensures unread { AsksForNothing (map string_bytes words.now) →
-        (input.new ≡ input.old) × (output.new ≡ output.old) }
     ensures usage { AsksForNothing (map string_bytes words.now) →
-        (result ≢ 0) × (result ≡ 2 → Appends (F.contents faults.old) (F.contents faults.new) usage_text) }
+        (input.new ≡ input.old) × (output.new ≡ output.old) × (result ≢ 0)
+        × (result ≡ 2 → Appends (F.contents faults.old) (F.contents faults.new) usage_text) }
 
-    // One session over the whole input.
-    ensures done { (asked : Asked) → AsksFor (map string_bytes words.now) asked → result ≡ 0 →
-        TracesAsked ⟦<TraceProcessor as SpanProcessor>⟧
+    // One session.
+    ensures trace { (asked : Asked) → AsksFor (map string_bytes words.now) asked →
+        let s : Streams = streams (R.remaining input.old) (R.remaining input.new)
+        (W.contents output.old) (W.contents output.new) in
+        EndsWith
+        (TracesAsked (memory_calls ⟦<TraceProcessor as SpanProcessor>⟧
         (record { due_gives = ⟦<TraceProcessor as DrainDue>⟧.due_gives })
-        ⟦<TraceSampler as ShouldSample>⟧ ⟦<RandomIdGenerator as IdGenerator>⟧ asked
-        (R.remaining input.old) (R.remaining input.new)
-        None (W.contents output.old) (W.contents output.new)
-        × (faults.new ≡ faults.old) }
-    ensures bad_line { (asked : Asked) → AsksFor (map string_bytes words.now) asked → result ≡ 2 → (line : ℕ)
-        × TracesAsked ⟦<TraceProcessor as SpanProcessor>⟧
+        ⟦<TraceSampler as ShouldSample>⟧ ⟦<RandomIdGenerator as IdGenerator>⟧) asked s)
+        (BeginsAsked (memory_calls ⟦<TraceProcessor as SpanProcessor>⟧
         (record { due_gives = ⟦<TraceProcessor as DrainDue>⟧.due_gives })
-        ⟦<TraceSampler as ShouldSample>⟧ ⟦<RandomIdGenerator as IdGenerator>⟧ asked
-        (R.remaining input.old) (R.remaining input.new)
-        (Some line) (W.contents output.old) (W.contents output.new)
-        × Appends (F.contents faults.old) (F.contents faults.new) (bad_line_text line) }
+        ⟦<TraceSampler as ShouldSample>⟧ ⟦<RandomIdGenerator as IdGenerator>⟧) asked s)
+        (faults.new ≡ faults.old) s (F.contents faults.old) (F.contents faults.new) result }
 
-    // One batch queue over the whole input.
-    ensures steps_done { (sizes : Sizes) → AsksForSteps (map string_bytes words.now) sizes → result ≡ 0 →
-        StepsSized sizes (R.remaining input.old) (R.remaining input.new)
-        None (W.contents output.old) (W.contents output.new)
-        × (faults.new ≡ faults.old) }
-    ensures steps_bad_line { (sizes : Sizes) → AsksForSteps (map string_bytes words.now) sizes → result ≡ 2
-        → (line : ℕ) × StepsSized sizes (R.remaining input.old) (R.remaining input.new)
-        (Some line) (W.contents output.old) (W.contents output.new)
-        × Appends (F.contents faults.old) (F.contents faults.new) (bad_line_text line) }
+    // One batch queue.
+    ensures steps { (sizes : Sizes) → AsksForSteps (map string_bytes words.now) sizes →
+        let s : Streams = streams (R.remaining input.old) (R.remaining input.new)
+        (W.contents output.old) (W.contents output.new) in
+        EndsWith (StepsSized sizes s) (StepsBegun sizes s) (faults.new ≡ faults.old) s
+        (F.contents faults.old) (F.contents faults.new) result }
 {
     if let Some(sizes) = sizes_of(words) {
-        return step_input(alloc, sizes, input, output, faults);
+        let end = step_input(alloc, sizes, input, output);
+        return status_of(alloc, end, faults);
     }
     match provider_for(alloc, words) {
         None => refuse(faults, USAGE),
-        Some(Ok(provider)) => trace_input(alloc, provider, input, output, faults),
+        Some(Ok(provider)) => {
+            let end = trace_input(alloc, provider, input, output);
+            status_of(alloc, end, faults)
+        }
         Some(Err(_)) => FAILED,
     }
 }
@@ -274,138 +256,15 @@ fn sizes_in(queue: &str, batch: &str, producers: &str) -> Option<Sizes>
     })
 }
 
-/// Answers the whole input by the steps of one batch queue.
-fn step_input<R: Read, W: Write, F: Write>(
-    alloc: Global,
-    sizes: Sizes,
-    input: &mut R,
-    output: &mut W,
-    faults: &mut F,
-) -> u8
-    ensures status { result ≤ 2 }
-    ensures done { result ≡ 0 →
-        StepsSized sizes (R.remaining input.old) (R.remaining input.new)
-        None (W.contents output.old) (W.contents output.new)
-        × (faults.new ≡ faults.old) }
-    ensures bad_line { result ≡ 2 → (line : ℕ)
-        × StepsSized sizes (R.remaining input.old) (R.remaining input.new)
-        (Some line) (W.contents output.old) (W.contents output.new)
-        × Appends (F.contents faults.old) (F.contents faults.new) (bad_line_text line) }
+/// Names a bad line, and answers the status for how a run ended.
+fn status_of<F: Write>(alloc: Global, end: RunEnd, faults: &mut F) -> u8
+    ensures { Reports end (faults.new ≡ faults.old) (F.contents faults.old) (F.contents faults.new) result }
 {
-    let mut bytes = Vec::new(alloc);
-    if input.read_to_end(&mut bytes).is_err() {
-        return FAILED;
+    match end {
+        RunEnd::Done => DONE,
+        RunEnd::BadLine(line) => name_bad_line(alloc, line, faults),
+        RunEnd::Failed => FAILED,
     }
-    let outcome = run_steps(alloc, sizes, &bytes);
-    write_outcome(alloc, outcome, output, faults)
-}
-
-/// One batch queue, stepped by the lines of an input.
-fn run_steps(alloc: Global, sizes: Sizes, input: &[u8]) -> ProgramOutput
-    ensures { result.has_failed ≡ false →
-        (after : Machine StoredBatches)
-        × AnswersLines (machine_of sizes) input.now result.bad_line result.text.items after }
-{
-    let Ok(mut machine) = machine_sized(alloc, sizes) else {
-        return failed(alloc);
-    };
-    let mut text = Vec::new(alloc);
-    match answer_lines(alloc, &mut machine, input, &mut text) {
-        Ok(bad_line) => ProgramOutput {
-            text,
-            bad_line,
-            has_failed: false,
-        },
-        Err(_) => ProgramOutput {
-            text,
-            bad_line: None,
-            has_failed: true,
-        },
-    }
-}
-
-/// Answers the whole input by one session under a provider.
-fn trace_input<P: KeepsBatches, S: ShouldSample, G: IdGenerator, R: Read, W: Write, F: Write>(
-    alloc: Global,
-    provider: ProviderOf<P, S, G>,
-    input: &mut R,
-    output: &mut W,
-    faults: &mut F,
-) -> u8
-    ensures status { result ≤ 2 }
-    ensures done { result ≡ 0 →
-        TracesWhole P.SpanProcessor P.DrainDue.own P.KeepsBatches.own S.ShouldSample G.IdGenerator provider
-        (R.remaining input.old) (R.remaining input.new)
-        None (W.contents output.old) (W.contents output.new)
-        × (faults.new ≡ faults.old) }
-    ensures bad_line { result ≡ 2 → (line : ℕ)
-        × TracesWhole P.SpanProcessor P.DrainDue.own P.KeepsBatches.own S.ShouldSample G.IdGenerator provider
-        (R.remaining input.old) (R.remaining input.new)
-        (Some line) (W.contents output.old) (W.contents output.new)
-        × Appends (F.contents faults.old) (F.contents faults.new) (bad_line_text line) }
-{
-    let mut bytes = Vec::new(alloc);
-    if input.read_to_end(&mut bytes).is_err() {
-        let _ = provider.close();
-        return FAILED;
-    }
-    answer_input(alloc, provider, &bytes, output, faults)
-}
-
-/// Answers an input by one session under a provider.
-fn answer_input<P: KeepsBatches, S: ShouldSample, G: IdGenerator, W: Write, F: Write>(
-    alloc: Global,
-    provider: ProviderOf<P, S, G>,
-    input: &[u8],
-    output: &mut W,
-    faults: &mut F,
-) -> u8
-    ensures status { result ≤ 2 }
-    ensures done { result ≡ 0 →
-        WritesText P.SpanProcessor P.DrainDue.own P.KeepsBatches.own S.ShouldSample G.IdGenerator provider input.now
-        None (W.contents output.old) (W.contents output.new)
-        × (faults.new ≡ faults.old) }
-    ensures bad_line { result ≡ 2 → (line : ℕ)
-        × WritesText P.SpanProcessor P.DrainDue.own P.KeepsBatches.own S.ShouldSample G.IdGenerator provider input.now
-        (Some line) (W.contents output.old) (W.contents output.new)
-        × Appends (F.contents faults.old) (F.contents faults.new) (bad_line_text line) }
-{
-    let outcome = run_session(alloc, provider, input);
-    write_outcome(alloc, outcome, output, faults)
-}
-
-/// Writes what an input came to, and answers the status for it.
-fn write_outcome<W: Write, F: Write>(
-    alloc: Global,
-    outcome: ProgramOutput,
-    output: &mut W,
-    faults: &mut F,
-) -> u8
-    ensures status { result ≤ 2 }
-    ensures done { result ≡ 0 → (outcome.has_failed ≡ false) × (outcome.bad_line ≡ None)
-        × Appends (W.contents output.old) (W.contents output.new) outcome.text.items
-        × (faults.new ≡ faults.old) }
-    ensures bad_line { result ≡ 2 → (outcome.has_failed ≡ false) × ((line : ℕ)
-        × (outcome.bad_line ≡ Some line)
-        × Appends (W.contents output.old) (W.contents output.new) outcome.text.items
-        × Appends (F.contents faults.old) (F.contents faults.new) (bad_line_text line)) }
-{
-    if write_whole(output, &outcome.text).is_err() {
-        return FAILED;
-    }
-    let status = match outcome.bad_line {
-        None => DONE,
-        Some(line) => name_bad_line(alloc, line, faults),
-    };
-    if outcome.has_failed { FAILED } else { status }
-}
-
-/// Writes bytes and sends them on.
-fn write_whole<W: Write>(writer: &mut W, bytes: &[u8]) -> io::Result<()>
-    ensures { OnOk result (Appends (W.contents writer.old) (W.contents writer.new) bytes.now) }
-{
-    writer.write_all(bytes)?;
-    writer.flush()
 }
 
 /// Writes what was wrong, and answers the status for it.
@@ -427,69 +286,6 @@ fn name_bad_line<F: Write>(alloc: Global, line: u64, faults: &mut F) -> u8
     match format!(in alloc; "line {line}: cannot read\n") {
         Ok(text) => refuse(faults, text.as_str()),
         Err(_) => FAILED,
-    }
-}
-
-/// One session under a provider.
-fn run_session<P: KeepsBatches, S: ShouldSample, G: IdGenerator>(
-    alloc: Global,
-    provider: ProviderOf<P, S, G>,
-    input: &[u8],
-) -> ProgramOutput
-    ensures { result.has_failed ≡ false →
-        Finishes (calls_of P.SpanProcessor P.DrainDue.own P.KeepsBatches.own S.ShouldSample G.IdGenerator)
-        (session_under P.KeepsBatches.own provider)
-        input.now result.bad_line result.text.items }
-{
-    match Session::new(alloc, provider) {
-        Ok(session) => finish(alloc, session, input),
-        Err((provider, _)) => {
-            let _ = provider.close();
-            failed(alloc)
-        }
-    }
-}
-
-/// What a session or a batch queue that could not be made comes to.
-fn failed(alloc: Global) -> ProgramOutput
-    ensures { result.has_failed ≡ true }
-{
-    ProgramOutput {
-        text: Vec::new(alloc),
-        bad_line: None,
-        has_failed: true,
-    }
-}
-
-/// Feeds the whole input to a session and closes it.
-fn finish<P: KeepsBatches, S: ShouldSample, G: IdGenerator>(
-    alloc: Global,
-    mut session: Session<P, S, G>,
-    input: &[u8],
-) -> ProgramOutput
-    ensures { result.has_failed ≡ false →
-        Finishes (calls_of P.SpanProcessor P.DrainDue.own P.KeepsBatches.own S.ShouldSample G.IdGenerator)
-        session input.now result.bad_line result.text.items }
-{
-    let mut text = Vec::new(alloc);
-    let fed = session.feed(input, &mut text);
-    let has_closed = session.close(&mut text).is_ok();
-    match fed {
-        Ok(()) => ProgramOutput {
-            text,
-            bad_line: None,
-            has_failed: !has_closed,
-        },
-        Err(FeedError::Line(line)) => ProgramOutput {
-            text,
-            bad_line: Some(line),
-            has_failed: !has_closed,
-        },
-        Err(FeedError::Memory | FeedError::Refused | FeedError::BatchLost) => ProgramOutput {
-            text,
-            bad_line: None,
-            has_failed: true,
-        },
     }
 }
 

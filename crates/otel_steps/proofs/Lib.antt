@@ -1,3 +1,4 @@
+pub mod JoinedSteps
 pub mod StepFields
 pub mod StepFollowing
 pub mod StepTexts

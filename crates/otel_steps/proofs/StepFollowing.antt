@@ -11,7 +11,7 @@ use Rattle.otel_steps.specs.declared.steps.lines.Order.{Order}
 use Rattle.otel_steps.specs.declared.steps.lines.Order.TheVariants as orders
 
 -- lines, and others behind them
-obeys_append : (m middle after : Machine StoredBatches) (number : ℕ) (done more : List (List ℕ)) (bad_line : Option ℕ) (answers rest : List ℕ) → ObeysEach m number done None answers middle → ObeysEach middle (number + length done) more bad_line rest after
+pub obeys_append : (m middle after : Machine StoredBatches) (number : ℕ) (done more : List (List ℕ)) (bad_line : Option ℕ) (answers rest : List ℕ) → ObeysEach m number done None answers middle → ObeysEach middle (number + length done) more bad_line rest after
     → ObeysEach m number (done ++ more) bad_line (answers ++ rest) after
 obeys_append m middle after number [] more bad_line answers rest h f =
     let none : number + 0 ≡ number = omega arith in

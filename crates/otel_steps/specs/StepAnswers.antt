@@ -89,3 +89,11 @@ pub record AnswersBeginning (m : Machine StoredBatches) (text answers : List ℕ
   pub parts : lines text ≡ done ++ last ∷ left
   pub obeyed : ObeysEach m 0 done None answers middle
   pub untold : MayObey middle last after
+
+-- these answers are those to a beginning of the lines of a text
+pub record BeginsAnswers (m : Machine StoredBatches) (text answers : List ℕ) : Type 0 where
+  pub done : List (List ℕ)
+  pub left : List (List ℕ)
+  pub after : Machine StoredBatches
+  pub parts : lines text ≡ done ++ left
+  pub obeyed : ObeysEach m 0 done None answers after

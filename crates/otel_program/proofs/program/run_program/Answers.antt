@@ -1,63 +1,39 @@
 use Rattle.std.proofs.Common.{Some, None, rules}
-use Rattle.otel_program.proofs.ProgramLemmas.{found, one_mode, steps_sized, traces_asked}
+use Rattle.otel_program.proofs.ProgramLemmas.{asked_begun, ends_with, found, one_mode, steps_sized, traces_asked}
+use Rattle.otel_program.proofs.StepStream.{all_begun}
+use Rattle.otel_program.specs.StepRuns.{StepsBegun, StepsSized}
+use Rattle.otel_program.specs.Streams.{streams}
+use Rattle.otel_steps.specs.StepAnswers.{machine_of}
 use Rattle.otel_program.specs.Program.{IsProviderOf}
 use Rattle.otel_program.proofs.program.run_program.Goals as goal
-
-pub returns-in-Some-clause-unread : goal.returns-in-Some-clause-unread
-returns-in-Some-clause-unread g c = λ nothing. absurd (nothing.1 c.in-Some.sizes c.in-Some.ensures)
 
 pub returns-in-Some-clause-usage : goal.returns-in-Some-clause-usage
 returns-in-Some-clause-usage g c = λ nothing. absurd (nothing.1 c.in-Some.sizes c.in-Some.ensures)
 
-pub returns-in-Some-clause-done : goal.returns-in-Some-clause-done
-returns-in-Some-clause-done g c = λ asked asks _. absurd (one_mode _ asked c.in-Some.sizes asks c.in-Some.ensures)
+pub returns-in-Some-clause-trace : goal.returns-in-Some-clause-trace
+returns-in-Some-clause-trace g c = λ asked asks. absurd (one_mode _ asked c.in-Some.sizes asks c.in-Some.ensures)
 
-pub returns-in-Some-clause-bad_line : goal.returns-in-Some-clause-bad_line
-returns-in-Some-clause-bad_line g c = λ asked asks _. absurd (one_mode _ asked c.in-Some.sizes asks c.in-Some.ensures)
+pub returns-in-Some-clause-steps : goal.returns-in-Some-clause-steps
+returns-in-Some-clause-steps g c = λ sizes asks.
+    let s = streams (g.R.Read.remaining c.args.input.now) (g.R.Read.remaining c.step_input-end.new.input) (g.W.Write.contents c.args.output.now) (g.W.Write.contents c.step_input-end.new.output) in
+    ends_with (StepsSized sizes s) (StepsBegun sizes s) _ s _ _ c.step_input-end.result c.status_of.result (λ bad_line h. all_begun (machine_of sizes) s bad_line h)
+    (steps_sized _ sizes c.in-Some.sizes s c.step_input-end.result asks c.in-Some.ensures c.step_input-end.ensures) c.status_of.ensures
 
-pub returns-in-Some-clause-steps_done : goal.returns-in-Some-clause-steps_done
-returns-in-Some-clause-steps_done g c = λ sizes asks e. (
-  steps_sized _ sizes c.in-Some.sizes _ _ None _ _ asks c.in-Some.ensures (c.step_input.ensures.done e).0,
-  (c.step_input.ensures.done e).1,
-)
-
-pub returns-in-Some-clause-steps_bad_line : goal.returns-in-Some-clause-steps_bad_line
-returns-in-Some-clause-steps_bad_line g c = λ sizes asks e. (
-  (c.step_input.ensures.bad_line e).0,
-  steps_sized _ sizes c.in-Some.sizes _ _ (Some (c.step_input.ensures.bad_line e).0) _ _ asks c.in-Some.ensures (c.step_input.ensures.bad_line e).1,
-  (c.step_input.ensures.bad_line e).2,
-)
-
-pub returns-in-None-clause-bad_line : goal.returns-in-None-clause-bad_line
-returns-in-None-clause-bad_line g c = λ asked asks _. absurd (c.in-None.ensures asked asks)
-
-pub returns-in-Some-Ok-clause-unread : goal.returns-in-Some-Ok-clause-unread
-returns-in-Some-Ok-clause-unread g c = λ nothing. absurd (nothing.0 c.in-Some-Ok.ensures.0 c.in-Some-Ok.ensures.1)
+pub returns-in-None-clause-trace : goal.returns-in-None-clause-trace
+returns-in-None-clause-trace g c = λ asked asks. absurd (c.in-None.ensures asked asks)
 
 pub returns-in-Some-Ok-clause-usage : goal.returns-in-Some-Ok-clause-usage
 returns-in-Some-Ok-clause-usage g c = λ nothing. absurd (nothing.0 c.in-Some-Ok.ensures.0 c.in-Some-Ok.ensures.1)
 
-pub returns-in-Some-Ok-clause-done : goal.returns-in-Some-Ok-clause-done
-returns-in-Some-Ok-clause-done g c = λ asked asks e. (
-  traces_asked _ _ _ _ _ asked c.in-Some-Ok.ensures.0 c.in-Some-Ok.provider _ _ None _ _ asks c.in-Some-Ok.ensures.1 (found (IsProviderOf c.in-Some-Ok.ensures.0) c.in-Some-Ok.field-0 c.in-Some-Ok.provider (search rules) c.in-Some-Ok.ensures.2) (c.trace_input.ensures.done e).0,
-  (c.trace_input.ensures.done e).1,
-)
+pub returns-in-None-clause-steps : goal.returns-in-None-clause-steps
+returns-in-None-clause-steps g c = λ sizes asks. absurd (c.in_default.ensures sizes asks)
 
-pub returns-in-Some-Ok-clause-bad_line : goal.returns-in-Some-Ok-clause-bad_line
-returns-in-Some-Ok-clause-bad_line g c = λ asked asks e. (
-  (c.trace_input.ensures.bad_line e).0,
-  traces_asked _ _ _ _ _ asked c.in-Some-Ok.ensures.0 c.in-Some-Ok.provider _ _ (Some (c.trace_input.ensures.bad_line e).0) _ _ asks c.in-Some-Ok.ensures.1 (found (IsProviderOf c.in-Some-Ok.ensures.0) c.in-Some-Ok.field-0 c.in-Some-Ok.provider (search rules) c.in-Some-Ok.ensures.2) (c.trace_input.ensures.bad_line e).1,
-  (c.trace_input.ensures.bad_line e).2,
-)
+pub returns-in-Some-Ok-clause-steps : goal.returns-in-Some-Ok-clause-steps
+returns-in-Some-Ok-clause-steps g c = λ sizes asks. absurd (c.in_default.ensures sizes asks)
 
-pub returns-in-None-clause-steps_done : goal.returns-in-None-clause-steps_done
-returns-in-None-clause-steps_done g c = λ sizes asks _. absurd (c.in_default.ensures sizes asks)
-
-pub returns-in-None-clause-steps_bad_line : goal.returns-in-None-clause-steps_bad_line
-returns-in-None-clause-steps_bad_line g c = λ sizes asks _. absurd (c.in_default.ensures sizes asks)
-
-pub returns-in-Some-Ok-clause-steps_done : goal.returns-in-Some-Ok-clause-steps_done
-returns-in-Some-Ok-clause-steps_done g c = λ sizes asks _. absurd (c.in_default.ensures sizes asks)
-
-pub returns-in-Some-Ok-clause-steps_bad_line : goal.returns-in-Some-Ok-clause-steps_bad_line
-returns-in-Some-Ok-clause-steps_bad_line g c = λ sizes asks _. absurd (c.in_default.ensures sizes asks)
+pub returns-in-Some-Ok-clause-trace : goal.returns-in-Some-Ok-clause-trace
+returns-in-Some-Ok-clause-trace g c = λ asked asks.
+    let s = streams (g.R.Read.remaining c.args.input.now) (g.R.Read.remaining c.trace_input-end.new.input) (g.W.Write.contents c.args.output.now) (g.W.Write.contents c.trace_input-end.new.output) in
+    ends_with _ _ _ s _ _ c.trace_input-end.result c.status_of-in-Some-Ok.result (λ bad_line h. asked_begun _ asked s bad_line h)
+    (traces_asked _ _ asked c.in-Some-Ok.ensures.0 c.in-Some-Ok.provider s c.trace_input-end.result asks c.in-Some-Ok.ensures.1
+    (found (IsProviderOf c.in-Some-Ok.ensures.0) c.in-Some-Ok.field-0 c.in-Some-Ok.provider (search rules) c.in-Some-Ok.ensures.2) c.trace_input-end.ensures) c.status_of-in-Some-Ok.ensures

@@ -1,0 +1,10 @@
+-- What was given so far was carried out, and its replies were written.
+use Rattle.otel_session.specs.Calls.{calls_of}
+use Rattle.otel_program.specs.Streams.{streams}
+use Rattle.otel_program.proofs.TraceStream.{HasTraced}
+use Rattle.otel_program.proofs.trace_stream.feed_pieces.Given as goal
+
+abbrev pub invariant-loop : goal.invariant-loop
+invariant-loop g l =
+    HasTraced (calls_of g.P.SpanProcessor g.P.DrainDue g.P.KeepsBatches g.S.ShouldSample g.G.IdGenerator) (l.fn.session) (l.session)
+    (streams (g.R.Read.remaining l.fn.input) (g.R.Read.remaining l.input) (g.W.Write.contents l.fn.output) (g.W.Write.contents l.output)) l.pieces.rest l.before

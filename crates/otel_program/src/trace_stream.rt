@@ -1,0 +1,153 @@
+//! The mode `trace` as a stream: lines are carried out as they come, and their replies are written and sent on before
+//! more is read. A session then forgets what it has shown.
+
+ghost use Rattle.std.specs.Prelude.{IfOk, OnErr, Result};
+ghost use Rattle.std.specs.Io.KnownBytes.{Appends};
+ghost use Rattle.otel_program.specs.Pieces.{AppendsBeginning};
+ghost use Rattle.otel_program.specs.Streams.{EndsAs, Streams, streams};
+ghost use Rattle.otel_program.specs.TraceRuns.{
+  CarriesOutSome,
+  FedAs,
+  FeedsPiece,
+  TracesAll,
+  TracesBegun,
+  TracesSome,
+  TracesWhole,
+};
+ghost use Rattle.otel_session.specs.Calls.{calls_of};
+ghost use Rattle.otel_session.specs.declared.session.FeedError.{FeedError};
+
+use crate::counted::{bad_line_behind, lines_counted};
+use crate::pieces::{Pieces, write_whole};
+use crate::run_end::RunEnd;
+use otel_base::trace::{IdGenerator, ShouldSample};
+use otel_kept::KeepsBatches;
+use otel_pipeline::trace::ProviderOf;
+use otel_session::{FeedError, Session};
+use std::alloc::Global;
+use std::io;
+use std::io::{Read, Write};
+
+/// Carries out the lines of an input by one session under a provider.
+pub fn trace_input<P: KeepsBatches, S: ShouldSample, G: IdGenerator, R: Read, W: Write>(
+    alloc: Global,
+    provider: ProviderOf<P, S, G>,
+    input: &mut R,
+    output: &mut W,
+) -> RunEnd
+    ensures { let s : Streams = streams (R.remaining input.old) (R.remaining input.new)
+        (W.contents output.old) (W.contents output.new) in
+        EndsAs
+        (TracesWhole (calls_of P.SpanProcessor P.DrainDue.own P.KeepsBatches.own S.ShouldSample G.IdGenerator)
+        provider s)
+        (TracesBegun (calls_of P.SpanProcessor P.DrainDue.own P.KeepsBatches.own S.ShouldSample G.IdGenerator)
+        provider s) s result }
+{
+    match Session::new(alloc, provider) {
+        Ok(session) => trace_session(alloc, session, input, output),
+        Err((provider, _)) => {
+            let _ = provider.close();
+            RunEnd::Failed
+        }
+    }
+}
+
+/// Carries out the lines of an input by a session, and closes that.
+fn trace_session<P: KeepsBatches, S: ShouldSample, G: IdGenerator, R: Read, W: Write>(
+    alloc: Global,
+    mut session: Session<P, S, G>,
+    input: &mut R,
+    output: &mut W,
+) -> RunEnd
+    ensures { let s : Streams = streams (R.remaining input.old) (R.remaining input.new)
+        (W.contents output.old) (W.contents output.new) in
+        EndsAs
+        (TracesAll (calls_of P.SpanProcessor P.DrainDue.own P.KeepsBatches.own S.ShouldSample G.IdGenerator)
+        session s)
+        (TracesSome (calls_of P.SpanProcessor P.DrainDue.own P.KeepsBatches.own S.ShouldSample G.IdGenerator)
+        session s) s result }
+{
+    let mut text = Vec::new(alloc);
+    let fed = feed_pieces(alloc, &mut session, &mut text, input, output);
+    text.clear();
+    let closed = session.close(&mut text);
+    let Ok(end) = fed else {
+        return RunEnd::Failed;
+    };
+    let Ok(()) = write_whole(output, &text) else {
+        return RunEnd::Failed;
+    };
+    match closed {
+        Ok(()) => end,
+        Err(_) => RunEnd::Failed,
+    }
+}
+
+/// Feeds an input to a session, piece by piece, and writes its replies. Fails where they cannot be written. `text` is
+/// room for them.
+fn feed_pieces<P: KeepsBatches, S: ShouldSample, G: IdGenerator, R: Read, W: Write>(
+    alloc: Global,
+    session: &mut Session<P, S, G>,
+    text: &mut Vec<u8>,
+    input: &mut R,
+    output: &mut W,
+) -> io::Result<RunEnd>
+    ensures ok { IfOk result (λ end. FedAs
+        (calls_of P.SpanProcessor P.DrainDue.own P.KeepsBatches.own S.ShouldSample G.IdGenerator)
+        session.old session.new
+        (streams (R.remaining input.old) (R.remaining input.new) (W.contents output.old) (W.contents output.new))
+        end) }
+    ensures err { OnErr result (CarriesOutSome
+        (calls_of P.SpanProcessor P.DrainDue.own P.KeepsBatches.own S.ShouldSample G.IdGenerator)
+        session.old (R.remaining input.old)
+        (AppendsBeginning (W.contents output.old) (W.contents output.new))) }
+{
+    session.has_histories();
+    let mut pieces = Pieces::new(alloc);
+    let mut before: u64 = 0;
+    for _ in 0..u64::MAX {
+        let Ok(goes_on) = pieces.read_on(input) else {
+            return Ok(RunEnd::Failed);
+        };
+        match feed_piece(session, pieces.lines(), text, output)? {
+            Ok(()) => {}
+            Err(FeedError::Line(line)) => return Ok(bad_line_behind(before, line)),
+            Err(FeedError::Memory | FeedError::Refused | FeedError::BatchLost) => {
+                return Ok(RunEnd::Failed);
+            }
+        }
+        if !goes_on {
+            return Ok(RunEnd::Done);
+        }
+        match lines_counted(before, pieces.lines()) {
+            Some(count) => before = count,
+            None => return Ok(RunEnd::Failed),
+        }
+    }
+    Ok(RunEnd::Failed)
+}
+
+/// Feeds lines to a session, writes and sends on its replies, and has it forget what they show. `text` is room for
+/// them.
+fn feed_piece<P: KeepsBatches, S: ShouldSample, G: IdGenerator, W: Write>(
+    session: &mut Session<P, S, G>,
+    lines: &[u8],
+    text: &mut Vec<u8>,
+    output: &mut W,
+) -> io::Result<Result<(), FeedError>>
+    ensures ok { IfOk result (λ fed. FeedsPiece
+        (calls_of P.SpanProcessor P.DrainDue.own P.KeepsBatches.own S.ShouldSample G.IdGenerator)
+        session.old lines.now fed (Appends (W.contents output.old) (W.contents output.new))
+        session.new) }
+    ensures err { OnErr result ((fed : Result (Unit {0}) FeedError) × FeedsPiece
+        (calls_of P.SpanProcessor P.DrainDue.own P.KeepsBatches.own S.ShouldSample G.IdGenerator)
+        session.old lines.now fed (AppendsBeginning (W.contents output.old) (W.contents output.new))
+        session.new) }
+{
+    text.clear();
+    let fed = session.feed(lines, text);
+    let written = write_whole(output, text);
+    session.forget_shown();
+    written?;
+    Ok(fed)
+}
