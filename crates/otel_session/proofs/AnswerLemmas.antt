@@ -1,5 +1,5 @@
 -- What one command of a session comes to, whatever its answer.
-use Rattle.std.proofs.Common.{◌≡◌, ℕ, Bool, true, false, IsFalse, List, Result, refl, sym, ◌∙◌, ap}
+use Rattle.std.proofs.Common.{◌≡◌, Bool, true, false, List, refl, ap}
 use Rattle.otel_export.specs.KeptBatches.{Grows, appends_none}
 use Rattle.otel_kept.specs.ProcessorKeeps.{OnlyAppends}
 use Rattle.otel_lines.specs.Commands.{is_end, plain_command}
@@ -9,7 +9,7 @@ use Rattle.otel_session.specs.Calls.{Calls}
 use Rattle.otel_session.specs.OpenSpans.{HaveHistories}
 use Rattle.otel_session.specs.Shown.{session_batches, session_losses}
 use Rattle.otel_session.specs.Stops.{Answers, CarriesOut, Refuses}
-use Rattle.otel_session.specs.Turns.{LosesNone, SessionState}
+use Rattle.otel_session.specs.Turns.{SessionState}
 use Rattle.otel_session.proofs.KeptLemmas.{turn_loses_none}
 use Rattle.otel_session.proofs.NamedLemmas.{described}
 

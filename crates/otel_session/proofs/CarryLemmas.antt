@@ -1,5 +1,5 @@
 -- A command that took a turn was carried out: each processor follows what the turn delivered.
-use Rattle.std.proofs.Common.{◌≡◌, ℕ, List, [], Option, Some, None, Result, Ok, Err, MatchBool, map, true, false, Bool, refl, sym, ◌∙◌, ap, subst}
+use Rattle.std.proofs.Common.{◌≡◌, ℕ, List, [], Option, Some, None, Result, Err, MatchBool, map, true, false, Bool, refl, sym, ap, subst}
 use Rattle.std.specs.Bool.{OnTrue, OnFalse}
 use Rattle.std.specs.Result.{IsErrOf}
 use Rattle.opentelemetry.specs.Plain.{PlainContext, PlainScope}
@@ -7,7 +7,6 @@ use Rattle.opentelemetry.specs.PlainContexts.{root_cx}
 use Rattle.otel_base.specs.declared.error.OTelSdkError.{OTelSdkError}
 use Rattle.otel_base.specs.declared.error.OTelSdkError.TheVariants as errors
 use Rattle.otel_pipeline.specs.Deliveries.{Delivery, EachFollows}
-use Rattle.otel_export.specs.KeptBatches.{appends_none}
 use Rattle.otel_kept.specs.ProcessorKeeps.{OnlyAppends}
 use Rattle.otel_pipeline.specs.Provider.{ProviderState, ShutsDown}
 use Rattle.otel_pipeline.specs.SpanHistory.{SpanHistory, Edit, begun, over, data_of, span_of}
@@ -20,7 +19,7 @@ use Rattle.otel_session.specs.Headers.{SaysContext, child_cx}
 use Rattle.otel_session.specs.OpenSpans.{AnswersInject, Describe, Histories, NamedSpans, edited_in}
 use Rattle.otel_session.specs.ProviderTurns.{AsksProvider, Shuts, call_answer}
 use Rattle.otel_session.specs.SpanTurns.{ChildTurn, EditTurn, EndTurn, Start, StartTurn, StartsBehind, start_in}
-use Rattle.otel_session.specs.Turn.{AsksNobody, Course, TakesTurn, TookTurn, Turn}
+use Rattle.otel_session.specs.Turn.{AsksNobody, Course, TakesTurn, Turn}
 use Rattle.otel_session.specs.Turns.{IsCarriedOut, IsTurn}
 use Rattle.otel_session.proofs.KeptLemmas.{turn_grows}
 use Rattle.otel_session.proofs.TurnLemmas.{Childs, Edits, Ends}

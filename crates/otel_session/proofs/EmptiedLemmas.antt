@@ -1,5 +1,5 @@
 -- Behind a flush or a shutdown that is answered by Ok no span waits.
-use Rattle.std.proofs.Common.{◌≡◌, ℕ, Bool, true, false, IsTrue, List, [], ◌∷◌, ◌++◌, Result, Ok, Err, MatchBool, OnOk, All, length, length-append, map, refl, ap, subst, sym, ◌∙◌, arith, rules}
+use Rattle.std.proofs.Common.{◌≡◌, ℕ, Bool, true, false, List, [], ◌∷◌, ◌++◌, Result, Ok, Err, MatchBool, OnOk, All, length, length-append, map, refl, ap, subst, sym, ◌∙◌, arith, rules}
 use Rattle.std.proofs.lemmas.List.{same_from_push}
 use Rattle.std.proofs.lemmas.List.Elements.{All-cons, All-nil}
 use Rattle.opentelemetry.specs.Plain.{PlainScope}
@@ -10,7 +10,6 @@ use Rattle.otel_pipeline.specs.Provider.{Flushes, FlushesProcessor, ProviderStat
 use Rattle.otel_pipeline.specs.declared.trace.span_processor.SpanProcessor.{Ghosts}
 use Rattle.otel_lines.specs.Commands.{PlainCommand, start, child, remote, attr, event, status, inject, end, flush, run, shutdown}
 use Rattle.otel_lines.specs.PlainReply.{PlainReply}
-use Rattle.otel_lines.specs.declared.reply.Answer.{Answer}
 use Rattle.otel_lines.specs.declared.reply.Answer.TheVariants as answers
 use Rattle.otel_session.specs.Calls.{Calls}
 use Rattle.otel_session.specs.ProviderTurns.{EmptiesIfOk, call_answer}

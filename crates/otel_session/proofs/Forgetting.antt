@@ -67,7 +67,8 @@ module _ {P S G : Type 0} (calls : Calls P S G) (law : RecallsNothingElse calls)
           told = told_again calls.processor calls.timer calls.keeps.kept calls.keeps.lost calls.keeps.recalled law bs turn.before.provider.processors rs turn.behind.provider.processors started.0 h started.1 k.told;
           says = k.says;
           delivers = k.delivers;
-          rest = ap (λ (c : Course P S G). shift c started.0) k.rest;
+          histories = k.histories;
+          shown = ap (λ (n : ℕ). length bs + n) k.shown;
         },
       )
 
@@ -95,7 +96,8 @@ module _ {P S G : Type 0} (calls : Calls P S G) (law : RecallsNothingElse calls)
           says = k.says;
           delivers = k.delivers;
           provider = ap (λ (p : ProviderState P S G). record p { processors = ended.0 }) k.provider;
-          rest = ap (λ (c : Course P S G). shift c ended.0) k.rest;
+          histories = k.histories;
+          shown = ap (λ (n : ℕ). length bs + n) k.shown;
         },
       )
 

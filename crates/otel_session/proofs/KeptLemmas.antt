@@ -1,5 +1,5 @@
 -- The batches that the first processor of a session keeps over a turn, and how many it loses.
-use Rattle.std.proofs.Common.{◌≡◌, ℕ, List, [], ◌∷◌, Result, Ok, Err, Option, Some, None, Bool, true, false, IsFalse, ◌||◌, MatchBool, refl, ap, rules}
+use Rattle.std.proofs.Common.{◌≡◌, ℕ, List, [], ◌∷◌, Result, Err, Option, Some, None, Bool, true, false, ◌||◌, MatchBool, refl, ap, rules}
 use Rattle.std.specs.declared.alloc.AllocError.{AllocError}
 use Rattle.opentelemetry.specs.Plain.{PlainContext, PlainScope}
 use Rattle.opentelemetry.specs.PlainContexts.{empty_span_context, root_cx}

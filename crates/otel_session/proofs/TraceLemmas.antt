@@ -1,5 +1,5 @@
 -- Each child that commands started agrees with its parent, as the session then stands, and so do theirs.
-use Rattle.std.proofs.Common.{◌≡◌, ℕ, Bool, true, false, if◌then◌else◌, ◌||◌, ◌&&◌, List, [], ◌∷◌, ◌++◌, Option, Some, None, MatchBool, map, ◌⊎◌, inl, inr, refl, sym, ◌∙◌, ap, subst}
+use Rattle.std.proofs.Common.{◌≡◌, ℕ, Bool, true, false, if◌then◌else◌, ◌||◌, ◌&&◌, List, [], ◌∷◌, Option, Some, None, MatchBool, map, ◌⊎◌, inl, inr, refl, sym, ◌∙◌, ap, subst}
 use Rattle.std.proofs.lemmas.Option.{none-some, same_Some}
 use Rattle.std.specs.Option.{option_map}
 use Rattle.opentelemetry.specs.Plain.{PlainContext, PlainScope, PlainSpanContext}
@@ -130,7 +130,7 @@ module _ {P S G : Type 0} (calls : Calls P S G) where
 
   start_persists : (found : Option SpanHistory) (asked : Start) (turn : Turn P S G) → turn.before.histories asked.span ≡ found → StartsBehind calls found asked turn → PersistsIn turn
   start_persists (Some history) asked turn e h = nobody_persists answers.SpanExists turn h
-  start_persists None asked turn e h = subst (Persists turn.before.histories) (sym (ap (λ (c : Course P S G). c.histories) h.rest)) (put_persists turn.before.histories asked.span h.history e)
+  start_persists None asked turn e h = subst (Persists turn.before.histories) (sym h.histories) (put_persists turn.before.histories asked.span h.history e)
 
   child_persists : (found : Option SpanHistory) (asked : Start) (turn : Turn P S G) → ChildTurn calls asked found turn → PersistsIn turn
   child_persists None asked turn h = nobody_persists answers.NoSuchSpan turn h
@@ -143,7 +143,7 @@ module _ {P S G : Type 0} (calls : Calls P S G) where
   end_persists None span moment turn e h = nobody_persists answers.NoSuchSpan turn h
   end_persists (Some (over context limits)) span moment turn e h = nobody_persists answers.Ignored turn h
   end_persists (Some (begun from edits)) span moment turn e h =
-      subst (Persists turn.before.histories) (sym (ap (λ (c : Course P S G). c.histories) h.rest)) (again_persists turn.before.histories span (begun from edits) (over from.span_context from.limits) e refl)
+      subst (Persists turn.before.histories) (sym h.histories) (again_persists turn.before.histories span (begun from edits) (over from.span_context from.limits) e refl)
 
   -- over any command
   one_persists : (scope : PlainScope) (command : PlainCommand) (turn : Turn P S G) → IsTurn calls scope command turn → PersistsIn turn
@@ -210,7 +210,7 @@ module _ {P S G : Type 0} (calls : Calls P S G) where
   taken_joins None scope root is_in last turn span parent name moment father by_parents is_open there before behind agree h =
       let cx = child_cx (span_of father).span_context in
       let is_child = child_of_start calls.processor calls.sampler calls.ids turn.before.provider turn.behind.provider scope (named_builder name) cx moment h.history (span_of father).span_context by_parents is_open refl refl h.starts in
-      let put : turn.behind.histories span ≡ Some h.history = ap (λ (c : Course P S G). c.histories span) h.rest ∙ put_there (is_name span span) h.history (turn.before.histories span) (is_itself span) in
+      let put : turn.behind.histories span ≡ Some h.history = ap (λ (histories : Histories). histories span) h.histories ∙ put_there (is_name span span) h.history (turn.before.histories span) (is_itself span) in
       let then_father = before parent father there in
       let then_child = behind span h.history put in
       joined root is_in last span parent name moment turn.answer then_father.0 then_child.0 then_father.1 then_child.1

@@ -1,15 +1,11 @@
 -- What one command does to the spans of a session is a turn of their histories.
-use Rattle.std.proofs.Common.{◌≡◌, ℕ, Bool, true, false, if◌then◌else◌, List, [], ◌∷◌, ◌++◌, map, is_some, Option, Some, None, Result, Ok, Err, IfOk, MatchBool, refl, sym, ◌∙◌, ap, subst}
+use Rattle.std.proofs.Common.{◌≡◌, ℕ, Bool, true, false, if◌then◌else◌, List, [], is_some, Option, Some, None, Result, Ok, Err, IfOk, refl, sym, ◌∙◌, ap, subst}
 use Rattle.std.proofs.lemmas.Option.{none-some, same_Some}
-use Rattle.std.specs.Bool.{OnTrue, OnFalse}
-use Rattle.std.specs.Result.{IsErrOf}
 use Rattle.std.specs.Option.{option_map}
-use Rattle.opentelemetry.specs.Plain.{PlainContext, PlainScope, PlainSpanContext}
-use Rattle.opentelemetry.specs.PlainContexts.{current_span_context, root_cx}
-use Rattle.otel_base.specs.declared.error.OTelSdkError.{OTelSdkError}
-use Rattle.otel_base.specs.declared.error.OTelSdkError.TheVariants as errors
+use Rattle.opentelemetry.specs.Plain.{PlainContext}
+use Rattle.opentelemetry.specs.PlainContexts.{current_span_context}
 use Rattle.otel_pipeline.specs.SpanHistory.{PlainSpan, SpanHistory, begun, over, Edit, edited, ended, not_recording, data_of, span_of}
-use Rattle.otel_pipeline.specs.Provider.{ProviderState, ShutsDown}
+use Rattle.otel_pipeline.specs.Provider.{ProviderState}
 use Rattle.otel_pipeline.specs.Ending.{DeliversIf, end_delivers}
 use Rattle.otel_pipeline.proofs.SpanLaws.{edited-recording}
 use Rattle.otel_pipeline.specs.declared.trace.span_processor.SpanProcessor.{Ghosts}
@@ -18,8 +14,7 @@ use Rattle.otel_lines.specs.declared.reply.Answer.TheVariants as answers
 use Rattle.otel_session.specs.Calls.{Calls}
 use Rattle.otel_session.specs.Headers.{AnswersHeaders, child_cx}
 use Rattle.otel_session.specs.OpenSpans.{AnswersInject, Describe, Histories, NamedSpans, SameSpans, edit_answer, edited_history, edited_in, is_name, named, with_history}
-use Rattle.otel_session.specs.ProviderTurns.{Shuts}
-use Rattle.otel_session.specs.SpanTurns.{BeginsHistory, ChildTurn, EndTurn, Start, StartTurn, start_in}
+use Rattle.otel_session.specs.SpanTurns.{BeginsHistory, ChildTurn, EndTurn, Start, StartTurn}
 use Rattle.otel_session.specs.Turn.{Course, TakesTurn, TookTurn, Turn}
 use Rattle.otel_session.proofs.NamedLemmas.{PutsSpan, put_same, same_name}
 
@@ -121,7 +116,7 @@ module _ {P S G : Type 0} (processor : Ghosts P) where
   end_found p q before old new span moment (begun from edits) answer e describes h = record {
     delivered = end_delivers p.is_shut (data_of from edits moment) h.refused;
     histories = with_history before.histories span (over from.span_context from.limits);
-    is = rw e (record { refused = h.refused; delivered = h.delivers; says = h.says; delivers = refl; provider = h.rest; rest = refl });
+    is = rw e (record { refused = h.refused; delivered = h.delivers; says = h.says; delivers = refl; provider = h.rest; histories = refl; shown = refl });
     describes = describes_put before.histories old new span (over from.span_context from.limits) describes h.put;
   }
 

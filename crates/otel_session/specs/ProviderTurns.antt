@@ -1,5 +1,5 @@
 -- The turns of commands of the provider: a flush, a run and a shutdown.
-use Rattle.std.specs.Prelude.{◌≡◌, ℕ, Bool, true, false, List, [], Result, Ok, Err, MatchBool, IsTrue, All}
+use Rattle.std.specs.Prelude.{◌≡◌, Bool, true, false, List, [], Result, Ok, Err, MatchBool, IsTrue, All}
 use Rattle.otel_base.specs.declared.error.OTelSdkError.{OTelSdkError}
 use Rattle.otel_base.specs.declared.error.OTelSdkError.TheVariants as errors
 use Rattle.otel_pipeline.specs.Provider.{ProviderState, ShutsDown}

@@ -40,10 +40,8 @@ module _ {P S G : Type 0} (calls : Calls P S G) where
         ≡ map calls.processor.told turn.before.provider.processors
     pub says : turn.answer ≡ start_answer (span_of history)
     pub delivers : turn.delivered ≡ []
-    pub rest : turn.behind ≡ record turn.before {
-      provider = turn.behind.provider;
-      histories = with_history turn.before.histories start.span history;
-    }
+    pub histories : turn.behind.histories ≡ with_history turn.before.histories start.span history
+    pub shown : turn.behind.shown ≡ turn.before.shown
 
   -- a start, by the history that its name has: it is given one once
   abbrev pub StartsBehind : Option SpanHistory → Start → Turn P S G → Type 0
@@ -79,18 +77,16 @@ pub record InjectTurn {P S G : Type 0} (span : List ℕ) (turn : Turn P S G) : T
 
 module _ {P S G : Type 0} (processor : Ghosts P) where
   -- the history of a name is over, and this data of it is delivered, unless the provider is shut
-  pub record EndsHistory (span : List ℕ) (from : SpanStart) (data_then : PlainSpanData)
-      (turn : Turn P S G) : Type 0 where
+  pub record EndsHistory (span : List ℕ) (from : SpanStart) (ended : PlainSpanData) (turn : Turn P S G) : Type 0 where
     pub refused : ℕ
-    pub delivered : Delivers processor turn.before.provider.is_shut data_then turn.before.provider.processors
+    pub delivered : Delivers processor turn.before.provider.is_shut ended turn.before.provider.processors
         turn.behind.provider.processors refused
     pub says : turn.answer ≡ answers.Ended refused
-    pub delivers : turn.delivered ≡ end_delivers turn.before.provider.is_shut data_then refused
+    pub delivers : turn.delivered ≡ end_delivers turn.before.provider.is_shut ended refused
     pub provider : turn.behind.provider ≡ record turn.before.provider { processors = turn.behind.provider.processors }
-    pub rest : turn.behind ≡ record turn.before {
-      provider = turn.behind.provider;
-      histories = with_history turn.before.histories span (over from.span_context from.limits);
-    }
+    pub histories : turn.behind.histories
+        ≡ with_history turn.before.histories span (over from.span_context from.limits)
+    pub shown : turn.behind.shown ≡ turn.before.shown
 
   -- an end, by the history that the name has
   abbrev pub EndTurn : List ℕ → ℕ → Option SpanHistory → Turn P S G → Type 0

@@ -19,6 +19,11 @@ pub record Turn (P S G : Type 0) : Type 0 where
   pub delivered : List Delivery
   pub behind : Course P S G
 
+-- a turn, from what it has
+abbrev pub turn_of : {P S G : Type 0} → Course P S G → Answer → List Delivery → Course P S G → Turn P S G
+turn_of before answer delivered behind =
+    record { before = before; answer = answer; delivered = delivered; behind = behind }
+
 -- a turn in which no one was asked: it has this answer, and leaves these histories
 pub record AsksNobody {P S G : Type 0} (said : Answer) (histories : Histories) (turn : Turn P S G) : Type 0 where
   pub says : turn.answer ≡ said
@@ -34,12 +39,7 @@ pub record TookTurn {P S G : Type 0} (Is : Turn P S G → Type 0) (before : Cour
     (provider : ProviderState P S G) (spans : NamedSpans) : Type 0 where
   pub delivered : List Delivery
   pub histories : Histories
-  pub is : Is (record {
-    before = before;
-    answer = answer;
-    delivered = delivered;
-    behind = record before { provider = provider; histories = histories };
-  })
+  pub is : Is (turn_of before answer delivered (record before { provider = provider; histories = histories }))
   pub describes : Describe histories spans
 
 -- a turn of which this is so was taken from a provider and spans to others, whatever histories the spans had

@@ -1,5 +1,5 @@
 -- The turns of the commands of a session, one after another, each with its reply.
-use Rattle.std.specs.Prelude.{◌≡◌, ℕ, List, [], ◌∷◌, ◌++◌, IsFalse, codes, drop, length, map}
+use Rattle.std.specs.Prelude.{◌≡◌, ℕ, List, [], ◌∷◌, IsFalse, codes, drop, length, map}
 use Rattle.std.specs.List.{flat_map}
 use Rattle.opentelemetry.specs.Plain.{PlainScope, scope_named, text}
 use Rattle.opentelemetry.specs.PlainContexts.{root_cx}
@@ -56,7 +56,8 @@ module _ {P S G : Type 0} (calls : Calls P S G) where
       ChildTurn calls (start_in scope root_cx span name moment) (turn.before.histories parent) turn
   IsTurn scope (remote span header name moment) turn =
       RemoteTurn calls (start_in scope root_cx span name moment) header turn
-  IsTurn scope (attr span key value) turn = EditTurn span (set_attribute (record { key = key; value = text value })) turn
+  IsTurn scope (attr span key value) turn =
+      EditTurn span (set_attribute (record { key = key; value = text value })) turn
   IsTurn scope (event span name moment) turn = EditTurn span (bare_event name moment) turn
   IsTurn scope (status span how) turn = EditTurn span (set_status how) turn
   IsTurn scope (inject span) turn = InjectTurn span turn

@@ -1,5 +1,5 @@
-//! The laws of the turns that the commands of a session take, over the definitions alone. Each function does nothing; its
-//! contract is the law, for every processor that may keep batches, every sampler and every source of ids.
+//! The laws of the turns that the commands of a session take, over the definitions alone. Each function does nothing;
+//! its contract is the law, for every processor that may keep batches, every sampler and every source of ids.
 
 ghost use Rattle.otel_session.specs.Calls.{calls_of};
 ghost use Rattle.otel_session.specs.Laws.{

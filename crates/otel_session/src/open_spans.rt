@@ -66,8 +66,8 @@ impl OpenSpans {
         let _spans = &self.spans;
     }
 
-    /// Starts a span under a name in a context. The name's place in the map comes first, so that a start that is refused
-    /// asked no processor.
+    /// Starts a span under a name in a context. The name's place in the map comes first, so that a start that is
+    /// refused asked no processor.
     pub(crate) fn start_in<P: KeepsBatches, S: ShouldSample, G: IdGenerator>(
         &mut self,
         span: String,

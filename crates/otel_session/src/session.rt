@@ -1,14 +1,15 @@
 //! A session: commands against one provider, each with a reply. What its commands deliver to the exporters is stated by
 //! the histories of its spans, apart from the code that fills them.
 
-ghost use Rattle.std.specs.Prelude.{◌≡◌, ◌++◌, ◌∷◌, [], drop, length, map, is_err, ◌||◌, if◌then◌else◌, IfErr, IfOk, IsFalse, OnOk, OnErr, codes, string_bytes};
+ghost use Rattle.std.specs.Prelude.{◌≡◌, ◌++◌, ◌∷◌, [], drop, length, map, is_err, ◌||◌, if◌then◌else◌, IfErr, IfOk};
+ghost use Rattle.std.specs.Prelude.{OnOk, OnErr, codes, string_bytes};
 ghost use Rattle.std.specs.List.{flat_map};
 ghost use Rattle.opentelemetry.specs.Plain.{scope_named, text};
 ghost use Rattle.opentelemetry.specs.PlainContexts.{root_cx};
 ghost use Rattle.otel_export.specs.KeptBatches.{Grows};
 ghost use Rattle.otel_pipeline.specs.SpanEdits.{plain_edit};
 ghost use Rattle.otel_pipeline.specs.SpanHistory.{set_attribute};
-ghost use Rattle.otel_lines.specs.Commands.{is_end, may_lose, plain_command};
+ghost use Rattle.otel_lines.specs.Commands.{plain_command};
 ghost use Rattle.otel_lines.specs.AnswerText.{answer_line};
 ghost use Rattle.otel_lines.specs.ReplyText.{span_lines};
 ghost use Rattle.otel_session.specs.Calls.{batches_of_first, calls_of, losses_of_first};
@@ -20,7 +21,7 @@ ghost use Rattle.otel_session.specs.OpenSpans.{Describe, Histories};
 ghost use Rattle.otel_session.specs.ProviderTurns.{ShutsIfOpen, call_answer};
 ghost use Rattle.otel_session.specs.Shown.{session_batches, session_losses, unshown};
 ghost use Rattle.otel_session.specs.SpanTurns.{bare_event};
-ghost use Rattle.otel_session.specs.Stops.{AnswerStops, Answers, Gains, RefusesOne, RunStops, RunsBeginning};
+ghost use Rattle.otel_session.specs.Stops.{AnswerStops, Answers, Gains, RefusesOne, RunStops};
 ghost use Rattle.otel_session.specs.Turn.{TakesTurn};
 ghost use Rattle.otel_session.specs.Turns.{IsCarriedOut, Runs, session_under};
 

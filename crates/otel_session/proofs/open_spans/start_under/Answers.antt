@@ -1,7 +1,6 @@
 use Rattle.std.proofs.Common.{◌≡◌, ◌∙◌, sym, ap, refl, rules, Some, string_bytes, inl, inr}
 use Rattle.std.specs.BTreeMap.Entry.{map_with_value, entry_value}
 use Rattle.opentelemetry.proofs.Clauses.{always_on_err}
-use Rattle.otel_pipeline.specs.SpanHistory.{span_of}
 use Rattle.otel_session.specs.Calls.{calls_of}
 use Rattle.otel_session.specs.OpenSpans.{by_name, start_answer}
 use Rattle.otel_session.specs.SpanTurns.{start_in}
@@ -35,7 +34,8 @@ returns-in-Ok-clause-ok g c =
       told = c.start_with_context.ensures.told;
       says = c.answer_to_start-answer.ensures ∙ ap start_answer begun.1;
       delivers = refl;
-      rest = refl;
+      histories = refl;
+      shown = refl;
     })
 
 pub returns-in-Occupied-clause-ok : goal.returns-in-Occupied-clause-ok

@@ -1,8 +1,8 @@
-use Rattle.std.proofs.Common.{◌≡◌, refl, subst, sym, string_bytes, List, ℕ, inr}
+use Rattle.std.proofs.Common.{subst, sym, string_bytes, List, ℕ, inr}
 use Rattle.opentelemetry.specs.Plain.{PlainContext}
 use Rattle.opentelemetry.specs.PlainContexts.{root_cx}
 use Rattle.opentelemetry.specs.PlainValues.{plain_status}
-use Rattle.opentelemetry.proofs.Clauses.{if_ok_map, on_err_map}
+use Rattle.opentelemetry.proofs.Clauses.{if_ok_map}
 use Rattle.otel_pipeline.specs.Provider.{Flushes, RunsDue}
 use Rattle.otel_pipeline.specs.SpanEdits.{plain_edit}
 use Rattle.otel_pipeline.specs.SpanHistory.{Edit, set_status}

@@ -1,4 +1,4 @@
-use Rattle.std.proofs.Common.{◌≡◌, ◌∙◌, sym, ap, Some, None, rules, refl, subst, OnErr, Option, Bool, if◌then◌else◌}
+use Rattle.std.proofs.Common.{◌≡◌, ◌∙◌, sym, ap, Some, None, rules, subst, OnErr, Bool, if◌then◌else◌}
 use Rattle.otel_pipeline.specs.SpanEdits.{plain_edit}
 use Rattle.otel_pipeline.specs.SpanHistory.{PlainSpan, edited}
 use Rattle.otel_lines.specs.declared.reply.Answer.TheVariants as answers

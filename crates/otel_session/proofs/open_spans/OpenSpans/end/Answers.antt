@@ -1,4 +1,4 @@
-use Rattle.std.proofs.Common.{◌≡◌, ◌∙◌, sym, ap, Some, None, refl, subst, OnErr, Option, Bool, if◌then◌else◌, rules}
+use Rattle.std.proofs.Common.{◌≡◌, ◌∙◌, sym, ap, Some, None, subst, OnErr, Bool, if◌then◌else◌, rules}
 use Rattle.otel_pipeline.specs.SpanHistory.{PlainSpan, ended}
 use Rattle.otel_lines.specs.declared.reply.Answer.TheVariants as answers
 use Rattle.otel_session.specs.OpenSpans.{NamedSpans, SameSpans, named, by_name}

@@ -1,4 +1,3 @@
-use Rattle.std.proofs.Common.{◌≡◌, ◌++◌, List}
 use Rattle.std.specs.VecDeque.{deque_len}
 use Rattle.otel_session.specs.Calls.{calls_of}
 use Rattle.otel_session.specs.Fed.{Writes}
