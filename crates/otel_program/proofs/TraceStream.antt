@@ -442,3 +442,17 @@ module _ {P S G : Type 0} (calls : Calls P S G) (begun : SessionState P S G) whe
         none_refused = tt;
         written = ([], ([], [], refl, Appends-nil output));
       }
+
+  -- what was written whole is a beginning
+  pub begun_whole : (input output output_after : Option (List ℕ)) → CarriesOutSome calls begun input (Appends output output_after) → CarriesOutSome calls begun input (AppendsBeginning output output_after)
+  begun_whole input output output_after h = record {
+    bytes = h.bytes;
+    commands = h.commands;
+    replies = h.replies;
+    after = h.after;
+    all = h.all;
+    begins = h.begins;
+    ran = h.ran;
+    none_refused = h.none_refused;
+    written = appends_all output output_after (replies_text h.replies) h.written;
+  }

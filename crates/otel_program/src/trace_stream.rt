@@ -52,7 +52,8 @@ pub fn trace_input<P: KeepsBatches, S: ShouldSample, G: IdGenerator, R: Read, W:
     }
 }
 
-/// Carries out the lines of an input by a session, and closes that.
+/// Carries out the lines of an input by a session, and closes that. Where reading or writing failed, what the closing
+/// exports is not written, so that the output is a beginning.
 fn trace_session<P: KeepsBatches, S: ShouldSample, G: IdGenerator, R: Read, W: Write>(
     alloc: Global,
     mut session: Session<P, S, G>,
@@ -83,7 +84,7 @@ fn trace_session<P: KeepsBatches, S: ShouldSample, G: IdGenerator, R: Read, W: W
     }
 }
 
-/// Feeds an input to a session, piece by piece, and writes its replies. Fails where they cannot be written. `text` is
+/// Feeds an input to a session, piece by piece, and writes its replies. Fails where reading or writing does. `text` is
 /// room for them.
 fn feed_pieces<P: KeepsBatches, S: ShouldSample, G: IdGenerator, R: Read, W: Write>(
     alloc: Global,
@@ -106,9 +107,7 @@ fn feed_pieces<P: KeepsBatches, S: ShouldSample, G: IdGenerator, R: Read, W: Wri
     let mut pieces = Pieces::new(alloc);
     let mut before: u64 = 0;
     for _ in 0..u64::MAX {
-        let Ok(goes_on) = pieces.read_on(input) else {
-            return Ok(RunEnd::Failed);
-        };
+        let goes_on = pieces.read_on(input)?;
         match feed_piece(session, pieces.lines(), text, output)? {
             Ok(()) => {}
             Err(FeedError::Line(line)) => return Ok(bad_line_behind(before, line)),
