@@ -1,5 +1,5 @@
 -- What the arguments of the program ask for, and what it does with its streams.
-use Rattle.std.proofs.Common.{◌≡◌, ℕ, ◌<◌, ◌≤◌, ◌++◌, ◌-◌, List, [], ◌∷◌, drop, take, map, length, Option, Some, None, IfSome, IfOk, Result, Ok, MatchOption, codes, inl, inr, refl, ◌∙◌, sym, ap, subst, arith}
+use Rattle.std.proofs.Common.{◌≡◌, ℕ, ◌<◌, ◌≤◌, ◌-◌, List, [], ◌∷◌, drop, take, map, length, Option, Some, None, IfOk, Result, Ok, MatchOption, codes, inl, inr, refl, ◌∙◌, sym, ap, subst, arith}
 use Rattle.std.proofs.Math.ListN.{get_or}
 use Rattle.std.proofs.lemmas.List.{take_all}
 use Rattle.std.specs.Str.Parse.{digits_value}

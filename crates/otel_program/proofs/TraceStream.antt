@@ -1,8 +1,7 @@
 -- A stream of commands: what was carried out so far, and what a piece more does.
 use Rattle.std.proofs.Common.{◌≡◌, ℕ, ◌+◌, Bool, true, false, List, [], ◌∷◌, ◌++◌, length, Option, None, Some, Result, Ok, Err, inl, inr, refl, sym, ap, subst, ◌∙◌, arith, append_assoc, append-nil, length-append}
-use Rattle.std.specs.Prelude.{◌⊎◌, ◌==◌, if◌then◌else◌, map, not, option_map}
+use Rattle.std.specs.Prelude.{◌⊎◌, option_map}
 use Rattle.std.proofs.KnownBytes.{Appends-nil, Appends-trans, Consumes-nil}
-use Rattle.std.proofs.lemmas.Bool.Decides.{nat_tests}
 use Rattle.std.proofs.lemmas.List.{map-append}
 use Rattle.std.proofs.lemmas.List.Concat.{flat_map-append}
 use Rattle.std.specs.Io.{IsEmptyOrEndsWith}
@@ -18,9 +17,9 @@ use Rattle.otel_lines.specs.Lines.{Spell, SpellUpTo, TextSpells}
 use Rattle.otel_lines.specs.PlainReply.{NoneRefused, PlainReply}
 use Rattle.otel_lines.specs.ReplyText.{span_lines}
 use Rattle.otel_lines.specs.declared.command.Command.{Command}
-use Rattle.otel_session.specs.Calls.{Calls, losses_of_first}
-use Rattle.otel_session.specs.Closing.{Closes, Finishes}
-use Rattle.otel_session.specs.Fed.{Feeds, FeedsNothing, FeedsSome, FeedsUpTo}
+use Rattle.otel_session.specs.Calls.{Calls}
+use Rattle.otel_session.specs.Closing.{Closes}
+use Rattle.otel_session.specs.Fed.{Feeds, FeedsSome, FeedsUpTo}
 use Rattle.otel_session.specs.Forgotten.{HasForgotten, Streams as Follows}
 use Rattle.otel_session.specs.OpenSpans.{Describe, Histories}
 use Rattle.otel_session.specs.Turns.{Runs, SessionState}
@@ -28,7 +27,7 @@ use Rattle.otel_session.specs.declared.session.FeedError.{FeedError}
 use Rattle.otel_session.specs.declared.session.FeedError.TheVariants as feeds
 use Rattle.otel_session.proofs.Forgetting.{RecallsNothingElse}
 use Rattle.otel_session.proofs.RunLemmas.{runs_join}
-use Rattle.otel_session.proofs.Streaming.{closes_whole, runs_whole, streams_finish, streams_forget, streams_more, streams_nothing}
+use Rattle.otel_session.proofs.Streaming.{runs_whole, streams_finish, streams_forget, streams_more, streams_nothing}
 use Rattle.otel_program.specs.Pieces.{AppendsBeginning, GivesLines, KeepsAll, PlainPieces}
 use Rattle.otel_program.specs.Streams.{EndsAs, Streams, streams}
 use Rattle.otel_program.specs.TraceRuns.{BeginsToSpell, CarriesOutSome, FeedsPieces, FeedsPiece, FedAs, TracesAll, TracesSome}

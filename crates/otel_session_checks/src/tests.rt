@@ -5,4 +5,5 @@ mod program;
 mod refused_memory;
 mod refused_texts;
 mod session;
+mod streams;
 mod unshown;

@@ -104,11 +104,11 @@ fn status_of_fault<F: Write>(
     status_over(alloc, words, &mut input, &mut Vec::new(alloc), faults)
 }
 
-/// What comes of an input that fails at once, and of one that fails behind a bad line.
+/// What comes of an input that fails at once, and of one that fails within its first line.
 fn of_failing_inputs(alloc: Global) -> Result<[(u8, usize); 2], AllocError> {
     let empty = status_of_input(alloc, b"")?;
-    let bad = status_of_input(alloc, b"start s a 1\nstop\n")?;
-    Ok([empty, bad])
+    let begun = status_of_input(alloc, b"start s a 1")?;
+    Ok([empty, begun])
 }
 
 /// What comes of an output that takes no byte, and of one that loses all of them.

@@ -34,7 +34,12 @@ fn what_was_shown_is_forgotten_unseen(rt: HostRuntime) -> Result<(), Fail> {
     let [first, second] = TWO_TEXTS;
     for (kind, _) in CLOSES {
         let kept = [Call::Feed(first), Call::Feed(second)];
-        let forgotten = [Call::Feed(first), Call::Forget, Call::Feed(second), Call::Forget];
+        let forgotten = [
+            Call::Feed(first),
+            Call::Forget,
+            Call::Feed(second),
+            Call::Forget,
+        ];
         let wanted = played(rt.alloc(), kind, &kept)?;
         let output = played(rt.alloc(), kind, &forgotten)?;
         assert_eq!(rt; text_of(&output), text_of(&wanted));

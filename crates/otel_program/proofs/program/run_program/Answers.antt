@@ -1,4 +1,4 @@
-use Rattle.std.proofs.Common.{Some, None, rules}
+use Rattle.std.proofs.Common.{rules}
 use Rattle.otel_program.proofs.ProgramLemmas.{asked_begun, ends_with, found, one_mode, steps_sized, traces_asked}
 use Rattle.otel_program.proofs.StepStream.{all_begun}
 use Rattle.otel_program.specs.StepRuns.{StepsBegun, StepsSized}

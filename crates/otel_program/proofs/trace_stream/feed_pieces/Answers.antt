@@ -1,7 +1,7 @@
 -- One piece more.
 use Rattle.std.specs.Prelude.{◌⊎◌}
 use Rattle.otel_program.specs.declared.run_end.RunEnd.TheVariants as ends
-use Rattle.std.proofs.Common.{◌≡◌, ◌+◌, ◌∙◌, ℕ, List, [], true, false, length, Result, Ok, Err, ap, subst, sym, rules}
+use Rattle.std.proofs.Common.{◌≡◌, ◌+◌, ◌∙◌, ℕ, List, [], true, false, length, Err, ap, subst, sym, rules}
 use Rattle.std.specs.Str.Lines.{lines}
 use Rattle.std.specs.Io.KnownBytes.{Appends}
 use Rattle.opentelemetry.proofs.Clauses.{always_on_err}

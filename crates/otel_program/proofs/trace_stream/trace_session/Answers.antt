@@ -1,5 +1,5 @@
 -- What was fed, and what the close appended.
-use Rattle.std.proofs.Common.{◌≡◌, ◌∙◌, List, ℕ, [], Result, Ok, ap, subst, rules}
+use Rattle.std.proofs.Common.{◌≡◌, List, ℕ, [], Result, Ok, subst, rules}
 use Rattle.otel_base.specs.declared.error.OTelSdkError.{OTelSdkError}
 use Rattle.otel_session.specs.Calls.{calls_of}
 use Rattle.otel_session.specs.Closing.{Closes}
