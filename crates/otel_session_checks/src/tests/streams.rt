@@ -115,7 +115,7 @@ fn lines_are_answered_before_more_is_read(rt: HostRuntime) -> Result<(), Fail> {
         let failed = outcome_in_pieces(rt.alloc(), words, text.as_bytes(), 3, true)?;
         assert_eq!(rt; (whole.status, failed.status), (0, 1));
         assert!(rt; !failed.output.is_empty());
-        assert_eq!(rt; failed.output, whole.output);
+        assert!(rt; whole.output.starts_with(&failed.output));
     }
     Ok(())
 }
