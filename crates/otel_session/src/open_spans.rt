@@ -259,8 +259,9 @@ fn answer_to_end(is_recording: bool, refused: usize) -> Answer
     }
 }
 
+/// The last one goes first, since none then moves up in its place.
 fn abandon_all(mut spans: BTreeMap<String, Span>) {
-    while let Some((_name, span)) = spans.pop_first() {
+    while let Some((_name, span)) = spans.pop_last() {
         span.abandon();
     }
     spans.destroy_empty();
