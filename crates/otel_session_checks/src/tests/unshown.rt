@@ -28,11 +28,12 @@ fn end_lines(alloc: Global, count: usize) -> Result<String, AllocError> {
 fn put_out(alloc: Global, count: usize, last: &str) -> Result<Vec<u8>, AllocError> {
     let starts = start_lines(alloc, count)?;
     let ends = end_lines(alloc, count)?;
+    let last = String::from_str(alloc, last)?;
     let calls = [
         Call::Feed(starts.as_str()),
         Call::TryLines(ends.as_str()),
         Call::Forget,
-        Call::Feed(last),
+        Call::Feed(last.as_str()),
     ];
     played(alloc, Kind::HalfFailing, &calls)
 }
