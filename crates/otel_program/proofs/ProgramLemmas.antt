@@ -100,28 +100,35 @@ steps_sized words sizes other s end asks more h =
     subst (λ (z : Sizes). EndsAs (StepsSized z s) (StepsBegun z s) s end) (sym (steps_once words sizes other asks more)) h
 
 -- how a run ended, by its status
-pub ends_with : (Whole : Option ℕ → Type 0) (Begun Silent : Type 0) (s : Streams) (faults faults_after : Option (List ℕ)) (end : RunEnd) (status : ℕ) → ((bad_line : Option ℕ) → Whole bad_line → Begun)
-    → EndsAs Whole Begun s end → Reports end Silent faults faults_after status → EndsWith Whole Begun Silent s faults faults_after status
-ends_with Whole Begun Silent s faults faults_after ends.Done status begins h r = record {
+pub ends_with : (Whole : Option ℕ → Type 0) (Begun Silent : Type 0) (Says : List ℕ → Type 0) (s : Streams) (end : RunEnd) (status : ℕ) → ((bad_line : Option ℕ) → Whole bad_line → Begun)
+    → EndsAs Whole Begun s end → Reports end Silent Says status → EndsWith Whole Begun Silent Says s status
+ends_with Whole Begun Silent Says s ends.Done status begins h r = record {
   done = λ _. (h.0, h.1, r.1);
   refused = λ e. absurd (omega (arith, e, r.0));
   failed = λ e. absurd (omega (arith, e, r.0));
 }
-ends_with Whole Begun Silent s faults faults_after (ends.BadLine line) status begins h (inl failed) = record {
+ends_with Whole Begun Silent Says s (ends.BadLine line) status begins h (inl failed) = record {
   done = λ e. absurd (omega (arith, e, failed));
   refused = λ e. absurd (omega (arith, e, failed));
   failed = λ _. begins (Some line) h;
 }
-ends_with Whole Begun Silent s faults faults_after (ends.BadLine line) status begins h (inr refused) = record {
+ends_with Whole Begun Silent Says s (ends.BadLine line) status begins h (inr refused) = record {
   done = λ e. absurd (omega (arith, e, refused.0));
   refused = λ _. (line, h, refused.1);
   failed = λ e. absurd (omega (arith, e, refused.0));
 }
-ends_with Whole Begun Silent s faults faults_after ends.Failed status begins h failed = record {
+ends_with Whole Begun Silent Says s ends.Failed status begins h failed = record {
   done = λ e. absurd (omega (arith, e, failed));
   refused = λ e. absurd (omega (arith, e, failed));
   failed = λ _. h;
 }
+
+-- a status is at most 2
+pub status_small : (end : RunEnd) (Silent : Type 0) (Says : List ℕ → Type 0) (status : ℕ) → Reports end Silent Says status → status ≤ 2
+status_small ends.Done Silent Says status r = omega (arith, r.0)
+status_small (ends.BadLine line) Silent Says status (inl failed) = omega (arith, failed)
+status_small (ends.BadLine line) Silent Says status (inr refused) = omega (arith, refused.0)
+status_small ends.Failed Silent Says status failed = omega (arith, failed)
 
 -- the first letter of the first word
 abbrev first_letter : List (List ℕ) → ℕ
@@ -188,8 +195,8 @@ module _ {C D E : Type 0} (calls : Calls (MemoryProcessor C D) (SamplerOf E) (Li
   asked_begun asked s bad_line h = inr (h.0, h.1, all_begun calls (session_under calls.keeps h.0) s bad_line h.2)
 
   -- no provider was made
-  pub none_asked : (asked : Asked) (input output faults : Option (List ℕ)) (Silent : Type 0) → EndsWith (TracesAsked calls asked (streams input input output output)) (BeginsAsked calls asked (streams input input output output)) Silent (streams input input output output) faults faults 1
-  none_asked asked input output faults Silent = record {
+  pub none_asked : (asked : Asked) (input output : Option (List ℕ)) (Silent : Type 0) (Says : List ℕ → Type 0) → EndsWith (TracesAsked calls asked (streams input input output output)) (BeginsAsked calls asked (streams input input output output)) Silent Says (streams input input output output) 1
+  none_asked asked input output Silent Says = record {
     done = λ e. absurd (omega (arith, e));
     refused = λ e. absurd (omega (arith, e));
     failed = λ _. inl (Appends-nil output);

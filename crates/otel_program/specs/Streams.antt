@@ -1,6 +1,6 @@
 -- What a run does to its three streams. Of the bytes of a stream it speaks where the stream tells them.
 use Rattle.std.specs.Prelude.{◌≡◌, ◌⊎◌, ℕ, List, Option, Some, None, IfSome}
-use Rattle.std.specs.Io.KnownBytes.{Appends, IsAtEnd}
+use Rattle.std.specs.Io.KnownBytes.{IsAtEnd}
 use Rattle.otel_program.specs.Arguments.{bad_line_text}
 use Rattle.otel_program.specs.declared.run_end.RunEnd.{RunEnd}
 use Rattle.otel_program.specs.declared.run_end.RunEnd.TheVariants as ends
@@ -28,17 +28,16 @@ EndsAs Whole Begun s ends.Done = Whole None × IsAtEnd s.input_after
 EndsAs Whole Begun s (ends.BadLine line) = Whole (Some line)
 EndsAs Whole Begun s ends.Failed = Begun
 
--- what is said of that, and with which status: 0 with no fault written, which is the fact Silent; 2 with the bad line
--- named, or 1 where that could not be written; 1 where the run failed
-abbrev pub Reports : RunEnd → Type 0 → Option (List ℕ) → Option (List ℕ) → ℕ → Type 0
-Reports ends.Done Silent faults faults_after status = (status ≡ 0) × Silent
-Reports (ends.BadLine line) Silent faults faults_after status =
-    (status ≡ 1) ⊎ ((status ≡ 2) × Appends faults faults_after (bad_line_text line))
-Reports ends.Failed Silent faults faults_after status = status ≡ 1
+-- what is said of that, and with which status: 0 with no fault written, which is the fact Silent; 2 where Says the text
+-- that names the bad line, or 1 where that could not be written; 1 where the run failed
+abbrev pub Reports : RunEnd → Type 0 → (List ℕ → Type 0) → ℕ → Type 0
+Reports ends.Done Silent Says status = (status ≡ 0) × Silent
+Reports (ends.BadLine line) Silent Says status = (status ≡ 1) ⊎ ((status ≡ 2) × Says (bad_line_text line))
+Reports ends.Failed Silent Says status = status ≡ 1
 
--- the same by the exit status: 0 with no fault written, which is the fact Silent, 2 with the bad line named, or 1
-pub record EndsWith (Whole : Option ℕ → Type 0) (Begun Silent : Type 0) (s : Streams) (faults faults_after : Option (List ℕ))
+-- the same by the exit status
+pub record EndsWith (Whole : Option ℕ → Type 0) (Begun Silent : Type 0) (Says : List ℕ → Type 0) (s : Streams)
     (status : ℕ) : Type 0 where
   pub done : status ≡ 0 → Whole None × IsAtEnd s.input_after × Silent
-  pub refused : status ≡ 2 → (line : ℕ) × Whole (Some line) × Appends faults faults_after (bad_line_text line)
+  pub refused : status ≡ 2 → (line : ℕ) × Whole (Some line) × Says (bad_line_text line)
   pub failed : status ≡ 1 → Begun

@@ -148,10 +148,9 @@ pub fn run_program<R: Read, W: Write, F: Write>(
     output: &mut W,
     faults: &mut F,
 ) -> u8
-    ensures status { result ≤ 2 }
-    ensures usage { AsksForNothing (map string_bytes words.now) →
+    ensures usage { (result ≤ 2) × (AsksForNothing (map string_bytes words.now) →
         (input.new ≡ input.old) × (output.new ≡ output.old) × (result ≢ 0)
-        × (result ≡ 2 → Appends (F.contents faults.old) (F.contents faults.new) usage_text) }
+        × (result ≡ 2 → Appends (F.contents faults.old) (F.contents faults.new) usage_text)) }
 
     // One session.
     ensures trace { (asked : Asked) → AsksFor (map string_bytes words.now) asked →
@@ -164,14 +163,14 @@ pub fn run_program<R: Read, W: Write, F: Write>(
         (BeginsAsked (memory_calls ⟦<TraceProcessor as SpanProcessor>⟧
         (record { due_gives = ⟦<TraceProcessor as DrainDue>⟧.due_gives })
         ⟦<TraceSampler as ShouldSample>⟧ ⟦<RandomIdGenerator as IdGenerator>⟧) asked s)
-        (faults.new ≡ faults.old) s (F.contents faults.old) (F.contents faults.new) result }
+        (faults.new ≡ faults.old) (Appends (F.contents faults.old) (F.contents faults.new)) s result }
 
     // One batch queue.
     ensures steps { (sizes : Sizes) → AsksForSteps (map string_bytes words.now) sizes →
         let s : Streams = streams (R.remaining input.old) (R.remaining input.new)
         (W.contents output.old) (W.contents output.new) in
-        EndsWith (StepsSized sizes s) (StepsBegun sizes s) (faults.new ≡ faults.old) s
-        (F.contents faults.old) (F.contents faults.new) result }
+        EndsWith (StepsSized sizes s) (StepsBegun sizes s)
+        (faults.new ≡ faults.old) (Appends (F.contents faults.old) (F.contents faults.new)) s result }
 {
     if let Some(sizes) = sizes_of(words) {
         let end = step_input(alloc, sizes, input, output);
@@ -258,7 +257,7 @@ fn sizes_in(queue: &str, batch: &str, producers: &str) -> Option<Sizes>
 
 /// Names a bad line, and answers the status for how a run ended.
 fn status_of<F: Write>(alloc: Global, end: RunEnd, faults: &mut F) -> u8
-    ensures { Reports end (faults.new ≡ faults.old) (F.contents faults.old) (F.contents faults.new) result }
+    ensures { Reports end (faults.new ≡ faults.old) (Appends (F.contents faults.old) (F.contents faults.new)) result }
 {
     match end {
         RunEnd::Done => DONE,
