@@ -98,48 +98,63 @@ module _ {P : Type 0} (calls : Ghosts P) (timer : timing.Ghosts P) (kept : P →
 
   flush_again : (p r : P) (answer : Result (Unit {0}) OTelSdkError) (q : P) → recalled bs p r → FlushesProcessor calls p answer q → (s : P) × recalled bs q s × FlushesProcessor calls r answer s
   flush_again p r answer q h k =
-      let one = law.flushes bs answer p r q h k.gives in
-      (one.0, one.1, record {
-        gives = one.2;
-        told = retold TakesNothing p r q one.0 h one.1 (takes_nothing_behind (spans_in bs) (calls.told p) (calls.told q) k.told);
-        is_open = retold (λ t u. u.is_open ≡ t.is_open) p r q one.0 h one.1 k.is_open;
-        emptied = retold (λ t u. OnOk answer (u.waiting ≡ 0)) p r q one.0 h one.1 k.emptied;
-      })
+      let one = law.flushes bs answer p r q h k.gives in (
+        one.0,
+        one.1,
+        record {
+          gives = one.2;
+          told = retold TakesNothing p r q one.0 h one.1 (takes_nothing_behind (spans_in bs) (calls.told p) (calls.told q) k.told);
+          is_open = retold (λ t u. u.is_open ≡ t.is_open) p r q one.0 h one.1 k.is_open;
+          emptied = retold (λ t u. OnOk answer (u.waiting ≡ 0)) p r q one.0 h one.1 k.emptied;
+        },
+      )
 
   shut_again : (timeout : ℕ) (p r : P) (answer : Result (Unit {0}) OTelSdkError) (q : P) → recalled bs p r → ShutsProcessor calls timeout p answer q → (s : P) × recalled bs q s × ShutsProcessor calls timeout r answer s
   shut_again timeout p r answer q h k =
-      let one = law.shuts bs timeout answer p r q h k.gives in
-      (one.0, one.1, record {
-        gives = one.2;
-        told = retold TakesNothing p r q one.0 h one.1 (takes_nothing_behind (spans_in bs) (calls.told p) (calls.told q) k.told);
-        emptied = retold (λ t u. OnOk answer (u.waiting ≡ 0)) p r q one.0 h one.1 k.emptied;
-      })
+      let one = law.shuts bs timeout answer p r q h k.gives in (
+        one.0,
+        one.1,
+        record {
+          gives = one.2;
+          told = retold TakesNothing p r q one.0 h one.1 (takes_nothing_behind (spans_in bs) (calls.told p) (calls.told q) k.told);
+          emptied = retold (λ t u. OnOk answer (u.waiting ≡ 0)) p r q one.0 h one.1 k.emptied;
+        },
+      )
 
   run_again : (now : ℕ) (p r : P) (answer : Result (Unit {0}) OTelSdkError) (q : P) → recalled bs p r → RunsProcessor calls timer now p answer q → (s : P) × recalled bs q s × RunsProcessor calls timer now r answer s
   run_again now p r answer q h k =
-      let one = law.runs bs now answer p r q h k.gives in
-      (one.0, one.1, record {
-        gives = one.2;
-        told = retold TakesNothing p r q one.0 h one.1 (takes_nothing_behind (spans_in bs) (calls.told p) (calls.told q) k.told);
-        is_open = retold (λ t u. u.is_open ≡ t.is_open) p r q one.0 h one.1 k.is_open;
-      })
+      let one = law.runs bs now answer p r q h k.gives in (
+        one.0,
+        one.1,
+        record {
+          gives = one.2;
+          told = retold TakesNothing p r q one.0 h one.1 (takes_nothing_behind (spans_in bs) (calls.told p) (calls.told q) k.told);
+          is_open = retold (λ t u. u.is_open ≡ t.is_open) p r q one.0 h one.1 k.is_open;
+        },
+      )
 
   end_again : (span : PlainSpanData) (p r : P) (answer : Result (Unit {0}) AllocError) (q : P) → recalled bs p r → TakesAndTells calls span p answer q → (s : P) × recalled bs q s × TakesAndTells calls span r answer s
   end_again span p r answer q h k =
-      let one = law.ends bs span answer p r q h k.gives in
-      (one.0, one.1, record {
-        gives = one.2;
-        told = retold (λ t u. TakesSpan t span answer u) p r q one.0 h one.1 (takes_span_behind (spans_in bs) (calls.told p) span answer (calls.told q) k.told);
-      })
+      let one = law.ends bs span answer p r q h k.gives in (
+        one.0,
+        one.1,
+        record {
+          gives = one.2;
+          told = retold (λ t u. TakesSpan t span answer u) p r q one.0 h one.1 (takes_span_behind (spans_in bs) (calls.told p) span answer (calls.told q) k.told);
+        },
+      )
 
   start_again : (cx : PlainContext) (old new : PlainSpan) (p r q : P) → recalled bs p r → TakesPart calls cx old p new q → (s : P) × recalled bs q s × TakesPart calls cx old r new s
   start_again cx old new p r q h k =
-      let one = law.starts bs old cx new p r q h k.gives in
-      (one.0, one.1, record {
-        gives = one.2;
-        edits = k.edits;
-        told = retold (λ t u. u ≡ t) p r q one.0 h one.1 (ap (heard_behind (spans_in bs)) k.told);
-      })
+      let one = law.starts bs old cx new p r q h k.gives in (
+        one.0,
+        one.1,
+        record {
+          gives = one.2;
+          edits = k.edits;
+          told = retold (λ t u. u ≡ t) p r q one.0 h one.1 (ap (heard_behind (spans_in bs)) k.told);
+        },
+      )
 
   pub passes_again : (cx : PlainContext) (old new : PlainSpan) (ps rs qs : List P) → FirstRecalled recalled bs ps rs → PassesThrough calls cx old ps qs new
       → (ss : List P) × FirstRecalled recalled bs qs ss × PassesThrough calls cx old rs ss new
@@ -231,16 +246,19 @@ module _ {P : Type 0} (calls : Ghosts P) (timer : timing.Ghosts P) (kept : P →
             × MatchBool b ((history ≡ over empty_span_context old.span_limits) × (with_processors new ss ≡ with_processors old rs)) (StartsOpen calls sampler ids (with_processors old rs) scope builder cx now history (with_processors new ss))
         by true k = (rs, subst (λ (p : ProviderState P S G). FirstRecalled recalled bs p.processors rs) (sym k.1) h, (k.0, ap (λ (p : ProviderState P S G). with_processors p rs) k.1))
         by false k =
-            let decided = decided_again k.answer.decision cx _ old.processors rs new.processors history h k.decided in
-            (decided.0, decided.1, record {
-              trace_id = k.trace_id;
-              span_id = k.span_id;
-              answer = k.answer;
-              draws = k.draws;
-              asks = k.asks;
-              decided = decided.2;
-              rest = ap (λ (p : ProviderState P S G). with_processors p decided.0) k.rest;
-            })
+            let decided = decided_again k.answer.decision cx _ old.processors rs new.processors history h k.decided in (
+              decided.0,
+              decided.1,
+              record {
+                trace_id = k.trace_id;
+                span_id = k.span_id;
+                answer = k.answer;
+                draws = k.draws;
+                asks = k.asks;
+                decided = decided.2;
+                rest = ap (λ (p : ProviderState P S G). with_processors p decided.0) k.rest;
+              },
+            )
 
     pub flushes_again : (old : ProviderState P S G) (rs : List P) (answer : Result (Unit {0}) OTelSdkError) (new : ProviderState P S G) → FirstRecalled recalled bs old.processors rs → Flushes calls old answer new
         → (ss : List P) × FirstRecalled recalled bs new.processors ss × Flushes calls (with_processors old rs) answer (with_processors new ss)
