@@ -22,7 +22,7 @@ use Rattle.otel_batch.specs.declared.machine.step.Outcome.TheVariants as outcome
 use Rattle.otel_batch.specs.declared.machine.step.Step.{Step}
 use Rattle.otel_export.specs.declared.trace.export.SpanExporter.{Ghosts}
 use Rattle.otel_batch.proofs.Dropping.{first_and_rest}
-use Rattle.opentelemetry_sdk.specs.WorkedOff.{GoesBy, next_of_worker}
+use Rattle.otel_batch.specs.WorkedOff.{GoesBy, next_of_worker}
 use Rattle.opentelemetry_sdk.proofs.Worker.{has_next, next_permitted}
 
 -- how many requests of a kind a message is, and a drain is for

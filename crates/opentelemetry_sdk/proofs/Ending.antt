@@ -14,7 +14,7 @@ use Rattle.otel_batch.specs.declared.machine.step.Outcome.TheVariants as outcome
 use Rattle.otel_batch.specs.declared.machine.step.Step.{Step}
 use Rattle.otel_batch.specs.declared.machine.step.Step.TheVariants as step
 use Rattle.otel_export.specs.declared.trace.export.SpanExporter.{Ghosts}
-use Rattle.opentelemetry_sdk.specs.WorkedOff.{GoesBy, next_of_producer, producers_next}
+use Rattle.otel_batch.specs.WorkedOff.{GoesBy, next_of_producer, producers_next}
 use Rattle.opentelemetry_sdk.proofs.Producer.{is_at_work, next_goes, send_goes}
 
 -- what a producer's steps leave alone, and that it is idle or at work

@@ -14,16 +14,7 @@ use Rattle.otel_batch.specs.declared.machine.step.Outcome.TheVariants as outcome
 use Rattle.otel_batch.specs.declared.machine.step.Step.{Step}
 use Rattle.otel_batch.specs.declared.machine.step.Step.TheVariants as step
 use Rattle.otel_batch.proofs.SlotSums.{slice_get-within}
-use Rattle.opentelemetry_sdk.specs.WorkedOff.{producers_next}
-
--- how many steps the producer has left at most
-abbrev pub producer_work : Option Slot → ℕ
-producer_work (Some (slot.Holding span n)) = 4
-producer_work (Some slot.Asking) = 3
-producer_work (Some slot.Posting) = 2
-producer_work (Some slot.Resetting) = 1
-producer_work (Some slot.Refused) = 1
-producer_work _ = 0
+use Rattle.otel_batch.specs.WorkedOff.{producers_next}
 
 -- the producer is idle or at work with a span
 abbrev pub is_at_work : Option Slot → Bool
@@ -56,7 +47,6 @@ pub record GoesOnToIdle (s t : Counts) : Type 0 where
   pub puts : PutsFirst s t new
   pub at_work : is_at_work (Some new) ≡ true
   pub holds_none : is_holding (Some new) ≡ false
-  pub less : producer_work (Some new) < producer_work (slot_at s 0)
   pub dropped : t.control.dropped ≡ s.control.dropped
 
 undo_goes : (s : Counts) (o : Outcome) (t : Counts) → slot_at s 0 ≡ Some slot.Refused → UndoRow s 0 o t →
@@ -67,7 +57,6 @@ undo_goes s outcome.Undone t at row = record {
       (ap (λ c. c.control.closed) row.1);
   at_work = refl;
   holds_none = refl;
-  less = rw at (omega arith);
   dropped = ap (λ c. c.control.dropped) row.1;
 }
 undo_goes s outcome.NotEnabled t at row = absurd (let yes : is_refused (slot_at s 0) ≡ true = rw at refl in let no = row.0 in cc)
@@ -81,7 +70,6 @@ ask_goes s outcome.AlreadyAsked t at row = record {
       (ap (λ c. c.control.closed) row.2);
   at_work = refl;
   holds_none = refl;
-  less = rw at (omega arith);
   dropped = ap (λ c. c.control.dropped) row.2;
 }
 ask_goes s outcome.MayPost t at row = record {
@@ -90,7 +78,6 @@ ask_goes s outcome.MayPost t at row = record {
       (ap (λ c. c.control.closed) row.2);
   at_work = refl;
   holds_none = refl;
-  less = rw at (omega arith);
   dropped = ap (λ c. c.control.dropped) row.2;
 }
 ask_goes s outcome.NotEnabled t at row = absurd (let yes : is_asking (slot_at s 0) ≡ true = rw at refl in let no = row.0 in cc)
@@ -105,7 +92,6 @@ resets s t at is = record {
       (ap (λ c. c.control.closed) is);
   at_work = refl;
   holds_none = refl;
-  less = rw at (omega arith);
   dropped = ap (λ c. c.control.dropped) is;
 }
 
@@ -119,7 +105,6 @@ post_goes s outcome.Posted t at row = record {
       (ap (λ c. c.control.closed) row.3);
   at_work = refl;
   holds_none = refl;
-  less = rw at (omega arith);
   dropped = ap (λ c. c.control.dropped) row.3;
 }
 post_goes s outcome.NotEnabled t at row = absurd (let yes : is_posting (slot_at s 0) ≡ true = rw at refl in let no = row.0 in cc)
@@ -133,7 +118,6 @@ reset_goes s outcome.ResetDone t at row = record {
       (ap (λ c. c.control.closed) row.1);
   at_work = refl;
   holds_none = refl;
-  less = rw at (omega arith);
   dropped = ap (λ c. c.control.dropped) row.1;
 }
 reset_goes s outcome.NotEnabled t at row = absurd (let yes : is_resetting (slot_at s 0) ≡ true = rw at refl in let no = row.0 in cc)
@@ -145,18 +129,16 @@ pub record Sends (s : Counts) (o : Outcome) (t : Counts) : Type 0 where
   pub puts : PutsFirst s t new
   pub at_work : is_at_work (Some new) ≡ true
   pub holds_none : is_holding (Some new) ≡ false
-  pub less : producer_work (Some new) < 4
 
 sent : (s : Counts) (o : Outcome) (t : Counts) (span : PlainSpanData) (n : ℕ) (new : Slot) →
     slot_at s 0 ≡ Some (slot.Holding span n) → t.control.slots ≡ slice_set s.control.slots 0 new →
     t.control.worker ≡ s.control.worker → t.control.closed ≡ s.control.closed → is_at_work (Some new) ≡ true →
-    is_holding (Some new) ≡ false → producer_work (Some new) < 4 → Sends s o t
-sent s o t span n new at slots worker closed works holds less = record {
+    is_holding (Some new) ≡ false → Sends s o t
+sent s o t span n new at slots worker closed works holds = record {
   new = new;
   puts = puts s t (slot.Holding span n) new at slots worker closed;
   at_work = works;
   holds_none = holds;
-  less = less;
 }
 
 pub send_goes : (s : Counts) (o : Outcome) (t : Counts) (span : PlainSpanData) (n : ℕ) →
@@ -165,19 +147,18 @@ send_goes s outcome.Accepted t span n at row =
     let next = after_send s.control.batch_size (number_held (slot_at s 0)) in
     let facts = asks (nat_le s.control.batch_size (number_held (slot_at s 0))) in
     sent s outcome.Accepted t span n next at (ap (λ c. c.control.slots) row.3) (ap (λ c. c.control.worker) row.3)
-    (ap (λ c. c.control.closed) row.3) facts.0 facts.1 facts.2
+    (ap (λ c. c.control.closed) row.3) facts.0 facts.1
   where
     asks : (b : Bool) → (is_at_work (Some (if b then slot.Asking else slot.Idle)) ≡ true)
         × (is_holding (Some (if b then slot.Asking else slot.Idle)) ≡ false)
-        × (producer_work (Some (if b then slot.Asking else slot.Idle)) < 4)
-    asks true = (refl, refl, omega arith)
-    asks false = (refl, refl, omega arith)
+    asks true = (refl, refl)
+    asks false = (refl, refl)
 send_goes s outcome.Full t span n at row = sent s outcome.Full t span n slot.Refused at
     (ap (λ c. c.control.slots) row.3) (ap (λ c. c.control.worker) row.3) (ap (λ c. c.control.closed) row.3)
-    refl refl (omega arith)
+    refl refl
 send_goes s outcome.Closed t span n at row = sent s outcome.Closed t span n slot.Refused at
     (ap (λ c. c.control.slots) row.2) (ap (λ c. c.control.worker) row.2) (ap (λ c. c.control.closed) row.2)
-    refl refl (omega arith)
+    refl refl
 send_goes s outcome.NotEnabled t span n at row =
     absurd (let yes : is_holding (slot_at s 0) ≡ true = rw at refl in let no = row.0 in cc)
 send_goes s _ t span n at row = absurd row
@@ -201,22 +182,3 @@ next_goes s x o t None is holds next row = absurd (let no : None ≡ Some x = ne
 next_goes s x o t (Some slot.Idle) is holds next row = absurd (let no : None ≡ Some x = next in cc)
 next_goes s x o t (Some (slot.Waiting r)) is holds next row = absurd (let no : None ≡ Some x = next in cc)
 next_goes s x o t (Some (slot.Answered a)) is holds next row = absurd (let no : None ≡ Some x = next in cc)
-
--- the producer's work comes to an end
-pub next_works : (s : Counts) (x : Step) (o : Outcome) (t : Counts) (at : Option Slot) → slot_at s 0 ≡ at →
-    producers_next at ≡ Some x → Permitted s x o t → producer_work (slot_at t 0) < producer_work (slot_at s 0)
-next_works s x o t (Some (slot.Holding span n)) is next row =
-    let goes = send_goes s o t span n is (rw (same_step x (step.Send 0) next) at row) in
-    rw (goes.puts.slot, is) goes.less
-next_works s x o t (Some slot.Refused) is next row =
-    let goes = next_goes s x o t (Some slot.Refused) is refl next row in rw goes.puts.slot goes.less
-next_works s x o t (Some slot.Asking) is next row =
-    let goes = next_goes s x o t (Some slot.Asking) is refl next row in rw goes.puts.slot goes.less
-next_works s x o t (Some slot.Posting) is next row =
-    let goes = next_goes s x o t (Some slot.Posting) is refl next row in rw goes.puts.slot goes.less
-next_works s x o t (Some slot.Resetting) is next row =
-    let goes = next_goes s x o t (Some slot.Resetting) is refl next row in rw goes.puts.slot goes.less
-next_works s x o t None is next row = absurd (let no : None ≡ Some x = next in cc)
-next_works s x o t (Some slot.Idle) is next row = absurd (let no : None ≡ Some x = next in cc)
-next_works s x o t (Some (slot.Waiting r)) is next row = absurd (let no : None ≡ Some x = next in cc)
-next_works s x o t (Some (slot.Answered a)) is next row = absurd (let no : None ≡ Some x = next in cc)

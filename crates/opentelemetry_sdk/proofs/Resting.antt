@@ -27,7 +27,7 @@ use Rattle.otel_export.specs.declared.trace.export.SpanExporter.{Ghosts}
 use Rattle.otel_batch.proofs.Conserving.{moved-conserves, conserves_then}
 use Rattle.otel_batch.proofs.SlotSums.{one_flush, one_shutdown}
 use Rattle.otel_batch.proofs.TableFacts.{dropped_after, permitted-leaves}
-use Rattle.opentelemetry_sdk.specs.WorkedOff.{GoesBy, is_idle_worker, next_of_worker}
+use Rattle.otel_batch.specs.WorkedOff.{GoesBy, is_idle_worker, next_of_worker}
 use Rattle.opentelemetry_sdk.proofs.Worker.{has_next, next_permitted}
 
 -- the worker's steps accept no span and count no drop

@@ -1,5 +1,5 @@
 -- The worker's next step is enabled and finds something to do, so that its work comes to an end.
-use Rattle.std.proofs.Common.{◌≡◌, ◌≢◌, inl, inr, refl, ap, ◌∙◌, ℕ, ◌<◌, ◌==◌, ◌||◌, ◌&&◌, Bool, true, false, List, [], ◌∷◌, Some, None, length, slice_get, if◌then◌else◌}
+use Rattle.std.proofs.Common.{◌≡◌, ◌≢◌, inl, inr, refl, ap, ◌∙◌, ℕ, ◌<◌, ◌==◌, ◌||◌, ◌&&◌, Bool, true, false, List, [], ◌∷◌, Some, None, length, slice_get, if◌then◌else◌, arith}
 use Rattle.std.proofs.lemmas.Bool.Decides.{eqb_tells}
 use Rattle.otel_batch.specs.Slots.{is_answered}
 use Rattle.otel_batch.specs.Workers.{is_ready, is_gone}
@@ -16,7 +16,7 @@ use Rattle.otel_batch.specs.declared.machine.step.Outcome.TheVariants as outcome
 use Rattle.otel_batch.specs.declared.machine.step.Step.{Step}
 use Rattle.otel_export.specs.declared.trace.export.SpanExporter.{Ghosts}
 use Rattle.otel_batch.proofs.Working.{permitted-lessens}
-use Rattle.opentelemetry_sdk.specs.WorkedOff.{GoesBy, is_idle_worker, next_of_worker}
+use Rattle.otel_batch.specs.WorkedOff.{GoesBy, is_idle_worker, next_of_worker}
 
 -- either of two tests fails where both do
 neither : (a b : Bool) → (a || b) ≡ false → (a ≡ false) × (b ≡ false)
@@ -105,6 +105,17 @@ module _ {E : Type 0} (calls : Ghosts E) where
       (is_workers_next s.control.worker)
       (finds_work (counts s) s.control.worker o (counts t) (next_permitted s x o t has steps)
       (steps.goes_on has.is has.stays) has.message has.stays)
+
+  -- so does a run of such steps
+  pub goes_lessens : (s : Machine E) (x : Step) (xs : List Step) (o : Outcome) (os : List Outcome) (t : Machine E) →
+      GoesBy calls next_of_worker s (x ∷ xs) (o ∷ os) t → work_left (counts t) < work_left (counts s)
+  goes_lessens s x [] o [] t goes = rw goes.3 (next_lessens s x o goes.1 goes.0 goes.2)
+  goes_lessens s x (y ∷ ys) o (p ∷ ps) t goes =
+      let first = next_lessens s x o goes.1 goes.0 goes.2 in
+      let rest = goes_lessens goes.1 y ys p ps t goes.3 in
+      omega arith
+  goes_lessens s x [] o (p ∷ ps) t goes = absurd goes.3
+  goes_lessens s x (y ∷ ys) o [] t goes = absurd goes.3
 
   -- all steps are the worker's
   pub goes_workers : (s : Machine E) (xs : List Step) (os : List Outcome) (t : Machine E) →

@@ -24,7 +24,7 @@ use Rattle.otel_batch.specs.declared.machine.step.Outcome.{Outcome}
 use Rattle.otel_batch.specs.declared.machine.step.Outcome.TheVariants as outcome
 use Rattle.otel_batch.specs.declared.machine.step.Step.TheVariants as step
 use Rattle.otel_export.specs.declared.trace.export.SpanExporter.{Ghosts}
-use Rattle.opentelemetry_sdk.specs.WorkedOff.{CollectsAnswer, TicksAndWorks, WorkerWorks, WorksOff, next_of_producer, own_error, own_refusal}
+use Rattle.otel_batch.specs.WorkedOff.{CollectsAnswer, OffersSpan, TicksAndWorks, WorkerWorks, own_error, own_refusal}
 
 -- a batch processor: its queue, the time between two drains by the timer in nanoseconds, and when the timer was started
 -- last, if it was
@@ -81,16 +81,6 @@ module _ {E : Type 0} (calls : Ghosts E) where
     is_open = not m.control.closed;
   }
 
-  -- an end at a queue: the span is offered, and the producer does what is then to be done with it. No span reaches the
-  -- exporter
-  pub record OffersSpan (s : Machine E) (span : PlainSpanData) (t : Machine E) : Type 0 where
-    pub offered : Outcome
-    pub holding : Machine E
-    pub outcomes : List Outcome
-    pub offers : Run calls s (step.Offer 0 span ∷ []) (offered ∷ []) holding
-    pub works : WorksOff calls next_of_producer holding outcomes t
-    pub exporter : t.exporter ≡ s.exporter
-
   -- a request that is carried out: it is posted, the worker works until it is answered, and the answer is collected.
   -- That of a flush is the first error of its own drain, which is the last, but for the text of a failure. That of a
   -- shutdown says whether its own drain found memory, and so whether the queue is closed
@@ -124,7 +114,7 @@ module _ {E : Type 0} (calls : Ghosts E) where
   -- an end
   pub record BatchEnds (old : BatchProcessor E) (span : PlainSpanData) (answer : Result (Unit {0}) AllocError)
       (new : BatchProcessor E) : Type 0 where
-    pub offers : OffersSpan old.machine span new.machine
+    pub offers : OffersSpan calls old.machine span new.machine
     pub ok : answer ≡ Ok tt
     pub rest : new ≡ record old { machine = new.machine }
 

@@ -16,7 +16,7 @@ use Rattle.otel_batch.specs.declared.machine.step.Outcome.{Outcome}
 use Rattle.otel_batch.specs.declared.machine.step.Outcome.TheVariants as outcome
 use Rattle.otel_batch.specs.declared.machine.step.Step.{Step}
 use Rattle.otel_batch.specs.declared.machine.step.Step.TheVariants as step
-use Rattle.opentelemetry_sdk.specs.WorkedOff.{GoesBy, TicksAndWorks, WorkerWorks}
+use Rattle.otel_batch.specs.WorkedOff.{GoesBy, TicksAndWorks, WorkerWorks}
 use Rattle.opentelemetry_sdk.specs.BatchProcessor.{AnswersRequest, BatchDue, BatchProcessor}
 use Rattle.opentelemetry_sdk.specs.BatchProcessor.{DrainsByTimer, Requests, TellsTime, WorksAndTellsTime}
 

@@ -14,7 +14,7 @@ use Rattle.otel_batch.specs.declared.machine.step.Step.TheVariants as step
 use Rattle.opentelemetry_sdk.specs.BatchProcessor.{AnswersRequest, BatchProcessor, Requests}
 use Rattle.opentelemetry_sdk.specs.RecalledRuns.{goes_over, run_over}
 use Rattle.opentelemetry_sdk.specs.RecalledSteps.{Over, in_front_of}
-use Rattle.opentelemetry_sdk.specs.WorkedOff.{WorkerWorks, next_of_worker}
+use Rattle.otel_batch.specs.WorkedOff.{WorkerWorks, next_of_worker}
 
 -- the same batch processor in front of another exporter
 abbrev pub batch_before : {E : Type 0} → BatchProcessor E → E → BatchProcessor E

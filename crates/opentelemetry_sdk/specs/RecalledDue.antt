@@ -15,7 +15,7 @@ use Rattle.opentelemetry_sdk.specs.RecalledByBatch.{BatchOver, batch_before, wor
 use Rattle.opentelemetry_sdk.specs.RecalledCalls.{batch_same}
 use Rattle.opentelemetry_sdk.specs.RecalledRuns.{run_over}
 use Rattle.opentelemetry_sdk.specs.RecalledSteps.{Over, in_front_of}
-use Rattle.opentelemetry_sdk.specs.WorkedOff.{TicksAndWorks}
+use Rattle.otel_batch.specs.WorkedOff.{TicksAndWorks}
 
 module _ {E : Type 0} (calls : Ghosts E) {keeps : E → List (List PlainSpanData)} {loses : E → ℕ}
     {recalled : List (List PlainSpanData) → E → E → Type 0} (recalls : ExporterRecalls calls keeps loses recalled)

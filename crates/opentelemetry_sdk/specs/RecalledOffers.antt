@@ -13,9 +13,8 @@ use Rattle.otel_batch.specs.declared.machine.step.Outcome.{Outcome}
 use Rattle.otel_batch.specs.declared.machine.step.Outcome.TheVariants as outcome
 use Rattle.otel_batch.specs.declared.machine.step.Step.{Step}
 use Rattle.otel_batch.specs.declared.machine.step.Step.TheVariants as step
-use Rattle.opentelemetry_sdk.specs.BatchProcessor.{OffersSpan}
 use Rattle.opentelemetry_sdk.specs.RecalledSteps.{in_front_of}
-use Rattle.opentelemetry_sdk.specs.WorkedOff.{GoesBy, next_of_producer, producers_next}
+use Rattle.otel_batch.specs.WorkedOff.{GoesBy, OffersSpan, next_of_producer, producers_next}
 
 -- whether a step may ask the exporter for anything
 abbrev pub asks_exporter : Step → Bool

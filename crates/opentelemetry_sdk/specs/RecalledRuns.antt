@@ -9,7 +9,7 @@ use Rattle.otel_batch.specs.MachineRun.{Run}
 use Rattle.otel_batch.specs.declared.machine.step.Outcome.{Outcome}
 use Rattle.otel_batch.specs.declared.machine.step.Step.{Step}
 use Rattle.opentelemetry_sdk.specs.RecalledSteps.{Over, in_front_of, stepped_over}
-use Rattle.opentelemetry_sdk.specs.WorkedOff.{GoesBy}
+use Rattle.otel_batch.specs.WorkedOff.{GoesBy}
 
 module _ {E : Type 0} (calls : Ghosts E) {keeps : E → List (List PlainSpanData)} {loses : E → ℕ}
     {recalled : List (List PlainSpanData) → E → E → Type 0} (recalls : ExporterRecalls calls keeps loses recalled)

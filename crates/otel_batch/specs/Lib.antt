@@ -17,3 +17,4 @@ pub mod StrandedSpans
 pub mod Drains
 pub mod WorkLeft
 pub mod DrainAnswers
+pub mod WorkedOff

@@ -8,6 +8,7 @@ pub mod batch_machine;
 mod kept_batches;
 mod producer_steps;
 mod queue;
+mod runs;
 mod slots;
 pub mod span_queue;
 pub mod state;

@@ -206,6 +206,7 @@ impl<E: SpanExporter> SpanProcessor for BatchSpanProcessor<E> {
 
     fn on_start(&mut self, _span: &mut Span, _cx: &Context) {}
 
+    #[inline(always)]
     fn on_end(&mut self, span: SpanData) -> Result<(), AllocError> {
         offer_span(&mut self.machine, span);
         Ok(())

@@ -1,7 +1,7 @@
 //! What a batch processor does with its queue, which has one producer: a span is offered and goes as far as it goes, a
 //! request is carried out, and the worker works until it has nothing to do. Between two calls the queue is at rest.
 
-ghost use Rattle.std.specs.Prelude.{◌≡◌, true, false, List, [], ◌∷◌, Some, Ok, OnOk, slice_get, option_copied};
+ghost use Rattle.std.specs.Prelude.{◌≡◌, true, false, List, [], ◌∷◌, Some, Ok, OnOk, slice_get};
 ghost use Rattle.std.specs.Result.{result_err};
 ghost use Rattle.std.specs.declared.alloc.AllocError.{AllocError};
 ghost use Rattle.otel_pipeline.specs.ProcessorTelling.{TakesNothing, TakesSpan};
@@ -12,9 +12,9 @@ ghost use Rattle.otel_batch.specs.MachineState.{stranded_in};
 ghost use Rattle.otel_batch.specs.MachineRun.{Run};
 ghost use Rattle.otel_batch.specs.declared.machine.state.Request.TheVariants as request;
 ghost use Rattle.otel_batch.specs.declared.machine.step.Outcome as outcomes;
-ghost use Rattle.opentelemetry_sdk.specs.WorkedOff.{CollectsAnswer, TicksAndWorks, WorkerWorks, WorksOff, last_error};
-ghost use Rattle.opentelemetry_sdk.specs.WorkedOff.{next_of_producer, next_of_worker, producers_next};
-ghost use Rattle.opentelemetry_sdk.specs.BatchProcessor.{ClosesIfOk, IsAtRest, OffersSpan, PostsResource, Requests, queue_telling};
+ghost use Rattle.otel_batch.specs.declared.machine.step.Step as steps;
+ghost use Rattle.otel_batch.specs.WorkedOff.{CollectsAnswer, GoesBy, OffersSpan, TicksAndWorks, WorkerWorks, last_error, next_of_worker};
+ghost use Rattle.opentelemetry_sdk.specs.BatchProcessor.{ClosesIfOk, IsAtRest, PostsResource, Requests, queue_telling};
 
 use otel_base::error::{OTelSdkError, OTelSdkResult};
 use otel_base::resource::Resource;
@@ -23,6 +23,7 @@ use otel_export::trace::{SpanData, SpanExporter};
 use std::alloc::Global;
 
 /// The span is queued, or dropped: one that is not sampled, and one that finds the queue full or closed.
+#[inline(always)]
 pub(crate) fn offer_span<E: SpanExporter>(machine: &mut BatchMachine<E>, span: SpanData)
     requires { IsAtRest machine.old }
     ensures offers { OffersSpan E.SpanExporter machine.old span machine.new }
@@ -31,8 +32,7 @@ pub(crate) fn offer_span<E: SpanExporter>(machine: &mut BatchMachine<E>, span: S
     ensures rest { IsAtRest machine.new }
 {
     machine.is_sound();
-    let _ = machine.step(Step::Offer(0, span));
-    work_off_span(machine);
+    machine.put(span);
 }
 
 /// The resource is posted for the exporter; a full or closed queue drops it.
@@ -107,29 +107,6 @@ pub(crate) fn drain_by_tick<E: SpanExporter>(machine: &mut BatchMachine<E>) -> O
     answer
 }
 
-/// The producer does what is to be done with the span that it was offered.
-fn work_off_span<E: SpanExporter>(machine: &mut BatchMachine<E>)
-    ensures { (os : List outcomes.Outcome) × WorksOff E.SpanExporter next_of_producer machine.old os machine.new }
-{
-    while let Some(step) = producer_step(machine.slot(0)) {
-        let _ = machine.step(step);
-    }
-}
-
-/// What the producer of this slot does next with its span, if it has one.
-fn producer_step(slot: Option<&Slot>) -> Option<Step>
-    ensures { result ≡ producers_next (option_copied slot.entry) }
-{
-    match slot {
-        Some(Slot::Holding(_, _)) => Some(Step::Send(0)),
-        Some(Slot::Refused) => Some(Step::Undo(0)),
-        Some(Slot::Asking) => Some(Step::Ask(0)),
-        Some(Slot::Posting) => Some(Step::Post(0)),
-        Some(Slot::Resetting) => Some(Step::Reset(0)),
-        _ => None,
-    }
-}
-
 /// The worker works until the producer has an answer to collect or there is nothing to do. The answer is that of its
 /// last drain for which nobody waits, Ok where it had none.
 fn work_off_messages<E: SpanExporter>(machine: &mut BatchMachine<E>) -> OTelSdkResult
@@ -137,9 +114,29 @@ fn work_off_messages<E: SpanExporter>(machine: &mut BatchMachine<E>) -> OTelSdkR
 {
     let mut answer = Ok(());
     while let Some(step) = worker_step_of(machine) {
-        answer = answer_after(answer, machine.step(step));
+        answer = work_on(machine, step, answer);
     }
     answer
+}
+
+/// The worker takes its next step, and where it pulls it goes on pulling. The answer is that of its last drain so far.
+fn work_on<E: SpanExporter>(
+    machine: &mut BatchMachine<E>,
+    step: Step,
+    answer: OTelSdkResult,
+) -> OTelSdkResult
+    requires { next_of_worker machine.old.control ≡ Some step }
+    ensures { (xs : List steps.Step) × (o : outcomes.Outcome) × (os : List outcomes.Outcome)
+        × GoesBy E.SpanExporter next_of_worker machine.old (step ∷ xs) (o ∷ os) machine.new
+        × (result_err result ≡ last_error (result_err answer) (o ∷ os)) }
+{
+    match step {
+        Step::Pull => {
+            machine.pull_batch();
+            answer
+        }
+        step => answer_after(answer, machine.step(step)),
+    }
 }
 
 /// The last drain's answer behind one more step.

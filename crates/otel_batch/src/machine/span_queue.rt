@@ -1,6 +1,7 @@
 //! `SpanQueue` and its methods. A clause sees a queue as its `items`, from the oldest to the newest, and its `capacity`.
 
-ghost use Rattle.std.specs.Prelude.{◌≡◌, ◌^◌, ◌*◌, ◌-◌, ◌<◌, ◌≤◌, ◌==◌, [], ◌∷◌, ◌++◌, length, drop, replicate};
+ghost use Rattle.std.specs.Prelude.{◌≡◌, ◌^◌, ◌*◌, ◌-◌, ◌<◌, ◌≤◌, ◌==◌, ◌+◌, [], ◌∷◌, ◌++◌, length, take, drop, replicate};
+ghost use Rattle.std.specs.Prelude.{vec_len, vec_capacity};
 ghost use Rattle.std.specs.Prelude.{slice_get, option_copied, ◌↔◌, IsOk, IfOk, IfErr, OnOk};
 ghost use Rattle.circular_buffer.specs.Buffer.{buffer};
 ghost use Rattle.circular_buffer.specs.Places.{Wraps};
@@ -182,5 +183,21 @@ impl<T: Drop> SpanQueue<T> {
             unreachable!();
         };
         Some(item)
+    }
+
+    /// Moves so many of the oldest items, or all where there are fewer, behind those of a list that has room for them.
+    pub fn pop_into(&mut self, items: &mut Vec<T>, count: usize)
+        requires { vec_len items.old + count ≤ vec_capacity items.old }
+        ensures items { items.new.items ≡ items.old.items ++ take count self.old.items }
+        ensures left { self.new ≡ buffer (drop count self.old.items) self.old.capacity }
+        ensures len { vec_len items.new ≡ length items.new.items }
+        ensures capacity { vec_capacity items.new ≡ vec_capacity items.old }
+    {
+        for _i in 0..count {
+            let Some(item) = self.pop_front() else {
+                return;
+            };
+            items.push_reserved(item);
+        }
     }
 }

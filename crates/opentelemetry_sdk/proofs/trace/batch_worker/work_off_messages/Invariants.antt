@@ -4,7 +4,7 @@ use Rattle.otel_batch.specs.MachineState.{counts}
 use Rattle.otel_batch.specs.WorkLeft.{work_left}
 use Rattle.otel_batch.specs.declared.machine.step.Outcome.{Outcome}
 use Rattle.otel_batch.specs.declared.machine.step.Step.{Step}
-use Rattle.opentelemetry_sdk.specs.WorkedOff.{GoesBy, last_error, next_of_worker}
+use Rattle.otel_batch.specs.WorkedOff.{GoesBy, last_error, next_of_worker}
 use Rattle.opentelemetry_sdk.proofs.trace.batch_worker.work_off_messages.Given as goal
 
 abbrev pub invariant-loop-step : goal.invariant-loop-step

@@ -4,6 +4,7 @@ use Rattle.std.specs.Prelude.{◌≡◌, ◌&&◌, ◌||◌, ◌==◌, Bool, tru
 use Rattle.std.specs.Prelude.{slice_get, if◌then◌else◌}
 use Rattle.std.specs.Result.{result_err}
 use Rattle.otel_base.specs.declared.error.OTelSdkError.{OTelSdkError}
+use Rattle.otel_export.specs.PlainSpanData.{PlainSpanData}
 use Rattle.otel_batch.specs.Slots.{is_answered}
 use Rattle.otel_batch.specs.Workers.{is_ready, is_gone}
 use Rattle.otel_batch.specs.MachineState.{Control, Machine}
@@ -101,3 +102,21 @@ module _ {E : Type 0} (calls : Ghosts E) where
     pub answered : Machine E
     pub works : WorksOff next_of_worker s outcomes answered
     pub collects : Run calls answered (step.Collect 0 ∷ []) (outcome.Collected answer ∷ []) t
+
+  -- an end at a queue: the span is offered, and the producer does what is then to be done with it. No span reaches the
+  -- exporter
+  pub record OffersSpan (s : Machine E) (span : PlainSpanData) (t : Machine E) : Type 0 where
+    pub offered : Outcome
+    pub holding : Machine E
+    pub outcomes : List Outcome
+    pub offers : Run calls s (step.Offer 0 span ∷ []) (offered ∷ []) holding
+    pub works : WorksOff next_of_producer holding outcomes t
+    pub exporter : t.exporter ≡ s.exporter
+
+  -- the worker pulls, up to where its next step is another one. No drain ends by that
+  pub record PullsBatch (s t : Machine E) : Type 0 where
+    pub steps : List Step
+    pub outcomes : List Outcome
+    pub pulled : Outcome
+    pub goes : GoesBy next_of_worker s (step.Pull ∷ steps) (pulled ∷ outcomes) t
+    pub finishes_none : (before : Option OTelSdkError) → last_error before (pulled ∷ outcomes) ≡ before
