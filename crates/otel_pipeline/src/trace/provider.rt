@@ -15,7 +15,7 @@ ghost use Rattle.otel_pipeline.specs.Provider.{ReportsLeft, ShutsDown, ShutsProc
 ghost use Rattle.otel_pipeline.specs.Starting.{DrawsIds, PassesThrough};
 ghost use Rattle.otel_pipeline.specs.SpanHistory.{IsEdited, ended_at};
 
-use crate::trace::{CloseReport, DrainDue, LeavesSpans, SdkTracer, Span, SpanProcessor};
+use crate::trace::{CloseReport, DrainDue, LeavesSpans, Recorded, SdkTracer, Span, SpanProcessor};
 use opentelemetry::{Context, InstrumentationScope, Moment, SpanId, TraceId};
 use otel_base::error::{OTelSdkError, OTelSdkResult};
 use otel_base::trace::{ConfigOf, IdGenerator, SpanLimits};
@@ -156,7 +156,7 @@ impl<P: SpanProcessor, S: Drop, G: Drop> ProviderOf<P, S, G> {
     }
 
     /// A span has ended: each processor gets its copy, the last one the original. The answer is how many refused.
-    pub(crate) fn deliver(&mut self, copies: Vec<SpanData>, original: SpanData) -> usize
+    pub(crate) fn deliver(&mut self, copies: Vec<SpanData>, original: Recorded) -> usize
         requires { copies.items ≡ replicate (length self.old.processors - 1) original }
         ensures asked { AskedAll (TakesAndTells P.SpanProcessor original) self.old.processors self.new.processors
             result }
@@ -327,7 +327,7 @@ fn start_each<P: SpanProcessor>(processors: &mut [P], span: &mut Span, cx: &Cont
 fn end_each<P: SpanProcessor>(
     processors: &mut [P],
     copies: Vec<SpanData>,
-    original: SpanData,
+    original: Recorded,
 ) -> usize
     requires { copies.items ≡ replicate (length processors.old - 1) original }
     ensures { AskedAll (TakesAndTells P.SpanProcessor original) processors.old processors.new result }
@@ -336,7 +336,7 @@ fn end_each<P: SpanProcessor>(
         return 0;
     };
     let refused = end_copies(&mut processors[..last], copies);
-    match processors[last].on_end(original) {
+    match processors[last].on_end(original.into_data()) {
         Ok(()) => refused,
         Err(_) => refused + 1,
     }

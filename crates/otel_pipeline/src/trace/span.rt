@@ -12,7 +12,7 @@ ghost use Rattle.otel_pipeline.specs.SpanEdits.{plain_edit};
 ghost use Rattle.otel_pipeline.specs.SpanHistory as history;
 
 use super::span_edit;
-use crate::trace::{ProviderOf, SpanEdit, SpanProcessor};
+use crate::trace::{ProviderOf, Recorded, SpanEdit, SpanProcessor};
 use opentelemetry::trace::{Event, Link, SpanContext, Status};
 use opentelemetry::{KeyValue, Moment};
 use otel_base::trace::SpanLimits;
@@ -24,7 +24,7 @@ use std::marker::Model;
 /// it was; `abandon` spends it without delivering anything.
 pub struct Span {
     span_context: SpanContext,
-    recorded: Option<SpanData>,
+    recorded: Option<Recorded>,
     span_limits: SpanLimits,
 }
 
@@ -46,7 +46,7 @@ impl Span {
     /// The span that records this data.
     pub(crate) fn recording(
         span_context: SpanContext,
-        recorded: SpanData,
+        recorded: Recorded,
         span_limits: SpanLimits,
     ) -> Span
         requires { history.HasHistory (record {
@@ -208,7 +208,7 @@ impl Span {
             → IfOk result (λ found. IfSome found (λ span. span.status ≡ greatest_status unset statuses)) }
     {
         match &self.recorded {
-            Some(recorded) => Ok(Some(recorded.clone()?)),
+            Some(recorded) => Ok(Some(recorded.data().clone()?)),
             None => Ok(None),
         }
     }
@@ -221,7 +221,7 @@ impl Span {
     }
 
     /// What was recorded; no edit reaches the span any more.
-    fn take_recorded(&mut self) -> Option<SpanData>
+    fn take_recorded(&mut self) -> Option<Recorded>
         ensures recorded { result ≡ self.old.recorded }
         ensures ended { self.new ≡ history.ended self.old }
     {
@@ -274,11 +274,11 @@ impl Span {
             self.stop();
             return Ok(0);
         }
-        let copies = provider.copies_for_end(recorded, timestamp)?;
+        let copies = provider.copies_for_end(recorded.data(), timestamp)?;
         let Some(mut recorded) = self.take_recorded() else {
             unreachable!();
         };
-        recorded.end_time = timestamp;
+        recorded.data.end_time = timestamp;
         Ok(provider.deliver(copies, recorded))
     }
 

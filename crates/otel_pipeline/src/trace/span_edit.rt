@@ -8,10 +8,10 @@ ghost use Rattle.otel_pipeline.specs.SpanEdits.{plain_edit};
 ghost use Rattle.otel_pipeline.specs.SpanHistory as history;
 
 use super::limits::{cut_event, cut_link, push_within};
+use crate::trace::Recorded;
 use opentelemetry::KeyValue;
 use opentelemetry::trace::{Event, Link, Status};
 use otel_base::trace::SpanLimits;
-use otel_export::trace::SpanData;
 use std::alloc::AllocError;
 
 /// What may be done to a span while it records (OpenTelemetry specification, "Span operations").
@@ -30,7 +30,7 @@ impl SpanEdit {
     /// Edits what a span has recorded, where it records.
     pub(crate) fn apply(
         self,
-        recorded: &mut Option<SpanData>,
+        recorded: &mut Option<Recorded>,
         limits: SpanLimits,
     ) -> Result<(), AllocError>
         ensures ok { OnOk result (recorded.new ≡ history.edited_if limits (plain_edit self) recorded.old) }
@@ -45,13 +45,13 @@ impl SpanEdit {
             SpanEdit::AddLink(link) => add_link(recorded, limits, link),
             SpanEdit::SetStatus(status) => {
                 if let Some(recorded) = recorded {
-                    raise(&mut recorded.status, status);
+                    raise(&mut recorded.data.status, status);
                 }
                 Ok(())
             }
             SpanEdit::UpdateName(name) => {
                 if let Some(recorded) = recorded {
-                    recorded.name = name;
+                    recorded.data.name = name;
                 }
                 Ok(())
             }
@@ -61,7 +61,7 @@ impl SpanEdit {
 
 /// Sets an attribute, or counts it.
 pub(crate) fn set_attribute(
-    recorded: &mut Option<SpanData>,
+    recorded: &mut Option<Recorded>,
     limits: SpanLimits,
     attribute: KeyValue,
 ) -> Result<(), AllocError>
@@ -76,17 +76,17 @@ pub(crate) fn set_attribute(
         return Ok(());
     };
     let limit = limits.max_attributes_per_span;
-    let kept = push_within(&mut recorded.attributes, limit, attribute)?;
+    let kept = push_within(&mut recorded.data.attributes, limit, attribute)?;
     if !kept {
-        let count = recorded.dropped_attributes_count;
-        recorded.dropped_attributes_count = count.saturating_add(1);
+        let count = recorded.data.dropped_attributes_count;
+        recorded.data.dropped_attributes_count = count.saturating_add(1);
     }
     Ok(())
 }
 
 /// Adds an event, or counts it.
 pub(crate) fn add_event(
-    recorded: &mut Option<SpanData>,
+    recorded: &mut Option<Recorded>,
     limits: SpanLimits,
     mut event: Event,
 ) -> Result<(), AllocError>
@@ -100,7 +100,7 @@ pub(crate) fn add_event(
         return Ok(());
     };
     cut_event(&mut event, limits);
-    let events = &mut recorded.events;
+    let events = &mut recorded.data.events;
     let kept = push_within(&mut events.events, limits.max_events_per_span, event)?;
     if !kept {
         events.dropped_count = events.dropped_count.saturating_add(1);
@@ -110,7 +110,7 @@ pub(crate) fn add_event(
 
 /// Adds a link, or counts it.
 pub(crate) fn add_link(
-    recorded: &mut Option<SpanData>,
+    recorded: &mut Option<Recorded>,
     limits: SpanLimits,
     mut link: Link,
 ) -> Result<(), AllocError>
@@ -124,7 +124,7 @@ pub(crate) fn add_link(
         return Ok(());
     };
     cut_link(&mut link, limits);
-    let links = &mut recorded.links;
+    let links = &mut recorded.data.links;
     let kept = push_within(&mut links.links, limits.max_links_per_span, link)?;
     if !kept {
         links.dropped_count = links.dropped_count.saturating_add(1);

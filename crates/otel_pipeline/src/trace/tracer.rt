@@ -16,7 +16,7 @@ ghost use Rattle.otel_pipeline.specs.Starting.{
 ghost use Rattle.otel_pipeline.specs.SpanHistory.{SpanHistory, recording, span_of};
 
 use super::limits::{attributes_within, events_within, links_within};
-use crate::trace::{ProviderOf, Span, SpanProcessor};
+use crate::trace::{ProviderOf, Recorded, Span, SpanProcessor};
 use opentelemetry::trace::{SpanBuilder, SpanContext, SpanKind, Status};
 use opentelemetry::{Context, InstrumentationScope, KeyValue, Moment, TraceFlags, TraceId};
 use otel_base::trace::{IdGenerator, SamplingDecision, SamplingResult, ShouldSample, SpanLimits};
@@ -269,7 +269,7 @@ fn begin(
     let instrumentation_scope = scope.clone()?;
     let recorded_context = span_context.clone()?;
     let start_time = start_time.unwrap_or(now);
-    let recorded = SpanData {
+    let data = SpanData {
         span_context: recorded_context,
         parent_span_id: parent.span_id(),
         parent_span_is_remote: parent.is_valid() && parent.is_remote(),
@@ -284,5 +284,6 @@ fn begin(
         status: Status::Unset,
         instrumentation_scope,
     };
+    let recorded = Recorded::new(alloc, data)?;
     Ok(Span::recording(span_context, recorded, span_limits))
 }
