@@ -1,5 +1,5 @@
 -- What the worker does where it fills its hand, as the pulls of the table that it stands for.
-use Rattle.std.proofs.Common.{◌≡◌, ◌⊎◌, ◌∙◌, inl, inr, refl, sym, ap, subst, ℕ, zero, suc, ◌+◌, ◌<◌, ◌≤◌, ◌==◌, ◌||◌, Bool, true, false, List, [], ◌∷◌, ◌++◌, length, take, drop, Option, Some, None, Result, Err, slice_get, nat_lt, if◌then◌else◌, append_assoc, append-nil, length-drop, arith}
+use Rattle.std.proofs.Common.{◌≡◌, ◌⊎◌, inl, inr, refl, sym, ap, subst, ℕ, zero, suc, ◌+◌, ◌<◌, ◌≤◌, ◌==◌, ◌||◌, Bool, true, false, List, [], ◌∷◌, ◌++◌, length, take, drop, Some, None, Result, Err, slice_get, nat_lt, if◌then◌else◌, append_assoc, append-nil, length-drop, arith}
 use Rattle.std.proofs.lemmas.Bool.Decides.{eqb_tells, leb_tells}
 use Rattle.std.proofs.lemmas.Grind.{common_steps}
 use Rattle.std.proofs.lemmas.List.{nil_from_length}
@@ -8,7 +8,6 @@ use Rattle.otel_base.specs.declared.error.OTelSdkError.TheVariants.{OutOfMemory}
 use Rattle.otel_export.specs.PlainSpanData.{PlainSpanData}
 use Rattle.otel_export.specs.declared.trace.export.SpanExporter.{Ghosts}
 use Rattle.otel_batch.specs.Slots.{is_answered}
-use Rattle.otel_batch.specs.Workers.{worker_asks}
 use Rattle.otel_batch.specs.MachineState.{Control, Counts, Machine, counts, limit_of}
 use Rattle.otel_batch.specs.SoundMachine.{IsSound}
 use Rattle.otel_batch.specs.PermittedStep.{first_failure}
@@ -18,7 +17,6 @@ use Rattle.otel_batch.specs.WorkedOff.{PullsBatch, is_idle_worker, next_of_worke
 use Rattle.otel_batch.specs.declared.machine.state.Worker.{Worker}
 use Rattle.otel_batch.specs.declared.machine.state.Worker.TheVariants as worker
 use Rattle.otel_batch.specs.declared.machine.step.Outcome.TheVariants as outcome
-use Rattle.otel_batch.specs.declared.machine.step.Step.{Step}
 use Rattle.otel_batch.specs.declared.machine.step.Step.TheVariants as step
 use Rattle.otel_batch.proofs.Chunks.{first_is_some}
 use Rattle.otel_batch.proofs.Soundness.{asked_worker, awaited_worker, limit_positive, sound_pulled}

@@ -1,5 +1,5 @@
 -- What a put of the first producer does, as the steps of the table that it stands for.
-use Rattle.std.proofs.Common.{◌≡◌, ◌∙◌, refl, sym, ap, ℕ, ◌+◌, ◌-◌, ◌<◌, ◌≤◌, ◌^◌, Bool, true, false, List, [], ◌∷◌, ◌++◌, length, Option, Some, None, slice_get, slice_set, nat_le, ◌==◌, if◌then◌else◌, arith, sum_by}
+use Rattle.std.proofs.Common.{◌≡◌, refl, sym, ap, ℕ, ◌+◌, ◌-◌, ◌<◌, ◌^◌, Bool, true, false, List, [], ◌∷◌, ◌++◌, length, Option, Some, None, slice_get, slice_set, nat_le, ◌==◌, if◌then◌else◌, arith}
 use Rattle.std.proofs.lemmas.Grind.{common_steps}
 use Rattle.circular_buffer.proofs.Places.{slice_get-set_same}
 use Rattle.otel_export.specs.PlainSpanData.{PlainSpanData, is_sampled}
@@ -8,7 +8,7 @@ use Rattle.otel_export.specs.declared.trace.export.SpanExporter.{Ghosts}
 use Rattle.otel_batch.specs.Slots.{held as held_by, is_holding, number_held, slot_counts, slot_asks, slot_waits}
 use Rattle.otel_batch.specs.MachineState.{Control, Machine, counts}
 use Rattle.otel_batch.specs.SoundMachine.{IsSound}
-use Rattle.otel_batch.specs.PermittedStep.{Permitted, after_send, is_crowded}
+use Rattle.otel_batch.specs.PermittedStep.{Permitted, after_send}
 use Rattle.otel_batch.specs.MovedSpans.{Moved}
 use Rattle.otel_batch.specs.MachineRun.{Stepped}
 use Rattle.otel_batch.specs.WorkedOff.{GoesBy, OffersSpan, next_of_producer, producers_next}
@@ -20,7 +20,7 @@ use Rattle.otel_batch.specs.declared.machine.step.Outcome.{Outcome}
 use Rattle.otel_batch.specs.declared.machine.step.Outcome.TheVariants as outcome
 use Rattle.otel_batch.specs.declared.machine.step.Step.{Step}
 use Rattle.otel_batch.specs.declared.machine.step.Step.TheVariants as step
-use Rattle.otel_batch.proofs.SlotSums.{slice_get-within, counts_slot}
+use Rattle.otel_batch.proofs.SlotSums.{slice_get-within}
 use Rattle.otel_batch.proofs.Soundness.{sound_slot, sound_may_post, sound_posted, sound_reset}
 use Rattle.otel_batch.proofs.Requests.{permitted-keeps, permitted-goes_on}
 

@@ -15,13 +15,14 @@ ghost use Rattle.otel_pipeline.specs.Provider.{ReportsLeft, ShutsDown, ShutsProc
 ghost use Rattle.otel_pipeline.specs.Starting.{DrawsIds, PassesThrough};
 ghost use Rattle.otel_pipeline.specs.SpanHistory.{IsEdited, ended_at};
 
-use crate::trace::{CloseReport, DrainDue, LeavesSpans, Recorded, SdkTracer, Span, SpanProcessor};
+use crate::trace::{CloseReport, DrainDue, LeavesSpans, SdkTracer, Span, SpanProcessor};
 use opentelemetry::{Context, InstrumentationScope, Moment, SpanId, TraceId};
 use otel_base::error::{OTelSdkError, OTelSdkResult};
 use otel_base::trace::{ConfigOf, IdGenerator, SpanLimits};
 use otel_export::trace::SpanData;
 use std::alloc::{AllocError, Global};
 use std::marker::Model;
+use std::mem;
 use std::time::Duration;
 
 /// A provider over processors, a sampler and a generator of ids of any one kind each.
@@ -31,6 +32,8 @@ pub struct ProviderOf<P, S, G> {
     id_generator: G,
     span_limits: SpanLimits,
     is_shut: bool,
+    // The block of a span that ended, for the next one that starts.
+    room: Vec<SpanData>,
 }
 
 impl<P, S, G> Model for ProviderOf<P, S, G> {
@@ -90,6 +93,21 @@ impl<P, S, G> ProviderOf<P, S, G> {
         ensures { result ≡ self.now.span_limits }
     {
         self.span_limits
+    }
+
+    /// The block of a span that ended, if one is kept.
+    pub(crate) fn take_room(&mut self) -> Vec<SpanData>
+        ensures { self.new ≡ self.old }
+    {
+        let alloc = self.allocator();
+        mem::replace(&mut self.room, Vec::new(alloc))
+    }
+
+    /// Keeps the block of a span that ended.
+    pub(crate) fn keep_room(&mut self, room: Vec<SpanData>)
+        ensures { self.new ≡ self.old }
+    {
+        self.room = room;
     }
 
     /// The copies of what an ending span recorded: one for each processor but the last, which gets the original.
@@ -156,7 +174,7 @@ impl<P: SpanProcessor, S: Drop, G: Drop> ProviderOf<P, S, G> {
     }
 
     /// A span has ended: each processor gets its copy, the last one the original. The answer is how many refused.
-    pub(crate) fn deliver(&mut self, copies: Vec<SpanData>, original: Recorded) -> usize
+    pub(crate) fn deliver(&mut self, copies: Vec<SpanData>, original: SpanData) -> usize
         requires { copies.items ≡ replicate (length self.old.processors - 1) original }
         ensures asked { AskedAll (TakesAndTells P.SpanProcessor original) self.old.processors self.new.processors
             result }
@@ -236,6 +254,7 @@ impl<P: LeavesSpans, S: Drop, G: Drop> ProviderOf<P, S, G> {
             id_generator: _,
             span_limits: _,
             is_shut: _,
+            room: _,
         } = self;
         CloseReport {
             result: answer,
@@ -271,12 +290,14 @@ pub fn provider_over<P, S, G>(processors: Vec<P>, config: ConfigOf<S, G>) -> Pro
       is_shut = false;
     } }
 {
+    let room = Vec::new(*processors.allocator());
     ProviderOf {
         processors,
         sampler: config.sampler,
         id_generator: config.id_generator,
         span_limits: config.span_limits,
         is_shut: false,
+        room,
     }
 }
 
@@ -327,7 +348,7 @@ fn start_each<P: SpanProcessor>(processors: &mut [P], span: &mut Span, cx: &Cont
 fn end_each<P: SpanProcessor>(
     processors: &mut [P],
     copies: Vec<SpanData>,
-    original: Recorded,
+    original: SpanData,
 ) -> usize
     requires { copies.items ≡ replicate (length processors.old - 1) original }
     ensures { AskedAll (TakesAndTells P.SpanProcessor original) processors.old processors.new result }
@@ -336,7 +357,7 @@ fn end_each<P: SpanProcessor>(
         return 0;
     };
     let refused = end_copies(&mut processors[..last], copies);
-    match processors[last].on_end(original.into_data()) {
+    match processors[last].on_end(original) {
         Ok(()) => refused,
         Err(_) => refused + 1,
     }

@@ -1,46 +1,79 @@
-//! What a span has recorded, at a place of its own, so that the span itself moves lightly.
+//! What a span has recorded, in a block of its own: so the span itself moves lightly, and the block of a span that ended
+//! serves the next one that starts.
 
-ghost use Rattle.std.specs.Prelude.{◌≡◌, IfOk};
+ghost use Rattle.std.specs.Prelude.{◌≡◌, Some, None, is_some, IfOk, option_copied};
+ghost use Rattle.std.specs.Option.{option_map};
 
 use otel_export::trace::SpanData;
 use std::alloc::{AllocError, Global};
 use std::marker::Model;
+use std::mem;
 
-/// The data of a span that records. To contracts it is the data.
+/// The data of a span while it records. To contracts it is the data, where there is any.
 #[derive(Drop)]
 pub(crate) struct Recorded {
-    pub(super) data: Box<SpanData>,
+    // At most one.
+    pub(super) data: Vec<SpanData>,
 }
 
 impl Model for Recorded {
+    ghost use Rattle.std.specs.Prelude.{◌≤◌, Option, length, slice_get};
     ghost use Rattle.otel_export.specs.PlainSpanData.{PlainSpanData};
 
-    ghost Value = { PlainSpanData };
+    ghost Value = { Option PlainSpanData };
 
-    ghost view = { λ a. a.data.value };
+    ghost view = { λ a. slice_get a.data.items 0 };
+
+    ghost invariant = { λ a. length a.data.items ≤ 1 };
 }
 
 impl Recorded {
-    #[inline(always)]
-    pub(crate) fn new(alloc: Global, span: SpanData) -> Result<Recorded, AllocError>
-        ensures { IfOk result (λ recorded. recorded ≡ span) }
+    /// Nothing.
+    pub(crate) fn none(alloc: Global) -> Recorded
+        ensures { result ≡ None }
     {
-        Ok(Recorded {
-            data: Box::new(alloc, span)?,
-        })
+        Recorded {
+            data: Vec::new(alloc),
+        }
     }
 
-    pub(crate) fn data(&self) -> &SpanData
-        ensures { result.now ≡ self.now }
+    /// This data, in a block that is handed in or, where that has no room, in a new one.
+    #[inline(always)]
+    pub(crate) fn new(mut room: Vec<SpanData>, span: SpanData) -> Result<Recorded, AllocError>
+        ensures { IfOk result (λ recorded. recorded ≡ Some span) }
     {
-        &self.data
+        room.clear();
+        room.reserve(1)?;
+        room.push_reserved(span);
+        Ok(Recorded { data: room })
     }
 
-    /// The data, out of its place.
-    #[inline(always)]
-    pub(crate) fn into_data(self) -> SpanData
-        ensures { result ≡ self }
+    pub(crate) fn is_some(&self) -> bool
+        ensures { result ≡ is_some self.now }
     {
-        Box::into_inner(self.data)
+        !self.data.is_empty()
+    }
+
+    pub(crate) fn get(&self) -> Option<&SpanData>
+        ensures { option_copied result ≡ self.now }
+    {
+        self.data.first()
+    }
+
+    /// Takes the data out, and leaves nothing; the second part of the answer is its block.
+    #[inline(always)]
+    pub(crate) fn take(&mut self) -> Option<(SpanData, Vec<SpanData>)>
+        ensures taken { option_map (λ taken. taken.0) result ≡ self.old }
+        ensures none { self.new ≡ None }
+    {
+        let alloc = *self.data.allocator();
+        let span = self.data.pop()?;
+        Some((span, mem::replace(&mut self.data, Vec::new(alloc))))
+    }
+
+    pub(crate) fn clear(&mut self)
+        ensures { self.new ≡ None }
+    {
+        self.data.clear();
     }
 }

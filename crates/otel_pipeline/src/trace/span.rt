@@ -3,6 +3,7 @@
 
 ghost use Rattle.std.specs.Prelude.{◌≡◌, ◌≤◌, [], length, List, OnOk, OnErr, IfErr, IfOk, IfSome, IsOk, IsNone, IsTrue, Some, is_some, string_bytes};
 ghost use Rattle.std.specs.List.Sorted.{IsPermutation};
+ghost use Rattle.std.specs.Option.{option_map};
 ghost use Rattle.opentelemetry.specs.Order.{greatest_status};
 ghost use Rattle.opentelemetry.specs.Plain.{PlainStatus, unset};
 ghost use Rattle.opentelemetry.specs.PlainValues.{plain_status};
@@ -17,14 +18,14 @@ use opentelemetry::trace::{Event, Link, SpanContext, Status};
 use opentelemetry::{KeyValue, Moment};
 use otel_base::trace::SpanLimits;
 use otel_export::trace::SpanData;
-use std::alloc::AllocError;
+use std::alloc::{AllocError, Global};
 use std::marker::Model;
 
 /// A span that somebody holds. `finish` ends and spends it; `end_with_timestamp` ends it and leaves it to be asked who
 /// it was; `abandon` spends it without delivering anything.
 pub struct Span {
     span_context: SpanContext,
-    recorded: Option<Recorded>,
+    recorded: Recorded,
     span_limits: SpanLimits,
 }
 
@@ -52,24 +53,28 @@ impl Span {
         requires { history.HasHistory (record {
           span_context = span_context;
           limits = span_limits;
-          recorded = Some recorded;
+          recorded = recorded;
         }) }
-        ensures { result ≡ record { span_context = span_context; limits = span_limits; recorded = Some recorded } }
+        ensures { result ≡ record { span_context = span_context; limits = span_limits; recorded = recorded } }
     {
         Span {
             span_context,
-            recorded: Some(recorded),
+            recorded,
             span_limits,
         }
     }
 
     /// A span that records nothing.
-    pub(crate) fn not_recording(span_context: SpanContext, span_limits: SpanLimits) -> Span
+    pub(crate) fn not_recording(
+        alloc: Global,
+        span_context: SpanContext,
+        span_limits: SpanLimits,
+    ) -> Span
         ensures { result ≡ history.not_recording span_context span_limits }
     {
         Span {
             span_context,
-            recorded: None,
+            recorded: Recorded::none(alloc),
             span_limits,
         }
     }
@@ -110,6 +115,7 @@ impl Span {
     /// Sets an attribute behind those that are there, also where its key is among them. Over the limit it is only
     /// counted, which takes no memory. Nothing happens where the span is not recording (OpenTelemetry specification,
     /// "Set Attributes").
+    #[inline(always)]
     pub fn set_attribute(&mut self, attribute: KeyValue) -> Result<(), AllocError>
         ensures ok { OnOk result (self.new ≡ history.edited (history.set_attribute attribute) self.old) }
         ensures err { OnErr result (self.new ≡ self.old) }
@@ -118,7 +124,11 @@ impl Span {
         ensures full { IfSome self.old.recorded
             (λ recorded. self.old.limits.max_attributes_per_span ≤ length recorded.attributes → IsOk result) }
     {
-        span_edit::set_attribute(&mut self.recorded, self.span_limits, attribute)
+        // Out of line is only what a span that records does.
+        if !self.is_recording() {
+            return Ok(());
+        }
+        span_edit::set_attribute(&mut self.recorded, &self.span_limits, attribute)
     }
 
     /// Adds an event that happened at this moment. Its attributes are cut at their own limit; over the limit of events
@@ -207,8 +217,8 @@ impl Span {
             → IsPermutation (history.statuses_set edits) statuses
             → IfOk result (λ found. IfSome found (λ span. span.status ≡ greatest_status unset statuses)) }
     {
-        match &self.recorded {
-            Some(recorded) => Ok(Some(recorded.data().clone()?)),
+        match self.recorded.get() {
+            Some(recorded) => Ok(Some(recorded.clone()?)),
             None => Ok(None),
         }
     }
@@ -217,12 +227,12 @@ impl Span {
     fn stop(&mut self)
         ensures { self.new ≡ history.ended self.old }
     {
-        self.recorded = None;
+        self.recorded.clear();
     }
 
-    /// What was recorded; no edit reaches the span any more.
-    fn take_recorded(&mut self) -> Option<Recorded>
-        ensures recorded { result ≡ self.old.recorded }
+    /// What was recorded, with its block; no edit reaches the span any more.
+    fn take_recorded(&mut self) -> Option<(SpanData, Vec<SpanData>)>
+        ensures recorded { option_map (λ taken. taken.0) result ≡ self.old.recorded }
         ensures ended { self.new ≡ history.ended self.old }
     {
         self.recorded.take()
@@ -267,18 +277,19 @@ impl Span {
         ensures shut { IsTrue provider.old.is_shut → IsOk result }
         ensures one { length provider.old.processors ≤ 1 → IsOk result }
     {
-        let Some(recorded) = &self.recorded else {
+        let Some(recorded) = self.recorded.get() else {
             return Ok(0);
         };
         if provider.is_shut() {
             self.stop();
             return Ok(0);
         }
-        let copies = provider.copies_for_end(recorded.data(), timestamp)?;
-        let Some(mut recorded) = self.take_recorded() else {
+        let copies = provider.copies_for_end(recorded, timestamp)?;
+        let Some((mut recorded, room)) = self.take_recorded() else {
             unreachable!();
         };
-        recorded.data.end_time = timestamp;
+        recorded.end_time = timestamp;
+        provider.keep_room(room);
         Ok(provider.deliver(copies, recorded))
     }
 

@@ -28,11 +28,7 @@ pub enum SpanEdit {
 
 impl SpanEdit {
     /// Edits what a span has recorded, where it records.
-    pub(crate) fn apply(
-        self,
-        recorded: &mut Option<Recorded>,
-        limits: SpanLimits,
-    ) -> Result<(), AllocError>
+    pub(crate) fn apply(self, recorded: &mut Recorded, limits: SpanLimits) -> Result<(), AllocError>
         ensures ok { OnOk result (recorded.new ≡ history.edited_if limits (plain_edit self) recorded.old) }
         ensures err { OnErr result (recorded.new ≡ recorded.old) }
         ensures free { IsNone recorded.old → IsOk result }
@@ -40,18 +36,18 @@ impl SpanEdit {
             (λ recorded. history.KeepsNoMore limits (plain_edit self) recorded → IsOk result) }
     {
         match self {
-            SpanEdit::SetAttribute(attribute) => set_attribute(recorded, limits, attribute),
+            SpanEdit::SetAttribute(attribute) => set_attribute(recorded, &limits, attribute),
             SpanEdit::AddEvent(event) => add_event(recorded, limits, event),
             SpanEdit::AddLink(link) => add_link(recorded, limits, link),
             SpanEdit::SetStatus(status) => {
-                if let Some(recorded) = recorded {
-                    raise(&mut recorded.data.status, status);
+                if let Some(recorded) = recorded.data.first_mut() {
+                    raise(&mut recorded.status, status);
                 }
                 Ok(())
             }
             SpanEdit::UpdateName(name) => {
-                if let Some(recorded) = recorded {
-                    recorded.data.name = name;
+                if let Some(recorded) = recorded.data.first_mut() {
+                    recorded.name = name;
                 }
                 Ok(())
             }
@@ -60,33 +56,34 @@ impl SpanEdit {
 }
 
 /// Sets an attribute, or counts it.
+#[inline(never)]
 pub(crate) fn set_attribute(
-    recorded: &mut Option<Recorded>,
-    limits: SpanLimits,
+    recorded: &mut Recorded,
+    limits: &SpanLimits,
     attribute: KeyValue,
 ) -> Result<(), AllocError>
     ensures ok { OnOk result (recorded.new
-        ≡ history.edited_if limits (history.set_attribute attribute) recorded.old) }
+        ≡ history.edited_if limits.now (history.set_attribute attribute) recorded.old) }
     ensures err { OnErr result (recorded.new ≡ recorded.old) }
     ensures free { IsNone recorded.old → IsOk result }
     ensures full { IfSome recorded.old
-        (λ recorded. limits.max_attributes_per_span ≤ length recorded.attributes → IsOk result) }
+        (λ recorded. limits.now.max_attributes_per_span ≤ length recorded.attributes → IsOk result) }
 {
-    let Some(recorded) = recorded else {
+    let Some(recorded) = recorded.data.first_mut() else {
         return Ok(());
     };
     let limit = limits.max_attributes_per_span;
-    let kept = push_within(&mut recorded.data.attributes, limit, attribute)?;
+    let kept = push_within(&mut recorded.attributes, limit, attribute)?;
     if !kept {
-        let count = recorded.data.dropped_attributes_count;
-        recorded.data.dropped_attributes_count = count.saturating_add(1);
+        let count = recorded.dropped_attributes_count;
+        recorded.dropped_attributes_count = count.saturating_add(1);
     }
     Ok(())
 }
 
 /// Adds an event, or counts it.
 pub(crate) fn add_event(
-    recorded: &mut Option<Recorded>,
+    recorded: &mut Recorded,
     limits: SpanLimits,
     mut event: Event,
 ) -> Result<(), AllocError>
@@ -96,11 +93,11 @@ pub(crate) fn add_event(
     ensures full { IfSome recorded.old
         (λ recorded. limits.max_events_per_span ≤ length recorded.events.events → IsOk result) }
 {
-    let Some(recorded) = recorded else {
+    let Some(recorded) = recorded.data.first_mut() else {
         return Ok(());
     };
     cut_event(&mut event, limits);
-    let events = &mut recorded.data.events;
+    let events = &mut recorded.events;
     let kept = push_within(&mut events.events, limits.max_events_per_span, event)?;
     if !kept {
         events.dropped_count = events.dropped_count.saturating_add(1);
@@ -110,7 +107,7 @@ pub(crate) fn add_event(
 
 /// Adds a link, or counts it.
 pub(crate) fn add_link(
-    recorded: &mut Option<Recorded>,
+    recorded: &mut Recorded,
     limits: SpanLimits,
     mut link: Link,
 ) -> Result<(), AllocError>
@@ -120,11 +117,11 @@ pub(crate) fn add_link(
     ensures full { IfSome recorded.old
         (λ recorded. limits.max_links_per_span ≤ length recorded.links.links → IsOk result) }
 {
-    let Some(recorded) = recorded else {
+    let Some(recorded) = recorded.data.first_mut() else {
         return Ok(());
     };
     cut_link(&mut link, limits);
-    let links = &mut recorded.data.links;
+    let links = &mut recorded.links;
     let kept = push_within(&mut links.links, limits.max_links_per_span, link)?;
     if !kept {
         links.dropped_count = links.dropped_count.saturating_add(1);

@@ -21,7 +21,7 @@ use opentelemetry::trace::{SpanBuilder, SpanContext, SpanKind, Status};
 use opentelemetry::{Context, InstrumentationScope, KeyValue, Moment, TraceFlags, TraceId};
 use otel_base::trace::{IdGenerator, SamplingDecision, SamplingResult, ShouldSample, SpanLimits};
 use otel_export::trace::SpanData;
-use std::alloc::{AllocError, Global};
+use std::alloc::AllocError;
 use std::marker::Model;
 
 /// Starts spans.
@@ -146,7 +146,9 @@ impl SdkTracer {
     {
         let span_limits = provider.span_limits();
         if starts_nothing(provider, cx) {
-            return Ok(Span::not_recording(SpanContext::empty_context(), span_limits));
+            let alloc = provider.allocator();
+            let context = SpanContext::empty_context();
+            return Ok(Span::not_recording(alloc, context, span_limits));
         }
         let (trace_id, span_id) = provider.draw_ids(cx);
         let SamplingResult {
@@ -158,11 +160,11 @@ impl SdkTracer {
         let flags = start_flags(parent, decision);
         let span_context = SpanContext::new(trace_id, span_id, flags, false, trace_state);
         if let SamplingDecision::Drop = decision {
-            return Ok(Span::not_recording(span_context, span_limits));
+            let alloc = provider.allocator();
+            return Ok(Span::not_recording(alloc, span_context, span_limits));
         }
-        let alloc = provider.allocator();
         let mut started = begin(
-            alloc,
+            provider.take_room(),
             &self.scope,
             builder,
             parent,
@@ -238,9 +240,9 @@ fn start_flags(parent: &SpanContext, decision: SamplingDecision) -> TraceFlags
     }
 }
 
-/// The span that records what its builder, the sampler and the tracer give it.
+/// The span that records what its builder, the sampler and the tracer give it, in this block if it has room.
 fn begin(
-    alloc: Global,
+    room: Vec<SpanData>,
     scope: &InstrumentationScope,
     builder: SpanBuilder,
     parent: &SpanContext,
@@ -252,6 +254,7 @@ fn begin(
     ensures { IfOk result (λ span. span ≡ recording
         (start_of scope.now builder parent.now now.0 span_limits span_context (added_attributes added)) []) }
 {
+    let alloc = *room.allocator();
     let SpanBuilder {
         name,
         span_kind,
@@ -284,6 +287,6 @@ fn begin(
         status: Status::Unset,
         instrumentation_scope,
     };
-    let recorded = Recorded::new(alloc, data)?;
+    let recorded = Recorded::new(room, data)?;
     Ok(Span::recording(span_context, recorded, span_limits))
 }

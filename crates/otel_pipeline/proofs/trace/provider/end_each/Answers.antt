@@ -12,7 +12,7 @@ returns-in-Ok g c =
     asked_last (TakesAndTells g.P.SpanProcessor c.args.original) c.args.processors.now c.end_copies-refused.new.processors c.in-Some.last c.end_copies-refused.result _
     c.index-processors-last.result c.on_end.new.self c.on_end.result (omega arith) (omega arith)
     (c.end_copies-refused.ensures.asked c.args.original (c.requires ∙ ap (λ n. replicate n c.args.original) (sym front)))
-    (record { gives = rw c.into_data.ensures at c.on_end.ensures.gives; told = rw c.into_data.ensures at c.on_end.ensures.told })
+    (record { gives = c.on_end.ensures.gives; told = c.on_end.ensures.told })
     (ap (λ (r : Result (Unit {0}) AllocError). with_answer r c.end_copies-refused.result) c.in-Ok.is)
 
 pub returns-in-Err : goal.returns-in-Err
@@ -22,5 +22,5 @@ returns-in-Err g c =
     asked_last (TakesAndTells g.P.SpanProcessor c.args.original) c.args.processors.now c.end_copies-refused.new.processors c.in-Some.last c.end_copies-refused.result _
     c.index-processors-last.result c.on_end.new.self c.on_end.result (omega arith) (omega arith)
     (c.end_copies-refused.ensures.asked c.args.original (c.requires ∙ ap (λ n. replicate n c.args.original) (sym front)))
-    (record { gives = rw c.into_data.ensures at c.on_end.ensures.gives; told = rw c.into_data.ensures at c.on_end.ensures.told })
+    (record { gives = c.on_end.ensures.gives; told = c.on_end.ensures.told })
     (ap (λ (r : Result (Unit {0}) AllocError). with_answer r c.end_copies-refused.result) c.in-Err.is)

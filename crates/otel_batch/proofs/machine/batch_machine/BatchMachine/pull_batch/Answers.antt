@@ -1,4 +1,4 @@
-use Rattle.std.proofs.Common.{arith, ◌≡◌, ◌∙◌, inl, inr, ℕ, ◌+◌, ◌-◌, ◌<◌, ◌==◌, ◌++◌, [], true, false, refl, sym, ap, subst, length, take, drop, vec_len}
+use Rattle.std.proofs.Common.{arith, ◌≡◌, ◌∙◌, inl, inr, ℕ, ◌+◌, ◌-◌, ◌<◌, ◌++◌, [], sym, ap, subst, length, take, drop}
 use Rattle.std.proofs.lemmas.Grind.{common_steps}
 use Rattle.otel_batch.specs.MachineState.{Machine, batch_limit, counts, limit_of}
 use Rattle.otel_batch.specs.SoundMachine.{IsSound}

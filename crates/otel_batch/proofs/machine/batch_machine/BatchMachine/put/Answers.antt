@@ -1,6 +1,6 @@
-use Rattle.std.proofs.Common.{arith, ◌≡◌, ◌+◌, ◌<◌, ◌==◌, ◌∷◌, ◌++◌, [], Some, true, false, sym, ap, subst, length, nat_le}
+use Rattle.std.proofs.Common.{arith, ◌≡◌, ◌+◌, ◌<◌, ◌==◌, ◌∷◌, ◌++◌, [], true, false, sym, ap, subst, length, nat_le}
 use Rattle.std.proofs.lemmas.Grind.{common_steps}
-use Rattle.otel_export.specs.PlainSpanData.{PlainSpanData, is_sampled}
+use Rattle.otel_export.specs.PlainSpanData.{is_sampled}
 use Rattle.otel_export.specs.StoredBatches.{one_more}
 use Rattle.otel_batch.specs.MachineState.{Machine, counts}
 use Rattle.otel_batch.specs.SoundMachine.{IsSound}

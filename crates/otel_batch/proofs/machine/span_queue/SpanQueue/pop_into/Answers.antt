@@ -1,4 +1,4 @@
-use Rattle.std.proofs.Common.{arith, ◌≡◌, ◌∙◌, ◌+◌, ◌∷◌, ◌++◌, [], None, Some, ap, sym, take, drop, slice_get, append_assoc, add-one}
+use Rattle.std.proofs.Common.{arith, ◌≡◌, ◌∙◌, ◌∷◌, ◌++◌, [], None, Some, ap, sym, take, drop, slice_get, append_assoc, add-one}
 use Rattle.std.proofs.lemmas.Grind.{common_steps}
 use Rattle.circular_buffer.specs.Buffer.{Buffer, buffer}
 use Rattle.otel_batch.proofs.Pulling.{next_item, no_item}

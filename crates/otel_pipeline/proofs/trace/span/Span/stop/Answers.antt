@@ -1,6 +1,5 @@
-use Rattle.std.proofs.Common.{refl}
 use Rattle.otel_pipeline.proofs.SpanLaws.{over_history}
 use Rattle.otel_pipeline.proofs.trace.span.Span.stop.Goals as goal
 
 pub invariant_of-self : goal.invariant_of-self
-invariant_of-self c = over_history _ _ _ refl
+invariant_of-self c = over_history _ _ _ c.clear.ensures
