@@ -1,6 +1,6 @@
 -- What the producer does with a span that it was offered: the span goes last into the queue, or is refused, and nothing
 -- else moves.
-use Rattle.std.proofs.Common.{◌≡◌, ◌∙◌, refl, ap, ℕ, ◌<◌, Bool, true, false, Option, Some, None, length, slice_get, slice_set, nat_le, if◌then◌else◌, arith}
+use Rattle.std.proofs.Common.{◌≡◌, ◌∙◌, refl, ap, ℕ, Bool, true, false, Option, Some, None, length, slice_get, slice_set, nat_le, if◌then◌else◌}
 use Rattle.std.proofs.Math.ListN.{length-set}
 use Rattle.circular_buffer.proofs.Places.{slice_get-set_same}
 use Rattle.otel_export.specs.PlainSpanData.{PlainSpanData}

@@ -1,4 +1,4 @@
-use Rattle.std.proofs.Common.{◌≡◌, ◌∙◌, [], ◌∷◌, ◌++◌, None, Some, ap, refl, sym}
+use Rattle.std.proofs.Common.{◌∙◌, [], ◌∷◌, ◌++◌, None, ap, refl, sym}
 use Rattle.otel_batch.specs.WorkedOff.{last_error, next_of_worker}
 use Rattle.opentelemetry_sdk.proofs.Going.{goes_joined, last_joined}
 use Rattle.opentelemetry_sdk.proofs.Worker.{goes_lessens}
