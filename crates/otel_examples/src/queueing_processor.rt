@@ -134,26 +134,23 @@ mod tests {
     use super::QueueingProcessor;
     use crate::providers::{provider_of, push_batch, trace_span};
     use opentelemetry_sdk::trace::{
-        InMemorySpanExporter, LeavesSpans, ProviderOf, RandomIdGenerator, Sampler, SpanProcessor,
+        InMemorySpanExporter, ProviderOf, RandomIdGenerator, Sampler, SpanProcessor,
     };
     use std::alloc::{AllocError, Global};
     use std::test::Fail;
 
     type ProviderOver<P> = ProviderOf<P, Sampler, RandomIdGenerator>;
 
-    /// What a processor shows of what it exported and dropped.
-    trait ShowsExported {
-        fn show(&self, text: &mut String) -> Result<(), AllocError>;
-    }
+    type QueueingProvider = ProviderOver<QueueingProcessor<InMemorySpanExporter>>;
 
-    impl ShowsExported for QueueingProcessor<InMemorySpanExporter> {
-        fn show(&self, text: &mut String) -> Result<(), AllocError> {
-            for batch in self.exporter.batches() {
-                push_batch(text, batch)?;
-            }
-            let dropped = self.dropped;
-            write!(text, " and {dropped}")
-        }
+    /// A provider over a queue in front of an exporter in memory, in which two spans have room.
+    fn queueing_provider(alloc: Global) -> Result<QueueingProvider, AllocError> {
+        let exporter = InMemorySpanExporter::new(alloc);
+        provider_of(
+            alloc,
+            Sampler::AlwaysOn,
+            QueueingProcessor::new(alloc, exporter, 2),
+        )
     }
 
     /// Traces three spans. The answer is how many processors refused each.
@@ -176,23 +173,21 @@ mod tests {
     }
 
     /// The moments at which the exported spans started, each batch between brackets, and how many spans were dropped.
-    fn exported<P: ShowsExported>(
-        alloc: Global,
-        provider: &ProviderOver<P>,
-    ) -> Result<String, AllocError> {
+    fn exported(alloc: Global, provider: &QueueingProvider) -> Result<String, AllocError> {
         let mut text = String::new(alloc);
         for processor in provider.processors() {
-            processor.show(&mut text)?;
+            for batch in processor.exporter.batches() {
+                push_batch(&mut text, batch)?;
+            }
+            let dropped = processor.dropped;
+            write!(text, " and {dropped}")?;
         }
         Ok(text)
     }
 
     /// What came of three spans before a flush and behind it, and whether each request and the close went well.
-    fn traced<P: LeavesSpans + ShowsExported>(
-        alloc: Global,
-        processor: P,
-    ) -> Result<([usize; 3], String, String, bool), AllocError> {
-        let mut provider = provider_of(alloc, Sampler::AlwaysOn, processor)?;
+    fn traced(alloc: Global) -> Result<([usize; 3], String, String, bool), AllocError> {
+        let mut provider = queueing_provider(alloc)?;
         let refused = trace_three(alloc, &mut provider);
         let before = exported(alloc, &provider);
         let went_well = flush_and_shut(&mut provider);
@@ -203,10 +198,7 @@ mod tests {
 
     #[test]
     fn a_flush_exports_what_waits_in_one_batch(rt: HostRuntime) -> Result<(), Fail> {
-        let exporter = InMemorySpanExporter::new(rt.alloc());
-        // In the queue two spans have room.
-        let processor = QueueingProcessor::new(rt.alloc(), exporter, 2);
-        let (refused, before, behind, went_well) = traced(rt.alloc(), processor)?;
+        let (refused, before, behind, went_well) = traced(rt.alloc())?;
         assert_eq!(rt; refused, [0, 0, 0]);
         assert_eq!(rt; before.as_str(), " and 1");
         assert_eq!(rt; behind.as_str(), "[7 8 ] and 1");

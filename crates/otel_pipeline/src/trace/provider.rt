@@ -22,7 +22,6 @@ use otel_base::trace::{ConfigOf, IdGenerator, SpanLimits};
 use otel_export::trace::SpanData;
 use std::alloc::{AllocError, Global};
 use std::marker::Model;
-use std::mem;
 use std::time::Duration;
 
 /// A provider over processors, a sampler and a generator of ids of any one kind each.
@@ -32,8 +31,6 @@ pub struct ProviderOf<P, S, G> {
     id_generator: G,
     span_limits: SpanLimits,
     is_shut: bool,
-    // The block of a span that ended, for the next one that starts.
-    room: Vec<SpanData>,
 }
 
 impl<P, S, G> Model for ProviderOf<P, S, G> {
@@ -93,21 +90,6 @@ impl<P, S, G> ProviderOf<P, S, G> {
         ensures { result ≡ self.now.span_limits }
     {
         self.span_limits
-    }
-
-    /// The block of a span that ended, if one is kept.
-    pub(crate) fn take_room(&mut self) -> Vec<SpanData>
-        ensures { self.new ≡ self.old }
-    {
-        let alloc = self.allocator();
-        mem::replace(&mut self.room, Vec::new(alloc))
-    }
-
-    /// Keeps the block of a span that ended.
-    pub(crate) fn keep_room(&mut self, room: Vec<SpanData>)
-        ensures { self.new ≡ self.old }
-    {
-        self.room = room;
     }
 
     /// The copies of what an ending span recorded: one for each processor but the last, which gets the original.
@@ -254,7 +236,6 @@ impl<P: LeavesSpans, S: Drop, G: Drop> ProviderOf<P, S, G> {
             id_generator: _,
             span_limits: _,
             is_shut: _,
-            room: _,
         } = self;
         CloseReport {
             result: answer,
@@ -290,14 +271,12 @@ pub fn provider_over<P, S, G>(processors: Vec<P>, config: ConfigOf<S, G>) -> Pro
       is_shut = false;
     } }
 {
-    let room = Vec::new(*processors.allocator());
     ProviderOf {
         processors,
         sampler: config.sampler,
         id_generator: config.id_generator,
         span_limits: config.span_limits,
         is_shut: false,
-        room,
     }
 }
 

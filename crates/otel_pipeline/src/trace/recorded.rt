@@ -1,13 +1,10 @@
-//! What a span has recorded, in a block of its own: so the span itself moves lightly, and the block of a span that ended
-//! serves the next one that starts.
+//! What a span has recorded, in a block of its own, so that the span itself moves lightly.
 
 ghost use Rattle.std.specs.Prelude.{◌≡◌, Some, None, is_some, IfOk, option_copied};
-ghost use Rattle.std.specs.Option.{option_map};
 
 use otel_export::trace::SpanData;
 use std::alloc::{AllocError, Global};
 use std::marker::Model;
-use std::mem;
 
 /// The data of a span while it records. To contracts it is the data, where there is any.
 #[derive(Drop)]
@@ -37,15 +34,14 @@ impl Recorded {
         }
     }
 
-    /// This data, in a block that is handed in or, where that has no room, in a new one.
+    /// This data, in a block that is taken for it.
     #[inline(always)]
-    pub(crate) fn new(mut room: Vec<SpanData>, span: SpanData) -> Result<Recorded, AllocError>
+    pub(crate) fn new(alloc: Global, span: SpanData) -> Result<Recorded, AllocError>
         ensures { IfOk result (λ recorded. recorded ≡ Some span) }
     {
-        room.clear();
-        room.reserve(1)?;
-        room.push_reserved(span);
-        Ok(Recorded { data: room })
+        let mut data = Vec::with_capacity(alloc, 1)?;
+        data.push_reserved(span);
+        Ok(Recorded { data })
     }
 
     pub(crate) fn is_some(&self) -> bool
@@ -60,15 +56,13 @@ impl Recorded {
         self.data.first()
     }
 
-    /// Takes the data out, and leaves nothing; the second part of the answer is its block.
+    /// Takes the data out, and leaves nothing.
     #[inline(always)]
-    pub(crate) fn take(&mut self) -> Option<(SpanData, Vec<SpanData>)>
-        ensures taken { option_map (λ taken. taken.0) result ≡ self.old }
+    pub(crate) fn take(&mut self) -> Option<SpanData>
+        ensures taken { result ≡ self.old }
         ensures none { self.new ≡ None }
     {
-        let alloc = *self.data.allocator();
-        let span = self.data.pop()?;
-        Some((span, mem::replace(&mut self.data, Vec::new(alloc))))
+        self.data.pop()
     }
 
     pub(crate) fn clear(&mut self)

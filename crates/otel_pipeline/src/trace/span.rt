@@ -3,7 +3,6 @@
 
 ghost use Rattle.std.specs.Prelude.{◌≡◌, ◌≤◌, [], length, List, OnOk, OnErr, IfErr, IfOk, IfSome, IsOk, IsNone, IsTrue, Some, is_some, string_bytes};
 ghost use Rattle.std.specs.List.Sorted.{IsPermutation};
-ghost use Rattle.std.specs.Option.{option_map};
 ghost use Rattle.opentelemetry.specs.Order.{greatest_status};
 ghost use Rattle.opentelemetry.specs.Plain.{PlainStatus, unset};
 ghost use Rattle.opentelemetry.specs.PlainValues.{plain_status};
@@ -230,9 +229,9 @@ impl Span {
         self.recorded.clear();
     }
 
-    /// What was recorded, with its block; no edit reaches the span any more.
-    fn take_recorded(&mut self) -> Option<(SpanData, Vec<SpanData>)>
-        ensures recorded { option_map (λ taken. taken.0) result ≡ self.old.recorded }
+    /// What was recorded; no edit reaches the span any more.
+    fn take_recorded(&mut self) -> Option<SpanData>
+        ensures recorded { result ≡ self.old.recorded }
         ensures ended { self.new ≡ history.ended self.old }
     {
         self.recorded.take()
@@ -285,11 +284,10 @@ impl Span {
             return Ok(0);
         }
         let copies = provider.copies_for_end(recorded, timestamp)?;
-        let Some((mut recorded, room)) = self.take_recorded() else {
+        let Some(mut recorded) = self.take_recorded() else {
             unreachable!();
         };
         recorded.end_time = timestamp;
-        provider.keep_room(room);
         Ok(provider.deliver(copies, recorded))
     }
 

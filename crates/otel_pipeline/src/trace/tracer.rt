@@ -21,7 +21,7 @@ use opentelemetry::trace::{SpanBuilder, SpanContext, SpanKind, Status};
 use opentelemetry::{Context, InstrumentationScope, KeyValue, Moment, TraceFlags, TraceId};
 use otel_base::trace::{IdGenerator, SamplingDecision, SamplingResult, ShouldSample, SpanLimits};
 use otel_export::trace::SpanData;
-use std::alloc::AllocError;
+use std::alloc::{AllocError, Global};
 use std::marker::Model;
 
 /// Starts spans.
@@ -163,8 +163,9 @@ impl SdkTracer {
             let alloc = provider.allocator();
             return Ok(Span::not_recording(alloc, span_context, span_limits));
         }
+        let alloc = provider.allocator();
         let mut started = begin(
-            provider.take_room(),
+            alloc,
             &self.scope,
             builder,
             parent,
@@ -240,9 +241,9 @@ fn start_flags(parent: &SpanContext, decision: SamplingDecision) -> TraceFlags
     }
 }
 
-/// The span that records what its builder, the sampler and the tracer give it, in this block if it has room.
+/// The span that records what its builder, the sampler and the tracer give it.
 fn begin(
-    room: Vec<SpanData>,
+    alloc: Global,
     scope: &InstrumentationScope,
     builder: SpanBuilder,
     parent: &SpanContext,
@@ -254,7 +255,6 @@ fn begin(
     ensures { IfOk result (λ span. span ≡ recording
         (start_of scope.now builder parent.now now.0 span_limits span_context (added_attributes added)) []) }
 {
-    let alloc = *room.allocator();
     let SpanBuilder {
         name,
         span_kind,
@@ -287,6 +287,6 @@ fn begin(
         status: Status::Unset,
         instrumentation_scope,
     };
-    let recorded = Recorded::new(room, data)?;
+    let recorded = Recorded::new(alloc, data)?;
     Ok(Span::recording(span_context, recorded, span_limits))
 }

@@ -32,7 +32,7 @@ returns-in-Ok g c =
     record {
       ok = starts_recording g.P.SpanProcessor g.S.ShouldSample g.G.IdGenerator c.args.provider.now drawn c.tell_start.new.self c.args.self.now c.args.builder c.args.cx.now c.args.now.0
           c.draw_ids-trace_id.result.0 c.draw_ids-trace_id.result.1 answer c.in-Ok.span c.tell_start.new.span (search rules) c.draw_ids-trace_id.ensures.draws c.draw_ids-trace_id.ensures.rest asked kept span_is
-          c.tell_start.ensures.edits (rw c.take_room.ensures at c.tell_start.ensures.gives) (rw c.take_room.ensures at c.tell_start.ensures.rest);
+          c.tell_start.ensures.edits c.tell_start.ensures.gives c.tell_start.ensures.rest;
       told = search rules;
       rest = search rules;
       err = search rules;
