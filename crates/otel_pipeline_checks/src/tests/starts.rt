@@ -314,9 +314,10 @@ fn both_record_without_lists(alloc: Global) -> Result<bool, AllocError> {
     both
 }
 
-/// `tools/sweep` finds one request for memory here that it could refuse, that of the tracer.
+/// `tools/sweep` finds three requests for memory here that it could refuse: that of the tracer, and the block of each
+/// span.
 #[test]
-fn starts_whose_lists_do_not_grow_ask_for_no_memory(rt: HostRuntime) -> Result<(), Fail> {
+fn starts_whose_lists_do_not_grow_ask_for_a_block_each(rt: HostRuntime) -> Result<(), Fail> {
     assert!(rt; both_record_without_lists(rt.alloc())?);
     Ok(())
 }
