@@ -1,7 +1,7 @@
 -- Runs of a batch queue in which nobody chooses: each step is the next one of the producer that has a span, or of the
 -- worker, up to where there is none.
-use Rattle.std.specs.Prelude.{◌≡◌, ◌&&◌, ◌||◌, ◌==◌, Bool, true, false, List, [], ◌∷◌, Option, Some, None, Result, length}
-use Rattle.std.specs.Prelude.{slice_get, if◌then◌else◌}
+use Rattle.std.specs.Prelude.{◌≡◌, ◌&&◌, ◌||◌, ◌==◌, ℕ, Bool, true, false, List, [], ◌∷◌, Option, Some, None, Result}
+use Rattle.std.specs.Prelude.{length, slice_get, replicate, if◌then◌else◌}
 use Rattle.std.specs.Result.{result_err}
 use Rattle.otel_base.specs.declared.error.OTelSdkError.{OTelSdkError}
 use Rattle.otel_export.specs.PlainSpanData.{PlainSpanData}
@@ -113,10 +113,11 @@ module _ {E : Type 0} (calls : Ghosts E) where
     pub works : WorksOff next_of_producer holding outcomes t
     pub exporter : t.exporter ≡ s.exporter
 
-  -- the worker pulls, up to where its next step is another one. No drain ends by that
+  -- the worker pulls, once and so many times more, up to where its next step is another one. No drain ends by that
   pub record PullsBatch (s t : Machine E) : Type 0 where
-    pub steps : List Step
+    pub more : ℕ
     pub outcomes : List Outcome
     pub pulled : Outcome
-    pub goes : GoesBy next_of_worker s (step.Pull ∷ steps) (pulled ∷ outcomes) t
+    pub goes : GoesBy next_of_worker s (step.Pull ∷ replicate more step.Pull) (pulled ∷ outcomes) t
+    pub over : next_of_worker t.control ≡ Some step.Pull → ⊥
     pub finishes_none : (before : Option OTelSdkError) → last_error before (pulled ∷ outcomes) ≡ before

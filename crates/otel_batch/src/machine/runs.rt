@@ -4,10 +4,8 @@
 ghost use Rattle.std.specs.Prelude.{◌≡◌, Some, slice_get};
 
 use crate::machine::batch_machine::BatchMachine;
-use crate::machine::queue::{batch_limit, has_room};
+use crate::machine::queue::batch_limit;
 use crate::machine::state::{Message, Worker};
-use crate::machine::worker_steps::keep_failure;
-use otel_base::error::OTelSdkError;
 use otel_export::trace::{SpanData, SpanExporter};
 
 impl<E: SpanExporter> BatchMachine<E> {
@@ -53,26 +51,18 @@ impl<E: SpanExporter> BatchMachine<E> {
         ensures { PullsBatch E.SpanExporter self.old self.new }
     {
         self.is_sound();
-        if self.waiting.is_empty() {
-            self.worker = if self.hand.is_empty() {
-                Worker::Finishing
-            } else {
-                Worker::Handing
-            };
+        let _ = self.pull();
+        self.is_sound();
+        let Worker::Pulling = self.worker else {
             return;
-        }
+        };
+        // The first pull took the room of a whole batch.
         let limit = batch_limit(
             self.waiting.capacity(),
             self.batch_size,
             self.target,
             self.done,
         );
-        if !has_room(&mut self.hand, limit) {
-            self.refused = true;
-            keep_failure(&mut self.result, Err(OTelSdkError::OutOfMemory));
-            self.worker = Worker::Finishing;
-            return;
-        }
         let room = limit - self.hand.len();
         self.waiting.pop_into(&mut self.hand, room);
         self.worker = Worker::Handing;

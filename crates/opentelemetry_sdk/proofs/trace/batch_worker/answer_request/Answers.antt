@@ -21,7 +21,7 @@ pub returns : goal.returns
 returns g c =
     let worked = c.work_off_messages.ensures in
     let run : Run g.E.SpanExporter c.work_off_messages.new.machine (step.Collect 0 ∷ []) (c.step.result ∷ [])
-    c.step.new.self = (c.step.new.self, record { permitted = c.step.ensures.permitted; moved = c.step.ensures.moved; requests = c.step.ensures.requests; goes_on = c.step.ensures.goes_on; sound = c.step.ensures.sound }, refl) in
+    c.step.new.self = (c.step.new.self, assumption c.step.ensures, refl) in
     record {
       outcomes = worked.outcomes;
       answered = c.work_off_messages.new.machine;

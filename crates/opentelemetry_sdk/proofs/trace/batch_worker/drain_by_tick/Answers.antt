@@ -13,13 +13,8 @@ stepped g c =
     let ready = ready_open c.args.machine.now c.is_sound.ensures c.requires.rest c.requires.is_open in
     let ticked = ticks (counts c.args.machine.now) c.step.result (counts c.step.new.self) ready
     c.step.ensures.permitted in
-    let any : Stepped g.E.SpanExporter c.args.machine.now step.Tick c.step.result c.step.new.self = record {
-      permitted = c.step.ensures.permitted;
-      moved = c.step.ensures.moved;
-      requests = c.step.ensures.requests;
-      goes_on = c.step.ensures.goes_on;
-      sound = c.step.ensures.sound;
-    } in
+    let any : Stepped g.E.SpanExporter c.args.machine.now step.Tick c.step.result c.step.new.self =
+    assumption c.step.ensures in
     rw ticked at any
 
 -- what its drain leaves

@@ -5,7 +5,7 @@ use Rattle.opentelemetry_sdk.proofs.trace.batch_worker.post_resource.Goals as go
 pub returns-clause-posts : goal.returns-clause-posts
 returns-clause-posts g c = record {
   outcome = c.step.result;
-  posts = (c.step.new.self, record { permitted = c.step.ensures.permitted; moved = c.step.ensures.moved; requests = c.step.ensures.requests; goes_on = c.step.ensures.goes_on; sound = c.step.ensures.sound }, refl);
+  posts = (c.step.new.self, assumption c.step.ensures, refl);
 }
 
 pub returns-clause-told : goal.returns-clause-told
