@@ -1,6 +1,6 @@
 -- The whole text of a reply.
 use Rattle.std.specs.Prelude.{ℕ, List, ◌++◌, string_bytes}
-use Rattle.std.specs.List.{flat_map}
+use Rattle.otel_export.specs.PlainSpanData.{spans_in}
 use Rattle.otel_lines.specs.PlainReply.{PlainReply}
 use Rattle.otel_lines.specs.declared.reply.Answer.{Answer}
 use Rattle.otel_lines.specs.declared.reply.Answer.TheVariants as answers
@@ -23,8 +23,4 @@ answer_line (answers.Failed error) = line (error_text error)
 
 -- the lines of a reply: those of the exported spans, then the answer's
 abbrev pub reply_text : PlainReply → List ℕ
-reply_text reply = span_lines reply.exported ++ answer_line reply.answer
-
--- the lines of replies, in order
-abbrev pub replies_text : List PlainReply → List ℕ
-replies_text = flat_map reply_text
+reply_text reply = span_lines (spans_in reply.exported) ++ answer_line reply.answer

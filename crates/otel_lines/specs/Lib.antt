@@ -2,4 +2,5 @@ pub mod AnswerText
 pub mod Commands
 pub mod Lines
 pub mod PlainReply
+pub mod ReplyForm
 pub mod ReplyText

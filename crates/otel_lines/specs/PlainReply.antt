@@ -3,9 +3,9 @@ use Rattle.otel_export.specs.PlainSpanData.{PlainSpanData}
 use Rattle.otel_lines.specs.declared.reply.Answer.{Answer}
 use Rattle.otel_lines.specs.declared.reply.Answer.TheVariants as answers
 
--- a reply: the spans that were exported since the one before it, and the answer to its command
+-- a reply: the batches that were exported since the one before it, and the answer to its command
 pub record PlainReply : Type 0 where
-  pub exported : List PlainSpanData
+  pub exported : List (List PlainSpanData)
   pub answer : Answer
 
 -- whether an answer says that a processor refused a span

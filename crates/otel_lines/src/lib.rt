@@ -6,8 +6,10 @@ pub mod command;
 pub mod laws;
 pub mod lines;
 pub mod reply;
+pub mod reply_form;
 pub mod reply_text;
 
 pub use command::Command;
 pub use lines::{Script, parse};
 pub use reply::{Answer, Reply, SpanIdentity};
+pub use reply_form::{ReplyForm, ReplyLines};

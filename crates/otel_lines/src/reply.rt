@@ -56,17 +56,21 @@ impl Answer {
     }
 }
 
-/// An answer, and the spans that the provider's first processor exported into memory since the reply before it.
+/// An answer, and the batches that the provider's first processor exported into memory since the reply before it.
 #[derive(Debug, Drop)]
 pub struct Reply {
-    pub exported: Vec<SpanData>,
+    pub exported: Vec<Vec<SpanData>>,
     pub answer: Answer,
 }
 
 impl Model for Reply {
+    ghost use Rattle.std.specs.Prelude.{map};
     ghost use Rattle.otel_lines.specs.PlainReply.{PlainReply};
 
     ghost Value = { PlainReply };
 
-    ghost view = { λ reply. record { exported = reply.exported.items; answer = reply.answer } };
+    ghost view = { λ reply. record {
+      exported = map (λ batch. batch.items) reply.exported.items;
+      answer = reply.answer;
+    } };
 }

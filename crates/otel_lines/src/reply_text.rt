@@ -1,19 +1,19 @@
 //! The texts of replies. Each reply's text is put together in a `String`, which a refusal for memory leaves unfinished,
 //! and is then written whole by `write_text` or not at all.
 
-ghost use Rattle.std.specs.Prelude.{◌≡◌, ◌++◌, ◌∷◌, [], IfOk, IsOk, OnOk, OnErr, string_bytes};
-ghost use Rattle.std.specs.List.{flat_map};
+ghost use Rattle.std.specs.Prelude.{◌≡◌, ◌++◌, ◌∷◌, [], IfOk, IsOk, OnOk, OnErr, map, string_bytes};
 ghost use Rattle.opentelemetry.specs.Text.{TextGrows};
 ghost use Rattle.opentelemetry.specs.PlainValues.{plain_status};
 ghost use Rattle.otel_base.specs.Traceparent.{context_text};
-ghost use Rattle.otel_lines.specs.AnswerText.{answer_line};
+ghost use Rattle.otel_export.specs.PlainSpanData.{spans_in};
+ghost use Rattle.otel_lines.specs.AnswerText.{answer_line, reply_text};
 ghost use Rattle.otel_lines.specs.ReplyText.{listed, spaced, comma_before, status_text, attribute_text, attributes_text, event_text, events_text, links_text, identity_text, span_line, span_lines, started_line, dropped_line, header_line, headers_lines};
 
 use crate::reply::Answer;
 use opentelemetry::trace::{Event, Status};
 use opentelemetry::{KeyValue, SpanId, TraceFlags, TraceId};
 use otel_export::trace::{SpanData, SpanEvents, SpanLinks};
-use std::alloc::{AllocError, Global};
+use std::alloc::AllocError;
 use std::fmt::Write;
 
 /// `unset`, `ok`, or `error` and the description in parentheses.
@@ -164,8 +164,8 @@ fn push_spans(text: &mut String, spans: &[SpanData]) -> Result<(), AllocError>
 /// The lines of the spans of batches, in order.
 fn push_batches(text: &mut String, batches: &[Vec<SpanData>]) -> Result<(), AllocError>
     ensures grown { OnOk result
-        (TextGrows text.old (span_lines (flat_map (λ batch. batch.items) batches.now)) text.new) }
-    ensures free { flat_map (λ batch. batch.items) batches.now ≡ [] → IsOk result }
+        (TextGrows text.old (span_lines (spans_in (map (λ batch. batch.items) batches.now))) text.new) }
+    ensures free { spans_in (map (λ batch. batch.items) batches.now) ≡ [] → IsOk result }
 {
     for batch in batches {
         push_spans(text, batch)?;
@@ -261,39 +261,40 @@ fn put_reply(
     answer: Answer,
 ) -> Result<(), AllocError>
     ensures { OnOk result (string_bytes text.new
-        ≡ span_lines (flat_map (λ batch. batch.items) exported.now) ++ answer_line answer) }
+        ≡ reply_text (record { exported = map (λ batch. batch.items) exported.now; answer = answer })) }
 {
     text.clear();
     push_batches(text, exported)?;
     push_answer(text, answer)
 }
 
-/// Writes the lines of exported batches, or nothing where memory runs out. Where they have no span, none is wanted.
+/// Writes the lines of exported batches, or nothing where memory runs out. Where they have no span, none is wanted. The
+/// text is put together in `text`, whose room serves one text after another.
 pub fn write_batches(
-    alloc: Global,
+    text: &mut String,
     out: &mut Vec<u8>,
     exported: &[Vec<SpanData>],
 ) -> Result<(), AllocError>
     ensures ok { OnOk result (out.new.items
-        ≡ out.old.items ++ span_lines (flat_map (λ batch. batch.items) exported.now)) }
+        ≡ out.old.items ++ span_lines (spans_in (map (λ batch. batch.items) exported.now))) }
     ensures err { OnErr result (out.new.items ≡ out.old.items) }
-    ensures free { flat_map (λ batch. batch.items) exported.now ≡ [] → IsOk result }
+    ensures free { spans_in (map (λ batch. batch.items) exported.now) ≡ [] → IsOk result }
 {
-    let mut text = String::new(alloc);
-    push_batches(&mut text, exported)?;
+    text.clear();
+    push_batches(text, exported)?;
     write_text(out, text.as_str())
 }
 
 /// Writes a whole reply, or nothing where memory runs out: the spans are read where the exporter keeps them. The text
-/// is put together in `text`, whose room serves one reply after another.
+/// is put together in `text`, as above.
 pub fn write_reply(
     text: &mut String,
     out: &mut Vec<u8>,
     exported: &[Vec<SpanData>],
     answer: Answer,
 ) -> Result<(), AllocError>
-    ensures ok { OnOk result (out.new.items
-        ≡ out.old.items ++ (span_lines (flat_map (λ batch. batch.items) exported.now) ++ answer_line answer)) }
+    ensures ok { OnOk result (out.new.items ≡ out.old.items
+        ++ reply_text (record { exported = map (λ batch. batch.items) exported.now; answer = answer })) }
     ensures err { OnErr result (out.new.items ≡ out.old.items) }
 {
     put_reply(text, exported, answer)?;
