@@ -4,8 +4,7 @@ use Rattle.std.proofs.lemmas.Bool.Decides.{nat_tests}
 use Rattle.std.specs.declared.alloc.AllocError.{AllocError}
 use Rattle.opentelemetry.proofs.Clauses.{fails_on_err}
 use Rattle.otel_base.specs.declared.error.OTelSdkError.{OTelSdkError}
-use Rattle.otel_export.specs.PlainSpanData.{spans_in}
-use Rattle.otel_lines.specs.ReplyText.{span_lines}
+use Rattle.otel_lines.specs.ReplyForm.{Form}
 use Rattle.otel_pipeline.specs.Provider.{ProviderState}
 use Rattle.otel_session.specs.Calls.{Calls, batches_of_first, losses_of_first}
 use Rattle.otel_session.specs.Closing.{Closes, WritesLast, WritesNone, or_no_memory}
@@ -31,30 +30,30 @@ well false shutdown e = refl
 as_many : (lost before : ℕ) → not (lost == before) ≡ false → lost ≡ before
 as_many lost before e = grind (arith, nat_tests)
 
--- by whether a batch was lost, and whether the lines were written
-pub closes : {P S G : Type 0} (calls : Calls P S G) (session : SessionState P S G) (provider : ProviderState P S G)
+-- by whether a batch was lost, and whether the text was written
+pub closes : {P S G : Type 0} (calls : Calls P S G) (form : Form) (session : SessionState P S G) (provider : ProviderState P S G)
     (shutdown : Result (Unit {0}) OTelSdkError) (written : Result (Unit {0}) AllocError) (lost : Bool) (answer : Result (Unit {0}) OTelSdkError) (before now : List ℕ)
     → ShutsIfOpen calls.processor session.provider shutdown provider
     → lost ≡ has_lost calls.keeps (record session { provider = provider })
-    → OnOk written (now ≡ before ++ span_lines (spans_in (drop session.shown (batches_of_first calls.keeps provider.processors)))) → OnErr written (now ≡ before)
-    → (spans_in (drop session.shown (batches_of_first calls.keeps provider.processors)) ≡ [] → IsOk written)
+    → OnOk written (now ≡ before ++ form.rest (drop session.shown (batches_of_first calls.keeps provider.processors))) → OnErr written (now ≡ before)
+    → (form.rest (drop session.shown (batches_of_first calls.keeps provider.processors)) ≡ [] → IsOk written)
     → answer ≡ (if lost || is_err written then or_no_memory shutdown else shutdown)
-    → Closes calls session before answer now
-closes calls session provider shutdown (Ok done) true answer before now shuts counted ok err free answers =
+    → Closes calls form session before answer now
+closes calls form session provider shutdown (Ok done) true answer before now shuts counted ok err free answers =
     record { provider = provider; shutdown = shutdown; shuts = shuts; writes = inl (record { answers = answers ∙ ap (answer_of shutdown) counted; written = ok }) }
-closes calls session provider shutdown (Ok done) false answer before now shuts counted ok err free answers =
+closes calls form session provider shutdown (Ok done) false answer before now shuts counted ok err free answers =
     record { provider = provider; shutdown = shutdown; shuts = shuts; writes = inl (record { answers = answers ∙ ap (answer_of shutdown) counted; written = ok }) }
-closes calls session provider shutdown (Err error) true answer before now shuts counted ok err free answers =
-    record { provider = provider; shutdown = shutdown; shuts = shuts; writes = inr (record { answers = answers; written = err; are_some = fails_on_err free }) }
-closes calls session provider shutdown (Err error) false answer before now shuts counted ok err free answers =
-    record { provider = provider; shutdown = shutdown; shuts = shuts; writes = inr (record { answers = answers; written = err; are_some = fails_on_err free }) }
+closes calls form session provider shutdown (Err error) true answer before now shuts counted ok err free answers =
+    record { provider = provider; shutdown = shutdown; shuts = shuts; writes = inr (record { answers = answers; written = err; is_some = fails_on_err free }) }
+closes calls form session provider shutdown (Err error) false answer before now shuts counted ok err free answers =
+    record { provider = provider; shutdown = shutdown; shuts = shuts; writes = inr (record { answers = answers; written = err; is_some = fails_on_err free }) }
 
 -- a session that closed well lost no batch since it began
-pub none_lost : {P S G : Type 0} (calls : Calls P S G) (session : SessionState P S G) (before now : List ℕ)
-    → (closed : Closes calls session before (Ok tt) now) → losses_of_first calls.keeps closed.provider.processors ≡ session.lost_before
-none_lost {P} {S} {G} calls session before now closed = by closed.writes
+pub none_lost : {P S G : Type 0} (calls : Calls P S G) (form : Form) (session : SessionState P S G) (before now : List ℕ)
+    → (closed : Closes calls form session before (Ok tt) now) → losses_of_first calls.keeps closed.provider.processors ≡ session.lost_before
+none_lost {P} {S} {G} calls form session before now closed = by closed.writes
   where
-    by : WritesLast calls.keeps (record session { provider = closed.provider }) closed.shutdown before (Ok tt) now ⊎ WritesNone calls.keeps (record session { provider = closed.provider }) closed.shutdown before (Ok tt) now
+    by : WritesLast calls.keeps form (record session { provider = closed.provider }) closed.shutdown before (Ok tt) now ⊎ WritesNone calls.keeps form (record session { provider = closed.provider }) closed.shutdown before (Ok tt) now
         → losses_of_first calls.keeps closed.provider.processors ≡ session.lost_before
     by (inl h) = as_many (losses_of_first calls.keeps closed.provider.processors) session.lost_before (well (not (losses_of_first calls.keeps closed.provider.processors == session.lost_before)) closed.shutdown h.answers)
     by (inr h) = absurd (never_well closed.shutdown h.answers)

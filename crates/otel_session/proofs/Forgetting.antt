@@ -1,29 +1,27 @@
 -- What a session does that has forgotten batches, it does had it never forgotten any.
-use Rattle.std.proofs.Common.{rules, ◌≡◌, ◌++◌, ◌+◌, ◌≤◌, ℕ, Bool, true, false, IsFalse, List, [], ◌∷◌, Option, Some, None, Result, Ok, Err, MatchBool, map, length, drop, refl, sym, ◌∙◌, ap, subst, arith, append_assoc, append-nil}
+use Rattle.std.proofs.Common.{◌≡◌, ◌++◌, ◌+◌, ℕ, Bool, true, false, List, [], ◌∷◌, Option, Some, None, Result, MatchBool, map, length, drop, refl, sym, ◌∙◌, ap, subst, append_assoc, append-nil}
 use Rattle.std.proofs.Math.Seq.{drop-append-add}
 use Rattle.std.proofs.lemmas.List.{length-append}
 use Rattle.opentelemetry.specs.PlainSpanBuilder.{named_builder}
 use Rattle.opentelemetry.specs.Plain.{PlainScope}
 use Rattle.opentelemetry.specs.PlainContexts.{root_cx}
 use Rattle.otel_base.specs.declared.error.OTelSdkError.{OTelSdkError}
-use Rattle.otel_export.specs.PlainSpanData.{PlainSpanData, spans_in}
-use Rattle.otel_pipeline.specs.Deliveries.{Delivery, EachFollows}
+use Rattle.otel_export.specs.PlainSpanData.{PlainSpanData}
 use Rattle.otel_export.specs.KeptBatches.{Grows}
 use Rattle.otel_pipeline.specs.Provider.{ProviderState, ShutsDown}
-use Rattle.otel_pipeline.specs.SpanHistory.{SpanHistory, begun, over, Edit, data_of}
+use Rattle.otel_pipeline.specs.SpanHistory.{SpanHistory, begun, over, data_of}
 use Rattle.otel_kept.specs.RecalledBatches.{FirstRecalled, Recalls}
 use Rattle.otel_kept.proofs.ProviderRecalls.{delivers_again, first_once, flushes_again, follows_again, runs_again, shuts_again, starts_again, told_again}
-use Rattle.otel_lines.specs.Commands.{PlainCommand, start, child, remote, attr, event, status, inject, end, flush, run, shutdown, may_lose, plain_command, plain_commands}
+use Rattle.otel_lines.specs.Commands.{PlainCommand, start, child, remote, attr, event, status, inject, end, flush, run, shutdown, plain_commands}
 use Rattle.otel_lines.specs.PlainReply.{PlainReply}
 use Rattle.otel_lines.specs.declared.command.Command.{Command}
 use Rattle.otel_lines.specs.declared.reply.Answer.{Answer}
 use Rattle.otel_session.specs.Calls.{Calls, batches_of_first, losses_of_first}
-use Rattle.otel_session.specs.Forgotten.{HasForgotten}
 use Rattle.otel_session.specs.OpenSpans.{Describe, Histories}
 use Rattle.otel_session.specs.ProviderTurns.{AsksProvider, ShutsOr}
 use Rattle.otel_session.specs.SpanTurns.{ChildTurn, EndTurn, Start, StartTurn, StartsBehind, start_in}
-use Rattle.otel_session.specs.Turn.{AsksNobody, Course, OnlyAnswers, Turn}
-use Rattle.otel_session.specs.Turns.{AreTurns, IsCarriedOut, IsTurn, LosesNone, Runs, SessionState, TookTurns, course_of, replied, reply_of}
+use Rattle.otel_session.specs.Turn.{AsksNobody, Course, Turn}
+use Rattle.otel_session.specs.Turns.{AreTurns, IsTurn, Runs, SessionState, TookTurns, course_of, replied, reply_of}
 
 abbrev Batches : Type 0
 Batches = List (List PlainSpanData)
@@ -168,7 +166,7 @@ module _ {P S G : Type 0} (calls : Calls P S G) (law : RecallsNothingElse calls)
 
   -- the reply of a turn is the same
   reply_again : (turn : Turn P S G) (rs ss : List P) → FirstRecalled calls.keeps.recalled bs turn.behind.provider.processors ss → reply_of calls (shift_turn turn rs ss) ≡ reply_of calls turn
-  reply_again turn rs ss k = ap (λ (shown : Batches). record { exported = spans_in shown; answer = turn.answer }) (shown_again turn.before.shown turn.behind.provider.processors ss k)
+  reply_again turn rs ss k = ap (λ (shown : Batches). record { exported = shown; answer = turn.answer }) (shown_again turn.before.shown turn.behind.provider.processors ss k)
 
   -- where a session stands behind a reply
   replied_again : (course : Course P S G) (ss : List P) → FirstRecalled calls.keeps.recalled bs course.provider.processors ss → replied calls (shift course ss) ≡ shift (replied calls course) ss

@@ -2,7 +2,6 @@
 use Rattle.std.proofs.Common.{◌≡◌, List, [], ◌∷◌, ◌++◌, refl, sym, ◌∙◌, ap, subst, append_assoc, append-nil, drop, length, map, inl}
 use Rattle.std.proofs.lemmas.List.{map-append}
 use Rattle.opentelemetry.specs.Plain.{PlainScope}
-use Rattle.otel_export.specs.PlainSpanData.{spans_in}
 use Rattle.otel_lines.specs.Commands.{PlainCommand, plain_command, plain_commands}
 use Rattle.otel_lines.specs.PlainReply.{PlainReply}
 use Rattle.otel_lines.specs.declared.command.Command.{Command}
@@ -63,7 +62,7 @@ module _ {P S G : Type 0} (calls : Calls P S G) where
           turns = turn ∷ [];
           after = took.histories;
           are_turns = (refl, took.is, answers.loses_none, refl);
-          replied_to = ap (λ (s : SessionState P S G). (record { exported = spans_in (drop s.shown (session_batches calls.keeps new)); answer = answer }) ∷ []) rest;
+          replied_to = ap (λ (s : SessionState P S G). (record { exported = drop s.shown (session_batches calls.keeps new); answer = answer }) ∷ []) rest;
           describes = took.describes;
         };
   }

@@ -2,9 +2,8 @@
 use Rattle.std.proofs.Common.{◌≡◌, ◌≤◌, ◌-◌, ◌+◌, ◌⊎◌, ℕ, List, [], ◌∷◌, ◌++◌, length, take, drop, map, refl, sym, ◌∙◌, ap, subst, arith, length-append, length-take-le, drop_of_length-le, inl, inr}
 use Rattle.std.proofs.Math.Seq.{take-append-add, drop-append_seam}
 use Rattle.std.proofs.lemmas.List.{drop-append-le}
-use Rattle.std.proofs.lemmas.List.Concat.{flat_map-append}
 use Rattle.opentelemetry.specs.Plain.{PlainScope}
-use Rattle.otel_export.specs.PlainSpanData.{PlainSpanData, spans_in}
+use Rattle.otel_export.specs.PlainSpanData.{PlainSpanData}
 use Rattle.otel_export.specs.KeptBatches.{Grows, appends_more, appends_none}
 use Rattle.otel_lines.specs.Commands.{PlainCommand}
 use Rattle.otel_lines.specs.PlainReply.{PlainReply}
@@ -21,8 +20,8 @@ grows_length : {X : Type 0} (xs ys : List X) → Grows xs ys → length xs ≤ l
 grows_length xs ys h = let e = ap length h.1 ∙ length-append xs h.0 in omega (arith, e)
 
 -- nothing shown
-none_shown : (batches : Batches) (n : ℕ) → n ≤ length batches → [] ≡ spans_in (drop n (take n batches))
-none_shown batches n h = ap spans_in (sym (drop_of_length-le (take n batches) (subst (λ (m : ℕ). m ≤ n) (sym (length-take-le n batches h)) (omega arith))))
+none_shown : (batches : Batches) (n : ℕ) → n ≤ length batches → [] ≡ drop n (take n batches)
+none_shown batches n h = sym (drop_of_length-le (take n batches) (subst (λ (m : ℕ). m ≤ n) (sym (length-take-le n batches h)) (omega arith)))
 
 -- batches and a beginning of those behind them
 taken : (batches more all : Batches) (n : ℕ) → all ≡ batches ++ more → length batches ≤ n → take n all ≡ batches ++ take (n - length batches) more
@@ -31,11 +30,10 @@ taken batches more all n e h =
     ap (take n) e ∙ ap (λ (k : ℕ). take k (batches ++ more)) sum ∙ take-append-add batches more (n - length batches)
 
 -- what two replies show one after the other
-both_shown : (batches rest : Batches) (a : ℕ) → a ≤ length batches → spans_in (drop a batches) ++ spans_in (drop (length batches) (batches ++ rest)) ≡ spans_in (drop a (batches ++ rest))
+both_shown : (batches rest : Batches) (a : ℕ) → a ≤ length batches
+    → drop a batches ++ drop (length batches) (batches ++ rest) ≡ drop a (batches ++ rest)
 both_shown batches rest a h =
-    ap (λ (l : Batches). spans_in (drop a batches) ++ spans_in l) (drop-append_seam batches rest)
-    ∙ sym (flat_map-append (λ b. b) (drop a batches) rest)
-    ∙ ap spans_in (sym (drop-append-le a batches rest h))
+    ap (λ (l : Batches). drop a batches ++ l) (drop-append_seam batches rest) ∙ sym (drop-append-le a batches rest h)
 
 module _ {P S G : Type 0} (calls : Calls P S G) where
   abbrev kept : Course P S G → Batches
@@ -46,7 +44,7 @@ module _ {P S G : Type 0} (calls : Calls P S G) where
     grows : Grows (kept old) (kept new)
     not_fewer : old.shown ≤ length (kept old) → old.shown ≤ new.shown
     no_more : old.shown ≤ length (kept old) → new.shown ≤ length (kept new)
-    exported : old.shown ≤ length (kept old) → exported_in replies ≡ spans_in (drop old.shown (take new.shown (kept new)))
+    exported : old.shown ≤ length (kept old) → exported_in replies ≡ drop old.shown (take new.shown (kept new))
 
   shows_none : (course : Course P S G) → ShowsTo course [] course
   shows_none course = record { grows = appends_none _ _ refl; not_fewer = λ within. omega arith; no_more = λ within. within; exported = none_shown (kept course) course.shown }
@@ -62,9 +60,9 @@ module _ {P S G : Type 0} (calls : Calls P S G) where
         not_fewer = λ within. omega (arith, within, longer, fewer);
         no_more = λ within. h.no_more all;
         exported = λ within.
-            ap (λ (l : List PlainSpanData). spans_in (drop turn.before.shown batches) ++ l) (h.exported all ∙ ap (λ (l : Batches). spans_in (drop (length batches) l)) whole)
+            ap (λ (l : Batches). drop turn.before.shown batches ++ l) (h.exported all ∙ ap (λ (l : Batches). drop (length batches) l) whole)
             ∙ both_shown batches (take (new.shown - length batches) h.grows.0) turn.before.shown (omega (arith, within, longer))
-            ∙ ap (λ (l : Batches). spans_in (drop turn.before.shown l)) (sym whole);
+            ∙ ap (λ (l : Batches). drop turn.before.shown l) (sym whole);
       }
 
   all_show : (scope : PlainScope) (old new : Course P S G) (commands : List PlainCommand) (turns : List (Turn P S G)) → AreTurns calls scope old commands turns new → ShowsTo old (map (reply_of calls) turns) new

@@ -1,31 +1,28 @@
 -- What texts do that are fed one after another, with batches forgotten between them.
-use Rattle.std.proofs.Common.{◌≡◌, ◌≢◌, ◌==◌, ◌++◌, ◌+◌, ◌⊎◌, inl, inr, ℕ, Bool, not, if◌then◌else◌, List, [], ◌∷◌, Option, Some, None, Result, Ok, Err, length, drop, map, refl, sym, ◌∙◌, ap, subst, arith, append_assoc, append-nil}
+use Rattle.std.proofs.Common.{◌≡◌, ◌==◌, ◌++◌, ◌+◌, ◌⊎◌, inl, inr, ℕ, Bool, not, if◌then◌else◌, List, [], ◌∷◌, Option, None, Result, Ok, length, refl, sym, ◌∙◌, ap, subst, arith}
 use Rattle.std.specs.Prelude.{option_map}
 use Rattle.std.specs.Io.{IsEmptyOrEndsWith}
 use Rattle.std.specs.Str.Lines.{lines}
 use Rattle.std.proofs.lemmas.List.{length-append, map-append}
-use Rattle.std.proofs.lemmas.List.Concat.{flat_map-append}
 use Rattle.otel_base.specs.declared.error.OTelSdkError.{OTelSdkError}
-use Rattle.otel_export.specs.PlainSpanData.{PlainSpanData, spans_in}
-use Rattle.otel_pipeline.specs.Provider.{ProviderState}
-use Rattle.otel_kept.specs.RecalledBatches.{FirstRecalled, Recalls}
-use Rattle.otel_lines.specs.AnswerText.{reply_text, replies_text}
+use Rattle.otel_export.specs.PlainSpanData.{PlainSpanData}
+use Rattle.otel_kept.specs.RecalledBatches.{FirstRecalled}
 use Rattle.otel_lines.specs.Commands.{PlainCommand, plain_command, plain_commands}
 use Rattle.otel_lines.specs.Lines.{TextSpells}
 use Rattle.otel_lines.specs.PlainReply.{PlainReply, NoneRefused}
-use Rattle.otel_lines.specs.ReplyText.{span_lines}
+use Rattle.otel_lines.specs.ReplyForm.{Form, texts}
 use Rattle.otel_lines.specs.declared.command.Command.{Command}
 use Rattle.otel_lines.proofs.JoinedTexts.{texts_joined}
-use Rattle.otel_session.specs.Calls.{Calls, batches_of_first, losses_of_first}
+use Rattle.otel_session.specs.Calls.{Calls}
 use Rattle.otel_session.specs.Closing.{Closes, Finishes, WritesLast, WritesNone, or_no_memory}
-use Rattle.otel_session.specs.Fed.{FeedsUpTo, Writes}
+use Rattle.otel_session.specs.Fed.{FeedsUpTo}
 use Rattle.otel_session.specs.Forgotten.{HasForgotten, RunsWhole, Streams}
 use Rattle.otel_session.specs.OpenSpans.{Describe, Histories}
 use Rattle.otel_session.specs.Shown.{has_lost, unshown}
 use Rattle.otel_session.specs.Turns.{Runs, SessionState}
 use Rattle.otel_session.proofs.FeedLemmas.{finishes}
 use Rattle.otel_session.proofs.RunLemmas.{runs_join}
-use Rattle.otel_session.proofs.Forgetting.{RecallsNothingElse, kept_again, lost_again, run_recalled, shown_again, shuts_or_again}
+use Rattle.otel_session.proofs.Forgetting.{RecallsNothingElse, lost_again, run_recalled, shown_again, shuts_or_again}
 
 abbrev Batches : Type 0
 Batches = List (List PlainSpanData)
@@ -118,17 +115,17 @@ module _ {P S G : Type 0} (calls : Calls P S G) (law : RecallsNothingElse calls)
   streams_forget begun now after bytes bad_line replies h k = record { whole = h.whole; feeds = h.feeds; forgot = forgot_more h.whole now after h.forgot k }
 
   -- a session that has forgotten batches closes as it would, had it never forgotten any
-  pub closes_whole : (whole now : SessionState P S G) (before after : List ℕ) (answer : Result (Unit {0}) OTelSdkError)
-      → HasForgotten calls.keeps whole now → Closes calls now before answer after → Closes calls whole before answer after
-  closes_whole whole now before after answer h k =
+  pub closes_whole : (form : Form) (whole now : SessionState P S G) (before after : List ℕ) (answer : Result (Unit {0}) OTelSdkError)
+      → HasForgotten calls.keeps whole now → Closes calls form now before answer after → Closes calls form whole before answer after
+  closes_whole form whole now before after answer h k =
       let again = shuts_or_again calls law h.batches (Ok tt) now.provider h.processors k.shutdown k.provider h.first k.shuts in
       let lost = lost_again calls law h.batches k.provider.processors again.0 again.1 in
       let shown = shown_again calls law h.batches now.shown k.provider.processors again.0 again.1 in
       let same_lost : has_lost calls.keeps (record now { provider = k.provider }) ≡ has_lost calls.keeps (record now { provider = record k.provider { processors = again.0 }; shown = length h.batches + now.shown })
       = ap (λ (n : ℕ). not (n == now.lost_before)) (sym lost) in
       let same_shown : unshown calls.keeps (record now { provider = k.provider }) ≡ unshown calls.keeps (record now { provider = record k.provider { processors = again.0 }; shown = length h.batches + now.shown })
-      = ap spans_in (sym shown) in
-      subst (λ (s : SessionState P S G). Closes calls s before answer after) (sym h.rest) (record {
+      = sym shown in
+      subst (λ (s : SessionState P S G). Closes calls form s before answer after) (sym h.rest) (record {
         provider = record k.provider { processors = again.0 };
         shutdown = k.shutdown;
         shuts = again.2;
@@ -136,22 +133,25 @@ module _ {P S G : Type 0} (calls : Calls P S G) (law : RecallsNothingElse calls)
       })
     where
       by : {closed whole : SessionState P S G} {shutdown : Result (Unit {0}) OTelSdkError}
-          → WritesLast calls.keeps closed shutdown before answer after ⊎ WritesNone calls.keeps closed shutdown before answer after
+          → WritesLast calls.keeps form closed shutdown before answer after ⊎ WritesNone calls.keeps form closed shutdown before answer after
           → has_lost calls.keeps closed ≡ has_lost calls.keeps whole → unshown calls.keeps closed ≡ unshown calls.keeps whole
-          → WritesLast calls.keeps whole shutdown before answer after ⊎ WritesNone calls.keeps whole shutdown before answer after
+          → WritesLast calls.keeps form whole shutdown before answer after ⊎ WritesNone calls.keeps form whole shutdown before answer after
       by {closed} {whole} {shutdown} (inl w) e f = inl (record {
         answers = w.answers ∙ ap (λ (b : Bool). if b then or_no_memory shutdown else shutdown) e;
-        written = w.written ∙ ap (λ (l : List PlainSpanData). before ++ span_lines l) f;
+        written = w.written ∙ ap (λ (l : Batches). before ++ form.rest l) f;
       })
       by {closed} {whole} {shutdown} (inr w) e f = inr (record {
         answers = w.answers;
         written = w.written;
-        are_some = λ none. w.are_some (f ∙ none);
+        is_some = λ none. w.is_some (ap form.rest f ∙ none);
       })
 
   -- a session that was fed pieces, and closed well
-  pub streams_finish : (begun now : SessionState P S G) (bytes : List ℕ) (bad_line : Option ℕ) (replies : List PlainReply) (text : List ℕ)
-      → Streams calls begun bytes bad_line replies now → NoneRefused replies → Closes calls now (replies_text replies) (Ok tt) text → Finishes calls begun bytes bad_line text
-  streams_finish begun now bytes bad_line replies text h none closed =
-      finishes calls begun h.whole bytes bad_line (replies_text replies) text (Ok tt) (record { replies = replies; written = refl; none_refused = none; these = h.feeds }) refl
-      (closes_whole h.whole now (replies_text replies) text (Ok tt) h.forgot closed)
+  pub streams_finish : (form : Form) (begun now : SessionState P S G) (bytes : List ℕ) (bad_line : Option ℕ)
+      (replies : List PlainReply) (text : List ℕ)
+      → Streams calls begun bytes bad_line replies now → NoneRefused replies
+      → Closes calls form now (texts form replies) (Ok tt) text → Finishes calls form begun bytes bad_line text
+  streams_finish form begun now bytes bad_line replies text h none closed =
+      finishes calls form begun h.whole bytes bad_line (texts form replies) text
+      (record { replies = replies; written = refl; none_refused = none; these = h.feeds })
+      (closes_whole form h.whole now (texts form replies) text (Ok tt) h.forgot closed)

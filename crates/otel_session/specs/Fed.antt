@@ -1,10 +1,10 @@
 -- What feeding a text to a session does, and what of it is written.
 use Rattle.std.specs.Prelude.{◌≡◌, ◌⊎◌, ◌++◌, ℕ, List, [], Option, Some, None, Result, Ok, Err}
 use Rattle.std.specs.Prelude.{false, true}
-use Rattle.otel_lines.specs.AnswerText.{replies_text}
 use Rattle.otel_lines.specs.Commands.{plain_commands}
 use Rattle.otel_lines.specs.Lines.{SpellsNothing, TextSpells}
 use Rattle.otel_lines.specs.PlainReply.{PlainReply, NoneRefused, counts_refusals}
+use Rattle.otel_lines.specs.ReplyForm.{Form, texts}
 use Rattle.otel_lines.specs.declared.command.Command.{Command}
 use Rattle.otel_lines.specs.declared.reply.Answer.{Answer}
 use Rattle.otel_session.specs.Calls.{Calls}
@@ -20,10 +20,10 @@ abbrev pub feed_error : RunError → FeedError
 feed_error runs.Memory = feeds.Memory
 feed_error runs.BatchLost = feeds.BatchLost
 
--- the text of these replies was appended, and none of them counts a refusal
-pub record Writes (before now : List ℕ) (These : List PlainReply → Type 0) : Type 0 where
+-- these replies were appended in a form, and none of them counts a refusal
+pub record Writes (form : Form) (before now : List ℕ) (These : List PlainReply → Type 0) : Type 0 where
   pub replies : List PlainReply
-  pub written : now ≡ before ++ replies_text replies
+  pub written : now ≡ before ++ texts form replies
   pub none_refused : NoneRefused replies
   pub these : These replies
 

@@ -7,6 +7,7 @@ use Rattle.otel_pipeline.specs.Deliveries.{EachFollows, EachOpenHears}
 use Rattle.otel_pipeline.specs.Hops.{GoesByParents}
 use Rattle.otel_lines.specs.Commands.{PlainCommand}
 use Rattle.otel_lines.specs.PlainReply.{PlainReply}
+use Rattle.otel_lines.specs.ReplyForm.{Form}
 use Rattle.otel_lines.specs.declared.command.Command.{Command}
 use Rattle.otel_session.specs.Calls.{Calls}
 use Rattle.otel_session.specs.Closing.{Closes}
@@ -67,11 +68,11 @@ module _ {P S G : Type 0} (calls : Calls P S G) where
       (replies : List PlainReply) → HasForgotten calls.keeps whole now → Describe histories now.spans
       → Runs calls now commands replies after → RunsWhole calls whole commands replies after
 
-  -- it closes as it would, had it forgotten nothing
+  -- it closes as it would, had it forgotten nothing, in any form
   abbrev pub ForgetfulClosesAreWhole : Type 0
-  ForgetfulClosesAreWhole = (whole now : SessionState P S G) (before text : List ℕ)
+  ForgetfulClosesAreWhole = (form : Form) (whole now : SessionState P S G) (before text : List ℕ)
       (answer : Result (Unit {0}) OTelSdkError) → HasForgotten calls.keeps whole now
-      → Closes calls now before answer text → Closes calls whole before answer text
+      → Closes calls form now before answer text → Closes calls form whole before answer text
 
   -- a text, and another that is fed behind it, are one text, where the first one ends as a line does
   abbrev pub FeedsJoin : Type 0

@@ -3,7 +3,6 @@ use Rattle.std.specs.Prelude.{◌≡◌, ℕ, List, [], ◌∷◌, IsFalse, code
 use Rattle.std.specs.List.{flat_map}
 use Rattle.opentelemetry.specs.Plain.{PlainScope, scope_named, text}
 use Rattle.opentelemetry.specs.PlainContexts.{root_cx}
-use Rattle.otel_export.specs.PlainSpanData.{spans_in}
 use Rattle.otel_pipeline.specs.SpanHistory.{set_attribute, set_status}
 use Rattle.otel_pipeline.specs.Deliveries.{Delivery, EachFollows}
 use Rattle.otel_export.specs.KeptBatches.{Grows}
@@ -80,10 +79,10 @@ module _ {P S G : Type 0} (calls : Calls P S G) where
   LosesNone command ps qs =
       IsFalse (may_lose command) → losses_of_first calls.keeps qs ≡ losses_of_first calls.keeps ps
 
-  -- the reply of a turn: its answer, and the spans of the batches that no reply before it has shown
+  -- the reply of a turn: its answer, and the batches that no reply before it has shown
   abbrev pub reply_of : Turn P S G → PlainReply
   reply_of turn = record {
-    exported = spans_in (drop turn.before.shown (batches_of_first calls.keeps turn.behind.provider.processors));
+    exported = drop turn.before.shown (batches_of_first calls.keeps turn.behind.provider.processors);
     answer = turn.answer;
   }
 

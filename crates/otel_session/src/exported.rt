@@ -1,7 +1,6 @@
-//! The batches that replies show, and copies of their spans.
+//! The batches that replies show, and copies of them.
 
-ghost use Rattle.std.specs.Prelude.{◌≡◌, ◌++◌, IfOk, OnOk, drop};
-ghost use Rattle.std.specs.List.{flat_map};
+ghost use Rattle.std.specs.Prelude.{◌≡◌, IfOk, drop, map};
 
 use otel_export::trace::SpanData;
 use std::alloc::{AllocError, Global};
@@ -17,25 +16,28 @@ pub(crate) fn batches_since(batches: &[Vec<SpanData>], shown: usize) -> &[Vec<Sp
     }
 }
 
-/// Copies of the spans of batches.
-pub(crate) fn copied_spans(
+/// Copies of batches.
+pub(crate) fn copied_batches(
     alloc: Global,
     batches: &[Vec<SpanData>],
-) -> Result<Vec<SpanData>, AllocError>
-    ensures { IfOk result (λ spans. spans.items ≡ flat_map (λ batch. batch.items) batches.now) }
+) -> Result<Vec<Vec<SpanData>>, AllocError>
+    ensures { IfOk result (λ copies. map (λ batch. batch.items) copies.items
+        ≡ map (λ batch. batch.items) batches.now) }
 {
-    let mut spans = Vec::new(alloc);
+    let mut copies = Vec::new(alloc);
     for batch in batches {
-        push_copies(&mut spans, batch)?;
+        copies.push(copied_spans(alloc, batch)?)?;
     }
-    Ok(spans)
+    Ok(copies)
 }
 
-fn push_copies(spans: &mut Vec<SpanData>, batch: &[SpanData]) -> Result<(), AllocError>
-    ensures { OnOk result (spans.new.items ≡ spans.old.items ++ batch.now) }
+/// Copies of the spans of a batch.
+fn copied_spans(alloc: Global, batch: &[SpanData]) -> Result<Vec<SpanData>, AllocError>
+    ensures { IfOk result (λ spans. spans.items ≡ batch.now) }
 {
+    let mut spans = Vec::new(alloc);
     for span in batch {
         spans.push(span.clone()?)?;
     }
-    Ok(())
+    Ok(spans)
 }

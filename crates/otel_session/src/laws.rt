@@ -45,7 +45,7 @@ pub fn runs_keep_contexts<P: KeepsBatches, S: ShouldSample, G: IdGenerator>()
         (calls_of P.SpanProcessor P.DrainDue.own P.KeepsBatches.own S.ShouldSample G.IdGenerator) }
 {}
 
-/// The replies show all spans that the first processor's exporter took meanwhile, in order and each once.
+/// The replies show all batches that the first processor's exporter took meanwhile, in order and each once.
 pub fn runs_show_each_span_once<P: KeepsBatches, S: ShouldSample, G: IdGenerator>()
     ensures { RepliesShowAll
         (calls_of P.SpanProcessor P.DrainDue.own P.KeepsBatches.own S.ShouldSample G.IdGenerator) }

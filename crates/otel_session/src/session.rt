@@ -3,15 +3,13 @@
 
 ghost use Rattle.std.specs.Prelude.{◌≡◌, ◌++◌, ◌∷◌, [], drop, length, map, is_err, ◌||◌, if◌then◌else◌, IfErr, IfOk};
 ghost use Rattle.std.specs.Prelude.{OnOk, OnErr, codes, string_bytes};
-ghost use Rattle.std.specs.List.{flat_map};
 ghost use Rattle.opentelemetry.specs.Plain.{scope_named, text};
 ghost use Rattle.opentelemetry.specs.PlainContexts.{root_cx};
 ghost use Rattle.otel_export.specs.KeptBatches.{Grows};
 ghost use Rattle.otel_pipeline.specs.SpanEdits.{plain_edit};
 ghost use Rattle.otel_pipeline.specs.SpanHistory.{set_attribute};
 ghost use Rattle.otel_lines.specs.Commands.{plain_command};
-ghost use Rattle.otel_lines.specs.AnswerText.{answer_line};
-ghost use Rattle.otel_lines.specs.ReplyText.{span_lines};
+ghost use Rattle.otel_lines.specs.ReplyForm.{reply_lines};
 ghost use Rattle.otel_session.specs.Calls.{batches_of_first, calls_of, losses_of_first};
 ghost use Rattle.otel_session.specs.Closing.{Closes, or_no_memory};
 ghost use Rattle.otel_kept.specs.RecalledBatches.{FirstRecalled};
@@ -25,7 +23,7 @@ ghost use Rattle.otel_session.specs.Stops.{AnswerStops, Answers, Gains, RefusesO
 ghost use Rattle.otel_session.specs.Turn.{TakesTurn};
 ghost use Rattle.otel_session.specs.Turns.{IsCarriedOut, Runs, session_under};
 
-use crate::exported::{batches_since, copied_spans};
+use crate::exported::{batches_since, copied_batches};
 use crate::headers::remote_context;
 use crate::open_spans::OpenSpans;
 use opentelemetry::trace::Event;
@@ -34,13 +32,11 @@ use otel_base::error::{OTelSdkError, OTelSdkResult};
 use otel_base::trace::{IdGenerator, ShouldSample};
 use otel_export::trace::SpanData;
 use otel_kept::KeepsBatches;
-use otel_lines::reply_text::{write_batches, write_reply};
-use otel_lines::{Answer, Command, Reply, parse};
+use otel_lines::{Answer, Command, Reply, ReplyForm, ReplyLines, parse};
 use otel_pipeline::trace::{DrainDue, ProviderOf, SdkTracer, SpanEdit, SpanProcessor};
 use std::alloc::{AllocError, Global};
 use std::collections::VecDeque;
 use std::marker::Model;
-use std::mem;
 use thiserror::Error;
 
 /// Why commands were not carried out to their end.
@@ -120,8 +116,6 @@ pub struct Session<P, S, G> {
     shown: usize,
     // How many batches of the first processor had found no memory when the session began.
     lost_before: u64,
-    // Room for the texts of replies, one after another.
-    text: String,
     alloc: Global,
 }
 
@@ -175,7 +169,6 @@ impl<P: KeepsBatches, S: ShouldSample, G: IdGenerator> Session<P, S, G> {
             spans: OpenSpans::new(alloc),
             shown,
             lost_before,
-            text: String::new(alloc),
             alloc,
         })
     }
@@ -207,13 +200,13 @@ impl<P: KeepsBatches, S: ShouldSample, G: IdGenerator> Session<P, S, G> {
         Ok(())
     }
 
-    /// Appends the reply of an answer, with copies of the spans that no reply has shown, or nothing.
+    /// Appends the reply of an answer, with copies of the batches that no reply has shown, or nothing.
     fn push_reply(&self, answer: Answer, replies: &mut Vec<Reply>) -> Result<(), AllocError>
         ensures ok { OnOk result (replies.new.items ≡ replies.old.items
             ++ (record { exported = unshown P.KeepsBatches.own self.now; answer = answer }) ∷ []) }
         ensures err { OnErr result (replies.new.items ≡ replies.old.items) }
     {
-        let exported = copied_spans(self.alloc, self.unshown())?;
+        let exported = copied_batches(self.alloc, self.unshown())?;
         replies.push(Reply { exported, answer })?;
         Ok(())
     }
@@ -223,12 +216,28 @@ impl<P: KeepsBatches, S: ShouldSample, G: IdGenerator> Session<P, S, G> {
     /// has the replies of a beginning of the commands; behind `Refused` and `BatchLost`, which no text tells, one more
     /// was carried out, and behind `Memory` at most one. What that one exported is left for the next reply.
     pub fn feed(&mut self, text: &[u8], output: &mut Vec<u8>) -> Result<(), FeedError>
-        ensures { Writes output.old.items output.new.items (λ replies. Feeds
+        ensures { Writes reply_lines output.old.items output.new.items (λ replies. Feeds
             (calls_of P.SpanProcessor P.DrainDue.own P.KeepsBatches.own S.ShouldSample G.IdGenerator)
             self.old text.now result replies self.new) }
     {
+        let mut lines = ReplyLines::new(self.alloc);
+        self.feed_in(&mut lines, text, output)
+    }
+
+    /// The same, with the replies in a form.
+    pub fn feed_in<F: ReplyForm>(
+        &mut self,
+        form: &mut F,
+        text: &[u8],
+        output: &mut Vec<u8>,
+    ) -> Result<(), FeedError>
+        ensures writes { Writes (F.form form.old) output.old.items output.new.items (λ replies. Feeds
+            (calls_of P.SpanProcessor P.DrainDue.own P.KeepsBatches.own S.ShouldSample G.IdGenerator)
+            self.old text.now result replies self.new) }
+        ensures form { F.form form.new ≡ F.form form.old }
+    {
         let script = parse(self.alloc, text)?;
-        self.run_and_write(script.commands, output)?;
+        self.run_and_write(form, script.commands, output)?;
         match script.bad_line {
             None => Ok(()),
             Some(line) => Err(FeedError::Line(line)),
@@ -241,7 +250,18 @@ impl<P: KeepsBatches, S: ShouldSample, G: IdGenerator> Session<P, S, G> {
     pub fn close(self, output: &mut Vec<u8>) -> OTelSdkResult
         ensures { Closes
             (calls_of P.SpanProcessor P.DrainDue.own P.KeepsBatches.own S.ShouldSample G.IdGenerator)
-            self output.old.items result output.new.items }
+            reply_lines self output.old.items result output.new.items }
+    {
+        let mut lines = ReplyLines::new(self.alloc);
+        self.close_in(&mut lines, output)
+    }
+
+    /// The same, with the batches that no reply has shown in a form.
+    pub fn close_in<F: ReplyForm>(self, form: &mut F, output: &mut Vec<u8>) -> OTelSdkResult
+        ensures closes { Closes
+            (calls_of P.SpanProcessor P.DrainDue.own P.KeepsBatches.own S.ShouldSample G.IdGenerator)
+            (F.form form.old) self output.old.items result output.new.items }
+        ensures form { F.form form.new ≡ F.form form.old }
     {
         let Session {
             mut provider,
@@ -250,31 +270,33 @@ impl<P: KeepsBatches, S: ShouldSample, G: IdGenerator> Session<P, S, G> {
             spans,
             shown,
             lost_before,
-            text: _,
-            alloc,
+            alloc: _,
         } = self;
         spans.abandon();
         let shutdown = shut_down(&mut provider);
         let has_lost = lost_by_first(provider.processors()) != lost_before;
         let unshown = unshown_by_first(provider.processors(), shown);
-        let written = write_batches(alloc, output, unshown);
+        let written = form.write_rest(output, unshown);
         let _ = provider.close();
         close_answer(shutdown, has_lost, written)
     }
 
-    /// Carries commands out in order, and appends the text of each reply before the next command. It stops behind a
-    /// command whose answer counts a refusal, or whose reply finds no memory.
-    fn run_and_write(
+    /// Carries commands out in order, and appends each reply before the next command. It stops behind a command whose
+    /// answer counts a refusal, or whose reply finds no memory.
+    fn run_and_write<F: ReplyForm>(
         &mut self,
+        form: &mut F,
         commands: Vec<Command>,
         output: &mut Vec<u8>,
     ) -> Result<(), FeedError>
-        ensures ok { OnOk result (Writes output.old.items output.new.items (λ replies. Runs
+        ensures ok { OnOk result (Writes (F.form form.old) output.old.items output.new.items (λ replies. Runs
             (calls_of P.SpanProcessor P.DrainDue.own P.KeepsBatches.own S.ShouldSample G.IdGenerator)
             self.old commands.items replies self.new)) }
-        ensures err { IfErr result (λ error. Writes output.old.items output.new.items (λ replies. FeedStops
+        ensures err { IfErr result (λ error. Writes (F.form form.old) output.old.items output.new.items
+            (λ replies. FeedStops
             (calls_of P.SpanProcessor P.DrainDue.own P.KeepsBatches.own S.ShouldSample G.IdGenerator)
             error self.old commands.items replies self.new)) }
+        ensures form { F.form form.new ≡ F.form form.old }
     {
         let mut queue = VecDeque::from_vec(commands);
         while let Some(command) = queue.pop_front() {
@@ -282,23 +304,10 @@ impl<P: KeepsBatches, S: ShouldSample, G: IdGenerator> Session<P, S, G> {
             if answer.counts_refusals() {
                 return Err(FeedError::Refused);
             }
-            self.write_answer(answer, output)?;
+            form.write_reply(output, self.unshown(), answer)?;
             self.mark_shown();
         }
         Ok(())
-    }
-
-    /// Writes the reply of an answer, with the lines of the spans that no reply has shown, or nothing.
-    fn write_answer(&mut self, answer: Answer, output: &mut Vec<u8>) -> Result<(), AllocError>
-        ensures ok { OnOk result (output.new.items ≡ output.old.items ++
-            (span_lines (unshown P.KeepsBatches.own self.old) ++ answer_line answer)) }
-        ensures err { OnErr result (output.new.items ≡ output.old.items) }
-        ensures rest { self.new ≡ self.old }
-    {
-        let mut text = mem::replace(&mut self.text, String::new(self.alloc));
-        let written = write_reply(&mut text, output, self.unshown(), answer);
-        self.text = text;
-        written
     }
 
     /// Carries one command out. Where the first processor's exporter lost the batch of a span that it ended, it was
@@ -333,7 +342,7 @@ impl<P: KeepsBatches, S: ShouldSample, G: IdGenerator> Session<P, S, G> {
 
     /// The batches that the first processor's exporter keeps and no reply has shown.
     fn unshown(&self) -> &[Vec<SpanData>]
-        ensures { flat_map (λ batch. batch.items) result.now ≡ unshown P.KeepsBatches.own self.now }
+        ensures { map (λ batch. batch.items) result.now ≡ unshown P.KeepsBatches.own self.now }
     {
         unshown_by_first(self.provider.processors(), self.shown)
     }
@@ -378,7 +387,7 @@ fn shut_down<P: SpanProcessor, S: Drop, G: Drop>(
     }
 }
 
-/// What closing answers: what the shutdown did, and where that is Ok, whether a batch or the lines found no memory.
+/// What closing answers: what the shutdown did, and where that is Ok, whether a batch or the text found no memory.
 fn close_answer(
     shutdown: OTelSdkResult,
     has_lost: bool,

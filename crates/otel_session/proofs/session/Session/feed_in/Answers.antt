@@ -5,10 +5,10 @@ use Rattle.otel_lines.specs.Lines.{TextSpells}
 use Rattle.opentelemetry.proofs.Clauses.{fails_on_err}
 use Rattle.otel_session.specs.Calls.{calls_of}
 use Rattle.otel_session.proofs.FeedLemmas.{fed_some}
-use Rattle.otel_session.proofs.session.Session.feed.Goals as goal
+use Rattle.otel_session.proofs.session.Session.feed_in.Goals as goal
 
-pub returns-in_err-script : goal.returns-in_err-script
-returns-in_err-script g c =
+pub returns-in_err-script-clause-writes : goal.returns-in_err-script-clause-writes
+returns-in_err-script-clause-writes g c =
     let p = err_from_is_err_and c.from_residual.result c.from_residual.ensures.1 in
     rw (p.1, p.2) (record {
       replies = [];
@@ -17,8 +17,8 @@ returns-in_err-script g c =
       these = inl (record { says_something = fails_on_err c.in_err-script.ensures.free; none = refl; nothing_done = refl });
     })
 
-pub returns-in_err-run_and_write : goal.returns-in_err-run_and_write
-returns-in_err-run_and_write g c =
+pub returns-in_err-run_and_write-clause-writes : goal.returns-in_err-run_and_write-clause-writes
+returns-in_err-run_and_write-clause-writes g c =
     let calls = calls_of g.P.SpanProcessor g.P.DrainDue g.P.KeepsBatches g.S.ShouldSample g.G.IdGenerator in
     let p = err_from_is_err_and c.from_residual-in_err-run_and_write.result c.from_residual-in_err-run_and_write.ensures.1 in
     let wrote = c.in_err-run_and_write.ensures.err in
@@ -34,8 +34,8 @@ returns-in_err-run_and_write g c =
       });
     })
 
-pub returns-in-Some : goal.returns-in-Some
-returns-in-Some g c =
+pub returns-in-Some-clause-writes : goal.returns-in-Some-clause-writes
+returns-in-Some-clause-writes g c =
     let wrote = c.in_ok-run_and_write.ensures.ok in record {
       replies = wrote.replies;
       written = wrote.written;
@@ -47,8 +47,8 @@ returns-in-Some g c =
       };
     }
 
-pub returns-in-None : goal.returns-in-None
-returns-in-None g c =
+pub returns-in-None-clause-writes : goal.returns-in-None-clause-writes
+returns-in-None-clause-writes g c =
     let wrote = c.in_ok-run_and_write.ensures.ok in record {
       replies = wrote.replies;
       written = wrote.written;

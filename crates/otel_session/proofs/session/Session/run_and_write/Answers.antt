@@ -1,24 +1,23 @@
-use Rattle.std.proofs.Common.{rules, [], ◌∷◌, ◌++◌, sym, subst, ap, ◌∙◌, append-nil, inr, length}
+use Rattle.std.proofs.Common.{rules, [], ◌∷◌, ◌++◌, refl, sym, ◌∙◌, append-nil, inr}
 use Rattle.std.proofs.lemmas.Result.{err_from_is_err_and}
 use Rattle.otel_lines.specs.PlainReply.{PlainReply}
 use Rattle.otel_session.specs.Calls.{calls_of}
-use Rattle.otel_session.specs.Fed.{FeedStops, WhyUnwritten, Writes, feed_error}
-use Rattle.otel_session.specs.Shown.{session_batches, unshown}
-use Rattle.otel_session.specs.Turns.{SessionState}
+use Rattle.otel_session.specs.Fed.{WhyUnwritten, feed_error}
+use Rattle.otel_session.specs.Shown.{unshown}
 use Rattle.otel_session.specs.declared.session.FeedError.TheVariants as feeds
-use Rattle.otel_session.proofs.FeedLemmas.{written_more, none_refused_more}
+use Rattle.otel_session.proofs.FeedLemmas.{none_refused_more, written_more, written_same, written_shown}
 use Rattle.otel_session.proofs.RunLemmas.{ran_nothing, ran_all, ran_more, ran_stopped, stops_feed}
 use Rattle.otel_session.proofs.session.Session.run_and_write.Goals as goal
 
 pub loop-command-init : goal.loop-command-init
 loop-command-init g c =
     let calls = calls_of g.P.SpanProcessor g.P.DrainDue g.P.KeepsBatches g.S.ShouldSample g.G.IdGenerator in
-    record { replies = []; written = sym (append-nil _); none_refused = tt; these = ran_nothing calls c.args.self.now c.args.commands.items c.from_vec-queue.result.items c.from_vec-queue.ensures.items }
+    (refl, record { replies = []; written = sym (append-nil _); none_refused = tt; these = ran_nothing calls c.args.self.now c.args.commands.items c.from_vec-queue.result.items c.from_vec-queue.ensures.items })
 
 pub returns-in_err-answer-clause-err : goal.returns-in_err-answer-clause-err
 returns-in_err-answer-clause-err g c =
     let calls = calls_of g.P.SpanProcessor g.P.DrainDue g.P.KeepsBatches g.S.ShouldSample g.G.IdGenerator in
-    let i = c.loop-command.invariant in
+    let i = c.loop-command.invariant.1 in
     let error = c.in_err-answer.field-0.0 in
     let p = err_from_is_err_and c.from_residual.result c.from_residual.ensures.1 in
     rw (p.1, p.2) (record {
@@ -36,7 +35,7 @@ returns-in_err-answer-clause-err g c =
 pub returns-then-counts_refusals-clause-err : goal.returns-then-counts_refusals-clause-err
 returns-then-counts_refusals-clause-err g c =
     let calls = calls_of g.P.SpanProcessor g.P.DrainDue g.P.KeepsBatches g.S.ShouldSample g.G.IdGenerator in
-    let i = c.loop-command.invariant in record {
+    let i = c.loop-command.invariant.1 in record {
       replies = i.replies;
       written = i.written;
       none_refused = i.none_refused;
@@ -48,15 +47,14 @@ returns-then-counts_refusals-clause-err g c =
           });
     }
 
-pub returns-in_err-write_answer-clause-err : goal.returns-in_err-write_answer-clause-err
-returns-in_err-write_answer-clause-err g c =
+pub returns-in_err-write_reply-clause-err : goal.returns-in_err-write_reply-clause-err
+returns-in_err-write_reply-clause-err g c =
     let calls = calls_of g.P.SpanProcessor g.P.DrainDue g.P.KeepsBatches g.S.ShouldSample g.G.IdGenerator in
-    let i = c.loop-command.invariant in
-    let p = err_from_is_err_and c.from_residual-in_err-write_answer.result c.from_residual-in_err-write_answer.ensures.1 in
-    rw (p.1, p.2)
-    (subst (λ (session : SessionState g.row.P.Denot g.row.S.Denot g.row.G.Denot). Writes c.args.output.now.items c.write_answer.new.output.items (λ replies. FeedStops calls feeds.Memory c.args.self.now c.args.commands.items replies session)) (sym c.write_answer.ensures.rest) (record {
+    let i = c.loop-command.invariant.1 in
+    let p = err_from_is_err_and c.from_residual-in_err-write_reply.result c.from_residual-in_err-write_reply.ensures.1 in
+    rw (p.1, p.2) (record {
       replies = i.replies;
-      written = c.in_err-write_answer.ensures.err ∙ i.written;
+      written = written_same (g.F.ReplyForm.form c.args.form.now) i.replies c.args.output.now.items c.loop-command.output.items c.write_reply.new.output.items i.written c.in_err-write_reply.ensures.err;
       none_refused = i.none_refused;
       these = ran_stopped calls (WhyUnwritten calls feeds.Memory) c.args.self.now c.loop-command.self c.answer.new.self c.args.commands.items c.loop-command.queue.items c.pop_front.new.self.items i.replies c.in-Some.command c.in-Some.ensures.items i.these
           (record {
@@ -64,23 +62,32 @@ returns-in_err-write_answer-clause-err g c =
             rest = c.answer.ensures.rest;
             keeps_batches = c.answer.ensures.keeps;
           });
-    }))
+    })
 
 pub loop-command-preserved : goal.loop-command-preserved
 loop-command-preserved g c =
     let calls = calls_of g.P.SpanProcessor g.P.DrainDue g.P.KeepsBatches g.S.ShouldSample g.G.IdGenerator in
-    let i = c.loop-command.invariant in
-    let reply : PlainReply = record { exported = unshown g.P.KeepsBatches c.answer.new.self; answer = c.in_ok-answer.answer } in record {
-      replies = i.replies ++ reply ∷ [];
-      written = written_more i.replies reply c.args.output.now.items c.loop-command.output.items c.write_answer.new.output.items i.written c.in_ok-write_answer.ensures.ok;
-      none_refused = none_refused_more i.replies reply i.none_refused (sym c.counts_refusals.ensures ∙ c.if-counts_refusals.false);
-      these = ran_more calls c.args.self.now c.loop-command.self c.answer.new.self c.mark_shown.new.self c.args.commands.items c.loop-command.queue.items c.pop_front.new.self.items i.replies c.in-Some.command c.in_ok-answer.answer
-          c.in-Some.ensures.items i.these c.in_ok-answer.ensures.ok c.answer.ensures.rest
-          (c.mark_shown.ensures ∙ ap (λ (session : SessionState g.row.P.Denot g.row.S.Denot g.row.G.Denot). record session { shown = length (session_batches g.P.KeepsBatches session) }) c.write_answer.ensures.rest);
-    }
+    let i = c.loop-command.invariant.1 in
+    let same = c.loop-command.invariant.0 in
+    let form = g.F.ReplyForm.form c.args.form.now in
+    let before = c.loop-command.output.items in
+    let now = c.write_reply.new.output.items in
+    let answer = c.in_ok-answer.answer in
+    let batches = unshown g.P.KeepsBatches c.answer.new.self in
+    let reply : PlainReply = record { exported = batches; answer = answer } in
+    let wrote = written_shown form _ answer batches _ before now same c.unshown.ensures c.in_ok-write_reply.ensures.ok in (
+      c.write_reply.ensures.form ∙ same,
+      record {
+        replies = i.replies ++ reply ∷ [];
+        written = written_more form i.replies reply c.args.output.now.items before now i.written wrote;
+        none_refused = none_refused_more i.replies reply i.none_refused (sym c.counts_refusals.ensures ∙ c.if-counts_refusals.false);
+        these = ran_more calls c.args.self.now c.loop-command.self c.answer.new.self c.mark_shown.new.self c.args.commands.items c.loop-command.queue.items c.pop_front.new.self.items i.replies c.in-Some.command answer
+            c.in-Some.ensures.items i.these c.in_ok-answer.ensures.ok c.answer.ensures.rest c.mark_shown.ensures;
+      },
+    )
 
 pub returns-clause-ok : goal.returns-clause-ok
 returns-clause-ok g c =
     let calls = calls_of g.P.SpanProcessor g.P.DrainDue g.P.KeepsBatches g.S.ShouldSample g.G.IdGenerator in
-    let i = c.loop-command.invariant in
+    let i = c.loop-command.invariant.1 in
     record { replies = i.replies; written = i.written; none_refused = i.none_refused; these = ran_all calls c.args.self.now c.loop-command.self c.args.commands.items c.loop-command.queue.items i.replies (search rules) i.these }

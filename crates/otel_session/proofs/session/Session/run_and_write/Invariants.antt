@@ -1,3 +1,5 @@
+-- The replies so far are written, in the form that it had.
+use Rattle.std.proofs.Common.{◌≡◌}
 use Rattle.std.specs.VecDeque.{deque_len}
 use Rattle.otel_session.specs.Calls.{calls_of}
 use Rattle.otel_session.specs.Fed.{Writes}
@@ -5,7 +7,8 @@ use Rattle.otel_session.proofs.RunLemmas.{Ran}
 use Rattle.otel_session.proofs.session.Session.run_and_write.Given as goal
 
 abbrev pub invariant-loop-command : goal.invariant-loop-command
-invariant-loop-command g l = Writes l.fn.output.items l.output.items
+invariant-loop-command g l = (g.F.ReplyForm.form l.form ≡ g.F.ReplyForm.form l.fn.form)
+    × Writes (g.F.ReplyForm.form l.fn.form) l.fn.output.items l.output.items
     (λ replies. Ran (calls_of g.P.SpanProcessor g.P.DrainDue g.P.KeepsBatches g.S.ShouldSample g.G.IdGenerator) l.fn.self l.fn.commands.items l.queue.items replies l.self)
 
 abbrev pub decreases-loop-command : goal.decreases-loop-command
