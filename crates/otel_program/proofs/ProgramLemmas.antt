@@ -4,6 +4,7 @@ use Rattle.std.proofs.Math.ListN.{get_or}
 use Rattle.std.proofs.lemmas.List.{take_all}
 use Rattle.std.specs.Str.Parse.{digits_value}
 use Rattle.otel_base.specs.declared.trace.sampler.SamplerOf.{SamplerOf}
+use Rattle.otel_lines.specs.ReplyForm.{reply_lines}
 use Rattle.otel_pipeline.specs.Provider.{ProviderState}
 use Rattle.otel_program.specs.Arguments.{AsksFor, AsksForSteps, NamesProcessor, WriteSizes}
 use Rattle.otel_program.specs.Program.{BeginsAsked, IsProviderOf, MemoryProcessor, TracesAsked}
@@ -182,17 +183,17 @@ found P made value e h = subst (λ m. IfOk m P) e h
 module _ {C D E : Type 0} (calls : Calls (MemoryProcessor C D) (SamplerOf E) (List ℕ)) where
   -- what is traced under the provider that words ask for, is under any that they ask for
   pub traces_asked : (words : List (List ℕ)) (asked other : Asked) (provider : ProviderState (MemoryProcessor C D) (SamplerOf E) (List ℕ)) (s : Streams) (end : RunEnd) → AsksFor words asked → AsksFor words other → IsProviderOf other provider
-      → EndsAs (TracesWhole calls provider s) (TracesBegun calls provider s) s end → EndsAs (TracesAsked calls asked s) (BeginsAsked calls asked s) s end
+      → EndsAs (TracesWhole calls reply_lines provider s) (TracesBegun calls reply_lines provider s) s end → EndsAs (TracesAsked calls asked s) (BeginsAsked calls asked s) s end
   traces_asked words asked other provider s end h k is traces = by end (subst (λ (a : Asked). IsProviderOf a provider) (asks_once words other asked k h) is) traces
     where
-      by : (end : RunEnd) → IsProviderOf asked provider → EndsAs (TracesWhole calls provider s) (TracesBegun calls provider s) s end → EndsAs (TracesAsked calls asked s) (BeginsAsked calls asked s) s end
+      by : (end : RunEnd) → IsProviderOf asked provider → EndsAs (TracesWhole calls reply_lines provider s) (TracesBegun calls reply_lines provider s) s end → EndsAs (TracesAsked calls asked s) (BeginsAsked calls asked s) s end
       by ends.Done is traces = ((provider, is, traces.0), traces.1)
       by (ends.BadLine line) is traces = (provider, is, traces)
       by ends.Failed is traces = inr (provider, is, traces)
 
   -- what such a provider's session wrote whole is a beginning
   pub asked_begun : (asked : Asked) (s : Streams) (bad_line : Option ℕ) → TracesAsked calls asked s bad_line → BeginsAsked calls asked s
-  asked_begun asked s bad_line h = inr (h.0, h.1, all_begun calls (session_under calls.keeps h.0) s bad_line h.2)
+  asked_begun asked s bad_line h = inr (h.0, h.1, all_begun calls reply_lines (session_under calls.keeps h.0) s bad_line h.2)
 
   -- no provider was made
   pub none_asked : (asked : Asked) (input output : Option (List ℕ)) (Silent : Type 0) (Says : List ℕ → Type 0) → EndsWith (TracesAsked calls asked (streams input input output output)) (BeginsAsked calls asked (streams input input output output)) Silent Says (streams input input output output) 1

@@ -11,11 +11,10 @@ use Rattle.otel_base.specs.declared.error.OTelSdkError.{OTelSdkError}
 use Rattle.otel_export.specs.PlainSpanData.{PlainSpanData}
 use Rattle.otel_lines.proofs.JoinedLines.{lines_joined}
 use Rattle.otel_lines.proofs.JoinedTexts.{bad_text_joined}
-use Rattle.otel_lines.specs.AnswerText.{reply_text, replies_text}
 use Rattle.otel_lines.specs.Commands.{PlainCommand, plain_command, plain_commands}
 use Rattle.otel_lines.specs.Lines.{Spell, SpellUpTo, TextSpells}
 use Rattle.otel_lines.specs.PlainReply.{NoneRefused, PlainReply}
-use Rattle.otel_lines.specs.ReplyText.{span_lines}
+use Rattle.otel_lines.specs.ReplyForm.{Form, texts}
 use Rattle.otel_lines.specs.declared.command.Command.{Command}
 use Rattle.otel_session.specs.Calls.{Calls}
 use Rattle.otel_session.specs.Closing.{Closes}
@@ -41,8 +40,8 @@ none_refused_joined [] more h k = k
 none_refused_joined (reply ∷ replies) more h k = (h.0, none_refused_joined replies more h.1 k)
 
 -- the text of replies, and of more
-replies_joined : (replies more : List PlainReply) → replies_text replies ++ replies_text more ≡ replies_text (replies ++ more)
-replies_joined replies more = sym (flat_map-append reply_text replies more)
+replies_joined : (form : Form) (replies more : List PlainReply) → texts form replies ++ texts form more ≡ texts form (replies ++ more)
+replies_joined form replies more = sym (flat_map-append form.reply replies more)
 
 -- commands that all lines spell are spelled by a beginning of them
 begins_all : (all : List (List ℕ)) (commands : List PlainCommand) (bad_line : Option ℕ) → SpellUpTo all commands bad_line → (front : List (List ℕ)) × (left : List (List ℕ)) × (all ≡ front ++ left) × Spell front commands
@@ -100,7 +99,7 @@ appends_longer a b first second (written, left, e, k) = (written, left ++ second
 pub appends_all : (a b : Option (List ℕ)) (bytes : List ℕ) → Appends a b bytes → AppendsBeginning a b bytes
 appends_all a b bytes h = (bytes, [], sym (append-nil bytes), h)
 
-module _ {P S G : Type 0} (calls : Calls P S G) (begun : SessionState P S G) where
+module _ {P S G : Type 0} (calls : Calls P S G) (form : Form) (begun : SessionState P S G) where
   -- so many lines were given and their commands carried out, and a rest was read behind them
   pub record HasTraced (now : SessionState P S G) (s : Streams) (rest : List ℕ) (number : ℕ) : Type 0 where
     pub given : List ℕ
@@ -109,7 +108,7 @@ module _ {P S G : Type 0} (calls : Calls P S G) (begun : SessionState P S G) whe
     pub ends : IsEmptyOrEndsWith given 10
     pub follows : Follows calls begun given None replies now
     pub none_refused : NoneRefused replies
-    pub written : Appends s.output s.output_after (replies_text replies)
+    pub written : Appends s.output s.output_after (texts form replies)
     pub counted : number ≡ length (lines given)
 
 module _ {P S G : Type 0} (calls : Calls P S G) where
@@ -121,9 +120,18 @@ module _ {P S G : Type 0} (calls : Calls P S G) where
     took = λ histories describes. record { turns = []; after = histories; are_turns = refl; replied_to = refl; describes = describes };
   })
 
-module _ {P S G : Type 0} (calls : Calls P S G) (law : RecallsNothingElse calls) (begun : SessionState P S G) (histories : Histories) (describes : Describe histories begun.spans) where
+module _ {P S G : Type 0} (calls : Calls P S G) (form : Form) where
+  -- what a close appends is a beginning of the text of batches, behind any text
+  closes_text : (now : SessionState P S G) (answer : Result (Unit {0}) OTelSdkError) (before text : List ℕ) → Closes calls form now before answer text
+      → (batches : List (List PlainSpanData)) × (left : List ℕ) × (before ++ form.rest batches ≡ text ++ left)
+  closes_text now answer before text h = elim h.writes [
+    | inl w ↦ (_, [], sym w.written ∙ sym (append-nil text))
+    | inr w ↦ ([], form.rest [], ap (λ bs. bs ++ form.rest []) (sym w.written))
+  ]
+
+module _ {P S G : Type 0} (calls : Calls P S G) (form : Form) (law : RecallsNothingElse calls) (begun : SessionState P S G) (histories : Histories) (describes : Describe histories begun.spans) where
   -- none was given yet
-  pub traced_none : (input output : Option (List ℕ)) → HasTraced calls begun begun (streams input input output output) [] 0
+  pub traced_none : (input output : Option (List ℕ)) → HasTraced calls form begun begun (streams input input output output) [] 0
   traced_none input output = record {
     given = [];
     replies = [];
@@ -137,7 +145,7 @@ module _ {P S G : Type 0} (calls : Calls P S G) (law : RecallsNothingElse calls)
 
   -- commands of a text in front of the input
   some_traced : (input : Option (List ℕ)) (Written : List ℕ → Type 0) (text : List ℕ) (commands : List Command) (replies : List PlainReply) (after : SessionState P S G) → IsCut input text → BeginsToSpell text (plain_commands commands)
-      → Runs calls begun commands replies after → NoneRefused replies → Written (replies_text replies) → CarriesOutSome calls begun input Written
+      → Runs calls begun commands replies after → NoneRefused replies → Written (texts form replies) → CarriesOutSome calls form begun input Written
   some_traced input Written text commands replies after cut begins ran none written = record {
     bytes = text ++ cut.behind;
     commands = commands;
@@ -151,30 +159,30 @@ module _ {P S G : Type 0} (calls : Calls P S G) (law : RecallsNothingElse calls)
   }
 
   -- the lines so far are a beginning
-  pub begun_so_far : (now : SessionState P S G) (input here after output output_after : Option (List ℕ)) (rest more : List ℕ) (number : ℕ) → HasTraced calls begun now (streams input here output output_after) rest number
-      → IsCut input more → (h : HasTraced calls begun now (streams input here output output_after) rest number) → h.given ≡ more → CarriesOutSome calls begun input (Appends output output_after)
+  pub begun_so_far : (now : SessionState P S G) (input here after output output_after : Option (List ℕ)) (rest more : List ℕ) (number : ℕ) → HasTraced calls form begun now (streams input here output output_after) rest number
+      → IsCut input more → (h : HasTraced calls form begun now (streams input here output output_after) rest number) → h.given ≡ more → CarriesOutSome calls form begun input (Appends output output_after)
   begun_so_far now input here after output output_after rest more number _ cut h e =
       some_traced input (Appends output output_after) more h.follows.feeds.commands h.replies h.follows.whole cut
       (begins_text more (plain_commands h.follows.feeds.commands) None (subst (λ (bs : List ℕ). TextSpells bs (plain_commands h.follows.feeds.commands) None) e h.follows.feeds.spelled)) h.follows.feeds.ran h.none_refused h.written
 
   -- reading gives up
-  pub begun_reading : (now : SessionState P S G) (input here after output output_after : Option (List ℕ)) (rest : List ℕ) (number : ℕ) (piece : PlainPieces) → HasTraced calls begun now (streams input here output output_after) rest number
-      → KeepsAll here after rest piece → CarriesOutSome calls begun input (Appends output output_after)
+  pub begun_reading : (now : SessionState P S G) (input here after output output_after : Option (List ℕ)) (rest : List ℕ) (number : ℕ) (piece : PlainPieces) → HasTraced calls form begun now (streams input here output output_after) rest number
+      → KeepsAll here after rest piece → CarriesOutSome calls form begun input (Appends output output_after)
   begun_reading now input here after output output_after rest number piece h k =
       let read : Consumes input after (h.given ++ piece.rest) =
       subst (λ (bs : List ℕ). Consumes input after (bs ++ piece.rest)) (append-nil h.given) (read_on_from input here after h.given rest k.read [] piece.rest h.read k.consumed k.joined) in
       begun_so_far now input here after output output_after rest h.given number h (cut_given input after h.given piece.rest read h.ends) h refl
 
   -- turns run out
-  pub begun_turning : (now : SessionState P S G) (input here output output_after : Option (List ℕ)) (rest : List ℕ) (number : ℕ) → HasTraced calls begun now (streams input here output output_after) rest number
-      → CarriesOutSome calls begun input (Appends output output_after)
+  pub begun_turning : (now : SessionState P S G) (input here output output_after : Option (List ℕ)) (rest : List ℕ) (number : ℕ) → HasTraced calls form begun now (streams input here output output_after) rest number
+      → CarriesOutSome calls form begun input (Appends output output_after)
   begun_turning now input here output output_after rest number h =
       begun_so_far now input here here output output_after rest h.given number h (cut_given input here h.given rest h.read h.ends) h refl
 
   -- commands of a piece more were carried out, as far as they were
   some_more : (now middle : SessionState P S G) (input here after output reached : Option (List ℕ)) (rest : List ℕ) (number : ℕ) (goes_on : Bool) (piece : PlainPieces) (Written : List ℕ → Type 0) (commands : List Command) (more : List PlainReply)
-      → (h : HasTraced calls begun now (streams input here output reached) rest number) → GivesLines here after rest goes_on piece → BeginsToSpell piece.lines (plain_commands commands) → Runs calls now commands more middle → NoneRefused more
-      → Written (replies_text (h.replies ++ more)) → CarriesOutSome calls begun input Written
+      → (h : HasTraced calls form begun now (streams input here output reached) rest number) → GivesLines here after rest goes_on piece → BeginsToSpell piece.lines (plain_commands commands) → Runs calls now commands more middle → NoneRefused more
+      → Written (texts form (h.replies ++ more)) → CarriesOutSome calls form begun input Written
   some_more now middle input here after output reached rest number goes_on piece Written commands more h g begins ran none written =
       let took = h.follows.feeds.ran.took histories describes in
       let there = subst (λ (s : SessionState P S G). Describe took.after s.spans) h.follows.forgot.rest took.describes in
@@ -210,23 +218,23 @@ module _ {P S G : Type 0} (calls : Calls P S G) (law : RecallsNothingElse calls)
 
   -- of a piece more some was carried out, and of the text of its replies some was written
   pub begun_feeding : {T : Type 0} (now next : SessionState P S G) (input here after output reached : Option (List ℕ)) (rest : List ℕ) (number : ℕ) (goes_on : Bool) (piece : PlainPieces) (fed : Result T FeedError) (Written Behind : List ℕ → Type 0)
-      → HasTraced calls begun now (streams input here output reached) rest number → GivesLines here after rest goes_on piece → FeedsPiece calls now piece.lines fed Written next
-      → ((first second : List ℕ) → Appends output reached first → Written second → Behind (first ++ second)) → CarriesOutSome calls begun input Behind
+      → HasTraced calls form begun now (streams input here output reached) rest number → GivesLines here after rest goes_on piece → FeedsPiece calls form now piece.lines fed Written next
+      → ((first second : List ℕ) → Appends output reached first → Written second → Behind (first ++ second)) → CarriesOutSome calls form begun input Behind
   begun_feeding now next input here after output reached rest number goes_on piece fed Written Behind h g k behind =
       let ran = fed_commands now k.middle piece.lines fed k.replies k.feeds in
       some_more now ran.1 input here after output reached rest number goes_on piece Behind ran.0 k.replies h g ran.2 ran.3 k.none_refused
-      (subst Behind (replies_joined h.replies k.replies) (behind (replies_text h.replies) (replies_text k.replies) h.written k.written))
+      (subst Behind (replies_joined form h.replies k.replies) (behind (texts form h.replies) (texts form k.replies) h.written k.written))
 
   pub begun_failing : {T : Type 0} (now next : SessionState P S G) (input here after output reached output_after : Option (List ℕ)) (rest : List ℕ) (number : ℕ) (goes_on : Bool) (piece : PlainPieces) (fed : Result T FeedError)
-      → HasTraced calls begun now (streams input here output reached) rest number → GivesLines here after rest goes_on piece → FeedsPiece calls now piece.lines fed (Appends reached output_after) next
-      → CarriesOutSome calls begun input (Appends output output_after)
+      → HasTraced calls form begun now (streams input here output reached) rest number → GivesLines here after rest goes_on piece → FeedsPiece calls form now piece.lines fed (Appends reached output_after) next
+      → CarriesOutSome calls form begun input (Appends output output_after)
   begun_failing now next input here after output reached output_after rest number goes_on piece fed h g k =
       begun_feeding now next input here after output reached rest number goes_on piece fed (Appends reached output_after) (Appends output output_after) h g k
       (λ first second first_h second_h. Appends-trans output reached output_after first second first_h second_h)
 
   pub begun_breaking : {T : Type 0} (now next : SessionState P S G) (input here after output reached output_after : Option (List ℕ)) (rest : List ℕ) (number : ℕ) (goes_on : Bool) (piece : PlainPieces) (fed : Result T FeedError)
-      → HasTraced calls begun now (streams input here output reached) rest number → GivesLines here after rest goes_on piece → FeedsPiece calls now piece.lines fed (AppendsBeginning reached output_after) next
-      → CarriesOutSome calls begun input (AppendsBeginning output output_after)
+      → HasTraced calls form begun now (streams input here output reached) rest number → GivesLines here after rest goes_on piece → FeedsPiece calls form now piece.lines fed (AppendsBeginning reached output_after) next
+      → CarriesOutSome calls form begun input (AppendsBeginning output output_after)
   begun_breaking now next input here after output reached output_after rest number goes_on piece fed h g k =
       begun_feeding now next input here after output reached rest number goes_on piece fed (AppendsBeginning reached output_after) (AppendsBeginning output output_after) h g k
       (λ first second first_h second_h. appends_behind output reached output_after first second first_h second_h)
@@ -240,8 +248,8 @@ module _ {P S G : Type 0} (calls : Calls P S G) (law : RecallsNothingElse calls)
 
   -- a piece more is carried out
   pub traced_more : {T : Type 0} (now next : SessionState P S G) (input here after output reached output_after : Option (List ℕ)) (rest : List ℕ) (number count : ℕ) (goes_on : Bool) (piece : PlainPieces) (fed : Result T FeedError) (x : T)
-      → HasTraced calls begun now (streams input here output reached) rest number → GivesLines here after rest goes_on piece → goes_on ≡ true → fed ≡ Ok x → FeedsPiece calls now piece.lines fed (Appends reached output_after) next
-      → count ≡ number + length (lines piece.lines) → HasTraced calls begun next (streams input after output output_after) piece.rest count
+      → HasTraced calls form begun now (streams input here output reached) rest number → GivesLines here after rest goes_on piece → goes_on ≡ true → fed ≡ Ok x → FeedsPiece calls form now piece.lines fed (Appends reached output_after) next
+      → count ≡ number + length (lines piece.lines) → HasTraced calls form begun next (streams input after output output_after) piece.rest count
   traced_more {T} now next input here after output reached output_after rest number count goes_on piece fed x h g is well k counted =
       let ends : IsEmptyOrEndsWith piece.lines 10 = (g.some is).1 in
       record {
@@ -251,7 +259,7 @@ module _ {P S G : Type 0} (calls : Calls P S G) (law : RecallsNothingElse calls)
         ends = ends_joined h.given piece.lines h.ends ends;
         follows = follows_more now next k.middle h.given piece.lines None h.replies k.replies h.ends h.follows (subst (λ (r : Result T FeedError). Feeds calls now piece.lines r k.replies k.middle) well k.feeds) k.forgot;
         none_refused = none_refused_joined h.replies k.replies h.none_refused k.none_refused;
-        written = subst (Appends output output_after) (replies_joined h.replies k.replies) (Appends-trans output reached output_after (replies_text h.replies) (replies_text k.replies) h.written k.written);
+        written = subst (Appends output output_after) (replies_joined form h.replies k.replies) (Appends-trans output reached output_after (texts form h.replies) (texts form k.replies) h.written k.written);
         counted =
             let before : number ≡ length (lines h.given) = h.counted in
             let joined : length (lines (h.given ++ piece.lines)) ≡ length (lines h.given ++ lines piece.lines) = ap length (lines_joined h.given piece.lines h.ends) in
@@ -260,8 +268,8 @@ module _ {P S G : Type 0} (calls : Calls P S G) (law : RecallsNothingElse calls)
 
   -- the last piece is
   pub traced_all : {T : Type 0} (now next : SessionState P S G) (input here after output reached output_after : Option (List ℕ)) (rest : List ℕ) (number : ℕ) (goes_on : Bool) (piece : PlainPieces) (fed : Result T FeedError) (x : T)
-      → HasTraced calls begun now (streams input here output reached) rest number → GivesLines here after rest goes_on piece → goes_on ≡ false → fed ≡ Ok x → FeedsPiece calls now piece.lines fed (Appends reached output_after) next
-      → FeedsPieces calls begun next (streams input after output output_after) None × IsAtEnd after
+      → HasTraced calls form begun now (streams input here output reached) rest number → GivesLines here after rest goes_on piece → goes_on ≡ false → fed ≡ Ok x → FeedsPiece calls form now piece.lines fed (Appends reached output_after) next
+      → FeedsPieces calls form begun next (streams input after output output_after) None × IsAtEnd after
   traced_all {T} now next input here after output reached output_after rest number goes_on piece fed x h g is well k =
       let last = cut_last input here after h.given rest goes_on piece is h.read g in (
         record {
@@ -270,7 +278,7 @@ module _ {P S G : Type 0} (calls : Calls P S G) (law : RecallsNothingElse calls)
           all = last.0;
           follows = follows_more now next k.middle h.given piece.lines None h.replies k.replies h.ends h.follows (subst (λ (r : Result T FeedError). Feeds calls now piece.lines r k.replies k.middle) well k.feeds) k.forgot;
           none_refused = none_refused_joined h.replies k.replies h.none_refused k.none_refused;
-          written = subst (Appends output output_after) (replies_joined h.replies k.replies) (Appends-trans output reached output_after (replies_text h.replies) (replies_text k.replies) h.written k.written);
+          written = subst (Appends output output_after) (replies_joined form h.replies k.replies) (Appends-trans output reached output_after (texts form h.replies) (texts form k.replies) h.written k.written);
         },
         last.1,
       )
@@ -285,8 +293,8 @@ module _ {P S G : Type 0} (calls : Calls P S G) (law : RecallsNothingElse calls)
 
   -- a line of a piece is bad
   pub traced_bad : {T : Type 0} (now next : SessionState P S G) (input here after output reached output_after : Option (List ℕ)) (rest : List ℕ) (number line : ℕ) (goes_on : Bool) (piece : PlainPieces) (fed : Result T FeedError)
-      → HasTraced calls begun now (streams input here output reached) rest number → GivesLines here after rest goes_on piece → fed ≡ Err (feeds.Line line) → FeedsPiece calls now piece.lines fed (Appends reached output_after) next
-      → FeedsPieces calls begun next (streams input after output output_after) (Some (number + line))
+      → HasTraced calls form begun now (streams input here output reached) rest number → GivesLines here after rest goes_on piece → fed ≡ Err (feeds.Line line) → FeedsPiece calls form now piece.lines fed (Appends reached output_after) next
+      → FeedsPieces calls form begun next (streams input after output output_after) (Some (number + line))
   traced_bad {T} now next input here after output reached output_after rest number line goes_on piece fed h g is k =
       let cut = cut_piece input here after h.given rest goes_on piece h.read h.ends g in
       let text = h.given ++ piece.lines in
@@ -299,12 +307,12 @@ module _ {P S G : Type 0} (calls : Calls P S G) (law : RecallsNothingElse calls)
         all = cut.all;
         follows = holds_of_all (λ bs. Follows calls begun bs (Some (number + line)) all next) input text cut (λ behind ends h. follows_longer next text behind (number + line) all ends h) follows;
         none_refused = none_refused_joined h.replies k.replies h.none_refused k.none_refused;
-        written = subst (Appends output output_after) (replies_joined h.replies k.replies) (Appends-trans output reached output_after (replies_text h.replies) (replies_text k.replies) h.written k.written);
+        written = subst (Appends output output_after) (replies_joined form h.replies k.replies) (Appends-trans output reached output_after (texts form h.replies) (texts form k.replies) h.written k.written);
       }
 
-module _ {P S G : Type 0} (calls : Calls P S G) (law : RecallsNothingElse calls) (begun : SessionState P S G) where
+module _ {P S G : Type 0} (calls : Calls P S G) (form : Form) (law : RecallsNothingElse calls) (begun : SessionState P S G) where
   -- what was fed is a beginning
-  fed_some : (now : SessionState P S G) (s : Streams) (bad_line : Option ℕ) → FeedsPieces calls begun now s bad_line → CarriesOutSome calls begun s.input (Appends s.output s.output_after)
+  fed_some : (now : SessionState P S G) (s : Streams) (bad_line : Option ℕ) → FeedsPieces calls form begun now s bad_line → CarriesOutSome calls form begun s.input (Appends s.output s.output_after)
   fed_some now s bad_line h = record {
     bytes = h.bytes;
     commands = h.follows.feeds.commands;
@@ -317,18 +325,11 @@ module _ {P S G : Type 0} (calls : Calls P S G) (law : RecallsNothingElse calls)
     written = h.written;
   }
 
-  -- what a close appends is lines of spans
-  closes_lines : (now : SessionState P S G) (answer : Result (Unit {0}) OTelSdkError) (closing : List ℕ) → Closes calls now [] answer closing → (spans : List PlainSpanData) × (closing ≡ span_lines spans)
-  closes_lines now answer closing h = elim h.writes [
-    | inl w ↦ (_, w.written)
-    | inr w ↦ ([], w.written)
-  ]
-
   -- what was carried out and closed, where not all was written
-  pub some_closed : (input output reached output_after : Option (List ℕ)) (now : SessionState P S G) (answer : Result (Unit {0}) OTelSdkError) (closing : List ℕ) → CarriesOutSome calls begun input (Appends output reached)
-      → Closes calls now [] answer closing → AppendsBeginning reached output_after closing → (after : Option (List ℕ)) → TracesSome calls begun (streams input after output output_after)
+  pub some_closed : (input output reached output_after : Option (List ℕ)) (now : SessionState P S G) (answer : Result (Unit {0}) OTelSdkError) (closing : List ℕ) → CarriesOutSome calls form begun input (Appends output reached)
+      → Closes calls form now [] answer closing → AppendsBeginning reached output_after closing → (after : Option (List ℕ)) → TracesSome calls form begun (streams input after output output_after)
   some_closed input output reached output_after now answer closing h k written after =
-      let lines = closes_lines now answer closing k in record {
+      let rest = closes_text calls form now answer [] closing k in record {
         bytes = h.bytes;
         commands = h.commands;
         replies = h.replies;
@@ -337,10 +338,14 @@ module _ {P S G : Type 0} (calls : Calls P S G) (law : RecallsNothingElse calls)
         begins = h.begins;
         ran = h.ran;
         none_refused = h.none_refused;
-        written = (lines.0, appends_behind output reached output_after (replies_text h.replies) (span_lines lines.0) h.written (subst (AppendsBeginning reached output_after) lines.1 written));
+        written = (
+          rest.0,
+          appends_behind output reached output_after (texts form h.replies) (form.rest rest.0) h.written
+              (subst (AppendsBeginning reached output_after) (sym rest.2) (appends_longer reached output_after closing rest.1 written)),
+        );
       }
 
-  pub some_broken : (input output output_after : Option (List ℕ)) → CarriesOutSome calls begun input (AppendsBeginning output output_after) → (after : Option (List ℕ)) → TracesSome calls begun (streams input after output output_after)
+  pub some_broken : (input output output_after : Option (List ℕ)) → CarriesOutSome calls form begun input (AppendsBeginning output output_after) → (after : Option (List ℕ)) → TracesSome calls form begun (streams input after output output_after)
   some_broken input output output_after h after = record {
     bytes = h.bytes;
     commands = h.commands;
@@ -350,66 +355,59 @@ module _ {P S G : Type 0} (calls : Calls P S G) (law : RecallsNothingElse calls)
     begins = h.begins;
     ran = h.ran;
     none_refused = h.none_refused;
-    written = ([], appends_longer output output_after (replies_text h.replies) (span_lines []) h.written);
+    written = ([], appends_longer output output_after (texts form h.replies) (form.rest []) h.written);
   }
 
   -- a close appends the same behind any text
-  closes_behind : (now : SessionState P S G) (answer : Result (Unit {0}) OTelSdkError) (before closing : List ℕ) → Closes calls now [] answer closing → Closes calls now before answer (before ++ closing)
+  closes_behind : (now : SessionState P S G) (answer : Result (Unit {0}) OTelSdkError) (before closing : List ℕ) → Closes calls form now [] answer closing → Closes calls form now before answer (before ++ closing)
   closes_behind now answer before closing h = record {
     provider = h.provider;
     shutdown = h.shutdown;
     shuts = h.shuts;
     writes = elim h.writes [
       | inl w ↦ inl (record { answers = w.answers; written = ap (λ bs. before ++ bs) w.written })
-      | inr w ↦ inr (record { answers = w.answers; written = ap (λ bs. before ++ bs) w.written ∙ append-nil before; are_some = w.are_some })
+      | inr w ↦ inr (record { answers = w.answers; written = ap (λ bs. before ++ bs) w.written ∙ append-nil before; is_some = w.is_some })
     ];
   }
 
   -- what was fed and closed well, all of it written
-  pub all_closed : (now : SessionState P S G) (input after output reached output_after : Option (List ℕ)) (bad_line : Option ℕ) (closing : List ℕ) → FeedsPieces calls begun now (streams input after output reached) bad_line
-      → Closes calls now [] (Ok tt) closing → Appends reached output_after closing → TracesAll calls begun (streams input after output output_after) bad_line
+  pub all_closed : (now : SessionState P S G) (input after output reached output_after : Option (List ℕ)) (bad_line : Option ℕ) (closing : List ℕ) → FeedsPieces calls form begun now (streams input after output reached) bad_line
+      → Closes calls form now [] (Ok tt) closing → Appends reached output_after closing → TracesAll calls form begun (streams input after output output_after) bad_line
   all_closed now input after output reached output_after bad_line closing h k written = record {
     bytes = h.bytes;
-    text = replies_text h.replies ++ closing;
+    text = texts form h.replies ++ closing;
     all = h.all;
-    finishes = streams_finish calls law begun now h.bytes bad_line h.replies (replies_text h.replies ++ closing) h.follows h.none_refused (closes_behind now (Ok tt) (replies_text h.replies) closing k);
-    written = Appends-trans output reached output_after (replies_text h.replies) closing h.written written;
+    finishes = streams_finish calls law form begun now h.bytes bad_line h.replies (texts form h.replies ++ closing) h.follows h.none_refused (closes_behind now (Ok tt) (texts form h.replies) closing k);
+    written = Appends-trans output reached output_after (texts form h.replies) closing h.written written;
   }
 
   -- a session was fed and closed, and not all was well or written
-  pub closed_some : (now : SessionState P S G) (input after output reached output_after : Option (List ℕ)) (end : RunEnd) (answer : Result (Unit {0}) OTelSdkError) (closing : List ℕ) → FedAs calls begun now (streams input after output reached) end
-      → Closes calls now [] answer closing → AppendsBeginning reached output_after closing → TracesSome calls begun (streams input after output output_after)
+  pub closed_some : (now : SessionState P S G) (input after output reached output_after : Option (List ℕ)) (end : RunEnd) (answer : Result (Unit {0}) OTelSdkError) (closing : List ℕ) → FedAs calls form begun now (streams input after output reached) end
+      → Closes calls form now [] answer closing → AppendsBeginning reached output_after closing → TracesSome calls form begun (streams input after output output_after)
   closed_some now input after output reached output_after ends.Done answer closing h k written = some_closed input output reached output_after now answer closing (fed_some now (streams input after output reached) None h.0) k written after
   closed_some now input after output reached output_after (ends.BadLine line) answer closing h k written = some_closed input output reached output_after now answer closing (fed_some now (streams input after output reached) (Some line) h) k written after
   closed_some now input after output reached output_after ends.Failed answer closing h k written = some_closed input output reached output_after now answer closing h k written after
 
   -- a session was fed and closed well, and all was written
-  pub closed_as : (now : SessionState P S G) (input after output reached output_after : Option (List ℕ)) (end : RunEnd) (closing : List ℕ) → FedAs calls begun now (streams input after output reached) end
-      → Closes calls now [] (Ok tt) closing → Appends reached output_after closing
-      → EndsAs (TracesAll calls begun (streams input after output output_after)) (TracesSome calls begun (streams input after output output_after)) (streams input after output output_after) end
+  pub closed_as : (now : SessionState P S G) (input after output reached output_after : Option (List ℕ)) (end : RunEnd) (closing : List ℕ) → FedAs calls form begun now (streams input after output reached) end
+      → Closes calls form now [] (Ok tt) closing → Appends reached output_after closing
+      → EndsAs (TracesAll calls form begun (streams input after output output_after)) (TracesSome calls form begun (streams input after output output_after)) (streams input after output output_after) end
   closed_as now input after output reached output_after ends.Done closing h k written = (all_closed now input after output reached output_after None closing h.0 k written, h.1)
   closed_as now input after output reached output_after (ends.BadLine line) closing h k written = all_closed now input after output reached output_after (Some line) closing h k written
   closed_as now input after output reached output_after ends.Failed closing h k written = some_closed input output reached output_after now (Ok tt) closing h k (appends_all reached output_after closing written) after
 
   -- how feeding ends at a bad line
-  pub fed_bad : (now : SessionState P S G) (s : Streams) (line : ℕ) (end : RunEnd) → (end ≡ ends.Failed) ⊎ (end ≡ ends.BadLine line) → FeedsPieces calls begun now s (Some line) → CarriesOutSome calls begun s.input (Appends s.output s.output_after)
-      → FedAs calls begun now s end
-  fed_bad now s line end (inl failed) h k = subst (FedAs calls begun now s) (sym failed) k
-  fed_bad now s line end (inr bad) h k = subst (FedAs calls begun now s) (sym bad) h
+  pub fed_bad : (now : SessionState P S G) (s : Streams) (line : ℕ) (end : RunEnd) → (end ≡ ends.Failed) ⊎ (end ≡ ends.BadLine line) → FeedsPieces calls form begun now s (Some line) → CarriesOutSome calls form begun s.input (Appends s.output s.output_after)
+      → FedAs calls form begun now s end
+  fed_bad now s line end (inl failed) h k = subst (FedAs calls form begun now s) (sym failed) k
+  fed_bad now s line end (inr bad) h k = subst (FedAs calls form begun now s) (sym bad) h
 
-module _ {P S G : Type 0} (calls : Calls P S G) (begun : SessionState P S G) where
-  -- what a close appends is lines of spans, behind any text
-  closes_text : (now : SessionState P S G) (before text : List ℕ) → Closes calls now before (Ok tt) text → (spans : List PlainSpanData) × (text ≡ before ++ span_lines spans)
-  closes_text now before text h = elim h.writes [
-    | inl w ↦ (_, w.written)
-    | inr w ↦ ([], w.written ∙ sym (append-nil before))
-  ]
-
+module _ {P S G : Type 0} (calls : Calls P S G) (form : Form) (begun : SessionState P S G) where
   -- what was given whole is a beginning
-  pub all_begun : (s : Streams) (bad_line : Option ℕ) → TracesAll calls begun s bad_line → TracesSome calls begun s
+  pub all_begun : (s : Streams) (bad_line : Option ℕ) → TracesAll calls form begun s bad_line → TracesSome calls form begun s
   all_begun s bad_line h =
       let f = h.finishes in
-      let lines = closes_text f.after f.written h.text f.closes in
+      let rest = closes_text calls form f.after (Ok tt) f.written h.text f.closes in
       record {
         bytes = h.bytes;
         commands = f.feeds.these.commands;
@@ -420,14 +418,14 @@ module _ {P S G : Type 0} (calls : Calls P S G) (begun : SessionState P S G) whe
         ran = f.feeds.these.ran;
         none_refused = f.feeds.none_refused;
         written = (
-          lines.0,
-          appends_all s.output s.output_after (replies_text f.feeds.replies ++ span_lines lines.0)
-              (subst (Appends s.output s.output_after) (lines.1 ∙ ap (λ bs. bs ++ span_lines lines.0) f.feeds.written) h.written),
+          rest.0,
+          subst (AppendsBeginning s.output s.output_after) (sym rest.2 ∙ ap (λ bs. bs ++ form.rest rest.0) f.feeds.written)
+              (appends_longer s.output s.output_after h.text rest.1 (appends_all s.output s.output_after h.text h.written)),
         );
       }
 
   -- no session was made
-  pub none_begun : (input output : Option (List ℕ)) → TracesSome calls begun (streams input input output output)
+  pub none_begun : (input output : Option (List ℕ)) → TracesSome calls form begun (streams input input output output)
   none_begun input output =
       let cut = cut_given input input [] [] (Consumes-nil input) nothing_ends in
       record {
@@ -439,11 +437,11 @@ module _ {P S G : Type 0} (calls : Calls P S G) (begun : SessionState P S G) whe
         begins = record { front = []; left = lines cut.behind; parts = refl; spelled = tt };
         ran = nothing_ran calls begun [] refl;
         none_refused = tt;
-        written = ([], ([], [], refl, Appends-nil output));
+        written = ([], ([], form.rest [], refl, Appends-nil output));
       }
 
   -- what was written whole is a beginning
-  pub begun_whole : (input output output_after : Option (List ℕ)) → CarriesOutSome calls begun input (Appends output output_after) → CarriesOutSome calls begun input (AppendsBeginning output output_after)
+  pub begun_whole : (input output output_after : Option (List ℕ)) → CarriesOutSome calls form begun input (Appends output output_after) → CarriesOutSome calls form begun input (AppendsBeginning output output_after)
   begun_whole input output output_after h = record {
     bytes = h.bytes;
     commands = h.commands;
@@ -453,5 +451,5 @@ module _ {P S G : Type 0} (calls : Calls P S G) (begun : SessionState P S G) whe
     begins = h.begins;
     ran = h.ran;
     none_refused = h.none_refused;
-    written = appends_all output output_after (replies_text h.replies) h.written;
+    written = appends_all output output_after (texts form h.replies) h.written;
   }

@@ -24,6 +24,7 @@ use Rattle.opentelemetry_sdk.specs.KeptByKinds.{processor_keeps, processor_loses
 use Rattle.opentelemetry_sdk.specs.RecalledByKinds.{processor_recalled}
 use Rattle.opentelemetry_sdk.specs.declared.trace.processor.ProcessorOf.{ProcessorOf}
 use Rattle.opentelemetry_sdk.specs.declared.trace.processor.ProcessorOf.TheVariants as kinds
+use Rattle.otel_lines.specs.ReplyForm.{reply_lines}
 use Rattle.otel_session.specs.Calls.{Calls, calls_of}
 use Rattle.otel_program.specs.Streams.{Streams}
 use Rattle.otel_program.specs.TraceRuns.{TracesBegun, TracesWhole}
@@ -80,11 +81,11 @@ module _ {C D E : Type 0} (calls : Calls (MemoryProcessor C D) (SamplerOf E) (Li
   -- the output was given what a session writes for the whole input, under the provider that is asked for
   abbrev pub TracesAsked : Streams → Option ℕ → Type 0
   TracesAsked s bad_line = (provider : ProviderState (MemoryProcessor C D) (SamplerOf E) (List ℕ))
-      × IsProviderOf asked provider × TracesWhole calls provider s bad_line
+      × IsProviderOf asked provider × TracesWhole calls reply_lines provider s bad_line
 
   -- the output was given a beginning of what such a session writes for a beginning of the input; or nothing, where
   -- there was no memory for the provider
   abbrev pub BeginsAsked : Streams → Type 0
   BeginsAsked s = Appends s.output s.output_after []
       ⊎ ((provider : ProviderState (MemoryProcessor C D) (SamplerOf E) (List ℕ))
-      × IsProviderOf asked provider × TracesBegun calls provider s)
+      × IsProviderOf asked provider × TracesBegun calls reply_lines provider s)

@@ -1,13 +1,12 @@
--- What the mode `trace` does with its streams.
+-- What the mode `trace` does with its streams, with its replies in a form.
 use Rattle.std.specs.Prelude.{◌≡◌, ◌++◌, ℕ, List, Option, Some, None, Result}
 use Rattle.std.specs.Io.KnownBytes.{Appends, IsAtEnd}
 use Rattle.std.specs.Str.Lines.{lines}
 use Rattle.otel_export.specs.PlainSpanData.{PlainSpanData}
-use Rattle.otel_lines.specs.AnswerText.{replies_text}
 use Rattle.otel_lines.specs.Commands.{PlainCommand, plain_commands}
 use Rattle.otel_lines.specs.Lines.{Spell}
 use Rattle.otel_lines.specs.PlainReply.{NoneRefused, PlainReply}
-use Rattle.otel_lines.specs.ReplyText.{span_lines}
+use Rattle.otel_lines.specs.ReplyForm.{Form, texts}
 use Rattle.otel_lines.specs.declared.command.Command.{Command}
 use Rattle.otel_pipeline.specs.Provider.{ProviderState}
 use Rattle.otel_program.specs.Pieces.{AppendsBeginning}
@@ -28,13 +27,13 @@ pub record BeginsToSpell (text : List ℕ) (commands : List PlainCommand) : Type
   pub parts : lines text ≡ front ++ left
   pub spelled : Spell front commands
 
-module _ {P S G : Type 0} (calls : Calls P S G) where
+module _ {P S G : Type 0} (calls : Calls P S G) (form : Form) where
   -- the output was given what a session writes for the whole input, up to its first bad line, and when it closes
   pub record TracesAll (begun : SessionState P S G) (s : Streams) (bad_line : Option ℕ) : Type 0 where
     pub bytes : List ℕ
     pub text : List ℕ
     pub all : AreAll s.input bytes
-    pub finishes : Finishes calls begun bytes bad_line text
+    pub finishes : Finishes calls form begun bytes bad_line text
     pub written : Appends s.output s.output_after text
 
   -- a session carried out the commands that a beginning of the input spells, each with its reply, and of a text the
@@ -49,13 +48,14 @@ module _ {P S G : Type 0} (calls : Calls P S G) where
     pub begins : BeginsToSpell bytes (plain_commands commands)
     pub ran : Runs calls begun commands replies after
     pub none_refused : NoneRefused replies
-    pub written : Written (replies_text replies)
+    pub written : Written (texts form replies)
 
-  -- the output was given a beginning of the replies to a beginning of the input's commands, and of lines of spans
+  -- the output was given a beginning of the replies to a beginning of the input's commands, and of the text of batches
   -- behind them
   abbrev pub TracesSome : SessionState P S G → Streams → Type 0
   TracesSome begun s = CarriesOutSome begun s.input
-      (λ text. (spans : List PlainSpanData) × AppendsBeginning s.output s.output_after (text ++ span_lines spans))
+      (λ text. (batches : List (List PlainSpanData))
+      × AppendsBeginning s.output s.output_after (text ++ form.rest batches))
 
   -- the same of a session under a provider
   abbrev pub TracesWhole : ProviderState P S G → Streams → Option ℕ → Type 0
@@ -73,7 +73,7 @@ module _ {P S G : Type 0} (calls : Calls P S G) where
     pub feeds : Feeds calls old piece fed replies middle
     pub forgot : HasForgotten calls.keeps middle new
     pub none_refused : NoneRefused replies
-    pub written : Written (replies_text replies)
+    pub written : Written (texts form replies)
 
   -- the pieces of an input were fed to a session, and the output was given its replies: the text up to a bad line, if
   -- there is one
@@ -83,7 +83,7 @@ module _ {P S G : Type 0} (calls : Calls P S G) where
     pub all : AreAll s.input bytes
     pub follows : Follows calls begun bytes bad_line replies now
     pub none_refused : NoneRefused replies
-    pub written : Appends s.output s.output_after (replies_text replies)
+    pub written : Appends s.output s.output_after (texts form replies)
 
   -- what feeding the pieces did, by how it ended: where it failed, all replies to a beginning were written
   abbrev pub FedAs : SessionState P S G → SessionState P S G → Streams → RunEnd → Type 0

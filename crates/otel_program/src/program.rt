@@ -40,6 +40,7 @@ use otel_base::trace::{
 use otel_batch::trace::BatchConfigBuilder;
 use otel_export::trace::{ExporterOf, InMemorySpanExporter, SpanData, SpanExporter};
 use otel_kept::KeepsBatches;
+use otel_lines::ReplyLines;
 use otel_lines::lines::number_of;
 use otel_pipeline::trace::provider::provider_over;
 use otel_pipeline::trace::{DrainDue, ProviderOf, SimpleSpanProcessor, SpanProcessor};
@@ -179,7 +180,8 @@ pub fn run_program<R: Read, W: Write, F: Write>(
     match provider_for(alloc, words) {
         None => refuse(faults, USAGE),
         Some(Ok(provider)) => {
-            let end = trace_input(alloc, provider, input, output);
+            let mut lines = ReplyLines::new(alloc);
+            let end = trace_input(alloc, provider, &mut lines, input, output);
             status_of(alloc, end, faults)
         }
         Some(Err(_)) => FAILED,

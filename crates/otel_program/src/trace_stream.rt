@@ -1,7 +1,7 @@
-//! The mode `trace` as a stream: lines are carried out as they come, and their replies are written and sent on before
-//! more is read. A session then forgets what it has shown.
+//! The mode `trace` as a stream: lines are carried out as they come, and their replies are written, in a form, and sent
+//! on before more is read. A session then forgets what it has shown.
 
-ghost use Rattle.std.specs.Prelude.{IfOk, OnErr, Result};
+ghost use Rattle.std.specs.Prelude.{◌≡◌, IfOk, OnErr, Result};
 ghost use Rattle.std.specs.Io.KnownBytes.{Appends};
 ghost use Rattle.otel_program.specs.Pieces.{AppendsBeginning};
 ghost use Rattle.otel_program.specs.Streams.{EndsAs, Streams, streams};
@@ -22,6 +22,7 @@ use crate::pieces::{Pieces, write_whole};
 use crate::run_end::RunEnd;
 use otel_base::trace::{IdGenerator, ShouldSample};
 use otel_kept::KeepsBatches;
+use otel_lines::ReplyForm;
 use otel_pipeline::trace::ProviderOf;
 use otel_session::{FeedError, Session};
 use std::alloc::Global;
@@ -29,9 +30,17 @@ use std::io;
 use std::io::{Read, Write};
 
 /// Carries out the lines of an input by one session under a provider.
-pub fn trace_input<P: KeepsBatches, S: ShouldSample, G: IdGenerator, R: Read, W: Write>(
+pub fn trace_input<
+    P: KeepsBatches,
+    S: ShouldSample,
+    G: IdGenerator,
+    F: ReplyForm,
+    R: Read,
+    W: Write,
+>(
     alloc: Global,
     provider: ProviderOf<P, S, G>,
+    form: &mut F,
     input: &mut R,
     output: &mut W,
 ) -> RunEnd
@@ -39,12 +48,12 @@ pub fn trace_input<P: KeepsBatches, S: ShouldSample, G: IdGenerator, R: Read, W:
         (W.contents output.old) (W.contents output.new) in
         EndsAs
         (TracesWhole (calls_of P.SpanProcessor P.DrainDue.own P.KeepsBatches.own S.ShouldSample G.IdGenerator)
-        provider s)
+        (F.form form.old) provider s)
         (TracesBegun (calls_of P.SpanProcessor P.DrainDue.own P.KeepsBatches.own S.ShouldSample G.IdGenerator)
-        provider s) s result }
+        (F.form form.old) provider s) s result }
 {
     match Session::new(alloc, provider) {
-        Ok(session) => trace_session(alloc, session, input, output),
+        Ok(session) => trace_session(alloc, session, form, input, output),
         Err((provider, _)) => {
             let _ = provider.close();
             RunEnd::Failed
@@ -54,9 +63,10 @@ pub fn trace_input<P: KeepsBatches, S: ShouldSample, G: IdGenerator, R: Read, W:
 
 /// Carries out the lines of an input by a session, and closes that. Where reading or writing failed, what the closing
 /// exports is not written, so that the output is a beginning.
-fn trace_session<P: KeepsBatches, S: ShouldSample, G: IdGenerator, R: Read, W: Write>(
+fn trace_session<P: KeepsBatches, S: ShouldSample, G: IdGenerator, F: ReplyForm, R: Read, W: Write>(
     alloc: Global,
     mut session: Session<P, S, G>,
+    form: &mut F,
     input: &mut R,
     output: &mut W,
 ) -> RunEnd
@@ -64,14 +74,14 @@ fn trace_session<P: KeepsBatches, S: ShouldSample, G: IdGenerator, R: Read, W: W
         (W.contents output.old) (W.contents output.new) in
         EndsAs
         (TracesAll (calls_of P.SpanProcessor P.DrainDue.own P.KeepsBatches.own S.ShouldSample G.IdGenerator)
-        session s)
+        (F.form form.old) session s)
         (TracesSome (calls_of P.SpanProcessor P.DrainDue.own P.KeepsBatches.own S.ShouldSample G.IdGenerator)
-        session s) s result }
+        (F.form form.old) session s) s result }
 {
     let mut text = Vec::new(alloc);
-    let fed = feed_pieces(alloc, &mut session, &mut text, input, output);
+    let fed = feed_pieces(alloc, &mut session, form, &mut text, input, output);
     text.clear();
-    let closed = session.close(&mut text);
+    let closed = session.close_in(form, &mut text);
     let Ok(end) = fed else {
         return RunEnd::Failed;
     };
@@ -86,29 +96,31 @@ fn trace_session<P: KeepsBatches, S: ShouldSample, G: IdGenerator, R: Read, W: W
 
 /// Feeds an input to a session, piece by piece, and writes its replies. Fails where reading or writing does. `text` is
 /// room for them.
-fn feed_pieces<P: KeepsBatches, S: ShouldSample, G: IdGenerator, R: Read, W: Write>(
+fn feed_pieces<P: KeepsBatches, S: ShouldSample, G: IdGenerator, F: ReplyForm, R: Read, W: Write>(
     alloc: Global,
     session: &mut Session<P, S, G>,
+    form: &mut F,
     text: &mut Vec<u8>,
     input: &mut R,
     output: &mut W,
 ) -> io::Result<RunEnd>
     ensures ok { IfOk result (λ end. FedAs
         (calls_of P.SpanProcessor P.DrainDue.own P.KeepsBatches.own S.ShouldSample G.IdGenerator)
-        session.old session.new
+        (F.form form.old) session.old session.new
         (streams (R.remaining input.old) (R.remaining input.new) (W.contents output.old) (W.contents output.new))
         end) }
     ensures err { OnErr result (CarriesOutSome
         (calls_of P.SpanProcessor P.DrainDue.own P.KeepsBatches.own S.ShouldSample G.IdGenerator)
-        session.old (R.remaining input.old)
+        (F.form form.old) session.old (R.remaining input.old)
         (AppendsBeginning (W.contents output.old) (W.contents output.new))) }
+    ensures form { F.form form.new ≡ F.form form.old }
 {
     session.has_histories();
     let mut pieces = Pieces::new(alloc);
     let mut before: u64 = 0;
     for _ in 0..u64::MAX {
         let goes_on = pieces.read_on(input)?;
-        match feed_piece(session, pieces.lines(), text, output)? {
+        match feed_piece(session, form, pieces.lines(), text, output)? {
             Ok(()) => {}
             Err(FeedError::Line(line)) => return Ok(bad_line_behind(before, line)),
             Err(FeedError::Memory | FeedError::Refused | FeedError::BatchLost) => {
@@ -128,23 +140,25 @@ fn feed_pieces<P: KeepsBatches, S: ShouldSample, G: IdGenerator, R: Read, W: Wri
 
 /// Feeds lines to a session, writes and sends on its replies, and has it forget what they show. `text` is room for
 /// them.
-fn feed_piece<P: KeepsBatches, S: ShouldSample, G: IdGenerator, W: Write>(
+fn feed_piece<P: KeepsBatches, S: ShouldSample, G: IdGenerator, F: ReplyForm, W: Write>(
     session: &mut Session<P, S, G>,
+    form: &mut F,
     lines: &[u8],
     text: &mut Vec<u8>,
     output: &mut W,
 ) -> io::Result<Result<(), FeedError>>
     ensures ok { IfOk result (λ fed. FeedsPiece
         (calls_of P.SpanProcessor P.DrainDue.own P.KeepsBatches.own S.ShouldSample G.IdGenerator)
-        session.old lines.now fed (Appends (W.contents output.old) (W.contents output.new))
+        (F.form form.old) session.old lines.now fed (Appends (W.contents output.old) (W.contents output.new))
         session.new) }
     ensures err { OnErr result ((fed : Result (Unit {0}) FeedError) × FeedsPiece
         (calls_of P.SpanProcessor P.DrainDue.own P.KeepsBatches.own S.ShouldSample G.IdGenerator)
-        session.old lines.now fed (AppendsBeginning (W.contents output.old) (W.contents output.new))
-        session.new) }
+        (F.form form.old) session.old lines.now fed
+        (AppendsBeginning (W.contents output.old) (W.contents output.new)) session.new) }
+    ensures form { F.form form.new ≡ F.form form.old }
 {
     text.clear();
-    let fed = session.feed(lines, text);
+    let fed = session.feed_in(form, lines, text);
     let written = write_whole(output, text);
     session.forget_shown();
     written?;

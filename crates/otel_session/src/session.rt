@@ -106,7 +106,7 @@ impl From<RunError> for FeedError {
 /// The name of the library whose spans a session makes.
 const SCOPE_NAME: &str = "otel_trace";
 
-/// Commands against one provider. It must be spent by `close`.
+/// Commands against one provider. It must be spent by `close` or `close_in`.
 pub struct Session<P, S, G> {
     provider: ProviderOf<P, S, G>,
     tracer: SdkTracer,

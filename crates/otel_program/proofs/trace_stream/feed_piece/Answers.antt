@@ -1,6 +1,6 @@
 -- The replies were written, or a beginning of their text.
 use Rattle.std.proofs.Common.{◌∙◌, ◌++◌, List, ℕ, ap, subst}
-use Rattle.otel_lines.specs.AnswerText.{replies_text}
+use Rattle.otel_lines.specs.ReplyForm.{texts}
 use Rattle.std.specs.Io.KnownBytes.{Appends}
 use Rattle.opentelemetry.proofs.Clauses.{always_on_err}
 use Rattle.otel_program.specs.Pieces.{AppendsBeginning}
@@ -8,13 +8,13 @@ use Rattle.otel_program.proofs.trace_stream.feed_piece.Goals as goal
 
 pub returns-in_err-written-clause-err : goal.returns-in_err-written-clause-err
 returns-in_err-written-clause-err g c =
-    let fed = c.feed-fed.ensures in
-    let text = c.deref.ensures.value ∙ fed.written ∙ ap (λ (t : List ℕ). t ++ replies_text fed.replies) c.clear.ensures.items in
+    let fed = c.feed_in-fed.ensures.writes in
+    let text = c.deref.ensures.value ∙ fed.written ∙ ap (λ (t : List ℕ). t ++ texts (g.F.ReplyForm.form c.args.form.now) fed.replies) c.clear.ensures.items in
     always_on_err c.from_residual.result (
-      c.feed-fed.result,
+      c.feed_in-fed.result,
       record {
         replies = fed.replies;
-        middle = c.feed-fed.new.self;
+        middle = c.feed_in-fed.new.self;
         feeds = fed.these;
         forgot = c.forget_shown.ensures.forgets;
         none_refused = fed.none_refused;
@@ -24,11 +24,11 @@ returns-in_err-written-clause-err g c =
 
 pub returns-clause-ok : goal.returns-clause-ok
 returns-clause-ok g c =
-    let fed = c.feed-fed.ensures in
-    let text = c.deref.ensures.value ∙ fed.written ∙ ap (λ (t : List ℕ). t ++ replies_text fed.replies) c.clear.ensures.items in
+    let fed = c.feed_in-fed.ensures.writes in
+    let text = c.deref.ensures.value ∙ fed.written ∙ ap (λ (t : List ℕ). t ++ texts (g.F.ReplyForm.form c.args.form.now) fed.replies) c.clear.ensures.items in
     record {
       replies = fed.replies;
-      middle = c.feed-fed.new.self;
+      middle = c.feed_in-fed.new.self;
       feeds = fed.these;
       forgot = c.forget_shown.ensures.forgets;
       none_refused = fed.none_refused;

@@ -7,4 +7,4 @@ use Rattle.otel_program.proofs.trace_stream.trace_input.Goals as goal
 pub returns-in-Err : goal.returns-in-Err
 returns-in-Err g c =
     let calls = calls_of g.P.SpanProcessor g.P.DrainDue g.P.KeepsBatches g.S.ShouldSample g.G.IdGenerator in
-    none_begun calls (session_under calls.keeps c.args.provider) (g.R.Read.remaining c.args.input.now) (g.W.Write.contents c.args.output.now)
+    none_begun calls (g.F.ReplyForm.form c.args.form.now) (session_under calls.keeps c.args.provider) (g.R.Read.remaining c.args.input.now) (g.W.Write.contents c.args.output.now)
