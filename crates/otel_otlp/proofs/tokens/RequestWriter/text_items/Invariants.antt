@@ -1,0 +1,11 @@
+-- The items so far are written.
+use Rattle.std.proofs.Common.{Ok, map, string_bytes, take}
+use Rattle.std.specs.declared.alloc.AllocError.{AllocError}
+use Rattle.otel_otlp.specs.Fields.{Adds, list_tokens}
+use Rattle.otel_otlp.specs.Otlp.{text_json}
+use Rattle.otel_otlp.proofs.tokens.RequestWriter.text_items.Given as goal
+
+abbrev pub invariant-loop-item : goal.invariant-loop-item
+invariant-loop-item l =
+    Adds {E = AllocError} (Ok tt) l.fn.self l.self
+    (list_tokens text_json (take l.item-index (map (λ item. string_bytes item) l.items)))

@@ -1,0 +1,210 @@
+-- A batch of ended spans as the OpenTelemetry protocol writes it in JSON (OTLP 1.7, "JSON Protobuf Encoding"): an
+-- `ExportTraceServiceRequest`, whose members stand in this order, also those with their default.
+use Rattle.std.specs.Prelude.{ℕ, ℤ, Bool, List, [], ◌∷◌, ◌++◌, ◌+◌, ◌==◌, Option, Some, None, codes, map, if◌then◌else◌}
+use Rattle.std.specs.Fmt.{decimal, signed_decimal}
+use Rattle.std.specs.FinMap.{entries}
+use Rattle.json.specs.Json.{Json}
+use Rattle.json.specs.Json as json
+use Rattle.json.specs.Print.{print}
+use Rattle.json.specs.Tree.{json_tokens}
+use Rattle.opentelemetry.specs.Hex.{hex_text}
+use Rattle.opentelemetry.specs.Plain.{PlainEvent, PlainKeyValue, PlainLink, PlainScope, PlainSpanContext, PlainStatus}
+use Rattle.opentelemetry.specs.Plain.{PlainValue, boolean, integer, text, booleans, integers, texts, unset, error, ok, scope_named}
+use Rattle.opentelemetry.specs.Tracestate.{tracestate_text}
+use Rattle.opentelemetry.specs.declared.trace.span_kind.SpanKind.{SpanKind}
+use Rattle.opentelemetry.specs.declared.trace.span_kind.SpanKind.TheVariants as kinds
+use Rattle.otel_base.specs.Resource.{PlainResource}
+use Rattle.otel_export.specs.PlainSpanData.{PlainSpanData, PlainSpanEvents, PlainSpanLinks}
+use Rattle.otel_otlp.specs.Fields.{Field, items_of, list_json, object_json}
+use Rattle.otel_otlp.specs.ScopeRuns.{scope_runs}
+
+-- an object with one member
+abbrev pub single : List ℕ → Json → Json
+single key value = object_json ((key, value) ∷ [])
+
+-- the values of an `AnyValue`: a truth, an integer of 64 bits as a string, a text
+abbrev pub bool_json : Bool → Json
+bool_json truth = single (codes "boolValue") (json.boolean truth)
+
+abbrev pub integer_json : ℤ → Json
+integer_json number = single (codes "intValue") (json.string (signed_decimal number))
+
+abbrev pub text_json : List ℕ → Json
+text_json bytes = single (codes "stringValue") (json.string bytes)
+
+-- the items of a list
+abbrev pub array_items : PlainValue → List Json
+array_items (boolean truth) = []
+array_items (integer number) = []
+array_items (text bytes) = []
+array_items (booleans truths) = map bool_json truths
+array_items (integers numbers) = map integer_json numbers
+array_items (texts many) = map text_json many
+
+-- a list of values
+abbrev pub array_json : PlainValue → Json
+array_json value = single (codes "arrayValue") (single (codes "values") (json.array (items_of (array_items value))))
+
+abbrev pub value_json : PlainValue → Json
+value_json (boolean truth) = bool_json truth
+value_json (integer number) = integer_json number
+value_json (text bytes) = text_json bytes
+value_json (booleans truths) = array_json (booleans truths)
+value_json (integers numbers) = array_json (integers numbers)
+value_json (texts many) = array_json (texts many)
+
+-- a `KeyValue`
+abbrev pub pair_json : List ℕ × PlainValue → Json
+pair_json pair = object_json ((codes "key", json.string pair.0) ∷ (codes "value", value_json pair.1) ∷ [])
+
+abbrev pub attribute_json : PlainKeyValue → Json
+attribute_json attribute = pair_json (attribute.key, attribute.value)
+
+-- members of one kind each: a text, a number, a number of 64 bits as a string
+abbrev pub text_field : List ℕ → List ℕ → Field
+text_field key bytes = (key, json.string bytes)
+
+abbrev pub number_field : List ℕ → ℕ → Field
+number_field key number = (key, json.number (decimal number))
+
+abbrev pub moment_field : List ℕ → ℕ → Field
+moment_field key nanoseconds = (key, json.string (decimal nanoseconds))
+
+-- attributes, and how many others there were
+abbrev pub attributes_fields : List PlainKeyValue → ℕ → List Field
+attributes_fields attributes dropped =
+    (codes "attributes", list_json attribute_json attributes)
+    ∷ number_field (codes "droppedAttributesCount") dropped ∷ []
+
+-- ids are in hexadecimal digits, and not in base 64 as other bytes are
+abbrev pub context_fields : PlainSpanContext → List Field
+context_fields context =
+    text_field (codes "traceId") (hex_text 32 context.trace_id)
+    ∷ text_field (codes "spanId") (hex_text 16 context.span_id)
+    ∷ text_field (codes "traceState") (tracestate_text context.trace_state) ∷ []
+
+-- the id of a parent, empty where there is none
+abbrev pub parent_text : ℕ → List ℕ
+parent_text parent = if parent == 0 then [] else hex_text 16 parent
+
+-- the flags of the trace; then bit 8, which says that bit 9 is known, and bit 9 where a context came from elsewhere
+abbrev pub flags_of : ℕ → Bool → ℕ
+flags_of trace_flags is_remote = trace_flags + 256 + (if is_remote then 512 else 0)
+
+abbrev pub kind_number : SpanKind → ℕ
+kind_number kinds.Internal = 1
+kind_number kinds.Server = 2
+kind_number kinds.Client = 3
+kind_number kinds.Producer = 4
+kind_number kinds.Consumer = 5
+
+abbrev pub event_json : PlainEvent → Json
+event_json event = object_json
+    (moment_field (codes "timeUnixNano") event.timestamp ∷ text_field (codes "name") event.name
+    ∷ attributes_fields event.attributes event.dropped_attributes_count)
+
+abbrev pub events_fields : PlainSpanEvents → List Field
+events_fields events =
+    (codes "events", list_json event_json events.events)
+    ∷ number_field (codes "droppedEventsCount") events.dropped_count ∷ []
+
+-- the flags of a link say where the linked context came from
+abbrev pub link_json : PlainLink → Json
+link_json link = object_json
+    (context_fields link.span_context
+    ++ (attributes_fields link.attributes link.dropped_attributes_count
+    ++ number_field (codes "flags") (flags_of link.span_context.trace_flags link.span_context.is_remote) ∷ []))
+
+abbrev pub links_fields : PlainSpanLinks → List Field
+links_fields links =
+    (codes "links", list_json link_json links.links)
+    ∷ number_field (codes "droppedLinksCount") links.dropped_count ∷ []
+
+-- the description of an error, and the number of a status
+abbrev pub message_text : PlainStatus → List ℕ
+message_text unset = []
+message_text ok = []
+message_text (error description) = description
+
+abbrev pub code_number : PlainStatus → ℕ
+code_number unset = 0
+code_number ok = 1
+code_number (error description) = 2
+
+abbrev pub status_json : PlainStatus → Json
+status_json status = object_json
+    (text_field (codes "message") (message_text status) ∷ number_field (codes "code") (code_number status) ∷ [])
+
+-- its parent, and the flags, which say where the parent's context came from
+abbrev pub parent_fields : PlainSpanData → List Field
+parent_fields span =
+    text_field (codes "parentSpanId") (parent_text span.parent_span_id)
+    ∷ number_field (codes "flags") (flags_of span.span_context.trace_flags span.parent_span_is_remote) ∷ []
+
+abbrev pub name_fields : PlainSpanData → List Field
+name_fields span =
+    text_field (codes "name") span.name ∷ number_field (codes "kind") (kind_number span.span_kind) ∷ []
+
+abbrev pub time_fields : PlainSpanData → List Field
+time_fields span =
+    moment_field (codes "startTimeUnixNano") span.start_time
+    ∷ moment_field (codes "endTimeUnixNano") span.end_time ∷ []
+
+-- which span it is
+abbrev pub identity_fields : PlainSpanData → List Field
+identity_fields span =
+    context_fields span.span_context ++ (parent_fields span ++ (name_fields span ++ time_fields span))
+
+-- what was recorded of it
+abbrev pub recording_fields : PlainSpanData → List Field
+recording_fields span =
+    attributes_fields span.attributes span.dropped_attributes_count ++ (events_fields span.events
+    ++ (links_fields span.links ++ (codes "status", status_json span.status) ∷ []))
+
+abbrev pub span_fields : PlainSpanData → List Field
+span_fields span = identity_fields span ++ recording_fields span
+
+abbrev pub span_json : PlainSpanData → Json
+span_json span = object_json (span_fields span)
+
+-- a text that may be left out
+abbrev pub or_empty : Option (List ℕ) → List ℕ
+or_empty None = []
+or_empty (Some bytes) = bytes
+
+abbrev pub scope_json : PlainScope → Json
+scope_json scope = object_json
+    (text_field (codes "name") scope.name ∷ text_field (codes "version") (or_empty scope.version)
+    ∷ attributes_fields scope.attributes 0)
+
+-- the scope of the first span of a run, which is that of each
+abbrev pub run_scope : List PlainSpanData → PlainScope
+run_scope [] = scope_named []
+run_scope (span ∷ spans) = span.instrumentation_scope
+
+-- the spans of one scope
+abbrev pub run_json : List PlainSpanData → Json
+run_json run = object_json
+    ((codes "scope", scope_json (run_scope run)) ∷ (codes "spans", list_json span_json run)
+    ∷ text_field (codes "schemaUrl") (or_empty (run_scope run).schema_url) ∷ [])
+
+-- attributes in the order of their keys, each once
+abbrev pub resource_json : PlainResource → Json
+resource_json resource = object_json
+    ((codes "attributes", list_json pair_json (entries resource.attributes))
+    ∷ number_field (codes "droppedAttributesCount") 0 ∷ [])
+
+-- the spans of one resource
+abbrev pub resource_spans_json : PlainResource → List PlainSpanData → Json
+resource_spans_json resource batch = object_json
+    ((codes "resource", resource_json resource) ∷ (codes "scopeSpans", list_json run_json (scope_runs batch))
+    ∷ text_field (codes "schemaUrl") resource.schema_url ∷ [])
+
+-- the request of a batch, which is of one resource
+abbrev pub request : PlainResource → List PlainSpanData → Json
+request resource batch =
+    single (codes "resourceSpans") (list_json (resource_spans_json resource) (batch ∷ []))
+
+-- the line of a batch: the print of its request and a line feed
+abbrev pub otlp_line : PlainResource → List PlainSpanData → List ℕ
+otlp_line resource batch = print (json_tokens (request resource batch)) ++ 10 ∷ []
