@@ -1,2 +1,4 @@
 pub mod Adding
+pub mod ReadsBack
 pub mod Runs
+pub mod Written

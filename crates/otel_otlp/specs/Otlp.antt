@@ -1,6 +1,7 @@
 -- A batch of ended spans as the OpenTelemetry protocol writes it in JSON (OTLP 1.7, "JSON Protobuf Encoding"): an
 -- `ExportTraceServiceRequest`, whose members stand in this order, also those with their default.
 use Rattle.std.specs.Prelude.{ℕ, ℤ, Bool, List, [], ◌∷◌, ◌++◌, ◌+◌, ◌==◌, Option, Some, None, codes, map, if◌then◌else◌}
+use Rattle.std.specs.List.{flat_map}
 use Rattle.std.specs.Fmt.{decimal, signed_decimal}
 use Rattle.std.specs.FinMap.{entries}
 use Rattle.json.specs.Json.{Json}
@@ -205,6 +206,13 @@ abbrev pub request : PlainResource → List PlainSpanData → Json
 request resource batch =
     single (codes "resourceSpans") (list_json (resource_spans_json resource) (batch ∷ []))
 
--- the line of a batch: the print of its request and a line feed
+-- the text of a batch, which is the print of its request, and its line
+abbrev pub otlp_text : PlainResource → List PlainSpanData → List ℕ
+otlp_text resource batch = print (json_tokens (request resource batch))
+
 abbrev pub otlp_line : PlainResource → List PlainSpanData → List ℕ
-otlp_line resource batch = print (json_tokens (request resource batch)) ++ 10 ∷ []
+otlp_line resource batch = otlp_text resource batch ++ 10 ∷ []
+
+-- the lines of batches, in order
+abbrev pub otlp_lines : PlainResource → List (List PlainSpanData) → List ℕ
+otlp_lines resource batches = flat_map (otlp_line resource) batches

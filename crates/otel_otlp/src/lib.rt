@@ -1,9 +1,12 @@
 //! Spans as the OpenTelemetry protocol writes them in JSON: one request a line, which collectors and viewers read.
 #![tactic(auto)]
 
+mod exporter;
 mod request;
 mod span;
+pub mod stream;
 mod tokens;
 mod value;
 
+pub use exporter::OtlpJsonExporter;
 pub use request::write_request;

@@ -1,10 +1,11 @@
 //! The request of a batch: its resource, and its spans by the scopes that made them.
 
-ghost use Rattle.std.specs.Prelude.{◌≡◌, ◌≤◌, ◌↔◌, ◌++◌, ◌∷◌, [], IsTrue, OnErr, OnOk, drop, length, take};
+ghost use Rattle.std.specs.Prelude.{◌≡◌, ◌≤◌, ◌↔◌, ◌++◌, ◌∷◌, [], IsTrue, OnErr, OnOk, Some, drop, length, take};
 ghost use Rattle.std.specs.FinMap.{entries};
+ghost use Rattle.json.specs.Json.{document};
 ghost use Rattle.json.specs.Tree.{json_tokens};
 ghost use Rattle.otel_otlp.specs.Fields.{Adds, fields_tokens, list_tokens};
-ghost use Rattle.otel_otlp.specs.Otlp.{otlp_line, pair_json, request, resource_json, resource_spans_json};
+ghost use Rattle.otel_otlp.specs.Otlp.{otlp_line, otlp_text, pair_json, request, resource_json, resource_spans_json};
 ghost use Rattle.otel_otlp.specs.Otlp.{run_json, run_scope, scope_json, span_json};
 ghost use Rattle.otel_otlp.specs.ScopeRuns.{scope_runs};
 
@@ -163,6 +164,8 @@ pub fn write_request(
     batch: &[SpanData],
 ) -> Result<(), AllocError>
     ensures ok { OnOk result (out.new.items ≡ out.old.items ++ otlp_line resource.now batch.now) }
+    ensures reads_back { OnOk result
+        (document (otlp_text resource.now batch.now) ≡ Some (request resource.now batch.now)) }
     ensures err { OnErr result (out.new.items ≡ out.old.items) }
 {
     let begun = out.len();

@@ -4,6 +4,7 @@
 ghost use Rattle.std.specs.Prelude.{◌≡◌, ◌++◌, ◌∷◌, [], decimal};
 ghost use Rattle.std.specs.Fmt.{signed_decimal};
 ghost use Rattle.std.specs.Option.{option_copied};
+ghost use Rattle.json.specs.Lex.{tokens};
 ghost use Rattle.json.specs.Print.{print};
 ghost use Rattle.json.specs.Token.{Token};
 ghost use Rattle.json.specs.Token as token;
@@ -46,7 +47,8 @@ impl RequestWriter {
 
     /// All bytes: those before, and the text.
     pub(crate) fn into_bytes(self) -> Vec<u8>
-        ensures { result.items ≡ self.before ++ print self.tokens }
+        ensures bytes { result.items ≡ self.before ++ print self.tokens }
+        ensures reads_back { tokens (print self.tokens) ≡ self.tokens }
     {
         self.out.into_inner()
     }

@@ -1,0 +1,69 @@
+-- The text of a request nests no deeper than a reader reads, and so is read back.
+use Rattle.std.proofs.Common.{◌≡◌, ◌≤◌, ℕ, suc, max, List, [], ◌∷◌, ◌++◌, Some, map, option_and_then, ap, sym, ◌∙◌, append-nil, arith}
+use Rattle.json.specs.Json.{Json, document, if_last, max_depth, value}
+use Rattle.json.specs.Lex.{tokens}
+use Rattle.json.specs.Print.{print}
+use Rattle.json.specs.Tree.{depth, items_depth, members_depth, json_tokens}
+use Rattle.json.proofs.Printed.Trees.{value-json_tokens}
+use Rattle.opentelemetry.specs.Plain.{PlainEvent, PlainKeyValue, PlainLink, PlainValue, boolean, integer, text, booleans}
+use Rattle.opentelemetry.specs.Plain.{integers, texts}
+use Rattle.std.specs.FinMap.{entries}
+use Rattle.otel_base.specs.Resource.{PlainResource}
+use Rattle.otel_export.specs.PlainSpanData.{PlainSpanData}
+use Rattle.otel_otlp.specs.Fields.{Field, items_of, list_json, members_of}
+use Rattle.otel_otlp.specs.Otlp.{attribute_json, bool_json, event_json, integer_json, link_json, pair_json, request}
+use Rattle.otel_otlp.specs.Otlp.{resource_json, resource_spans_json, run_json, scope_json, span_json, text_json, value_json, run_scope}
+use Rattle.otel_otlp.specs.ScopeRuns.{scope_runs}
+
+-- a list nests one deeper than its items may
+list_within : {X : Type 0} (json : X → Json) (xs : List X) (d : ℕ) → ((x : X) → depth (json x) ≤ d)
+    → depth (list_json json xs) ≤ suc d
+list_within json [] d h = omega arith
+list_within json (x ∷ xs) d h = omega (arith, h x, list_within json xs d h)
+
+value_within : (v : PlainValue) → depth (value_json v) ≤ 4
+value_within (boolean b) = omega arith
+value_within (integer n) = omega arith
+value_within (text bs) = omega arith
+value_within (booleans bs) = omega (arith, list_within bool_json bs 1 (λ b. omega arith))
+value_within (integers ns) = omega (arith, list_within integer_json ns 1 (λ n. omega arith))
+value_within (texts ts) = omega (arith, list_within text_json ts 1 (λ t. omega arith))
+
+pair_within : (p : List ℕ × PlainValue) → depth (pair_json p) ≤ 5
+pair_within p = omega (arith, value_within p.1)
+
+attributes_within : (attributes : List PlainKeyValue) → depth (list_json attribute_json attributes) ≤ 6
+attributes_within attributes = list_within attribute_json attributes 5 (λ a. pair_within (a.key, a.value))
+
+event_within : (e : PlainEvent) → depth (event_json e) ≤ 7
+event_within e = omega (arith, attributes_within e.attributes)
+
+link_within : (l : PlainLink) → depth (link_json l) ≤ 7
+link_within l = omega (arith, attributes_within l.attributes)
+
+span_within : (s : PlainSpanData) → depth (span_json s) ≤ 9
+span_within s =
+    omega (arith, attributes_within s.attributes, list_within event_json s.events.events 7 event_within,
+    list_within link_json s.links.links 7 link_within)
+
+run_within : (run : List PlainSpanData) → depth (run_json run) ≤ 11
+run_within run =
+    omega (arith, attributes_within (run_scope run).attributes, list_within span_json run 9 span_within)
+
+request_within : (resource : PlainResource) (batch : List PlainSpanData) → depth (request resource batch) ≤ max_depth
+request_within resource batch =
+    omega (arith, list_within pair_json (entries resource.attributes) 5 pair_within,
+    list_within run_json (scope_runs batch) 11 run_within)
+
+-- a text with the tokens of a value that a reader reads is that value
+reads_value : (json : Json) → tokens (print (json_tokens json)) ≡ json_tokens json → depth json ≤ max_depth
+    → document (print (json_tokens json)) ≡ Some json
+reads_value json lexed shallow =
+    ap (option_and_then (λ p. if_last p.0 p.1))
+    (ap (value max_depth) (lexed ∙ sym (append-nil (json_tokens json)))
+    ∙ value-json_tokens json max_depth [] shallow)
+
+pub reads_request : (resource : PlainResource) (batch : List PlainSpanData)
+    → tokens (print (json_tokens (request resource batch))) ≡ json_tokens (request resource batch)
+    → document (print (json_tokens (request resource batch))) ≡ Some (request resource batch)
+reads_request resource batch lexed = reads_value (request resource batch) lexed (request_within resource batch)
