@@ -1,18 +1,18 @@
 -- The text of a request nests no deeper than a reader reads, and so is read back.
-use Rattle.std.proofs.Common.{◌≡◌, ◌≤◌, ℕ, suc, max, List, [], ◌∷◌, ◌++◌, Some, map, option_and_then, ap, sym, ◌∙◌, append-nil, arith}
+use Rattle.std.proofs.Common.{◌≡◌, ◌≤◌, ℕ, suc, List, [], ◌∷◌, Some, option_and_then, ap, sym, ◌∙◌, append-nil, arith}
 use Rattle.json.specs.Json.{Json, document, if_last, max_depth, value}
 use Rattle.json.specs.Lex.{tokens}
 use Rattle.json.specs.Print.{print}
-use Rattle.json.specs.Tree.{depth, items_depth, members_depth, json_tokens}
+use Rattle.json.specs.Tree.{depth, json_tokens}
 use Rattle.json.proofs.Printed.Trees.{value-json_tokens}
 use Rattle.opentelemetry.specs.Plain.{PlainEvent, PlainKeyValue, PlainLink, PlainValue, boolean, integer, text, booleans}
 use Rattle.opentelemetry.specs.Plain.{integers, texts}
 use Rattle.std.specs.FinMap.{entries}
 use Rattle.otel_base.specs.Resource.{PlainResource}
 use Rattle.otel_export.specs.PlainSpanData.{PlainSpanData}
-use Rattle.otel_otlp.specs.Fields.{Field, items_of, list_json, members_of}
+use Rattle.otel_otlp.specs.Fields.{list_json}
 use Rattle.otel_otlp.specs.Otlp.{attribute_json, bool_json, event_json, integer_json, link_json, pair_json, request}
-use Rattle.otel_otlp.specs.Otlp.{resource_json, resource_spans_json, run_json, scope_json, span_json, text_json, value_json, run_scope}
+use Rattle.otel_otlp.specs.Otlp.{run_json, span_json, text_json, value_json, run_scope}
 use Rattle.otel_otlp.specs.ScopeRuns.{scope_runs}
 
 -- a list nests one deeper than its items may
@@ -43,8 +43,12 @@ link_within l = omega (arith, attributes_within l.attributes)
 
 span_within : (s : PlainSpanData) → depth (span_json s) ≤ 9
 span_within s =
-    omega (arith, attributes_within s.attributes, list_within event_json s.events.events 7 event_within,
-    list_within link_json s.links.links 7 link_within)
+    omega (
+      arith,
+      attributes_within s.attributes,
+      list_within event_json s.events.events 7 event_within,
+      list_within link_json s.links.links 7 link_within,
+    )
 
 run_within : (run : List PlainSpanData) → depth (run_json run) ≤ 11
 run_within run =
@@ -52,8 +56,11 @@ run_within run =
 
 request_within : (resource : PlainResource) (batch : List PlainSpanData) → depth (request resource batch) ≤ max_depth
 request_within resource batch =
-    omega (arith, list_within pair_json (entries resource.attributes) 5 pair_within,
-    list_within run_json (scope_runs batch) 11 run_within)
+    omega (
+      arith,
+      list_within pair_json (entries resource.attributes) 5 pair_within,
+      list_within run_json (scope_runs batch) 11 run_within,
+    )
 
 -- a text with the tokens of a value that a reader reads is that value
 reads_value : (json : Json) → tokens (print (json_tokens json)) ≡ json_tokens json → depth json ≤ max_depth

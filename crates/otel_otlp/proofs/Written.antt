@@ -1,6 +1,6 @@
 -- Bytes that are written in turn.
-use Rattle.std.proofs.Common.{◌≡◌, ◌+◌, ◌-◌, ℕ, List, [], ◌++◌, Option, length, take, drop, ap, subst, sym, append-nil}
-use Rattle.std.proofs.Common.{append_assoc, take-add, take-append-drop}
+use Rattle.std.proofs.Common.{◌+◌, ◌-◌, ℕ, List, Option, length, take, drop, ap, subst, sym}
+use Rattle.std.proofs.Common.{take-add, take-append-drop}
 use Rattle.std.proofs.KnownBytes.{Appends-trans}
 use Rattle.std.proofs.lemmas.List.{take_rest}
 use Rattle.std.specs.Io.KnownBytes.{Appends}

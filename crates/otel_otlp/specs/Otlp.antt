@@ -55,8 +55,11 @@ value_json (integers numbers) = array_json (integers numbers)
 value_json (texts many) = array_json (texts many)
 
 -- a `KeyValue`
+abbrev pub pair_fields : List ℕ × PlainValue → List Field
+pair_fields pair = (codes "key", json.string pair.0) ∷ (codes "value", value_json pair.1) ∷ []
+
 abbrev pub pair_json : List ℕ × PlainValue → Json
-pair_json pair = object_json ((codes "key", json.string pair.0) ∷ (codes "value", value_json pair.1) ∷ [])
+pair_json pair = object_json (pair_fields pair)
 
 abbrev pub attribute_json : PlainKeyValue → Json
 attribute_json attribute = pair_json (attribute.key, attribute.value)
@@ -99,10 +102,13 @@ kind_number kinds.Client = 3
 kind_number kinds.Producer = 4
 kind_number kinds.Consumer = 5
 
+abbrev pub event_fields : PlainEvent → List Field
+event_fields event =
+    moment_field (codes "timeUnixNano") event.timestamp ∷ text_field (codes "name") event.name
+    ∷ attributes_fields event.attributes event.dropped_attributes_count
+
 abbrev pub event_json : PlainEvent → Json
-event_json event = object_json
-    (moment_field (codes "timeUnixNano") event.timestamp ∷ text_field (codes "name") event.name
-    ∷ attributes_fields event.attributes event.dropped_attributes_count)
+event_json event = object_json (event_fields event)
 
 abbrev pub events_fields : PlainSpanEvents → List Field
 events_fields events =
@@ -110,11 +116,14 @@ events_fields events =
     ∷ number_field (codes "droppedEventsCount") events.dropped_count ∷ []
 
 -- the flags of a link say where the linked context came from
-abbrev pub link_json : PlainLink → Json
-link_json link = object_json
-    (context_fields link.span_context
+abbrev pub link_fields : PlainLink → List Field
+link_fields link =
+    context_fields link.span_context
     ++ (attributes_fields link.attributes link.dropped_attributes_count
-    ++ number_field (codes "flags") (flags_of link.span_context.trace_flags link.span_context.is_remote) ∷ []))
+    ++ number_field (codes "flags") (flags_of link.span_context.trace_flags link.span_context.is_remote) ∷ [])
+
+abbrev pub link_json : PlainLink → Json
+link_json link = object_json (link_fields link)
 
 abbrev pub links_fields : PlainSpanLinks → List Field
 links_fields links =
@@ -132,9 +141,12 @@ code_number unset = 0
 code_number ok = 1
 code_number (error description) = 2
 
+abbrev pub status_fields : PlainStatus → List Field
+status_fields status =
+    text_field (codes "message") (message_text status) ∷ number_field (codes "code") (code_number status) ∷ []
+
 abbrev pub status_json : PlainStatus → Json
-status_json status = object_json
-    (text_field (codes "message") (message_text status) ∷ number_field (codes "code") (code_number status) ∷ [])
+status_json status = object_json (status_fields status)
 
 -- its parent, and the flags, which say where the parent's context came from
 abbrev pub parent_fields : PlainSpanData → List Field
@@ -173,10 +185,13 @@ abbrev pub or_empty : Option (List ℕ) → List ℕ
 or_empty None = []
 or_empty (Some bytes) = bytes
 
+abbrev pub scope_fields : PlainScope → List Field
+scope_fields scope =
+    text_field (codes "name") scope.name ∷ text_field (codes "version") (or_empty scope.version)
+    ∷ attributes_fields scope.attributes 0
+
 abbrev pub scope_json : PlainScope → Json
-scope_json scope = object_json
-    (text_field (codes "name") scope.name ∷ text_field (codes "version") (or_empty scope.version)
-    ∷ attributes_fields scope.attributes 0)
+scope_json scope = object_json (scope_fields scope)
 
 -- the scope of the first span of a run, which is that of each
 abbrev pub run_scope : List PlainSpanData → PlainScope
@@ -184,22 +199,31 @@ run_scope [] = scope_named []
 run_scope (span ∷ spans) = span.instrumentation_scope
 
 -- the spans of one scope
+abbrev pub run_fields : List PlainSpanData → List Field
+run_fields run =
+    (codes "scope", scope_json (run_scope run)) ∷ (codes "spans", list_json span_json run)
+    ∷ text_field (codes "schemaUrl") (or_empty (run_scope run).schema_url) ∷ []
+
 abbrev pub run_json : List PlainSpanData → Json
-run_json run = object_json
-    ((codes "scope", scope_json (run_scope run)) ∷ (codes "spans", list_json span_json run)
-    ∷ text_field (codes "schemaUrl") (or_empty (run_scope run).schema_url) ∷ [])
+run_json run = object_json (run_fields run)
 
 -- attributes in the order of their keys, each once
+abbrev pub resource_fields : PlainResource → List Field
+resource_fields resource =
+    (codes "attributes", list_json pair_json (entries resource.attributes))
+    ∷ number_field (codes "droppedAttributesCount") 0 ∷ []
+
 abbrev pub resource_json : PlainResource → Json
-resource_json resource = object_json
-    ((codes "attributes", list_json pair_json (entries resource.attributes))
-    ∷ number_field (codes "droppedAttributesCount") 0 ∷ [])
+resource_json resource = object_json (resource_fields resource)
 
 -- the spans of one resource
+abbrev pub resource_spans_fields : PlainResource → List PlainSpanData → List Field
+resource_spans_fields resource batch =
+    (codes "resource", resource_json resource) ∷ (codes "scopeSpans", list_json run_json (scope_runs batch))
+    ∷ text_field (codes "schemaUrl") resource.schema_url ∷ []
+
 abbrev pub resource_spans_json : PlainResource → List PlainSpanData → Json
-resource_spans_json resource batch = object_json
-    ((codes "resource", resource_json resource) ∷ (codes "scopeSpans", list_json run_json (scope_runs batch))
-    ∷ text_field (codes "schemaUrl") resource.schema_url ∷ [])
+resource_spans_json resource batch = object_json (resource_spans_fields resource batch)
 
 -- the request of a batch, which is of one resource
 abbrev pub request : PlainResource → List PlainSpanData → Json
