@@ -119,10 +119,10 @@ module _ {P S G : Type 0} (calls : Calls P S G) (law : OnlyAppends calls.process
   end_grows (Some (over context limits)) span moment turn h = (nobody_loses answers.Ignored turn.before.histories turn h).0
   end_grows (Some (begun from edits)) span moment turn h = delivery_grows turn.before.provider.is_shut _ turn.before.provider.processors turn.behind.provider.processors h.refused h.delivered
 
-  shutdown_grows : (is_shut : Bool) (old new : ProviderState P S G) (said : Result (Unit {0}) OTelSdkError)
-      → MatchBool is_shut ((said ≡ Err errors.AlreadyShutdown) × (new ≡ old)) (ShutsDown calls.processor old 5_000_000_000 said new) → Grows (batches_of_first calls.keeps old.processors) (batches_of_first calls.keeps new.processors)
-  shutdown_grows true old new said h = appends_none _ _ (ap (λ (p : ProviderState P S G). batches_of_first calls.keeps p.processors) h.1)
-  shutdown_grows false old new said h = first_shut calls.processor calls.timer calls.keeps law 5_000_000_000 old.processors new.processors h.asked.0 h.asked.2
+  pub shutdown_grows : (again : Result (Unit {0}) OTelSdkError) (is_shut : Bool) (old new : ProviderState P S G)
+      (said : Result (Unit {0}) OTelSdkError) → MatchBool is_shut ((said ≡ again) × (new ≡ old)) (ShutsDown calls.processor old 5_000_000_000 said new) → Grows (batches_of_first calls.keeps old.processors) (batches_of_first calls.keeps new.processors)
+  shutdown_grows again true old new said h = appends_none _ _ (ap (λ (p : ProviderState P S G). batches_of_first calls.keeps p.processors) h.1)
+  shutdown_grows again false old new said h = first_shut calls.processor calls.timer calls.keeps law 5_000_000_000 old.processors new.processors h.asked.0 h.asked.2
 
   -- over a turn batches come only behind those that are kept
   pub turn_grows : (scope : PlainScope) (command : PlainCommand) (turn : Turn P S G) → IsTurn calls scope command turn → GrowsIn turn
@@ -136,7 +136,7 @@ module _ {P S G : Type 0} (calls : Calls P S G) (law : OnlyAppends calls.process
   turn_grows scope (end span moment) turn h = end_grows (turn.before.histories span) span moment turn h
   turn_grows scope flush turn h = first_flushed calls.processor calls.timer calls.keeps law turn.before.provider.processors turn.behind.provider.processors h.gives.asked.0 h.gives.asked.2
   turn_grows scope (run moment) turn h = first_ran calls.processor calls.timer calls.keeps law moment turn.before.provider.processors turn.behind.provider.processors h.gives.asked.0 h.gives.asked.2
-  turn_grows scope shutdown turn h = shutdown_grows turn.before.provider.is_shut turn.before.provider turn.behind.provider h.said h.gives
+  turn_grows scope shutdown turn h = shutdown_grows (Err errors.AlreadyShutdown) turn.before.provider.is_shut turn.before.provider turn.behind.provider h.said h.gives
 
   -- and where it is neither an end nor a flush, a run or a shutdown none is lost
   pub turn_loses_none : (scope : PlainScope) (command : PlainCommand) (turn : Turn P S G) → IsTurn calls scope command turn → is_end command ≡ false

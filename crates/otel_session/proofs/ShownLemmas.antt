@@ -1,5 +1,5 @@
 -- The replies of turns show the batches that came meanwhile, in order and each once.
-use Rattle.std.proofs.Common.{◌≡◌, ◌≤◌, ◌-◌, ◌+◌, ◌⊎◌, ℕ, List, [], ◌∷◌, ◌++◌, length, take, drop, map, refl, sym, ◌∙◌, ap, subst, arith, length-append, length-take-le, drop_of_length-le, inl, inr}
+use Rattle.std.proofs.Common.{◌≡◌, ◌≤◌, ◌-◌, ◌+◌, ◌⊎◌, ℕ, List, [], ◌∷◌, ◌++◌, length, take, drop, map, refl, sym, ◌∙◌, ap, subst, arith, length-append, length-take-le, drop_of_length-le, inl, inr, Ok, append_assoc, take-append-drop}
 use Rattle.std.proofs.Math.Seq.{take-append-add, drop-append_seam}
 use Rattle.std.proofs.lemmas.List.{drop-append-le}
 use Rattle.opentelemetry.specs.Plain.{PlainScope}
@@ -9,7 +9,10 @@ use Rattle.otel_lines.specs.Commands.{PlainCommand}
 use Rattle.otel_lines.specs.PlainReply.{PlainReply}
 use Rattle.otel_session.specs.Calls.{Calls, batches_of_first}
 use Rattle.otel_session.specs.OpenSpans.{Histories}
-use Rattle.otel_session.specs.Shown.{Shows, exported_in}
+use Rattle.otel_kept.specs.ProcessorKeeps.{OnlyAppends}
+use Rattle.otel_session.specs.Laws.{ClosesShowRest}
+use Rattle.otel_session.specs.Shown.{Shows, exported_in, session_batches}
+use Rattle.otel_session.proofs.KeptLemmas.{shutdown_grows}
 use Rattle.otel_session.specs.Turn.{Course, Turn}
 use Rattle.otel_session.specs.Turns.{AreTurns, SessionState, course_of, replied, reply_of}
 
@@ -92,3 +95,33 @@ module _ {P S G : Type 0} (calls : Calls P S G) where
         in_order = λ within. record { not_fewer = shows.not_fewer within; no_more_than_kept = shows.no_more within; exported = shows.exported within };
         none_left = none_left old.scope (course_of old histories) (course_of new after) commands turns h;
       })
+
+-- batches up to a place, and those behind it
+up_to_place : (batches : Batches) (a n : ℕ) → a ≤ n → n ≤ length batches
+    → drop a (take n batches) ++ drop n batches ≡ drop a batches
+up_to_place batches a n fewer within =
+    sym (drop-append-le a (take n batches) (drop n batches)
+    (subst (λ (m : ℕ). a ≤ m) (sym (length-take-le n batches within)) fewer))
+    ∙ ap (drop a) (take-append-drop n batches)
+
+-- the same where more batches come
+rest_shown : (batches more : Batches) (a n : ℕ) → a ≤ n → n ≤ length batches
+    → drop a (take n batches) ++ drop n (batches ++ more) ≡ drop a (batches ++ more)
+rest_shown batches more a n fewer within =
+    ap (λ (l : Batches). drop a (take n batches) ++ l) (drop-append-le n batches more within)
+    ∙ sym (append_assoc (drop a (take n batches)) (drop n batches) more)
+    ∙ ap (λ (l : Batches). l ++ more) (up_to_place batches a n fewer within)
+    ∙ sym (drop-append-le a batches more (omega arith))
+
+module _ {P S G : Type 0} (calls : Calls P S G)
+    (law : OnlyAppends calls.processor calls.timer calls.keeps.kept calls.keeps.lost) where
+  -- what replies have shown, and what is left once the provider is shut down
+  pub closes_rest : ClosesShowRest calls
+  closes_rest old new closed histories commands replies said took shuts within =
+      let shows = all_shown calls old new histories took.after commands took.turns replies took.replied_to took.are_turns in
+      let shown = shows.in_order within in
+      let grows = shutdown_grows calls law (Ok tt) new.provider.is_shut new.provider closed said shuts in
+      ap (λ (l : Batches). l ++ drop new.shown (batches_of_first calls.keeps closed.processors)) shown.exported
+      ∙ subst (λ (l : Batches). drop old.shown (take new.shown (session_batches calls.keeps new)) ++ drop new.shown l
+      ≡ drop old.shown l) (sym grows.1) (rest_shown (session_batches calls.keeps new) grows.0 old.shown new.shown
+      shown.not_fewer shown.no_more_than_kept)

@@ -1,5 +1,6 @@
 -- The laws of the turns that the commands of a session take, over the definitions alone.
-use Rattle.std.specs.Prelude.{◌≡◌, ◌+◌, ◌++◌, ℕ, List, Option, None, Result, false, length, option_map}
+use Rattle.std.specs.Prelude.{◌≡◌, ◌≤◌, ◌+◌, ◌++◌, ℕ, List, Option, None, Result, false, drop, length}
+use Rattle.std.specs.Prelude.{option_map}
 use Rattle.std.specs.Io.{IsEmptyOrEndsWith}
 use Rattle.std.specs.Str.Lines.{lines}
 use Rattle.otel_base.specs.declared.error.OTelSdkError.{OTelSdkError}
@@ -9,12 +10,14 @@ use Rattle.otel_lines.specs.Commands.{PlainCommand}
 use Rattle.otel_lines.specs.PlainReply.{PlainReply}
 use Rattle.otel_lines.specs.ReplyForm.{Form}
 use Rattle.otel_lines.specs.declared.command.Command.{Command}
-use Rattle.otel_session.specs.Calls.{Calls}
+use Rattle.otel_pipeline.specs.Provider.{ProviderState}
+use Rattle.otel_session.specs.Calls.{Calls, batches_of_first}
 use Rattle.otel_session.specs.Closing.{Closes}
 use Rattle.otel_session.specs.Fed.{FeedsUpTo}
 use Rattle.otel_session.specs.Forgotten.{HasForgotten, RunsWhole}
 use Rattle.otel_session.specs.OpenSpans.{Describe, Histories}
-use Rattle.otel_session.specs.Shown.{EmptiedBehind, Shows}
+use Rattle.otel_session.specs.ProviderTurns.{ShutsIfOpen}
+use Rattle.otel_session.specs.Shown.{EmptiedBehind, Shows, exported_in, session_batches}
 use Rattle.otel_session.specs.Traces.{ChildrenAgree, KeepsContexts}
 use Rattle.otel_session.specs.Turns.{Runs, SessionState, TookTurns, delivered_in}
 
@@ -55,6 +58,15 @@ module _ {P S G : Type 0} (calls : Calls P S G) where
   RepliesShowAll = (old new : SessionState P S G) (histories : Histories) (commands : List PlainCommand)
       (replies : List PlainReply) → TookTurns calls old histories commands replies new
       → Shows calls.keeps old replies new
+
+  -- what replies have shown, and what is left once the provider is shut down, are all batches that came meanwhile
+  abbrev pub ClosesShowRest : Type 0
+  ClosesShowRest = (old new : SessionState P S G) (closed : ProviderState P S G) (histories : Histories)
+      (commands : List PlainCommand) (replies : List PlainReply) (said : Result (Unit {0}) OTelSdkError)
+      → TookTurns calls old histories commands replies new → ShutsIfOpen calls.processor new.provider said closed
+      → old.shown ≤ length (session_batches calls.keeps old)
+      → exported_in replies ++ drop new.shown (batches_of_first calls.keeps closed.processors)
+      ≡ drop old.shown (batches_of_first calls.keeps closed.processors)
 
   -- behind a flush or a shutdown that came last and was answered by Ok no span waits
   abbrev pub FlushesEmpty : Type 0

@@ -3,6 +3,7 @@
 
 ghost use Rattle.otel_session.specs.Calls.{calls_of};
 ghost use Rattle.otel_session.specs.Laws.{
+  ClosesShowRest,
   ContextsAreKept,
   FeedsJoin,
   FlushesEmpty,
@@ -48,6 +49,12 @@ pub fn runs_keep_contexts<P: KeepsBatches, S: ShouldSample, G: IdGenerator>()
 /// The replies show all batches that the first processor's exporter took meanwhile, in order and each once.
 pub fn runs_show_each_span_once<P: KeepsBatches, S: ShouldSample, G: IdGenerator>()
     ensures { RepliesShowAll
+        (calls_of P.SpanProcessor P.DrainDue.own P.KeepsBatches.own S.ShouldSample G.IdGenerator) }
+{}
+
+/// Once the provider is shut down, what the replies have shown and what is left are all batches that came meanwhile.
+pub fn closes_show_the_rest<P: KeepsBatches, S: ShouldSample, G: IdGenerator>()
+    ensures { ClosesShowRest
         (calls_of P.SpanProcessor P.DrainDue.own P.KeepsBatches.own S.ShouldSample G.IdGenerator) }
 {}
 
