@@ -326,7 +326,7 @@ fn show_batches(
     out: &mut String,
 ) -> Result<(), AllocError> {
     let mut bytes = Vec::new(alloc);
-    write_batches(alloc, &mut bytes, batches)?;
+    write_batches(&mut String::new(alloc), &mut bytes, batches)?;
     if let Ok(text) = str::from_utf8(&bytes) {
         out.push_str(text.strip_suffix('\n').unwrap_or(text))?;
     }

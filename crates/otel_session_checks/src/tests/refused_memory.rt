@@ -4,6 +4,7 @@ use super::fixtures::*;
 use super::program::status_over;
 use otel_base::error::OTelSdkError;
 use otel_base::trace::{IdGenerator, ShouldSample};
+use otel_export::trace::SpanData;
 use otel_kept::KeepsBatches;
 use otel_lines::{Answer, Reply};
 use otel_session::{FeedError, RunError, Session};
@@ -51,11 +52,20 @@ fn run_each<P: KeepsBatches, S: ShouldSample, G: IdGenerator>(
     Ok(())
 }
 
+/// How many spans these batches have.
+fn spans_in(batches: &[Vec<SpanData>]) -> usize {
+    let mut count = 0usize;
+    for batch in batches {
+        count = count.saturating_add(batch.len());
+    }
+    count
+}
+
 /// How many spans the replies show, and how many refusals they count.
 fn shown_or_refused(replies: &[Reply]) -> usize {
     let mut count = 0usize;
     for reply in replies {
-        count = count.saturating_add(reply.exported.len());
+        count = count.saturating_add(spans_in(&reply.exported));
         if let Answer::Ended(refused) = reply.answer {
             count = count.saturating_add(refused);
         }
