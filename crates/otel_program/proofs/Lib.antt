@@ -1,4 +1,6 @@
 pub mod Cut
+pub mod Exporting
+pub mod OtlpWords
 pub mod ProgramLemmas
 pub mod ReadPieces
 pub mod StepStream

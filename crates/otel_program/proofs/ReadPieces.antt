@@ -2,16 +2,15 @@
 use Rattle.std.specs.Prelude.{OnErr}
 use Rattle.std.proofs.Common.{◌≡◌, ◌≢◌, ℕ, true, false, Result, Ok, Err, ◌+◌, ◌-◌, ◌<◌, ◌≤◌, List, [], ◌∷◌, ◌++◌, length, get_or, take, drop, Option, sym, ap, subst, ◌∙◌, arith, length-drop, length-take, drop-cons, add-one}
 use Rattle.std.proofs.Math.Seq.{drop-append-add, paste, take-add}
-use Rattle.std.proofs.lemmas.List.{drop-append-le, drop-take, drop_all, get_or-append-add, take-append-drop, take_rest, take-take}
+use Rattle.std.proofs.lemmas.List.{drop-append-le, drop-take, drop_all, get_or-append-add, take-append-drop, take-take}
 use Rattle.std.proofs.lemmas.List.Edits.{take-paste}
 use Rattle.std.proofs.lemmas.List.Elements.{All-append, All-cons, All-nil}
 use Rattle.std.proofs.KnownBytes.{Consumes-trans}
 use Rattle.std.specs.Io.KnownBytes.{Consumes}
 use Rattle.std.specs.List.{All}
 use Rattle.std.proofs.lemmas.List.{get_or-take}
-use Rattle.std.proofs.KnownBytes.{Appends-trans}
-use Rattle.std.specs.Io.KnownBytes.{Appends, IsAtEnd}
-use Rattle.otel_program.specs.Pieces.{AppendsBeginning, EndsNoLine, GivesLines, KeepsAll}
+use Rattle.std.specs.Io.KnownBytes.{IsAtEnd}
+use Rattle.otel_program.specs.Pieces.{EndsNoLine, GivesLines, KeepsAll}
 
 -- what stood behind the lines, moved to the front
 pub moved : (buffer now : List ℕ) (complete filled : ℕ) → complete ≤ filled → filled ≤ length buffer → now ≡ paste buffer 0 (drop complete buffer) (filled - complete)
@@ -154,15 +153,6 @@ keeps_all a b old new rest complete filled now zero is_rest front grown consumed
       unended = unended_still old new complete filled now zero front grown first second;
       none = ap (λ k. take k new) zero;
     }
-
--- one write more
-pub write_more : (a b c : Option (List ℕ)) (bytes : List ℕ) (written count : ℕ) → Appends a b (take written bytes) → Appends b c (take count (take (length bytes - written) (drop written bytes))) → Appends a c (take (written + count) bytes)
-write_more a b c bytes written count first second =
-    let rest = ap (take count) (take_rest bytes written) in
-    subst (λ (bs : List ℕ). Appends a c bs) (sym (take-add written count bytes)) (Appends-trans a b c (take written bytes) (take count (drop written bytes)) first (subst (Appends b c) rest second))
-
-pub wrote_beginning : (a b : Option (List ℕ)) (bytes : List ℕ) (written : ℕ) → Appends a b (take written bytes) → AppendsBeginning a b bytes
-wrote_beginning a b bytes written h = (take written bytes, drop written bytes, sym (take-append-drop written bytes), h)
 
 -- what holds, holds at an error
 pub always_err : {T E : Type 0} {P : Type 0} (r : Result T E) → P → OnErr r P

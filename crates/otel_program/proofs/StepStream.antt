@@ -8,7 +8,8 @@ use Rattle.std.specs.Str.Lines.{lines}
 use Rattle.otel_batch.specs.MachineState.{Machine}
 use Rattle.otel_export.specs.StoredBatches.{StoredBatches}
 use Rattle.otel_lines.proofs.JoinedLines.{lines_joined}
-use Rattle.otel_program.specs.Pieces.{AppendsBeginning, GivesLines, KeepsAll, PlainPieces}
+use Rattle.otel_otlp.specs.Streams.{AppendsBeginning}
+use Rattle.otel_program.specs.Pieces.{GivesLines, KeepsAll, PlainPieces}
 use Rattle.otel_program.specs.StepRuns.{StepsSome, StepsAll}
 use Rattle.otel_program.specs.Streams.{EndsAs, Streams, streams}
 use Rattle.otel_program.specs.declared.run_end.RunEnd.{RunEnd}

@@ -27,7 +27,8 @@ use Rattle.otel_session.specs.declared.session.FeedError.TheVariants as feeds
 use Rattle.otel_session.proofs.Forgetting.{RecallsNothingElse}
 use Rattle.otel_session.proofs.RunLemmas.{runs_join}
 use Rattle.otel_session.proofs.Streaming.{runs_whole, streams_finish, streams_forget, streams_more, streams_nothing}
-use Rattle.otel_program.specs.Pieces.{AppendsBeginning, GivesLines, KeepsAll, PlainPieces}
+use Rattle.otel_otlp.specs.Streams.{AppendsBeginning}
+use Rattle.otel_program.specs.Pieces.{GivesLines, KeepsAll, PlainPieces}
 use Rattle.otel_program.specs.Streams.{EndsAs, Streams, streams}
 use Rattle.otel_program.specs.TraceRuns.{BeginsToSpell, CarriesOutSome, FeedsPieces, FeedsPiece, FedAs, TracesAll, TracesSome}
 use Rattle.otel_program.specs.declared.run_end.RunEnd.{RunEnd}

@@ -1,5 +1,5 @@
 -- What the arguments of the program ask for, and what is said of wrong ones and of a bad line.
-use Rattle.std.specs.Prelude.{◌≡◌, ℕ, List, [], ◌∷◌, ◌++◌, codes}
+use Rattle.std.specs.Prelude.{◌≡◌, ◌≤◌, ℕ, List, [], ◌∷◌, ◌++◌, codes, length}
 use Rattle.std.specs.Fmt.{decimal}
 use Rattle.otel_lines.specs.Lines.{IsMoment}
 use Rattle.otel_steps.specs.declared.steps.Sizes.{Sizes}
@@ -22,7 +22,21 @@ pub record AsksFor (words : List (List ℕ)) (asked : Asked) : Type 0 where
   pub processor : NamesProcessor kind asked.processor
   pub words_are : words ≡ codes "trace" ∷ digits ∷ kind
 
--- words that are no such ones
+-- the words of a processor, and behind them one more word at most
+abbrev pub NamesGiven : List (List ℕ) → AskedProcessor → List (List ℕ) → Type 0
+NamesGiven words asks.Simple given = (length given ≤ 1) × (words ≡ codes "simple" ∷ given)
+NamesGiven words (asks.Batch queue batch) given = (length given ≤ 1)
+    × (q : List ℕ) × (b : List ℕ) × IsMoment q queue × IsMoment b batch × (words ≡ codes "batch" ∷ q ∷ b ∷ given)
+
+-- the words `otlp SEED`, those of a processor, and an attributes string, if one is given
+pub record AsksForOtlp (words : List (List ℕ)) (asked : Asked) (given : List (List ℕ)) : Type 0 where
+  pub digits : List ℕ
+  pub behind : List (List ℕ)
+  pub seed : IsMoment digits asked.seed
+  pub named : NamesGiven behind asked.processor given
+  pub words_are : words ≡ codes "otlp" ∷ digits ∷ behind
+
+-- words that ask for no trace
 abbrev pub AsksForNoTrace : List (List ℕ) → Type 0
 AsksForNoTrace words = (asked : Asked) → AsksFor words asked → ⊥
 
@@ -39,9 +53,10 @@ pub record AsksForSteps (words : List (List ℕ)) (sizes : Sizes) : Type 0 where
   pub written : WriteSizes queue batch producers sizes
   pub words_are : words ≡ codes "steps" ∷ queue ∷ batch ∷ producers ∷ []
 
--- words of neither kind
+-- words of no mode
 abbrev pub AsksForNothing : List (List ℕ) → Type 0
 AsksForNothing words = AsksForNoTrace words × ((sizes : Sizes) → AsksForSteps words sizes → ⊥)
+    × ((asked : Asked) (given : List (List ℕ)) → AsksForOtlp words asked given → ⊥)
 
 -- what is said of wrong words
 abbrev pub usage_text : List ℕ

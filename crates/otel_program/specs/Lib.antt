@@ -1,4 +1,5 @@
 pub mod Arguments
+pub mod OtlpRuns
 pub mod Pieces
 pub mod Program
 pub mod StepRuns

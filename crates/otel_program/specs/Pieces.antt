@@ -1,7 +1,7 @@
 -- What was read of an input and is not answered yet, and what a call that reads on or writes does.
 use Rattle.std.specs.Prelude.{◌≡◌, ◌≢◌, ℕ, ◌<◌, ◌≤◌, ◌-◌, Bool, IsTrue, IsFalse, List, [], ◌++◌, length, drop, Option, Some, None, Result, Ok, Err, All, slice_index}
 use Rattle.std.specs.Io.{IsEmptyOrEndsWith}
-use Rattle.std.specs.Io.KnownBytes.{Appends, Consumes, IsAtEnd}
+use Rattle.std.specs.Io.KnownBytes.{Consumes, IsAtEnd}
 
 -- lines, and behind them the line that is not ended yet
 pub record PlainPieces : Type 0 where
@@ -36,8 +36,3 @@ EndsLines after before bytes (Ok (Some end)) = (before < end) × (end ≤ length
     × (slice_index bytes (end - 1) ≡ 10) × EndsNoLine (drop end bytes)
 EndsLines after before bytes (Ok None) = IsAtEnd after × EndsNoLine (drop before bytes)
 EndsLines after before bytes (Err error) = EndsNoLine (drop before bytes)
-
--- known bytes grow by a beginning of these
-abbrev pub AppendsBeginning : Option (List ℕ) → Option (List ℕ) → List ℕ → Type 0
-AppendsBeginning before after bytes =
-    (written : List ℕ) × (left : List ℕ) × (bytes ≡ written ++ left) × Appends before after written

@@ -1,10 +1,12 @@
--- The provider that the mode `trace` is asked for, and what a session under it does with the streams. Of the bytes of a
+-- The provider that the modes `trace` and `otlp` are asked for, and what a session under it does with the streams. Of the bytes of a
 -- stream it speaks where the stream tells them.
-use Rattle.std.specs.Prelude.{◌≡◌, ◌⊎◌, ℕ, false, List, [], ◌∷◌, Option}
+use Rattle.std.specs.Prelude.{◌≡◌, ◌⊎◌, ℕ, false, List, [], ◌∷◌, Option, None, slice_get}
 use Rattle.std.specs.Io.KnownBytes.{Appends}
 use Rattle.rand_xoshiro.specs.SplitMix64.{splitmix_seed}
 use Rattle.rand_xoshiro.specs.Xoshiro256.{of_seed}
+use Rattle.otel_base.specs.DetectedResource.{IsDetected, PlainResourceStrings}
 use Rattle.otel_base.specs.Limits.{default_limits}
+use Rattle.otel_base.specs.Resource.{PlainResource}
 use Rattle.otel_base.specs.Sampler.{plan, always_on, parent_based}
 use Rattle.otel_base.specs.declared.trace.sampler.SamplerOf.{SamplerOf}
 use Rattle.otel_base.specs.declared.trace.sampler.ShouldSample as sampling
@@ -26,6 +28,7 @@ use Rattle.opentelemetry_sdk.specs.declared.trace.processor.ProcessorOf.{Process
 use Rattle.opentelemetry_sdk.specs.declared.trace.processor.ProcessorOf.TheVariants as kinds
 use Rattle.otel_lines.specs.ReplyForm.{reply_lines}
 use Rattle.otel_session.specs.Calls.{Calls, calls_of}
+use Rattle.otel_program.specs.OtlpRuns.{ExportsAll, otlp_form}
 use Rattle.otel_program.specs.Streams.{Streams}
 use Rattle.otel_program.specs.TraceRuns.{TracesBegun, TracesWhole}
 use Rattle.otel_program.specs.declared.program.Asked.{Asked}
@@ -77,6 +80,10 @@ abbrev pub memory_calls : {C D E : Type 0} → Ghosts (MemoryProcessor C D) → 
     → sampling.Ghosts (SamplerOf E) → drawing.Ghosts (List ℕ) → Calls (MemoryProcessor C D) (SamplerOf E) (List ℕ)
 memory_calls processor timer sampler ids = calls_of processor timer memory_batches sampler ids
 
+-- the strings that describe the resource: an attributes string, if one is given
+abbrev pub strings_given : List (List ℕ) → PlainResourceStrings
+strings_given given = record { attributes = slice_get given 0; service_name = None; program_name = None }
+
 module _ {C D E : Type 0} (calls : Calls (MemoryProcessor C D) (SamplerOf E) (List ℕ)) (asked : Asked) where
   -- the output was given what a session writes for the whole input, under the provider that is asked for
   abbrev pub TracesAsked : Streams → Option ℕ → Type 0
@@ -89,3 +96,18 @@ module _ {C D E : Type 0} (calls : Calls (MemoryProcessor C D) (SamplerOf E) (Li
   BeginsAsked s = Appends s.output s.output_after []
       ⊎ ((provider : ProviderState (MemoryProcessor C D) (SamplerOf E) (List ℕ))
       × IsProviderOf asked provider × TracesBegun calls reply_lines provider s)
+
+  -- the output was given the lines of the batches that a session exported over the whole input, under the provider that
+  -- is asked for, of the resource that the strings describe
+  abbrev pub ExportsAsked : List (List ℕ) → Streams → Option ℕ → Type 0
+  ExportsAsked given s bad_line = (resource : PlainResource) × IsDetected (strings_given given) resource
+      × (provider : ProviderState (MemoryProcessor C D) (SamplerOf E) (List ℕ))
+      × IsProviderOf asked provider × ExportsAll calls resource provider s bad_line
+
+  -- the output was given a beginning of such lines for a beginning of the input; or nothing, where there was no memory
+  -- for the resource or the provider
+  abbrev pub BeginsExporting : List (List ℕ) → Streams → Type 0
+  BeginsExporting given s = Appends s.output s.output_after []
+      ⊎ ((resource : PlainResource) × IsDetected (strings_given given) resource
+      × (provider : ProviderState (MemoryProcessor C D) (SamplerOf E) (List ℕ))
+      × IsProviderOf asked provider × TracesBegun calls (otlp_form resource) provider s)

@@ -3,7 +3,7 @@ use Rattle.std.specs.Prelude.{ℕ, List, Option}
 use Rattle.std.specs.Io.KnownBytes.{Appends}
 use Rattle.otel_batch.specs.MachineState.{Machine}
 use Rattle.otel_export.specs.StoredBatches.{StoredBatches}
-use Rattle.otel_program.specs.Pieces.{AppendsBeginning}
+use Rattle.otel_otlp.specs.Streams.{AppendsBeginning}
 use Rattle.otel_program.specs.Streams.{AreAll, Streams}
 use Rattle.otel_steps.specs.StepAnswers.{AnswersLines, BeginsAnswers, machine_of}
 use Rattle.otel_steps.specs.declared.steps.Sizes.{Sizes}

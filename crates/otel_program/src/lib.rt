@@ -2,6 +2,7 @@
 #![tactic(auto)]
 
 mod counted;
+mod otlp;
 mod pieces;
 pub mod program;
 pub mod run_end;

@@ -1,15 +1,14 @@
 //! A reader's bytes in pieces: each call reads until a line is complete or the input is at its end, and gives the lines
-//! that are complete. The line that is not ended yet is kept for the next call. An interrupted read or write is tried
-//! again.
+//! that are complete. The line that is not ended yet is kept for the next call. An interrupted read is tried again.
 
 ghost use Rattle.std.specs.Prelude.{◌≡◌, ◌≢◌, ◌+◌, ◌-◌, ◌<◌, ◌≤◌, [], All, IfOk, MatchOption, OnErr, OnOk, length, take, drop, slice_index};
 ghost use Rattle.std.specs.Io.{ReadsAtMost};
-ghost use Rattle.std.specs.Io.KnownBytes.{Appends, Consumes, IsAtEnd, Keeps};
-ghost use Rattle.otel_program.specs.Pieces.{AppendsBeginning, EndsLines, GivesLines, KeepsAll};
+ghost use Rattle.std.specs.Io.KnownBytes.{Consumes, IsAtEnd, Keeps};
+ghost use Rattle.otel_program.specs.Pieces.{EndsLines, GivesLines, KeepsAll};
 
 use std::alloc::Global;
 use std::io;
-use std::io::{ErrorKind, Read, Write};
+use std::io::{ErrorKind, Read};
 use std::marker::Model;
 
 /// How many bytes a read asks for.
@@ -196,29 +195,6 @@ fn read_untroubled<R: Read>(reader: &mut R, buffer: &mut [u8]) -> io::Result<usi
     for _ in 0..u64::MAX {
         match reader.read(buffer) {
             Ok(count) => return Ok(count),
-            Err(error) => {
-                if error.kind() != ErrorKind::Interrupted {
-                    return Err(error);
-                }
-            }
-        }
-    }
-    Err(io::Error::from(ErrorKind::TimedOut))
-}
-
-/// Writes all bytes and sends them on. An interrupted write is tried again. On an error a beginning of them was written.
-pub fn write_whole<W: Write>(writer: &mut W, bytes: &[u8]) -> io::Result<()>
-    ensures ok { OnOk result (Appends (W.contents writer.old) (W.contents writer.new) bytes.now) }
-    ensures err { OnErr result (AppendsBeginning (W.contents writer.old) (W.contents writer.new) bytes.now) }
-{
-    let mut written = 0;
-    for _ in 0..u64::MAX {
-        if written >= bytes.len() {
-            return writer.flush();
-        }
-        match writer.write(&bytes[written..]) {
-            Ok(0) => return Err(io::Error::from(ErrorKind::WriteZero)),
-            Ok(count) => written += count,
             Err(error) => {
                 if error.kind() != ErrorKind::Interrupted {
                     return Err(error);

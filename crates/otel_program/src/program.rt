@@ -7,6 +7,7 @@ ghost use Rattle.otel_program.specs.Arguments.{
   AsksFor,
   AsksForNoTrace,
   AsksForNothing,
+  AsksForOtlp,
   AsksForSteps,
   NamesProcessor,
   WriteSizes,
@@ -15,6 +16,8 @@ ghost use Rattle.otel_program.specs.Arguments.{
 };
 ghost use Rattle.otel_program.specs.Program.{
   BeginsAsked,
+  BeginsExporting,
+  ExportsAsked,
   IsProviderOf,
   SamplesRoots,
   TracesAsked,
@@ -22,9 +25,9 @@ ghost use Rattle.otel_program.specs.Program.{
   processor_of,
 };
 ghost use Rattle.otel_program.specs.StepRuns.{StepsBegun, StepsSized};
-ghost use Rattle.otel_program.specs.Streams.{EndsWith, Reports, Streams, streams};
+ghost use Rattle.otel_program.specs.Streams.{EndsAs, EndsWith, Reports, Streams, streams};
 
-use crate::pieces::write_whole;
+use crate::otlp::{export_input, otlp_of, resource_of};
 use crate::run_end::RunEnd;
 use crate::step_stream::step_input;
 use crate::trace_stream::trace_input;
@@ -42,6 +45,7 @@ use otel_export::trace::{ExporterOf, InMemorySpanExporter, SpanData, SpanExporte
 use otel_kept::KeepsBatches;
 use otel_lines::ReplyLines;
 use otel_lines::lines::number_of;
+use otel_otlp::stream::write_whole;
 use otel_pipeline::trace::provider::provider_over;
 use otel_pipeline::trace::{DrainDue, ProviderOf, SimpleSpanProcessor, SpanProcessor};
 use otel_steps::Sizes;
@@ -166,6 +170,19 @@ pub fn run_program<R: Read, W: Write, F: Write>(
         ⟦<TraceSampler as ShouldSample>⟧ ⟦<RandomIdGenerator as IdGenerator>⟧) asked s)
         (faults.new ≡ faults.old) (Appends (F.contents faults.old) (F.contents faults.new)) s result }
 
+    // One session, whose batches are written in place of its replies.
+    ensures otlp { (asked : Asked) (given : List (List ℕ)) → AsksForOtlp (map string_bytes words.now) asked given →
+        let s : Streams = streams (R.remaining input.old) (R.remaining input.new)
+        (W.contents output.old) (W.contents output.new) in
+        EndsWith
+        (ExportsAsked (memory_calls ⟦<TraceProcessor as SpanProcessor>⟧
+        (record { due_gives = ⟦<TraceProcessor as DrainDue>⟧.due_gives })
+        ⟦<TraceSampler as ShouldSample>⟧ ⟦<RandomIdGenerator as IdGenerator>⟧) asked given s)
+        (BeginsExporting (memory_calls ⟦<TraceProcessor as SpanProcessor>⟧
+        (record { due_gives = ⟦<TraceProcessor as DrainDue>⟧.due_gives })
+        ⟦<TraceSampler as ShouldSample>⟧ ⟦<RandomIdGenerator as IdGenerator>⟧) asked given s)
+        (faults.new ≡ faults.old) (Appends (F.contents faults.old) (F.contents faults.new)) s result }
+
     // One batch queue.
     ensures steps { (sizes : Sizes) → AsksForSteps (map string_bytes words.now) sizes →
         let s : Streams = streams (R.remaining input.old) (R.remaining input.new)
@@ -177,6 +194,10 @@ pub fn run_program<R: Read, W: Write, F: Write>(
         let end = step_input(alloc, sizes, input, output);
         return status_of(alloc, end, faults);
     }
+    if let Some((asked, given)) = otlp_of(words) {
+        let end = run_otlp(alloc, asked, given, input, output);
+        return status_of(alloc, end, faults);
+    }
     match provider_for(alloc, words) {
         None => refuse(faults, USAGE),
         Some(Ok(provider)) => {
@@ -185,6 +206,36 @@ pub fn run_program<R: Read, W: Write, F: Write>(
             status_of(alloc, end, faults)
         }
         Some(Err(_)) => FAILED,
+    }
+}
+
+/// Runs a session whose batches are written, under the provider that is asked for; a failure where there is no memory
+/// for it or for its resource.
+fn run_otlp<R: Read, W: Write>(
+    alloc: Global,
+    asked: Asked,
+    given: &[String],
+    input: &mut R,
+    output: &mut W,
+) -> RunEnd
+    ensures { let s : Streams = streams (R.remaining input.old) (R.remaining input.new)
+        (W.contents output.old) (W.contents output.new) in
+        EndsAs
+        (ExportsAsked (memory_calls ⟦<TraceProcessor as SpanProcessor>⟧
+        (record { due_gives = ⟦<TraceProcessor as DrainDue>⟧.due_gives })
+        ⟦<TraceSampler as ShouldSample>⟧ ⟦<RandomIdGenerator as IdGenerator>⟧)
+        asked (map string_bytes given.now) s)
+        (BeginsExporting (memory_calls ⟦<TraceProcessor as SpanProcessor>⟧
+        (record { due_gives = ⟦<TraceProcessor as DrainDue>⟧.due_gives })
+        ⟦<TraceSampler as ShouldSample>⟧ ⟦<RandomIdGenerator as IdGenerator>⟧)
+        asked (map string_bytes given.now) s) s result }
+{
+    let Ok(resource) = resource_of(alloc, given) else {
+        return RunEnd::Failed;
+    };
+    match provider_of(alloc, asked) {
+        Ok(provider) => export_input(alloc, provider, resource, input, output),
+        Err(_) => RunEnd::Failed,
     }
 }
 

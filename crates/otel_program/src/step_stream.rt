@@ -3,16 +3,17 @@
 
 ghost use Rattle.std.specs.Prelude.{◌≡◌, ◌++◌, ◌+◌, ◌⊎◌, List, ℕ, IfOk, IfSome, OnErr, length};
 ghost use Rattle.std.specs.Io.KnownBytes.{Appends};
-ghost use Rattle.otel_program.specs.Pieces.{AppendsBeginning};
+ghost use Rattle.otel_otlp.specs.Streams.{AppendsBeginning};
 ghost use Rattle.otel_program.specs.StepRuns.{StepsAll, StepsBegun, StepsSized, StepsSome};
 ghost use Rattle.otel_program.specs.Streams.{EndsAs, Streams, streams};
 ghost use Rattle.otel_steps.specs.StepAnswers.{AnswersLines, BeginsAnswers};
 
 use crate::counted::{bad_line_behind, lines_counted};
-use crate::pieces::{Pieces, write_whole};
+use crate::pieces::Pieces;
 use crate::run_end::RunEnd;
 use otel_batch::machine::BatchMachine;
 use otel_export::trace::InMemorySpanExporter;
+use otel_otlp::stream::write_whole;
 use otel_steps::{Sizes, answer_lines, machine_sized};
 use std::alloc::Global;
 use std::io;

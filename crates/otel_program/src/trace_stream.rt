@@ -3,7 +3,7 @@
 
 ghost use Rattle.std.specs.Prelude.{◌≡◌, IfOk, OnErr, Result};
 ghost use Rattle.std.specs.Io.KnownBytes.{Appends};
-ghost use Rattle.otel_program.specs.Pieces.{AppendsBeginning};
+ghost use Rattle.otel_otlp.specs.Streams.{AppendsBeginning};
 ghost use Rattle.otel_program.specs.Streams.{EndsAs, Streams, streams};
 ghost use Rattle.otel_program.specs.TraceRuns.{
   CarriesOutSome,
@@ -18,11 +18,12 @@ ghost use Rattle.otel_session.specs.Calls.{calls_of};
 ghost use Rattle.otel_session.specs.declared.session.FeedError.{FeedError};
 
 use crate::counted::{bad_line_behind, lines_counted};
-use crate::pieces::{Pieces, write_whole};
+use crate::pieces::Pieces;
 use crate::run_end::RunEnd;
 use otel_base::trace::{IdGenerator, ShouldSample};
 use otel_kept::KeepsBatches;
 use otel_lines::ReplyForm;
+use otel_otlp::stream::write_whole;
 use otel_pipeline::trace::ProviderOf;
 use otel_session::{FeedError, Session};
 use std::alloc::Global;

@@ -1,4 +1,5 @@
 use Rattle.std.proofs.Common.{rules}
+use Rattle.otel_program.proofs.Exporting.{exporting_begun, exports_once}
 use Rattle.otel_program.proofs.ProgramLemmas.{asked_begun, ends_with, found, one_mode, status_small, steps_sized, traces_asked}
 use Rattle.otel_program.proofs.StepStream.{all_begun}
 use Rattle.otel_program.specs.StepRuns.{StepsBegun, StepsSized}
@@ -37,3 +38,15 @@ returns-in-Some-Ok-clause-trace g c = λ asked asks.
     ends_with _ _ _ _ s c.trace_input-end.result c.status_of-in-Some-Ok.result (λ bad_line h. asked_begun _ asked s bad_line h)
     (traces_asked _ _ asked c.in-Some-Ok.ensures.0 c.in-Some-Ok.provider s c.trace_input-end.result asks c.in-Some-Ok.ensures.1
     (found (IsProviderOf c.in-Some-Ok.ensures.0) c.in-Some-Ok.field-0 c.in-Some-Ok.provider (search rules) c.in-Some-Ok.ensures.2) c.trace_input-end.ensures) c.status_of-in-Some-Ok.ensures
+
+pub returns-in-None-clause-otlp : goal.returns-in-None-clause-otlp
+returns-in-None-clause-otlp g c = λ asked given asks. absurd (c.in_default-otlp_of.ensures asked given asks)
+
+pub returns-in-Some-otlp_of-clause-otlp : goal.returns-in-Some-otlp_of-clause-otlp
+returns-in-Some-otlp_of-clause-otlp g c = λ asked given asks.
+    let s = streams (g.R.Read.remaining c.args.input.now) (g.R.Read.remaining c.run_otlp-end.new.input)
+    (g.W.Write.contents c.args.output.now) (g.W.Write.contents c.run_otlp-end.new.output) in
+    ends_with _ _ _ _ s c.run_otlp-end.result c.status_of-in-Some-otlp_of.result
+    (λ bad_line h. exporting_begun _ asked given s bad_line h)
+    (exports_once _ _ asked c.in-Some-otlp_of.asked given _ s c.run_otlp-end.result asks c.in-Some-otlp_of.ensures
+    c.run_otlp-end.ensures) c.status_of-in-Some-otlp_of.ensures

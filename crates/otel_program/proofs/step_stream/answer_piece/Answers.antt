@@ -1,7 +1,7 @@
 -- What answers the lines was written, or a beginning of it.
 use Rattle.std.proofs.Common.{subst}
 use Rattle.opentelemetry.proofs.Clauses.{always_on_err}
-use Rattle.otel_program.specs.Pieces.{AppendsBeginning}
+use Rattle.otel_otlp.specs.Streams.{AppendsBeginning}
 use Rattle.otel_program.proofs.StepStream.{answered_begins, appends_all}
 use Rattle.otel_program.proofs.step_stream.answer_piece.Goals as goal
 

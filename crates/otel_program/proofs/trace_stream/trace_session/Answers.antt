@@ -6,7 +6,7 @@ use Rattle.otel_session.specs.Calls.{Calls, calls_of}
 use Rattle.otel_session.specs.Closing.{Closes}
 use Rattle.otel_session.specs.Turns.{SessionState}
 use Rattle.std.specs.Io.KnownBytes.{Appends}
-use Rattle.otel_program.specs.Pieces.{AppendsBeginning}
+use Rattle.otel_otlp.specs.Streams.{AppendsBeginning}
 use Rattle.otel_program.proofs.TraceStream.{appends_all, closed_as, closed_some, some_broken}
 use Rattle.otel_program.proofs.trace_stream.trace_session.Goals as goal
 
