@@ -1,5 +1,6 @@
 -- What is written in turn.
-use Rattle.std.proofs.Common.{◌≡◌, ◌<◌, ◌≤◌, ◌+◌, ℕ, List, [], ◌∷◌, ◌++◌, Result, Ok, Err, length, take, get_or, map, ap, sym, subst, refl, ◌∙◌}
+use Rattle.std.proofs.Common.{◌≡◌, ◌<◌, ◌≤◌, ◌+◌, ℕ, List, [], ◌∷◌, ◌++◌, Result, Ok, Err, length, take, get_or, map}
+use Rattle.std.proofs.Common.{ap, sym, subst, refl, ◌∙◌}
 use Rattle.std.proofs.Common.{append_assoc, append-nil}
 use Rattle.std.proofs.lemmas.List.{map-append, take_all, take_more}
 use Rattle.json.specs.Json.{Json, array}
@@ -35,7 +36,8 @@ each_joined (j ∷ js) second =
     ∙ sym (append_assoc (json_tokens j) (each_tokens js) (each_tokens second))
 
 -- members, and others behind them
-pub fields_joined : (first second : List Field) → fields_tokens (first ++ second) ≡ fields_tokens first ++ fields_tokens second
+pub fields_joined : (first second : List Field)
+    → fields_tokens (first ++ second) ≡ fields_tokens first ++ fields_tokens second
 fields_joined [] second = refl
 fields_joined (f ∷ fs) second =
     ap (λ ts. Token.key f.0 ∷ ts)
@@ -58,8 +60,9 @@ list_more json xs i x l is =
     ∙ ap (λ y. list_tokens json (take i xs ++ y ∷ [])) is
     ∙ ap (list_tokens json) (sym (take_more xs i x l))
 
-pub item_more : {X E F : Type 0} {done more : Unit {0}} {old middle new : Begun} (json : X → Json) (xs : List X) (i : ℕ)
-    (x : X) → i < length xs → x ≡ get_or xs i x → Adds {E = E} (Ok done) old middle (list_tokens json (take i xs))
+pub item_more : {X E F : Type 0} {done more : Unit {0}} {old middle new : Begun} (json : X → Json) (xs : List X)
+    (i : ℕ) (x : X) → i < length xs → x ≡ get_or xs i x
+    → Adds {E = E} (Ok done) old middle (list_tokens json (take i xs))
     → Adds {E = F} (Ok more) middle new (json_tokens (json x))
     → Adds {E = F} (Ok more) old new (list_tokens json (take (i + 1) xs))
 item_more json xs i x l is h k = as_tokens (list_more json xs i x l is) (and_then h k)

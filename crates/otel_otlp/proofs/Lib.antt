@@ -1,6 +1,15 @@
 pub mod Adding
+pub mod BatchesAlike
+pub mod Fitting
+pub mod JsonParts
 pub mod LinesCut
+pub mod Numbers
+pub mod NumbersAlike
 pub mod ReadsBack
+pub mod RunLaws
 pub mod Runs
+pub mod RunsFit
+pub mod SpansAlike
 pub mod Unbroken
+pub mod ValuesAlike
 pub mod Written

@@ -1,19 +1,23 @@
 -- The text of a request nests no deeper than a reader reads, and so is read back.
 use Rattle.std.proofs.Common.{◌≡◌, ◌≤◌, ℕ, suc, List, [], ◌∷◌, Some, option_and_then, ap, sym, ◌∙◌, append-nil, arith}
+use Rattle.std.proofs.lemmas.List.{append_cancel_right}
+use Rattle.std.specs.FinMap.{entries}
+use Rattle.std.specs.List.{AllByRecursion}
 use Rattle.json.specs.Json.{Json, document, if_last, max_depth, value}
 use Rattle.json.specs.Lex.{tokens}
 use Rattle.json.specs.Print.{print}
 use Rattle.json.specs.Tree.{depth, json_tokens}
-use Rattle.json.proofs.Printed.Trees.{value-json_tokens}
-use Rattle.opentelemetry.specs.Plain.{PlainEvent, PlainKeyValue, PlainLink, PlainValue, boolean, integer, text, booleans}
-use Rattle.opentelemetry.specs.Plain.{integers, texts}
-use Rattle.std.specs.FinMap.{entries}
+use Rattle.json.proofs.Printed.Trees.{document-print, value-json_tokens}
+use Rattle.opentelemetry.specs.Plain.{PlainEvent, PlainKeyValue, PlainLink}
+use Rattle.opentelemetry.specs.Plain.{PlainValue, boolean, integer, text, booleans, integers, texts}
 use Rattle.otel_base.specs.Resource.{PlainResource}
 use Rattle.otel_export.specs.PlainSpanData.{PlainSpanData}
 use Rattle.otel_otlp.specs.Fields.{list_json}
-use Rattle.otel_otlp.specs.Otlp.{attribute_json, bool_json, event_json, integer_json, link_json, pair_json, request}
-use Rattle.otel_otlp.specs.Otlp.{run_json, span_json, text_json, value_json, run_scope}
-use Rattle.otel_otlp.specs.ScopeRuns.{scope_runs}
+use Rattle.otel_otlp.specs.Fits.{SpanFits}
+use Rattle.otel_otlp.specs.Otlp.{event_json, link_json, otlp_line, otlp_text, request, run_json, span_json}
+use Rattle.otel_otlp.specs.OtlpValues.{attribute_json, bool_json, integer_json, pair_json, text_json, value_json}
+use Rattle.otel_otlp.specs.ScopeRuns.{run_scope, scope_runs}
+use Rattle.otel_otlp.proofs.Numbers.{request_has}
 
 -- a list nests one deeper than its items may
 list_within : {X : Type 0} (json : X → Json) (xs : List X) (d : ℕ) → ((x : X) → depth (json x) ≤ d)
@@ -74,3 +78,17 @@ pub reads_request : (resource : PlainResource) (batch : List PlainSpanData)
     → tokens (print (json_tokens (request resource batch))) ≡ json_tokens (request resource batch)
     → document (print (json_tokens (request resource batch))) ≡ Some (request resource batch)
 reads_request resource batch lexed = reads_value (request resource batch) lexed (request_within resource batch)
+
+pub request_reads_back : (resource : PlainResource) (batch : List PlainSpanData) → AllByRecursion SpanFits batch
+    → document (otlp_text resource batch) ≡ Some (request resource batch)
+request_reads_back resource batch h =
+    document-print (request resource batch) (request_has resource batch h) (request_within resource batch)
+
+-- a line is of one request
+pub lines_same : (r s : PlainResource) (a b : List PlainSpanData) → AllByRecursion SpanFits a
+    → AllByRecursion SpanFits b → otlp_line r a ≡ otlp_line s b → request r a ≡ request s b
+lines_same r s a b h k e =
+    let texts = append_cancel_right (otlp_text r a) (otlp_text s b) (10 ∷ []) e in
+    let read : Some (request r a) ≡ Some (request s b) =
+    sym (request_reads_back r a h) ∙ ap document texts ∙ request_reads_back s b k in
+    cc

@@ -15,21 +15,22 @@ use Rattle.opentelemetry.specs.Plain.{boolean, integer, text, booleans, integers
 use Rattle.otel_base.specs.Resource.{PlainResource}
 use Rattle.otel_export.specs.PlainSpanData.{PlainSpanData}
 use Rattle.otel_otlp.specs.Fields.{Field, items_of, list_json, members_of, object_json}
-use Rattle.otel_otlp.specs.Otlp.{attribute_json, attributes_fields, bool_json, code_number, event_fields, event_json}
-use Rattle.otel_otlp.specs.Otlp.{events_fields, flags_of, identity_fields, integer_json, kind_number, link_fields}
-use Rattle.otel_otlp.specs.Otlp.{link_json, links_fields, number_field, otlp_text, pair_fields, pair_json}
-use Rattle.otel_otlp.specs.Otlp.{recording_fields, request, resource_fields, resource_json, resource_spans_fields}
-use Rattle.otel_otlp.specs.Otlp.{resource_spans_json, run_fields, run_json, run_scope, scope_fields, scope_json, single}
-use Rattle.otel_otlp.specs.Otlp.{span_fields, span_json, status_fields, status_json, text_json, value_json}
-use Rattle.otel_otlp.specs.ScopeRuns.{scope_runs}
+use Rattle.otel_otlp.specs.Otlp.{code_number, event_fields, event_json, events_fields, flags_of, identity_fields}
+use Rattle.otel_otlp.specs.Otlp.{kind_number, link_fields, link_json, links_fields, otlp_text, recording_fields}
+use Rattle.otel_otlp.specs.Otlp.{request, resource_fields, resource_json, resource_spans_fields, resource_spans_json}
+use Rattle.otel_otlp.specs.Otlp.{run_fields, run_json, scope_fields, scope_json, span_fields, span_json, status_fields}
+use Rattle.otel_otlp.specs.Otlp.{status_json}
+use Rattle.otel_otlp.specs.OtlpValues.{attribute_json, attributes_fields, bool_json, integer_json, number_field}
+use Rattle.otel_otlp.specs.OtlpValues.{pair_fields, pair_json, single, text_json, value_json}
+use Rattle.otel_otlp.specs.ScopeRuns.{run_scope, scope_runs}
+use Rattle.otel_otlp.proofs.Fitting.{all_joined}
 
 -- no byte ends a line
-abbrev pub NoFeed : List ℕ → Type 0
-NoFeed bytes = AllByRecursion (λ b. b ≢ 10) bytes
+abbrev NotFeed : ℕ → Type 0
+NotFeed b = b ≢ 10
 
-both : (front behind : List ℕ) → NoFeed front → NoFeed behind → NoFeed (front ++ behind)
-both [] behind h k = k
-both (b ∷ front) behind h k = (h.0, both front behind h.1 k)
+abbrev pub NoFeed : List ℕ → Type 0
+NoFeed bytes = AllByRecursion NotFeed bytes
 
 either : (test : Bool) (xs ys : List ℕ) → (test ≡ true → NoFeed xs) → (test ≡ false → NoFeed ys)
     → NoFeed (cond test xs ys)
@@ -81,11 +82,11 @@ escaped x =
 
 all_escaped : (bytes : List ℕ) → NoFeed (escape bytes)
 all_escaped [] = tt
-all_escaped (b ∷ bytes) = both (escape_byte b) (escape bytes) (escaped b) (all_escaped bytes)
+all_escaped (b ∷ bytes) = all_joined NotFeed (escape_byte b) (escape bytes) (escaped b) (all_escaped bytes)
 
 quoted_no_feed : (bytes : List ℕ) → NoFeed (quoted bytes)
 quoted_no_feed bytes =
-    ((λ z. omega arith), both (escape bytes) (34 ∷ []) (all_escaped bytes) ((λ z. omega arith), tt))
+    ((λ z. omega arith), all_joined NotFeed (escape bytes) (34 ∷ []) (all_escaped bytes) ((λ z. omega arith), tt))
 
 -- a token whose number, if it is one, has no line feed
 abbrev Unbroken : Token → Type 0
@@ -100,7 +101,7 @@ token_no_feed Token.begin_object h = ((λ z. omega arith), tt)
 token_no_feed Token.end_object h = ((λ z. omega arith), tt)
 token_no_feed Token.begin_array h = ((λ z. omega arith), tt)
 token_no_feed Token.end_array h = ((λ z. omega arith), tt)
-token_no_feed (Token.key s) h = both (quoted s) (58 ∷ []) (quoted_no_feed s) ((λ z. omega arith), tt)
+token_no_feed (Token.key s) h = all_joined NotFeed (quoted s) (58 ∷ []) (quoted_no_feed s) ((λ z. omega arith), tt)
 token_no_feed (Token.string s) h = quoted_no_feed s
 token_no_feed (Token.number s) h = h
 token_no_feed (Token.boolean true) h =
@@ -115,28 +116,23 @@ print_no_feed : (after : Bool) (ts : List Token) → AreUnbroken ts → NoFeed (
 unfolding print_from
 print_no_feed after [] h = tt
 print_no_feed after (t ∷ ts) h =
-    both (separator after t) _ (either _ (44 ∷ []) [] (λ e. ((λ z. omega arith), tt)) (λ e. tt))
-    (both (token_text t) _ (token_no_feed t h.0) (print_no_feed (ends t) ts h.1))
+    all_joined NotFeed (separator after t) _ (either _ (44 ∷ []) [] (λ e. ((λ z. omega arith), tt)) (λ e. tt))
+    (all_joined NotFeed (token_text t) _ (token_no_feed t h.0) (print_no_feed (ends t) ts h.1))
 
 -- tokens, piece by piece
-both_unbroken : (front behind : List Token) → AreUnbroken front → AreUnbroken behind → AreUnbroken (front ++ behind)
-both_unbroken [] behind h k = k
-both_unbroken (t ∷ front) behind h k = (h.0, both_unbroken front behind h.1 k)
-
 abbrev UnbrokenJson : Json → Type 0
 UnbrokenJson json = AreUnbroken (json_tokens json)
 
-abbrev UnbrokenFields : List Field → Type 0
-UnbrokenFields fields = AllByRecursion (λ f. UnbrokenJson f.1) fields
+abbrev UnbrokenField : Field → Type 0
+UnbrokenField field = UnbrokenJson field.1
 
-both_fields : (front behind : List Field) → UnbrokenFields front → UnbrokenFields behind → UnbrokenFields (front ++ behind)
-both_fields [] behind h k = k
-both_fields (f ∷ front) behind h k = (h.0, both_fields front behind h.1 k)
+abbrev UnbrokenFields : List Field → Type 0
+UnbrokenFields fields = AllByRecursion UnbrokenField fields
 
 members_unbroken : (fields : List Field) → UnbrokenFields fields → AreUnbroken (members_tokens (members_of fields))
 members_unbroken [] h = (tt, tt)
 members_unbroken (f ∷ fields) h =
-    (tt, both_unbroken (json_tokens f.1) (members_tokens (members_of fields)) h.0 (members_unbroken fields h.1))
+    (tt, all_joined Unbroken (json_tokens f.1) (members_tokens (members_of fields)) h.0 (members_unbroken fields h.1))
 
 object_unbroken : (fields : List Field) → UnbrokenFields fields → UnbrokenJson (object_json fields)
 object_unbroken fields h = (tt, members_unbroken fields h)
@@ -145,7 +141,7 @@ items_unbroken : {X : Type 0} (json : X → Json) → ((x : X) → UnbrokenJson 
     → AreUnbroken (items_tokens (items_of (map json xs)))
 items_unbroken json h [] = (tt, tt)
 items_unbroken json h (x ∷ xs) =
-    both_unbroken (json_tokens (json x)) (items_tokens (items_of (map json xs))) (h x) (items_unbroken json h xs)
+    all_joined Unbroken (json_tokens (json x)) (items_tokens (items_of (map json xs))) (h x) (items_unbroken json h xs)
 
 list_unbroken : {X : Type 0} (json : X → Json) → ((x : X) → UnbrokenJson (json x)) → (xs : List X)
     → UnbrokenJson (list_json json xs)
@@ -187,7 +183,8 @@ number_unbroken key n = ((decimal_no_feed n, tt), tt)
 attributes_unbroken : (attributes : List PlainKeyValue) (dropped : ℕ)
     → UnbrokenFields (attributes_fields attributes dropped)
 attributes_unbroken attributes dropped =
-    (list_unbroken attribute_json (λ a. pair_unbroken (a.key, a.value)) attributes, ((decimal_no_feed dropped, tt), tt))
+    let list = list_unbroken attribute_json (λ a. pair_unbroken (a.key, a.value)) attributes in
+    (list, ((decimal_no_feed dropped, tt), tt))
 
 event_unbroken : (event : PlainEvent) → UnbrokenJson (event_json event)
 event_unbroken event =
@@ -198,17 +195,11 @@ link_unbroken : (link : PlainLink) → UnbrokenJson (link_json link)
 link_unbroken link =
     let flags = flags_of link.span_context.trace_flags link.span_context.is_remote in
     let attributes = attributes_fields link.attributes link.dropped_attributes_count in
-    object_unbroken (link_fields link) (
-      (tt, tt),
-      (
-        (tt, tt),
-        (
-          (tt, tt),
-          both_fields attributes (number_field (codes "flags") flags ∷ [])
-              (attributes_unbroken link.attributes link.dropped_attributes_count) (number_unbroken (codes "flags") flags),
-        ),
-      ),
-    )
+    let flagged = number_field (codes "flags") flags ∷ [] in
+    let behind =
+    all_joined UnbrokenField attributes flagged
+    (attributes_unbroken link.attributes link.dropped_attributes_count) (number_unbroken (codes "flags") flags) in
+    object_unbroken (link_fields link) ((tt, tt), ((tt, tt), ((tt, tt), behind)))
 
 status_unbroken : (status : PlainStatus) → UnbrokenJson (status_json status)
 status_unbroken status =
@@ -220,7 +211,7 @@ recording_unbroken span =
     let events = events_fields span.events in
     let links = links_fields span.links in
     let status : List Field = (codes "status", status_json span.status) ∷ [] in
-    both_fields attributes (events ++ (links ++ status))
+    all_joined UnbrokenField attributes (events ++ (links ++ status))
     (attributes_unbroken span.attributes span.dropped_attributes_count) (
       list_unbroken event_json event_unbroken span.events.events,
       (
@@ -259,7 +250,7 @@ identity_unbroken span =
 
 span_unbroken : (span : PlainSpanData) → UnbrokenJson (span_json span)
 span_unbroken span =
-    object_unbroken (span_fields span) (both_fields (identity_fields span) (recording_fields span)
+    object_unbroken (span_fields span) (all_joined UnbrokenField (identity_fields span) (recording_fields span)
     (identity_unbroken span) (recording_unbroken span))
 
 scope_unbroken : (scope : PlainScope) → UnbrokenJson (scope_json scope)
@@ -291,4 +282,5 @@ request_unbroken resource batch =
     (list_unbroken json (resource_spans_unbroken resource) (batch ∷ []))
 
 pub text_no_feed : (resource : PlainResource) (batch : List PlainSpanData) → NoFeed (otlp_text resource batch)
-text_no_feed resource batch = print_no_feed false (json_tokens (request resource batch)) (request_unbroken resource batch)
+text_no_feed resource batch =
+    print_no_feed false (json_tokens (request resource batch)) (request_unbroken resource batch)

@@ -13,7 +13,8 @@ pub write_more : (a b c : Option (List ℕ)) (bytes : List ℕ) (written count :
 write_more a b c bytes written count first second =
     let rest = ap (take count) (take_rest bytes written) in
     subst (λ (bs : List ℕ). Appends a c bs) (sym (take-add written count bytes))
-    (Appends-trans a b c (take written bytes) (take count (drop written bytes)) first (subst (Appends b c) rest second))
+    (Appends-trans a b c (take written bytes) (take count (drop written bytes)) first
+    (subst (Appends b c) rest second))
 
 -- the first bytes are a beginning
 pub wrote_beginning : (a b : Option (List ℕ)) (bytes : List ℕ) (written : ℕ) → Appends a b (take written bytes)

@@ -15,8 +15,8 @@ use std::io::Write;
 use std::marker::Model;
 use std::time::Duration;
 
-/// Writes each batch to a stream, as a line of the JSON of the OpenTelemetry protocol, and sends it on at once. Behind a
-/// line that its writer cut off, it goes on in a new one.
+/// Writes each batch to a stream, as a line of the JSON of the OpenTelemetry protocol, and sends it on at once. Behind
+/// a line that its writer cut off, it goes on in a new one.
 #[derive(Drop)]
 pub struct OtlpJsonExporter<W> {
     writer: W,

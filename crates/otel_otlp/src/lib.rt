@@ -2,6 +2,7 @@
 #![tactic(auto)]
 
 mod exporter;
+pub mod fits;
 pub mod laws;
 mod request;
 mod span;

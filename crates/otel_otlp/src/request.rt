@@ -5,9 +5,10 @@ ghost use Rattle.std.specs.FinMap.{entries};
 ghost use Rattle.json.specs.Json.{document};
 ghost use Rattle.json.specs.Tree.{json_tokens};
 ghost use Rattle.otel_otlp.specs.Fields.{Adds, fields_tokens, list_tokens};
-ghost use Rattle.otel_otlp.specs.Otlp.{otlp_line, otlp_text, pair_json, request, resource_json, resource_spans_json};
-ghost use Rattle.otel_otlp.specs.Otlp.{run_json, run_scope, scope_json, span_json};
-ghost use Rattle.otel_otlp.specs.ScopeRuns.{scope_runs};
+ghost use Rattle.otel_otlp.specs.Otlp.{otlp_line, otlp_text, request, resource_json, resource_spans_json, run_json};
+ghost use Rattle.otel_otlp.specs.Otlp.{scope_json, span_json};
+ghost use Rattle.otel_otlp.specs.OtlpValues.{pair_json};
+ghost use Rattle.otel_otlp.specs.ScopeRuns.{run_scope, scope_runs};
 
 use crate::tokens::RequestWriter;
 use opentelemetry::InstrumentationScope;

@@ -6,7 +6,9 @@ ghost use Rattle.opentelemetry.specs.PlainValues.{plain_status};
 ghost use Rattle.otel_otlp.specs.Fields.{Adds, fields_tokens, list_tokens};
 ghost use Rattle.otel_otlp.specs.Otlp.{code_number, context_fields, event_json, events_fields, flags_of};
 ghost use Rattle.otel_otlp.specs.Otlp.{identity_fields, kind_number, link_json, links_fields, message_text};
-ghost use Rattle.otel_otlp.specs.Otlp.{name_fields, number_field, parent_fields, recording_fields, span_json, status_json, time_fields};
+ghost use Rattle.otel_otlp.specs.Otlp.{name_fields, parent_fields, recording_fields, span_json, status_json};
+ghost use Rattle.otel_otlp.specs.Otlp.{time_fields};
+ghost use Rattle.otel_otlp.specs.OtlpValues.{number_field};
 
 use crate::tokens::RequestWriter;
 use opentelemetry::TraceFlags;

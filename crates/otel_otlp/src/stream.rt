@@ -7,7 +7,8 @@ ghost use Rattle.otel_otlp.specs.Streams.{AppendsBeginning};
 use std::io;
 use std::io::{ErrorKind, Write};
 
-/// Writes all bytes and sends them on. An interrupted write is tried again. On an error a beginning of them was written.
+/// Writes all bytes and sends them on. An interrupted write is tried again. On an error a beginning of them was
+/// written.
 pub fn write_whole<W: Write>(writer: &mut W, bytes: &[u8]) -> io::Result<()>
     ensures ok { OnOk result (Appends (W.contents writer.old) (W.contents writer.new) bytes.now) }
     ensures err { OnErr result (AppendsBeginning (W.contents writer.old) (W.contents writer.new) bytes.now) }

@@ -4,8 +4,8 @@ ghost use Rattle.std.specs.Prelude.{◌≡◌, ◌++◌, ◌∷◌, [], map, str
 ghost use Rattle.json.specs.Tree.{json_tokens};
 ghost use Rattle.opentelemetry.specs.PlainValues.{plain_array, plain_value};
 ghost use Rattle.otel_otlp.specs.Fields.{Adds, each_tokens, fields_tokens, list_tokens};
-ghost use Rattle.otel_otlp.specs.Otlp.{array_items, array_json, attribute_json, attributes_fields, bool_json, integer_json, pair_json};
-ghost use Rattle.otel_otlp.specs.Otlp.{text_json, value_json};
+ghost use Rattle.otel_otlp.specs.OtlpValues.{array_items, array_json, attribute_json, attributes_fields, bool_json};
+ghost use Rattle.otel_otlp.specs.OtlpValues.{integer_json, pair_json, text_json, value_json};
 
 use crate::tokens::RequestWriter;
 use opentelemetry::{Array, Key, KeyValue, Value};

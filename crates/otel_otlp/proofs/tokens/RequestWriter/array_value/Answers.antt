@@ -3,7 +3,7 @@ use Rattle.std.proofs.Common.{[], ◌∷◌, codes}
 use Rattle.json.specs.Json.{array}
 use Rattle.opentelemetry.specs.PlainValues.{plain_array}
 use Rattle.otel_otlp.specs.Fields.{items_of}
-use Rattle.otel_otlp.specs.Otlp.{array_items, single}
+use Rattle.otel_otlp.specs.OtlpValues.{array_items, single}
 use Rattle.otel_otlp.proofs.Adding.{as_array, as_field, as_object}
 use Rattle.otel_otlp.proofs.tokens.RequestWriter.array_value.Goals as goal
 

@@ -1,7 +1,7 @@
 -- A list, then a number.
 use Rattle.std.proofs.Common.{[], ◌∷◌, codes, map}
 use Rattle.otel_otlp.specs.Fields.{list_json}
-use Rattle.otel_otlp.specs.Otlp.{attribute_json, number_field}
+use Rattle.otel_otlp.specs.OtlpValues.{attribute_json, number_field}
 use Rattle.otel_otlp.proofs.Adding.{and_fields, as_array, as_field}
 use Rattle.otel_otlp.proofs.tokens.RequestWriter.attributes.Goals as goal
 

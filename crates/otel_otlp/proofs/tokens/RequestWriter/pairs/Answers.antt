@@ -4,7 +4,7 @@ use Rattle.std.specs.FinMap.{entries}
 use Rattle.opentelemetry.specs.Plain.{PlainValue}
 use Rattle.opentelemetry.specs.PlainValues.{plain_value}
 use Rattle.otel_otlp.specs.Fields.{list_tokens}
-use Rattle.otel_otlp.specs.Otlp.{pair_json}
+use Rattle.otel_otlp.specs.OtlpValues.{pair_json}
 use Rattle.otel_otlp.proofs.Adding.{first_written}
 use Rattle.otel_otlp.proofs.tokens.RequestWriter.pairs.Goals as goal
 

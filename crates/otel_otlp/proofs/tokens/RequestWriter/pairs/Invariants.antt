@@ -2,7 +2,7 @@
 use Rattle.std.proofs.Common.{◌≡◌, ◌++◌, length}
 use Rattle.std.specs.FinMap.{entries}
 use Rattle.otel_otlp.specs.Fields.{list_tokens}
-use Rattle.otel_otlp.specs.Otlp.{pair_json}
+use Rattle.otel_otlp.specs.OtlpValues.{pair_json}
 use Rattle.otel_otlp.proofs.tokens.RequestWriter.pairs.Given as goal
 
 abbrev pub invariant-loop-key : goal.invariant-loop-key

@@ -2,7 +2,8 @@
 use Rattle.std.proofs.Common.{[], ◌∷◌, ◌++◌, codes, ap}
 use Rattle.opentelemetry.specs.PlainValues.{plain_status}
 use Rattle.otel_otlp.specs.Fields.{fields_tokens}
-use Rattle.otel_otlp.specs.Otlp.{attributes_fields, events_fields, links_fields, recording_fields, status_json}
+use Rattle.otel_otlp.specs.Otlp.{events_fields, links_fields, recording_fields, status_json}
+use Rattle.otel_otlp.specs.OtlpValues.{attributes_fields}
 use Rattle.otel_otlp.proofs.Adding.{and_fields, as_field, as_tokens}
 use Rattle.otel_otlp.proofs.tokens.RequestWriter.recording.Goals as goal
 
@@ -14,7 +15,8 @@ returns c =
     let links = links_fields span.links in
     let json = status_json (plain_status span.status) in
     let status = (codes "status", json) ∷ [] in
-    let kept = ap (λ items. fields_tokens (attributes_fields items span.dropped_attributes_count)) c.deref.ensures.value in
+    let dropped = span.dropped_attributes_count in
+    let kept = ap (λ items. fields_tokens (attributes_fields items dropped)) c.deref.ensures.value in
     as_tokens (ap (λ span. fields_tokens (recording_fields span)) c.span.view_is)
     (and_fields attributes (events ++ (links ++ status)) (as_tokens kept c.in_ok-attributes.ensures)
     (and_fields events (links ++ status) c.in_ok-events.ensures

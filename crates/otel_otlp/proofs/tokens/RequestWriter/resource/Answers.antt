@@ -2,7 +2,7 @@
 use Rattle.std.proofs.Common.{[], ◌∷◌, codes, map}
 use Rattle.std.specs.FinMap.{entries}
 use Rattle.otel_otlp.specs.Fields.{list_json}
-use Rattle.otel_otlp.specs.Otlp.{number_field, pair_json}
+use Rattle.otel_otlp.specs.OtlpValues.{number_field, pair_json}
 use Rattle.otel_otlp.proofs.Adding.{and_fields, as_array, as_field, as_object}
 use Rattle.otel_otlp.proofs.tokens.RequestWriter.resource.Goals as goal
 

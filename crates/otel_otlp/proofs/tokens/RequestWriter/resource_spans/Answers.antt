@@ -2,7 +2,8 @@
 use Rattle.std.proofs.Common.{[], ◌∷◌, codes, ap, map, List, ℕ, ◌≡◌, ◌∙◌, refl}
 use Rattle.otel_base.specs.Resource.{non_empty}
 use Rattle.otel_otlp.specs.Fields.{fields_tokens, list_json}
-use Rattle.otel_otlp.specs.Otlp.{or_empty, resource_json, run_json, text_field}
+use Rattle.otel_otlp.specs.Otlp.{or_empty, resource_json, run_json}
+use Rattle.otel_otlp.specs.OtlpValues.{text_field}
 use Rattle.otel_otlp.specs.ScopeRuns.{scope_runs}
 use Rattle.otel_otlp.proofs.Adding.{and_fields, as_array, as_field, as_object, as_tokens}
 use Rattle.otel_otlp.proofs.tokens.RequestWriter.resource_spans.Goals as goal

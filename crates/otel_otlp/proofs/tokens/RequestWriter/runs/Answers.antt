@@ -28,10 +28,11 @@ loop-first-preserved c =
     subst (λ (all : List (List PlainSpanData)). c.loop-first.self.tokens ++ list_tokens run_json all ≡ whole)
     runs c.loop-first.invariant.written in
     let written = ap (λ run. json_tokens (run_json run)) (take_first rest behind first count cut) in
+    let so_far = c.run.new.self.tokens in
     record {
       before = c.in_ok-run.ensures.before ∙ c.loop-first.invariant.before;
       written =
-          subst (λ (spans : List PlainSpanData). c.run.new.self.tokens ++ list_tokens run_json (scope_runs spans) ≡ whole)
+          subst (λ (spans : List PlainSpanData). so_far ++ list_tokens run_json (scope_runs spans) ≡ whole)
           (sym (take_rest behind count))
           (first_written run_json (first ∷ take count behind) (scope_runs (drop count behind)) whole left
           (as_tokens written c.in_ok-run.ensures));

@@ -1,7 +1,8 @@
 -- One member after another.
 use Rattle.std.proofs.Common.{[], ◌∷◌, codes, ap}
 use Rattle.otel_otlp.specs.Fields.{fields_tokens}
-use Rattle.otel_otlp.specs.Otlp.{attributes_fields, or_empty, text_field}
+use Rattle.otel_otlp.specs.Otlp.{or_empty}
+use Rattle.otel_otlp.specs.OtlpValues.{attributes_fields, text_field}
 use Rattle.otel_otlp.proofs.Adding.{and_fields, as_object, as_tokens}
 use Rattle.otel_otlp.proofs.tokens.RequestWriter.scope.Goals as goal
 

@@ -5,4 +5,6 @@ use Rattle.otel_otlp.proofs.Adding.{item_more}
 use Rattle.otel_otlp.proofs.tokens.RequestWriter.span_items.Goals as goal
 
 pub loop-span-preserved : goal.loop-span-preserved
-loop-span-preserved c = item_more span_json c.args.spans.now c.loop-span.span-index c.span-item.result (omega arith) c.span-item.is c.loop-span.invariant c.in_ok-span.ensures
+loop-span-preserved c =
+    item_more span_json c.args.spans.now c.loop-span.span-index c.span-item.result (omega arith) c.span-item.is
+    c.loop-span.invariant c.in_ok-span.ensures

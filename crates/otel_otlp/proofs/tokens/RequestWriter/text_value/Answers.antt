@@ -3,4 +3,6 @@ use Rattle.otel_otlp.proofs.Adding.{and_then}
 use Rattle.otel_otlp.proofs.tokens.RequestWriter.text_value.Goals as goal
 
 pub returns : goal.returns
-returns c = and_then c.in_ok-begin_object.ensures (and_then c.in_ok-key.ensures (and_then c.in_ok-string.ensures (c.end_object.ensures)))
+returns c =
+    and_then c.in_ok-begin_object.ensures
+    (and_then c.in_ok-key.ensures (and_then c.in_ok-string.ensures c.end_object.ensures))
