@@ -24,6 +24,9 @@ fn has_scope_of(span: &SpanData, other: &SpanData) -> bool
     span.instrumentation_scope == other.instrumentation_scope
 }
 
+/// How many digits the longest id has.
+const ID_DIGITS: usize = 32;
+
 /// How many of the spans behind the first one are in its run.
 fn run_length(first: &SpanData, behind: &[SpanData]) -> usize
     ensures within { result ≤ length behind.now }
@@ -169,9 +172,10 @@ pub fn write_request(
         (document (otlp_text resource.now batch.now) ≡ Some (request resource.now batch.now)) }
     ensures err { OnErr result (out.new.items ≡ out.old.items) }
 {
+    let text = String::with_capacity(alloc, ID_DIGITS)?;
     let begun = out.len();
     let bytes = mem::replace(out, Vec::new(alloc));
-    let mut writer = RequestWriter::new(alloc, bytes);
+    let mut writer = RequestWriter::new(bytes, text);
     let written = writer.request(alloc, resource, batch);
     *out = writer.into_bytes();
     let ended = match written {

@@ -15,7 +15,7 @@ ghost use Rattle.otel_otlp.specs.OtlpValues.{moment_field, number_field, text_fi
 
 use json::Writer;
 use opentelemetry::{SpanId, TraceId};
-use std::alloc::{AllocError, Global};
+use std::alloc::AllocError;
 use std::fmt::Write;
 use std::marker::Model;
 
@@ -36,13 +36,13 @@ impl Model for RequestWriter {
 }
 
 impl RequestWriter {
-    /// It writes behind these bytes.
-    pub(crate) fn new(alloc: Global, bytes: Vec<u8>) -> RequestWriter
+    /// It writes behind these bytes. The text is room for that of an id.
+    pub(crate) fn new(bytes: Vec<u8>, text: String) -> RequestWriter
         ensures { result ≡ record { before = bytes.items; tokens = [] } }
     {
         RequestWriter {
             out: Writer::new(bytes),
-            text: String::new(alloc),
+            text,
         }
     }
 
