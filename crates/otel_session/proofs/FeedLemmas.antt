@@ -1,10 +1,8 @@
 -- What stands in the output behind replies, and behind a whole text.
 use Rattle.std.proofs.Common.{Ok, Err, Option, ◌≡◌, ℕ, List, [], ◌∷◌, ◌++◌, false, sym, ◌∙◌, ap, append-nil, append_assoc, inr}
 use Rattle.std.proofs.lemmas.List.Concat.{flat_map-append}
-use Rattle.otel_export.specs.PlainSpanData.{PlainSpanData}
 use Rattle.otel_lines.specs.PlainReply.{PlainReply, counts_refusals, NoneRefused}
 use Rattle.otel_lines.specs.ReplyForm.{Form, texts}
-use Rattle.otel_lines.specs.declared.reply.Answer.{Answer}
 use Rattle.otel_session.specs.Calls.{Calls}
 use Rattle.otel_session.specs.Closing.{Closes, Finishes}
 use Rattle.otel_session.specs.Fed.{Feeds, FeedsSome, FeedsUpTo, Writes}
@@ -18,13 +16,10 @@ pub written_same : (form : Form) (replies : List PlainReply) (before middle now 
     → middle ≡ before ++ texts form replies → now ≡ middle → now ≡ before ++ texts form replies
 written_same form replies before middle now h k = k ∙ h
 
--- a reply of these batches was written, in this form
-pub written_shown : (form same : Form) (answer : Answer) (batches read : List (List PlainSpanData)) (middle now : List ℕ)
-    → same ≡ form → read ≡ batches → now ≡ middle ++ same.reply (record { exported = read; answer = answer })
-    → now ≡ middle ++ form.reply (record { exported = batches; answer = answer })
-written_shown form same answer batches read middle now e f h =
-    h ∙ ap (λ (g : Form). middle ++ g.reply (record { exported = read; answer = answer })) e
-    ∙ ap (λ (bs : List (List PlainSpanData)). middle ++ form.reply (record { exported = bs; answer = answer })) f
+-- a reply was written in the same form
+pub written_in : (form same : Form) (reply : PlainReply) (middle now : List ℕ)
+    → same ≡ form → now ≡ middle ++ same.reply reply → now ≡ middle ++ form.reply reply
+written_in form same reply middle now e h = h ∙ ap (λ (g : Form). middle ++ g.reply reply) e
 
 -- one more reply was written
 pub written_more : (form : Form) (replies : List PlainReply) (reply : PlainReply) (before middle now : List ℕ)

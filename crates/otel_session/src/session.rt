@@ -304,10 +304,25 @@ impl<P: KeepsBatches, S: ShouldSample, G: IdGenerator> Session<P, S, G> {
             if answer.counts_refusals() {
                 return Err(FeedError::Refused);
             }
-            form.write_reply(output, self.unshown(), answer)?;
+            self.write_answer(form, answer, output)?;
             self.mark_shown();
         }
         Ok(())
+    }
+
+    /// Writes the reply of an answer, with the batches that no reply has shown, or nothing.
+    fn write_answer<F: ReplyForm>(
+        &self,
+        form: &mut F,
+        answer: Answer,
+        output: &mut Vec<u8>,
+    ) -> Result<(), AllocError>
+        ensures ok { OnOk result (output.new.items ≡ output.old.items ++ (F.form form.old).reply
+            (record { exported = unshown P.KeepsBatches.own self.now; answer = answer })) }
+        ensures err { OnErr result (output.new.items ≡ output.old.items) }
+        ensures form { F.form form.new ≡ F.form form.old }
+    {
+        form.write_reply(output, self.unshown(), answer)
     }
 
     /// Carries one command out. Where the first processor's exporter lost the batch of a span that it ended, it was

@@ -5,7 +5,7 @@ use Rattle.otel_session.specs.Calls.{calls_of}
 use Rattle.otel_session.specs.Fed.{WhyUnwritten, feed_error}
 use Rattle.otel_session.specs.Shown.{unshown}
 use Rattle.otel_session.specs.declared.session.FeedError.TheVariants as feeds
-use Rattle.otel_session.proofs.FeedLemmas.{none_refused_more, written_more, written_same, written_shown}
+use Rattle.otel_session.proofs.FeedLemmas.{none_refused_more, written_in, written_more, written_same}
 use Rattle.otel_session.proofs.RunLemmas.{ran_nothing, ran_all, ran_more, ran_stopped, stops_feed}
 use Rattle.otel_session.proofs.session.Session.run_and_write.Goals as goal
 
@@ -47,14 +47,14 @@ returns-then-counts_refusals-clause-err g c =
           });
     }
 
-pub returns-in_err-write_reply-clause-err : goal.returns-in_err-write_reply-clause-err
-returns-in_err-write_reply-clause-err g c =
+pub returns-in_err-write_answer-clause-err : goal.returns-in_err-write_answer-clause-err
+returns-in_err-write_answer-clause-err g c =
     let calls = calls_of g.P.SpanProcessor g.P.DrainDue g.P.KeepsBatches g.S.ShouldSample g.G.IdGenerator in
     let i = c.loop-command.invariant.1 in
-    let p = err_from_is_err_and c.from_residual-in_err-write_reply.result c.from_residual-in_err-write_reply.ensures.1 in
+    let p = err_from_is_err_and c.from_residual-in_err-write_answer.result c.from_residual-in_err-write_answer.ensures.1 in
     rw (p.1, p.2) (record {
       replies = i.replies;
-      written = written_same (g.F.ReplyForm.form c.args.form.now) i.replies c.args.output.now.items c.loop-command.output.items c.write_reply.new.output.items i.written c.in_err-write_reply.ensures.err;
+      written = written_same (g.F.ReplyForm.form c.args.form.now) i.replies c.args.output.now.items c.loop-command.output.items c.write_answer.new.output.items i.written c.in_err-write_answer.ensures.err;
       none_refused = i.none_refused;
       these = ran_stopped calls (WhyUnwritten calls feeds.Memory) c.args.self.now c.loop-command.self c.answer.new.self c.args.commands.items c.loop-command.queue.items c.pop_front.new.self.items i.replies c.in-Some.command c.in-Some.ensures.items i.these
           (record {
@@ -71,12 +71,11 @@ loop-command-preserved g c =
     let same = c.loop-command.invariant.0 in
     let form = g.F.ReplyForm.form c.args.form.now in
     let before = c.loop-command.output.items in
-    let now = c.write_reply.new.output.items in
+    let now = c.write_answer.new.output.items in
     let answer = c.in_ok-answer.answer in
-    let batches = unshown g.P.KeepsBatches c.answer.new.self in
-    let reply : PlainReply = record { exported = batches; answer = answer } in
-    let wrote = written_shown form _ answer batches _ before now same c.unshown.ensures c.in_ok-write_reply.ensures.ok in (
-      c.write_reply.ensures.form ∙ same,
+    let reply : PlainReply = record { exported = unshown g.P.KeepsBatches c.answer.new.self; answer = answer } in
+    let wrote = written_in form _ reply before now same c.in_ok-write_answer.ensures.ok in (
+      c.write_answer.ensures.form ∙ same,
       record {
         replies = i.replies ++ reply ∷ [];
         written = written_more form i.replies reply c.args.output.now.items before now i.written wrote;
