@@ -1,0 +1,6 @@
+//! Tests of `otel_otlp`.
+
+mod failures;
+mod lines;
+mod memory;
+mod processors;
