@@ -35,16 +35,22 @@ fn shut_twice<E: SpanExporter>(alloc: Global, exporter: &mut E) -> Result<[Strin
     Ok([before, first, behind, second])
 }
 
+/// The same of an exporter, and what it wrote.
+fn written_around_a_shutdown(alloc: Global) -> Result<([String; 4], Vec<u8>), AllocError> {
+    let mut exporter = OtlpJsonExporter::new(alloc, Vec::new(alloc));
+    let answers = shut_twice(alloc, &mut exporter)?;
+    Ok((answers, exporter.writer().clone()?))
+}
+
 #[test]
 fn behind_a_shutdown_nothing_is_written(rt: HostRuntime) -> Result<(), Fail> {
-    let mut exporter = OtlpJsonExporter::new(rt.alloc(), Vec::new(rt.alloc()));
-    let [before, first, behind, second] = shut_twice(rt.alloc(), &mut exporter)?;
+    let ([before, first, behind, second], written) = written_around_a_shutdown(rt.alloc())?;
     assert_eq!(rt; before.as_str(), "ok");
     assert_eq!(rt; first.as_str(), "ok");
     assert_eq!(rt; behind.as_str(), "Shutdown already invoked");
     assert_eq!(rt; second.as_str(), "Shutdown already invoked");
     let wanted = line(rt.alloc(), BARE, &["a"])?;
-    assert_eq!(rt; exporter.writer().as_slice(), wanted.as_bytes());
+    assert_eq!(rt; written.as_slice(), wanted.as_bytes());
     Ok(())
 }
 

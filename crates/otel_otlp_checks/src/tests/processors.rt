@@ -2,15 +2,11 @@
 
 use crate::tests::lines::{NAMED, line, resource, span};
 use opentelemetry_sdk::trace::{
-    BatchConfigBuilder, BatchSpanProcessor, ExporterBox, Processor, ProcessorOf,
-    SimpleSpanProcessor, SpanProcessor,
+    BatchConfigBuilder, BatchSpanProcessor, ProcessorOf, SimpleSpanProcessor, SpanProcessor,
 };
 use otel_base::error::{OTelSdkError, OTelSdkResult};
 use otel_otlp::OtlpJsonExporter;
 use std::alloc::{AllocError, Global};
-use std::cell::Cell;
-use std::io::{self, Write};
-use std::rc::Rc;
 use std::test::Fail;
 
 /// Lets spans of these names end.
@@ -86,42 +82,35 @@ fn a_batch_processor_writes_each_batch_up_to_a_shutdown(rt: HostRuntime) -> Resu
     Ok(())
 }
 
-/// Takes what is wanted of it, and notes how many bytes came; fails where others come.
-#[derive(Drop)]
-struct Comparing {
-    wanted: String,
-    taken: Rc<Cell<usize>>,
-}
+/// A processor of any of the SDK's kinds over the exporter.
+type LineProcessor = ProcessorOf<
+    OtlpJsonExporter<Vec<u8>>,
+    SimpleSpanProcessor<OtlpJsonExporter<Vec<u8>>>,
+>;
 
-impl Write for Comparing {
-    fn write(&mut self, buf: &[u8]) -> io::Result<usize> {
-        let rest = self.wanted.as_bytes().get(self.taken.get()..);
-        if !rest.is_some_and(|rest| rest.starts_with(buf)) {
-            return Err(io::ErrorKind::InvalidData.into());
-        }
-        self.taken.set(self.taken.get().saturating_add(buf.len()));
-        Ok(buf.len())
-    }
-
-    fn flush(&mut self) -> io::Result<()> {
-        Ok(())
+/// What was written by a processor that is simple.
+fn written_by(alloc: Global, processor: &LineProcessor) -> Result<Vec<u8>, AllocError> {
+    match processor {
+        ProcessorOf::Simple(simple) => simple.exporter().writer().clone(),
+        _ => Ok(Vec::new(alloc)),
     }
 }
 
-/// A processor of the SDK, before the exporter in a box.
-fn boxed(alloc: Global, wanted: String, taken: Rc<Cell<usize>>) -> Result<Processor, AllocError> {
-    let exporter = OtlpJsonExporter::new(alloc, Comparing { wanted, taken });
-    let exporter = ExporterBox::Custom(Box::new(alloc, exporter)?);
-    Ok(ProcessorOf::Simple(SimpleSpanProcessor::new(alloc, exporter)))
+/// What was written by one of the kinds, and whether all was well.
+fn by_kind(alloc: Global) -> Result<(Vec<u8>, bool), AllocError> {
+    let exporter = OtlpJsonExporter::new(alloc, Vec::new(alloc));
+    let mut processor: LineProcessor = ProcessorOf::Simple(SimpleSpanProcessor::new(
+        alloc, exporter,
+    ));
+    let is_well = run(alloc, &mut processor)?;
+    Ok((written_by(alloc, &processor)?, is_well))
 }
 
 #[test]
-fn a_processor_of_the_sdk_writes_by_an_exporter_in_a_box(rt: HostRuntime) -> Result<(), Fail> {
+fn a_processor_of_a_kind_writes_each_span_up_to_a_shutdown(rt: HostRuntime) -> Result<(), Fail> {
+    let (written, is_well) = by_kind(rt.alloc())?;
     let wanted = lines(rt.alloc(), &[&["a"], &["b"], &["c"]])?;
-    let count = wanted.len();
-    let taken = Rc::new(rt.alloc(), Cell::new(0))?;
-    let mut processor = boxed(rt.alloc(), wanted, taken.clone()?)?;
-    assert!(rt; run(rt.alloc(), &mut processor)?);
-    assert_eq!(rt; taken.get(), count);
+    assert_eq!(rt; written.as_slice(), wanted.as_bytes());
+    assert!(rt; is_well);
     Ok(())
 }
