@@ -1,6 +1,7 @@
 pub mod Baggage
 pub mod Carrier
 pub mod Hex
+pub mod Members
 pub mod Order
 pub mod Plain
 pub mod PlainContexts

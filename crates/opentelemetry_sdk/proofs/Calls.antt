@@ -6,13 +6,13 @@ use Rattle.std.proofs.lemmas.Bool.Decides.{eqb_tells}
 use Rattle.circular_buffer.proofs.Places.{slice_get-set_same}
 use Rattle.std.proofs.lemmas.List.Sums.{sum_by-append}
 use Rattle.std.specs.declared.alloc.AllocError.{AllocError}
-use Rattle.otel_base.specs.Resource.{PlainResource}
-use Rattle.otel_base.specs.declared.error.OTelSdkError.{OTelSdkError}
+use Rattle.otel_resource.specs.Resource.{PlainResource}
+use Rattle.otel_export.specs.declared.error.OTelSdkError.{OTelSdkError}
 use Rattle.otel_export.specs.PlainSpanData.{PlainSpanData, is_sampled}
 use Rattle.otel_export.specs.StoredBatches.{one_more}
 use Rattle.otel_export.specs.Telling.{Tells, and_then_told}
 use Rattle.otel_pipeline.specs.ProcessorTelling.{ProcessorTelling, CountsUp, HandsOver, HearsNothing, TakesNothing, TakesSpan, spans_told}
-use Rattle.otel_base.specs.declared.error.OTelSdkError.TheVariants.{AlreadyShutdown}
+use Rattle.otel_export.specs.declared.error.OTelSdkError.TheVariants.{AlreadyShutdown}
 use Rattle.otel_pipeline.specs.Provider.{IsInternalFailure}
 use Rattle.otel_batch.specs.Slots.{is_answered, is_idle, slot_waits}
 use Rattle.otel_batch.specs.Messages.{message_names, message_of}

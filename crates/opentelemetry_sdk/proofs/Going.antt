@@ -1,6 +1,6 @@
 -- Runs by a next step, one step more at a time, and as runs of the queue.
 use Rattle.std.proofs.Common.{◌≡◌, refl, List, [], ◌∷◌, ◌++◌, Option, Some}
-use Rattle.otel_base.specs.declared.error.OTelSdkError.{OTelSdkError}
+use Rattle.otel_export.specs.declared.error.OTelSdkError.{OTelSdkError}
 use Rattle.otel_batch.specs.MachineState.{Control, Machine}
 use Rattle.otel_batch.specs.MachineRun.{Run, Stepped}
 use Rattle.otel_batch.specs.declared.machine.step.Outcome.{Outcome}

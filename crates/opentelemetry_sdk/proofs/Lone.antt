@@ -3,8 +3,8 @@ use Rattle.std.proofs.Common.{◌≡◌, ◌∙◌, inl, inr, refl, ap, sym, ℕ
 use Rattle.std.proofs.lemmas.Bool.Decides.{eqb_tells}
 use Rattle.std.proofs.Math.ListN.{length-set}
 use Rattle.circular_buffer.proofs.Places.{slice_get-set_same, slice_get-set_other}
-use Rattle.otel_base.specs.declared.error.OTelSdkError.{OTelSdkError}
-use Rattle.otel_base.specs.declared.error.OTelSdkError.TheVariants.{OutOfMemory}
+use Rattle.otel_export.specs.declared.error.OTelSdkError.{OTelSdkError}
+use Rattle.otel_export.specs.declared.error.OTelSdkError.TheVariants.{OutOfMemory}
 use Rattle.otel_batch.specs.Slots.{is_answered}
 use Rattle.otel_batch.specs.Workers.{is_ready, is_gone, is_draining, is_finishing, is_closing, worker_counts}
 use Rattle.otel_batch.specs.MachineState.{Machine, Counts, counts, limit_of}

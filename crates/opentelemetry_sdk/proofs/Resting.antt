@@ -2,7 +2,7 @@
 use Rattle.std.proofs.Common.{◌≡◌, ◌⊎◌, ◌∙◌, inl, inr, refl, ap, sym, ℕ, zero, suc, ◌||◌, ◌&&◌, ◌==◌, Bool, true, false, List, [], ◌∷◌, ◌++◌, Option, Some, None, length, slice_get, append_assoc, append-nil, arith}
 use Rattle.std.proofs.lemmas.Bool.Decides.{eqb_tells}
 use Rattle.std.proofs.lemmas.List.Concat.{flat_map-append}
-use Rattle.otel_base.specs.declared.error.OTelSdkError.{OTelSdkError}
+use Rattle.otel_export.specs.declared.error.OTelSdkError.{OTelSdkError}
 use Rattle.otel_export.specs.PlainSpanData.{PlainSpanData, spans_in}
 use Rattle.otel_export.specs.Telling.{Tells, and_then_told}
 use Rattle.otel_pipeline.specs.ProcessorTelling.{spans_told}

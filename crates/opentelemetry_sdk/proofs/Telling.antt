@@ -2,8 +2,8 @@
 use Rattle.std.proofs.Common.{◌≡◌, ◌∙◌, inl, inr, refl, ap, sym, ℕ, true, false, List, [], ◌∷◌, Option, Some, None, Result, length, slice_get, slice_set, arith}
 use Rattle.std.proofs.lemmas.Bool.Decides.{eqb_tells}
 use Rattle.circular_buffer.proofs.Places.{slice_get-set_same, slice_get-set_other}
-use Rattle.otel_base.specs.declared.error.OTelSdkError.{OTelSdkError}
-use Rattle.otel_base.specs.declared.error.OTelSdkError.TheVariants.{OutOfMemory}
+use Rattle.otel_export.specs.declared.error.OTelSdkError.{OTelSdkError}
+use Rattle.otel_export.specs.declared.error.OTelSdkError.TheVariants.{OutOfMemory}
 use Rattle.otel_batch.specs.Slots.{is_answered}
 use Rattle.otel_batch.specs.MachineState.{Machine, Counts, counts}
 use Rattle.otel_batch.specs.SoundMachine.{IsSound}

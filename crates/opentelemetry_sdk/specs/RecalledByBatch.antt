@@ -1,7 +1,7 @@
 -- The requests and the worker of a batch processor over an exporter whose batches are recalled: they do the same.
 use Rattle.std.specs.Prelude.{◌≡◌, ℕ, Bool, true, false, List, [], ◌∷◌, Result, MatchBool}
 use Rattle.std.proofs.Common.{ap, sym, subst}
-use Rattle.otel_base.specs.declared.error.OTelSdkError.{OTelSdkError}
+use Rattle.otel_export.specs.declared.error.OTelSdkError.{OTelSdkError}
 use Rattle.otel_export.specs.PlainSpanData.{PlainSpanData}
 use Rattle.otel_export.specs.RecalledBatches.{ExporterRecalls}
 use Rattle.otel_export.specs.declared.trace.export.SpanExporter.{Ghosts}

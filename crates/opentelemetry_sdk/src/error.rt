@@ -1,3 +1,3 @@
 //! How calls fail.
 
-pub use otel_base::error::{ExportError, OTelSdkError, OTelSdkResult};
+pub use otel_export::error::{ExportError, OTelSdkError, OTelSdkResult};

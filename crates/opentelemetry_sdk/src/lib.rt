@@ -7,4 +7,4 @@ pub mod propagation;
 pub mod resource;
 pub mod trace;
 
-pub use otel_base::Resource;
+pub use otel_resource::Resource;

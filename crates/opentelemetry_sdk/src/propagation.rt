@@ -1,5 +1,5 @@
 //! What carries span contexts and baggages in headers.
 
-pub use otel_base::propagation::{
+pub use otel_propagation::propagation::{
     BaggagePropagator, CompositePropagator, FieldsError, TraceContextPropagator,
 };

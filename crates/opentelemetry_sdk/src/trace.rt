@@ -5,11 +5,6 @@ mod batch_worker;
 pub mod processor;
 
 pub use batch_span_processor::{BatchSpanProcessor, BatchSpanProcessorBuilder};
-pub use otel_base::trace::{
-    BatchStrings, Config, ConfigOf, ConfigStrings, IdGenerator, IdSource, IdSourceOf,
-    RandomIdGenerator, Ratio, RatioError, Sampler, SamplerOf, SamplingDecision, SamplingResult,
-    ShouldSample, SpanLimits,
-};
 pub use otel_batch::machine::BatchMachine;
 pub use otel_batch::trace::{
     BatchConfig, BatchConfigBuilder, OTEL_BSP_EXPORT_TIMEOUT, OTEL_BSP_EXPORT_TIMEOUT_DEFAULT,
@@ -25,6 +20,11 @@ pub use otel_kept::KeepsBatches;
 pub use otel_pipeline::trace::{
     CloseReport, DrainDue, LeavesSpans, OverExporter, ProviderBuilderOf, ProviderOf, SdkTracer,
     SimpleSpanProcessor, Span, SpanEdit, SpanProcessor,
+};
+pub use otel_sampling::trace::{
+    BatchStrings, Config, ConfigOf, ConfigStrings, IdGenerator, IdSource, IdSourceOf,
+    RandomIdGenerator, Ratio, RatioError, Sampler, SamplerOf, SamplingDecision, SamplingResult,
+    ShouldSample, SpanLimits,
 };
 pub use processor::{Processor, ProcessorOf};
 

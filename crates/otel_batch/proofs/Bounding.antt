@@ -5,8 +5,8 @@ use Rattle.otel_batch.specs.Workers.{is_draining, worker_counts}
 use Rattle.otel_batch.specs.MachineState.{Machine, Counts, Control, counts, batch_limit, limit_of}
 use Rattle.otel_batch.specs.SoundMachine.{IsSound}
 use Rattle.otel_batch.specs.PermittedStep.{Permitted, PullRow, HandOverRow, SubtractRow, FinishRow, FinishRowFor, finished, put_slot}
-use Rattle.otel_base.specs.declared.error.OTelSdkError.{OTelSdkError}
-use Rattle.otel_base.specs.declared.error.OTelSdkError.TheVariants.{OutOfMemory}
+use Rattle.otel_export.specs.declared.error.OTelSdkError.{OTelSdkError}
+use Rattle.otel_export.specs.declared.error.OTelSdkError.TheVariants.{OutOfMemory}
 use Rattle.otel_batch.specs.declared.machine.state.Slot.TheVariants as slot
 use Rattle.otel_batch.specs.declared.machine.state.Why.{Why}
 use Rattle.otel_batch.specs.declared.machine.state.Why.TheVariants as why

@@ -2,7 +2,7 @@
 use Rattle.std.proofs.Common.{◌≡◌, inl, inr, ◌∙◌, ap, refl, zero, suc, ℕ, ◌<◌, true, List, [], ◌∷◌, length, Some, None, Result, slice_get, slice_set, arith}
 use Rattle.std.proofs.lemmas.Option.{slice_get_within}
 use Rattle.circular_buffer.proofs.Places.{slice_get-set_same}
-use Rattle.otel_base.specs.declared.error.OTelSdkError.{OTelSdkError}
+use Rattle.otel_export.specs.declared.error.OTelSdkError.{OTelSdkError}
 use Rattle.otel_batch.specs.Slots.{slot_waits}
 use Rattle.otel_batch.specs.Workers.{is_gone}
 use Rattle.otel_batch.specs.MachineState.{Machine, Counts, counts}

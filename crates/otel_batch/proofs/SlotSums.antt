@@ -7,7 +7,7 @@ use Rattle.std.proofs.lemmas.Bool.Decides.{eqb_tells}
 use Rattle.otel_batch.specs.declared.machine.state.Request.{Request}
 use Rattle.otel_batch.specs.declared.machine.state.Message.TheVariants as message
 use Rattle.otel_batch.specs.declared.machine.state.Request.TheVariants as request
-use Rattle.otel_base.specs.declared.error.OTelSdkError.{OTelSdkError}
+use Rattle.otel_export.specs.declared.error.OTelSdkError.{OTelSdkError}
 use Rattle.otel_batch.specs.Slots.{slot_counts, slot_asks, is_holding, is_answered}
 use Rattle.otel_batch.specs.Workers.{why_names}
 use Rattle.otel_batch.specs.Messages.{message_of, message_asks, message_names}

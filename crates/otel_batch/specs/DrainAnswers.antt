@@ -2,8 +2,8 @@
 use Rattle.std.specs.Prelude.{◌≡◌, ℕ, suc, Bool, true, false, take, drop, List, [], ◌∷◌, Option, Some, None, Result}
 use Rattle.std.specs.Prelude.{Err, slice_get}
 use Rattle.std.specs.Result.{result_err}
-use Rattle.otel_base.specs.declared.error.OTelSdkError.{OTelSdkError}
-use Rattle.otel_base.specs.declared.error.OTelSdkError.TheVariants.{OutOfMemory}
+use Rattle.otel_export.specs.declared.error.OTelSdkError.{OTelSdkError}
+use Rattle.otel_export.specs.declared.error.OTelSdkError.TheVariants.{OutOfMemory}
 use Rattle.otel_batch.specs.MachineState.{Machine, Counts, counts}
 use Rattle.otel_batch.specs.PermittedStep.{IsErrorOf, slot_at}
 use Rattle.otel_batch.specs.MachineRun.{Run}

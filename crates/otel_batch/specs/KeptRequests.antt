@@ -1,7 +1,7 @@
 -- No request to the worker of a batch queue is lost: who waits goes on waiting until an answer that is its own, and has
 -- that answer until it collects it.
 use Rattle.std.specs.Prelude.{◌≡◌, ℕ, ◌<◌, ◌⊎◌, true, Some, Result, sum_by}
-use Rattle.otel_base.specs.declared.error.OTelSdkError.{OTelSdkError}
+use Rattle.otel_export.specs.declared.error.OTelSdkError.{OTelSdkError}
 use Rattle.otel_batch.specs.Slots.{is_answered}
 use Rattle.otel_batch.specs.Messages.{message_names}
 use Rattle.otel_batch.specs.Workers.{worker_names}

@@ -1,7 +1,7 @@
 -- Along a run of the batch queue no request is lost: at each point it is in the control queue, with the worker, or
 -- answered, one of the three, up to the step that collects its answer.
 use Rattle.std.specs.Prelude.{◌≡◌, ℕ, suc, ◌+◌, ◌⊎◌, List, [], ◌∷◌, take, drop, Some, Result, slice_get, sum_by}
-use Rattle.otel_base.specs.declared.error.OTelSdkError.{OTelSdkError}
+use Rattle.otel_export.specs.declared.error.OTelSdkError.{OTelSdkError}
 use Rattle.otel_batch.specs.Messages.{message_names}
 use Rattle.otel_batch.specs.Workers.{worker_names}
 use Rattle.otel_batch.specs.MachineState.{Machine, Counts, counts}

@@ -1,7 +1,7 @@
 -- The state of a batch queue with its producers, its worker and its exporter.
 use Rattle.std.specs.Prelude.{ℕ, ◌-◌, ◌==◌, Bool, false, min, List, [], length, replicate, Option, Some, None}
 use Rattle.std.specs.Prelude.{Result, Ok, if◌then◌else◌}
-use Rattle.otel_base.specs.declared.error.OTelSdkError.{OTelSdkError}
+use Rattle.otel_export.specs.declared.error.OTelSdkError.{OTelSdkError}
 use Rattle.otel_export.specs.PlainSpanData.{PlainSpanData}
 use Rattle.otel_batch.specs.PlainBatchConfig.{PlainBatchConfig}
 use Rattle.otel_batch.specs.declared.machine.state.Slot.{Slot}

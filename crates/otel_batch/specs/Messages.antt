@@ -1,6 +1,6 @@
 -- The messages of the control queue.
 use Rattle.std.specs.Prelude.{ℕ, ◌==◌, Bool, true, false, Option, Some, if◌then◌else◌}
-use Rattle.otel_base.specs.Resource.{PlainResource, empty_resource}
+use Rattle.otel_resource.specs.Resource.{PlainResource, empty_resource}
 use Rattle.otel_batch.specs.declared.machine.state.Message.{Message}
 use Rattle.otel_batch.specs.declared.machine.state.Message.TheVariants as message
 use Rattle.otel_batch.specs.declared.machine.state.Request.{Request}

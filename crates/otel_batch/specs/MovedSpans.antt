@@ -1,6 +1,6 @@
 -- Where the spans go in one step of the batch queue, and what the exporter is asked.
 use Rattle.std.specs.Prelude.{◌≡◌, ℕ, [], ◌∷◌, ◌++◌, Option, Result, slice_get}
-use Rattle.otel_base.specs.declared.error.OTelSdkError.{OTelSdkError}
+use Rattle.otel_export.specs.declared.error.OTelSdkError.{OTelSdkError}
 use Rattle.otel_export.specs.Telling.{Tells}
 use Rattle.otel_batch.specs.Slots.{held}
 use Rattle.otel_batch.specs.Messages.{resource_in}

@@ -1,6 +1,6 @@
 -- How a batch processor is configured (OpenTelemetry specification, "Batching processor").
 use Rattle.std.specs.Prelude.{◌≡◌, ℕ, ◌*◌, List, Option, min}
-use Rattle.otel_base.specs.ConfigStrings.{PlainBatchStrings, IsConfiguredNumber}
+use Rattle.otel_sampling.specs.ConfigStrings.{PlainBatchStrings, IsConfiguredNumber}
 
 -- its sizes in spans, its times in nanoseconds
 pub record PlainBatchConfig : Type 0 where

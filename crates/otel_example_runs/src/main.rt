@@ -4,7 +4,7 @@
 //! else what it wrote.
 #![tactic(auto)]
 
-use otel_program::run_program;
+use otel_trace_run::run_program;
 use std::alloc::{AllocError, Global};
 use std::io::Write;
 use std::{fs, io};

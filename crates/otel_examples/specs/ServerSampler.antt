@@ -4,8 +4,8 @@ use Rattle.opentelemetry.specs.Plain.{PlainContext, PlainKeyValue, boolean}
 use Rattle.opentelemetry.specs.PlainContexts.{current_span_context}
 use Rattle.opentelemetry.specs.declared.trace.span_kind.SpanKind.{SpanKind}
 use Rattle.opentelemetry.specs.declared.trace.span_kind.SpanKind.TheVariants as kinds
-use Rattle.otel_base.specs.Sampling.{PlainSamplingResult}
-use Rattle.otel_base.specs.declared.trace.sampler.SamplingDecision.TheVariants as decisions
+use Rattle.otel_sampling.specs.Sampling.{PlainSamplingResult}
+use Rattle.otel_sampling.specs.declared.trace.sampler.SamplingDecision.TheVariants as decisions
 
 -- the trace state of the active span; the empty one where there is no context
 abbrev pub parent_state : Option PlainContext → List (List ℕ × List ℕ)

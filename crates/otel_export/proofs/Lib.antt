@@ -1,1 +1,2 @@
+pub mod FractionLemmas
 pub mod Tellings

@@ -1,3 +1,4 @@
+pub mod ErrorText
 pub mod PlainSpanData
 pub mod SameSpanData
 pub mod StoredBatches

@@ -1,4 +1,5 @@
-//! The data of ended spans, and the exporters that take it.
+//! The data of ended spans, the exporters that take it, and how their calls fail.
 #![tactic(auto)]
 
+pub mod error;
 pub mod trace;

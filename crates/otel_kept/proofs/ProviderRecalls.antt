@@ -6,11 +6,11 @@ use Rattle.std.specs.declared.alloc.AllocError.{AllocError}
 use Rattle.opentelemetry.specs.Plain.{PlainContext, PlainScope}
 use Rattle.opentelemetry.specs.PlainContexts.{empty_span_context}
 use Rattle.opentelemetry.specs.PlainSpanBuilder.{PlainSpanBuilder}
-use Rattle.otel_base.specs.declared.trace.sampler.ShouldSample as sampling
-use Rattle.otel_base.specs.declared.trace.sampler.SamplingDecision.{SamplingDecision}
-use Rattle.otel_base.specs.declared.trace.sampler.SamplingDecision.TheVariants as decisions
-use Rattle.otel_base.specs.declared.trace.id_generator.IdGenerator as drawing
-use Rattle.otel_base.specs.declared.error.OTelSdkError.{OTelSdkError}
+use Rattle.otel_sampling.specs.declared.trace.sampler.ShouldSample as sampling
+use Rattle.otel_sampling.specs.declared.trace.sampler.SamplingDecision.{SamplingDecision}
+use Rattle.otel_sampling.specs.declared.trace.sampler.SamplingDecision.TheVariants as decisions
+use Rattle.otel_sampling.specs.declared.trace.id_generator.IdGenerator as drawing
+use Rattle.otel_export.specs.declared.error.OTelSdkError.{OTelSdkError}
 use Rattle.otel_export.specs.PlainSpanData.{PlainSpanData, is_sampled, spans_in}
 use Rattle.otel_export.specs.Telling.{Tells}
 use Rattle.otel_pipeline.specs.ProcessorTelling.{ProcessorTelling, TakesNothing, TakesSpan, HandsOver, HearsNothing, HearsOne, DropsOne}

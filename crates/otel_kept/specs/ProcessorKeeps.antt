@@ -3,7 +3,7 @@ use Rattle.std.specs.Prelude.{◌≡◌, ◌&&◌, not, ℕ, List, [], ◌∷◌
 use Rattle.std.specs.declared.alloc.AllocError.{AllocError}
 use Rattle.std.proofs.Common.{ap}
 use Rattle.opentelemetry.specs.Plain.{PlainContext}
-use Rattle.otel_base.specs.declared.error.OTelSdkError.{OTelSdkError}
+use Rattle.otel_export.specs.declared.error.OTelSdkError.{OTelSdkError}
 use Rattle.otel_export.specs.KeptBatches.{Grows, nothing_more}
 use Rattle.otel_export.specs.PlainSpanData.{PlainSpanData, is_sampled}
 use Rattle.otel_export.specs.declared.trace.export.SpanExporter as exporting

@@ -4,7 +4,7 @@ use Rattle.std.specs.Prelude.{Ok, Err, refl}
 use Rattle.std.specs.declared.alloc.AllocError.{AllocError}
 use Rattle.std.proofs.Common.{ap, sym, subst, ◌∙◌}
 use Rattle.std.proofs.lemmas.List.Concat.{flat_map-append}
-use Rattle.otel_base.specs.declared.error.OTelSdkError.{OTelSdkError}
+use Rattle.otel_export.specs.declared.error.OTelSdkError.{OTelSdkError}
 use Rattle.otel_export.specs.PlainSpanData.{PlainSpanData, is_sampled, spans_in}
 use Rattle.otel_export.specs.RecalledBatches.{ExporterRecalls, told_behind}
 use Rattle.otel_export.specs.RecalledKinds.{exporter_tells_behind, exporter_tells_same}

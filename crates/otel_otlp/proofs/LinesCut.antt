@@ -3,7 +3,7 @@ use Rattle.std.proofs.Common.{◌≡◌, ◌≢◌, ◌==◌, ℕ, false, cond, 
 use Rattle.std.proofs.Common.{append_assoc}
 use Rattle.std.specs.List.{onto_first, slice_split}
 use Rattle.std.proofs.lemmas.Bool.Decides.{nat_tests}
-use Rattle.otel_base.specs.Resource.{PlainResource}
+use Rattle.otel_resource.specs.Resource.{PlainResource}
 use Rattle.otel_export.specs.PlainSpanData.{PlainSpanData}
 use Rattle.otel_otlp.specs.Otlp.{otlp_lines, otlp_text}
 use Rattle.otel_otlp.proofs.Unbroken.{NoFeed, text_no_feed}

@@ -10,7 +10,7 @@ use Rattle.json.specs.Tree.{depth, json_tokens}
 use Rattle.json.proofs.Printed.Trees.{document-print, value-json_tokens}
 use Rattle.opentelemetry.specs.Plain.{PlainEvent, PlainKeyValue, PlainLink}
 use Rattle.opentelemetry.specs.Plain.{PlainValue, boolean, integer, text, booleans, integers, texts}
-use Rattle.otel_base.specs.Resource.{PlainResource}
+use Rattle.otel_resource.specs.Resource.{PlainResource}
 use Rattle.otel_export.specs.PlainSpanData.{PlainSpanData}
 use Rattle.otel_otlp.specs.Fields.{list_json}
 use Rattle.otel_otlp.specs.Fits.{SpanFits}

@@ -12,7 +12,7 @@ use Rattle.json.specs.Token.{Token}
 use Rattle.json.specs.Tree.{items_tokens, json_tokens, members_tokens}
 use Rattle.opentelemetry.specs.Plain.{PlainEvent, PlainKeyValue, PlainLink, PlainScope, PlainStatus, PlainValue}
 use Rattle.opentelemetry.specs.Plain.{boolean, integer, text, booleans, integers, texts}
-use Rattle.otel_base.specs.Resource.{PlainResource}
+use Rattle.otel_resource.specs.Resource.{PlainResource}
 use Rattle.otel_export.specs.PlainSpanData.{PlainSpanData}
 use Rattle.otel_otlp.specs.Fields.{Field, items_of, list_json, members_of, object_json}
 use Rattle.otel_otlp.specs.Otlp.{code_number, event_fields, event_json, events_fields, flags_of, identity_fields}

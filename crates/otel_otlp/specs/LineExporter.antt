@@ -3,9 +3,9 @@ use Rattle.std.specs.Prelude.{◌≡◌, ◌⊎◌, ℕ, Bool, true, false, List
 use Rattle.std.specs.Prelude.{if◌then◌else◌}
 use Rattle.std.specs.Bool.{MatchBool}
 use Rattle.std.specs.Io.KnownBytes.{Appends}
-use Rattle.otel_base.specs.Resource.{PlainResource}
-use Rattle.otel_base.specs.declared.error.OTelSdkError.{OTelSdkError}
-use Rattle.otel_base.specs.declared.error.OTelSdkError.TheVariants as errors
+use Rattle.otel_resource.specs.Resource.{PlainResource}
+use Rattle.otel_export.specs.declared.error.OTelSdkError.{OTelSdkError}
+use Rattle.otel_export.specs.declared.error.OTelSdkError.TheVariants as errors
 use Rattle.otel_export.specs.PlainSpanData.{PlainSpanData}
 use Rattle.otel_otlp.specs.Otlp.{otlp_line}
 use Rattle.otel_otlp.specs.Streams.{AppendsBeginning}

@@ -12,7 +12,7 @@ use Rattle.opentelemetry.specs.Plain.{unset, error, ok}
 use Rattle.opentelemetry.specs.Tracestate.{tracestate_text}
 use Rattle.opentelemetry.specs.declared.trace.span_kind.SpanKind.{SpanKind}
 use Rattle.opentelemetry.specs.declared.trace.span_kind.SpanKind.TheVariants as kinds
-use Rattle.otel_base.specs.Resource.{PlainResource}
+use Rattle.otel_resource.specs.Resource.{PlainResource}
 use Rattle.otel_export.specs.PlainSpanData.{PlainSpanData, PlainSpanEvents, PlainSpanLinks}
 use Rattle.otel_otlp.specs.Fields.{Field, list_json, object_json}
 use Rattle.otel_otlp.specs.OtlpValues.{attributes_fields, moment_field, number_field, pair_json, single, text_field}

@@ -4,7 +4,7 @@ use Rattle.std.specs.Prelude.{ℕ, false, List, [], ◌∷◌, Some, map}
 use Rattle.std.specs.FinMap.{entries}
 use Rattle.opentelemetry.specs.Plain.{PlainEvent, PlainKeyValue, PlainLink, PlainScope}
 use Rattle.opentelemetry.specs.Plain.{PlainValue, boolean, integer, text, booleans, integers, texts}
-use Rattle.otel_base.specs.Resource.{PlainResource}
+use Rattle.otel_resource.specs.Resource.{PlainResource}
 use Rattle.otel_export.specs.PlainSpanData.{PlainSpanData}
 use Rattle.otel_otlp.specs.Otlp.{or_empty}
 

@@ -1,14 +1,14 @@
 //! The exporter that writes each batch as a line.
 
 ghost use Rattle.std.specs.Prelude.{◌≡◌, ◌++◌, OnErr, OnOk, Some, if◌then◌else◌, ◌∷◌, []};
-ghost use Rattle.otel_base.specs.Resource.{empty_resource};
+ghost use Rattle.otel_resource.specs.Resource.{empty_resource};
 ghost use Rattle.otel_otlp.specs.LineExporter.{IsInternalFailure, Sends, new_exporter, next_line};
 
 use crate::request::write_request;
 use crate::stream::write_whole;
-use otel_base::error::{OTelSdkError, OTelSdkResult};
-use otel_base::resource::Resource;
+use otel_export::error::{OTelSdkError, OTelSdkResult};
 use otel_export::trace::{SpanData, SpanExporter};
+use otel_resource::resource::Resource;
 use std::alloc::{AllocError, Global};
 use std::io;
 use std::io::Write;
@@ -31,7 +31,7 @@ pub struct OtlpJsonExporter<W> {
 
 impl<W> Model for OtlpJsonExporter<W> {
     ghost use Rattle.std.specs.Coded.{codes};
-    ghost use Rattle.otel_base.specs.Resource.{resource_code};
+    ghost use Rattle.otel_resource.specs.Resource.{resource_code};
     ghost use Rattle.otel_otlp.specs.LineExporter.{LineExporter};
 
     ghost Value = { LineExporter W };

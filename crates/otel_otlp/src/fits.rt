@@ -11,8 +11,8 @@ ghost use Rattle.otel_otlp.specs.Fits.{ResourceFits, SpanFits, ValueFits};
 use opentelemetry::laws::span_contexts_fit;
 use opentelemetry::trace::{Event, Link, SpanContext};
 use opentelemetry::{Array, KeyValue, SpanId, TraceFlags, Value};
-use otel_base::resource::Resource;
 use otel_export::trace::SpanData;
+use otel_resource::resource::Resource;
 
 fn integers_fit(numbers: &[i64])
     ensures { AllByRecursion (FitsSigned w64) numbers.now }

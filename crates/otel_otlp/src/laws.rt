@@ -4,7 +4,7 @@
 ghost use Rattle.std.specs.Prelude.{◌≡◌, ◌==◌, ◌++◌, ◌∷◌, [], List, Some, map};
 ghost use Rattle.std.specs.List.{AllByRecursion, slice_split};
 ghost use Rattle.json.specs.Json.{document};
-ghost use Rattle.otel_base.specs.Resource.{PlainResource};
+ghost use Rattle.otel_resource.specs.Resource.{PlainResource};
 ghost use Rattle.otel_export.specs.PlainSpanData.{PlainSpanData, spans_in};
 ghost use Rattle.otel_otlp.specs.Fits.{ResourceFits, SpanFits};
 ghost use Rattle.otel_otlp.specs.Otlp.{otlp_line, otlp_lines, otlp_text, request};

@@ -12,8 +12,8 @@ ghost use Rattle.otel_otlp.specs.ScopeRuns.{run_scope, scope_runs};
 
 use crate::tokens::RequestWriter;
 use opentelemetry::InstrumentationScope;
-use otel_base::resource::Resource;
 use otel_export::trace::SpanData;
+use otel_resource::resource::Resource;
 use std::alloc::{AllocError, Global};
 use std::mem;
 

@@ -6,16 +6,16 @@ use Rattle.std.proofs.lemmas.List.Elements.{All-nil, All-cons}
 use Rattle.opentelemetry.specs.Plain.{PlainScope, PlainContext, PlainSpanContext}
 use Rattle.opentelemetry.specs.PlainContexts.{current_span_context, empty_span_context}
 use Rattle.opentelemetry.specs.PlainSpanBuilder.{PlainSpanBuilder}
-use Rattle.otel_base.specs.Agreement.{Agrees}
-use Rattle.otel_base.specs.Sampler.{SamplerPlan, active_in, built_in, by_parent, parent_based, parent_decision, sampler_answer}
-use Rattle.otel_base.specs.Sampling.{SamplingQuestion, PlainSamplingResult}
-use Rattle.otel_base.specs.declared.trace.id_generator.IdGenerator as drawing
-use Rattle.otel_base.specs.declared.trace.sampler.SamplingDecision.{SamplingDecision}
-use Rattle.otel_base.specs.declared.trace.sampler.SamplingDecision.TheVariants as decisions
-use Rattle.otel_base.specs.declared.trace.sampler.ShouldSample as sampling
+use Rattle.otel_sampling.specs.Agreement.{Agrees}
+use Rattle.otel_sampling.specs.Sampler.{SamplerPlan, active_in, built_in, by_parent, parent_based, parent_decision, sampler_answer}
+use Rattle.otel_sampling.specs.Sampling.{SamplingQuestion, PlainSamplingResult}
+use Rattle.otel_sampling.specs.declared.trace.id_generator.IdGenerator as drawing
+use Rattle.otel_sampling.specs.declared.trace.sampler.SamplingDecision.{SamplingDecision}
+use Rattle.otel_sampling.specs.declared.trace.sampler.SamplingDecision.TheVariants as decisions
+use Rattle.otel_sampling.specs.declared.trace.sampler.ShouldSample as sampling
 use Rattle.opentelemetry.specs.Tracestate.{ArePairs}
-use Rattle.otel_base.specs.Traceparent.{IsSpanContext, IsValid, remote_copy}
-use Rattle.otel_base.proofs.TraceparentLemmas.{injected_carries}
+use Rattle.otel_propagation.specs.Traceparent.{IsSpanContext, IsValid, remote_copy}
+use Rattle.otel_propagation.proofs.TraceparentLemmas.{injected_carries}
 use Rattle.otel_pipeline.specs.Hops.{AreDrawnHops, AreHops, GoesByParents, IsChild, IsDrawnChild, IsPassedOn, IsReceived}
 use Rattle.otel_pipeline.specs.Provider.{ProviderState}
 use Rattle.otel_pipeline.specs.SpanHistory.{SpanHistory, SpanStart, over, span_of}

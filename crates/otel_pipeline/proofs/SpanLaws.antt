@@ -9,7 +9,7 @@ use Rattle.std.proofs.lemmas.Grind.{flat_map-append}
 use Rattle.opentelemetry.specs.Plain.{PlainKeyValue, PlainSpanContext, PlainEvent, PlainLink, PlainStatus, unset}
 use Rattle.opentelemetry.specs.Order.{greater_status, greatest_status}
 use Rattle.opentelemetry.proofs.StatusLaws.{greatest_in_any_order}
-use Rattle.otel_base.specs.declared.trace.span_limit.SpanLimits.{SpanLimits}
+use Rattle.otel_sampling.specs.declared.trace.span_limit.SpanLimits.{SpanLimits}
 use Rattle.otel_export.specs.PlainSpanData.{PlainSpanData, PlainSpanEvents, PlainSpanLinks, cut_at, left_out}
 use Rattle.otel_pipeline.specs.SpanHistory.{PlainSpan, SpanStart, Edit, set_attribute, add_event, add_link, set_status, update_name, attribute_in, event_in, link_in, status_in, name_in, last_name, event_within, link_within, events_within, links_within, data_of, recording, grown_within, left_out_with, edited, edited_if, after, IsEdited, ended, not_recording, statuses_set, SpanHistory, begun, over, span_of, HasHistory}
 

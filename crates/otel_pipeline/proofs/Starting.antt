@@ -3,11 +3,11 @@ use Rattle.std.proofs.Common.{◌≡◌, ◌≢◌, ℕ, Bool, true, false, ◌|
 use Rattle.opentelemetry.specs.Plain.{PlainScope, PlainContext}
 use Rattle.opentelemetry.specs.PlainContexts.{current_span_context, empty_span_context}
 use Rattle.opentelemetry.specs.PlainSpanBuilder.{PlainSpanBuilder}
-use Rattle.otel_base.specs.declared.trace.sampler.SamplingDecision.{SamplingDecision}
-use Rattle.otel_base.specs.declared.trace.sampler.SamplingDecision.TheVariants as decisions
-use Rattle.otel_base.specs.declared.trace.sampler.ShouldSample as sampling
-use Rattle.otel_base.specs.declared.trace.id_generator.IdGenerator as drawing
-use Rattle.otel_base.specs.Sampling.{PlainSamplingResult}
+use Rattle.otel_sampling.specs.declared.trace.sampler.SamplingDecision.{SamplingDecision}
+use Rattle.otel_sampling.specs.declared.trace.sampler.SamplingDecision.TheVariants as decisions
+use Rattle.otel_sampling.specs.declared.trace.sampler.ShouldSample as sampling
+use Rattle.otel_sampling.specs.declared.trace.id_generator.IdGenerator as drawing
+use Rattle.otel_sampling.specs.Sampling.{PlainSamplingResult}
 use Rattle.otel_pipeline.specs.Provider.{ProviderState}
 use Rattle.otel_pipeline.specs.Starting.{DrawsIds, PassesThrough, Records, Decided, Starts, StartsOpen, start_of, start_question, start_span_context}
 use Rattle.otel_pipeline.specs.SpanHistory.{PlainSpan, SpanStart, SpanHistory, begun, over, span_of, IsEdited, after, recording, not_recording}

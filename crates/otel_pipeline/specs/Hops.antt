@@ -2,10 +2,10 @@
 use Rattle.std.specs.Prelude.{◌≡◌, ◌⊎◌, ℕ, ◌<◌, ◌^◌, List, [], ◌∷◌, Some, Ok}
 use Rattle.opentelemetry.specs.Carrier.{Texts}
 use Rattle.opentelemetry.specs.Plain.{PlainContext, PlainSpanContext}
-use Rattle.otel_base.specs.Sampler.{active_in, built_in, parent_decision}
-use Rattle.otel_base.specs.Sampling.{SamplingQuestion}
-use Rattle.otel_base.specs.declared.trace.sampler.ShouldSample as sampling
-use Rattle.otel_base.specs.Traceparent.{ExtractsTraceContext, InjectsTraceContext, IsSpanContext, IsValid}
+use Rattle.otel_sampling.specs.Sampler.{active_in, built_in, parent_decision}
+use Rattle.otel_sampling.specs.Sampling.{SamplingQuestion}
+use Rattle.otel_sampling.specs.declared.trace.sampler.ShouldSample as sampling
+use Rattle.otel_propagation.specs.Traceparent.{ExtractsTraceContext, InjectsTraceContext, IsSpanContext, IsValid}
 use Rattle.otel_pipeline.specs.Starting.{start_span_context}
 
 -- a span context is that of a child under a sampler by parents: its trace id is the parent's, its span id a new one, and

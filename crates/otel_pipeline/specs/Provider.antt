@@ -1,8 +1,8 @@
 -- What contracts see of a provider, what a flush and a shutdown do to it, and what its close reports.
 use Rattle.std.specs.Prelude.{◌≡◌, ℕ, ◌↔◌, Bool, true, List, Result, IsOk, IfErr, OnOk, sum_by, unwrap_or}
-use Rattle.otel_base.specs.declared.error.OTelSdkError.{OTelSdkError}
-use Rattle.otel_base.specs.declared.error.OTelSdkError.TheVariants as errors
-use Rattle.otel_base.specs.declared.trace.span_limit.SpanLimits.{SpanLimits}
+use Rattle.otel_export.specs.declared.error.OTelSdkError.{OTelSdkError}
+use Rattle.otel_export.specs.declared.error.OTelSdkError.TheVariants as errors
+use Rattle.otel_sampling.specs.declared.trace.span_limit.SpanLimits.{SpanLimits}
 use Rattle.otel_pipeline.specs.ProcessorTelling.{TakesNothing}
 use Rattle.otel_pipeline.specs.Each.{AskedAll, AskedFirst}
 use Rattle.otel_pipeline.specs.declared.trace.close_report.CloseReport.{CloseReport}

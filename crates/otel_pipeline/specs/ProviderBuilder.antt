@@ -2,13 +2,13 @@
 -- Creation").
 use Rattle.std.specs.Prelude.{◌≡◌, ◌<◌, ℕ, Bool, true, false, List, [], Result}
 use Rattle.std.specs.declared.alloc.AllocError.{AllocError}
-use Rattle.otel_base.specs.Config.{IsConfigOf}
-use Rattle.otel_base.specs.ConfigStrings.{PlainBatchStrings, PlainConfigStrings}
-use Rattle.otel_base.specs.Resource.{PlainResource, merge}
-use Rattle.otel_base.specs.declared.trace.config.ConfigOf.{ConfigOf}
-use Rattle.otel_base.specs.declared.trace.id_generator.IdSourceOf.{IdSourceOf}
-use Rattle.otel_base.specs.declared.trace.sampler.SamplerOf.{SamplerOf}
-use Rattle.otel_base.specs.declared.trace.span_limit.SpanLimits.{SpanLimits}
+use Rattle.otel_sampling.specs.Config.{IsConfigOf}
+use Rattle.otel_sampling.specs.ConfigStrings.{PlainBatchStrings, PlainConfigStrings}
+use Rattle.otel_resource.specs.Resource.{PlainResource, merge}
+use Rattle.otel_sampling.specs.declared.trace.config.ConfigOf.{ConfigOf}
+use Rattle.otel_sampling.specs.declared.trace.id_generator.IdSourceOf.{IdSourceOf}
+use Rattle.otel_sampling.specs.declared.trace.sampler.SamplerOf.{SamplerOf}
+use Rattle.otel_sampling.specs.declared.trace.span_limit.SpanLimits.{SpanLimits}
 use Rattle.otel_pipeline.specs.Each.{AskedAll}
 use Rattle.otel_pipeline.specs.Provider.{ProviderState}
 use Rattle.otel_pipeline.specs.declared.trace.span_processor.SpanProcessor.{Ghosts}

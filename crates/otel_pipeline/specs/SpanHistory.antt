@@ -5,7 +5,7 @@ use Rattle.std.specs.List.{flat_map}
 use Rattle.opentelemetry.specs.Plain.{PlainKeyValue, PlainSpanContext, PlainEvent, PlainLink, PlainScope, PlainStatus, unset}
 use Rattle.opentelemetry.specs.Order.{greater_status, greatest_status}
 use Rattle.opentelemetry.specs.declared.trace.span_kind.SpanKind.{SpanKind}
-use Rattle.otel_base.specs.declared.trace.span_limit.SpanLimits.{SpanLimits}
+use Rattle.otel_sampling.specs.declared.trace.span_limit.SpanLimits.{SpanLimits}
 use Rattle.otel_export.specs.PlainSpanData.{PlainSpanData, PlainSpanEvents, PlainSpanLinks, cut_at, left_out}
 
 -- how a span started; attributes, events and links are those that it was given at once

@@ -5,12 +5,12 @@ use Rattle.opentelemetry.specs.Plain.{PlainKeyValue, PlainSpanContext, PlainCont
 use Rattle.opentelemetry.specs.PlainContexts.{current_span_context, empty_span_context}
 use Rattle.opentelemetry.specs.PlainSpanBuilder.{PlainSpanBuilder}
 use Rattle.opentelemetry.specs.declared.trace.span_kind.SpanKind.TheVariants.{Internal}
-use Rattle.otel_base.specs.declared.trace.span_limit.SpanLimits.{SpanLimits}
-use Rattle.otel_base.specs.declared.trace.sampler.SamplingDecision.{SamplingDecision}
-use Rattle.otel_base.specs.declared.trace.sampler.SamplingDecision.TheVariants as decisions
-use Rattle.otel_base.specs.declared.trace.sampler.ShouldSample as sampling
-use Rattle.otel_base.specs.declared.trace.id_generator.IdGenerator as drawing
-use Rattle.otel_base.specs.Sampling.{SamplingQuestion, PlainSamplingResult}
+use Rattle.otel_sampling.specs.declared.trace.span_limit.SpanLimits.{SpanLimits}
+use Rattle.otel_sampling.specs.declared.trace.sampler.SamplingDecision.{SamplingDecision}
+use Rattle.otel_sampling.specs.declared.trace.sampler.SamplingDecision.TheVariants as decisions
+use Rattle.otel_sampling.specs.declared.trace.sampler.ShouldSample as sampling
+use Rattle.otel_sampling.specs.declared.trace.id_generator.IdGenerator as drawing
+use Rattle.otel_sampling.specs.Sampling.{SamplingQuestion, PlainSamplingResult}
 use Rattle.otel_pipeline.specs.SpanHistory.{PlainSpan, SpanStart, SpanHistory, IsEdited, begun, over, Edit, recording}
 use Rattle.otel_pipeline.specs.Provider.{ProviderState}
 use Rattle.otel_pipeline.specs.declared.trace.span_processor.SpanProcessor.{Ghosts}

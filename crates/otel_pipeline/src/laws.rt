@@ -4,19 +4,19 @@
 ghost use Rattle.std.specs.Prelude.{◌≡◌, ◌<◌, ℕ, Some, List, All, false};
 ghost use Rattle.opentelemetry.specs.Plain.{PlainContext, PlainScope, PlainSpanContext};
 ghost use Rattle.opentelemetry.specs.PlainSpanBuilder.{PlainSpanBuilder};
-ghost use Rattle.otel_base.specs.Agreement.{Agrees};
-ghost use Rattle.otel_base.specs.Sampler.{SamplerPlan, parent_based, plan};
-ghost use Rattle.otel_base.specs.Traceparent.{IsSpanContext, IsValid};
+ghost use Rattle.otel_sampling.specs.Agreement.{Agrees};
+ghost use Rattle.otel_sampling.specs.Sampler.{SamplerPlan, parent_based, plan};
+ghost use Rattle.otel_propagation.specs.Traceparent.{IsSpanContext, IsValid};
 ghost use Rattle.otel_pipeline.specs.Hops.{AreDrawnHops, AreHops, GoesByParents, IsChild, IsDrawnChild};
 ghost use Rattle.otel_pipeline.specs.Provider.{ProviderState};
 ghost use Rattle.otel_pipeline.specs.SpanHistory.{HasHistory, SpanHistory, span_of};
 ghost use Rattle.otel_pipeline.specs.Starting.{Starts};
-ghost use Rattle.otel_base.specs.declared.trace.sampler.SamplerOf.{SamplerOf};
+ghost use Rattle.otel_sampling.specs.declared.trace.sampler.SamplerOf.{SamplerOf};
 
 use crate::trace::{Span, SpanProcessor};
 use opentelemetry::laws::span_contexts_fit;
 use opentelemetry::trace::SpanContext;
-use otel_base::trace::{IdGenerator, SamplerOf, ShouldSample};
+use otel_sampling::trace::{IdGenerator, SamplerOf, ShouldSample};
 
 /// Each span, wherever it comes from, has a history: a start and edits that made what it records, or it is over.
 pub fn spans_have_histories(span: &Span)

@@ -1,7 +1,7 @@
 //! The program `otel_trace`: `main` hands the arguments and the standard streams to `run_program` and does nothing else.
 #![tactic(auto)]
 
-use otel_program::run_program;
+use otel_trace_run::run_program;
 use std::process::ExitCode;
 use std::{env, io};
 

@@ -14,12 +14,12 @@ use crate::trace::batch_worker::{
     drain_by_tick, make_request, offer_span, post_resource, run_worker,
 };
 use opentelemetry::{Context, Moment};
-use otel_base::error::{OTelSdkError, OTelSdkResult};
-use otel_base::resource::Resource;
 use otel_batch::machine::{BatchMachine, Request};
 use otel_batch::trace::BatchConfig;
+use otel_export::error::{OTelSdkError, OTelSdkResult};
 use otel_export::trace::{SpanData, SpanExporter, StoresBatches};
 use otel_pipeline::trace::{DrainDue, LeavesSpans, Span, SpanProcessor};
+use otel_resource::resource::Resource;
 use std::alloc::{AllocError, Global};
 use std::marker::Model;
 use std::time::Duration;
@@ -39,7 +39,7 @@ impl<E> Model for BatchSpanProcessor<E> {
     ghost use Rattle.std.specs.Duration.{as_nanos};
     ghost use Rattle.std.specs.Coded.{codes};
     ghost use Rattle.std.specs.Option.{option_map};
-    ghost use Rattle.otel_base.specs.Resource.{resource_code};
+    ghost use Rattle.otel_resource.specs.Resource.{resource_code};
     ghost use Rattle.opentelemetry_sdk.specs.BatchProcessor.{BatchProcessor, IsAtRest};
 
     ghost Value = { BatchProcessor E };

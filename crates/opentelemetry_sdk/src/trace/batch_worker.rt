@@ -16,10 +16,10 @@ ghost use Rattle.otel_batch.specs.declared.machine.step.Step as steps;
 ghost use Rattle.otel_batch.specs.WorkedOff.{CollectsAnswer, GoesBy, OffersSpan, TicksAndWorks, WorkerWorks, last_error, next_of_worker};
 ghost use Rattle.opentelemetry_sdk.specs.BatchProcessor.{ClosesIfOk, IsAtRest, PostsResource, Requests, queue_telling};
 
-use otel_base::error::{OTelSdkError, OTelSdkResult};
-use otel_base::resource::Resource;
 use otel_batch::machine::{BatchMachine, Outcome, Request, Slot, Step, Worker};
+use otel_export::error::{OTelSdkError, OTelSdkResult};
 use otel_export::trace::{SpanData, SpanExporter};
+use otel_resource::resource::Resource;
 use std::alloc::Global;
 
 /// The span is queued, or dropped: one that is not sampled, and one that finds the queue full or closed.

@@ -2,15 +2,15 @@
 
 use crate::trace::BatchSpanProcessor;
 use opentelemetry::{Context, Moment};
-use otel_base::error::OTelSdkResult;
-use otel_base::resource::Resource;
-use otel_base::trace::BatchStrings;
 use otel_batch::trace::BatchConfigBuilder;
+use otel_export::error::OTelSdkResult;
 use otel_export::trace::{ExporterBox, SpanData, SpanExporter, StoresBatches};
 use otel_kept::KeepsBatches;
 use otel_pipeline::trace::{
     DrainDue, LeavesSpans, OverExporter, SimpleSpanProcessor, Span, SpanProcessor,
 };
+use otel_resource::resource::Resource;
+use otel_sampling::trace::BatchStrings;
 use std::alloc::{AllocError, Global};
 use std::time::Duration;
 

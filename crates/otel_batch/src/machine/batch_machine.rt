@@ -8,7 +8,7 @@ use crate::machine::state::{Message, Request, Slot, Why, Worker};
 use crate::machine::step::{Outcome, Step};
 use crate::trace::batch_config::BatchConfig;
 use circular_buffer::HeapCircularBuffer;
-use otel_base::error::OTelSdkResult;
+use otel_export::error::OTelSdkResult;
 use otel_export::trace::{SpanData, SpanExporter};
 use std::alloc::{AllocError, Global};
 use std::marker::Model;
@@ -40,7 +40,7 @@ pub struct BatchMachine<E> {
 impl<E> Model for BatchMachine<E> {
     ghost use Rattle.std.specs.Prelude.{length, vec_len, vec_capacity};
     ghost use Rattle.std.specs.Coded.{codes};
-    ghost use Rattle.otel_base.specs.Resource.{resource_code};
+    ghost use Rattle.otel_resource.specs.Resource.{resource_code};
     ghost use Rattle.otel_batch.specs.MachineState.{Machine, Control};
     ghost use Rattle.otel_batch.specs.SoundMachine.{IsKept};
 

@@ -11,8 +11,8 @@ use crate::machine::slots::{
 };
 use crate::machine::state::{Message, Request, Slot};
 use crate::machine::step::Outcome;
-use otel_base::resource::Resource;
 use otel_export::trace::{SpanData, SpanExporter};
+use otel_resource::resource::Resource;
 
 impl<E: SpanExporter> BatchMachine<E> {
     ghost use Rattle.otel_batch.specs.MachineState.{counts};

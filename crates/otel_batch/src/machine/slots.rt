@@ -10,7 +10,7 @@ ghost use Rattle.otel_batch.specs.declared.machine.state.Slot.TheVariants as slo
 
 use crate::machine::state::{Message, Slot};
 use circular_buffer::HeapCircularBuffer;
-use otel_base::error::{OTelSdkError, OTelSdkResult};
+use otel_export::error::{OTelSdkError, OTelSdkResult};
 use otel_export::trace::SpanData;
 use std::alloc::{AllocError, Global};
 use std::mem;

@@ -1,9 +1,9 @@
 //! What the state of a batch queue is made of: what each producer is at, what the worker is at, and the messages of the
 //! control queue by which the worker learns what is asked of it.
 
-use otel_base::error::OTelSdkResult;
-use otel_base::resource::Resource;
+use otel_export::error::OTelSdkResult;
 use otel_export::trace::SpanData;
+use otel_resource::resource::Resource;
 
 /// What a producer asks of the worker, and waits for.
 #[derive(Clone, Copy, Debug, PartialEq, Eq)]

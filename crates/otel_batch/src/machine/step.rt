@@ -1,9 +1,9 @@
 //! What the producers and the worker of a batch queue do, one step at a time, and what each step answers. A producer
 //! is one of the threads that end spans, and is named by its number, from 0.
 
-use otel_base::error::{OTelSdkError, OTelSdkResult};
-use otel_base::resource::Resource;
+use otel_export::error::{OTelSdkError, OTelSdkResult};
 use otel_export::trace::SpanData;
+use otel_resource::resource::Resource;
 
 /// A step of a producer or of the worker.
 #[derive(Debug, Drop)]

@@ -10,7 +10,7 @@ use crate::machine::queue::{batch_limit, has_room};
 use crate::machine::slots::{drop_requests, error_of, set_slot};
 use crate::machine::state::{Message, Slot, Why, Worker};
 use crate::machine::step::Outcome;
-use otel_base::error::{OTelSdkError, OTelSdkResult};
+use otel_export::error::{OTelSdkError, OTelSdkResult};
 use otel_export::trace::SpanExporter;
 use std::mem;
 

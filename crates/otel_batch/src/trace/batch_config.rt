@@ -4,10 +4,10 @@
 ghost use Rattle.std.specs.Prelude.{◌≡◌, ◌≤◌, string_bytes};
 ghost use Rattle.std.specs.Duration.{as_nanos};
 ghost use Rattle.std.specs.Option.{option_map};
-ghost use Rattle.otel_base.specs.ConfigStrings.{IsConfiguredNumber};
+ghost use Rattle.otel_sampling.specs.ConfigStrings.{IsConfiguredNumber};
 ghost use Rattle.otel_batch.specs.PlainBatchConfig.{IsConfiguredTime, IsBatchConfigOf, cut_to_queue};
 
-use otel_base::trace::BatchStrings;
+use otel_sampling::trace::BatchStrings;
 use std::marker::Model;
 use std::time::Duration;
 

@@ -4,15 +4,15 @@
 
 ghost use Rattle.std.specs.Prelude.{◌≡◌, ℕ, List, [], ◌∷◌, Option, Result};
 ghost use Rattle.std.specs.Duration.{as_nanos};
-ghost use Rattle.otel_base.specs.Resource.{PlainResource};
-ghost use Rattle.otel_base.specs.declared.error.OTelSdkError.{OTelSdkError};
+ghost use Rattle.otel_resource.specs.Resource.{PlainResource};
+ghost use Rattle.otel_export.specs.declared.error.OTelSdkError.{OTelSdkError};
 ghost use Rattle.otel_export.specs.PlainSpanData.{PlainSpanData};
 ghost use Rattle.otel_export.specs.RestsOr.{RestsOr};
 ghost use Rattle.otel_export.specs.Telling.{Tells};
 
+use crate::error::OTelSdkResult;
 use crate::trace::SpanData;
-use otel_base::error::OTelSdkResult;
-use otel_base::resource::Resource;
+use otel_resource::resource::Resource;
 use std::time::Duration;
 
 /// Sends ended spans to a backend (OpenTelemetry specification, "Span Exporter"). An exporter writes `export`,

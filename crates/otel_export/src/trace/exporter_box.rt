@@ -3,9 +3,9 @@
 
 ghost use Rattle.std.specs.Prelude.{◌≡◌};
 
+use crate::error::OTelSdkResult;
 use crate::trace::{InMemorySpanExporter, SpanData, SpanExporter};
-use otel_base::error::OTelSdkResult;
-use otel_base::resource::Resource;
+use otel_resource::resource::Resource;
 use std::time::Duration;
 
 /// An exporter of one of two kinds, generic in both.

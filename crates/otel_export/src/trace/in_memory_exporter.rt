@@ -3,9 +3,9 @@
 ghost use Rattle.std.specs.Prelude.{◌≡◌, [], Some, map};
 ghost use Rattle.std.specs.Option.{option_map};
 
+use crate::error::{OTelSdkError, OTelSdkResult};
 use crate::trace::{SpanData, SpanExporter};
-use otel_base::error::{OTelSdkError, OTelSdkResult};
-use otel_base::resource::Resource;
+use otel_resource::resource::Resource;
 use std::alloc::Global;
 use std::marker::Model;
 use std::time::Duration;

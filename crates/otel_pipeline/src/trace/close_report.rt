@@ -1,6 +1,6 @@
 //! What closing a provider tells.
 
-use otel_base::error::OTelSdkResult;
+use otel_export::error::OTelSdkResult;
 
 /// How a provider closed, and how many spans it left behind.
 #[derive(Debug, Drop, PartialEq, Eq)]

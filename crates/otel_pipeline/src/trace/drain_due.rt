@@ -2,12 +2,12 @@
 //! here; whoever holds a provider says what time it is (`ProviderOf::run_processors`).
 
 ghost use Rattle.std.specs.Prelude.{◌≡◌, ℕ, Result};
-ghost use Rattle.otel_base.specs.declared.error.OTelSdkError.{OTelSdkError};
+ghost use Rattle.otel_export.specs.declared.error.OTelSdkError.{OTelSdkError};
 ghost use Rattle.otel_pipeline.specs.ProcessorTelling.{TakesNothing};
 
 use crate::trace::SpanProcessor;
 use opentelemetry::Moment;
-use otel_base::error::OTelSdkResult;
+use otel_export::error::OTelSdkResult;
 
 /// A processor that does what is due when it is told the time.
 pub trait DrainDue: SpanProcessor {

@@ -3,14 +3,14 @@
 
 ghost use Rattle.std.specs.Prelude.{◌≡◌, ◌≤◌, ◌⊎◌, ◌++◌, [], length, map, nat_lt, IfOk, IsOk, OnErr, OnOk, unwrap_or};
 ghost use Rattle.std.specs.Option.{option_map};
-ghost use Rattle.otel_base.specs.Sampling.{added_attributes};
+ghost use Rattle.otel_sampling.specs.Sampling.{added_attributes};
 ghost use Rattle.otel_export.specs.PlainSpanData.{cut_at, left_out};
 ghost use Rattle.otel_pipeline.specs.SpanHistory as history;
 
 use opentelemetry::KeyValue;
 use opentelemetry::trace::{Event, Link};
-use otel_base::trace::SpanLimits;
 use otel_export::trace::{SpanEvents, SpanLinks};
+use otel_sampling::trace::SpanLimits;
 use std::alloc::{AllocError, Global};
 
 /// Cuts a list at a limit. The answer is how many items were left out, at most the greatest `u32`.

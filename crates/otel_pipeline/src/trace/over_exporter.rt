@@ -2,10 +2,10 @@
 //! its processors through this trait.
 
 ghost use Rattle.std.specs.Prelude.{◌≡◌, IfOk};
-ghost use Rattle.otel_base.specs.ConfigStrings.{PlainBatchStrings};
+ghost use Rattle.otel_sampling.specs.ConfigStrings.{PlainBatchStrings};
 
 use crate::trace::SpanProcessor;
-use otel_base::trace::BatchStrings;
+use otel_sampling::trace::BatchStrings;
 use std::alloc::{AllocError, Global};
 
 /// A processor of several kinds, which can be made over an exporter: one that exports at once, or one behind a queue.

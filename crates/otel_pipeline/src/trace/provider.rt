@@ -17,9 +17,9 @@ ghost use Rattle.otel_pipeline.specs.SpanHistory.{IsEdited, ended_at};
 
 use crate::trace::{CloseReport, DrainDue, LeavesSpans, SdkTracer, Span, SpanProcessor};
 use opentelemetry::{Context, InstrumentationScope, Moment, SpanId, TraceId};
-use otel_base::error::{OTelSdkError, OTelSdkResult};
-use otel_base::trace::{ConfigOf, IdGenerator, SpanLimits};
+use otel_export::error::{OTelSdkError, OTelSdkResult};
 use otel_export::trace::SpanData;
+use otel_sampling::trace::{ConfigOf, IdGenerator, SpanLimits};
 use std::alloc::{AllocError, Global};
 use std::marker::Model;
 use std::time::Duration;

@@ -12,8 +12,8 @@ ghost use Rattle.otel_pipeline.specs.ProviderBuilder.{BeginsBy, Opens, RefusesRe
 
 use crate::trace::provider::provider_over;
 use crate::trace::{OverExporter, ProviderOf, SpanProcessor};
-use otel_base::resource::Resource;
-use otel_base::trace::{
+use otel_resource::resource::Resource;
+use otel_sampling::trace::{
     BatchStrings, ConfigOf, ConfigStrings, IdSource, IdSourceOf, RandomIdGenerator, Sampler,
     SpanLimits,
 };
@@ -32,7 +32,7 @@ pub struct ProviderBuilderOf<P, S, G> {
 
 impl<P, S, G> Model for ProviderBuilderOf<P, S, G> {
     ghost use Rattle.std.specs.Coded.{codes};
-    ghost use Rattle.otel_base.specs.Resource.{resource_code};
+    ghost use Rattle.otel_resource.specs.Resource.{resource_code};
     ghost use Rattle.otel_pipeline.specs.ProviderBuilder.{BuilderState};
 
     ghost Value = { BuilderState P S G };

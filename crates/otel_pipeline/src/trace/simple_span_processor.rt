@@ -5,9 +5,9 @@ ghost use Rattle.std.specs.Prelude.{◌≡◌, ◌∷◌, [], false, IfOk};
 
 use crate::trace::{LeavesSpans, Span, SpanProcessor};
 use opentelemetry::Context;
-use otel_base::error::OTelSdkResult;
-use otel_base::resource::Resource;
+use otel_export::error::OTelSdkResult;
 use otel_export::trace::{SpanData, SpanExporter, StoresBatches};
+use otel_resource::resource::Resource;
 use std::alloc::{AllocError, Global};
 use std::marker::Model;
 use std::time::Duration;

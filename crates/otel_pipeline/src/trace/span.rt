@@ -15,8 +15,8 @@ use super::span_edit;
 use crate::trace::{ProviderOf, Recorded, SpanEdit, SpanProcessor};
 use opentelemetry::trace::{Event, Link, SpanContext, Status};
 use opentelemetry::{KeyValue, Moment};
-use otel_base::trace::SpanLimits;
 use otel_export::trace::SpanData;
+use otel_sampling::trace::SpanLimits;
 use std::alloc::{AllocError, Global};
 use std::marker::Model;
 

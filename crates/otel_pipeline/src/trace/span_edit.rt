@@ -11,7 +11,7 @@ use super::limits::{cut_event, cut_link, push_within};
 use crate::trace::Recorded;
 use opentelemetry::KeyValue;
 use opentelemetry::trace::{Event, Link, Status};
-use otel_base::trace::SpanLimits;
+use otel_sampling::trace::SpanLimits;
 use std::alloc::AllocError;
 
 /// What may be done to a span while it records (OpenTelemetry specification, "Span operations").

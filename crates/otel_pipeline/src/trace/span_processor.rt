@@ -18,17 +18,17 @@ ghost use Rattle.std.specs.Prelude.{◌≡◌, ℕ, OnOk, Result};
 ghost use Rattle.std.specs.Duration.{as_nanos};
 ghost use Rattle.std.specs.declared.alloc.AllocError.{AllocError};
 ghost use Rattle.opentelemetry.specs.Plain.{PlainContext};
-ghost use Rattle.otel_base.specs.Resource.{PlainResource};
-ghost use Rattle.otel_base.specs.declared.error.OTelSdkError.{OTelSdkError};
+ghost use Rattle.otel_resource.specs.Resource.{PlainResource};
+ghost use Rattle.otel_export.specs.declared.error.OTelSdkError.{OTelSdkError};
 ghost use Rattle.otel_export.specs.PlainSpanData.{PlainSpanData};
 ghost use Rattle.otel_pipeline.specs.ProcessorTelling.{ProcessorTelling, TakesNothing, TakesSpan, silent};
 ghost use Rattle.otel_pipeline.specs.SpanHistory.{PlainSpan, IsEdited};
 
 use crate::trace::Span;
 use opentelemetry::Context;
-use otel_base::error::OTelSdkResult;
-use otel_base::resource::Resource;
+use otel_export::error::OTelSdkResult;
 use otel_export::trace::SpanData;
+use otel_resource::resource::Resource;
 use std::alloc::AllocError;
 use std::time::Duration;
 

@@ -4,7 +4,7 @@ ghost use Rattle.std.specs.Prelude.{◌≡◌, ◌||◌, [], map, IfOk, IsOk, Is
 ghost use Rattle.std.specs.Option.{option_map};
 ghost use Rattle.opentelemetry.specs.PlainContexts.{root_cx};
 ghost use Rattle.opentelemetry.specs.PlainSpanBuilder.{named_builder};
-ghost use Rattle.otel_base.specs.Sampling.{added_attributes};
+ghost use Rattle.otel_sampling.specs.Sampling.{added_attributes};
 ghost use Rattle.otel_pipeline.specs.Starting.{
   Drops,
   OnlyDraws,
@@ -19,8 +19,10 @@ use super::limits::{attributes_within, events_within, links_within};
 use crate::trace::{ProviderOf, Recorded, Span, SpanProcessor};
 use opentelemetry::trace::{SpanBuilder, SpanContext, SpanKind, Status};
 use opentelemetry::{Context, InstrumentationScope, KeyValue, Moment, TraceFlags, TraceId};
-use otel_base::trace::{IdGenerator, SamplingDecision, SamplingResult, ShouldSample, SpanLimits};
 use otel_export::trace::SpanData;
+use otel_sampling::trace::{
+    IdGenerator, SamplingDecision, SamplingResult, ShouldSample, SpanLimits,
+};
 use std::alloc::{AllocError, Global};
 use std::marker::Model;
 

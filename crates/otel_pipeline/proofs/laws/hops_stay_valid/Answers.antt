@@ -1,5 +1,5 @@
 use Rattle.std.proofs.Common.{refl}
-use Rattle.otel_base.specs.Traceparent.{IsSpanContext}
+use Rattle.otel_propagation.specs.Traceparent.{IsSpanContext}
 use Rattle.otel_pipeline.proofs.AgreementLemmas.{good_hops, hops_agree}
 use Rattle.otel_pipeline.proofs.laws.hops_stay_valid.Goals as goal
 

@@ -1,4 +1,4 @@
-use Rattle.otel_base.specs.Sampler.{plan}
+use Rattle.otel_sampling.specs.Sampler.{plan}
 use Rattle.otel_pipeline.proofs.AgreementLemmas.{goes_by_parents}
 use Rattle.otel_pipeline.proofs.laws.parent_based_goes_by_parents.Goals as goal
 

@@ -1,6 +1,6 @@
 -- One member after another.
 use Rattle.std.proofs.Common.{[], ◌∷◌, codes, ap, map, List, ℕ, ◌≡◌, ◌∙◌, refl}
-use Rattle.otel_base.specs.Resource.{non_empty}
+use Rattle.otel_resource.specs.Resource.{non_empty}
 use Rattle.otel_otlp.specs.Fields.{fields_tokens, list_json}
 use Rattle.otel_otlp.specs.Otlp.{or_empty, resource_json, run_json}
 use Rattle.otel_otlp.specs.OtlpValues.{text_field}

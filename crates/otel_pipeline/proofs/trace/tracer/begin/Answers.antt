@@ -1,5 +1,5 @@
 use Rattle.std.proofs.Common.{[], rules}
-use Rattle.otel_base.specs.Sampling.{added_attributes}
+use Rattle.otel_sampling.specs.Sampling.{added_attributes}
 use Rattle.otel_pipeline.specs.SpanHistory.{begun}
 use Rattle.otel_pipeline.specs.Starting.{start_of}
 use Rattle.otel_pipeline.proofs.trace.tracer.begin.Goals as goal

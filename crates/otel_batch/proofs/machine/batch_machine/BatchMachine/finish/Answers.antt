@@ -1,6 +1,6 @@
 use Rattle.std.proofs.Common.{◌≡◌, ◌≢◌, ℕ, Err}
 use Rattle.std.proofs.lemmas.Option.{slice_get_within}
-use Rattle.otel_base.specs.declared.error.OTelSdkError.TheVariants.{OutOfMemory}
+use Rattle.otel_export.specs.declared.error.OTelSdkError.TheVariants.{OutOfMemory}
 use Rattle.otel_batch.specs.declared.machine.state.Slot.TheVariants.{Waiting}
 use Rattle.otel_batch.specs.Workers.{worker_names, why_names}
 use Rattle.otel_batch.proofs.SlotSums.{one_flush, one_shutdown, other_flush, other_shutdown}

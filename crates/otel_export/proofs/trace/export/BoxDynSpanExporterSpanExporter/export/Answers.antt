@@ -1,7 +1,7 @@
 use Rattle.std.proofs.Common.{[], ◌∷◌, subst, Option, List}
 use Rattle.otel_export.specs.PlainSpanData.{PlainSpanData}
 use Rattle.otel_export.specs.Telling.{Tells}
-use Rattle.otel_base.proofs.Behind.{behind, same_behind}
+use Rattle.opentelemetry.proofs.Behind.{behind, same_behind}
 use Rattle.otel_export.proofs.trace.export.BoxDynSpanExporterSpanExporter.export.Goals as goal
 
 pub returns-clause-told : goal.returns-clause-told

@@ -1,6 +1,6 @@
 use Rattle.std.proofs.Common.{◌∙◌, inr}
 use Rattle.otel_export.specs.RestsOr.{RestsOr}
-use Rattle.otel_base.proofs.Behind.{behind, same_behind}
+use Rattle.opentelemetry.proofs.Behind.{behind, same_behind}
 use Rattle.otel_export.proofs.trace.export.BoxDynSpanExporterSpanExporter.force_flush.Goals as goal
 
 pub returns-clause-told : goal.returns-clause-told

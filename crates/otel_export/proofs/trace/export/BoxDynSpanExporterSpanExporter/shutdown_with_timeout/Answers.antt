@@ -1,6 +1,6 @@
 use Rattle.std.proofs.Common.{◌∙◌}
 use Rattle.std.specs.Duration.{as_nanos}
-use Rattle.otel_base.proofs.Behind.{behind, same_behind}
+use Rattle.opentelemetry.proofs.Behind.{behind, same_behind}
 use Rattle.otel_export.proofs.trace.export.BoxDynSpanExporterSpanExporter.shutdown_with_timeout.Goals as goal
 
 pub returns-clause-told : goal.returns-clause-told

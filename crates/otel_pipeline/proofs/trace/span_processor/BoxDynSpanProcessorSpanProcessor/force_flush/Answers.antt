@@ -1,5 +1,5 @@
 use Rattle.std.proofs.Common.{subst, ◌∙◌}
-use Rattle.otel_base.proofs.Behind.{behind, same_behind}
+use Rattle.opentelemetry.proofs.Behind.{behind, same_behind}
 use Rattle.otel_pipeline.specs.ProcessorTelling.{ProcessorTelling, TakesNothing}
 use Rattle.otel_pipeline.proofs.trace.span_processor.BoxDynSpanProcessorSpanProcessor.force_flush.Goals as goal
 

@@ -1,5 +1,5 @@
 use Rattle.std.proofs.Common.{◌∙◌}
-use Rattle.otel_base.proofs.Behind.{behind, same_behind}
+use Rattle.opentelemetry.proofs.Behind.{behind, same_behind}
 use Rattle.otel_pipeline.proofs.trace.span_processor.BoxDynSpanProcessorSpanProcessor.set_resource.Goals as goal
 
 pub returns-clause-told : goal.returns-clause-told

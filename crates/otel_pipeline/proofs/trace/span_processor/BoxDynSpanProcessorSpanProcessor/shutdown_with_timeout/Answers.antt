@@ -1,6 +1,6 @@
 use Rattle.std.proofs.Common.{subst}
 use Rattle.std.specs.Duration.{as_nanos}
-use Rattle.otel_base.proofs.Behind.{behind, same_behind}
+use Rattle.opentelemetry.proofs.Behind.{behind, same_behind}
 use Rattle.otel_pipeline.specs.ProcessorTelling.{ProcessorTelling, TakesNothing}
 use Rattle.otel_pipeline.proofs.trace.span_processor.BoxDynSpanProcessorSpanProcessor.shutdown_with_timeout.Goals as goal
 

@@ -1,7 +1,7 @@
 use Rattle.opentelemetry.specs.PlainContexts.{current_span_context}
 use Rattle.std.proofs.Common.{◌≡◌, ◌≢◌, [], rules}
-use Rattle.otel_base.specs.Sampling.{PlainSamplingResult}
-use Rattle.otel_base.specs.declared.trace.sampler.SamplingDecision.TheVariants as decisions
+use Rattle.otel_sampling.specs.Sampling.{PlainSamplingResult}
+use Rattle.otel_sampling.specs.declared.trace.sampler.SamplingDecision.TheVariants as decisions
 use Rattle.otel_pipeline.specs.Starting.{start_of, start_question, start_span_context}
 use Rattle.otel_pipeline.specs.SpanHistory.{recording, not_recording}
 use Rattle.otel_pipeline.proofs.Starting.{starts_dropped, starts_none, starts_recording}

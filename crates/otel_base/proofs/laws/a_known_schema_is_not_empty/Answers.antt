@@ -1,5 +1,0 @@
-use Rattle.otel_base.proofs.AttributeLemmas.{not_empty}
-use Rattle.otel_base.proofs.laws.a_known_schema_is_not_empty.Goals as goal
-
-pub returns : goal.returns
-returns c = λ r. not_empty r.schema_url

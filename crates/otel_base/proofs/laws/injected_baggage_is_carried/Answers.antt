@@ -1,5 +1,0 @@
-use Rattle.otel_base.proofs.BaggageRoundTrip.{injected_baggage_carries}
-use Rattle.otel_base.proofs.laws.injected_baggage_is_carried.Goals as goal
-
-pub returns : goal.returns
-returns c = injected_baggage_carries

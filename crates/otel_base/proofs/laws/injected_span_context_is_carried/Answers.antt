@@ -1,5 +1,0 @@
-use Rattle.otel_base.proofs.TraceparentLemmas.{injected_carries}
-use Rattle.otel_base.proofs.laws.injected_span_context_is_carried.Goals as goal
-
-pub returns : goal.returns
-returns c = injected_carries

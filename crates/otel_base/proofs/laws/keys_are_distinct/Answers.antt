@@ -1,5 +1,0 @@
-use Rattle.otel_base.proofs.AttributeLemmas.{distinct_keys}
-use Rattle.otel_base.proofs.laws.keys_are_distinct.Goals as goal
-
-pub returns : goal.returns
-returns c = λ r. distinct_keys r.attributes

@@ -1,5 +1,0 @@
-use Rattle.otel_base.proofs.AttributeLemmas.{union_assoc}
-use Rattle.otel_base.proofs.laws.merged_attributes_are_associative.Goals as goal
-
-pub returns : goal.returns
-returns c = λ a b d. union_assoc a.attributes b.attributes d.attributes

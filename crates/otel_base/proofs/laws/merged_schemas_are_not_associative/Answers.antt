@@ -1,5 +1,0 @@
-use Rattle.std.proofs.Common.{refl}
-use Rattle.otel_base.proofs.laws.merged_schemas_are_not_associative.Goals as goal
-
-pub returns : goal.returns
-returns c = (refl, refl)

@@ -1,5 +1,0 @@
-use Rattle.otel_base.proofs.AttributeLemmas.{by_key-insert}
-use Rattle.otel_base.proofs.resource.attributes.put.Goals as goal
-
-pub returns-clause-ok : goal.returns-clause-ok
-returns-clause-ok c = by_key-insert c.args.attributes.now c.insert.new.self c.args.key c.args.value c.in_ok-insert.ensures.updates

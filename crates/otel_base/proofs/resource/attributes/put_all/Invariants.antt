@@ -1,8 +1,0 @@
-use Rattle.std.proofs.Common.{◌≡◌, map}
-use Rattle.opentelemetry.specs.PlainValues.{plain_value}
-use Rattle.otel_base.specs.Resource.{by_key, union}
-use Rattle.otel_base.proofs.AttributeLemmas.{last_wins}
-use Rattle.otel_base.proofs.resource.attributes.put_all.Given as goal
-
-abbrev pub invariant-loop-key : goal.invariant-loop-key
-invariant-loop-key l = by_key l.left ≡ union (by_key l.fn.left) (last_wins (map (λ e. (e.0, plain_value e.1)) l.yielded))

@@ -1,6 +1,0 @@
-//! Tests of `otel_lines`: what no clause says of it. They stand apart, so that the crate is proved once and its edits
-//! are tried beside no test.
-#![tactic(auto)]
-
-#[cfg(test)]
-mod tests;

@@ -1,3 +1,0 @@
-//! Tests of `otel_lines`.
-
-mod reply_text;

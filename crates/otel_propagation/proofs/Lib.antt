@@ -1,0 +1,10 @@
+pub mod BaggageBounds
+pub mod BaggageNames
+pub mod BaggageNoEntries
+pub mod BaggagePieceLemmas
+pub mod BaggageRoundTrip
+pub mod BaggageTextLemmas
+pub mod CompositeLemmas
+pub mod TextPieces
+pub mod TraceparentLemmas
+pub mod TrimLemmas

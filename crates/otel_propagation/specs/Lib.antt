@@ -1,0 +1,4 @@
+pub mod BaggageHeader
+pub mod BaggagePieces
+pub mod Composite
+pub mod Traceparent

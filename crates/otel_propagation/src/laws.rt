@@ -1,0 +1,37 @@
+//! The laws of headers, over the definitions alone. Each function does nothing; its contract is the law, for all values.
+
+ghost use Rattle.std.specs.Prelude.{◌≡◌, ℕ, List, All};
+ghost use Rattle.opentelemetry.specs.PlainContexts.{current_span_context};
+ghost use Rattle.opentelemetry.specs.Plain.{PlainContext, PlainSpanContext};
+ghost use Rattle.opentelemetry.specs.Baggage.{PlainBaggage};
+ghost use Rattle.opentelemetry.specs.Carrier.{Texts};
+ghost use Rattle.otel_propagation.specs.BaggageHeader.{entries_of, header_of, Carries, InjectsBaggage, IsBaggage};
+ghost use Rattle.otel_propagation.specs.BaggageHeader.{IsCarriedUnchanged, IsSaidUnchanged};
+ghost use Rattle.otel_propagation.specs.Traceparent.{CarriesSpan, InjectsTraceContext, IsSpanContext};
+ghost use Rattle.otel_propagation.specs.Traceparent.{IsTraceparent, IsValid};
+
+/// The header of a baggage reads back as it, in order, where each entry is said unchanged.
+pub fn baggage_headers_read_back()
+    ensures { (es : PlainBaggage) → IsBaggage es → All IsSaidUnchanged es → entries_of (header_of es) ≡ es }
+{}
+
+/// What a propagator injects of such a baggage, another extracts whole and in order, over every carrier that gives back
+/// what was set.
+pub fn injected_baggage_is_carried()
+    ensures { (cx : PlainContext) (old new : Texts) → IsBaggage cx.baggage → IsCarriedUnchanged cx.baggage
+        → InjectsBaggage cx old (Ok tt) new → Carries new cx.baggage }
+{}
+
+/// A text of `traceparent` says one span context at most.
+pub fn traceparents_read_once()
+    ensures { (text : List ℕ) (these those : PlainSpanContext)
+        → IsTraceparent text these → IsTraceparent text those → these ≡ those }
+{}
+
+/// What a propagator injects of a valid span context, another extracts: the ids, the sampled flag and the trace state,
+/// remote, over every carrier that gives back what was set.
+pub fn injected_span_context_is_carried()
+    ensures { (cx : PlainContext) (old new : Texts) → IsSpanContext (current_span_context cx)
+        → IsValid (current_span_context cx)
+        → InjectsTraceContext cx old (Ok tt) new → CarriesSpan new (current_span_context cx) }
+{}

@@ -1,0 +1,189 @@
+//! A header read into a baggage: its members in turn, and of each the name, the value and the properties.
+
+ghost use Rattle.std.specs.Prelude.{◌≡◌, ◌+◌, ◌<◌, ◌≤◌, ◌∷◌, [], None, Some, length, List, ℕ, MatchOption};
+ghost use Rattle.std.specs.Prelude.{IfOk, IsOk, OnOk, option_map, string_bytes, is_none, ◌&&◌};
+ghost use Rattle.std.specs.Cow.{cow_str_bytes};
+ghost use Rattle.std.specs.Option.{option_map_or};
+ghost use Rattle.std.specs.Str.{trim};
+ghost use Rattle.opentelemetry.specs.Baggage.{baggage_bytes, with_entry, BreaksLimit};
+ghost use Rattle.opentelemetry.specs.Members.{HasNo, equals_sign};
+ghost use Rattle.otel_propagation.specs.BaggageHeader.{entries_of, entry_of_member, metadata_of, paired_entry, pieces_at};
+ghost use Rattle.otel_propagation.specs.BaggageHeader.{said_by, semicolon};
+ghost use Rattle.otel_propagation.specs.BaggagePieces.{entry_with, next_property, properties_behind};
+ghost use Rattle.opentelemetry.specs.Text.{TextGrows};
+
+use super::pieces::push_unless_first;
+use opentelemetry::baggage::{Baggage, BaggageError, BaggageMetadata, KeyValueMetadata};
+use percent_encoding::{DecodeError, percent_decode_str};
+use std::alloc::{AllocError, Global};
+use std::borrow::CowStr;
+
+/// How many members of a header are looked at (W3C Baggage, section 3.3.2).
+const MAX_MEMBERS: usize = 64;
+
+/// The baggage of a header. One member is read at a time, and none behind the last that counts is looked for.
+pub fn entries_of(alloc: Global, header: &str) -> Result<Baggage, AllocError>
+    requires { length header.now ≤ 8192 }
+    ensures read { IfOk result (λ baggage. baggage ≡ entries_of header.now) }
+    ensures free { HasNo equals_sign header.now → IsOk result }
+{
+    let mut baggage = Baggage::new(alloc);
+    'members: for member in header.split(',').take(MAX_MEMBERS) {
+        put_member(&mut baggage, alloc, member)?;
+    }
+    Ok(baggage)
+}
+
+/// Puts what a member says, if it reads. There is room for it, so no limit forbids it.
+fn put_member(baggage: &mut Baggage, alloc: Global, member: &str) -> Result<(), AllocError>
+    requires few { length baggage.old < 64 }
+    requires small { baggage_bytes baggage.old + length member.now ≤ 8192 }
+    ensures put { OnOk result (baggage.new
+        ≡ option_map_or (λ entry. with_entry baggage.old entry) (entry_of_member member.now) baggage.old) }
+    ensures free { HasNo equals_sign member.now → IsOk result }
+{
+    match read_member(alloc, member)? {
+        Some(entry) => put(baggage, entry),
+        None => Ok(()),
+    }
+}
+
+/// Puts an entry that the limits allow.
+fn put(baggage: &mut Baggage, entry: KeyValueMetadata) -> Result<(), AllocError>
+    requires { ¬ (BreaksLimit baggage.old entry) }
+    ensures { OnOk result (baggage.new ≡ with_entry baggage.old entry) }
+{
+    match baggage.insert_with_metadata(entry.key, entry.value, entry.metadata) {
+        Ok(_replaced) => Ok(()),
+        Err(BaggageError::Memory) => Err(AllocError),
+        Err(BaggageError::Limit) => unreachable!(),
+    }
+}
+
+/// The entry that a member says, if it reads.
+fn read_member(alloc: Global, member: &str) -> Result<Option<KeyValueMetadata>, AllocError>
+    ensures read { IfOk result (λ entry. entry ≡ entry_of_member member.now) }
+    ensures free { HasNo equals_sign member.now → IsOk result }
+{
+    let (pair, properties) = split_properties(member);
+    let Some((name, value)) = read_pair(alloc, pair)? else {
+        return Ok(None);
+    };
+    let metadata = BaggageMetadata::new(read_metadata(alloc, properties)?);
+    Ok(Some(KeyValueMetadata::new(name, value, metadata)))
+}
+
+/// What stands before the first semicolon of a member, and what stands behind it.
+fn split_properties(member: &str) -> (&str, Option<&str>)
+    ensures { pieces_at semicolon member.now ≡ result.0.now ∷ properties_behind result.1 }
+{
+    match member.split_once(';') {
+        Some((pair, properties)) => (pair, Some(properties)),
+        None => (member, None),
+    }
+}
+
+/// The name and the value of a pair; none where there is no equals sign, one is not UTF-8, or the name is empty.
+fn read_pair(alloc: Global, pair: &str) -> Result<Option<(String, String)>, AllocError>
+    ensures read { IfOk result (λ read. (metadata : List ℕ) → option_map (λ both. entry_with metadata both) read
+        ≡ paired_entry (pieces_at equals_sign pair.now) metadata) }
+    ensures free { HasNo equals_sign pair.now → IsOk result }
+{
+    let Some((name, value)) = split_pair(pair) else {
+        return Ok(None);
+    };
+    let Some(name) = read_text(alloc, name)? else {
+        return Ok(None);
+    };
+    if name.is_empty() {
+        return Ok(None);
+    }
+    let Some(value) = read_text(alloc, value)? else {
+        return Ok(None);
+    };
+    Ok(Some((name, value)))
+}
+
+/// What stands before the first equals sign of a pair, and what stands behind it up to the next one.
+fn split_pair(pair: &str) -> Option<(&str, &str)>
+    ensures { MatchOption result
+        (pieces_at equals_sign pair.now ≡ pair.now ∷ [])
+        (λ both. (more : List (List ℕ))
+        × (pieces_at equals_sign pair.now ≡ both.0.now ∷ both.1.now ∷ more)) }
+{
+    let (name, behind) = pair.split_once('=')?;
+    match behind.split_once('=') {
+        Some((value, _)) => Some((name, value)),
+        None => Some((name, behind)),
+    }
+}
+
+/// The metadata of a member's properties. Its room is taken at once, and none where there are no properties.
+fn read_metadata(alloc: Global, properties: Option<&str>) -> Result<String, AllocError>
+    ensures { IfOk result (λ metadata. string_bytes metadata ≡ metadata_of (properties_behind properties.entry)) }
+{
+    let Some(properties) = properties else {
+        return Ok(String::new(alloc));
+    };
+    let mut metadata = String::with_capacity(alloc, properties.len())?;
+    let mut is_first = true;
+    'properties: for property in properties.split(';') {
+        is_first = push_property(&mut metadata, alloc, property, is_first)?;
+    }
+    Ok(metadata)
+}
+
+/// Puts what a property says behind the others, unless it is not UTF-8. Answers whether the next one is the first
+/// still.
+fn push_property(
+    metadata: &mut String,
+    alloc: Global,
+    property: &str,
+    is_first: bool,
+) -> Result<bool, AllocError>
+    ensures text { OnOk result (TextGrows metadata.old (next_property is_first (said_by property.now)) metadata.new) }
+    ensures first { IfOk result (λ still. still ≡ (is_first && is_none (said_by property.now))) }
+{
+    let Some(said) = decoded(alloc, property)? else {
+        return Ok(is_first);
+    };
+    push_unless_first(metadata, is_first, ";")?;
+    metadata.push_str(said.as_str().trim())?;
+    Ok(false)
+}
+
+/// What a name or a value says; none where it is not UTF-8.
+fn read_text(alloc: Global, text: &str) -> Result<Option<String>, AllocError>
+    ensures { IfOk result (λ said. option_map string_bytes said ≡ said_by text.now) }
+{
+    match decoded(alloc, text)? {
+        Some(said) => Ok(Some(trimmed(alloc, said)?)),
+        None => Ok(None),
+    }
+}
+
+/// A text percent-decoded, which takes memory where it has escapes alone; none where it is not UTF-8 then.
+fn decoded(alloc: Global, text: &str) -> Result<Option<CowStr<'_, Global>>, AllocError>
+    ensures { IfOk result (λ said. option_map (λ s. trim (cow_str_bytes s)) said ≡ said_by text.now) }
+{
+    match percent_decode_str(text).decode_utf8(alloc) {
+        Ok(said) => Ok(Some(said)),
+        Err(DecodeError::Utf8(_)) => Ok(None),
+        Err(DecodeError::OutOfMemory) => Err(AllocError),
+    }
+}
+
+/// A text without the white space around it. One that is owned and has none around it is moved.
+fn trimmed(alloc: Global, text: CowStr<'_, Global>) -> Result<String, AllocError>
+    ensures { IfOk result (λ rest. string_bytes rest ≡ trim (cow_str_bytes text.entry)) }
+{
+    match text {
+        CowStr::Borrowed(text) => String::from_str(alloc, text.trim()),
+        CowStr::Owned(text) => {
+            if text.trim().len() == text.len() {
+                return Ok(text);
+            }
+            String::from_str(alloc, text.trim())
+        }
+    }
+}

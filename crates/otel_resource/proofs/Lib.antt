@@ -1,0 +1,4 @@
+pub mod AttributeLemmas
+pub mod AttributesStringLemmas
+pub mod DetectedLemmas
+pub mod SameLemmas

@@ -1,0 +1,4 @@
+pub mod AttributesString
+pub mod DetectedResource
+pub mod Resource
+pub mod SameResource

@@ -1,0 +1,10 @@
+pub mod Agreement
+pub mod Config
+pub mod ConfigStrings
+pub mod IdSource
+pub mod Ids
+pub mod Limits
+pub mod Ratio
+pub mod SameSamplingResult
+pub mod Sampler
+pub mod Sampling

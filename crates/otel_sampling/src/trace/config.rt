@@ -1,0 +1,213 @@
+//! What a provider is made of besides its processors, and the strings that configure it (OpenTelemetry specification,
+//! "Environment Variable Specification"). Nothing here reads an environment: the application hands its strings in, and
+//! an absent one is a variable that nobody set.
+
+ghost use Rattle.std.specs.Prelude.{◌≡◌, IfOk, OnErr, OnOk, string_bytes};
+ghost use Rattle.std.specs.Option.{option_map};
+ghost use Rattle.otel_sampling.specs.Config.{AreConfiguredLimits, IsConfigOf, IsConfiguredSampler};
+ghost use Rattle.otel_sampling.specs.ConfigStrings.{IsConfiguredNumber, IsConfiguredRatio};
+ghost use Rattle.otel_sampling.specs.Sampler.{parent_based, plan};
+
+use crate::trace::{
+    IdSource, IdSourceOf, RandomIdGenerator, Ratio, Sampler, SamplerOf, SpanLimits,
+};
+use otel_resource::resource::{Resource, ResourceStrings};
+use std::alloc::{AllocError, Global};
+use std::marker::Model;
+
+/// The strings of a batch processor. Each is a decimal number, with a `+` in front or not; another text counts as
+/// absent.
+#[derive(Clone, Debug, Default, Drop)]
+pub struct BatchStrings {
+    /// The time between two drains by the timer in milliseconds, usually of `OTEL_BSP_SCHEDULE_DELAY`.
+    pub schedule_delay: Option<String>,
+    /// How many spans may wait, usually of `OTEL_BSP_MAX_QUEUE_SIZE`.
+    pub max_queue_size: Option<String>,
+    /// How many spans a batch has at most, usually of `OTEL_BSP_MAX_EXPORT_BATCH_SIZE`.
+    pub max_export_batch_size: Option<String>,
+    /// How long an export may take in milliseconds, usually of `OTEL_BSP_EXPORT_TIMEOUT`.
+    pub export_timeout: Option<String>,
+}
+
+impl Model for BatchStrings {
+    ghost use Rattle.std.specs.Prelude.{string_bytes};
+    ghost use Rattle.std.specs.Option.{option_map};
+    ghost use Rattle.otel_sampling.specs.ConfigStrings.{PlainBatchStrings};
+
+    ghost Value = { PlainBatchStrings };
+
+    ghost view = { λ s. record {
+      schedule_delay = option_map string_bytes s.schedule_delay;
+      max_queue_size = option_map string_bytes s.max_queue_size;
+      max_export_batch_size = option_map string_bytes s.max_export_batch_size;
+      export_timeout = option_map string_bytes s.export_timeout;
+    } };
+}
+
+/// The strings that configure a provider. A limit is a decimal number below 2^32, with a `+` in front or not; another
+/// text counts as absent.
+#[derive(Clone, Debug, Default, Drop)]
+pub struct ConfigStrings {
+    pub resource: ResourceStrings,
+    pub batch: BatchStrings,
+    /// How many attributes a span keeps, usually of `OTEL_SPAN_ATTRIBUTE_COUNT_LIMIT`.
+    pub attribute_count_limit: Option<String>,
+    /// How many events a span keeps, usually of `OTEL_SPAN_EVENT_COUNT_LIMIT`.
+    pub event_count_limit: Option<String>,
+    /// How many links a span keeps, usually of `OTEL_SPAN_LINK_COUNT_LIMIT`.
+    pub link_count_limit: Option<String>,
+    /// The name of the sampler, usually of `OTEL_TRACES_SAMPLER`: `always_on`, `always_off`, `traceidratio`, or one of
+    /// these behind `parentbased_`. Any other text is `parentbased_always_on`.
+    pub sampler: Option<String>,
+    /// The ratio of a sampler by ratio, usually of `OTEL_TRACES_SAMPLER_ARG`. All traces where it is no decimal.
+    pub sampler_arg: Option<String>,
+}
+
+impl Model for ConfigStrings {
+    ghost use Rattle.std.specs.Prelude.{string_bytes};
+    ghost use Rattle.std.specs.Option.{option_map};
+    ghost use Rattle.otel_sampling.specs.ConfigStrings.{PlainConfigStrings};
+
+    ghost Value = { PlainConfigStrings };
+
+    ghost view = { λ s. record {
+      resource = s.resource;
+      batch = s.batch;
+      attribute_count_limit = option_map string_bytes s.attribute_count_limit;
+      event_count_limit = option_map string_bytes s.event_count_limit;
+      link_count_limit = option_map string_bytes s.link_count_limit;
+      sampler = option_map string_bytes s.sampler;
+      sampler_arg = option_map string_bytes s.sampler_arg;
+    } };
+}
+
+/// What a provider is made of besides its processors, over a sampler and a generator of ids of any one kind each.
+#[derive(Drop)]
+pub struct ConfigOf<S, G> {
+    pub sampler: S,
+    pub id_generator: G,
+    pub span_limits: SpanLimits,
+    pub resource: Resource,
+}
+
+/// What a provider of the SDK is made of besides its processors.
+pub type Config = ConfigOf<Sampler, IdSource>;
+
+impl<C: Drop, D: Drop> ConfigOf<SamplerOf<C>, IdSourceOf<D>> {
+    /// What the strings say takes the place of what it says, with the SDK's generator of ids under this seed. Where they
+    /// say nothing a child is sampled as its parent and every root is, a span keeps 128 of each kind, and the resource is
+    /// that of `Resource::builder`. On an error it stays as it was.
+    pub fn set_from_strings(
+        &mut self,
+        alloc: Global,
+        strings: &ConfigStrings,
+        seed: u64,
+    ) -> Result<(), AllocError>
+        ensures ok { OnOk result (IsConfigOf strings.now seed self.new) }
+        ensures err { OnErr result (self.new ≡ self.old) }
+    {
+        *self = configured(alloc, strings, seed)?;
+        Ok(())
+    }
+}
+
+impl ConfigOf<Sampler, IdSource> {
+    /// What the strings say, as of `set_from_strings`.
+    pub fn from_strings(
+        alloc: Global,
+        strings: &ConfigStrings,
+        seed: u64,
+    ) -> Result<Config, AllocError>
+        ensures { IfOk result (IsConfigOf strings.now seed) }
+    {
+        let mut config = ConfigOf {
+            sampler: Sampler::AlwaysOn,
+            id_generator: IdSource::Random(RandomIdGenerator::new(seed)),
+            span_limits: SpanLimits::default(),
+            resource: Resource::builder_empty(alloc).build(),
+        };
+        config.set_from_strings(alloc, strings, seed)?;
+        Ok(config)
+    }
+}
+
+/// What the strings say.
+fn configured<C: Drop, D: Drop>(
+    alloc: Global,
+    strings: &ConfigStrings,
+    seed: u64,
+) -> Result<ConfigOf<SamplerOf<C>, IdSourceOf<D>>, AllocError>
+    ensures { IfOk result (IsConfigOf strings.now seed) }
+{
+    let resources = &strings.resource;
+    Ok(ConfigOf {
+        sampler: configured_sampler(alloc, strings)?,
+        id_generator: IdSourceOf::Random(RandomIdGenerator::new(seed)),
+        span_limits: configured_limits(strings),
+        resource: Resource::builder(alloc, resources)?.build(),
+    })
+}
+
+/// The sampler of the configured name.
+fn configured_sampler<C: Drop>(
+    alloc: Global,
+    strings: &ConfigStrings,
+) -> Result<SamplerOf<C>, AllocError>
+    ensures { IfOk result (λ sampler. IsConfiguredSampler strings.now (plan sampler)) }
+{
+    let ratio = configured_ratio(&strings.sampler_arg);
+    let Some(name) = &strings.sampler else {
+        return parent_based(alloc, SamplerOf::AlwaysOn);
+    };
+    match name.as_str() {
+        "always_on" => Ok(SamplerOf::AlwaysOn),
+        "always_off" => Ok(SamplerOf::AlwaysOff),
+        "traceidratio" => Ok(SamplerOf::TraceIdRatioBased(ratio)),
+        "parentbased_always_off" => parent_based(alloc, SamplerOf::AlwaysOff),
+        "parentbased_traceidratio" => parent_based(alloc, SamplerOf::TraceIdRatioBased(ratio)),
+        // `parentbased_always_on`, and every name that no sampler has.
+        _ => parent_based(alloc, SamplerOf::AlwaysOn),
+    }
+}
+
+fn parent_based<C: Drop>(alloc: Global, delegate: SamplerOf<C>) -> Result<SamplerOf<C>, AllocError>
+    ensures { IfOk result (λ sampler. plan sampler ≡ parent_based (plan delegate)) }
+{
+    Ok(SamplerOf::ParentBased(Box::new(alloc, delegate)?))
+}
+
+/// The ratio of the sampler's argument.
+fn configured_ratio(given: &Option<String>) -> Ratio
+    ensures { IsConfiguredRatio (option_map string_bytes given.now) result }
+{
+    match given {
+        Some(text) => Ratio::from_text(text.as_str()).unwrap_or(Ratio::ALL),
+        None => Ratio::ALL,
+    }
+}
+
+/// How much a span keeps.
+fn configured_limits(strings: &ConfigStrings) -> SpanLimits
+    ensures { AreConfiguredLimits strings.now result }
+{
+    let defaults = SpanLimits::default();
+    SpanLimits {
+        max_events_per_span: count_or(&strings.event_count_limit, defaults.max_events_per_span),
+        max_attributes_per_span: count_or(
+            &strings.attribute_count_limit,
+            defaults.max_attributes_per_span,
+        ),
+        max_links_per_span: count_or(&strings.link_count_limit, defaults.max_links_per_span),
+        ..defaults
+    }
+}
+
+/// The number that a string writes, and else this one.
+fn count_or(given: &Option<String>, default: u32) -> u32
+    ensures { IsConfiguredNumber 32 (option_map string_bytes given.now) default result }
+{
+    match given {
+        Some(text) => text.as_str().parse::<u32>().unwrap_or(default),
+        None => default,
+    }
+}

@@ -1,8 +1,0 @@
-use Rattle.otel_session.specs.Calls.{calls_of}
-use Rattle.otel_session.specs.Turns.{course_of}
-use Rattle.otel_session.proofs.EmptiedLemmas.{all_emptied}
-use Rattle.otel_session.proofs.laws.flushed_runs_leave_none_waiting.Goals as goal
-
-pub returns : goal.returns
-returns g c = λ old new histories commands replies took.
-    all_emptied (calls_of g.P.SpanProcessor g.P.DrainDue g.P.KeepsBatches g.S.ShouldSample g.G.IdGenerator) old.scope (course_of old histories) (course_of new took.after) commands took.turns replies took.replied_to took.are_turns

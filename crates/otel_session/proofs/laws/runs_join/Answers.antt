@@ -1,7 +1,0 @@
-use Rattle.otel_session.specs.Calls.{calls_of}
-use Rattle.otel_session.proofs.RunLemmas.{runs_join}
-use Rattle.otel_session.proofs.laws.runs_join.Goals as goal
-
-pub returns : goal.returns
-returns g c = λ old middle new first rest shown then_shown one two.
-    runs_join (calls_of g.P.SpanProcessor g.P.DrainDue g.P.KeepsBatches g.S.ShouldSample g.G.IdGenerator) old middle new first rest shown then_shown one two

@@ -1,8 +1,0 @@
-use Rattle.otel_session.specs.Calls.{calls_of}
-use Rattle.otel_session.specs.Turns.{course_of}
-use Rattle.otel_session.proofs.TraceLemmas.{contexts_kept}
-use Rattle.otel_session.proofs.laws.runs_keep_contexts.Goals as goal
-
-pub returns : goal.returns
-returns g c = λ old new histories commands replies describes took.
-    contexts_kept (calls_of g.P.SpanProcessor g.P.DrainDue g.P.KeepsBatches g.S.ShouldSample g.G.IdGenerator) old.scope (course_of old histories) (course_of new took.after) commands took.turns old.spans new.spans describes took.describes took.are_turns

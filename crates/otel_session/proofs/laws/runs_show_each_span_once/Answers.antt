@@ -1,7 +1,0 @@
-use Rattle.otel_session.specs.Calls.{calls_of}
-use Rattle.otel_session.proofs.ShownLemmas.{all_shown}
-use Rattle.otel_session.proofs.laws.runs_show_each_span_once.Goals as goal
-
-pub returns : goal.returns
-returns g c = λ old new histories commands replies took.
-    all_shown (calls_of g.P.SpanProcessor g.P.DrainDue g.P.KeepsBatches g.S.ShouldSample g.G.IdGenerator) old new histories took.after commands took.turns replies took.replied_to took.are_turns

@@ -1,6 +1,0 @@
-//! Tests of `otel_session` and `otel_program`: what no clause says of them, over objects and streams of the tests' own.
-//! They stand apart, so that the crates are proved once and their edits are tried beside no test.
-#![tactic(auto)]
-
-#[cfg(test)]
-mod tests;

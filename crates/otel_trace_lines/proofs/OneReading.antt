@@ -1,0 +1,161 @@
+-- A line reads as one command at most, so a text spells one list of commands and has one first bad line or none.
+use Rattle.std.proofs.Common.{◌≡◌, ◌≢◌, ℕ, List, [], ◌∷◌, ◌++◌, length, suc, Option, Some, None, refl, sym, ap, ◌∙◌, arith, rules}
+use Rattle.std.specs.Str.Lines.{lines}
+use Rattle.std.specs.Str.Parse.{digits_value}
+use Rattle.opentelemetry.specs.Plain.{PlainStatus, unset, error, ok}
+use Rattle.otel_trace_lines.specs.Commands.{PlainCommand, start, child, remote, attr, event, status, inject, end, flush, run, shutdown}
+use Rattle.otel_trace_lines.specs.Lines.{IsMoment, IsStatus, LineForm, field, last_field, time, outcome, rest_of_line, IsOfForm, form_of, Reads, IsBad, Spell, TextSpells}
+use Rattle.otel_trace_lines.proofs.Fields.{same_field, no_last_field}
+
+-- digits have one moment
+same_moment : (digits others : List ℕ) (moment other : ℕ) → IsMoment digits moment → IsMoment others other → digits ≡ others → moment ≡ other
+same_moment digits others moment other h k e = h.1 ∙ ap (λ ds. digits_value 10 ds) e ∙ sym k.1
+
+-- a text is one status
+same_status : (text : List ℕ) (how other : PlainStatus) → IsStatus text how → IsStatus text other → how ≡ other
+same_status text unset other f g = absurd f
+same_status text how unset f g = absurd g
+same_status text (error description) (error other) f g = cc
+same_status text (error description) ok f g = cc
+same_status text ok (error description) f g = cc
+same_status text ok ok f g = refl
+
+-- two forms agree: field by field, and at their ends where these are of one kind
+abbrev pub AreOneForm : LineForm → LineForm → Type 0
+AreOneForm (field front behind) (field other more) = (front ≡ other) × AreOneForm behind more
+AreOneForm (field front behind) (last_field last) = ⊥
+AreOneForm (last_field last) (field front behind) = ⊥
+AreOneForm (last_field last) (last_field other) = last ≡ other
+AreOneForm (time moment) (time other) = moment ≡ other
+AreOneForm (outcome how) (outcome other) = how ≡ other
+AreOneForm (rest_of_line rest) (rest_of_line other) = rest ≡ other
+AreOneForm _ _ = Unit {0}
+
+-- the forms of one text agree
+forms_agree : (text : List ℕ) (form other : LineForm) → IsOfForm text form → IsOfForm text other → AreOneForm form other
+forms_agree text (field front behind) (field other more) f g =
+    let same = same_field text front f.1.0 other g.1.0 f.0 g.0 f.1.1 g.1.1 in
+    (same.0, forms_agree g.1.0 behind more (rw (← same.1) f.1.2) g.1.2)
+forms_agree text (field front behind) (last_field last) f g = no_last_field text last front f.1.0 g.0 g.1 f.1.1
+forms_agree text (last_field last) (field front behind) f g = no_last_field text last front g.1.0 f.0 f.1 g.1.1
+forms_agree text (last_field last) (last_field other) f g = sym f.1 ∙ g.1
+forms_agree text (time moment) (time other) f g = same_moment text text moment other f g refl
+forms_agree text (outcome how) (outcome other) f g = same_status text how other f g
+forms_agree text (rest_of_line rest) (rest_of_line other) f g = sym f ∙ g
+forms_agree text _ _ f g = tt
+
+-- commands whose forms agree are the same
+same_command : (command other : PlainCommand) → AreOneForm (form_of command) (form_of other) → other ≡ command
+same_command (start s n m) (start s' n' m') h = cc
+same_command (start s n m) _ h = search rules
+same_command (child s p n m) (child s' p' n' m') h = cc
+same_command (child s p n m) _ h = search rules
+same_command (remote s t n m) (remote s' t' n' m') h = cc
+same_command (remote s t n m) _ h = search rules
+same_command (attr s k v) (attr s' k' v') h = cc
+same_command (attr s k v) _ h = search rules
+same_command (event s n m) (event s' n' m') h = cc
+same_command (event s n m) _ h = search rules
+same_command (status s how) (status s' how') h = cc
+same_command (status s how) _ h = search rules
+same_command (inject s) (inject s') h = cc
+same_command (inject s) _ h = search rules
+same_command (end s m) (end s' m') h = cc
+same_command (end s m) _ h = search rules
+same_command flush flush h = refl
+same_command flush _ h = search rules
+same_command (run m) (run m') h = cc
+same_command (run m) _ h = search rules
+same_command shutdown shutdown h = refl
+same_command shutdown _ h = search rules
+
+-- a line reads as one command at most
+pub one_command : (line : List ℕ) (command other : PlainCommand) → Reads line command → Reads line other → other ≡ command
+one_command line command other f g = same_command command other (forms_agree line (form_of command) (form_of other) f.1 g.1)
+
+-- a bad line begins no lines that spell commands
+bad_head : (line : List ℕ) (more : List (List ℕ)) (commands : List PlainCommand) → Spell (line ∷ more) commands → IsBad line → ⊥
+bad_head [] more commands h bad = bad.0 refl
+bad_head (b ∷ line) more [] h bad = h
+bad_head (b ∷ line) more (c ∷ cs) h bad = bad.1 c h.0
+
+-- nor stands among them
+bad_within : (before : List (List ℕ)) (line : List ℕ) (behind : List (List ℕ)) (commands : List PlainCommand) → Spell (before ++ line ∷ behind) commands → IsBad line → ⊥
+bad_within [] line behind commands h bad = bad_head line behind commands h bad
+bad_within ([] ∷ more) line behind commands h bad = bad_within more line behind commands h bad
+bad_within ((b ∷ first) ∷ more) line behind [] h bad = h
+bad_within ((b ∷ first) ∷ more) line behind (c ∷ cs) h bad = bad_within more line behind cs h.1 bad
+
+-- lines spell one list of commands
+one_list : (all : List (List ℕ)) (commands others : List PlainCommand) → Spell all commands → Spell all others → others ≡ commands
+one_list [] [] [] f g = refl
+one_list [] [] (d ∷ ds) f g = absurd g
+one_list [] (c ∷ cs) others f g = absurd f
+one_list ([] ∷ more) cs ds f g = one_list more cs ds f g
+one_list ((b ∷ line) ∷ more) [] ds f g = absurd f
+one_list ((b ∷ line) ∷ more) (c ∷ cs) [] f g = absurd g
+one_list ((b ∷ line) ∷ more) (c ∷ cs) (d ∷ ds) f g =
+    let head = one_command (b ∷ line) c d f.0 g.0 in
+    let tail = one_list more cs ds f.1 g.1 in
+    cc (head, tail)
+
+-- lines before the first bad one spell one list of commands, and are of one number
+one_stop : (before : List (List ℕ)) (line : List ℕ) (behind before' : List (List ℕ)) (line' : List ℕ) (behind' : List (List ℕ)) (cs ds : List PlainCommand) → before ++ line ∷ behind ≡ before' ++ line' ∷ behind' → Spell before cs → Spell before' ds → IsBad line → IsBad line' → (ds ≡ cs) × (length before' ≡ length before)
+one_stop [] line behind [] line' behind' [] [] e f g bad bad' = (refl, refl)
+one_stop [] line behind [] line' behind' [] (d ∷ ds) e f g bad bad' = absurd g
+one_stop [] line behind [] line' behind' (c ∷ cs) ds e f g bad bad' = absurd f
+one_stop [] line behind (first ∷ more) line' behind' cs ds e f g bad bad' =
+    let heads : line ≡ first = cc in
+    absurd (bad_head first more ds g (rw (← heads) bad))
+one_stop (first ∷ more) line behind [] line' behind' cs ds e f g bad bad' =
+    let heads : line' ≡ first = cc in
+    absurd (bad_head first more cs f (rw (← heads) bad'))
+one_stop ([] ∷ more) line behind ([] ∷ more') line' behind' cs ds e f g bad bad' =
+    let tails : more ++ line ∷ behind ≡ more' ++ line' ∷ behind' = cc in
+    let rest = one_stop more line behind more' line' behind' cs ds tails f g bad bad' in
+    (rest.0, ap suc rest.1)
+one_stop ([] ∷ more) line behind ((b ∷ first) ∷ more') line' behind' cs ds e f g bad bad' = cc
+one_stop ((b ∷ first) ∷ more) line behind ([] ∷ more') line' behind' cs ds e f g bad bad' = cc
+one_stop ((b ∷ first) ∷ more) line behind ((b' ∷ first') ∷ more') line' behind' [] ds e f g bad bad' = absurd f
+one_stop ((b ∷ first) ∷ more) line behind ((b' ∷ first') ∷ more') line' behind' (c ∷ cs) [] e f g bad bad' = absurd g
+one_stop ((b ∷ first) ∷ more) line behind ((b' ∷ first') ∷ more') line' behind' (c ∷ cs) (d ∷ ds) e f g bad bad' =
+    let tails : more ++ line ∷ behind ≡ more' ++ line' ∷ behind' = cc in
+    let heads : b' ∷ first' ≡ b ∷ first = cc in
+    let rest = one_stop more line behind more' line' behind' cs ds tails f.1 g.1 bad bad' in
+    let here : d ≡ c = one_command (b ∷ first) c d f.0 (rw (← heads) g.0) in
+    (cc (rest.0, here), ap suc rest.1)
+
+-- a text spells one list of commands up to its first bad line, and has one such line or none
+pub one_reading : (text : List ℕ) (commands others : List PlainCommand) (bad_line other : Option ℕ) → TextSpells text commands bad_line → TextSpells text others other → (others ≡ commands) × (other ≡ bad_line)
+one_reading text cs ds None None f g = (one_list (lines text) cs ds f g, refl)
+one_reading text cs ds None (Some n) f g = absurd (bad_within g.before g.line g.behind cs (rw (← g.parts) f) g.bad)
+one_reading text cs ds (Some n) None f g = absurd (bad_within f.before f.line f.behind ds (rw (← f.parts) g) f.bad)
+one_reading text cs ds (Some n) (Some k) f g =
+    let same = one_stop f.before f.line f.behind g.before g.line g.behind cs ds (sym f.parts ∙ g.parts) f.spelled g.spelled f.bad g.bad in
+    let numbers : k ≡ n = omega (arith, f.number, g.number, same.1) in
+    (same.0, ap (λ i. Some i) numbers)
+
+-- lines that spell nothing are empty
+pub none_filled : (before : List (List ℕ)) (line : List ℕ) (more : List (List ℕ)) → Spell (before ++ line ∷ more) [] → line ≢ [] → ⊥
+none_filled [] [] more h some = some refl
+none_filled [] (b ∷ line) more h some = h
+none_filled ([] ∷ before) line more h some = none_filled before line more h some
+none_filled ((b ∷ first) ∷ before) line more h some = h
+
+-- where the lines in front of the first bad one spell nothing, no line that reads stands behind lines that spell commands
+pub none_read : (before : List (List ℕ)) (line : List ℕ) (more before' : List (List ℕ)) (line' : List ℕ) (more' : List (List ℕ)) (cs : List PlainCommand) (command : PlainCommand) → before ++ line ∷ more ≡ before' ++ line' ∷ more' → Spell before cs → line ≢ [] → Reads line command → Spell before' [] → IsBad line' → ⊥
+none_read [] line more [] line' more' cs command e f some reads g bad =
+    let heads : line' ≡ line = cc in
+    bad.1 command (rw heads reads)
+none_read [] line more (first ∷ before') line' more' cs command e f some reads g bad =
+    let heads : first ≡ line = cc in
+    none_filled [] first before' g (rw heads some)
+none_read (first ∷ before) line more [] line' more' cs command e f some reads g bad =
+    let heads : line' ≡ first = cc in
+    bad_head first before cs f (rw (← heads) bad)
+none_read ([] ∷ before) line more ([] ∷ before') line' more' cs command e f some reads g bad =
+    let tails : before ++ line ∷ more ≡ before' ++ line' ∷ more' = cc in
+    none_read before line more before' line' more' cs command tails f some reads g bad
+none_read ([] ∷ before) line more ((b ∷ first) ∷ before') line' more' cs command e f some reads g bad = g
+none_read ((b ∷ first) ∷ before) line more ([] ∷ before') line' more' cs command e f some reads g bad = cc
+none_read ((b ∷ first) ∷ before) line more ((c ∷ other) ∷ before') line' more' cs command e f some reads g bad = g

@@ -1,0 +1,71 @@
+-- Commands as contracts see them: numbers, and texts as their bytes.
+use Rattle.std.specs.Prelude.{ℕ, Bool, true, false, List, map, string_bytes}
+use Rattle.opentelemetry.specs.Plain.{PlainStatus}
+use Rattle.opentelemetry.specs.PlainValues.{plain_status}
+use Rattle.otel_trace_lines.specs.declared.command.Command.{Command}
+use Rattle.otel_trace_lines.specs.declared.command.Command.TheVariants as commands
+
+-- a command without where its texts lie
+pub data PlainCommand : Type 0 where
+  -- the span's text, the span's name, the moment at which it starts
+  start : List ℕ → List ℕ → ℕ → PlainCommand
+  -- the span's text, its parent's text, the span's name, the moment at which it starts
+  child : List ℕ → List ℕ → List ℕ → ℕ → PlainCommand
+  -- the span's text, the header, the span's name, the moment at which it starts
+  remote : List ℕ → List ℕ → List ℕ → ℕ → PlainCommand
+  -- the span's text, the key, the value
+  attr : List ℕ → List ℕ → List ℕ → PlainCommand
+  -- the span's text, the event's name, the moment at which it happened
+  event : List ℕ → List ℕ → ℕ → PlainCommand
+  -- the span's text, how its operation went
+  status : List ℕ → PlainStatus → PlainCommand
+  -- the span's text
+  inject : List ℕ → PlainCommand
+  -- the span's text, the moment at which it ends
+  end : List ℕ → ℕ → PlainCommand
+  -- of the provider, and of no span
+  flush : PlainCommand
+  -- the moment that is now
+  run : ℕ → PlainCommand
+  shutdown : PlainCommand
+
+-- what a command asks for
+abbrev pub plain_command : Command → PlainCommand
+plain_command (commands.Start span name moment) = start (string_bytes span) (string_bytes name) moment.0
+plain_command (commands.Child span parent name moment) =
+    child (string_bytes span) (string_bytes parent) (string_bytes name) moment.0
+plain_command (commands.Remote span header name moment) =
+    remote (string_bytes span) (string_bytes header) (string_bytes name) moment.0
+plain_command (commands.Attr span key value) = attr (string_bytes span) (string_bytes key) (string_bytes value)
+plain_command (commands.Event span name moment) = event (string_bytes span) (string_bytes name) moment.0
+plain_command (commands.Status span how) = status (string_bytes span) (plain_status how)
+plain_command (commands.Inject span) = inject (string_bytes span)
+plain_command (commands.End span moment) = end (string_bytes span) moment.0
+plain_command commands.Flush = flush
+plain_command (commands.Run moment) = run moment.0
+plain_command commands.Shutdown = shutdown
+
+-- whether a command may end a span
+abbrev pub is_end : PlainCommand → Bool
+is_end (start span name moment) = false
+is_end (child span parent name moment) = false
+is_end (remote span header name moment) = false
+is_end (attr span key value) = false
+is_end (event span name moment) = false
+is_end (status span how) = false
+is_end (inject span) = false
+is_end (end span moment) = true
+is_end flush = false
+is_end (run moment) = false
+is_end shutdown = false
+
+-- whether a command has the provider hand on what waits, where batches may be lost that no reply tells
+abbrev pub may_lose : PlainCommand → Bool
+may_lose flush = true
+may_lose (run moment) = true
+may_lose shutdown = true
+may_lose _ = false
+
+-- what commands ask for, in order
+abbrev pub plain_commands : List Command → List PlainCommand
+plain_commands = map plain_command

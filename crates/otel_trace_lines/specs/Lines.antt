@@ -1,0 +1,138 @@
+-- Which commands a text spells, line by line. Lines are those of the text, in std's word: each ends in a line feed and
+-- loses the one carriage return in front of it, and a rest behind the last line feed, if not empty, is a line as it is.
+use Rattle.std.specs.Prelude.{◌≡◌, ◌≢◌, ℕ, ◌+◌, ◌^◌, ◌<◌, List, [], ◌∷◌, ◌++◌, length, Option, Some, None, All, codes, IsUtf8}
+use Rattle.std.specs.Str.Lines.{lines}
+use Rattle.std.specs.Str.Parse.{IsNumeral, digits_value}
+use Rattle.opentelemetry.specs.declared.trace.status.Status.{Status}
+use Rattle.opentelemetry.specs.Plain.{PlainStatus, unset, error, ok}
+use Rattle.opentelemetry.specs.PlainValues.{plain_status}
+use Rattle.otel_trace_lines.specs.declared.command.Command.{Command}
+use Rattle.otel_trace_lines.specs.Commands.{PlainCommand, start, child, remote, attr, event, status, inject, end, flush, run, shutdown, plain_command}
+
+-- a field is not empty and has no space in it
+abbrev pub IsField : List ℕ → Type 0
+IsField bytes = (0 < length bytes) × All (λ b. b ≢ 32) bytes
+
+-- a moment is a numeral of decimal digits alone, in range of 64 bits
+abbrev pub IsMoment : List ℕ → ℕ → Type 0
+IsMoment digits moment = IsNumeral 10 digits × (moment ≡ digits_value 10 digits) × (moment < 2 ^ 64)
+
+-- a status is `ok`, or `error`, a space and the description, which may be empty; no text is a status that nobody set
+abbrev pub IsStatus : List ℕ → PlainStatus → Type 0
+IsStatus text unset = ⊥
+IsStatus text (error description) = text ≡ codes "error" ++ 32 ∷ description
+IsStatus text ok = text ≡ codes "ok"
+
+-- the form of a line, from its front to its end
+pub data LineForm : Type 0 where
+  -- a field, a space, and what stands behind it
+  field : List ℕ → LineForm → LineForm
+  -- a field with nothing behind it
+  last_field : List ℕ → LineForm
+  -- a moment
+  time : ℕ → LineForm
+  -- a status
+  outcome : PlainStatus → LineForm
+  -- the rest of the line, whatever it is
+  rest_of_line : List ℕ → LineForm
+
+-- a text is of a form
+abbrev pub IsOfForm : List ℕ → LineForm → Type 0
+IsOfForm text (field front behind) =
+    IsField front × ((rest : List ℕ) × (text ≡ front ++ 32 ∷ rest) × IsOfForm rest behind)
+IsOfForm text (last_field last) = IsField last × (text ≡ last)
+IsOfForm text (time moment) = IsMoment text moment
+IsOfForm text (outcome how) = IsStatus text how
+IsOfForm text (rest_of_line rest) = text ≡ rest
+
+-- the form of a command's line: its word, and what stands behind the word
+abbrev pub form_of : PlainCommand → LineForm
+form_of (start span name moment) = field (codes "start") (field span (field name (time moment)))
+form_of (child span parent name moment) =
+    field (codes "child") (field span (field parent (field name (time moment))))
+form_of (remote span header name moment) =
+    field (codes "remote") (field span (field header (field name (time moment))))
+form_of (attr span key value) = field (codes "attr") (field span (field key (rest_of_line value)))
+form_of (event span name moment) = field (codes "event") (field span (field name (time moment)))
+form_of (status span how) = field (codes "status") (field span (outcome how))
+form_of (inject span) = field (codes "inject") (last_field span)
+form_of (end span moment) = field (codes "end") (field span (time moment))
+form_of flush = last_field (codes "flush")
+form_of (run moment) = field (codes "run") (time moment)
+form_of shutdown = last_field (codes "shutdown")
+
+-- a line reads as a command: it is text of the command's form
+abbrev pub Reads : List ℕ → PlainCommand → Type 0
+Reads line command = IsUtf8 line × IsOfForm line (form_of command)
+
+-- a bad line: not empty, and it reads as no command
+abbrev pub IsBad : List ℕ → Type 0
+IsBad line = (line ≢ []) × ((command : PlainCommand) → Reads line command → ⊥)
+
+-- lines that read as these commands, one each, but for empty lines, which are left out
+abbrev pub Spell : List (List ℕ) → List PlainCommand → Type 0
+Spell [] [] = Unit {0}
+Spell [] (command ∷ commands) = ⊥
+Spell ([] ∷ more) commands = Spell more commands
+Spell ((b ∷ line) ∷ more) [] = ⊥
+Spell ((b ∷ line) ∷ more) (command ∷ commands) = Reads (b ∷ line) command × Spell more commands
+
+-- line n, counted from 1, is the first bad one, and the lines before it spell the commands
+pub record StopsAt (all : List (List ℕ)) (commands : List PlainCommand) (n : ℕ) : Type 0 where
+  pub before : List (List ℕ)
+  pub line : List ℕ
+  pub behind : List (List ℕ)
+  pub parts : all ≡ before ++ line ∷ behind
+  pub number : n ≡ length before + 1
+  pub spelled : Spell before commands
+  pub bad : IsBad line
+
+-- what lines spell up to the first bad one, and which one that is, if there is one
+abbrev pub SpellUpTo : List (List ℕ) → List PlainCommand → Option ℕ → Type 0
+SpellUpTo all commands None = Spell all commands
+SpellUpTo all commands (Some n) = StopsAt all commands n
+
+-- what a text spells up to its first bad line, and which one that is, if there is one
+abbrev pub TextSpells : List ℕ → List PlainCommand → Option ℕ → Type 0
+TextSpells text commands bad_line = SpellUpTo (lines text) commands bad_line
+
+-- a text that spells no command: its lines up to the first bad one are empty
+abbrev pub SpellsNothing : List ℕ → Type 0
+SpellsNothing text = (bad_line : Option ℕ) × TextSpells text [] bad_line
+
+-- a form that begins with a word, and these fields are of the form behind its space
+abbrev pub HasFields : List ℕ → List ℕ → LineForm → Type 0
+HasFields word fields (field front behind) = (front ≡ word) × IsOfForm fields behind
+HasFields word fields _ = ⊥
+
+-- a line that reads as a command
+abbrev pub IsCommand : List ℕ → Type 0
+IsCommand line = (command : PlainCommand) × Reads line command
+
+-- behind this word's space these fields are a command's
+abbrev pub AreFields : List ℕ → List ℕ → Type 0
+AreFields word fields = (command : PlainCommand) × HasFields word fields (form_of command)
+
+-- a text that spells a status
+abbrev pub SpellsStatus : List ℕ → Type 0
+SpellsStatus text = (how : PlainStatus) × IsStatus text how
+
+-- what is found in a line: a command as which it reads, and none only where it reads as none
+abbrev pub LineGives : List ℕ → Option Command → Type 0
+LineGives line None = (command : PlainCommand) → Reads line command → ⊥
+LineGives line (Some command) = Reads line (plain_command command)
+
+-- what is found behind a word: a command of that word whose fields stand there, and none only where there is none
+abbrev pub FieldsGive : List ℕ → List ℕ → Option Command → Type 0
+FieldsGive word fields None = (command : PlainCommand) → HasFields word fields (form_of command) → ⊥
+FieldsGive word fields (Some command) = HasFields word fields (form_of (plain_command command))
+
+-- what is found where a word is all of a line: a command of that word alone, and none only where there is none
+abbrev pub WordGives : List ℕ → Option Command → Type 0
+WordGives word None = (command : PlainCommand) → form_of command ≡ last_field word → ⊥
+WordGives word (Some command) = form_of (plain_command command) ≡ last_field word
+
+-- what is found where a status is to stand: the status, and none only where there is none
+abbrev pub StatusGives : List ℕ → Option Status → Type 0
+StatusGives text None = (how : PlainStatus) → IsStatus text how → ⊥
+StatusGives text (Some how) = IsStatus text (plain_status how)

@@ -1,0 +1,76 @@
+//! What a line of the input can ask for.
+
+ghost use Rattle.std.specs.Prelude.{◌≡◌};
+ghost use Rattle.otel_trace_lines.specs.Commands.{is_end, plain_command};
+
+use opentelemetry::Moment;
+use opentelemetry::trace::Status;
+
+/// One request to a session. A span is named by a text of the caller's choice.
+#[derive(Debug, Drop)]
+pub enum Command {
+    /// Start a span under a name, as a child of no other.
+    Start {
+        span: String,
+        name: String,
+        moment: Moment,
+    },
+    /// Start a span under a name, as a child of the span of another name.
+    Child {
+        span: String,
+        parent: String,
+        name: String,
+        moment: Moment,
+    },
+    /// Start a span under a name, in the context that a `traceparent` says (W3C Trace Context): as a child of a span of
+    /// another process, or of none where the text says none.
+    Remote {
+        span: String,
+        traceparent: String,
+        name: String,
+        moment: Moment,
+    },
+    /// Set an attribute whose value is a text.
+    Attr {
+        span: String,
+        key: String,
+        value: String,
+    },
+    /// Add an event without attributes.
+    Event {
+        span: String,
+        name: String,
+        moment: Moment,
+    },
+    /// Set how the operation of a span went. No line asks for `Unset`.
+    Status {
+        span: String,
+        status: Status,
+    },
+    /// Tell the headers by which another process continues the trace of a span.
+    Inject {
+        span: String,
+    },
+    /// End a span.
+    End {
+        span: String,
+        moment: Moment,
+    },
+    /// Have each processor of the provider hand on what it holds.
+    Flush,
+    /// Tell each processor of the provider the time, so that it does what is due.
+    Run {
+        moment: Moment,
+    },
+    /// Shut the provider down.
+    Shutdown,
+}
+
+impl Command {
+    /// Whether it asks for the end of a span.
+    pub fn ends_span(&self) -> bool
+        ensures { result ≡ is_end (plain_command self.now) }
+    {
+        matches!(self, Command::End { .. })
+    }
+}

@@ -1,0 +1,25 @@
+//! Laws of texts and their lines: each function does nothing, and its contract is the law.
+
+ghost use Rattle.std.specs.Prelude.{◌≡◌, ◌+◌, ◌++◌, List, ℕ, Option, Some, None, length, option_map};
+ghost use Rattle.std.specs.Io.{IsEmptyOrEndsWith};
+ghost use Rattle.std.specs.Str.Lines.{lines as lines_of};
+ghost use Rattle.otel_trace_lines.specs.Commands.{PlainCommand};
+ghost use Rattle.otel_trace_lines.specs.Lines.{TextSpells};
+
+/// A text that is cut behind a line feed has the lines of its two parts.
+pub fn lines_join()
+    ensures { (first second : List ℕ) → IsEmptyOrEndsWith first 10
+        → lines_of (first ++ second) ≡ lines_of first ++ lines_of second }
+{}
+
+/// A text that is cut behind a line feed spells what its two parts spell, with its lines counted through. Behind a bad
+/// line it may go on as it will.
+pub fn texts_join()
+    ensures joined { (first second : List ℕ) (commands more : List PlainCommand) (bad_line : Option ℕ)
+        → IsEmptyOrEndsWith first 10 → TextSpells first commands None → TextSpells second more bad_line
+        → TextSpells (first ++ second) (commands ++ more)
+        (option_map (λ line. length (lines_of first) + line) bad_line) }
+    ensures bad { (first second : List ℕ) (commands : List PlainCommand) (line : ℕ)
+        → IsEmptyOrEndsWith first 10 → TextSpells first commands (Some line)
+        → TextSpells (first ++ second) commands (Some line) }
+{}

@@ -1,0 +1,15 @@
+//! The program's lines: commands are read from bytes, and replies are written as bytes. The mode `steps` has its own
+//! (`otel_trace_steps`), and takes them apart and writes them by the same calls.
+#![tactic(auto)]
+
+pub mod command;
+pub mod laws;
+pub mod lines;
+pub mod reply;
+pub mod reply_form;
+pub mod reply_text;
+
+pub use command::Command;
+pub use lines::{Script, parse};
+pub use reply::{Answer, Reply, SpanIdentity};
+pub use reply_form::{ReplyForm, ReplyLines};

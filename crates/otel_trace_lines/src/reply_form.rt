@@ -1,0 +1,76 @@
+//! The form in which a session's replies are written, and the program's own: lines.
+
+ghost use Rattle.std.specs.Prelude.{◌≡◌, ◌++◌, [], IsOk, OnErr, OnOk, map};
+ghost use Rattle.otel_trace_lines.specs.ReplyForm.{Form, reply_lines};
+
+use crate::reply::Answer;
+use crate::reply_text::{write_batches, write_reply};
+use otel_export::trace::SpanData;
+use std::alloc::{AllocError, Global};
+
+/// How replies are written, and what is left to write when a session closes. It may hold room for their texts.
+pub trait ReplyForm {
+    /// It stays the same, whatever was written.
+    ghost form: { Self → Form };
+
+    /// Writes the reply of an answer, with these batches before it, or nothing where memory runs out.
+    fn write_reply(
+        &mut self,
+        output: &mut Vec<u8>,
+        exported: &[Vec<SpanData>],
+        answer: Answer,
+    ) -> Result<(), AllocError>
+        ensures ok { OnOk result (output.new.items ≡ output.old.items ++ (form self.old).reply
+            (record { exported = map (λ batch. batch.items) exported.now; answer = answer })) }
+        ensures err { OnErr result (output.new.items ≡ output.old.items) }
+        ensures form { form self.new ≡ form self.old };
+
+    /// Writes the batches that no reply has shown, or nothing where memory runs out. Where nothing is to be written, no
+    /// memory is wanted.
+    fn write_rest(
+        &mut self,
+        output: &mut Vec<u8>,
+        batches: &[Vec<SpanData>],
+    ) -> Result<(), AllocError>
+        ensures ok { OnOk result (output.new.items
+            ≡ output.old.items ++ (form self.old).rest (map (λ batch. batch.items) batches.now)) }
+        ensures err { OnErr result (output.new.items ≡ output.old.items) }
+        ensures free { (form self.old).rest (map (λ batch. batch.items) batches.now) ≡ [] → IsOk result }
+        ensures form { form self.new ≡ form self.old };
+}
+
+/// Replies as lines: a line for each span that was exported, and then the answer's.
+#[derive(Drop)]
+pub struct ReplyLines {
+    // Room for their texts, one after another.
+    text: String,
+}
+
+impl ReplyLines {
+    pub fn new(alloc: Global) -> ReplyLines {
+        ReplyLines {
+            text: String::new(alloc),
+        }
+    }
+}
+
+impl ReplyForm for ReplyLines {
+    ghost form = { λ _. reply_lines };
+
+    fn write_reply(
+        &mut self,
+        output: &mut Vec<u8>,
+        exported: &[Vec<SpanData>],
+        answer: Answer,
+    ) -> Result<(), AllocError> {
+        write_reply(&mut self.text, output, exported, answer)
+    }
+
+    fn write_rest(
+        &mut self,
+        output: &mut Vec<u8>,
+        batches: &[Vec<SpanData>],
+    ) -> Result<(), AllocError> {
+        write_batches(&mut self.text, output, batches)
+    }
+}

@@ -1,0 +1,124 @@
+-- The lines of replies, and of what is left at a close, are those of all batches that a session exported.
+use Rattle.std.proofs.Common.{◌≡◌, ◌++◌, ◌∙◌, ℕ, List, [], ◌∷◌, Option, Some, None, Result, Ok, Err, inl, inr, ap, arith, drop, length}
+use Rattle.std.proofs.Common.{append_assoc, length-append, map, refl, subst, sym}
+use Rattle.std.specs.Io.KnownBytes.{Appends}
+use Rattle.otel_resource.specs.DetectedResource.{IsDetected}
+use Rattle.otel_resource.specs.Resource.{PlainResource}
+use Rattle.otel_sampling.specs.declared.trace.sampler.SamplerOf.{SamplerOf}
+use Rattle.otel_export.specs.declared.error.OTelSdkError.{OTelSdkError}
+use Rattle.otel_export.specs.PlainSpanData.{PlainSpanData}
+use Rattle.otel_kept.specs.ProcessorKeeps.{OnlyAppends}
+use Rattle.otel_trace_lines.specs.Commands.{plain_commands}
+use Rattle.otel_trace_lines.specs.PlainReply.{PlainReply}
+use Rattle.otel_trace_lines.specs.ReplyForm.{texts}
+use Rattle.otel_otlp.specs.Otlp.{otlp_line, otlp_lines, otlp_text}
+use Rattle.otel_pipeline.specs.Provider.{ProviderState}
+use Rattle.otel_trace_run.specs.Arguments.{AsksForOtlp}
+use Rattle.otel_trace_run.specs.OtlpRuns.{ExportsAll, exported_since, otlp_form}
+use Rattle.otel_trace_run.specs.Program.{BeginsExporting, ExportsAsked, IsProviderOf, MemoryProcessor, strings_given}
+use Rattle.otel_trace_run.specs.Streams.{EndsAs, Streams}
+use Rattle.otel_trace_run.specs.TraceRuns.{TracesBegun, TracesWhole}
+use Rattle.otel_trace_run.specs.declared.program.Asked.{Asked}
+use Rattle.otel_trace_run.specs.declared.run_end.RunEnd.{RunEnd}
+use Rattle.otel_trace_run.specs.declared.run_end.RunEnd.TheVariants as ends
+use Rattle.otel_trace_run.proofs.OtlpWords.{otlp_once}
+use Rattle.otel_trace_run.proofs.TraceStream.{all_begun}
+use Rattle.otel_trace_session.specs.Calls.{Calls, batches_of_first}
+use Rattle.otel_trace_session.specs.Closing.{Closes, or_no_memory}
+use Rattle.otel_trace_session.specs.Shown.{exported_in}
+use Rattle.otel_trace_session.specs.Turns.{SessionState, session_under}
+use Rattle.otel_trace_session.proofs.ShownLemmas.{closes_rest}
+
+-- lines of batches, and of others behind them
+lines_joined : (resource : PlainResource) (first second : List (List PlainSpanData))
+    → otlp_lines resource (first ++ second) ≡ otlp_lines resource first ++ otlp_lines resource second
+lines_joined resource [] second = refl
+lines_joined resource (batch ∷ first) second =
+    ap (λ bs. otlp_line resource batch ++ bs) (lines_joined resource first second)
+    ∙ sym (append_assoc (otlp_line resource batch) (otlp_lines resource first) (otlp_lines resource second))
+
+-- replies in that form are the lines of their batches
+texts_are_lines : (resource : PlainResource) (replies : List PlainReply)
+    → texts (otlp_form resource) replies ≡ otlp_lines resource (exported_in replies)
+texts_are_lines resource [] = refl
+texts_are_lines resource (reply ∷ replies) =
+    ap (λ bs. otlp_lines resource reply.exported ++ bs) (texts_are_lines resource replies)
+    ∙ sym (lines_joined resource reply.exported (exported_in replies))
+
+-- want of memory is not Ok
+never_well : (said : Result (Unit {0}) OTelSdkError) → Ok tt ≡ or_no_memory said → ⊥
+never_well (Ok done) e = cc
+never_well (Err error) e = cc
+
+module _ {P S G : Type 0} (calls : Calls P S G)
+    (law : OnlyAppends calls.processor calls.timer calls.keeps.kept calls.keeps.lost) (resource : PlainResource) where
+  -- what a close that went well appended
+  closing_lines : (session : SessionState P S G) (before now : List ℕ)
+      → (closed : Closes calls (otlp_form resource) session before (Ok tt) now)
+      → now ≡ before ++ otlp_lines resource (drop session.shown (batches_of_first calls.keeps closed.provider.processors))
+  closing_lines session before now closed = elim closed.writes [
+    | inl h ↦ h.written
+    | inr h ↦ absurd (never_well closed.shutdown h.answers)
+  ]
+
+  exports_all : (provider : ProviderState P S G) (s : Streams) (bad_line : Option ℕ)
+      → TracesWhole calls (otlp_form resource) provider s bad_line → ExportsAll calls resource provider s bad_line
+  exports_all provider s bad_line h =
+      let f = h.finishes in
+      let begun = session_under calls.keeps provider in
+      let took = f.feeds.these.ran.took (λ _. None) (λ q. refl) in
+      let left = drop f.after.shown (batches_of_first calls.keeps f.closes.provider.processors) in
+      let all : exported_in f.feeds.replies ++ left ≡ exported_since calls resource provider f.closes.provider =
+      closes_rest calls law begun f.after f.closes.provider (λ _. None) (plain_commands f.feeds.these.commands)
+      f.feeds.replies f.closes.shutdown took f.closes.shuts (omega arith) in
+      let text : h.text ≡ otlp_lines resource (exported_since calls resource provider f.closes.provider) =
+      closing_lines f.after f.written h.text f.closes
+      ∙ ap (λ bs. bs ++ otlp_lines resource left) (f.feeds.written ∙ texts_are_lines resource f.feeds.replies)
+      ∙ sym (lines_joined resource (exported_in f.feeds.replies) left) ∙ ap (otlp_lines resource) all in
+      record { traces = h; lines = subst (Appends s.output s.output_after) text h.written }
+
+  pub exports_as : (provider : ProviderState P S G) (s : Streams) (end : RunEnd)
+      → EndsAs (TracesWhole calls (otlp_form resource) provider s) (TracesBegun calls (otlp_form resource) provider s) s end
+      → EndsAs (ExportsAll calls resource provider s) (TracesBegun calls (otlp_form resource) provider s) s end
+  exports_as provider s ends.Done h = (exports_all provider s None h.0, h.1)
+  exports_as provider s (ends.BadLine line) h = exports_all provider s (Some line) h
+  exports_as provider s ends.Failed h = h
+
+-- where no line is written, there is no batch
+pub no_batch : {X : Type 0} (items : X → List PlainSpanData) (resource : PlainResource) (batches : List X)
+    → otlp_lines resource (map items batches) ≡ [] → batches ≡ []
+no_batch items resource [] e = refl
+no_batch items resource (batch ∷ batches) e =
+    let text = otlp_text resource (items batch) in
+    let more = otlp_lines resource (map items batches) in
+    let lengths = ap length e in
+    absurd (omega (arith, lengths, length-append (text ++ 10 ∷ []) more, length-append text (10 ∷ [])))
+
+module _ {C D E : Type 0} (calls : Calls (MemoryProcessor C D) (SamplerOf E) (List ℕ)) (asked : Asked)
+    (given : List (List ℕ)) (resource : PlainResource) where
+  -- what is exported of this resource under the provider that is asked for
+  pub exports_asked : (provider : ProviderState (MemoryProcessor C D) (SamplerOf E) (List ℕ)) (s : Streams) (end : RunEnd)
+      → IsDetected (strings_given given) resource → IsProviderOf asked provider
+      → EndsAs (ExportsAll calls resource provider s) (TracesBegun calls (otlp_form resource) provider s) s end
+      → EndsAs (ExportsAsked calls asked given s) (BeginsExporting calls asked given s) s end
+  exports_asked provider s ends.Done is of h = ((resource, is, provider, of, h.0), h.1)
+  exports_asked provider s (ends.BadLine line) is of h = (resource, is, provider, of, h)
+  exports_asked provider s ends.Failed is of h = inr (resource, is, provider, of, h)
+
+module _ {C D E : Type 0} (calls : Calls (MemoryProcessor C D) (SamplerOf E) (List ℕ)) where
+  -- what is asked once is asked by any such words
+  pub exports_once : (words : List (List ℕ)) (asked other : Asked) (given more : List (List ℕ)) (s : Streams) (end : RunEnd)
+      → AsksForOtlp words asked given → AsksForOtlp words other more
+      → EndsAs (ExportsAsked calls other more s) (BeginsExporting calls other more s) s end
+      → EndsAs (ExportsAsked calls asked given s) (BeginsExporting calls asked given s) s end
+  exports_once words asked other given more s end h k run =
+      let same = otlp_once words other asked more given k h in
+      subst (λ (a : Asked). EndsAs (ExportsAsked calls a given s) (BeginsExporting calls a given s) s end) same.0
+      (subst (λ (g : List (List ℕ)). EndsAs (ExportsAsked calls other g s) (BeginsExporting calls other g s) s end)
+      same.1 run)
+
+  -- what was exported whole is a beginning
+  pub exporting_begun : (asked : Asked) (given : List (List ℕ)) (s : Streams) (bad_line : Option ℕ)
+      → ExportsAsked calls asked given s bad_line → BeginsExporting calls asked given s
+  exporting_begun asked given s bad_line (resource, is, provider, of, h) =
+      inr (resource, is, provider, of, all_begun calls (otlp_form resource) (session_under calls.keeps provider) s bad_line h.traces)

@@ -1,0 +1,456 @@
+-- A stream of commands: what was carried out so far, and what a piece more does.
+use Rattle.std.proofs.Common.{◌≡◌, ℕ, ◌+◌, Bool, true, false, List, [], ◌∷◌, ◌++◌, length, Option, None, Some, Result, Ok, Err, inl, inr, refl, sym, ap, subst, ◌∙◌, arith, append_assoc, append-nil, length-append}
+use Rattle.std.specs.Prelude.{◌⊎◌, option_map}
+use Rattle.std.proofs.KnownBytes.{Appends-nil, Appends-trans, Consumes-nil}
+use Rattle.std.proofs.lemmas.List.{map-append}
+use Rattle.std.proofs.lemmas.List.Concat.{flat_map-append}
+use Rattle.std.specs.Io.{IsEmptyOrEndsWith}
+use Rattle.std.specs.Io.KnownBytes.{Appends, Consumes, IsAtEnd}
+use Rattle.std.specs.Str.Lines.{lines}
+use Rattle.otel_export.specs.declared.error.OTelSdkError.{OTelSdkError}
+use Rattle.otel_export.specs.PlainSpanData.{PlainSpanData}
+use Rattle.otel_trace_lines.proofs.JoinedLines.{lines_joined}
+use Rattle.otel_trace_lines.proofs.JoinedTexts.{bad_text_joined}
+use Rattle.otel_trace_lines.specs.Commands.{PlainCommand, plain_command, plain_commands}
+use Rattle.otel_trace_lines.specs.Lines.{Spell, SpellUpTo, TextSpells}
+use Rattle.otel_trace_lines.specs.PlainReply.{NoneRefused, PlainReply}
+use Rattle.otel_trace_lines.specs.ReplyForm.{Form, texts}
+use Rattle.otel_trace_lines.specs.declared.command.Command.{Command}
+use Rattle.otel_trace_session.specs.Calls.{Calls}
+use Rattle.otel_trace_session.specs.Closing.{Closes}
+use Rattle.otel_trace_session.specs.Fed.{Feeds, FeedsSome, FeedsUpTo}
+use Rattle.otel_trace_session.specs.Forgotten.{HasForgotten, Streams as Follows}
+use Rattle.otel_trace_session.specs.OpenSpans.{Describe, Histories}
+use Rattle.otel_trace_session.specs.Turns.{Runs, SessionState}
+use Rattle.otel_trace_session.specs.declared.session.FeedError.{FeedError}
+use Rattle.otel_trace_session.specs.declared.session.FeedError.TheVariants as feeds
+use Rattle.otel_trace_session.proofs.Forgetting.{RecallsNothingElse}
+use Rattle.otel_trace_session.proofs.RunLemmas.{runs_join}
+use Rattle.otel_trace_session.proofs.Streaming.{runs_whole, streams_finish, streams_forget, streams_more, streams_nothing}
+use Rattle.otel_otlp.specs.Streams.{AppendsBeginning}
+use Rattle.otel_trace_run.specs.Pieces.{GivesLines, KeepsAll, PlainPieces}
+use Rattle.otel_trace_run.specs.Streams.{EndsAs, Streams, streams}
+use Rattle.otel_trace_run.specs.TraceRuns.{BeginsToSpell, CarriesOutSome, FeedsPieces, FeedsPiece, FedAs, TracesAll, TracesSome}
+use Rattle.otel_trace_run.specs.declared.run_end.RunEnd.{RunEnd}
+use Rattle.otel_trace_run.specs.declared.run_end.RunEnd.TheVariants as ends
+use Rattle.otel_trace_run.proofs.Cut.{IsCut, cut_given, cut_last, cut_piece, ends_joined, holds_of_all, nothing_ends, read_on_from}
+
+-- what none of two lists of replies counts
+pub none_refused_joined : (replies more : List PlainReply) → NoneRefused replies → NoneRefused more → NoneRefused (replies ++ more)
+none_refused_joined [] more h k = k
+none_refused_joined (reply ∷ replies) more h k = (h.0, none_refused_joined replies more h.1 k)
+
+-- the text of replies, and of more
+replies_joined : (form : Form) (replies more : List PlainReply) → texts form replies ++ texts form more ≡ texts form (replies ++ more)
+replies_joined form replies more = sym (flat_map-append form.reply replies more)
+
+-- commands that all lines spell are spelled by a beginning of them
+begins_all : (all : List (List ℕ)) (commands : List PlainCommand) (bad_line : Option ℕ) → SpellUpTo all commands bad_line → (front : List (List ℕ)) × (left : List (List ℕ)) × (all ≡ front ++ left) × Spell front commands
+begins_all all commands None h = (all, [], sym (append-nil all), h)
+begins_all all commands (Some n) h = (h.before, h.line ∷ h.behind, h.parts, h.spelled)
+
+pub begins_text : (text : List ℕ) (commands : List PlainCommand) (bad_line : Option ℕ) → TextSpells text commands bad_line → BeginsToSpell text commands
+begins_text text commands bad_line h = let k = begins_all (lines text) commands bad_line h in record { front = k.0; left = k.1; parts = k.2; spelled = k.3 }
+
+-- fewer commands are spelled by fewer lines
+spells_fewer : (all : List (List ℕ)) (done more : List PlainCommand) → Spell all (done ++ more) → (front : List (List ℕ)) × (left : List (List ℕ)) × (all ≡ front ++ left) × Spell front done
+spells_fewer all [] more h = ([], all, refl, tt)
+spells_fewer [] (c ∷ done) more h = absurd h
+spells_fewer ([] ∷ all) (c ∷ done) more h = let k = spells_fewer all (c ∷ done) more h in ([] ∷ k.0, k.1, ap (λ ls. [] ∷ ls) k.2, k.3)
+spells_fewer ((b ∷ line) ∷ all) (c ∷ done) more h = let k = spells_fewer all done more h.1 in ((b ∷ line) ∷ k.0, k.1, ap (λ ls. (b ∷ line) ∷ ls) k.2, (h.0, k.3))
+
+begins_fewer : (text : List ℕ) (done more : List PlainCommand) → BeginsToSpell text (done ++ more) → BeginsToSpell text done
+begins_fewer text done more h =
+    let k = spells_fewer h.front done more h.spelled in
+    record { front = k.0; left = k.1 ++ h.left; parts = h.parts ∙ ap (λ ls. ls ++ h.left) k.2 ∙ append_assoc k.0 k.1 h.left; spelled = k.3 }
+
+-- lines, and others behind them
+spell_joined : (first second : List (List ℕ)) (commands more : List PlainCommand) → Spell first commands → Spell second more → Spell (first ++ second) (commands ++ more)
+spell_joined [] second [] more h k = k
+spell_joined [] second (c ∷ cs) more h k = absurd h
+spell_joined ([] ∷ first) second cs more h k = spell_joined first second cs more h k
+spell_joined ((b ∷ line) ∷ first) second [] more h k = absurd h
+spell_joined ((b ∷ line) ∷ first) second (c ∷ cs) more h k = (h.0, spell_joined first second cs more h.1 k)
+
+begins_joined : (first second : List ℕ) (commands more : List PlainCommand) → IsEmptyOrEndsWith first 10 → TextSpells first commands None → BeginsToSpell second more → BeginsToSpell (first ++ second) (commands ++ more)
+begins_joined first second commands more ends h k = record {
+  front = lines first ++ k.front;
+  left = k.left;
+  parts = lines_joined first second ends ∙ ap (λ ls. lines first ++ ls) k.parts ∙ sym (append_assoc (lines first) k.front k.left);
+  spelled = spell_joined (lines first) k.front commands more h k.spelled;
+}
+
+begins_longer : (first second : List ℕ) (commands : List PlainCommand) → IsEmptyOrEndsWith first 10 → BeginsToSpell first commands → BeginsToSpell (first ++ second) commands
+begins_longer first second commands ends h = record {
+  front = h.front;
+  left = h.left ++ lines second;
+  parts = lines_joined first second ends ∙ ap (λ ls. ls ++ lines second) h.parts ∙ append_assoc h.front h.left (lines second);
+  spelled = h.spelled;
+}
+
+-- a beginning was written behind what was written
+appends_behind : (a b c : Option (List ℕ)) (first second : List ℕ) → Appends a b first → AppendsBeginning b c second → AppendsBeginning a c (first ++ second)
+appends_behind a b c first second h (written, left, e, k) =
+    (first ++ written, left, ap (λ bs. first ++ bs) e ∙ sym (append_assoc first written left), Appends-trans a b c first written h k)
+
+-- a beginning of a text is one of a longer text
+appends_longer : (a b : Option (List ℕ)) (first second : List ℕ) → AppendsBeginning a b first → AppendsBeginning a b (first ++ second)
+appends_longer a b first second (written, left, e, k) = (written, left ++ second, ap (λ bs. bs ++ second) e ∙ append_assoc written left second, k)
+
+pub appends_all : (a b : Option (List ℕ)) (bytes : List ℕ) → Appends a b bytes → AppendsBeginning a b bytes
+appends_all a b bytes h = (bytes, [], sym (append-nil bytes), h)
+
+module _ {P S G : Type 0} (calls : Calls P S G) (form : Form) (begun : SessionState P S G) where
+  -- so many lines were given and their commands carried out, and a rest was read behind them
+  pub record HasTraced (now : SessionState P S G) (s : Streams) (rest : List ℕ) (number : ℕ) : Type 0 where
+    pub given : List ℕ
+    pub replies : List PlainReply
+    pub read : Consumes s.input s.input_after (given ++ rest)
+    pub ends : IsEmptyOrEndsWith given 10
+    pub follows : Follows calls begun given None replies now
+    pub none_refused : NoneRefused replies
+    pub written : Appends s.output s.output_after (texts form replies)
+    pub counted : number ≡ length (lines given)
+
+module _ {P S G : Type 0} (calls : Calls P S G) where
+  -- no command was carried out
+  nothing_ran : (now : SessionState P S G) (more : List PlainReply) → more ≡ [] → Runs calls now [] more now
+  nothing_ran now more none = subst (λ (replies : List PlainReply). Runs calls now [] replies now) (sym none) (record {
+    scope = refl;
+    lost_before = refl;
+    took = λ histories describes. record { turns = []; after = histories; are_turns = refl; replied_to = refl; describes = describes };
+  })
+
+module _ {P S G : Type 0} (calls : Calls P S G) (form : Form) where
+  -- what a close appends is a beginning of the text of batches, behind any text
+  closes_text : (now : SessionState P S G) (answer : Result (Unit {0}) OTelSdkError) (before text : List ℕ) → Closes calls form now before answer text
+      → (batches : List (List PlainSpanData)) × (left : List ℕ) × (before ++ form.rest batches ≡ text ++ left)
+  closes_text now answer before text h = elim h.writes [
+    | inl w ↦ (_, [], sym w.written ∙ sym (append-nil text))
+    | inr w ↦ ([], form.rest [], ap (λ bs. bs ++ form.rest []) (sym w.written))
+  ]
+
+module _ {P S G : Type 0} (calls : Calls P S G) (form : Form) (law : RecallsNothingElse calls) (begun : SessionState P S G) (histories : Histories) (describes : Describe histories begun.spans) where
+  -- none was given yet
+  pub traced_none : (input output : Option (List ℕ)) → HasTraced calls form begun begun (streams input input output output) [] 0
+  traced_none input output = record {
+    given = [];
+    replies = [];
+    read = Consumes-nil input;
+    ends = nothing_ends;
+    follows = streams_nothing calls law begun;
+    none_refused = tt;
+    written = Appends-nil output;
+    counted = refl;
+  }
+
+  -- commands of a text in front of the input
+  some_traced : (input : Option (List ℕ)) (Written : List ℕ → Type 0) (text : List ℕ) (commands : List Command) (replies : List PlainReply) (after : SessionState P S G) → IsCut input text → BeginsToSpell text (plain_commands commands)
+      → Runs calls begun commands replies after → NoneRefused replies → Written (texts form replies) → CarriesOutSome calls form begun input Written
+  some_traced input Written text commands replies after cut begins ran none written = record {
+    bytes = text ++ cut.behind;
+    commands = commands;
+    replies = replies;
+    after = after;
+    all = cut.all;
+    begins = holds_of_all (λ bs. BeginsToSpell bs (plain_commands commands)) input text cut (λ behind ends k. begins_longer text behind (plain_commands commands) ends k) begins;
+    ran = ran;
+    none_refused = none;
+    written = written;
+  }
+
+  -- the lines so far are a beginning
+  pub begun_so_far : (now : SessionState P S G) (input here after output output_after : Option (List ℕ)) (rest more : List ℕ) (number : ℕ) → HasTraced calls form begun now (streams input here output output_after) rest number
+      → IsCut input more → (h : HasTraced calls form begun now (streams input here output output_after) rest number) → h.given ≡ more → CarriesOutSome calls form begun input (Appends output output_after)
+  begun_so_far now input here after output output_after rest more number _ cut h e =
+      some_traced input (Appends output output_after) more h.follows.feeds.commands h.replies h.follows.whole cut
+      (begins_text more (plain_commands h.follows.feeds.commands) None (subst (λ (bs : List ℕ). TextSpells bs (plain_commands h.follows.feeds.commands) None) e h.follows.feeds.spelled)) h.follows.feeds.ran h.none_refused h.written
+
+  -- reading gives up
+  pub begun_reading : (now : SessionState P S G) (input here after output output_after : Option (List ℕ)) (rest : List ℕ) (number : ℕ) (piece : PlainPieces) → HasTraced calls form begun now (streams input here output output_after) rest number
+      → KeepsAll here after rest piece → CarriesOutSome calls form begun input (Appends output output_after)
+  begun_reading now input here after output output_after rest number piece h k =
+      let read : Consumes input after (h.given ++ piece.rest) =
+      subst (λ (bs : List ℕ). Consumes input after (bs ++ piece.rest)) (append-nil h.given) (read_on_from input here after h.given rest k.read [] piece.rest h.read k.consumed k.joined) in
+      begun_so_far now input here after output output_after rest h.given number h (cut_given input after h.given piece.rest read h.ends) h refl
+
+  -- turns run out
+  pub begun_turning : (now : SessionState P S G) (input here output output_after : Option (List ℕ)) (rest : List ℕ) (number : ℕ) → HasTraced calls form begun now (streams input here output output_after) rest number
+      → CarriesOutSome calls form begun input (Appends output output_after)
+  begun_turning now input here output output_after rest number h =
+      begun_so_far now input here here output output_after rest h.given number h (cut_given input here h.given rest h.read h.ends) h refl
+
+  -- commands of a piece more were carried out, as far as they were
+  some_more : (now middle : SessionState P S G) (input here after output reached : Option (List ℕ)) (rest : List ℕ) (number : ℕ) (goes_on : Bool) (piece : PlainPieces) (Written : List ℕ → Type 0) (commands : List Command) (more : List PlainReply)
+      → (h : HasTraced calls form begun now (streams input here output reached) rest number) → GivesLines here after rest goes_on piece → BeginsToSpell piece.lines (plain_commands commands) → Runs calls now commands more middle → NoneRefused more
+      → Written (texts form (h.replies ++ more)) → CarriesOutSome calls form begun input Written
+  some_more now middle input here after output reached rest number goes_on piece Written commands more h g begins ran none written =
+      let took = h.follows.feeds.ran.took histories describes in
+      let there = subst (λ (s : SessionState P S G). Describe took.after s.spans) h.follows.forgot.rest took.describes in
+      let whole = runs_whole calls law h.follows.whole now middle took.after commands more h.follows.forgot there ran in
+      let before = h.follows.feeds.commands in
+      some_traced input Written (h.given ++ piece.lines) (before ++ commands) (h.replies ++ more) whole.after (cut_piece input here after h.given rest goes_on piece h.read h.ends g)
+      (subst (λ (cs : List PlainCommand). BeginsToSpell (h.given ++ piece.lines) cs) (sym (map-append plain_command before commands))
+      (begins_joined h.given piece.lines (plain_commands before) (plain_commands commands) h.ends h.follows.feeds.spelled begins))
+      (runs_join calls begun h.follows.whole whole.after before commands h.replies more h.follows.feeds.ran whole.ran)
+      (none_refused_joined h.replies more h.none_refused none) written
+
+  -- those in front of the one that was stopped were
+  some_commands : (error : FeedError) (now middle : SessionState P S G) (text : List ℕ) (more : List PlainReply) → FeedsSome calls error now text more middle
+      → (commands : List Command) × (reached : SessionState P S G) × BeginsToSpell text (plain_commands commands) × Runs calls now commands more reached
+  some_commands error now middle text more h =
+      let k = h.stopped in
+      let parts : plain_commands h.commands ≡ plain_commands k.done ++ plain_commands (k.last ∷ k.left) = ap plain_commands k.parts ∙ map-append plain_command k.done (k.last ∷ k.left) in (
+        k.done,
+        k.middle,
+        begins_fewer text (plain_commands k.done) (plain_commands (k.last ∷ k.left)) (subst (BeginsToSpell text) parts (begins_text text (plain_commands h.commands) h.bad_line h.spelled)),
+        k.ran,
+      )
+
+  -- the same, whatever feeding the piece came to
+  fed_commands : {T : Type 0} (now middle : SessionState P S G) (text : List ℕ) (fed : Result T FeedError) (more : List PlainReply) → Feeds calls now text fed more middle
+      → (commands : List Command) × (reached : SessionState P S G) × BeginsToSpell text (plain_commands commands) × Runs calls now commands more reached
+  fed_commands now middle text (Ok x) more h = (h.commands, middle, begins_text text (plain_commands h.commands) None h.spelled, h.ran)
+  fed_commands now middle text (Err (feeds.Line n)) more h = (h.commands, middle, begins_text text (plain_commands h.commands) (Some n) h.spelled, h.ran)
+  fed_commands now middle text (Err feeds.Memory) more (inl h) = ([], now, record { front = []; left = lines text; parts = refl; spelled = tt }, nothing_ran calls now more h.none)
+  fed_commands now middle text (Err feeds.Memory) more (inr h) = some_commands feeds.Memory now middle text more h
+  fed_commands now middle text (Err feeds.Refused) more h = some_commands feeds.Refused now middle text more h
+  fed_commands now middle text (Err feeds.BatchLost) more h = some_commands feeds.BatchLost now middle text more h
+
+  -- of a piece more some was carried out, and of the text of its replies some was written
+  pub begun_feeding : {T : Type 0} (now next : SessionState P S G) (input here after output reached : Option (List ℕ)) (rest : List ℕ) (number : ℕ) (goes_on : Bool) (piece : PlainPieces) (fed : Result T FeedError) (Written Behind : List ℕ → Type 0)
+      → HasTraced calls form begun now (streams input here output reached) rest number → GivesLines here after rest goes_on piece → FeedsPiece calls form now piece.lines fed Written next
+      → ((first second : List ℕ) → Appends output reached first → Written second → Behind (first ++ second)) → CarriesOutSome calls form begun input Behind
+  begun_feeding now next input here after output reached rest number goes_on piece fed Written Behind h g k behind =
+      let ran = fed_commands now k.middle piece.lines fed k.replies k.feeds in
+      some_more now ran.1 input here after output reached rest number goes_on piece Behind ran.0 k.replies h g ran.2 ran.3 k.none_refused
+      (subst Behind (replies_joined form h.replies k.replies) (behind (texts form h.replies) (texts form k.replies) h.written k.written))
+
+  pub begun_failing : {T : Type 0} (now next : SessionState P S G) (input here after output reached output_after : Option (List ℕ)) (rest : List ℕ) (number : ℕ) (goes_on : Bool) (piece : PlainPieces) (fed : Result T FeedError)
+      → HasTraced calls form begun now (streams input here output reached) rest number → GivesLines here after rest goes_on piece → FeedsPiece calls form now piece.lines fed (Appends reached output_after) next
+      → CarriesOutSome calls form begun input (Appends output output_after)
+  begun_failing now next input here after output reached output_after rest number goes_on piece fed h g k =
+      begun_feeding now next input here after output reached rest number goes_on piece fed (Appends reached output_after) (Appends output output_after) h g k
+      (λ first second first_h second_h. Appends-trans output reached output_after first second first_h second_h)
+
+  pub begun_breaking : {T : Type 0} (now next : SessionState P S G) (input here after output reached output_after : Option (List ℕ)) (rest : List ℕ) (number : ℕ) (goes_on : Bool) (piece : PlainPieces) (fed : Result T FeedError)
+      → HasTraced calls form begun now (streams input here output reached) rest number → GivesLines here after rest goes_on piece → FeedsPiece calls form now piece.lines fed (AppendsBeginning reached output_after) next
+      → CarriesOutSome calls form begun input (AppendsBeginning output output_after)
+  begun_breaking now next input here after output reached output_after rest number goes_on piece fed h g k =
+      begun_feeding now next input here after output reached rest number goes_on piece fed (AppendsBeginning reached output_after) (AppendsBeginning output output_after) h g k
+      (λ first second first_h second_h. appends_behind output reached output_after first second first_h second_h)
+
+  -- the pieces so far, and one more
+  follows_more : (now next middle : SessionState P S G) (given lines_now : List ℕ) (bad_line : Option ℕ) (replies more : List PlainReply) → IsEmptyOrEndsWith given 10 → Follows calls begun given None replies now
+      → FeedsUpTo calls now lines_now bad_line more middle → HasForgotten calls.keeps middle next → Follows calls begun (given ++ lines_now) (option_map (λ n. length (lines given) + n) bad_line) (replies ++ more) next
+  follows_more now next middle given lines_now bad_line replies more ends h k forgot =
+      streams_forget calls law begun middle next (given ++ lines_now) (option_map (λ n. length (lines given) + n) bad_line) (replies ++ more)
+      (streams_more calls law begun now middle histories given lines_now bad_line replies more describes ends h k) forgot
+
+  -- a piece more is carried out
+  pub traced_more : {T : Type 0} (now next : SessionState P S G) (input here after output reached output_after : Option (List ℕ)) (rest : List ℕ) (number count : ℕ) (goes_on : Bool) (piece : PlainPieces) (fed : Result T FeedError) (x : T)
+      → HasTraced calls form begun now (streams input here output reached) rest number → GivesLines here after rest goes_on piece → goes_on ≡ true → fed ≡ Ok x → FeedsPiece calls form now piece.lines fed (Appends reached output_after) next
+      → count ≡ number + length (lines piece.lines) → HasTraced calls form begun next (streams input after output output_after) piece.rest count
+  traced_more {T} now next input here after output reached output_after rest number count goes_on piece fed x h g is well k counted =
+      let ends : IsEmptyOrEndsWith piece.lines 10 = (g.some is).1 in
+      record {
+        given = h.given ++ piece.lines;
+        replies = h.replies ++ k.replies;
+        read = read_on_from input here after h.given rest g.read piece.lines piece.rest h.read g.consumed g.joined;
+        ends = ends_joined h.given piece.lines h.ends ends;
+        follows = follows_more now next k.middle h.given piece.lines None h.replies k.replies h.ends h.follows (subst (λ (r : Result T FeedError). Feeds calls now piece.lines r k.replies k.middle) well k.feeds) k.forgot;
+        none_refused = none_refused_joined h.replies k.replies h.none_refused k.none_refused;
+        written = subst (Appends output output_after) (replies_joined form h.replies k.replies) (Appends-trans output reached output_after (texts form h.replies) (texts form k.replies) h.written k.written);
+        counted =
+            let before : number ≡ length (lines h.given) = h.counted in
+            let joined : length (lines (h.given ++ piece.lines)) ≡ length (lines h.given ++ lines piece.lines) = ap length (lines_joined h.given piece.lines h.ends) in
+            omega (arith, before, counted, joined, length-append (lines h.given) (lines piece.lines));
+      }
+
+  -- the last piece is
+  pub traced_all : {T : Type 0} (now next : SessionState P S G) (input here after output reached output_after : Option (List ℕ)) (rest : List ℕ) (number : ℕ) (goes_on : Bool) (piece : PlainPieces) (fed : Result T FeedError) (x : T)
+      → HasTraced calls form begun now (streams input here output reached) rest number → GivesLines here after rest goes_on piece → goes_on ≡ false → fed ≡ Ok x → FeedsPiece calls form now piece.lines fed (Appends reached output_after) next
+      → FeedsPieces calls form begun next (streams input after output output_after) None × IsAtEnd after
+  traced_all {T} now next input here after output reached output_after rest number goes_on piece fed x h g is well k =
+      let last = cut_last input here after h.given rest goes_on piece is h.read g in (
+        record {
+          bytes = h.given ++ piece.lines;
+          replies = h.replies ++ k.replies;
+          all = last.0;
+          follows = follows_more now next k.middle h.given piece.lines None h.replies k.replies h.ends h.follows (subst (λ (r : Result T FeedError). Feeds calls now piece.lines r k.replies k.middle) well k.feeds) k.forgot;
+          none_refused = none_refused_joined h.replies k.replies h.none_refused k.none_refused;
+          written = subst (Appends output output_after) (replies_joined form h.replies k.replies) (Appends-trans output reached output_after (texts form h.replies) (texts form k.replies) h.written k.written);
+        },
+        last.1,
+      )
+
+  -- behind a bad line a text may go on
+  follows_longer : (now : SessionState P S G) (text behind : List ℕ) (line : ℕ) (replies : List PlainReply) → IsEmptyOrEndsWith text 10 → Follows calls begun text (Some line) replies now → Follows calls begun (text ++ behind) (Some line) replies now
+  follows_longer now text behind line replies ends h = record {
+    whole = h.whole;
+    feeds = record { commands = h.feeds.commands; spelled = bad_text_joined text behind (plain_commands h.feeds.commands) line ends h.feeds.spelled; ran = h.feeds.ran };
+    forgot = h.forgot;
+  }
+
+  -- a line of a piece is bad
+  pub traced_bad : {T : Type 0} (now next : SessionState P S G) (input here after output reached output_after : Option (List ℕ)) (rest : List ℕ) (number line : ℕ) (goes_on : Bool) (piece : PlainPieces) (fed : Result T FeedError)
+      → HasTraced calls form begun now (streams input here output reached) rest number → GivesLines here after rest goes_on piece → fed ≡ Err (feeds.Line line) → FeedsPiece calls form now piece.lines fed (Appends reached output_after) next
+      → FeedsPieces calls form begun next (streams input after output output_after) (Some (number + line))
+  traced_bad {T} now next input here after output reached output_after rest number line goes_on piece fed h g is k =
+      let cut = cut_piece input here after h.given rest goes_on piece h.read h.ends g in
+      let text = h.given ++ piece.lines in
+      let all = h.replies ++ k.replies in
+      let follows : Follows calls begun text (Some (number + line)) all next =
+      subst (λ (n : ℕ). Follows calls begun text (Some (n + line)) all next) (sym h.counted) (follows_more now next k.middle h.given piece.lines (Some line) h.replies k.replies h.ends h.follows (subst (λ (r : Result T FeedError). Feeds calls now piece.lines r k.replies k.middle) is k.feeds) k.forgot) in
+      record {
+        bytes = text ++ cut.behind;
+        replies = all;
+        all = cut.all;
+        follows = holds_of_all (λ bs. Follows calls begun bs (Some (number + line)) all next) input text cut (λ behind ends h. follows_longer next text behind (number + line) all ends h) follows;
+        none_refused = none_refused_joined h.replies k.replies h.none_refused k.none_refused;
+        written = subst (Appends output output_after) (replies_joined form h.replies k.replies) (Appends-trans output reached output_after (texts form h.replies) (texts form k.replies) h.written k.written);
+      }
+
+module _ {P S G : Type 0} (calls : Calls P S G) (form : Form) (law : RecallsNothingElse calls) (begun : SessionState P S G) where
+  -- what was fed is a beginning
+  fed_some : (now : SessionState P S G) (s : Streams) (bad_line : Option ℕ) → FeedsPieces calls form begun now s bad_line → CarriesOutSome calls form begun s.input (Appends s.output s.output_after)
+  fed_some now s bad_line h = record {
+    bytes = h.bytes;
+    commands = h.follows.feeds.commands;
+    replies = h.replies;
+    after = h.follows.whole;
+    all = h.all;
+    begins = begins_text h.bytes (plain_commands h.follows.feeds.commands) bad_line h.follows.feeds.spelled;
+    ran = h.follows.feeds.ran;
+    none_refused = h.none_refused;
+    written = h.written;
+  }
+
+  -- what was carried out and closed, where not all was written
+  pub some_closed : (input output reached output_after : Option (List ℕ)) (now : SessionState P S G) (answer : Result (Unit {0}) OTelSdkError) (closing : List ℕ) → CarriesOutSome calls form begun input (Appends output reached)
+      → Closes calls form now [] answer closing → AppendsBeginning reached output_after closing → (after : Option (List ℕ)) → TracesSome calls form begun (streams input after output output_after)
+  some_closed input output reached output_after now answer closing h k written after =
+      let rest = closes_text calls form now answer [] closing k in record {
+        bytes = h.bytes;
+        commands = h.commands;
+        replies = h.replies;
+        after = h.after;
+        all = h.all;
+        begins = h.begins;
+        ran = h.ran;
+        none_refused = h.none_refused;
+        written = (
+          rest.0,
+          appends_behind output reached output_after (texts form h.replies) (form.rest rest.0) h.written
+              (subst (AppendsBeginning reached output_after) (sym rest.2) (appends_longer reached output_after closing rest.1 written)),
+        );
+      }
+
+  pub some_broken : (input output output_after : Option (List ℕ)) → CarriesOutSome calls form begun input (AppendsBeginning output output_after) → (after : Option (List ℕ)) → TracesSome calls form begun (streams input after output output_after)
+  some_broken input output output_after h after = record {
+    bytes = h.bytes;
+    commands = h.commands;
+    replies = h.replies;
+    after = h.after;
+    all = h.all;
+    begins = h.begins;
+    ran = h.ran;
+    none_refused = h.none_refused;
+    written = ([], appends_longer output output_after (texts form h.replies) (form.rest []) h.written);
+  }
+
+  -- a close appends the same behind any text
+  closes_behind : (now : SessionState P S G) (answer : Result (Unit {0}) OTelSdkError) (before closing : List ℕ) → Closes calls form now [] answer closing → Closes calls form now before answer (before ++ closing)
+  closes_behind now answer before closing h = record {
+    provider = h.provider;
+    shutdown = h.shutdown;
+    shuts = h.shuts;
+    writes = elim h.writes [
+      | inl w ↦ inl (record { answers = w.answers; written = ap (λ bs. before ++ bs) w.written })
+      | inr w ↦ inr (record { answers = w.answers; written = ap (λ bs. before ++ bs) w.written ∙ append-nil before; is_some = w.is_some })
+    ];
+  }
+
+  -- what was fed and closed well, all of it written
+  pub all_closed : (now : SessionState P S G) (input after output reached output_after : Option (List ℕ)) (bad_line : Option ℕ) (closing : List ℕ) → FeedsPieces calls form begun now (streams input after output reached) bad_line
+      → Closes calls form now [] (Ok tt) closing → Appends reached output_after closing → TracesAll calls form begun (streams input after output output_after) bad_line
+  all_closed now input after output reached output_after bad_line closing h k written = record {
+    bytes = h.bytes;
+    text = texts form h.replies ++ closing;
+    all = h.all;
+    finishes = streams_finish calls law form begun now h.bytes bad_line h.replies (texts form h.replies ++ closing) h.follows h.none_refused (closes_behind now (Ok tt) (texts form h.replies) closing k);
+    written = Appends-trans output reached output_after (texts form h.replies) closing h.written written;
+  }
+
+  -- a session was fed and closed, and not all was well or written
+  pub closed_some : (now : SessionState P S G) (input after output reached output_after : Option (List ℕ)) (end : RunEnd) (answer : Result (Unit {0}) OTelSdkError) (closing : List ℕ) → FedAs calls form begun now (streams input after output reached) end
+      → Closes calls form now [] answer closing → AppendsBeginning reached output_after closing → TracesSome calls form begun (streams input after output output_after)
+  closed_some now input after output reached output_after ends.Done answer closing h k written = some_closed input output reached output_after now answer closing (fed_some now (streams input after output reached) None h.0) k written after
+  closed_some now input after output reached output_after (ends.BadLine line) answer closing h k written = some_closed input output reached output_after now answer closing (fed_some now (streams input after output reached) (Some line) h) k written after
+  closed_some now input after output reached output_after ends.Failed answer closing h k written = some_closed input output reached output_after now answer closing h k written after
+
+  -- a session was fed and closed well, and all was written
+  pub closed_as : (now : SessionState P S G) (input after output reached output_after : Option (List ℕ)) (end : RunEnd) (closing : List ℕ) → FedAs calls form begun now (streams input after output reached) end
+      → Closes calls form now [] (Ok tt) closing → Appends reached output_after closing
+      → EndsAs (TracesAll calls form begun (streams input after output output_after)) (TracesSome calls form begun (streams input after output output_after)) (streams input after output output_after) end
+  closed_as now input after output reached output_after ends.Done closing h k written = (all_closed now input after output reached output_after None closing h.0 k written, h.1)
+  closed_as now input after output reached output_after (ends.BadLine line) closing h k written = all_closed now input after output reached output_after (Some line) closing h k written
+  closed_as now input after output reached output_after ends.Failed closing h k written = some_closed input output reached output_after now (Ok tt) closing h k (appends_all reached output_after closing written) after
+
+  -- how feeding ends at a bad line
+  pub fed_bad : (now : SessionState P S G) (s : Streams) (line : ℕ) (end : RunEnd) → (end ≡ ends.Failed) ⊎ (end ≡ ends.BadLine line) → FeedsPieces calls form begun now s (Some line) → CarriesOutSome calls form begun s.input (Appends s.output s.output_after)
+      → FedAs calls form begun now s end
+  fed_bad now s line end (inl failed) h k = subst (FedAs calls form begun now s) (sym failed) k
+  fed_bad now s line end (inr bad) h k = subst (FedAs calls form begun now s) (sym bad) h
+
+module _ {P S G : Type 0} (calls : Calls P S G) (form : Form) (begun : SessionState P S G) where
+  -- what was given whole is a beginning
+  pub all_begun : (s : Streams) (bad_line : Option ℕ) → TracesAll calls form begun s bad_line → TracesSome calls form begun s
+  all_begun s bad_line h =
+      let f = h.finishes in
+      let rest = closes_text calls form f.after (Ok tt) f.written h.text f.closes in
+      record {
+        bytes = h.bytes;
+        commands = f.feeds.these.commands;
+        replies = f.feeds.replies;
+        after = f.after;
+        all = h.all;
+        begins = begins_text h.bytes (plain_commands f.feeds.these.commands) bad_line f.feeds.these.spelled;
+        ran = f.feeds.these.ran;
+        none_refused = f.feeds.none_refused;
+        written = (
+          rest.0,
+          subst (AppendsBeginning s.output s.output_after) (sym rest.2 ∙ ap (λ bs. bs ++ form.rest rest.0) f.feeds.written)
+              (appends_longer s.output s.output_after h.text rest.1 (appends_all s.output s.output_after h.text h.written)),
+        );
+      }
+
+  -- no session was made
+  pub none_begun : (input output : Option (List ℕ)) → TracesSome calls form begun (streams input input output output)
+  none_begun input output =
+      let cut = cut_given input input [] [] (Consumes-nil input) nothing_ends in
+      record {
+        bytes = [] ++ cut.behind;
+        commands = [];
+        replies = [];
+        after = begun;
+        all = cut.all;
+        begins = record { front = []; left = lines cut.behind; parts = refl; spelled = tt };
+        ran = nothing_ran calls begun [] refl;
+        none_refused = tt;
+        written = ([], ([], form.rest [], refl, Appends-nil output));
+      }
+
+  -- what was written whole is a beginning
+  pub begun_whole : (input output output_after : Option (List ℕ)) → CarriesOutSome calls form begun input (Appends output output_after) → CarriesOutSome calls form begun input (AppendsBeginning output output_after)
+  begun_whole input output output_after h = record {
+    bytes = h.bytes;
+    commands = h.commands;
+    replies = h.replies;
+    after = h.after;
+    all = h.all;
+    begins = h.begins;
+    ran = h.ran;
+    none_refused = h.none_refused;
+    written = appends_all output output_after (texts form h.replies) h.written;
+  }

@@ -1,0 +1,7 @@
+-- No machine was made, so nothing was done.
+use Rattle.otel_trace_steps.specs.StepAnswers.{machine_of}
+use Rattle.otel_trace_run.proofs.StepStream.{begun_none}
+use Rattle.otel_trace_run.proofs.step_stream.step_input.Goals as goal
+
+pub returns-in-Err : goal.returns-in-Err
+returns-in-Err g c = begun_none (machine_of c.args.sizes) (g.R.Read.remaining c.args.input.now) (g.W.Write.contents c.args.output.now)

@@ -1,0 +1,31 @@
+-- What the mode `otlp` does with its streams: each batch that a session exports is a line.
+use Rattle.std.specs.Prelude.{ℕ, List, Option, drop, length}
+use Rattle.std.specs.Io.KnownBytes.{Appends}
+use Rattle.otel_resource.specs.Resource.{PlainResource}
+use Rattle.otel_export.specs.PlainSpanData.{PlainSpanData}
+use Rattle.otel_trace_lines.specs.ReplyForm.{Form}
+use Rattle.otel_otlp.specs.Otlp.{otlp_lines}
+use Rattle.otel_pipeline.specs.Provider.{ProviderState}
+use Rattle.otel_trace_run.specs.Streams.{Streams}
+use Rattle.otel_trace_run.specs.TraceRuns.{TracesWhole}
+use Rattle.otel_trace_session.specs.Calls.{Calls, batches_of_first}
+
+-- replies as the lines of their batches; an answer is not written
+abbrev pub otlp_form : PlainResource → Form
+otlp_form resource = record {
+  reply = λ reply. otlp_lines resource reply.exported;
+  rest = λ batches. otlp_lines resource batches;
+}
+
+module _ {P S G : Type 0} (calls : Calls P S G) (resource : PlainResource) where
+  -- the batches that the first processor's exporter took since
+  abbrev pub exported_since : ProviderState P S G → ProviderState P S G → List (List PlainSpanData)
+  exported_since begun closed =
+      drop (length (batches_of_first calls.keeps begun.processors)) (batches_of_first calls.keeps closed.processors)
+
+  -- one session carried out the whole input, up to its first bad line, and closed; the output was given the lines of
+  -- all batches that it exported, in order
+  pub record ExportsAll (provider : ProviderState P S G) (s : Streams) (bad_line : Option ℕ) : Type 0 where
+    pub traces : TracesWhole calls (otlp_form resource) provider s bad_line
+    pub lines : Appends s.output s.output_after
+        (otlp_lines resource (exported_since provider traces.finishes.closes.provider))

@@ -1,0 +1,113 @@
+-- The provider that the modes `trace` and `otlp` are asked for, and what a session under it does with the streams. Of the bytes of a
+-- stream it speaks where the stream tells them.
+use Rattle.std.specs.Prelude.{◌≡◌, ◌⊎◌, ℕ, false, List, [], ◌∷◌, Option, None, slice_get}
+use Rattle.std.specs.Io.KnownBytes.{Appends}
+use Rattle.rand_xoshiro.specs.SplitMix64.{splitmix_seed}
+use Rattle.rand_xoshiro.specs.Xoshiro256.{of_seed}
+use Rattle.otel_resource.specs.DetectedResource.{IsDetected, PlainResourceStrings}
+use Rattle.otel_sampling.specs.Limits.{default_limits}
+use Rattle.otel_resource.specs.Resource.{PlainResource}
+use Rattle.otel_sampling.specs.Sampler.{plan, always_on, parent_based}
+use Rattle.otel_sampling.specs.declared.trace.sampler.SamplerOf.{SamplerOf}
+use Rattle.otel_sampling.specs.declared.trace.sampler.ShouldSample as sampling
+use Rattle.otel_sampling.specs.declared.trace.id_generator.IdGenerator as drawing
+use Rattle.otel_batch.specs.PlainBatchConfig.{PlainBatchConfig, cut_to_queue, default_batch_config}
+use Rattle.otel_export.specs.RecalledBatches.{exporter_recalled}
+use Rattle.otel_export.specs.StoredBatches.{StoredBatches}
+use Rattle.otel_export.specs.declared.trace.exporter_box.ExporterOf.{ExporterOf}
+use Rattle.otel_export.specs.declared.trace.exporter_box.ExporterOf.TheVariants as exporters
+use Rattle.otel_export.specs.KeptBatches.{exporter_keeps, exporter_loses}
+use Rattle.otel_pipeline.specs.Provider.{ProviderState}
+use Rattle.otel_pipeline.specs.declared.trace.drain_due.DrainDue as timing
+use Rattle.otel_kept.specs.declared.keeps_batches.KeepsBatches as keeping
+use Rattle.otel_pipeline.specs.declared.trace.span_processor.SpanProcessor.{Ghosts}
+use Rattle.opentelemetry_sdk.specs.BatchProcessor.{first_processor}
+use Rattle.opentelemetry_sdk.specs.KeptByKinds.{processor_keeps, processor_loses}
+use Rattle.opentelemetry_sdk.specs.RecalledByKinds.{processor_recalled}
+use Rattle.opentelemetry_sdk.specs.declared.trace.processor.ProcessorOf.{ProcessorOf}
+use Rattle.opentelemetry_sdk.specs.declared.trace.processor.ProcessorOf.TheVariants as kinds
+use Rattle.otel_trace_lines.specs.ReplyForm.{reply_lines}
+use Rattle.otel_trace_session.specs.Calls.{Calls, calls_of}
+use Rattle.otel_trace_run.specs.OtlpRuns.{ExportsAll, otlp_form}
+use Rattle.otel_trace_run.specs.Streams.{Streams}
+use Rattle.otel_trace_run.specs.TraceRuns.{TracesBegun, TracesWhole}
+use Rattle.otel_trace_run.specs.declared.program.Asked.{Asked}
+use Rattle.otel_trace_run.specs.declared.program.AskedProcessor.{AskedProcessor}
+use Rattle.otel_trace_run.specs.declared.program.AskedProcessor.TheVariants as asks
+
+-- what the program's processors are: one that exports into memory, each span as it ends or in batches, or one of any
+-- other kind
+abbrev pub MemoryProcessor : Type 0 → Type 0 → Type 0
+MemoryProcessor C D = ProcessorOf (ExporterOf StoredBatches C) D
+
+-- an exporter in memory that has no batch yet
+abbrev pub new_memory : {C : Type 0} → ExporterOf StoredBatches C
+new_memory = exporters.Memory (record { batches = []; lost = 0 })
+
+-- the processor that is asked for, over such an exporter: an open simple one, or a batch processor of these sizes in
+-- whose queue nothing waits. A batch has no more spans than may wait
+abbrev pub processor_of : {C D : Type 0} → AskedProcessor → MemoryProcessor C D
+processor_of asks.Simple = kinds.Simple (record { exporter = new_memory; is_shut = false })
+processor_of (asks.Batch queue batch) =
+    let config : PlainBatchConfig =
+    record default_batch_config { max_queue_size = queue; max_export_batch_size = batch } in
+    kinds.Batch (first_processor new_memory (cut_to_queue config))
+
+-- a provider of one processor, whose ids come from a seed: a root is sampled, and a child as its parent is, and each
+-- span is kept within the limits that nobody chose
+pub record SamplesRoots {P E : Type 0} (seed : ℕ) (processor : P) (provider : ProviderState P (SamplerOf E) (List ℕ))
+    : Type 0 where
+  pub processors : provider.processors ≡ processor ∷ []
+  pub sampler : plan provider.sampler ≡ parent_based always_on
+  pub id_generator : provider.id_generator ≡ of_seed (splitmix_seed 32 seed)
+  pub span_limits : provider.span_limits ≡ default_limits
+  pub is_open : provider.is_shut ≡ false
+
+-- the provider that is asked for
+abbrev pub IsProviderOf : {C D E : Type 0} → Asked → ProviderState (MemoryProcessor C D) (SamplerOf E) (List ℕ) → Type 0
+IsProviderOf asked provider = SamplesRoots asked.seed (processor_of asked.processor) provider
+
+-- what a processor in the place of that one keeps: the batches of its exporter in memory
+abbrev pub memory_batches : {C D : Type 0} → keeping.Ghosts (MemoryProcessor C D)
+memory_batches = record {
+  kept = processor_keeps exporter_keeps;
+  lost = processor_loses exporter_loses;
+  recalled = processor_recalled exporter_recalled;
+}
+
+-- what is said of the calls of such a processor, and of the sampler and the source of ids beside it
+abbrev pub memory_calls : {C D E : Type 0} → Ghosts (MemoryProcessor C D) → timing.Ghosts (MemoryProcessor C D)
+    → sampling.Ghosts (SamplerOf E) → drawing.Ghosts (List ℕ) → Calls (MemoryProcessor C D) (SamplerOf E) (List ℕ)
+memory_calls processor timer sampler ids = calls_of processor timer memory_batches sampler ids
+
+-- the strings that describe the resource: an attributes string, if one is given
+abbrev pub strings_given : List (List ℕ) → PlainResourceStrings
+strings_given given = record { attributes = slice_get given 0; service_name = None; program_name = None }
+
+module _ {C D E : Type 0} (calls : Calls (MemoryProcessor C D) (SamplerOf E) (List ℕ)) (asked : Asked) where
+  -- the output was given what a session writes for the whole input, under the provider that is asked for
+  abbrev pub TracesAsked : Streams → Option ℕ → Type 0
+  TracesAsked s bad_line = (provider : ProviderState (MemoryProcessor C D) (SamplerOf E) (List ℕ))
+      × IsProviderOf asked provider × TracesWhole calls reply_lines provider s bad_line
+
+  -- the output was given a beginning of what such a session writes for a beginning of the input; or nothing, where
+  -- there was no memory for the provider
+  abbrev pub BeginsAsked : Streams → Type 0
+  BeginsAsked s = Appends s.output s.output_after []
+      ⊎ ((provider : ProviderState (MemoryProcessor C D) (SamplerOf E) (List ℕ))
+      × IsProviderOf asked provider × TracesBegun calls reply_lines provider s)
+
+  -- the output was given the lines of the batches that a session exported over the whole input, under the provider that
+  -- is asked for, of the resource that the strings describe
+  abbrev pub ExportsAsked : List (List ℕ) → Streams → Option ℕ → Type 0
+  ExportsAsked given s bad_line = (resource : PlainResource) × IsDetected (strings_given given) resource
+      × (provider : ProviderState (MemoryProcessor C D) (SamplerOf E) (List ℕ))
+      × IsProviderOf asked provider × ExportsAll calls resource provider s bad_line
+
+  -- the output was given a beginning of such lines for a beginning of the input; or nothing, where there was no memory
+  -- for the resource or the provider
+  abbrev pub BeginsExporting : List (List ℕ) → Streams → Type 0
+  BeginsExporting given s = Appends s.output s.output_after []
+      ⊎ ((resource : PlainResource) × IsDetected (strings_given given) resource
+      × (provider : ProviderState (MemoryProcessor C D) (SamplerOf E) (List ℕ))
+      × IsProviderOf asked provider × TracesBegun calls (otlp_form resource) provider s)

@@ -1,0 +1,180 @@
+//! The mode `otlp`: each batch that a session exports is a line of the OpenTelemetry protocol's JSON, and no reply is
+//! written.
+
+ghost use Rattle.std.specs.Prelude.{◌≡◌, ◌++◌, [], IfOk, IsOk, List, MatchOption, OnErr, OnOk, ℕ, length, map, string_bytes, take};
+ghost use Rattle.otel_resource.specs.DetectedResource.{IsDetected};
+ghost use Rattle.otel_otlp.specs.Otlp.{otlp_lines};
+ghost use Rattle.otel_trace_run.specs.Arguments.{AsksForOtlp, NamesGiven};
+ghost use Rattle.otel_trace_run.specs.OtlpRuns.{ExportsAll, otlp_form};
+ghost use Rattle.otel_trace_run.specs.Program.{strings_given};
+ghost use Rattle.otel_trace_run.specs.Streams.{EndsAs, Streams, streams};
+ghost use Rattle.otel_trace_run.specs.TraceRuns.{TracesBegun};
+ghost use Rattle.otel_trace_session.specs.Calls.{calls_of};
+
+use crate::program::{Asked, AskedProcessor};
+use crate::run_end::RunEnd;
+use crate::trace_stream::trace_input;
+use otel_export::trace::SpanData;
+use otel_kept::KeepsBatches;
+use otel_otlp::write_request;
+use otel_pipeline::trace::ProviderOf;
+use otel_resource::resource::{Resource, ResourceStrings};
+use otel_sampling::trace::{IdGenerator, ShouldSample};
+use otel_trace_lines::lines::number_of;
+use otel_trace_lines::{Answer, ReplyForm};
+use std::alloc::{AllocError, Global};
+use std::io::{Read, Write};
+use std::marker::Model;
+
+/// Replies as the lines of their batches, of one resource. Answers are not written.
+#[derive(Drop)]
+struct OtlpLines {
+    resource: Resource,
+    alloc: Global,
+}
+
+impl Model for OtlpLines {
+    ghost use Rattle.otel_resource.specs.Resource.{PlainResource, resource_code};
+
+    ghost Value = { PlainResource };
+
+    ghost coded = { resource_code };
+
+    ghost view = { λ lines. lines.resource };
+}
+
+impl OtlpLines {
+    /// Writes the lines of batches, or nothing where memory runs out.
+    fn write_lines(&self, output: &mut Vec<u8>, batches: &[Vec<SpanData>]) -> Result<(), AllocError>
+        ensures ok { OnOk result (output.new.items ≡ output.old.items
+            ++ otlp_lines self.now (map (λ batch. batch.items) batches.now)) }
+        ensures err { OnErr result (output.new.items ≡ output.old.items) }
+        ensures free { otlp_lines self.now (map (λ batch. batch.items) batches.now) ≡ [] → IsOk result }
+    {
+        let begun = output.len();
+        let written = push_lines(self.alloc, output, &self.resource, batches);
+        if written.is_err() {
+            output.truncate(begun);
+        }
+        written
+    }
+}
+
+/// Writes the lines of batches. Where memory runs out a beginning of them stays.
+fn push_lines(
+    alloc: Global,
+    output: &mut Vec<u8>,
+    resource: &Resource,
+    batches: &[Vec<SpanData>],
+) -> Result<(), AllocError>
+    ensures ok { OnOk result (output.new.items ≡ output.old.items
+        ++ otlp_lines resource.now (map (λ batch. batch.items) batches.now)) }
+    ensures front { take (length output.old.items) output.new.items ≡ output.old.items }
+    ensures free { batches.now ≡ [] → IsOk result }
+{
+    for batch in batches {
+        write_request(alloc, output, resource, batch)?;
+    }
+    Ok(())
+}
+
+impl ReplyForm for OtlpLines {
+    ghost use Rattle.otel_trace_run.specs.OtlpRuns.{otlp_form};
+
+    ghost form = { otlp_form };
+
+    fn write_reply(
+        &mut self,
+        output: &mut Vec<u8>,
+        exported: &[Vec<SpanData>],
+        _answer: Answer,
+    ) -> Result<(), AllocError> {
+        self.write_lines(output, exported)
+    }
+
+    fn write_rest(
+        &mut self,
+        output: &mut Vec<u8>,
+        batches: &[Vec<SpanData>],
+    ) -> Result<(), AllocError> {
+        self.write_lines(output, batches)
+    }
+}
+
+/// What the words of the mode `otlp` ask for, and the attributes string behind them, if one is given; none where the
+/// words are others.
+pub(crate) fn otlp_of(words: &[String]) -> Option<(Asked, &[String])>
+    ensures { MatchOption result
+        ((asked : Asked) (given : List (List ℕ)) → AsksForOtlp (map string_bytes words.now) asked given → ⊥)
+        (λ found. AsksForOtlp (map string_bytes words.now) found.0 (map string_bytes found.1.now)) }
+{
+    match words {
+        [mode, seed, behind @ ..] if mode.as_str() == "otlp" => match given_behind(behind) {
+            Some((processor, given)) => {
+                let seed = number_of(seed.as_str())?;
+                Some((Asked { seed, processor }, given))
+            }
+            None => None,
+        },
+        _ => None,
+    }
+}
+
+/// The processor that is named, and behind it one more word at most; none where the words are others.
+fn given_behind(words: &[String]) -> Option<(AskedProcessor, &[String])>
+    ensures { MatchOption result
+        ((asked : AskedProcessor) (given : List (List ℕ)) → NamesGiven (map string_bytes words.now) asked given → ⊥)
+        (λ found. NamesGiven (map string_bytes words.now) found.0 (map string_bytes found.1.now)) }
+{
+    match words {
+        [kind, given @ ..] if kind.as_str() == "simple" && given.len() < 2 => {
+            Some((AskedProcessor::Simple, given))
+        }
+        [kind, queue, batch, given @ ..] if kind.as_str() == "batch" && given.len() < 2 => {
+            let queue = number_of(queue.as_str())? as usize;
+            let batch = number_of(batch.as_str())? as usize;
+            Some((AskedProcessor::Batch { queue, batch }, given))
+        }
+        _ => None,
+    }
+}
+
+/// The strings that describe a resource: an attributes string, if one is given.
+fn strings_of(given: &[String]) -> Result<ResourceStrings, AllocError>
+    ensures { IfOk result (λ strings. strings ≡ strings_given (map string_bytes given.now)) }
+{
+    Ok(ResourceStrings {
+        attributes: given.first().cloned()?,
+        service_name: None,
+        program_name: None,
+    })
+}
+
+/// The SDK's own resource, with what an attributes string says, if one is given.
+pub(crate) fn resource_of(alloc: Global, given: &[String]) -> Result<Resource, AllocError>
+    ensures { IfOk result (λ resource. IsDetected (strings_given (map string_bytes given.now)) resource) }
+{
+    let strings = strings_of(given)?;
+    let described = Resource::builder(alloc, &strings)?;
+    Ok(described.build())
+}
+
+/// Carries out the lines of an input by one session under a provider, and writes the batches that it exports.
+pub(crate) fn export_input<P: KeepsBatches, S: ShouldSample, G: IdGenerator, R: Read, W: Write>(
+    alloc: Global,
+    provider: ProviderOf<P, S, G>,
+    resource: Resource,
+    input: &mut R,
+    output: &mut W,
+) -> RunEnd
+    ensures { let s : Streams = streams (R.remaining input.old) (R.remaining input.new)
+        (W.contents output.old) (W.contents output.new) in
+        EndsAs
+        (ExportsAll (calls_of P.SpanProcessor P.DrainDue.own P.KeepsBatches.own S.ShouldSample G.IdGenerator)
+        resource provider s)
+        (TracesBegun (calls_of P.SpanProcessor P.DrainDue.own P.KeepsBatches.own S.ShouldSample G.IdGenerator)
+        (otlp_form resource) provider s) s result }
+{
+    let mut lines = OtlpLines { resource, alloc };
+    trace_input(alloc, provider, &mut lines, input, output)
+}

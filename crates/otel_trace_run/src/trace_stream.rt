@@ -1,0 +1,167 @@
+//! The mode `trace` as a stream: lines are carried out as they come, and their replies are written, in a form, and sent
+//! on before more is read. A session then forgets what it has shown.
+
+ghost use Rattle.std.specs.Prelude.{◌≡◌, IfOk, OnErr, Result};
+ghost use Rattle.std.specs.Io.KnownBytes.{Appends};
+ghost use Rattle.otel_otlp.specs.Streams.{AppendsBeginning};
+ghost use Rattle.otel_trace_run.specs.Streams.{EndsAs, Streams, streams};
+ghost use Rattle.otel_trace_run.specs.TraceRuns.{
+  CarriesOutSome,
+  FedAs,
+  FeedsPiece,
+  TracesAll,
+  TracesBegun,
+  TracesSome,
+  TracesWhole,
+};
+ghost use Rattle.otel_trace_session.specs.Calls.{calls_of};
+ghost use Rattle.otel_trace_session.specs.declared.session.FeedError.{FeedError};
+
+use crate::counted::{bad_line_behind, lines_counted};
+use crate::pieces::Pieces;
+use crate::run_end::RunEnd;
+use otel_kept::KeepsBatches;
+use otel_otlp::stream::write_whole;
+use otel_pipeline::trace::ProviderOf;
+use otel_sampling::trace::{IdGenerator, ShouldSample};
+use otel_trace_lines::ReplyForm;
+use otel_trace_session::{FeedError, Session};
+use std::alloc::Global;
+use std::io;
+use std::io::{Read, Write};
+
+/// Carries out the lines of an input by one session under a provider.
+pub fn trace_input<
+    P: KeepsBatches,
+    S: ShouldSample,
+    G: IdGenerator,
+    F: ReplyForm,
+    R: Read,
+    W: Write,
+>(
+    alloc: Global,
+    provider: ProviderOf<P, S, G>,
+    form: &mut F,
+    input: &mut R,
+    output: &mut W,
+) -> RunEnd
+    ensures { let s : Streams = streams (R.remaining input.old) (R.remaining input.new)
+        (W.contents output.old) (W.contents output.new) in
+        EndsAs
+        (TracesWhole (calls_of P.SpanProcessor P.DrainDue.own P.KeepsBatches.own S.ShouldSample G.IdGenerator)
+        (F.form form.old) provider s)
+        (TracesBegun (calls_of P.SpanProcessor P.DrainDue.own P.KeepsBatches.own S.ShouldSample G.IdGenerator)
+        (F.form form.old) provider s) s result }
+{
+    match Session::new(alloc, provider) {
+        Ok(session) => trace_session(alloc, session, form, input, output),
+        Err((provider, _)) => {
+            let _ = provider.close();
+            RunEnd::Failed
+        }
+    }
+}
+
+/// Carries out the lines of an input by a session, and closes that. Where reading or writing failed, what the closing
+/// exports is not written, so that the output is a beginning.
+fn trace_session<P: KeepsBatches, S: ShouldSample, G: IdGenerator, F: ReplyForm, R: Read, W: Write>(
+    alloc: Global,
+    mut session: Session<P, S, G>,
+    form: &mut F,
+    input: &mut R,
+    output: &mut W,
+) -> RunEnd
+    ensures { let s : Streams = streams (R.remaining input.old) (R.remaining input.new)
+        (W.contents output.old) (W.contents output.new) in
+        EndsAs
+        (TracesAll (calls_of P.SpanProcessor P.DrainDue.own P.KeepsBatches.own S.ShouldSample G.IdGenerator)
+        (F.form form.old) session s)
+        (TracesSome (calls_of P.SpanProcessor P.DrainDue.own P.KeepsBatches.own S.ShouldSample G.IdGenerator)
+        (F.form form.old) session s) s result }
+{
+    let mut text = Vec::new(alloc);
+    let fed = feed_pieces(alloc, &mut session, form, &mut text, input, output);
+    text.clear();
+    let closed = session.close_in(form, &mut text);
+    let Ok(end) = fed else {
+        return RunEnd::Failed;
+    };
+    let Ok(()) = write_whole(output, &text) else {
+        return RunEnd::Failed;
+    };
+    match closed {
+        Ok(()) => end,
+        Err(_) => RunEnd::Failed,
+    }
+}
+
+/// Feeds an input to a session, piece by piece, and writes its replies. Fails where reading or writing does. `text` is
+/// room for them.
+fn feed_pieces<P: KeepsBatches, S: ShouldSample, G: IdGenerator, F: ReplyForm, R: Read, W: Write>(
+    alloc: Global,
+    session: &mut Session<P, S, G>,
+    form: &mut F,
+    text: &mut Vec<u8>,
+    input: &mut R,
+    output: &mut W,
+) -> io::Result<RunEnd>
+    ensures ok { IfOk result (λ end. FedAs
+        (calls_of P.SpanProcessor P.DrainDue.own P.KeepsBatches.own S.ShouldSample G.IdGenerator)
+        (F.form form.old) session.old session.new
+        (streams (R.remaining input.old) (R.remaining input.new) (W.contents output.old) (W.contents output.new))
+        end) }
+    ensures err { OnErr result (CarriesOutSome
+        (calls_of P.SpanProcessor P.DrainDue.own P.KeepsBatches.own S.ShouldSample G.IdGenerator)
+        (F.form form.old) session.old (R.remaining input.old)
+        (AppendsBeginning (W.contents output.old) (W.contents output.new))) }
+    ensures form { F.form form.new ≡ F.form form.old }
+{
+    session.has_histories();
+    let mut pieces = Pieces::new(alloc);
+    let mut before: u64 = 0;
+    for _ in 0..u64::MAX {
+        let goes_on = pieces.read_on(input)?;
+        match feed_piece(session, form, pieces.lines(), text, output)? {
+            Ok(()) => {}
+            Err(FeedError::Line(line)) => return Ok(bad_line_behind(before, line)),
+            Err(FeedError::Memory | FeedError::Refused | FeedError::BatchLost) => {
+                return Ok(RunEnd::Failed);
+            }
+        }
+        if !goes_on {
+            return Ok(RunEnd::Done);
+        }
+        match lines_counted(before, pieces.lines()) {
+            Some(count) => before = count,
+            None => return Ok(RunEnd::Failed),
+        }
+    }
+    Ok(RunEnd::Failed)
+}
+
+/// Feeds lines to a session, writes and sends on its replies, and has it forget what they show. `text` is room for
+/// them.
+fn feed_piece<P: KeepsBatches, S: ShouldSample, G: IdGenerator, F: ReplyForm, W: Write>(
+    session: &mut Session<P, S, G>,
+    form: &mut F,
+    lines: &[u8],
+    text: &mut Vec<u8>,
+    output: &mut W,
+) -> io::Result<Result<(), FeedError>>
+    ensures ok { IfOk result (λ fed. FeedsPiece
+        (calls_of P.SpanProcessor P.DrainDue.own P.KeepsBatches.own S.ShouldSample G.IdGenerator)
+        (F.form form.old) session.old lines.now fed (Appends (W.contents output.old) (W.contents output.new))
+        session.new) }
+    ensures err { OnErr result ((fed : Result (Unit {0}) FeedError) × FeedsPiece
+        (calls_of P.SpanProcessor P.DrainDue.own P.KeepsBatches.own S.ShouldSample G.IdGenerator)
+        (F.form form.old) session.old lines.now fed
+        (AppendsBeginning (W.contents output.old) (W.contents output.new)) session.new) }
+    ensures form { F.form form.new ≡ F.form form.old }
+{
+    text.clear();
+    let fed = session.feed_in(form, lines, text);
+    let written = write_whole(output, text);
+    session.forget_shown();
+    written?;
+    Ok(fed)
+}

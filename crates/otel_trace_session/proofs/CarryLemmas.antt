@@ -1,0 +1,119 @@
+-- A command that took a turn was carried out: each processor follows what the turn delivered.
+use Rattle.std.proofs.Common.{◌≡◌, ℕ, List, [], Option, Some, None, Result, Err, MatchBool, map, true, false, Bool, refl, sym, ap, subst}
+use Rattle.std.specs.Bool.{OnTrue, OnFalse}
+use Rattle.std.specs.Result.{IsErrOf}
+use Rattle.opentelemetry.specs.Plain.{PlainContext, PlainScope}
+use Rattle.opentelemetry.specs.PlainContexts.{root_cx}
+use Rattle.otel_export.specs.declared.error.OTelSdkError.{OTelSdkError}
+use Rattle.otel_export.specs.declared.error.OTelSdkError.TheVariants as errors
+use Rattle.otel_pipeline.specs.Deliveries.{Delivery, EachFollows}
+use Rattle.otel_kept.specs.ProcessorKeeps.{OnlyAppends}
+use Rattle.otel_pipeline.specs.Provider.{ProviderState, ShutsDown}
+use Rattle.otel_pipeline.specs.SpanHistory.{SpanHistory, Edit, begun, over, data_of, span_of}
+use Rattle.otel_pipeline.proofs.Following.{EachFollows-same, delivered_follows}
+use Rattle.otel_trace_lines.specs.Commands.{PlainCommand, start, child, remote, inject, end}
+use Rattle.otel_trace_lines.specs.declared.reply.Answer.{Answer}
+use Rattle.otel_trace_lines.specs.declared.reply.Answer.TheVariants as answers
+use Rattle.otel_trace_session.specs.Calls.{Calls}
+use Rattle.otel_trace_session.specs.Headers.{SaysContext, child_cx}
+use Rattle.otel_trace_session.specs.OpenSpans.{AnswersInject, Describe, Histories, NamedSpans, edited_in}
+use Rattle.otel_trace_session.specs.ProviderTurns.{AsksProvider, Shuts, call_answer}
+use Rattle.otel_trace_session.specs.SpanTurns.{ChildTurn, EditTurn, EndTurn, Start, StartTurn, StartsBehind, start_in}
+use Rattle.otel_trace_session.specs.Turn.{AsksNobody, Course, TakesTurn, Turn}
+use Rattle.otel_trace_session.specs.Turns.{IsCarriedOut, IsTurn}
+use Rattle.otel_trace_session.proofs.KeptLemmas.{turn_grows}
+use Rattle.otel_trace_session.proofs.TurnLemmas.{Childs, Edits, Ends}
+
+-- a turn of which this is so, where something is so of each such turn
+pub took_also : {P S G : Type 0} (Is Also : Turn P S G → Type 0) (p q : ProviderState P S G) (old new : NamedSpans) (answer : Answer) → ((turn : Turn P S G) → Is turn → Also turn) → TakesTurn Is p old answer q new → TakesTurn Also p old answer q new
+took_also Is Also p q old new answer also takes = λ before describes.
+    let took = takes before describes in
+    record { delivered = took.delivered; histories = took.histories; is = also _ took.is; describes = took.describes }
+
+module _ {P S G : Type 0} (calls : Calls P S G) where
+  -- each processor follows what a turn delivered
+  abbrev FollowsIn : Turn P S G → Type 0
+  FollowsIn turn = EachFollows calls.processor turn.delivered turn.before.provider.processors turn.behind.provider.processors
+
+  follows_none : (turn : Turn P S G) → turn.delivered ≡ [] → map calls.processor.told turn.behind.provider.processors ≡ map calls.processor.told turn.before.provider.processors → FollowsIn turn
+  follows_none turn none told = subst (λ (ds : List Delivery). EachFollows calls.processor ds turn.before.provider.processors turn.behind.provider.processors) (sym none)
+      (EachFollows-same calls.processor turn.before.provider.processors turn.behind.provider.processors told)
+
+  nobody_follows : (said : Answer) (histories : Histories) (turn : Turn P S G) → AsksNobody said histories turn → FollowsIn turn
+  nobody_follows said histories turn h = follows_none turn h.delivers (ap (λ (c : Course P S G). map calls.processor.told c.provider.processors) h.rest)
+
+  start_follows : (found : Option SpanHistory) (asked : Start) (turn : Turn P S G) → StartsBehind calls found asked turn → FollowsIn turn
+  start_follows (Some history) asked turn h = nobody_follows answers.SpanExists turn.before.histories turn h
+  start_follows None asked turn h = follows_none turn h.delivers h.told
+
+  child_follows : (found : Option SpanHistory) (asked : Start) (turn : Turn P S G) → ChildTurn calls asked found turn → FollowsIn turn
+  child_follows None asked turn h = nobody_follows answers.NoSuchSpan turn.before.histories turn h
+  child_follows (Some parent) asked turn h = start_follows (turn.before.histories asked.span) (record asked { cx = child_cx (span_of parent).span_context }) turn h
+
+  end_follows : (found : Option SpanHistory) (span : List ℕ) (moment : ℕ) (turn : Turn P S G) → EndTurn calls.processor span moment found turn → FollowsIn turn
+  end_follows None span moment turn h = nobody_follows answers.NoSuchSpan turn.before.histories turn h
+  end_follows (Some (over context limits)) span moment turn h = nobody_follows answers.Ignored turn.before.histories turn h
+  end_follows (Some (begun from edits)) span moment turn h =
+      subst (λ (ds : List Delivery). EachFollows calls.processor ds turn.before.provider.processors turn.behind.provider.processors) (sym h.delivers)
+      (delivered_follows calls.processor turn.before.provider.is_shut moment (Some (data_of from edits from.start_time)) turn.before.provider.processors turn.behind.provider.processors h.refused h.delivered)
+
+module _ {P S G : Type 0} (calls : Calls P S G) (law : OnlyAppends calls.processor calls.timer calls.keeps.kept calls.keeps.lost) (scope : PlainScope) where
+  -- a command was carried out in its turn
+  carried : (command : PlainCommand) (turn : Turn P S G) → FollowsIn calls turn → IsTurn calls scope command turn → IsCarriedOut calls scope command turn
+  carried command turn follows h = record { is_turn = h; follows = follows; grows = turn_grows calls law scope command turn h }
+
+  -- a start, as a root, a child, or where a header says
+  pub carries_start : (p q : ProviderState P S G) (old new : NamedSpans) (span name : List ℕ) (moment : ℕ) (answer : Answer)
+      → TakesTurn (StartTurn calls (start_in scope root_cx span name moment)) p old answer q new → TakesTurn (IsCarriedOut calls scope (start span name moment)) p old answer q new
+  carries_start p q old new span name moment answer = took_also _ _ p q old new answer
+      (λ turn h. carried (start span name moment) turn (start_follows calls (turn.before.histories span) (start_in scope root_cx span name moment) turn h) h)
+
+  pub carries_child : (p q : ProviderState P S G) (old new : NamedSpans) (span parent name : List ℕ) (moment : ℕ) (answer : Answer)
+      → TakesTurn (Childs calls (start_in scope root_cx span name moment) parent) p old answer q new → TakesTurn (IsCarriedOut calls scope (child span parent name moment)) p old answer q new
+  carries_child p q old new span parent name moment answer = took_also _ _ p q old new answer
+      (λ turn h. carried (child span parent name moment) turn (child_follows calls (turn.before.histories parent) (start_in scope root_cx span name moment) turn h) h)
+
+  pub carries_remote : (p q : ProviderState P S G) (old new : NamedSpans) (span header name : List ℕ) (moment : ℕ) (cx : PlainContext) (answer : Answer) → SaysContext header cx
+      → TakesTurn (StartTurn calls (start_in scope cx span name moment)) p old answer q new → TakesTurn (IsCarriedOut calls scope (remote span header name moment)) p old answer q new
+  carries_remote p q old new span header name moment cx answer says = took_also _ _ p q old new answer
+      (λ turn h. carried (remote span header name moment) turn (start_follows calls (turn.before.histories span) (start_in scope cx span name moment) turn h) (record { cx = cx; says = says; starts = h }))
+
+  -- an edit
+  pub carries_edit : (command : PlainCommand) (p : ProviderState P S G) (old new : NamedSpans) (span : List ℕ) (edit : Edit) (answer : Answer) → ((turn : Turn P S G) → EditTurn span edit turn → IsTurn calls scope command turn)
+      → Edits old span edit answer new → TakesTurn (IsCarriedOut calls scope command) p old answer p new
+  carries_edit command p old new span edit answer is edits = λ before describes.
+      let edited = edits before.histories describes in
+      let turn : Turn P S G = record { before = record before { provider = p }; answer = answer; delivered = []; behind = record before { provider = p; histories = edited_in before.histories span edit } } in
+      let h : EditTurn span edit turn = record { says = edited.0; delivers = refl; rest = refl } in
+      record { delivered = []; histories = edited_in before.histories span edit; is = carried command turn (nobody_follows calls _ _ turn h) (is turn h); describes = edited.1 }
+
+  -- the headers of a span
+  pub carries_inject : (p : ProviderState P S G) (spans : NamedSpans) (span : List ℕ) (answer : Answer) → ((histories : Histories) → Describe histories spans → AnswersInject (histories span) answer)
+      → TakesTurn (IsCarriedOut calls scope (inject span)) p spans answer p spans
+  carries_inject p spans span answer says = λ before describes.
+      let turn : Turn P S G = record { before = record before { provider = p }; answer = answer; delivered = []; behind = record before { provider = p } } in
+      record { delivered = []; histories = before.histories; is = carried (inject span) turn (follows_none calls turn refl refl) (record { says = says before.histories describes; delivers = refl; rest = refl }); describes = describes }
+
+  -- an end
+  pub carries_end : (p q : ProviderState P S G) (old new : NamedSpans) (span : List ℕ) (moment : ℕ) (answer : Answer)
+      → TakesTurn (Ends calls.processor span moment) p old answer q new → TakesTurn (IsCarriedOut calls scope (end span moment)) p old answer q new
+  carries_end p q old new span moment answer = took_also _ _ p q old new answer
+      (λ turn h. carried (end span moment) turn (end_follows calls (turn.before.histories span) span moment turn h) h)
+
+  -- a call of the provider
+  pub carries_call : (command : PlainCommand) (Gives : ProviderState P S G → Result (Unit {0}) OTelSdkError → ProviderState P S G → Type 0) (p q : ProviderState P S G) (spans : NamedSpans) (said : Result (Unit {0}) OTelSdkError)
+      → ((turn : Turn P S G) → AsksProvider Gives turn → IsTurn calls scope command turn) → Gives p said q → EachFollows calls.processor [] p.processors q.processors
+      → TakesTurn (IsCarriedOut calls scope command) p spans (call_answer said) q spans
+  carries_call command Gives p q spans said is gives follows = λ before describes.
+      let turn : Turn P S G = record { before = record before { provider = p }; answer = call_answer said; delivered = []; behind = record before { provider = q } } in
+      record { delivered = []; histories = before.histories; is = carried command turn follows (is turn (record { said = said; gives = gives; says = refl; delivers = refl; rest = refl })); describes = describes }
+
+-- a shutdown, by what is promised of a second one and of a first one
+pub shuts_by : {P S G : Type 0} (calls : Calls P S G) (p q : ProviderState P S G) (said : Result (Unit {0}) OTelSdkError)
+    → OnTrue p.is_shut (IsErrOf said errors.AlreadyShutdown × (q ≡ p)) → OnFalse p.is_shut (ShutsDown calls.processor p 5_000_000_000 said q) → Shuts calls.processor p said q
+shuts_by {P} {S} {G} calls p q said again first = by p.is_shut again first
+  where
+    by : (is_shut : Bool) → OnTrue is_shut (IsErrOf said errors.AlreadyShutdown × (q ≡ p)) → OnFalse is_shut (ShutsDown calls.processor p 5_000_000_000 said q)
+        → MatchBool is_shut ((said ≡ Err errors.AlreadyShutdown) × (q ≡ p)) (ShutsDown calls.processor p 5_000_000_000 said q)
+    by true again first = again
+    by false again first = first

@@ -1,0 +1,94 @@
+-- Behind a flush or a shutdown that is answered by Ok no span waits.
+use Rattle.std.proofs.Common.{◌≡◌, ℕ, Bool, true, false, List, [], ◌∷◌, ◌++◌, Result, Ok, Err, MatchBool, OnOk, All, length, length-append, map, refl, ap, subst, sym, ◌∙◌, arith, rules}
+use Rattle.std.proofs.lemmas.List.{same_from_push}
+use Rattle.std.proofs.lemmas.List.Elements.{All-cons, All-nil}
+use Rattle.opentelemetry.specs.Plain.{PlainScope}
+use Rattle.otel_export.specs.declared.error.OTelSdkError.{OTelSdkError}
+use Rattle.otel_export.specs.declared.error.OTelSdkError.TheVariants as errors
+use Rattle.otel_pipeline.specs.Each.{Each, error_count, first_failure}
+use Rattle.otel_pipeline.specs.Provider.{Flushes, FlushesProcessor, ProviderState, ShutsDown, ShutsProcessor}
+use Rattle.otel_pipeline.specs.declared.trace.span_processor.SpanProcessor.{Ghosts}
+use Rattle.otel_trace_lines.specs.Commands.{PlainCommand, start, child, remote, attr, event, status, inject, end, flush, run, shutdown}
+use Rattle.otel_trace_lines.specs.PlainReply.{PlainReply}
+use Rattle.otel_trace_lines.specs.declared.reply.Answer.TheVariants as answers
+use Rattle.otel_trace_session.specs.Calls.{Calls}
+use Rattle.otel_trace_session.specs.ProviderTurns.{EmptiesIfOk, call_answer}
+use Rattle.otel_trace_session.specs.Shown.{EmptiedBehind}
+use Rattle.otel_trace_session.specs.Turn.{Course, Turn}
+use Rattle.otel_trace_session.specs.Turns.{AreTurns, IsTurn, replied, reply_of}
+
+-- none waits at any processor
+abbrev NoneWaits : {P : Type 0} → Ghosts P → List P → Type 0
+NoneWaits calls processors = All (λ p. (calls.told p).waiting ≡ 0) processors
+
+-- no answer is an error where there is no first one
+none_failed : {E : Type 0} (rs : List (Result (Unit {0}) E)) → first_failure rs ≡ Ok tt → error_count rs ≡ 0
+none_failed [] h = refl
+none_failed (Ok _ ∷ rs) h = none_failed rs h
+none_failed (Err _ ∷ rs) h = cc
+
+module _ {P : Type 0} (calls : Ghosts P) where
+  -- each was asked and none failed
+  asked_empties : (G : P → Result (Unit {0}) OTelSdkError → P → Type 0) → ((p : P) (r : Result (Unit {0}) OTelSdkError) (q : P) → G p r q → OnOk r ((calls.told q).waiting ≡ 0))
+      → (ps qs : List P) (rs : List (Result (Unit {0}) OTelSdkError)) → Each G ps rs qs → error_count rs ≡ 0 → NoneWaits calls qs
+  asked_empties G empty [] [] [] h none = All-nil (λ p. (calls.told p).waiting ≡ 0)
+  asked_empties G empty [] (q ∷ qs) [] h none = absurd h
+  asked_empties G empty [] qs (r ∷ rs) h none = absurd h
+  asked_empties G empty (p ∷ ps) qs [] h none = absurd h
+  asked_empties G empty (p ∷ ps) [] (r ∷ rs) h none = absurd h
+  asked_empties G empty (p ∷ ps) (q ∷ qs) (Ok r ∷ rs) h none = All-cons (λ x. (calls.told x).waiting ≡ 0) q qs (empty p (Ok r) q h.0) (asked_empties G empty ps qs rs h.1 none)
+  asked_empties G empty (p ∷ ps) (q ∷ qs) (Err e ∷ rs) h none = absurd (omega arith)
+
+  flush_leaves_none : {S G : Type 0} (old new : ProviderState P S G) (said : Result (Unit {0}) OTelSdkError) → Flushes calls old said new → call_answer said ≡ answers.Ok → NoneWaits calls new.processors
+  flush_leaves_none old new (Ok _) h e = asked_empties (FlushesProcessor calls) (λ p r q asked. asked.emptied) old.processors new.processors h.asked.0 h.asked.2 (none_failed h.asked.0 h.asked.1)
+  flush_leaves_none old new (Err _) h e = cc
+
+  first_shutdown_leaves_none : {S G : Type 0} (old new : ProviderState P S G) (timeout : ℕ) (said : Result (Unit {0}) OTelSdkError) → ShutsDown calls old timeout said new → call_answer said ≡ answers.Ok → NoneWaits calls new.processors
+  first_shutdown_leaves_none old new timeout (Ok _) h e = asked_empties (ShutsProcessor calls timeout) (λ p r q asked. asked.emptied) old.processors new.processors h.asked.0 h.asked.2 (h.asked.1 ∙ h.ok.0 refl)
+  first_shutdown_leaves_none old new timeout (Err _) h e = cc
+
+module _ {P S G : Type 0} (calls : Calls P S G) where
+  shutdown_leaves_none : (b : Bool) (old new : ProviderState P S G) (said : Result (Unit {0}) OTelSdkError) → MatchBool b ((said ≡ Err errors.AlreadyShutdown) × (new ≡ old)) (ShutsDown calls.processor old 5_000_000_000 said new)
+      → call_answer said ≡ answers.Ok → NoneWaits calls.processor new.processors
+  shutdown_leaves_none true old new said h e = absurd (failed_again said h.0 e)
+    where
+      failed_again : (said : Result (Unit {0}) OTelSdkError) → said ≡ Err errors.AlreadyShutdown → call_answer said ≡ answers.Ok → ⊥
+      failed_again (Ok _) h e = cc
+      failed_again (Err _) h e = cc
+  shutdown_leaves_none false old new said h e = first_shutdown_leaves_none calls.processor old new 5_000_000_000 said h e
+
+  -- behind one command
+  one_empties : (scope : PlainScope) (command : PlainCommand) (turn : Turn P S G) → IsTurn calls scope command turn → EmptiesIfOk calls.processor command turn.answer turn.behind.provider.processors
+  one_empties scope (start span name moment) turn h is e = absurd (search (rules, is))
+  one_empties scope (child span parent name moment) turn h is e = absurd (search (rules, is))
+  one_empties scope (remote span header name moment) turn h is e = absurd (search (rules, is))
+  one_empties scope (attr span key value) turn h is e = absurd (search (rules, is))
+  one_empties scope (event span name moment) turn h is e = absurd (search (rules, is))
+  one_empties scope (status span how) turn h is e = absurd (search (rules, is))
+  one_empties scope (inject span) turn h is e = absurd (search (rules, is))
+  one_empties scope (end span moment) turn h is e = absurd (search (rules, is))
+  one_empties scope flush turn h is e = flush_leaves_none calls.processor turn.before.provider turn.behind.provider h.said h.gives (sym h.says ∙ e)
+  one_empties scope (run moment) turn h is e = absurd (search (rules, is))
+  one_empties scope shutdown turn h is e = shutdown_leaves_none turn.before.provider.is_shut turn.before.provider turn.behind.provider h.said h.gives (sym h.says ∙ e)
+
+  -- behind all, by the last of them
+  all_empty : (scope : PlainScope) (old new : Course P S G) (commands : List PlainCommand) (turns : List (Turn P S G)) (before : List PlainCommand) (last : PlainCommand) (others : List PlainReply) (reply : PlainReply)
+      → AreTurns calls scope old commands turns new → commands ≡ before ++ last ∷ [] → map (reply_of calls) turns ≡ others ++ reply ∷ [] → EmptiesIfOk calls.processor last reply.answer new.provider.processors
+  all_empty scope old new [] turns before last others reply h e f = absurd (omega (arith, ap length e, length-append before (last ∷ [])))
+  all_empty scope old new (command ∷ commands) [] before last others reply h e f = absurd h
+  all_empty scope old new (command ∷ []) (turn ∷ []) before last others reply h e f =
+      subst (λ (c : PlainCommand). EmptiesIfOk calls.processor c reply.answer new.provider.processors) (same_from_push [] before command last e).1
+      (subst (λ (r : PlainReply). EmptiesIfOk calls.processor command r.answer new.provider.processors) (same_from_push [] others (reply_of calls turn) reply f).1
+      (subst (λ (c : Course P S G). EmptiesIfOk calls.processor command turn.answer c.provider.processors) (sym h.3) (one_empties scope command turn h.1.is_turn)))
+  all_empty scope old new (command ∷ []) (turn ∷ next ∷ turns) before last others reply h e f = absurd h.3
+  all_empty scope old new (command ∷ following ∷ commands) (turn ∷ []) before last others reply h e f = absurd h.3
+  all_empty scope old new (command ∷ following ∷ commands) (turn ∷ next ∷ turns) [] last others reply h e f = absurd (omega (arith, ap length e))
+  all_empty scope old new (command ∷ following ∷ commands) (turn ∷ next ∷ turns) (first ∷ before) last [] reply h e f = absurd (omega (arith, ap length f))
+  all_empty scope old new (command ∷ following ∷ commands) (turn ∷ next ∷ turns) (first ∷ before) last (other ∷ others) reply h e f =
+      let commands_behind : following ∷ commands ≡ before ++ last ∷ [] = cc in
+      let replies_behind : map (reply_of calls) (next ∷ turns) ≡ others ++ reply ∷ [] = cc in
+      all_empty scope (replied calls turn.behind) new (following ∷ commands) (next ∷ turns) before last others reply h.3 commands_behind replies_behind
+
+  pub all_emptied : (scope : PlainScope) (old new : Course P S G) (commands : List PlainCommand) (turns : List (Turn P S G)) (replies : List PlainReply) → replies ≡ map (reply_of calls) turns → AreTurns calls scope old commands turns new
+      → EmptiedBehind calls.processor commands replies new.provider.processors
+  all_emptied scope old new commands turns replies told h before last others reply e f = all_empty scope old new commands turns before last others reply h e (sym told ∙ f)

@@ -1,0 +1,171 @@
+-- What the processors of a session hear of all that its commands deliver: a processor closes at a shutdown of the
+-- provider alone, and nothing is delivered behind that.
+use Rattle.std.proofs.Common.{◌≡◌, ℕ, Bool, true, false, List, [], ◌∷◌, ◌++◌, map, Option, Some, None, Result, MatchBool, Err, refl, sym, ◌∙◌, ap, subst}
+use Rattle.opentelemetry.specs.Plain.{PlainScope}
+use Rattle.opentelemetry.specs.PlainContexts.{root_cx}
+use Rattle.otel_export.specs.declared.error.OTelSdkError.{OTelSdkError}
+use Rattle.otel_export.specs.declared.error.OTelSdkError.TheVariants as errors
+use Rattle.otel_export.specs.PlainSpanData.{PlainSpanData}
+use Rattle.otel_pipeline.specs.Deliveries.{Delivery, EachFollows, EachOpenHears}
+use Rattle.otel_pipeline.specs.Ending.{Delivers, TakesAndTells, end_delivers}
+use Rattle.otel_pipeline.specs.Each.{error_count}
+use Rattle.otel_pipeline.specs.Provider.{FlushesProcessor, ProviderState, RunsProcessor, ShutsDown}
+use Rattle.otel_pipeline.specs.SpanHistory.{SpanHistory, begun, over, span_of}
+use Rattle.otel_pipeline.proofs.Following.{EachFollows-same, EachFollows-append, EachStays, hears_first, hears_no_delivery, hears_on, stays_same, stays_asked}
+use Rattle.otel_trace_lines.specs.Commands.{PlainCommand, start, child, remote, attr, event, status, inject, end, flush, run, shutdown}
+use Rattle.otel_trace_lines.specs.declared.reply.Answer.{Answer}
+use Rattle.otel_trace_lines.specs.declared.reply.Answer.TheVariants as answers
+use Rattle.otel_trace_session.specs.Calls.{Calls}
+use Rattle.otel_trace_session.specs.Headers.{child_cx}
+use Rattle.otel_trace_session.specs.OpenSpans.{Histories}
+use Rattle.otel_trace_session.specs.SpanTurns.{ChildTurn, EndTurn, Start, StartsBehind, start_in}
+use Rattle.otel_trace_session.specs.Traces.{is_shutdown}
+use Rattle.otel_trace_session.specs.Turn.{AsksNobody, Course, Turn}
+use Rattle.otel_trace_session.specs.Turns.{AreTurns, IsTurn, delivered_in, replied}
+use Rattle.otel_trace_session.proofs.TraceLemmas.{one_stays}
+
+-- an end at a shut provider delivers nothing
+end_delivers_none : (is_shut : Bool) (span : PlainSpanData) (refused : ℕ) → is_shut ≡ true → end_delivers is_shut span refused ≡ []
+end_delivers_none true span refused e = refl
+end_delivers_none false span refused e = cc
+
+module _ {P S G : Type 0} (calls : Calls P S G) where
+  -- each processor stays as open or shut over a turn as it was
+  abbrev StaysIn : Turn P S G → Type 0
+  StaysIn turn = EachStays calls.processor turn.before.provider.processors turn.behind.provider.processors
+
+  told_stays : (turn : Turn P S G) → map calls.processor.told turn.behind.provider.processors ≡ map calls.processor.told turn.before.provider.processors → StaysIn turn
+  told_stays turn e = stays_same calls.processor turn.before.provider.processors turn.behind.provider.processors e
+
+  nobody_closes_none : (said : Answer) (histories : Histories) (turn : Turn P S G) → AsksNobody said histories turn → StaysIn turn
+  nobody_closes_none said histories turn h = told_stays turn (ap (λ (c : Course P S G). map calls.processor.told c.provider.processors) h.rest)
+
+  start_closes_none : (found : Option SpanHistory) (asked : Start) (turn : Turn P S G) → StartsBehind calls found asked turn → StaysIn turn
+  start_closes_none (Some history) asked turn h = nobody_closes_none answers.SpanExists turn.before.histories turn h
+  start_closes_none None asked turn h = told_stays turn h.told
+
+  child_closes_none : (found : Option SpanHistory) (asked : Start) (turn : Turn P S G) → ChildTurn calls asked found turn → StaysIn turn
+  child_closes_none None asked turn h = nobody_closes_none answers.NoSuchSpan turn.before.histories turn h
+  child_closes_none (Some parent) asked turn h = start_closes_none (turn.before.histories asked.span) (record asked { cx = child_cx (span_of parent).span_context }) turn h
+
+  delivery_closes_none : (is_shut : Bool) (span : PlainSpanData) (ps qs : List P) (refused : ℕ) → Delivers calls.processor is_shut span ps qs refused → EachStays calls.processor ps qs
+  delivery_closes_none true span ps qs refused h = stays_same calls.processor ps qs (ap (map calls.processor.told) h.0)
+  delivery_closes_none false span ps qs refused h = stays_asked calls.processor (TakesAndTells calls.processor span) (λ p r q takes. takes.told.is_open) ps qs refused h
+
+  end_closes_none : (found : Option SpanHistory) (span : List ℕ) (moment : ℕ) (turn : Turn P S G) → EndTurn calls.processor span moment found turn → StaysIn turn
+  end_closes_none None span moment turn h = nobody_closes_none answers.NoSuchSpan turn.before.histories turn h
+  end_closes_none (Some (over context limits)) span moment turn h = nobody_closes_none answers.Ignored turn.before.histories turn h
+  end_closes_none (Some (begun from edits)) span moment turn h = delivery_closes_none turn.before.provider.is_shut _ turn.before.provider.processors turn.behind.provider.processors h.refused h.delivered
+
+  -- over any command but a shutdown
+  one_closes_none : (scope : PlainScope) (command : PlainCommand) (turn : Turn P S G) → is_shutdown command ≡ false → IsTurn calls scope command turn → StaysIn turn
+  one_closes_none scope (start span name moment) turn e h = start_closes_none (turn.before.histories span) (start_in scope root_cx span name moment) turn h
+  one_closes_none scope (child span parent name moment) turn e h = child_closes_none (turn.before.histories parent) (start_in scope root_cx span name moment) turn h
+  one_closes_none scope (remote span header name moment) turn e h = start_closes_none (turn.before.histories span) (start_in scope h.cx span name moment) turn h.starts
+  one_closes_none scope (attr span key value) turn e h = nobody_closes_none _ _ turn h
+  one_closes_none scope (event span name moment) turn e h = nobody_closes_none _ _ turn h
+  one_closes_none scope (status span how) turn e h = nobody_closes_none _ _ turn h
+  one_closes_none scope (inject span) turn e h = told_stays turn (ap (λ (c : Course P S G). map calls.processor.told c.provider.processors) h.rest)
+  one_closes_none scope (end span moment) turn e h = end_closes_none (turn.before.histories span) span moment turn h
+  one_closes_none scope flush turn e h =
+      stays_asked calls.processor (FlushesProcessor calls.processor) (λ p r q flushes. flushes.is_open) turn.before.provider.processors turn.behind.provider.processors (error_count h.gives.asked.0) (h.gives.asked.0, refl, h.gives.asked.2)
+  one_closes_none scope (run moment) turn e h =
+      stays_asked calls.processor (RunsProcessor calls.processor calls.timer moment) (λ p r q runs. runs.is_open) turn.before.provider.processors turn.behind.provider.processors h.gives.failed h.gives.asked
+  one_closes_none scope shutdown turn e h = cc
+
+  -- a start delivers nothing
+  start_delivers_none : (found : Option SpanHistory) (asked : Start) (turn : Turn P S G) → StartsBehind calls found asked turn → turn.delivered ≡ []
+  start_delivers_none (Some history) asked turn h = h.delivers
+  start_delivers_none None asked turn h = h.delivers
+
+  child_delivers_none : (found : Option SpanHistory) (asked : Start) (turn : Turn P S G) → ChildTurn calls asked found turn → turn.delivered ≡ []
+  child_delivers_none None asked turn h = h.delivers
+  child_delivers_none (Some parent) asked turn h = start_delivers_none (turn.before.histories asked.span) (record asked { cx = child_cx (span_of parent).span_context }) turn h
+
+  shut_end_delivers_none : (found : Option SpanHistory) (span : List ℕ) (moment : ℕ) (turn : Turn P S G) → turn.before.provider.is_shut ≡ true → EndTurn calls.processor span moment found turn → turn.delivered ≡ []
+  shut_end_delivers_none None span moment turn shut h = h.delivers
+  shut_end_delivers_none (Some (over context limits)) span moment turn shut h = h.delivers
+  shut_end_delivers_none (Some (begun from edits)) span moment turn shut h = h.delivers ∙ end_delivers_none turn.before.provider.is_shut _ h.refused shut
+
+  -- at a shut provider no command delivers anything
+  shut_delivers_none : (scope : PlainScope) (command : PlainCommand) (turn : Turn P S G) → turn.before.provider.is_shut ≡ true → IsTurn calls scope command turn → turn.delivered ≡ []
+  shut_delivers_none scope (start span name moment) turn shut h = start_delivers_none (turn.before.histories span) (start_in scope root_cx span name moment) turn h
+  shut_delivers_none scope (child span parent name moment) turn shut h = child_delivers_none (turn.before.histories parent) (start_in scope root_cx span name moment) turn h
+  shut_delivers_none scope (remote span header name moment) turn shut h = start_delivers_none (turn.before.histories span) (start_in scope h.cx span name moment) turn h.starts
+  shut_delivers_none scope (attr span key value) turn shut h = h.delivers
+  shut_delivers_none scope (event span name moment) turn shut h = h.delivers
+  shut_delivers_none scope (status span how) turn shut h = h.delivers
+  shut_delivers_none scope (inject span) turn shut h = h.delivers
+  shut_delivers_none scope (end span moment) turn shut h = shut_end_delivers_none (turn.before.histories span) span moment turn shut h
+  shut_delivers_none scope flush turn shut h = h.delivers
+  shut_delivers_none scope (run moment) turn shut h = h.delivers
+  shut_delivers_none scope shutdown turn shut h = h.delivers
+
+  shut_by : (is_shut : Bool) (old new : ProviderState P S G) (said : Result (Unit {0}) OTelSdkError)
+      → old.is_shut ≡ is_shut → MatchBool is_shut ((said ≡ Err errors.AlreadyShutdown) × (new ≡ old)) (ShutsDown calls.processor old 5_000_000_000 said new) → new.is_shut ≡ true
+  shut_by true old new said e h = ap (λ (p : ProviderState P S G). p.is_shut) h.1 ∙ e
+  shut_by false old new said e h = ap (λ (p : ProviderState P S G). p.is_shut) h.rest
+
+  -- behind a shutdown the provider is shut
+  shutdown_shuts : (scope : PlainScope) (command : PlainCommand) (turn : Turn P S G) → is_shutdown command ≡ true → IsTurn calls scope command turn → (turn.behind.provider.is_shut ≡ true) × (turn.delivered ≡ [])
+  shutdown_shuts scope (start span name moment) turn e h = cc
+  shutdown_shuts scope (child span parent name moment) turn e h = cc
+  shutdown_shuts scope (remote span header name moment) turn e h = cc
+  shutdown_shuts scope (attr span key value) turn e h = cc
+  shutdown_shuts scope (event span name moment) turn e h = cc
+  shutdown_shuts scope (status span how) turn e h = cc
+  shutdown_shuts scope (inject span) turn e h = cc
+  shutdown_shuts scope (end span moment) turn e h = cc
+  shutdown_shuts scope flush turn e h = cc
+  shutdown_shuts scope (run moment) turn e h = cc
+  shutdown_shuts scope shutdown turn e h = (shut_by turn.before.provider.is_shut turn.before.provider turn.behind.provider h.said refl h.gives, h.delivers)
+
+  -- a shut provider stays shut over any command
+  stays_shut : (b : Bool) (scope : PlainScope) (command : PlainCommand) (turn : Turn P S G) → is_shutdown command ≡ b → turn.before.provider.is_shut ≡ true → IsTurn calls scope command turn → turn.behind.provider.is_shut ≡ true
+  stays_shut true scope command turn e shut h = (shutdown_shuts scope command turn e h).0
+  stays_shut false scope command turn e shut h = (one_stays calls scope command turn e h).0 ∙ shut
+
+  -- each processor follows all that is delivered
+  pub all_follow : (scope : PlainScope) (old new : Course P S G) (commands : List PlainCommand) (turns : List (Turn P S G)) → AreTurns calls scope old commands turns new
+      → EachFollows calls.processor (delivered_in turns) old.provider.processors new.provider.processors
+  all_follow scope old new [] [] h = EachFollows-same calls.processor old.provider.processors new.provider.processors (ap (λ (c : Course P S G). map calls.processor.told c.provider.processors) h)
+  all_follow scope old new [] (turn ∷ turns) h = absurd h
+  all_follow scope old new (command ∷ commands) [] h = absurd h
+  all_follow scope old new (command ∷ commands) (turn ∷ turns) h =
+      subst (λ (c : Course P S G). EachFollows calls.processor (delivered_in (turn ∷ turns)) c.provider.processors new.provider.processors) h.0
+      (EachFollows-append calls.processor turn.delivered (delivered_in turns) turn.before.provider.processors turn.behind.provider.processors new.provider.processors h.1.follows
+      (all_follow scope (replied calls turn.behind) new commands turns h.3))
+
+  -- nothing is delivered from a shut provider on
+  none_behind : (scope : PlainScope) (old new : Course P S G) (commands : List PlainCommand) (turns : List (Turn P S G)) → old.provider.is_shut ≡ true → AreTurns calls scope old commands turns new → delivered_in turns ≡ []
+  none_behind scope old new [] [] shut h = refl
+  none_behind scope old new [] (turn ∷ turns) shut h = absurd h
+  none_behind scope old new (command ∷ commands) [] shut h = absurd h
+  none_behind scope old new (command ∷ commands) (turn ∷ turns) shut h =
+      let is_shut = ap (λ (c : Course P S G). c.provider.is_shut) h.0 ∙ shut in
+      let first : turn.delivered ≡ [] = shut_delivers_none scope command turn is_shut h.1.is_turn in
+      let still = stays_shut (is_shutdown command) scope command turn refl is_shut h.1.is_turn in
+      ap (λ (l : List Delivery). l ++ delivered_in turns) first ∙ none_behind scope (replied calls turn.behind) new commands turns still h.3
+
+  -- each processor that was open hears all that is delivered
+  pub all_heard : (scope : PlainScope) (old new : Course P S G) (commands : List PlainCommand) (turns : List (Turn P S G)) → AreTurns calls scope old commands turns new
+      → EachOpenHears calls.processor (delivered_in turns) old.provider.processors new.provider.processors
+  all_heard scope old new [] [] h = hears_no_delivery calls.processor old.provider.processors new.provider.processors (all_follow scope old new [] [] h)
+  all_heard scope old new [] (turn ∷ turns) h = absurd h
+  all_heard scope old new (command ∷ commands) [] h = absurd h
+  all_heard scope old new (command ∷ commands) (turn ∷ turns) h =
+      subst (λ (c : Course P S G). EachOpenHears calls.processor (delivered_in (turn ∷ turns)) c.provider.processors new.provider.processors) h.0
+      (by (is_shutdown command) refl (all_heard scope (replied calls turn.behind) new commands turns h.3))
+    where
+      by : (b : Bool) → is_shutdown command ≡ b → EachOpenHears calls.processor (delivered_in turns) turn.behind.provider.processors new.provider.processors
+          → EachOpenHears calls.processor (turn.delivered ++ delivered_in turns) turn.before.provider.processors new.provider.processors
+      by false e rest =
+          let stays = one_closes_none scope command turn e h.1.is_turn in
+          let first = hears_first calls.processor turn.delivered turn.before.provider.processors turn.behind.provider.processors h.1.follows stays in
+          hears_on calls.processor turn.delivered (delivered_in turns) turn.before.provider.processors turn.behind.provider.processors new.provider.processors first stays rest
+      by true e _ =
+          let shut = shutdown_shuts scope command turn e h.1.is_turn in
+          let none : turn.delivered ++ delivered_in turns ≡ [] = ap (λ (l : List Delivery). l ++ delivered_in turns) shut.1 ∙ none_behind scope (replied calls turn.behind) new commands turns shut.0 h.3 in
+          let follows = subst (λ (c : Course P S G). EachFollows calls.processor (delivered_in (turn ∷ turns)) c.provider.processors new.provider.processors) (sym h.0) (all_follow scope old new (command ∷ commands) (turn ∷ turns) h) in
+          let nothing = subst (λ (l : List Delivery). EachFollows calls.processor l turn.before.provider.processors new.provider.processors) none follows in
+          subst (λ (l : List Delivery). EachOpenHears calls.processor l turn.before.provider.processors new.provider.processors) (sym none) (hears_no_delivery calls.processor turn.before.provider.processors new.provider.processors nothing)

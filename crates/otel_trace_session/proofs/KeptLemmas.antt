@@ -1,0 +1,154 @@
+-- The batches that the first processor of a session keeps over a turn, and how many it loses.
+use Rattle.std.proofs.Common.{◌≡◌, ℕ, List, [], ◌∷◌, Result, Err, Option, Some, None, Bool, true, false, ◌||◌, MatchBool, refl, ap, rules}
+use Rattle.std.specs.declared.alloc.AllocError.{AllocError}
+use Rattle.opentelemetry.specs.Plain.{PlainContext, PlainScope}
+use Rattle.opentelemetry.specs.PlainContexts.{empty_span_context, root_cx}
+use Rattle.opentelemetry.specs.PlainSpanBuilder.{PlainSpanBuilder, named_builder}
+use Rattle.otel_export.specs.declared.error.OTelSdkError.{OTelSdkError}
+use Rattle.otel_export.specs.declared.error.OTelSdkError.TheVariants as errors
+use Rattle.otel_sampling.specs.declared.trace.sampler.SamplingDecision.{SamplingDecision}
+use Rattle.otel_sampling.specs.declared.trace.sampler.SamplingDecision.TheVariants as decisions
+use Rattle.otel_export.specs.PlainSpanData.{PlainSpanData}
+use Rattle.otel_pipeline.specs.Each.{Each}
+use Rattle.otel_pipeline.specs.Ending.{Delivers, TakesAndTells}
+use Rattle.otel_export.specs.KeptBatches.{Grows, appends_none}
+use Rattle.otel_kept.specs.ProcessorKeeps.{OnlyAppends}
+use Rattle.otel_pipeline.specs.Provider.{FlushesProcessor, ProviderState, RunsProcessor, ShutsDown, ShutsProcessor}
+use Rattle.otel_pipeline.specs.SpanHistory.{PlainSpan, SpanStart, SpanHistory, begun, over, span_of}
+use Rattle.otel_pipeline.specs.Starting.{PassesThrough, Decided, StartsOpen}
+use Rattle.otel_pipeline.specs.declared.trace.span_processor.SpanProcessor.{Ghosts}
+use Rattle.otel_pipeline.specs.declared.trace.drain_due.DrainDue as timing
+use Rattle.otel_kept.specs.declared.keeps_batches.KeepsBatches as keeping
+use Rattle.otel_trace_lines.specs.Commands.{PlainCommand, start, child, remote, attr, event, status, inject, end, flush, run, shutdown, is_end}
+use Rattle.otel_trace_lines.specs.declared.reply.Answer.{Answer}
+use Rattle.otel_trace_lines.specs.declared.reply.Answer.TheVariants as answers
+use Rattle.otel_trace_session.specs.Calls.{Calls, batches_of_first, losses_of_first}
+use Rattle.otel_trace_session.specs.Headers.{child_cx}
+use Rattle.otel_trace_session.specs.OpenSpans.{Histories}
+use Rattle.otel_trace_session.specs.SpanTurns.{ChildTurn, EndTurn, InjectTurn, Start, StartsBehind, start_in}
+use Rattle.otel_trace_session.specs.Turn.{AsksNobody, Course, Turn}
+use Rattle.otel_trace_session.specs.Turns.{IsTurn, LosesNone}
+
+-- batches are kept behind those that were kept, and none was lost
+abbrev pub LosesNothing : {P : Type 0} → keeping.Ghosts P → List P → List P → Type 0
+LosesNothing keeps old new = Grows (batches_of_first keeps old) (batches_of_first keeps new) × (losses_of_first keeps new ≡ losses_of_first keeps old)
+
+pub loses_nothing : {P : Type 0} (keeps : keeping.Ghosts P) (old new : List P) → new ≡ old → LosesNothing keeps old new
+loses_nothing keeps old new e = (appends_none _ _ (ap (batches_of_first keeps) e), ap (losses_of_first keeps) e)
+
+module _ {P : Type 0} (calls : Ghosts P) (timer : timing.Ghosts P) (keeps : keeping.Ghosts P) (law : OnlyAppends calls timer keeps.kept keeps.lost) where
+  -- what the first processor keeps where each took part in a start
+  passed_keeps : (cx : PlainContext) (s t : PlainSpan) (ps qs : List P) → PassesThrough calls cx s ps qs t → LosesNothing keeps ps qs
+  passed_keeps cx s t [] [] h = loses_nothing keeps [] [] refl
+  passed_keeps cx s t [] (q ∷ qs) h = absurd h
+  passed_keeps cx s t (p ∷ ps) [] h = absurd h
+  passed_keeps cx s t (p ∷ ps) (q ∷ qs) h = law.starts p s cx h.0 q h.1.gives
+
+  -- the same where the sampler decided
+  decided_keeps : (decision : SamplingDecision) (cx : PlainContext) (from : SpanStart) (ps qs : List P) (history : SpanHistory) → Decided calls decision cx from ps qs history → LosesNothing keeps ps qs
+  decided_keeps decisions.Drop cx from ps qs history h = loses_nothing keeps ps qs h.1
+  decided_keeps decisions.RecordOnly cx from ps qs history h = passed_keeps cx _ _ ps qs h.passes
+  decided_keeps decisions.RecordAndSample cx from ps qs history h = passed_keeps cx _ _ ps qs h.passes
+
+  -- what it keeps where each may have been given an ended span
+  asked_keeps : (span : PlainSpanData) (ps qs : List P) (rs : List (Result (Unit {0}) AllocError)) → Each (TakesAndTells calls span) ps rs qs
+      → Grows (batches_of_first keeps ps) (batches_of_first keeps qs)
+  asked_keeps span [] [] [] h = ([], refl)
+  asked_keeps span [] (q ∷ qs) [] h = absurd h
+  asked_keeps span [] qs (r ∷ rs) h = absurd h
+  asked_keeps span (p ∷ ps) qs [] h = absurd h
+  asked_keeps span (p ∷ ps) [] (r ∷ rs) h = absurd h
+  asked_keeps span (p ∷ ps) (q ∷ qs) (r ∷ rs) h = law.ends p span r q h.0.gives
+
+  first_flushed : (ps qs : List P) (rs : List (Result (Unit {0}) OTelSdkError)) → Each (FlushesProcessor calls) ps rs qs → Grows (batches_of_first keeps ps) (batches_of_first keeps qs)
+  first_flushed [] [] [] h = ([], refl)
+  first_flushed [] (q ∷ qs) [] h = absurd h
+  first_flushed [] qs (r ∷ rs) h = absurd h
+  first_flushed (p ∷ ps) qs [] h = absurd h
+  first_flushed (p ∷ ps) [] (r ∷ rs) h = absurd h
+  first_flushed (p ∷ ps) (q ∷ qs) (r ∷ rs) h = law.flushes p r q h.0.gives
+
+  first_shut : (timeout : ℕ) (ps qs : List P) (rs : List (Result (Unit {0}) OTelSdkError)) → Each (ShutsProcessor calls timeout) ps rs qs → Grows (batches_of_first keeps ps) (batches_of_first keeps qs)
+  first_shut timeout [] [] [] h = ([], refl)
+  first_shut timeout [] (q ∷ qs) [] h = absurd h
+  first_shut timeout [] qs (r ∷ rs) h = absurd h
+  first_shut timeout (p ∷ ps) qs [] h = absurd h
+  first_shut timeout (p ∷ ps) [] (r ∷ rs) h = absurd h
+  first_shut timeout (p ∷ ps) (q ∷ qs) (r ∷ rs) h = law.shuts p timeout r q h.0.gives
+
+  first_ran : (now : ℕ) (ps qs : List P) (rs : List (Result (Unit {0}) OTelSdkError)) → Each (RunsProcessor calls timer now) ps rs qs → Grows (batches_of_first keeps ps) (batches_of_first keeps qs)
+  first_ran now [] [] [] h = ([], refl)
+  first_ran now [] (q ∷ qs) [] h = absurd h
+  first_ran now [] qs (r ∷ rs) h = absurd h
+  first_ran now (p ∷ ps) qs [] h = absurd h
+  first_ran now (p ∷ ps) [] (r ∷ rs) h = absurd h
+  first_ran now (p ∷ ps) (q ∷ qs) (r ∷ rs) h = law.runs p now r q h.0.gives
+
+module _ {P S G : Type 0} (calls : Calls P S G) (law : OnlyAppends calls.processor calls.timer calls.keeps.kept calls.keeps.lost) where
+  -- batches come only behind those that are kept
+  abbrev GrowsIn : Turn P S G → Type 0
+  GrowsIn turn = Grows (batches_of_first calls.keeps turn.before.provider.processors) (batches_of_first calls.keeps turn.behind.provider.processors)
+
+  -- a turn that asked nobody
+  nobody_loses : (said : Answer) (histories : Histories) (turn : Turn P S G) → AsksNobody said histories turn → LosesNothing calls.keeps turn.before.provider.processors turn.behind.provider.processors
+  nobody_loses said histories turn h = loses_nothing calls.keeps turn.before.provider.processors turn.behind.provider.processors (ap (λ (c : Course P S G). c.provider.processors) h.rest)
+
+  started_loses : (starts_nothing : Bool) (old new : ProviderState P S G) (scope : PlainScope) (builder : PlainSpanBuilder) (cx : PlainContext) (now : ℕ) (history : SpanHistory)
+      → MatchBool starts_nothing ((history ≡ over empty_span_context old.span_limits) × (new ≡ old)) (StartsOpen calls.processor calls.sampler calls.ids old scope builder cx now history new)
+      → LosesNothing calls.keeps old.processors new.processors
+  started_loses true old new scope builder cx now history h = loses_nothing calls.keeps old.processors new.processors (ap (λ (r : ProviderState P S G). r.processors) h.1)
+  started_loses false old new scope builder cx now history h = decided_keeps calls.processor calls.timer calls.keeps law h.answer.decision cx _ old.processors new.processors history h.decided
+
+  starts_lose : (found : Option SpanHistory) (asked : Start) (turn : Turn P S G) → StartsBehind calls found asked turn → LosesNothing calls.keeps turn.before.provider.processors turn.behind.provider.processors
+  starts_lose (Some history) asked turn h = nobody_loses answers.SpanExists turn.before.histories turn h
+  starts_lose None asked turn h = started_loses (turn.before.provider.is_shut || asked.cx.telemetry_suppressed) turn.before.provider turn.behind.provider asked.scope (named_builder asked.name) asked.cx asked.moment h.history h.starts
+
+  child_loses : (found : Option SpanHistory) (asked : Start) (turn : Turn P S G) → ChildTurn calls asked found turn → LosesNothing calls.keeps turn.before.provider.processors turn.behind.provider.processors
+  child_loses None asked turn h = nobody_loses answers.NoSuchSpan turn.before.histories turn h
+  child_loses (Some parent) asked turn h = starts_lose (turn.before.histories asked.span) (record asked { cx = child_cx (span_of parent).span_context }) turn h
+
+  inject_loses : (span : List ℕ) (turn : Turn P S G) → InjectTurn span turn → LosesNothing calls.keeps turn.before.provider.processors turn.behind.provider.processors
+  inject_loses span turn h = loses_nothing calls.keeps turn.before.provider.processors turn.behind.provider.processors (ap (λ (c : Course P S G). c.provider.processors) h.rest)
+
+  delivery_grows : (is_shut : Bool) (span : PlainSpanData) (ps qs : List P) (refused : ℕ) → Delivers calls.processor is_shut span ps qs refused → Grows (batches_of_first calls.keeps ps) (batches_of_first calls.keeps qs)
+  delivery_grows true span ps qs refused h = appends_none _ _ (ap (batches_of_first calls.keeps) h.0)
+  delivery_grows false span ps qs refused h = asked_keeps calls.processor calls.timer calls.keeps law span ps qs h.0 h.2
+
+  end_grows : (found : Option SpanHistory) (span : List ℕ) (moment : ℕ) (turn : Turn P S G) → EndTurn calls.processor span moment found turn → GrowsIn turn
+  end_grows None span moment turn h = (nobody_loses answers.NoSuchSpan turn.before.histories turn h).0
+  end_grows (Some (over context limits)) span moment turn h = (nobody_loses answers.Ignored turn.before.histories turn h).0
+  end_grows (Some (begun from edits)) span moment turn h = delivery_grows turn.before.provider.is_shut _ turn.before.provider.processors turn.behind.provider.processors h.refused h.delivered
+
+  pub shutdown_grows : (again : Result (Unit {0}) OTelSdkError) (is_shut : Bool) (old new : ProviderState P S G)
+      (said : Result (Unit {0}) OTelSdkError) → MatchBool is_shut ((said ≡ again) × (new ≡ old)) (ShutsDown calls.processor old 5_000_000_000 said new) → Grows (batches_of_first calls.keeps old.processors) (batches_of_first calls.keeps new.processors)
+  shutdown_grows again true old new said h = appends_none _ _ (ap (λ (p : ProviderState P S G). batches_of_first calls.keeps p.processors) h.1)
+  shutdown_grows again false old new said h = first_shut calls.processor calls.timer calls.keeps law 5_000_000_000 old.processors new.processors h.asked.0 h.asked.2
+
+  -- over a turn batches come only behind those that are kept
+  pub turn_grows : (scope : PlainScope) (command : PlainCommand) (turn : Turn P S G) → IsTurn calls scope command turn → GrowsIn turn
+  turn_grows scope (start span name moment) turn h = (starts_lose (turn.before.histories span) (start_in scope root_cx span name moment) turn h).0
+  turn_grows scope (child span parent name moment) turn h = (child_loses (turn.before.histories parent) (start_in scope root_cx span name moment) turn h).0
+  turn_grows scope (remote span header name moment) turn h = (starts_lose (turn.before.histories span) (start_in scope h.cx span name moment) turn h.starts).0
+  turn_grows scope (attr span key value) turn h = (nobody_loses _ _ turn h).0
+  turn_grows scope (event span name moment) turn h = (nobody_loses _ _ turn h).0
+  turn_grows scope (status span how) turn h = (nobody_loses _ _ turn h).0
+  turn_grows scope (inject span) turn h = (inject_loses span turn h).0
+  turn_grows scope (end span moment) turn h = end_grows (turn.before.histories span) span moment turn h
+  turn_grows scope flush turn h = first_flushed calls.processor calls.timer calls.keeps law turn.before.provider.processors turn.behind.provider.processors h.gives.asked.0 h.gives.asked.2
+  turn_grows scope (run moment) turn h = first_ran calls.processor calls.timer calls.keeps law moment turn.before.provider.processors turn.behind.provider.processors h.gives.asked.0 h.gives.asked.2
+  turn_grows scope shutdown turn h = shutdown_grows (Err errors.AlreadyShutdown) turn.before.provider.is_shut turn.before.provider turn.behind.provider h.said h.gives
+
+  -- and where it is neither an end nor a flush, a run or a shutdown none is lost
+  pub turn_loses_none : (scope : PlainScope) (command : PlainCommand) (turn : Turn P S G) → IsTurn calls scope command turn → is_end command ≡ false
+      → LosesNone calls command turn.before.provider.processors turn.behind.provider.processors
+  turn_loses_none scope (start span name moment) turn h e _ = (starts_lose (turn.before.histories span) (start_in scope root_cx span name moment) turn h).1
+  turn_loses_none scope (child span parent name moment) turn h e _ = (child_loses (turn.before.histories parent) (start_in scope root_cx span name moment) turn h).1
+  turn_loses_none scope (remote span header name moment) turn h e _ = (starts_lose (turn.before.histories span) (start_in scope h.cx span name moment) turn h.starts).1
+  turn_loses_none scope (attr span key value) turn h e _ = (nobody_loses _ _ turn h).1
+  turn_loses_none scope (event span name moment) turn h e _ = (nobody_loses _ _ turn h).1
+  turn_loses_none scope (status span how) turn h e _ = (nobody_loses _ _ turn h).1
+  turn_loses_none scope (inject span) turn h e _ = (inject_loses span turn h).1
+  turn_loses_none scope (end span moment) turn h e _ = cc
+  turn_loses_none scope flush turn h e keeps = absurd (search (rules, keeps))
+  turn_loses_none scope (run moment) turn h e keeps = absurd (search (rules, keeps))
+  turn_loses_none scope shutdown turn h e keeps = absurd (search (rules, keeps))

@@ -1,0 +1,8 @@
+use Rattle.otel_trace_session.specs.Calls.{calls_of}
+use Rattle.otel_trace_session.proofs.ShownLemmas.{closes_rest}
+use Rattle.otel_trace_session.proofs.laws.closes_show_the_rest.Goals as goal
+
+pub returns : goal.returns
+returns g c =
+    closes_rest (calls_of g.P.SpanProcessor g.P.DrainDue g.P.KeepsBatches g.S.ShouldSample g.G.IdGenerator)
+    g.met.P.KeepsBatches.appends

@@ -1,0 +1,48 @@
+use Rattle.std.proofs.Common.{◌≡◌, ◌∙◌, sym, ap, refl, rules, Some, string_bytes, inl, inr}
+use Rattle.std.specs.BTreeMap.Entry.{map_with_value, entry_value}
+use Rattle.opentelemetry.proofs.Clauses.{always_on_err}
+use Rattle.otel_trace_session.specs.Calls.{calls_of}
+use Rattle.otel_trace_session.specs.OpenSpans.{by_name, start_answer}
+use Rattle.otel_trace_session.specs.SpanTurns.{start_in}
+use Rattle.otel_trace_session.proofs.NamedLemmas.{named-get, puts_written, may_start_free}
+use Rattle.otel_trace_session.proofs.TurnLemmas.{starts_free, starts_taken}
+use Rattle.otel_trace_session.proofs.open_spans.start_under.Goals as goal
+
+pub returns-in_err-place-clause-asks : goal.returns-in_err-place-clause-asks
+returns-in_err-place-clause-asks g c =
+    let calls = calls_of g.P.SpanProcessor g.P.DrainDue g.P.KeepsBatches g.S.ShouldSample g.G.IdGenerator in
+    always_on_err _ (may_start_free calls c.args.provider.now c.args.provider.now c.args.cx.now (string_bytes c.args.name) _
+    (named-get c.args.spans.now (string_bytes c.args.span) ∙ c.in_err-place.ensures.absent) (inl refl))
+
+pub returns-in_err-or_try_insert_with-in-Err-clause-asks : goal.returns-in_err-or_try_insert_with-in-Err-clause-asks
+returns-in_err-or_try_insert_with-in-Err-clause-asks g c =
+    let calls = calls_of g.P.SpanProcessor g.P.DrainDue g.P.KeepsBatches g.S.ShouldSample g.G.IdGenerator in
+    always_on_err _ (may_start_free calls c.args.provider.now c.start_with_context.new.provider c.args.cx.now (string_bytes c.args.name) _
+    (named-get c.args.spans.now (string_bytes c.args.span) ∙ (rw c.in-Vacant.is at c.in_ok-place.ensures.found)) (inr c.in-Err.ensures.err))
+
+pub returns-in-Ok-clause-ok : goal.returns-in-Ok-clause-ok
+returns-in-Ok-clause-ok g c =
+    let calls = calls_of g.P.SpanProcessor g.P.DrainDue g.P.KeepsBatches g.S.ShouldSample g.G.IdGenerator in
+    let begun = c.in-Ok.ensures.ok in
+    let span = c.insert.result.now in
+    starts_free calls c.args.provider.now c.start_with_context.new.provider (by_name c.args.spans.now.entries) _ (start_in c.args.tracer.now c.args.cx.now (string_bytes c.args.span) (string_bytes c.args.name) c.args.now.0) c.answer_to_start-answer.result begun.0
+    (named-get c.args.spans.now (string_bytes c.args.span) ∙ (rw c.in-Vacant.is at c.in_ok-place.ensures.found))
+    (puts_written c.args.spans.now (map_with_value c.in_ok-place.field-0 span) _ (string_bytes c.args.span) span _ (c.insert.ensures.value ∙ begun.1) (search rules) (c.in_ok-place.ensures.update.0 span))
+    (λ before. record {
+      history = begun.0;
+      starts = begun.2;
+      told = c.start_with_context.ensures.told;
+      says = c.answer_to_start-answer.ensures ∙ ap start_answer begun.1;
+      delivers = refl;
+      histories = refl;
+      shown = refl;
+    })
+
+pub returns-in-Occupied-clause-ok : goal.returns-in-Occupied-clause-ok
+returns-in-Occupied-clause-ok g c =
+    let calls = calls_of g.P.SpanProcessor g.P.DrainDue g.P.KeepsBatches g.S.ShouldSample g.G.IdGenerator in
+    let span = c.into_mut-there.result.now in
+    let here : entry_value c.in_ok-place.field-0 ≡ Some span = cc in
+    starts_taken calls c.args.provider.now (by_name c.args.spans.now.entries) _ (start_in c.args.tracer.now c.args.cx.now (string_bytes c.args.span) (string_bytes c.args.name) c.args.now.0) span
+    (named-get c.args.spans.now (string_bytes c.args.span) ∙ sym c.in_ok-place.ensures.value ∙ here)
+    (puts_written c.args.spans.now (map_with_value c.in_ok-place.field-0 span) _ (string_bytes c.args.span) span span refl (search rules) (c.in_ok-place.ensures.update.0 span))

@@ -1,0 +1,62 @@
+use Rattle.std.proofs.Common.{rules, [], ◌∷◌, ◌++◌, List, ap, sym, ◌∙◌, append_assoc, append-nil, inr}
+use Rattle.std.proofs.lemmas.Result.{err_from_is_err_and}
+use Rattle.otel_trace_lines.specs.PlainReply.{PlainReply}
+use Rattle.otel_trace_session.specs.Calls.{calls_of}
+use Rattle.otel_trace_session.specs.Shown.{unshown}
+use Rattle.otel_trace_session.specs.Stops.{WhyUntold}
+use Rattle.otel_trace_session.specs.declared.session.RunError.TheVariants as runs
+use Rattle.otel_trace_session.proofs.RunLemmas.{ran_nothing, ran_all, ran_more, ran_stopped, stops_run}
+use Rattle.otel_trace_session.proofs.session.Session.run.Goals as goal
+
+pub loop-command-init : goal.loop-command-init
+loop-command-init g c =
+    let calls = calls_of g.P.SpanProcessor g.P.DrainDue g.P.KeepsBatches g.S.ShouldSample g.G.IdGenerator in
+    ([], sym (append-nil _), ran_nothing calls c.args.self.now c.args.commands.items c.from_vec-queue.result.items c.from_vec-queue.ensures.items)
+
+pub returns-in_err-answer-clause-err : goal.returns-in_err-answer-clause-err
+returns-in_err-answer-clause-err g c =
+    let calls = calls_of g.P.SpanProcessor g.P.DrainDue g.P.KeepsBatches g.S.ShouldSample g.G.IdGenerator in
+    let i = c.loop-command.invariant in
+    let error = c.in_err-answer.field-0.0 in
+    let p = err_from_is_err_and c.from_residual.result c.from_residual.ensures.1 in
+    rw (p.1, p.2) (
+      i.0,
+      i.1,
+      ran_stopped calls (WhyUntold calls error) c.args.self.now c.loop-command.self c.answer.new.self c.args.commands.items c.loop-command.queue.items c.pop_front.new.self.items i.0 c.in-Some.command c.in-Some.ensures.items i.2 (record {
+        why = stops_run calls error c.loop-command.self c.in-Some.command c.answer.new.self c.in_err-answer.ensures.err;
+        rest = c.answer.ensures.rest;
+        keeps_batches = c.answer.ensures.keeps;
+      }),
+    )
+
+pub returns-in_err-push_reply-clause-err : goal.returns-in_err-push_reply-clause-err
+returns-in_err-push_reply-clause-err g c =
+    let calls = calls_of g.P.SpanProcessor g.P.DrainDue g.P.KeepsBatches g.S.ShouldSample g.G.IdGenerator in
+    let i = c.loop-command.invariant in
+    let p = err_from_is_err_and c.from_residual-in_err-push_reply.result c.from_residual-in_err-push_reply.ensures.1 in
+    rw (p.1, p.2) (
+      i.0,
+      c.in_err-push_reply.ensures.err ∙ i.1,
+      ran_stopped calls (WhyUntold calls runs.Memory) c.args.self.now c.loop-command.self c.answer.new.self c.args.commands.items c.loop-command.queue.items c.pop_front.new.self.items i.0 c.in-Some.command c.in-Some.ensures.items i.2 (record {
+        why = inr (c.in_ok-answer.answer, c.in_ok-answer.ensures.ok);
+        rest = c.answer.ensures.rest;
+        keeps_batches = c.answer.ensures.keeps;
+      }),
+    )
+
+pub loop-command-preserved : goal.loop-command-preserved
+loop-command-preserved g c =
+    let calls = calls_of g.P.SpanProcessor g.P.DrainDue g.P.KeepsBatches g.S.ShouldSample g.G.IdGenerator in
+    let i = c.loop-command.invariant in
+    let reply : PlainReply = record { exported = unshown g.P.KeepsBatches c.answer.new.self; answer = c.in_ok-answer.answer } in (
+      i.0 ++ reply ∷ [],
+      c.in_ok-push_reply.ensures.ok ∙ ap (λ (l : List PlainReply). l ++ reply ∷ []) i.1 ∙ append_assoc c.args.replies.now.items i.0 (reply ∷ []),
+      ran_more calls c.args.self.now c.loop-command.self c.answer.new.self c.mark_shown.new.self c.args.commands.items c.loop-command.queue.items c.pop_front.new.self.items i.0 c.in-Some.command c.in_ok-answer.answer
+          c.in-Some.ensures.items i.2 c.in_ok-answer.ensures.ok c.answer.ensures.rest c.mark_shown.ensures,
+    )
+
+pub returns-clause-ok : goal.returns-clause-ok
+returns-clause-ok g c =
+    let calls = calls_of g.P.SpanProcessor g.P.DrainDue g.P.KeepsBatches g.S.ShouldSample g.G.IdGenerator in
+    let i = c.loop-command.invariant in
+    (i.0, i.1, ran_all calls c.args.self.now c.loop-command.self c.args.commands.items c.loop-command.queue.items i.0 (search rules) i.2)

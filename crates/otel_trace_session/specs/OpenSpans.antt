@@ -1,0 +1,107 @@
+-- The spans of a session by name, the histories that they have, and what a start that is refused may have done. A
+-- history is a start and the edits since; none is stored.
+use Rattle.std.specs.Prelude.{◌≡◌, ℕ, Bool, List, [], ◌∷◌, ◌++◌, Option, Some, None, is_some, map, string_bytes, String}
+use Rattle.std.specs.Prelude.{if◌then◌else◌, ◌⊎◌}
+use Rattle.std.specs.Option.{option_map}
+use Rattle.std.specs.Ordering.{nat_cmp}
+use Rattle.std.specs.Cmp.Lexicographic.{slice_cmp}
+use Rattle.std.specs.BTreeMap.{is_at}
+use Rattle.opentelemetry.specs.Plain.{PlainContext}
+use Rattle.opentelemetry.specs.PlainSpanBuilder.{named_builder}
+use Rattle.otel_pipeline.specs.SpanHistory.{PlainSpan, SpanHistory, HasHistory, begun, over, span_of, Edit}
+use Rattle.otel_pipeline.specs.Provider.{ProviderState}
+use Rattle.otel_pipeline.specs.Starting.{OnlyDraws}
+use Rattle.otel_trace_lines.specs.declared.reply.Answer.{Answer}
+use Rattle.otel_trace_lines.specs.declared.reply.Answer.TheVariants as answers
+use Rattle.otel_trace_lines.specs.declared.reply.SpanIdentity.{SpanIdentity}
+use Rattle.otel_trace_session.specs.Calls.{Calls}
+use Rattle.otel_trace_session.specs.Headers.{AnswersHeaders, SaysContext, child_cx}
+
+-- spans, each under the bytes by which commands call it
+abbrev pub NamedSpans : Type 0
+NamedSpans = List (List ℕ × PlainSpan)
+
+-- whether two names are the same
+abbrev pub is_name : List ℕ → List ℕ → Bool
+is_name name other = is_at (slice_cmp nat_cmp name) other
+
+-- the span of a name, if there is one
+abbrev pub named : NamedSpans → List ℕ → Option PlainSpan
+named [] name = None
+named (entry ∷ entries) name = if is_name name entry.0 then Some entry.1 else named entries name
+
+-- each span has a history
+abbrev pub HaveHistories : NamedSpans → Type 0
+HaveHistories spans = (name : List ℕ) (span : PlainSpan) → named spans name ≡ Some span → HasHistory span
+
+-- the entries of a map whose keys are texts
+abbrev pub by_name : {Y X : Type 0} → List (String Y × X) → List (List ℕ × X)
+by_name entries = map (λ entry. (string_bytes entry.0, entry.1)) entries
+
+-- each name has what it had
+abbrev pub SameSpans : NamedSpans → NamedSpans → Type 0
+SameSpans old new = (q : List ℕ) → named new q ≡ named old q
+
+-- the history of the span of each name, where a start made it
+abbrev pub Histories : Type 0
+Histories = List ℕ → Option SpanHistory
+
+-- histories in which a name has this one
+abbrev pub with_history : Histories → List ℕ → SpanHistory → Histories
+with_history old span history = λ q. if is_name q span then Some history else old q
+
+-- these spans are those that the histories give
+abbrev pub Describe : Histories → NamedSpans → Type 0
+Describe histories spans = (q : List ℕ) → named spans q ≡ option_map span_of (histories q)
+
+-- a history behind an edit: one more, where it is not over
+abbrev pub edited_history : Edit → SpanHistory → SpanHistory
+edited_history edit (over context limits) = over context limits
+edited_history edit (begun from edits) = begun from (edits ++ edit ∷ [])
+
+-- histories behind an edit of the span of a name
+abbrev pub edited_in : Histories → List ℕ → Edit → Histories
+edited_in old span edit = λ q. if is_name q span then option_map (edited_history edit) (old span) else old q
+
+-- what is said of an edit, by the history of its span
+abbrev pub edit_answer : Option SpanHistory → Answer
+edit_answer None = answers.NoSuchSpan
+edit_answer (Some (over context limits)) = answers.Ignored
+edit_answer (Some (begun from edits)) = answers.Ok
+
+-- what is said of the headers of a span, by its history, also where that is over
+abbrev pub AnswersInject : Option SpanHistory → Answer → Type 0
+AnswersInject None answer = answer ≡ answers.NoSuchSpan
+AnswersInject (Some history) answer = AnswersHeaders (span_of history).span_context answer
+
+-- who a span is
+abbrev pub identity_of : PlainSpan → SpanIdentity
+identity_of span = record {
+  trace_id = span.span_context.trace_id;
+  span_id = span.span_context.span_id;
+  trace_flags = span.span_context.trace_flags;
+}
+
+-- what is said of a start, by the span that it made
+abbrev pub start_answer : PlainSpan → Answer
+start_answer span =
+    if is_some span.recorded then answers.Started (identity_of span) else answers.Dropped (identity_of span)
+
+module _ {P S G : Type 0} (calls : Calls P S G) where
+  -- what a start in a context that is refused may have done to a provider: nothing, or ids were drawn; no processor was
+  -- asked. Under a name that has a span none is refused
+  abbrev pub MayStart : ProviderState P S G → PlainContext → List ℕ → Option PlainSpan → ProviderState P S G → Type 0
+  MayStart p cx name (Some _) q = ⊥
+  MayStart p cx name None q = (q ≡ p) ⊎ OnlyDraws calls.sampler calls.ids p (named_builder name) cx q
+
+  -- the same as a child of the span of another name: nothing where no start made that, or where there is no memory for
+  -- the context in which that is active
+  abbrev pub ChildMayStart : ProviderState P S G → Option PlainSpan → List ℕ → Option PlainSpan → ProviderState P S G
+      → Type 0
+  ChildMayStart p None name found q = q ≡ p
+  ChildMayStart p (Some parent) name found q = (q ≡ p) ⊎ MayStart p (child_cx parent.span_context) name found q
+
+  -- the same in the context that a header says: nothing where there is no memory for that
+  abbrev pub RemoteMayStart : ProviderState P S G → List ℕ → List ℕ → Option PlainSpan → ProviderState P S G → Type 0
+  RemoteMayStart p header name found q =
+      (q ≡ p) ⊎ ((cx : PlainContext) × SaysContext header cx × MayStart p cx name found q)

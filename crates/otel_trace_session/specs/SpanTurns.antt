@@ -1,0 +1,95 @@
+-- The turns of commands of one span: its start, its edits, its headers and its end, by the history that its name has.
+use Rattle.std.specs.Prelude.{◌≡◌, ℕ, List, [], Option, Some, None, map}
+use Rattle.opentelemetry.specs.Plain.{PlainContext, PlainScope}
+use Rattle.opentelemetry.specs.PlainSpanBuilder.{named_builder}
+use Rattle.otel_export.specs.PlainSpanData.{PlainSpanData}
+use Rattle.otel_pipeline.specs.SpanHistory.{SpanHistory, SpanStart, Edit, add_event, begun, over, data_of, span_of}
+use Rattle.otel_pipeline.specs.Starting.{Starts}
+use Rattle.otel_pipeline.specs.Ending.{Delivers, end_delivers}
+use Rattle.otel_pipeline.specs.declared.trace.span_processor.SpanProcessor.{Ghosts}
+use Rattle.otel_trace_lines.specs.declared.reply.Answer.TheVariants as answers
+use Rattle.otel_trace_session.specs.Calls.{Calls}
+use Rattle.otel_trace_session.specs.Headers.{SaysContext, child_cx}
+use Rattle.otel_trace_session.specs.OpenSpans.{AnswersInject, edit_answer, edited_in, start_answer, with_history}
+use Rattle.otel_trace_session.specs.Turn.{AsksNobody, OnlyAnswers, Turn}
+
+-- what a start asks for: its scope and context, by which name commands call the span, the span's name, and the moment
+pub record Start : Type 0 where
+  pub scope : PlainScope
+  pub cx : PlainContext
+  pub span : List ℕ
+  pub name : List ℕ
+  pub moment : ℕ
+
+-- the start of a span under a scope, in a context
+abbrev pub start_in : PlainScope → PlainContext → List ℕ → List ℕ → ℕ → Start
+start_in scope cx span name moment = record { scope = scope; cx = cx; span = span; name = name; moment = moment }
+
+-- an event without attributes
+abbrev pub bare_event : List ℕ → ℕ → Edit
+bare_event name moment =
+    add_event (record { name = name; timestamp = moment; attributes = []; dropped_attributes_count = 0 })
+
+module _ {P S G : Type 0} (calls : Calls P S G) where
+  -- a name is given the history that a start makes, and nothing is delivered
+  pub record BeginsHistory (start : Start) (turn : Turn P S G) : Type 0 where
+    pub history : SpanHistory
+    pub starts : Starts calls.processor calls.sampler calls.ids turn.before.provider start.scope
+        (named_builder start.name) start.cx start.moment history turn.behind.provider
+    pub told : map calls.processor.told turn.behind.provider.processors
+        ≡ map calls.processor.told turn.before.provider.processors
+    pub says : turn.answer ≡ start_answer (span_of history)
+    pub delivers : turn.delivered ≡ []
+    pub histories : turn.behind.histories ≡ with_history turn.before.histories start.span history
+    pub shown : turn.behind.shown ≡ turn.before.shown
+
+  -- a start, by the history that its name has: it is given one once
+  abbrev pub StartsBehind : Option SpanHistory → Start → Turn P S G → Type 0
+  StartsBehind (Some _) start turn = OnlyAnswers answers.SpanExists turn
+  StartsBehind None start turn = BeginsHistory start turn
+
+  -- a start
+  abbrev pub StartTurn : Start → Turn P S G → Type 0
+  StartTurn start turn = StartsBehind (turn.before.histories start.span) start turn
+
+  -- a start as a child, by the history of its parent: in a context where that is active
+  abbrev pub ChildTurn : Start → Option SpanHistory → Turn P S G → Type 0
+  ChildTurn start None turn = OnlyAnswers answers.NoSuchSpan turn
+  ChildTurn start (Some parent) turn =
+      StartTurn (record start { cx = child_cx (span_of parent).span_context }) turn
+
+  -- a start in the context that a header says
+  pub record RemoteTurn (start : Start) (header : List ℕ) (turn : Turn P S G) : Type 0 where
+    pub cx : PlainContext
+    pub says : SaysContext header cx
+    pub starts : StartTurn (record start { cx = cx }) turn
+
+-- one more edit of the span of a name, where its history is not over
+abbrev pub EditTurn : {P S G : Type 0} → List ℕ → Edit → Turn P S G → Type 0
+EditTurn span edit turn =
+    AsksNobody (edit_answer (turn.before.histories span)) (edited_in turn.before.histories span edit) turn
+
+-- the headers of the span of a name are told, and nothing changes
+pub record InjectTurn {P S G : Type 0} (span : List ℕ) (turn : Turn P S G) : Type 0 where
+  pub says : AnswersInject (turn.before.histories span) turn.answer
+  pub delivers : turn.delivered ≡ []
+  pub rest : turn.behind ≡ turn.before
+
+module _ {P S G : Type 0} (processor : Ghosts P) where
+  -- the history of a name is over, and this data of it is delivered, unless the provider is shut
+  pub record EndsHistory (span : List ℕ) (from : SpanStart) (ended : PlainSpanData) (turn : Turn P S G) : Type 0 where
+    pub refused : ℕ
+    pub delivered : Delivers processor turn.before.provider.is_shut ended turn.before.provider.processors
+        turn.behind.provider.processors refused
+    pub says : turn.answer ≡ answers.Ended refused
+    pub delivers : turn.delivered ≡ end_delivers turn.before.provider.is_shut ended refused
+    pub provider : turn.behind.provider ≡ record turn.before.provider { processors = turn.behind.provider.processors }
+    pub histories : turn.behind.histories
+        ≡ with_history turn.before.histories span (over from.span_context from.limits)
+    pub shown : turn.behind.shown ≡ turn.before.shown
+
+  -- an end, by the history that the name has
+  abbrev pub EndTurn : List ℕ → ℕ → Option SpanHistory → Turn P S G → Type 0
+  EndTurn span moment None turn = OnlyAnswers answers.NoSuchSpan turn
+  EndTurn span moment (Some (over context limits)) turn = OnlyAnswers answers.Ignored turn
+  EndTurn span moment (Some (begun from edits)) turn = EndsHistory span from (data_of from edits moment) turn

@@ -1,0 +1,101 @@
+-- Why the commands of a session were not carried out to their end: one was refused, or has no reply.
+use Rattle.std.specs.Prelude.{◌≡◌, ◌⊎◌, ◌∷◌, ◌++◌, List, true}
+use Rattle.opentelemetry.specs.PlainContexts.{root_cx}
+use Rattle.otel_export.specs.KeptBatches.{Grows}
+use Rattle.otel_pipeline.specs.Provider.{ProviderState}
+use Rattle.otel_trace_lines.specs.Commands.{PlainCommand, start, child, remote, attr, event, status, inject, end, flush}
+use Rattle.otel_trace_lines.specs.Commands.{run, shutdown, is_end, plain_command}
+use Rattle.otel_trace_lines.specs.PlainReply.{PlainReply}
+use Rattle.otel_trace_lines.specs.declared.command.Command.{Command}
+use Rattle.otel_trace_lines.specs.declared.reply.Answer.{Answer}
+use Rattle.otel_trace_session.specs.Calls.{Calls}
+use Rattle.otel_trace_session.specs.OpenSpans.{ChildMayStart, MayStart, NamedSpans, RemoteMayStart, SameSpans, named}
+use Rattle.otel_trace_session.specs.Shown.{session_batches, session_losses}
+use Rattle.otel_trace_session.specs.Turn.{TakesTurn}
+use Rattle.otel_trace_session.specs.Turns.{IsCarriedOut, LosesNone, Runs, SessionState}
+use Rattle.otel_trace_session.specs.declared.session.RunError.{RunError}
+use Rattle.otel_trace_session.specs.declared.session.RunError.TheVariants as runs
+
+module _ {P S G : Type 0} (calls : Calls P S G) where
+  -- what a command that is refused may have done to the provider: nothing, but that a start under a new name may have
+  -- drawn ids. The provider's own calls are not refused
+  abbrev pub MayAsk : ProviderState P S G → NamedSpans → PlainCommand → ProviderState P S G → Type 0
+  MayAsk p spans (start span name moment) q = MayStart calls p root_cx name (named spans span) q
+  MayAsk p spans (child span parent name moment) q =
+      ChildMayStart calls p (named spans parent) name (named spans span) q
+  MayAsk p spans (remote span header name moment) q = RemoteMayStart calls p header name (named spans span) q
+  MayAsk p spans (attr span key value) q = q ≡ p
+  MayAsk p spans (event span name moment) q = q ≡ p
+  MayAsk p spans (status span how) q = q ≡ p
+  MayAsk p spans (inject span) q = q ≡ p
+  MayAsk p spans (end span moment) q = q ≡ p
+  MayAsk p spans flush q = ⊥
+  MayAsk p spans (run moment) q = ⊥
+  MayAsk p spans shutdown q = ⊥
+
+  -- a command was refused: each name has the span that it had, and no processor was asked
+  pub record RefusesOne (p : ProviderState P S G) (old : NamedSpans) (command : PlainCommand) (q : ProviderState P S G)
+      (new : NamedSpans) : Type 0 where
+    pub spans : SameSpans old new
+    pub asks : MayAsk p old command q
+    pub processors : q.processors ≡ p.processors
+
+  -- a command of a session was refused
+  abbrev pub Refuses : SessionState P S G → Command → SessionState P S G → Type 0
+  Refuses old command new = RefusesOne old.provider old.spans (plain_command command) new.provider new.spans
+
+  -- a command of a session was carried out, with this answer
+  abbrev pub CarriesOut : SessionState P S G → Command → Answer → SessionState P S G → Type 0
+  CarriesOut old command answer new = TakesTurn (IsCarriedOut calls old.scope (plain_command command))
+      old.provider old.spans answer new.provider new.spans
+
+  -- the same, and no batch was lost, but at a flush, a run or a shutdown
+  pub record Answers (old : SessionState P S G) (command : Command) (answer : Answer) (new : SessionState P S G)
+      : Type 0 where
+    pub carried : CarriesOut old command answer new
+    pub loses_none : LosesNone calls (plain_command command) old.provider.processors new.provider.processors
+
+  -- a command was carried out that ended a span whose batch was lost
+  pub record LosesBatch (old : SessionState P S G) (command : Command) (new : SessionState P S G) : Type 0 where
+    pub answer : Answer
+    pub carried : CarriesOut old command answer new
+    pub ends_span : is_end (plain_command command) ≡ true
+    pub loses_one : ¬ (session_losses calls.keeps new ≡ session_losses calls.keeps old)
+
+  -- why a command has no answer, by the error
+  abbrev pub AnswerStops : RunError → SessionState P S G → Command → SessionState P S G → Type 0
+  AnswerStops runs.Memory old command new = Refuses old command new
+  AnswerStops runs.BatchLost old command new = LosesBatch old command new
+
+  -- why a command has no reply, by the error: it has no answer, or the reply found no memory
+  abbrev pub WhyUntold : RunError → SessionState P S G → Command → SessionState P S G → Type 0
+  WhyUntold runs.Memory old command new =
+      Refuses old command new ⊎ ((answer : Answer) × Answers old command answer new)
+  WhyUntold runs.BatchLost old command new = LosesBatch old command new
+
+  -- a command has no reply, and this is why; what it exported is left to show
+  pub record HasNoReply (Why : SessionState P S G → Command → SessionState P S G → Type 0) (old : SessionState P S G)
+      (command : Command) (new : SessionState P S G) : Type 0 where
+    pub why : Why old command new
+    pub rest : new ≡ record old { provider = new.provider; spans = new.spans }
+    pub keeps_batches : Grows (session_batches calls.keeps old) (session_batches calls.keeps new)
+
+  -- a beginning of the commands was carried out, each with its reply, and the one behind it has none
+  pub record RunsBeginning (Why : SessionState P S G → Command → SessionState P S G → Type 0)
+      (old : SessionState P S G) (commands : List Command) (replies : List PlainReply)
+      (new : SessionState P S G) : Type 0 where
+    pub done : List Command
+    pub last : Command
+    pub left : List Command
+    pub middle : SessionState P S G
+    pub parts : commands ≡ done ++ last ∷ left
+    pub ran : Runs calls old done replies middle
+    pub stopped : HasNoReply Why middle last new
+
+  -- what carrying commands out does that ends with this error
+  abbrev pub RunStops : RunError → SessionState P S G → List Command → List PlainReply → SessionState P S G → Type 0
+  RunStops error old commands replies new = RunsBeginning (WhyUntold error) old commands replies new
+
+-- a list gained these elements at its end
+abbrev pub Gains : {X : Type 0} → List X → List X → (List X → Type 0) → Type 0
+Gains {X} before now These = (more : List X) × (now ≡ before ++ more) × These more

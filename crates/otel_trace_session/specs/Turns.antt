@@ -1,0 +1,117 @@
+-- The turns of the commands of a session, one after another, each with its reply.
+use Rattle.std.specs.Prelude.{◌≡◌, ℕ, List, [], ◌∷◌, IsFalse, codes, drop, length, map}
+use Rattle.std.specs.List.{flat_map}
+use Rattle.opentelemetry.specs.Plain.{PlainScope, scope_named, text}
+use Rattle.opentelemetry.specs.PlainContexts.{root_cx}
+use Rattle.otel_pipeline.specs.SpanHistory.{set_attribute, set_status}
+use Rattle.otel_pipeline.specs.Deliveries.{Delivery, EachFollows}
+use Rattle.otel_export.specs.KeptBatches.{Grows}
+use Rattle.otel_pipeline.specs.Provider.{Flushes, ProviderState, RunsDue}
+use Rattle.otel_kept.specs.declared.keeps_batches.KeepsBatches as keeping
+use Rattle.otel_trace_lines.specs.Commands.{PlainCommand, start, child, remote, attr, event, status, inject, end, flush}
+use Rattle.otel_trace_lines.specs.Commands.{run, shutdown, may_lose, plain_commands}
+use Rattle.otel_trace_lines.specs.PlainReply.{PlainReply}
+use Rattle.otel_trace_lines.specs.declared.command.Command.{Command}
+use Rattle.otel_trace_session.specs.Calls.{Calls, batches_of_first, losses_of_first}
+use Rattle.otel_trace_session.specs.OpenSpans.{Describe, Histories, NamedSpans}
+use Rattle.otel_trace_session.specs.ProviderTurns.{AsksProvider, Shuts}
+use Rattle.otel_trace_session.specs.SpanTurns.{ChildTurn, EditTurn, EndTurn, InjectTurn, RemoteTurn, StartTurn, bare_event}
+use Rattle.otel_trace_session.specs.SpanTurns.{start_in}
+use Rattle.otel_trace_session.specs.Turn.{Course, Turn}
+
+-- a session: its provider, the library's scope, its spans, how many batches its replies have shown, and how many were
+-- lost before it
+pub record SessionState (P S G : Type 0) : Type 0 where
+  pub provider : ProviderState P S G
+  pub scope : PlainScope
+  pub spans : NamedSpans
+  pub shown : ℕ
+  pub lost_before : ℕ
+
+-- a new session under a provider: it has no spans, and shows and counts no batch from before it
+abbrev pub session_under : {P S G : Type 0} → keeping.Ghosts P → ProviderState P S G → SessionState P S G
+session_under keeps provider = record {
+  provider = provider;
+  scope = scope_named (codes "otel_trace");
+  spans = [];
+  shown = length (batches_of_first keeps provider.processors);
+  lost_before = losses_of_first keeps provider.processors;
+}
+
+-- where a session stands, by histories of its spans
+abbrev pub course_of : {P S G : Type 0} → SessionState P S G → Histories → Course P S G
+course_of session histories =
+    record { provider = session.provider; histories = histories; shown = session.shown }
+
+-- all that turns delivered
+abbrev pub delivered_in : {P S G : Type 0} → List (Turn P S G) → List Delivery
+delivered_in turns = flat_map (λ turn. turn.delivered) turns
+
+module _ {P S G : Type 0} (calls : Calls P S G) where
+  -- the turn of a command under a scope
+  abbrev pub IsTurn : PlainScope → PlainCommand → Turn P S G → Type 0
+  IsTurn scope (start span name moment) turn = StartTurn calls (start_in scope root_cx span name moment) turn
+  IsTurn scope (child span parent name moment) turn =
+      ChildTurn calls (start_in scope root_cx span name moment) (turn.before.histories parent) turn
+  IsTurn scope (remote span header name moment) turn =
+      RemoteTurn calls (start_in scope root_cx span name moment) header turn
+  IsTurn scope (attr span key value) turn =
+      EditTurn span (set_attribute (record { key = key; value = text value })) turn
+  IsTurn scope (event span name moment) turn = EditTurn span (bare_event name moment) turn
+  IsTurn scope (status span how) turn = EditTurn span (set_status how) turn
+  IsTurn scope (inject span) turn = InjectTurn span turn
+  IsTurn scope (end span moment) turn = EndTurn calls.processor span moment (turn.before.histories span) turn
+  IsTurn scope flush turn = AsksProvider (Flushes calls.processor) turn
+  IsTurn scope (run moment) turn = AsksProvider (RunsDue calls.processor calls.timer moment) turn
+  IsTurn scope shutdown turn = AsksProvider (Shuts calls.processor) turn
+
+  -- a command was carried out in a turn: each processor follows what it delivered, and batches came only behind those
+  -- that the first one keeps
+  pub record IsCarriedOut (scope : PlainScope) (command : PlainCommand) (turn : Turn P S G) : Type 0 where
+    pub is_turn : IsTurn scope command turn
+    pub follows : EachFollows calls.processor turn.delivered turn.before.provider.processors
+        turn.behind.provider.processors
+    pub grows : Grows (batches_of_first calls.keeps turn.before.provider.processors)
+        (batches_of_first calls.keeps turn.behind.provider.processors)
+
+  -- a command lost no batch from processors to processors, but at a flush, a run or a shutdown
+  abbrev pub LosesNone : PlainCommand → List P → List P → Type 0
+  LosesNone command ps qs =
+      IsFalse (may_lose command) → losses_of_first calls.keeps qs ≡ losses_of_first calls.keeps ps
+
+  -- the reply of a turn: its answer, and the batches that no reply before it has shown
+  abbrev pub reply_of : Turn P S G → PlainReply
+  reply_of turn = record {
+    exported = drop turn.before.shown (batches_of_first calls.keeps turn.behind.provider.processors);
+    answer = turn.answer;
+  }
+
+  -- where a session stands behind a reply: it has shown all batches
+  abbrev pub replied : Course P S G → Course P S G
+  replied course = record course { shown = length (batches_of_first calls.keeps course.provider.processors) }
+
+  -- commands were carried out in turns, each from where the one before it stands behind its reply
+  abbrev pub AreTurns : PlainScope → Course P S G → List PlainCommand → List (Turn P S G) → Course P S G → Type 0
+  AreTurns scope old [] [] new = new ≡ old
+  AreTurns scope old [] (turn ∷ turns) new = ⊥
+  AreTurns scope old (command ∷ commands) [] new = ⊥
+  AreTurns scope old (command ∷ commands) (turn ∷ turns) new = (turn.before ≡ old) × IsCarriedOut scope command turn
+      × LosesNone command turn.before.provider.processors turn.behind.provider.processors
+      × AreTurns scope (replied turn.behind) commands turns new
+
+  -- commands were carried out from a session whose spans had these histories, each in a turn that its reply tells
+  pub record TookTurns (old : SessionState P S G) (histories : Histories) (commands : List PlainCommand)
+      (replies : List PlainReply) (new : SessionState P S G) : Type 0 where
+    pub turns : List (Turn P S G)
+    pub after : Histories
+    pub are_turns : AreTurns old.scope (course_of old histories) commands turns (course_of new after)
+    pub replied_to : replies ≡ map reply_of turns
+    pub describes : Describe after new.spans
+
+  -- commands were carried out, each with its reply, whatever histories the spans had
+  pub record Runs (old : SessionState P S G) (commands : List Command) (replies : List PlainReply)
+      (new : SessionState P S G) : Type 0 where
+    pub scope : new.scope ≡ old.scope
+    pub lost_before : new.lost_before ≡ old.lost_before
+    pub took : (histories : Histories) → Describe histories old.spans
+        → TookTurns old histories (plain_commands commands) replies new

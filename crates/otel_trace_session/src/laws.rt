@@ -1,0 +1,81 @@
+//! The laws of the turns that the commands of a session take, over the definitions alone. Each function does nothing;
+//! its contract is the law, for every processor that may keep batches, every sampler and every source of ids.
+
+ghost use Rattle.otel_trace_session.specs.Calls.{calls_of};
+ghost use Rattle.otel_trace_session.specs.Laws.{
+  ClosesShowRest,
+  ContextsAreKept,
+  FeedsJoin,
+  FlushesEmpty,
+  ForgetfulClosesAreWhole,
+  ForgetfulRunsAreWhole,
+  RepliesShowAll,
+  RunsAreFollowed,
+  RunsAreHeard,
+  RunsJoin,
+  TracesAreWhole,
+};
+
+use otel_kept::KeepsBatches;
+use otel_sampling::trace::{IdGenerator, ShouldSample};
+
+/// A run, and another from where it ends, are one run.
+pub fn runs_join<P: KeepsBatches, S: ShouldSample, G: IdGenerator>()
+    ensures { RunsJoin
+        (calls_of P.SpanProcessor P.DrainDue.own P.KeepsBatches.own S.ShouldSample G.IdGenerator) }
+{}
+
+/// Each processor follows all that was delivered, in order; and one that was open hears all of it, also where commands
+/// shut it down, since nothing is delivered behind that.
+pub fn runs_are_heard<P: KeepsBatches, S: ShouldSample, G: IdGenerator>()
+    ensures follows { RunsAreFollowed
+        (calls_of P.SpanProcessor P.DrainDue.own P.KeepsBatches.own S.ShouldSample G.IdGenerator) }
+    ensures heard { RunsAreHeard
+        (calls_of P.SpanProcessor P.DrainDue.own P.KeepsBatches.own S.ShouldSample G.IdGenerator) }
+{}
+
+/// At a provider that is open, under a sampler that goes by parents, each trace is sampled whole.
+pub fn runs_keep_traces_whole<P: KeepsBatches, S: ShouldSample, G: IdGenerator>()
+    ensures { TracesAreWhole
+        (calls_of P.SpanProcessor P.DrainDue.own P.KeepsBatches.own S.ShouldSample G.IdGenerator) }
+{}
+
+/// A name that has a span keeps one with its span context.
+pub fn runs_keep_contexts<P: KeepsBatches, S: ShouldSample, G: IdGenerator>()
+    ensures { ContextsAreKept
+        (calls_of P.SpanProcessor P.DrainDue.own P.KeepsBatches.own S.ShouldSample G.IdGenerator) }
+{}
+
+/// The replies show all batches that the first processor's exporter took meanwhile, in order and each once.
+pub fn runs_show_each_span_once<P: KeepsBatches, S: ShouldSample, G: IdGenerator>()
+    ensures { RepliesShowAll
+        (calls_of P.SpanProcessor P.DrainDue.own P.KeepsBatches.own S.ShouldSample G.IdGenerator) }
+{}
+
+/// Once the provider is shut down, what the replies have shown and what is left are all batches that came meanwhile.
+pub fn closes_show_the_rest<P: KeepsBatches, S: ShouldSample, G: IdGenerator>()
+    ensures { ClosesShowRest
+        (calls_of P.SpanProcessor P.DrainDue.own P.KeepsBatches.own S.ShouldSample G.IdGenerator) }
+{}
+
+/// Behind a flush or a shutdown that came last and was answered by Ok no span waits.
+pub fn flushed_runs_leave_none_waiting<P: KeepsBatches, S: ShouldSample, G: IdGenerator>()
+    ensures { FlushesEmpty
+        (calls_of P.SpanProcessor P.DrainDue.own P.KeepsBatches.own S.ShouldSample G.IdGenerator) }
+{}
+
+/// A session that has forgotten what its replies have shown carries commands out as it would, had it forgotten nothing:
+/// with the same replies; and it closes so.
+pub fn forgetting_changes_nothing<P: KeepsBatches, S: ShouldSample, G: IdGenerator>()
+    ensures runs { ForgetfulRunsAreWhole
+        (calls_of P.SpanProcessor P.DrainDue.own P.KeepsBatches.own S.ShouldSample G.IdGenerator) }
+    ensures closes { ForgetfulClosesAreWhole
+        (calls_of P.SpanProcessor P.DrainDue.own P.KeepsBatches.own S.ShouldSample G.IdGenerator) }
+{}
+
+/// Texts that are fed one after another are one text, where the first of them ends as a line does: its replies are
+/// theirs, and its lines are counted through.
+pub fn feeds_join<P: KeepsBatches, S: ShouldSample, G: IdGenerator>()
+    ensures { FeedsJoin
+        (calls_of P.SpanProcessor P.DrainDue.own P.KeepsBatches.own S.ShouldSample G.IdGenerator) }
+{}

@@ -1,0 +1,532 @@
+//! A session: commands against one provider, each with a reply. What its commands deliver to the exporters is stated by
+//! the histories of its spans, apart from the code that fills them.
+
+ghost use Rattle.std.specs.Prelude.{◌≡◌, ◌++◌, ◌∷◌, [], drop, length, map, is_err, ◌||◌, if◌then◌else◌, IfErr, IfOk};
+ghost use Rattle.std.specs.Prelude.{OnOk, OnErr, codes, string_bytes};
+ghost use Rattle.opentelemetry.specs.Plain.{scope_named, text};
+ghost use Rattle.opentelemetry.specs.PlainContexts.{root_cx};
+ghost use Rattle.otel_export.specs.KeptBatches.{Grows};
+ghost use Rattle.otel_pipeline.specs.SpanEdits.{plain_edit};
+ghost use Rattle.otel_pipeline.specs.SpanHistory.{set_attribute};
+ghost use Rattle.otel_trace_lines.specs.Commands.{plain_command};
+ghost use Rattle.otel_trace_lines.specs.ReplyForm.{reply_lines};
+ghost use Rattle.otel_trace_session.specs.Calls.{batches_of_first, calls_of, losses_of_first};
+ghost use Rattle.otel_trace_session.specs.Closing.{Closes, or_no_memory};
+ghost use Rattle.otel_kept.specs.RecalledBatches.{FirstRecalled};
+ghost use Rattle.otel_trace_session.specs.Forgotten.{HasForgotten};
+ghost use Rattle.otel_trace_session.specs.Fed.{FeedStops, Feeds, Writes};
+ghost use Rattle.otel_trace_session.specs.OpenSpans.{Describe, Histories};
+ghost use Rattle.otel_trace_session.specs.ProviderTurns.{ShutsIfOpen, call_answer};
+ghost use Rattle.otel_trace_session.specs.Shown.{session_batches, session_losses, unshown};
+ghost use Rattle.otel_trace_session.specs.SpanTurns.{bare_event};
+ghost use Rattle.otel_trace_session.specs.Stops.{AnswerStops, Answers, Gains, RefusesOne, RunStops};
+ghost use Rattle.otel_trace_session.specs.Turn.{TakesTurn};
+ghost use Rattle.otel_trace_session.specs.Turns.{IsCarriedOut, Runs, session_under};
+
+use crate::exported::{batches_since, copied_batches};
+use crate::headers::remote_context;
+use crate::open_spans::OpenSpans;
+use opentelemetry::trace::Event;
+use opentelemetry::{Context, Key, KeyValue, Moment, Value};
+use otel_export::error::{OTelSdkError, OTelSdkResult};
+use otel_export::trace::SpanData;
+use otel_kept::KeepsBatches;
+use otel_pipeline::trace::{DrainDue, ProviderOf, SdkTracer, SpanEdit, SpanProcessor};
+use otel_sampling::trace::{IdGenerator, ShouldSample};
+use otel_trace_lines::{Answer, Command, Reply, ReplyForm, ReplyLines, parse};
+use std::alloc::{AllocError, Global};
+use std::collections::VecDeque;
+use std::marker::Model;
+use thiserror::Error;
+
+/// Why commands were not carried out to their end.
+#[derive(Clone, Copy, Debug, PartialEq, Eq, Error)]
+pub enum RunError {
+    /// There was no memory.
+    #[error("no memory")]
+    Memory,
+    /// A command ended a span whose batch the first processor's exporter lost.
+    #[error("a batch was lost")]
+    BatchLost,
+}
+
+impl From<AllocError> for RunError {
+    ghost use Rattle.std.specs.Prelude.{◌≡◌};
+    ghost use Rattle.otel_trace_session.specs.declared.session.RunError.TheVariants as runs;
+
+    ghost from_gives = { λ _ error. error ≡ runs.Memory };
+
+    fn from(_error: AllocError) -> RunError {
+        RunError::Memory
+    }
+}
+
+/// Why a text was not carried out to its end.
+#[derive(Clone, Copy, Debug, PartialEq, Eq, Error)]
+pub enum FeedError {
+    /// The line of this number, from 1, is no command.
+    #[error("line {0}: cannot read")]
+    Line(u64),
+    /// There was no memory.
+    #[error("no memory")]
+    Memory,
+    /// A command ended a span that a processor refused.
+    #[error("a processor refused a span")]
+    Refused,
+    /// A command ended a span whose batch the first processor's exporter lost.
+    #[error("a batch was lost")]
+    BatchLost,
+}
+
+impl From<AllocError> for FeedError {
+    ghost use Rattle.std.specs.Prelude.{◌≡◌};
+    ghost use Rattle.otel_trace_session.specs.declared.session.FeedError.TheVariants as feeds;
+
+    ghost from_gives = { λ _ error. error ≡ feeds.Memory };
+
+    fn from(_error: AllocError) -> FeedError {
+        FeedError::Memory
+    }
+}
+
+impl From<RunError> for FeedError {
+    ghost use Rattle.std.specs.Prelude.{◌≡◌};
+    ghost use Rattle.otel_trace_session.specs.Fed.{feed_error};
+
+    ghost from_gives = { λ error fed. fed ≡ feed_error error };
+
+    fn from(error: RunError) -> FeedError {
+        match error {
+            RunError::Memory => FeedError::Memory,
+            RunError::BatchLost => FeedError::BatchLost,
+        }
+    }
+}
+
+/// The name of the library whose spans a session makes.
+const SCOPE_NAME: &str = "otel_trace";
+
+/// Commands against one provider. It must be spent by `close` or `close_in`.
+pub struct Session<P, S, G> {
+    provider: ProviderOf<P, S, G>,
+    tracer: SdkTracer,
+    // Where a root span starts.
+    root: Context,
+    spans: OpenSpans,
+    shown: usize,
+    // How many batches of the first processor had found no memory when the session began.
+    lost_before: u64,
+    alloc: Global,
+}
+
+impl<P, S, G> Model for Session<P, S, G> {
+    ghost use Rattle.std.specs.Prelude.{◌≡◌};
+    ghost use Rattle.opentelemetry.specs.PlainContexts.{root_cx};
+    ghost use Rattle.otel_trace_session.specs.Turns.{SessionState};
+
+    ghost Value = { SessionState P S G };
+
+    ghost view = { λ a. record {
+      provider = a.provider;
+      scope = a.tracer;
+      spans = a.spans;
+      shown = a.shown;
+      lost_before = a.lost_before;
+    } };
+
+    ghost invariant = { λ a. a.root ≡ root_cx };
+}
+
+fn tracer_of<P, S, G>(
+    alloc: Global,
+    provider: &ProviderOf<P, S, G>,
+) -> Result<SdkTracer, AllocError>
+    ensures { IfOk result (λ tracer. tracer ≡ scope_named (codes "otel_trace")) }
+{
+    provider.tracer(String::from_str(alloc, SCOPE_NAME)?)
+}
+
+impl<P: KeepsBatches, S: ShouldSample, G: IdGenerator> Session<P, S, G> {
+    /// A session with no spans. It shows no batch that is kept already, and counts none that was lost already. Where
+    /// there is no memory for its scope, the provider comes back.
+    pub fn new(
+        alloc: Global,
+        provider: ProviderOf<P, S, G>,
+    ) -> Result<Session<P, S, G>, (ProviderOf<P, S, G>, AllocError)>
+        ensures ok { IfOk result (λ session. session ≡ session_under P.KeepsBatches.own provider) }
+        ensures err { IfErr result (λ e. e.0 ≡ provider) }
+    {
+        let tracer = match tracer_of(alloc, &provider) {
+            Ok(tracer) => tracer,
+            Err(error) => return Err((provider, error)),
+        };
+        let shown = kept_by_first(provider.processors()).len();
+        let lost_before = lost_by_first(provider.processors());
+        Ok(Session {
+            provider,
+            tracer,
+            root: Context::new(),
+            spans: OpenSpans::new(alloc),
+            shown,
+            lost_before,
+            alloc,
+        })
+    }
+
+    /// Each session, wherever it comes from, has spans that histories describe. It does nothing.
+    pub fn has_histories(&self)
+        ensures { (histories : Histories) × Describe histories self.now.spans }
+    {
+        self.spans.have_histories();
+    }
+
+    /// Carries commands out in order and appends a reply for each. On an error a beginning of the commands was carried
+    /// out, each with its reply; the one behind it has none, and the error says why. A processor that refused a span is
+    /// counted in the reply.
+    pub fn run(&mut self, commands: Vec<Command>, replies: &mut Vec<Reply>) -> Result<(), RunError>
+        ensures ok { OnOk result (Gains replies.old.items replies.new.items (λ added. Runs
+            (calls_of P.SpanProcessor P.DrainDue.own P.KeepsBatches.own S.ShouldSample G.IdGenerator)
+            self.old commands.items added self.new)) }
+        ensures err { IfErr result (λ error. Gains replies.old.items replies.new.items (λ added. RunStops
+            (calls_of P.SpanProcessor P.DrainDue.own P.KeepsBatches.own S.ShouldSample G.IdGenerator)
+            error self.old commands.items added self.new)) }
+    {
+        let mut queue = VecDeque::from_vec(commands);
+        while let Some(command) = queue.pop_front() {
+            let answer = self.answer(command)?;
+            self.push_reply(answer, replies)?;
+            self.mark_shown();
+        }
+        Ok(())
+    }
+
+    /// Appends the reply of an answer, with copies of the batches that no reply has shown, or nothing.
+    fn push_reply(&self, answer: Answer, replies: &mut Vec<Reply>) -> Result<(), AllocError>
+        ensures ok { OnOk result (replies.new.items ≡ replies.old.items
+            ++ (record { exported = unshown P.KeepsBatches.own self.now; answer = answer }) ∷ []) }
+        ensures err { OnErr result (replies.new.items ≡ replies.old.items) }
+    {
+        let exported = copied_batches(self.alloc, self.unshown())?;
+        replies.push(Reply { exported, answer })?;
+        Ok(())
+    }
+
+    /// Carries out the commands that the lines of a text spell, up to the first line that is none, and appends the text
+    /// of each reply. `Line` names the first bad line, from 1 and with empty lines counted. On another error the output
+    /// has the replies of a beginning of the commands; behind `Refused` and `BatchLost`, which no text tells, one more
+    /// was carried out, and behind `Memory` at most one. What that one exported is left for the next reply.
+    pub fn feed(&mut self, text: &[u8], output: &mut Vec<u8>) -> Result<(), FeedError>
+        ensures { Writes reply_lines output.old.items output.new.items (λ replies. Feeds
+            (calls_of P.SpanProcessor P.DrainDue.own P.KeepsBatches.own S.ShouldSample G.IdGenerator)
+            self.old text.now result replies self.new) }
+    {
+        let mut lines = ReplyLines::new(self.alloc);
+        self.feed_in(&mut lines, text, output)
+    }
+
+    /// The same, with the replies in a form.
+    pub fn feed_in<F: ReplyForm>(
+        &mut self,
+        form: &mut F,
+        text: &[u8],
+        output: &mut Vec<u8>,
+    ) -> Result<(), FeedError>
+        ensures writes { Writes (F.form form.old) output.old.items output.new.items (λ replies. Feeds
+            (calls_of P.SpanProcessor P.DrainDue.own P.KeepsBatches.own S.ShouldSample G.IdGenerator)
+            self.old text.now result replies self.new) }
+        ensures form { F.form form.new ≡ F.form form.old }
+    {
+        let script = parse(self.alloc, text)?;
+        self.run_and_write(form, script.commands, output)?;
+        match script.bad_line {
+            None => Ok(()),
+            Some(line) => Err(FeedError::Line(line)),
+        }
+    }
+
+    /// Spends the session: its spans are abandoned, the provider is shut down where it is open, and the lines of the
+    /// spans that no reply has shown are appended. The answer is that of the shutdown, or `OutOfMemory` where that is
+    /// Ok and the lines found no memory or the first processor's exporter has lost a batch since the session began.
+    pub fn close(self, output: &mut Vec<u8>) -> OTelSdkResult
+        ensures { Closes
+            (calls_of P.SpanProcessor P.DrainDue.own P.KeepsBatches.own S.ShouldSample G.IdGenerator)
+            reply_lines self output.old.items result output.new.items }
+    {
+        let mut lines = ReplyLines::new(self.alloc);
+        self.close_in(&mut lines, output)
+    }
+
+    /// The same, with the batches that no reply has shown in a form.
+    pub fn close_in<F: ReplyForm>(self, form: &mut F, output: &mut Vec<u8>) -> OTelSdkResult
+        ensures closes { Closes
+            (calls_of P.SpanProcessor P.DrainDue.own P.KeepsBatches.own S.ShouldSample G.IdGenerator)
+            (F.form form.old) self output.old.items result output.new.items }
+        ensures form { F.form form.new ≡ F.form form.old }
+    {
+        let Session {
+            mut provider,
+            tracer: _,
+            root: _,
+            spans,
+            shown,
+            lost_before,
+            alloc: _,
+        } = self;
+        spans.abandon();
+        let shutdown = shut_down(&mut provider);
+        let has_lost = lost_by_first(provider.processors()) != lost_before;
+        let unshown = unshown_by_first(provider.processors(), shown);
+        let written = form.write_rest(output, unshown);
+        let _ = provider.close();
+        close_answer(shutdown, has_lost, written)
+    }
+
+    /// Carries commands out in order, and appends each reply before the next command. It stops behind a command whose
+    /// answer counts a refusal, or whose reply finds no memory.
+    fn run_and_write<F: ReplyForm>(
+        &mut self,
+        form: &mut F,
+        commands: Vec<Command>,
+        output: &mut Vec<u8>,
+    ) -> Result<(), FeedError>
+        ensures ok { OnOk result (Writes (F.form form.old) output.old.items output.new.items (λ replies. Runs
+            (calls_of P.SpanProcessor P.DrainDue.own P.KeepsBatches.own S.ShouldSample G.IdGenerator)
+            self.old commands.items replies self.new)) }
+        ensures err { IfErr result (λ error. Writes (F.form form.old) output.old.items output.new.items
+            (λ replies. FeedStops
+            (calls_of P.SpanProcessor P.DrainDue.own P.KeepsBatches.own S.ShouldSample G.IdGenerator)
+            error self.old commands.items replies self.new)) }
+        ensures form { F.form form.new ≡ F.form form.old }
+    {
+        let mut queue = VecDeque::from_vec(commands);
+        while let Some(command) = queue.pop_front() {
+            let answer = self.answer(command)?;
+            if answer.counts_refusals() {
+                return Err(FeedError::Refused);
+            }
+            self.write_answer(form, answer, output)?;
+            self.mark_shown();
+        }
+        Ok(())
+    }
+
+    /// Writes the reply of an answer, with the batches that no reply has shown, or nothing.
+    fn write_answer<F: ReplyForm>(
+        &self,
+        form: &mut F,
+        answer: Answer,
+        output: &mut Vec<u8>,
+    ) -> Result<(), AllocError>
+        ensures ok { OnOk result (output.new.items ≡ output.old.items ++ (F.form form.old).reply
+            (record { exported = unshown P.KeepsBatches.own self.now; answer = answer })) }
+        ensures err { OnErr result (output.new.items ≡ output.old.items) }
+        ensures form { F.form form.new ≡ F.form form.old }
+    {
+        form.write_reply(output, self.unshown(), answer)
+    }
+
+    /// Carries one command out. Where the first processor's exporter lost the batch of a span that it ended, it was
+    /// carried out, and that is the answer. Where there was no memory, it was refused.
+    fn answer(&mut self, command: Command) -> Result<Answer, RunError>
+        ensures ok { IfOk result (λ answer. Answers
+            (calls_of P.SpanProcessor P.DrainDue.own P.KeepsBatches.own S.ShouldSample G.IdGenerator)
+            self.old command answer self.new) }
+        ensures err { IfErr result (λ error. AnswerStops
+            (calls_of P.SpanProcessor P.DrainDue.own P.KeepsBatches.own S.ShouldSample G.IdGenerator)
+            error self.old command self.new) }
+        ensures rest { self.new ≡ record self.old { provider = self.new.provider; spans = self.new.spans } }
+        ensures keeps { Grows (session_batches P.KeepsBatches.own self.old)
+            (session_batches P.KeepsBatches.own self.new) }
+    {
+        self.spans.have_histories();
+        let ends_span = command.ends_span();
+        let lost = self.lost_batches();
+        let answer = carry_out(
+            self.alloc,
+            &self.tracer,
+            &self.root,
+            &mut self.provider,
+            &mut self.spans,
+            command,
+        )?;
+        if ends_span && self.lost_batches() != lost {
+            return Err(RunError::BatchLost);
+        }
+        Ok(answer)
+    }
+
+    /// The batches that the first processor's exporter keeps and no reply has shown.
+    fn unshown(&self) -> &[Vec<SpanData>]
+        ensures { map (λ batch. batch.items) result.now ≡ unshown P.KeepsBatches.own self.now }
+    {
+        unshown_by_first(self.provider.processors(), self.shown)
+    }
+
+    /// How many batches of the first processor found no memory.
+    pub fn lost_batches(&self) -> u64
+        ensures { result ≡ session_losses P.KeepsBatches.own self.now }
+    {
+        lost_by_first(self.provider.processors())
+    }
+
+    /// Forgets what replies have shown: where they have shown every batch that the first processor's exporter keeps, that
+    /// gives all of them up; else nothing happens. No later reply, answer or delivery is another for it.
+    pub fn forget_shown(&mut self)
+        ensures forgets { HasForgotten P.KeepsBatches.own self.old self.new }
+        ensures frees { self.old.shown ≡ length (session_batches P.KeepsBatches.own self.old)
+            → session_batches P.KeepsBatches.own self.new ≡ [] }
+    {
+        if self.shown == kept_by_first(self.provider.processors()).len() {
+            forget_first(&mut self.provider);
+            self.shown = 0;
+        }
+    }
+
+    /// A reply has shown what the first processor exported so far.
+    fn mark_shown(&mut self)
+        ensures { self.new ≡ record self.old { shown = length (session_batches P.KeepsBatches.own self.old) } }
+    {
+        self.shown = kept_by_first(self.provider.processors()).len();
+    }
+}
+
+/// Shuts the provider down where it is open.
+fn shut_down<P: SpanProcessor, S: Drop, G: Drop>(
+    provider: &mut ProviderOf<P, S, G>,
+) -> OTelSdkResult
+    ensures { ShutsIfOpen P.SpanProcessor provider.old result provider.new }
+{
+    match provider.shutdown() {
+        Err(OTelSdkError::AlreadyShutdown) => Ok(()),
+        answer => answer,
+    }
+}
+
+/// What closing answers: what the shutdown did, and where that is Ok, whether a batch or the text found no memory.
+fn close_answer(
+    shutdown: OTelSdkResult,
+    has_lost: bool,
+    written: Result<(), AllocError>,
+) -> OTelSdkResult
+    ensures { result ≡ (if has_lost || is_err written then or_no_memory shutdown else shutdown) }
+{
+    match shutdown {
+        Ok(()) if has_lost || written.is_err() => Err(OTelSdkError::OutOfMemory),
+        shutdown => shutdown,
+    }
+}
+
+/// The batches that the first of these processors keeps.
+fn kept_by_first<P: KeepsBatches>(processors: &[P]) -> &[Vec<SpanData>]
+    ensures { map (λ batch. batch.items) result.now ≡ batches_of_first P.KeepsBatches.own processors.now }
+{
+    match processors.first() {
+        Some(first) => first.batches(),
+        None => &[],
+    }
+}
+
+/// How many batches of the first of these processors found no memory.
+fn lost_by_first<P: KeepsBatches>(processors: &[P]) -> u64
+    ensures { result ≡ losses_of_first P.KeepsBatches.own processors.now }
+{
+    match processors.first() {
+        Some(first) => first.lost_batches(),
+        None => 0,
+    }
+}
+
+/// The batches that the first of these processors keeps behind those that were shown.
+fn unshown_by_first<P: KeepsBatches>(processors: &[P], shown: usize) -> &[Vec<SpanData>]
+    ensures { map (λ batch. batch.items) result.now
+        ≡ drop shown (batches_of_first P.KeepsBatches.own processors.now) }
+{
+    batches_since(kept_by_first(processors), shown)
+}
+
+/// The exporter of the first processor forgets the batches that it keeps. All else is as it was.
+fn forget_first<P: KeepsBatches, S, G>(provider: &mut ProviderOf<P, S, G>)
+    ensures recalled { FirstRecalled P.KeepsBatches.own.recalled
+        (batches_of_first P.KeepsBatches.own provider.old.processors)
+        provider.new.processors provider.old.processors }
+    ensures none { batches_of_first P.KeepsBatches.own provider.new.processors ≡ [] }
+    ensures rest { provider.new ≡ record provider.old { processors = provider.new.processors } }
+{
+    if let Some(first) = provider.first_processor_mut() {
+        first.forget_batches();
+    }
+}
+
+/// Carries one command out on the parts of a session; a lost batch is no error.
+fn carry_out<P: KeepsBatches, S: ShouldSample, G: IdGenerator>(
+    alloc: Global,
+    tracer: &SdkTracer,
+    root: &Context,
+    provider: &mut ProviderOf<P, S, G>,
+    spans: &mut OpenSpans,
+    command: Command,
+) -> Result<Answer, AllocError>
+    requires { root.now ≡ root_cx }
+    ensures ok { IfOk result (λ answer. TakesTurn (IsCarriedOut
+        (calls_of P.SpanProcessor P.DrainDue.own P.KeepsBatches.own S.ShouldSample G.IdGenerator)
+        tracer.now (plain_command command)) provider.old spans.old answer provider.new spans.new) }
+    ensures err { OnErr result (RefusesOne
+        (calls_of P.SpanProcessor P.DrainDue.own P.KeepsBatches.own S.ShouldSample G.IdGenerator)
+        provider.old spans.old (plain_command command) provider.new spans.new) }
+{
+    match command {
+        Command::Start { span, name, moment } => {
+            spans.start_in(span, root, tracer, provider, name, moment)
+        }
+        Command::Child {
+            span,
+            parent,
+            name,
+            moment,
+        } => spans.start_child(span, parent.as_str(), tracer, provider, name, moment),
+        Command::Remote {
+            span,
+            traceparent,
+            name,
+            moment,
+        } => {
+            let cx = remote_context(alloc, traceparent)?;
+            spans.start_in(span, &cx, tracer, provider, name, moment)
+        }
+        Command::Attr { span, key, value } => spans.edit(span.as_str(), text_attribute(key, value)),
+        Command::Event { span, name, moment } => {
+            spans.edit(span.as_str(), event_without_attributes(alloc, name, moment))
+        }
+        Command::Status { span, status } => spans.edit(span.as_str(), SpanEdit::SetStatus(status)),
+        Command::Inject { span } => spans.inject(alloc, span.as_str()),
+        Command::End { span, moment } => spans.end(span.as_str(), provider, moment),
+        Command::Flush => Ok(answer_to_call(provider.force_flush())),
+        Command::Run { moment } => Ok(answer_to_call(provider.run_processors(moment))),
+        Command::Shutdown => Ok(answer_to_call(provider.shutdown())),
+    }
+}
+
+/// What is said of a call of the provider.
+fn answer_to_call(said: OTelSdkResult) -> Answer
+    ensures { result ≡ call_answer said }
+{
+    match said {
+        Ok(()) => Answer::Ok,
+        Err(error) => Answer::Failed(error),
+    }
+}
+
+/// The edit that adds an event without attributes.
+fn event_without_attributes(alloc: Global, name: String, moment: Moment) -> SpanEdit
+    ensures { plain_edit result ≡ bare_event (string_bytes name) moment.0 }
+{
+    SpanEdit::AddEvent(Event::new(name, moment, Vec::new(alloc), 0))
+}
+
+/// The edit that sets an attribute whose value is a text.
+fn text_attribute(key: String, value: String) -> SpanEdit
+    ensures { plain_edit result
+        ≡ set_attribute (record { key = string_bytes key; value = text (string_bytes value) }) }
+{
+    SpanEdit::SetAttribute(KeyValue::new(Key::new(key), Value::String(value)))
+}

@@ -1,0 +1,5 @@
+use Rattle.otel_trace_steps.proofs.JoinedSteps.{answers_joined, bad_answers_joined, begins_joined}
+use Rattle.otel_trace_steps.proofs.laws.answers_join.Goals as goal
+
+pub returns : goal.returns
+returns c = record { joined = answers_joined; bad = bad_answers_joined; begun = begins_joined }

@@ -1,0 +1,81 @@
+//! The configuration of a batch processor: the sizes of its queue and of a batch, then the delay of its timer and the
+//! time of an export in nanoseconds.
+
+use crate::fields::{Row, RowError, number_of};
+use otel_batch::trace::batch_config::{
+    BatchConfig, BatchConfigBuilder, OTEL_BSP_EXPORT_TIMEOUT, OTEL_BSP_MAX_EXPORT_BATCH_SIZE,
+    OTEL_BSP_MAX_QUEUE_SIZE, OTEL_BSP_SCHEDULE_DELAY,
+};
+use otel_sampling::trace::BatchStrings;
+use std::alloc::{AllocError, Global};
+use std::time::Duration;
+
+/// Answers a row whose word is one of these; false where it is none.
+pub fn answer(alloc: Global, row: &Row, out: &mut String) -> Result<bool, RowError> {
+    match row.word.as_str() {
+        "batch-config" => push_configured(alloc, row, out)?,
+        "batch-builder" => {
+            let builder = BatchConfigBuilder::default();
+            push_config(&stepped(builder, row, 0)?.build(), out)?;
+        }
+        "batch-default" => push_config(&BatchConfig::default(), out)?,
+        "batch-names" => push_names(out)?,
+        _ => return Ok(false),
+    }
+    Ok(true)
+}
+
+/// What the strings of the queue, a batch, the delay and an export configure, and the steps behind them.
+fn push_configured(alloc: Global, row: &Row, out: &mut String) -> Result<(), RowError> {
+    let strings = BatchStrings {
+        max_queue_size: row.owned(alloc, 0)?,
+        max_export_batch_size: row.owned(alloc, 1)?,
+        schedule_delay: row.owned(alloc, 2)?,
+        export_timeout: row.owned(alloc, 3)?,
+    };
+    let builder = BatchConfigBuilder::from_strings(&strings);
+    push_config(&stepped(builder, row, 4)?.build(), out)?;
+    Ok(())
+}
+
+/// A builder behind the steps of a row's fields, from this field on.
+fn stepped(
+    builder: BatchConfigBuilder,
+    row: &Row,
+    first: usize,
+) -> Result<BatchConfigBuilder, RowError> {
+    let mut builder = builder;
+    for step in row.fields.iter().skip(first) {
+        builder = changed(builder, step.as_str())?;
+    }
+    Ok(builder)
+}
+
+/// A builder behind a step: `queue:COUNT`, `batch:COUNT` or `delay:SECONDS`.
+fn changed(builder: BatchConfigBuilder, step: &str) -> Result<BatchConfigBuilder, RowError> {
+    let (name, text) = step.split_once(':').ok_or(RowError::Field)?;
+    let number = number_of(text)?;
+    match name {
+        "queue" => Ok(builder.with_max_queue_size(number as usize)),
+        "batch" => Ok(builder.with_max_export_batch_size(number as usize)),
+        "delay" => Ok(builder.with_scheduled_delay(Duration::from_secs(number))),
+        _ => Err(RowError::Field),
+    }
+}
+
+fn push_config(config: &BatchConfig, out: &mut String) -> Result<(), AllocError> {
+    let queue = config.max_queue_size();
+    let batch = config.max_export_batch_size();
+    let delay = config.scheduled_delay().as_nanos();
+    let timeout = config.max_export_timeout().as_nanos();
+    write!(out, "{queue} {batch} {delay} {timeout}")?;
+    Ok(())
+}
+
+fn push_names(out: &mut String) -> Result<(), AllocError> {
+    write!(
+        out,
+        "{OTEL_BSP_SCHEDULE_DELAY} {OTEL_BSP_MAX_QUEUE_SIZE} {OTEL_BSP_MAX_EXPORT_BATCH_SIZE} {OTEL_BSP_EXPORT_TIMEOUT}"
+    )?;
+    Ok(())
+}

@@ -1,0 +1,80 @@
+//! What strings configure.
+
+use super::resource::{push_resource, strings_of};
+use super::sampling::push_ratio;
+use crate::fields::{Row, RowError};
+use otel_sampling::trace::{Config, ConfigStrings, Sampler};
+use std::alloc::{AllocError, Global};
+
+/// Answers a row whose word is one of these; false where it is none.
+pub fn answer(alloc: Global, row: &Row, out: &mut String) -> Result<bool, RowError> {
+    match row.word.as_str() {
+        "config-limits" => push_limits(alloc, row, out)?,
+        "config-sampler" => push_configured_sampler(alloc, row, out)?,
+        "config-resource" => push_configured_resource(alloc, row, out)?,
+        _ => return Ok(false),
+    }
+    Ok(true)
+}
+
+/// How much a span keeps: attributes, events and links, then attributes of an event and of a link.
+fn push_limits(alloc: Global, row: &Row, out: &mut String) -> Result<(), AllocError> {
+    let strings = ConfigStrings {
+        attribute_count_limit: row.owned(alloc, 0)?,
+        event_count_limit: row.owned(alloc, 1)?,
+        link_count_limit: row.owned(alloc, 2)?,
+        ..ConfigStrings::default()
+    };
+    let limits = Config::from_strings(alloc, &strings, 0)?.span_limits;
+    let attributes = limits.max_attributes_per_span;
+    let events = limits.max_events_per_span;
+    let links = limits.max_links_per_span;
+    let of_event = limits.max_attributes_per_event;
+    let of_link = limits.max_attributes_per_link;
+    write!(out, "{attributes} {events} {links} {of_event} {of_link}")?;
+    Ok(())
+}
+
+/// The strings of a row whose first fields are a sampler's name and its argument.
+pub fn sampler_strings(alloc: Global, row: &Row) -> Result<ConfigStrings, AllocError> {
+    Ok(ConfigStrings {
+        sampler: row.owned(alloc, 0)?,
+        sampler_arg: row.owned(alloc, 1)?,
+        ..ConfigStrings::default()
+    })
+}
+
+fn push_configured_sampler(alloc: Global, row: &Row, out: &mut String) -> Result<(), AllocError> {
+    let strings = sampler_strings(alloc, row)?;
+    push_sampler(&Config::from_strings(alloc, &strings, 0)?.sampler, out)
+}
+
+fn push_sampler(sampler: &Sampler, out: &mut String) -> Result<(), AllocError> {
+    if let Sampler::ParentBased(delegate) = sampler {
+        out.push_str("ParentBased ")?;
+        push_leaf(delegate, out)
+    } else {
+        push_leaf(sampler, out)
+    }
+}
+
+fn push_leaf(sampler: &Sampler, out: &mut String) -> Result<(), AllocError> {
+    match sampler {
+        Sampler::AlwaysOn => out.push_str("AlwaysOn"),
+        Sampler::AlwaysOff => out.push_str("AlwaysOff"),
+        Sampler::TraceIdRatioBased(ratio) => {
+            out.push_str("TraceIdRatioBased ")?;
+            push_ratio(ratio, out)
+        }
+        Sampler::ParentBased(_) => out.push_str("ParentBased"),
+        Sampler::Custom(_) => out.push_str("Custom"),
+    }
+}
+
+fn push_configured_resource(alloc: Global, row: &Row, out: &mut String) -> Result<(), AllocError> {
+    let strings = ConfigStrings {
+        resource: strings_of(alloc, row)?,
+        ..ConfigStrings::default()
+    };
+    push_resource(&Config::from_strings(alloc, &strings, 0)?.resource, out)
+}

@@ -1,0 +1,266 @@
+//! Resources. One is shown as how many attributes it has, then each as `key=value;` in the order of their keys, and
+//! then its schema. A value is a text; `bool:true`, `i64:7` and `i64s:1,2` are values of other kinds. Pairs are written
+//! as `key=value;key=value;`.
+
+use crate::fields::{Row, RowError, pair_of};
+use crate::values::{integer_of, integers_of, truth_of};
+use opentelemetry::{Array, Key, KeyValue, Value};
+use otel_resource::resource::{
+    EnvResourceDetector, Resource, ResourceBuilder, ResourceDetector, ResourceStrings,
+    SdkProvidedResourceDetector, TelemetryResourceDetector,
+};
+use std::alloc::{AllocError, Global};
+
+/// Answers a row whose word is one of these; false where it is none.
+pub fn answer(alloc: Global, row: &Row, out: &mut String) -> Result<bool, RowError> {
+    match row.word.as_str() {
+        "resource" => push_built(alloc, row, out)?,
+        "sdk-detector" => push_sdk(alloc, row, out)?,
+        "env-detector" => push_env(alloc, row, out)?,
+        "telemetry-detector" => push_detected(&TelemetryResourceDetector::new(alloc), out)?,
+        "resource-steps" => push_stepped(alloc, row, out)?,
+        "resource-get" => push_got(alloc, row, out)?,
+        "resources-equal" => push_equal(alloc, row, out)?,
+        _ => return Ok(false),
+    }
+    Ok(true)
+}
+
+/// The strings of a row whose fields are the attributes string, the service's name and the program's.
+pub fn strings_of(alloc: Global, row: &Row) -> Result<ResourceStrings, AllocError> {
+    Ok(ResourceStrings {
+        attributes: row.owned(alloc, 0)?,
+        service_name: row.owned(alloc, 1)?,
+        program_name: row.owned(alloc, 2)?,
+    })
+}
+
+fn push_built(alloc: Global, row: &Row, out: &mut String) -> Result<(), AllocError> {
+    let strings = strings_of(alloc, row)?;
+    push_resource(&Resource::builder(alloc, &strings)?.build(), out)
+}
+
+fn push_sdk(alloc: Global, row: &Row, out: &mut String) -> Result<(), AllocError> {
+    let strings = strings_of(alloc, row)?;
+    push_detected(&SdkProvidedResourceDetector::new(alloc, &strings)?, out)
+}
+
+/// Without a field, the detector of no string.
+fn push_env(alloc: Global, row: &Row, out: &mut String) -> Result<(), AllocError> {
+    if row.fields.is_empty() {
+        return push_detected(&EnvResourceDetector::default(), out);
+    }
+    let strings = strings_of(alloc, row)?;
+    push_detected(&EnvResourceDetector::new(&strings)?, out)
+}
+
+fn push_detected<D: ResourceDetector>(detector: &D, out: &mut String) -> Result<(), AllocError> {
+    push_resource(&detector.detect()?, out)
+}
+
+/// Shows a resource.
+pub fn push_resource(resource: &Resource, out: &mut String) -> Result<(), AllocError> {
+    let count = resource.len();
+    write!(out, "{count};")?;
+    for (key, value) in resource {
+        push_pair(key, value, out)?;
+    }
+    out.push_str(resource.schema_url().unwrap_or(""))
+}
+
+fn push_pair(key: &Key, value: &Value, out: &mut String) -> Result<(), AllocError> {
+    out.push_str(key.as_str())?;
+    out.push('=')?;
+    push_value(value, out)?;
+    out.push(';')
+}
+
+fn push_value(value: &Value, out: &mut String) -> Result<(), AllocError> {
+    out.push_str(kind_of(value))?;
+    write!(out, "{value}")?;
+    Ok(())
+}
+
+/// What stands in front of a value of a kind.
+fn kind_of(value: &Value) -> &'static str {
+    match value {
+        Value::String(_) => "",
+        Value::Bool(_) => "bool:",
+        Value::I64(_) => "i64:",
+        Value::Array(Array::I64(_)) => "i64s:",
+        Value::Array(_) => "list:",
+    }
+}
+
+/// The builder that steps work on, and those that they set aside.
+#[derive(Drop)]
+struct Builders {
+    current: ResourceBuilder,
+    aside: Vec<ResourceBuilder>,
+}
+
+/// What the steps of a row's fields make, from this field on.
+fn builders_of(alloc: Global, row: &Row, first: usize) -> Result<Builders, RowError> {
+    let mut builders = Builders {
+        current: Resource::builder_empty(alloc),
+        aside: Vec::new(alloc),
+    };
+    for step in row.fields.iter().skip(first) {
+        builders = stepped(alloc, builders, step.as_str())?;
+    }
+    Ok(builders)
+}
+
+/// `new` sets the builder aside for an empty one, and `merge` merges it over the one that was set aside last.
+fn stepped(alloc: Global, builders: Builders, step: &str) -> Result<Builders, RowError> {
+    let Builders { current, mut aside } = builders;
+    let current = match step {
+        "new" => {
+            aside.push(current)?;
+            Resource::builder_empty(alloc)
+        }
+        "merge" => merged(alloc, aside.pop().ok_or(RowError::Field)?, current)?,
+        _ => changed(alloc, current, step)?,
+    };
+    Ok(Builders { current, aside })
+}
+
+/// The second builder merged over the first one.
+fn merged(
+    alloc: Global,
+    first: ResourceBuilder,
+    second: ResourceBuilder,
+) -> Result<ResourceBuilder, AllocError> {
+    let first = first.build();
+    let mut pairs = Vec::new(alloc);
+    for (key, value) in &first {
+        pairs.push(KeyValue::new(key.clone()?, value.clone()?))?;
+    }
+    let schema = String::from_str(alloc, first.schema_url().unwrap_or(""))?;
+    second.with_schema_url(pairs, schema)
+}
+
+/// A builder behind a step that calls one of its methods.
+fn changed(
+    alloc: Global,
+    builder: ResourceBuilder,
+    step: &str,
+) -> Result<ResourceBuilder, RowError> {
+    let (name, text) = step.split_once(':').ok_or(RowError::Field)?;
+    match name {
+        "attributes" => Ok(builder.with_attributes(pairs_of(alloc, text)?)?),
+        "each" => with_each(alloc, builder, text),
+        "service-name" => Ok(builder.with_service_name(value_of(alloc, text)?)?),
+        "schema" => under_schema(alloc, builder, text),
+        "env" => Ok(with_env(alloc, builder, text)?),
+        "envs" => Ok(with_envs(alloc, builder, text)?),
+        _ => Err(RowError::Field),
+    }
+}
+
+fn with_each(
+    alloc: Global,
+    mut builder: ResourceBuilder,
+    text: &str,
+) -> Result<ResourceBuilder, RowError> {
+    for pair in pairs_of(alloc, text)? {
+        builder = builder.with_attribute(pair)?;
+    }
+    Ok(builder)
+}
+
+/// The builder merged over a schema and pairs, with `|` between them.
+fn under_schema(
+    alloc: Global,
+    builder: ResourceBuilder,
+    text: &str,
+) -> Result<ResourceBuilder, RowError> {
+    let (schema, pairs) = text.split_once('|').unwrap_or((text, ""));
+    let pairs = pairs_of(alloc, pairs)?;
+    Ok(builder.with_schema_url(pairs, String::from_str(alloc, schema)?)?)
+}
+
+/// The detector of an attributes string.
+fn env_of(alloc: Global, text: &str) -> Result<EnvResourceDetector, AllocError> {
+    EnvResourceDetector::new(&ResourceStrings {
+        attributes: Some(String::from_str(alloc, text)?),
+        ..ResourceStrings::default()
+    })
+}
+
+fn with_env(
+    alloc: Global,
+    builder: ResourceBuilder,
+    text: &str,
+) -> Result<ResourceBuilder, AllocError> {
+    let detector = Box::new(alloc, env_of(alloc, text)?)?;
+    builder.with_detector(detector)
+}
+
+/// The builder behind the detectors of attributes strings, with `|` between them.
+fn with_envs(
+    alloc: Global,
+    builder: ResourceBuilder,
+    text: &str,
+) -> Result<ResourceBuilder, AllocError> {
+    let mut detectors = Vec::new(alloc);
+    for text in text.split('|') {
+        let detector: Box<dyn ResourceDetector> = Box::new(alloc, env_of(alloc, text)?)?;
+        detectors.push(detector)?;
+    }
+    builder.with_detectors(&detectors)
+}
+
+/// The pairs that a text writes.
+fn pairs_of(alloc: Global, text: &str) -> Result<Vec<KeyValue>, RowError> {
+    let mut pairs = Vec::new(alloc);
+    for part in text.split(';') {
+        if !part.is_empty() {
+            let (key, value) = pair_of(part)?;
+            let key = Key::new(String::from_str(alloc, key)?);
+            pairs.push(KeyValue::new(key, value_of(alloc, value)?))?;
+        }
+    }
+    Ok(pairs)
+}
+
+fn value_of(alloc: Global, text: &str) -> Result<Value, RowError> {
+    if let Some(truth) = text.strip_prefix("bool:") {
+        Ok(Value::Bool(truth_of(truth)?))
+    } else if let Some(number) = text.strip_prefix("i64:") {
+        Ok(Value::I64(integer_of(number)?))
+    } else if let Some(numbers) = text.strip_prefix("i64s:") {
+        Ok(Value::Array(Array::I64(integers_of(alloc, numbers)?)))
+    } else {
+        Ok(Value::String(String::from_str(alloc, text)?))
+    }
+}
+
+fn push_stepped(alloc: Global, row: &Row, out: &mut String) -> Result<(), RowError> {
+    let built = builders_of(alloc, row, 0)?;
+    push_resource(&built.current.build(), out)?;
+    Ok(())
+}
+
+/// The value of the key in front of the steps.
+fn push_got(alloc: Global, row: &Row, out: &mut String) -> Result<(), RowError> {
+    let key = Key::new(String::from_str(alloc, row.field(0))?);
+    let resource = builders_of(alloc, row, 1)?.current.build();
+    match resource.get(&key)? {
+        Some(value) => push_value(&value, out)?,
+        None => out.push_str("none")?,
+    }
+    Ok(())
+}
+
+/// Whether what the steps make is the same as what they set aside.
+fn push_equal(alloc: Global, row: &Row, out: &mut String) -> Result<(), RowError> {
+    let Builders { current, mut aside } = builders_of(alloc, row, 0)?;
+    let other = aside.pop().ok_or(RowError::Field)?;
+    out.push_str(if other.build() == current.build() {
+        "same"
+    } else {
+        "different"
+    })?;
+    Ok(())
+}

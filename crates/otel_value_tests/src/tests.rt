@@ -1,0 +1,14 @@
+//! Tests of `opentelemetry`, `otel_base` and `otel_export`. What text can show of them is asked by the rows of
+//! `otel_value_cases`.
+
+mod clones;
+mod composite;
+mod copies;
+mod crossing;
+mod error;
+mod exporter_box;
+mod id_generator;
+mod propagation;
+mod resource;
+mod sampler;
+mod span_data;
