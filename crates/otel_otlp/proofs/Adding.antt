@@ -67,12 +67,6 @@ pub item_more : {X E F : Type 0} {done more : Unit {0}} {old middle new : Begun}
     → Adds {E = F} (Ok more) old new (list_tokens json (take (i + 1) xs))
 item_more json xs i x l is h k = as_tokens (list_more json xs i x l is) (and_then h k)
 
--- all items
-pub items_done : {X E : Type 0} {done : Unit {0}} {old new : Begun} (json : X → Json) (xs : List X) (i : ℕ)
-    → length xs ≤ i → Adds {E = E} (Ok done) old new (list_tokens json (take i xs))
-    → Adds {E = E} (Ok done) old new (list_tokens json xs)
-items_done json xs i l h = as_tokens (ap (list_tokens json) (take_all i xs l)) h
-
 -- what is left to write, once the first of it is written
 pub first_written : {X E : Type 0} {done : Unit {0}} {old new : Begun} (json : X → Json) (x : X) (xs : List X)
     (whole : List Token) → old.tokens ++ list_tokens json (x ∷ xs) ≡ whole

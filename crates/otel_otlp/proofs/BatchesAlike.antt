@@ -8,7 +8,8 @@ use Rattle.otel_resource.specs.Resource.{PlainResource}
 use Rattle.otel_export.specs.PlainSpanData.{PlainSpanData, spans_in}
 use Rattle.otel_otlp.specs.Fields.{list_json}
 use Rattle.otel_otlp.specs.Fits.{PairFits, ResourceFits, SpanFits}
-use Rattle.otel_otlp.specs.Otlp.{request, resource_json, run_json, span_json}
+use Rattle.otel_otlp.specs.Otlp.{request, resource_json, run_json}
+use Rattle.otel_otlp.specs.OtlpSpan.{span_json}
 use Rattle.otel_otlp.specs.OtlpValues.{pair_json}
 use Rattle.otel_otlp.specs.ScopeRuns.{run_scope, scope_runs}
 use Rattle.otel_otlp.specs.Seen.{seen_pair, seen_resource, seen_scope, seen_span}

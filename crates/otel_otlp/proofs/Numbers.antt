@@ -14,10 +14,12 @@ use Rattle.otel_resource.specs.Resource.{PlainResource}
 use Rattle.otel_export.specs.PlainSpanData.{PlainSpanData}
 use Rattle.otel_otlp.specs.Fields.{Field, items_of, list_json, members_of}
 use Rattle.otel_otlp.specs.Fits.{EventFits, LinkFits, SpanFits}
-use Rattle.otel_otlp.specs.Otlp.{code_number, event_fields, event_json, flags_of, identity_fields, kind_number}
-use Rattle.otel_otlp.specs.Otlp.{link_fields, link_json, recording_fields, request, resource_fields, resource_json}
+use Rattle.otel_otlp.specs.OtlpSpan.{code_number, event_fields, event_json, flags_of, identity_fields, kind_number}
+use Rattle.otel_otlp.specs.Otlp.{request, resource_fields, resource_json}
+use Rattle.otel_otlp.specs.OtlpSpan.{link_fields, link_json, recording_fields}
 use Rattle.otel_otlp.specs.Otlp.{resource_spans_fields, resource_spans_json, run_fields, run_json, scope_fields}
-use Rattle.otel_otlp.specs.Otlp.{scope_json, span_fields, span_json, status_fields, status_json}
+use Rattle.otel_otlp.specs.Otlp.{scope_json}
+use Rattle.otel_otlp.specs.OtlpSpan.{span_fields, span_json, status_fields, status_json}
 use Rattle.otel_otlp.specs.OtlpValues.{attribute_json, attributes_fields, bool_json, integer_json, pair_fields}
 use Rattle.otel_otlp.specs.OtlpValues.{pair_json, text_json, value_json}
 use Rattle.otel_otlp.specs.ScopeRuns.{run_scope, scope_runs}

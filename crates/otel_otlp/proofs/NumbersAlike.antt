@@ -12,7 +12,7 @@ use Rattle.opentelemetry.specs.declared.trace.span_kind.SpanKind.TheVariants as 
 use Rattle.opentelemetry.proofs.HexRead.{hex_text_IsHexText, hex_text_injective}
 use Rattle.opentelemetry.proofs.Tracestates.{spells_only}
 use Rattle.opentelemetry.proofs.WellFormed.{header_reads_back}
-use Rattle.otel_otlp.specs.Otlp.{code_number, flags_of, kind_number, message_text, parent_text, status_json}
+use Rattle.otel_otlp.specs.OtlpSpan.{code_number, flags_of, kind_number, message_text, parent_text, status_json}
 use Rattle.otel_otlp.proofs.JsonParts.{text_part}
 
 pub counts_same : (m n : ℕ) → m < 2 ^ 32 → n < 2 ^ 32 → decimal m ≡ decimal n → m ≡ n

@@ -14,7 +14,8 @@ use Rattle.otel_resource.specs.Resource.{PlainResource}
 use Rattle.otel_export.specs.PlainSpanData.{PlainSpanData}
 use Rattle.otel_otlp.specs.Fields.{list_json}
 use Rattle.otel_otlp.specs.Fits.{SpanFits}
-use Rattle.otel_otlp.specs.Otlp.{event_json, link_json, otlp_line, otlp_text, request, run_json, span_json}
+use Rattle.otel_otlp.specs.Otlp.{otlp_line, otlp_text, request, run_json}
+use Rattle.otel_otlp.specs.OtlpSpan.{event_json, link_json, span_json}
 use Rattle.otel_otlp.specs.OtlpValues.{attribute_json, bool_json, integer_json, pair_json, text_json, value_json}
 use Rattle.otel_otlp.specs.ScopeRuns.{run_scope, scope_runs}
 use Rattle.otel_otlp.proofs.Numbers.{request_has}

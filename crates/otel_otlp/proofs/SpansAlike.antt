@@ -5,7 +5,8 @@ use Rattle.std.specs.List.{AllByRecursion}
 use Rattle.opentelemetry.specs.Plain.{PlainEvent, PlainLink, PlainScope}
 use Rattle.otel_export.specs.PlainSpanData.{PlainSpanData}
 use Rattle.otel_otlp.specs.Fits.{AttributeFits, EventFits, LinkFits, SpanFits}
-use Rattle.otel_otlp.specs.Otlp.{event_json, link_json, or_empty, scope_json, span_json}
+use Rattle.otel_otlp.specs.Otlp.{or_empty, scope_json}
+use Rattle.otel_otlp.specs.OtlpSpan.{event_json, link_json, span_json}
 use Rattle.otel_otlp.specs.Seen.{seen_event, seen_link, seen_scope, seen_span}
 use Rattle.otel_otlp.proofs.JsonParts.{lists_alike, part, text_part}
 use Rattle.otel_otlp.proofs.NumbersAlike.{counts_same, flags_same, kinds_same, parents_same, span_ids_same}

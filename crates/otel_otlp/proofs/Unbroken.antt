@@ -15,11 +15,13 @@ use Rattle.opentelemetry.specs.Plain.{boolean, integer, text, booleans, integers
 use Rattle.otel_resource.specs.Resource.{PlainResource}
 use Rattle.otel_export.specs.PlainSpanData.{PlainSpanData}
 use Rattle.otel_otlp.specs.Fields.{Field, items_of, list_json, members_of, object_json}
-use Rattle.otel_otlp.specs.Otlp.{code_number, event_fields, event_json, events_fields, flags_of, identity_fields}
-use Rattle.otel_otlp.specs.Otlp.{kind_number, link_fields, link_json, links_fields, otlp_text, recording_fields}
+use Rattle.otel_otlp.specs.OtlpSpan.{code_number, event_fields, event_json, events_fields, flags_of, identity_fields}
+use Rattle.otel_otlp.specs.Otlp.{otlp_text}
+use Rattle.otel_otlp.specs.OtlpSpan.{kind_number, link_fields, link_json, links_fields, recording_fields}
 use Rattle.otel_otlp.specs.Otlp.{request, resource_fields, resource_json, resource_spans_fields, resource_spans_json}
-use Rattle.otel_otlp.specs.Otlp.{run_fields, run_json, scope_fields, scope_json, span_fields, span_json, status_fields}
-use Rattle.otel_otlp.specs.Otlp.{status_json}
+use Rattle.otel_otlp.specs.Otlp.{run_fields, run_json, scope_fields, scope_json}
+use Rattle.otel_otlp.specs.OtlpSpan.{span_fields, span_json, status_fields}
+use Rattle.otel_otlp.specs.OtlpSpan.{status_json}
 use Rattle.otel_otlp.specs.OtlpValues.{attribute_json, attributes_fields, bool_json, integer_json, number_field}
 use Rattle.otel_otlp.specs.OtlpValues.{pair_fields, pair_json, single, text_json, value_json}
 use Rattle.otel_otlp.specs.ScopeRuns.{run_scope, scope_runs}

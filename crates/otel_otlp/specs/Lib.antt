@@ -2,6 +2,7 @@ pub mod Fields
 pub mod Fits
 pub mod LineExporter
 pub mod Otlp
+pub mod OtlpSpan
 pub mod OtlpValues
 pub mod ScopeRuns
 pub mod Seen

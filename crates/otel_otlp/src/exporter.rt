@@ -31,7 +31,7 @@ pub struct OtlpJsonExporter<W> {
 
 impl<W> Model for OtlpJsonExporter<W> {
     ghost use Rattle.std.specs.Coded.{codes};
-    ghost use Rattle.otel_resource.specs.Resource.{resource_code};
+    ghost use Rattle.otel_resource.specs.ResourceCode.{resource_code};
     ghost use Rattle.otel_otlp.specs.LineExporter.{LineExporter};
 
     ghost Value = { LineExporter W };

@@ -4,10 +4,10 @@ ghost use Rattle.std.specs.Prelude.{◌≡◌, ◌++◌, ◌∷◌, [], codes};
 ghost use Rattle.json.specs.Tree.{json_tokens};
 ghost use Rattle.opentelemetry.specs.PlainValues.{plain_status};
 ghost use Rattle.otel_otlp.specs.Fields.{Adds, fields_tokens, list_tokens};
-ghost use Rattle.otel_otlp.specs.Otlp.{code_number, context_fields, event_json, events_fields, flags_of};
-ghost use Rattle.otel_otlp.specs.Otlp.{identity_fields, kind_number, link_json, links_fields, message_text};
-ghost use Rattle.otel_otlp.specs.Otlp.{name_fields, parent_fields, recording_fields, span_json, status_json};
-ghost use Rattle.otel_otlp.specs.Otlp.{time_fields};
+ghost use Rattle.otel_otlp.specs.OtlpSpan.{code_number, context_fields, event_json, events_fields, flags_of};
+ghost use Rattle.otel_otlp.specs.OtlpSpan.{identity_fields, kind_number, link_json, links_fields, message_text};
+ghost use Rattle.otel_otlp.specs.OtlpSpan.{name_fields, parent_fields, recording_fields, span_json, status_json};
+ghost use Rattle.otel_otlp.specs.OtlpSpan.{time_fields};
 ghost use Rattle.otel_otlp.specs.OtlpValues.{number_field};
 
 use crate::tokens::RequestWriter;

@@ -10,7 +10,8 @@ ghost use Rattle.json.specs.Token.{Token};
 ghost use Rattle.json.specs.Token as token;
 ghost use Rattle.opentelemetry.specs.Hex.{hex_text};
 ghost use Rattle.otel_otlp.specs.Fields.{Adds, fields_tokens};
-ghost use Rattle.otel_otlp.specs.Otlp.{or_empty, parent_text};
+ghost use Rattle.otel_otlp.specs.Otlp.{or_empty};
+ghost use Rattle.otel_otlp.specs.OtlpSpan.{parent_text};
 ghost use Rattle.otel_otlp.specs.OtlpValues.{moment_field, number_field, text_field};
 
 use json::Writer;

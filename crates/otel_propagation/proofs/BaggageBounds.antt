@@ -13,7 +13,8 @@ use Rattle.percent_encoding.proofs.PercentLemmas.{length-percent_decode}
 use Rattle.opentelemetry.specs.Baggage.{PlainBaggage, PlainBaggageEntry, entry_at, entry_bytes, entry_of, baggage_bytes, with_entry, BreaksLimit}
 use Rattle.opentelemetry.proofs.BaggageLemmas.{baggage_bytes-with_entry, length-with_entry}
 use Rattle.opentelemetry.specs.Members.{comma, equals_sign}
-use Rattle.otel_propagation.specs.BaggageHeader.{pieces_at, semicolon, said_by, metadata_of, named_entry, paired_entry, entry_of_parts, entry_of_member, one_a_name}
+use Rattle.otel_propagation.specs.BaggageHeader.{said_by, metadata_of, named_entry, paired_entry, entry_of_parts, entry_of_member, one_a_name}
+use Rattle.opentelemetry.specs.Members.{pieces_at, semicolon}
 use Rattle.std.proofs.lemmas.List.Elements.{filter_map-append}
 use Rattle.otel_propagation.proofs.BaggageNames.{one_a_name_push}
 use Rattle.otel_propagation.proofs.TrimLemmas.{length-trim}

@@ -4,7 +4,8 @@ use Rattle.std.specs.List.{cons_option, filter_map}
 use Rattle.std.proofs.lemmas.List.Elements.{All-head, All-tail, All-take}
 use Rattle.std.proofs.lemmas.List.Splits.{slice_split_none}
 use Rattle.opentelemetry.specs.Members.{HasNo, comma, equals_sign}
-use Rattle.otel_propagation.specs.BaggageHeader.{entries_of, entry_of_member, entry_of_parts, metadata_of, one_a_name, paired_entry, pieces_at, semicolon}
+use Rattle.otel_propagation.specs.BaggageHeader.{entries_of, entry_of_member, entry_of_parts, metadata_of, one_a_name, paired_entry}
+use Rattle.opentelemetry.specs.Members.{pieces_at, semicolon}
 use Rattle.otel_propagation.proofs.BaggagePieceLemmas.{lacks, pieces_lack}
 
 -- a text without one is one piece

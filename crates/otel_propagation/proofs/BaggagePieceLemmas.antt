@@ -10,7 +10,8 @@ use Rattle.std.proofs.lemmas.Bool.{cond-true, cond-false, cases_Bool}
 use Rattle.std.proofs.lemmas.List.Elements.{filter_map-append}
 use borrow.Author.Tests.{lt-ltb}
 use Rattle.std.specs.List.{cons_option, filter_map, join_with_byte, onto_first}
-use Rattle.otel_propagation.specs.BaggageHeader.{pieces_at, semicolon, said_by, metadata_of, entry_of_member, entry_of_parts, paired_entry}
+use Rattle.otel_propagation.specs.BaggageHeader.{said_by, metadata_of, entry_of_member, entry_of_parts, paired_entry}
+use Rattle.opentelemetry.specs.Members.{pieces_at, semicolon}
 use Rattle.opentelemetry.specs.Members.{HasNo, equals_sign}
 use Rattle.otel_propagation.specs.BaggagePieces.{next_property, unless_first}
 

@@ -13,7 +13,8 @@ use Rattle.percent_encoding.proofs.PercentLemmas.{IsEscapeByte, All-percent_enco
 use Rattle.opentelemetry.specs.Baggage.{PlainBaggage, PlainBaggageEntry, entry_of, HasNames}
 use Rattle.opentelemetry.specs.Members.{HasNo, comma, equals_sign}
 use Rattle.otel_propagation.specs.declared.propagation.baggage.write.TheConstants.{ESCAPED}
-use Rattle.otel_propagation.specs.BaggageHeader.{behind_semicolon, entries_of, entry_of_member, escaped, header_of, member_of, metadata_of, named_entry, needs_escape, one_a_name, paired_entry, pieces_at, said_by, semicolon, HasTexts, IsBaggage, IsSaidUnchanged, IsCarriedUnchanged, Carries, InjectsBaggage, baggage_field, read_baggage}
+use Rattle.otel_propagation.specs.BaggageHeader.{behind_semicolon, entries_of, entry_of_member, escaped, header_of, member_of, metadata_of, named_entry, needs_escape, one_a_name, paired_entry, said_by, HasTexts, IsBaggage, IsSaidUnchanged, IsCarriedUnchanged, Carries, InjectsBaggage, baggage_field, read_baggage}
+use Rattle.opentelemetry.specs.Members.{pieces_at, semicolon}
 use Rattle.opentelemetry.specs.Carrier.{Texts}
 use Rattle.opentelemetry.specs.Plain.{PlainContext}
 use Rattle.otel_propagation.proofs.BaggageNames.{one_a_name_distinct}

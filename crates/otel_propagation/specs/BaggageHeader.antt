@@ -3,7 +3,7 @@
 use Rattle.std.specs.Prelude.{◌≡◌, ◌≢◌, ◌≤◌, ℕ, Bool, not, ◌||◌, ◌==◌, nat_lt, nat_le, List, [], ◌∷◌, ◌++◌}
 use Rattle.std.specs.Prelude.{Option, None, Some, All, IsUtf8, length, take, map, codes, unwrap_or, if◌then◌else◌}
 use Rattle.std.specs.Prelude.{Result, OnOk, OnErr, IsOk}
-use Rattle.std.specs.List.{filter, filter_map, flat_map, join_with_byte, slice_split}
+use Rattle.std.specs.List.{filter, filter_map, flat_map, join_with_byte}
 use Rattle.std.specs.Str.{bytes_eq, is_utf8, trim}
 use Rattle.std.specs.declared.alloc.AllocError.{AllocError}
 use Rattle.percent_encoding.specs.Percent.{percent_encode_byte, percent_decode, percent_sign}
@@ -11,19 +11,11 @@ use Rattle.opentelemetry.specs.Baggage.{PlainBaggage, PlainBaggageEntry, entry_o
 use Rattle.opentelemetry.specs.Carrier.{Texts, SetsText, SameTexts}
 use Rattle.opentelemetry.specs.Plain.{PlainContext}
 use Rattle.opentelemetry.specs.PlainContexts.{current_span_context}
-use Rattle.opentelemetry.specs.Members.{HasNo, comma, equals_sign}
-
--- a semicolon parts a member's properties
-abbrev pub semicolon : ℕ
-semicolon = 59
+use Rattle.opentelemetry.specs.Members.{HasNo, comma, equals_sign, pieces_at, semicolon}
 
 -- the name under which the header travels
 abbrev pub baggage_field : List ℕ
 baggage_field = codes "baggage"
-
--- a text cut at each byte of a kind: what stands before, between and behind them
-abbrev pub pieces_at : ℕ → List ℕ → List (List ℕ)
-pieces_at c text = slice_split (λ b. b == c) text
 
 -- a byte that a name or a value cannot have in a header: a control, a space, one of `"%,;=`, or one past ASCII
 abbrev pub needs_escape : ℕ → Bool

@@ -2,7 +2,7 @@
 use Rattle.std.specs.Prelude.{ℕ, Bool, true, false, List, [], ◌∷◌, ◌++◌, Option, None, Some, String, string_bytes}
 use Rattle.std.specs.Borrow.{Bor}
 use Rattle.opentelemetry.specs.Baggage.{PlainBaggageEntry, entry_of}
-use Rattle.otel_propagation.specs.BaggageHeader.{pieces_at, semicolon}
+use Rattle.opentelemetry.specs.Members.{pieces_at, semicolon}
 
 -- the properties that stand behind a first semicolon; none where there is no semicolon
 abbrev pub properties_behind : Option (Bor (List ℕ)) → List (List ℕ)

@@ -1,4 +1,5 @@
 pub mod AttributesString
 pub mod DetectedResource
 pub mod Resource
+pub mod ResourceCode
 pub mod SameResource

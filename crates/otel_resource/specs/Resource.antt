@@ -1,17 +1,15 @@
 -- Who produces telemetry, and how two descriptions become one (OpenTelemetry specification, "Resource SDK", "Merge").
-use Rattle.std.proofs.Common.{inl, inr, refl}
-use Rattle.std.specs.Prelude.{◌≡◌, ℕ, ℤ, Bool, ◌⊎◌, Option, Some, None, if◌then◌else◌, codes}
+use Rattle.std.specs.Prelude.{ℕ, Option, Some, None, if◌then◌else◌, codes}
 use Rattle.std.specs.Prelude.{List, [], ◌∷◌, ◌++◌, map, reverse}
-use Rattle.std.specs.Coded.{Coded, code_by, coded_ℕ, coded_ℤ, coded_bool, coded_list, coded×, coded⊎}
 use Rattle.std.specs.Borrow.{Bor}
 use Rattle.std.specs.Ordering.{nat_cmp}
 use Rattle.std.specs.Cmp.Lexicographic.{slice_cmp}
 use Rattle.std.specs.Str.{bytes_eq}
-use Rattle.std.specs.FinMap.{FinMap, code, empty, entries, from_entries}
+use Rattle.std.specs.FinMap.{FinMap, empty, entries, from_entries}
 use Rattle.std.specs.BTreeMap.{BTreeMap}
 use Rattle.std.specs.Arc.{arc_value}
 use Rattle.std.specs.declared.sync.Arc.{Arc}
-use Rattle.opentelemetry.specs.Plain.{PlainValue, boolean, integer, text, booleans, integers, texts, PlainKeyValue}
+use Rattle.opentelemetry.specs.Plain.{PlainValue, PlainKeyValue}
 use Rattle.opentelemetry.specs.PlainValues.{plain_value, IsScalar}
 use Rattle.opentelemetry.specs.declared.common.Value.{Value}
 
@@ -105,49 +103,3 @@ shown_pair p = (p.0.now, plain_value p.1.now)
 abbrev pub pairs_left : Option (List (List ℕ × Value)) → List (List ℕ × PlainValue)
 pairs_left None = []
 pairs_left (Some pairs) = map (λ e. (e.0, plain_value e.1)) pairs
-
--- the kinds of a value, one beside the other
-abbrev pub Kinds : Type 0
-Kinds = Bool ⊎ (ℤ ⊎ (List ℕ ⊎ (List Bool ⊎ (List ℤ ⊎ List (List ℕ)))))
-
--- a value as one of its kind
-abbrev pub kind_of : PlainValue → Kinds
-kind_of (boolean b) = inl b
-kind_of (integer n) = inr (inl n)
-kind_of (text t) = inr (inr (inl t))
-kind_of (booleans bs) = inr (inr (inr (inl bs)))
-kind_of (integers ns) = inr (inr (inr (inr (inl ns))))
-kind_of (texts ts) = inr (inr (inr (inr (inr ts))))
-
--- the value of a kind
-abbrev pub of_kind : Kinds → PlainValue
-of_kind (inl b) = boolean b
-of_kind (inr (inl n)) = integer n
-of_kind (inr (inr (inl t))) = text t
-of_kind (inr (inr (inr (inl bs)))) = booleans bs
-of_kind (inr (inr (inr (inr (inl ns))))) = integers ns
-of_kind (inr (inr (inr (inr (inr ts))))) = texts ts
-
-pub of_kind-kind_of : (v : PlainValue) → of_kind (kind_of v) ≡ v
-of_kind-kind_of (boolean b) = refl
-of_kind-kind_of (integer n) = refl
-of_kind-kind_of (text t) = refl
-of_kind-kind_of (booleans bs) = refl
-of_kind-kind_of (integers ns) = refl
-of_kind-kind_of (texts ts) = refl
-
--- how the kinds are stored
-abbrev pub kinds_code : Coded Kinds
-kinds_code =
-    coded⊎ coded_bool (coded⊎ coded_ℤ (coded⊎ (coded_list coded_ℕ)
-    (coded⊎ (coded_list coded_bool) (coded⊎ (coded_list coded_ℤ) (coded_list (coded_list coded_ℕ))))))
-
--- how a value is stored
-abbrev pub value_code : Coded PlainValue
-value_code = code_by Kinds kinds_code kind_of of_kind of_kind-kind_of
-
--- how a resource is stored
-abbrev pub resource_code : Coded PlainResource
-resource_code =
-    code_by (Attributes × List ℕ) (coded× (code (coded_list coded_ℕ) value_code) (coded_list coded_ℕ))
-    (λ r. (r.attributes, r.schema_url)) (λ p. record { attributes = p.0; schema_url = p.1 }) (λ _. refl)

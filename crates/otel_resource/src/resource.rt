@@ -38,7 +38,8 @@ struct ResourceParts {
 }
 
 impl Model for ResourceParts {
-    ghost use Rattle.otel_resource.specs.Resource.{PlainResource, resource_code, by_key};
+    ghost use Rattle.otel_resource.specs.Resource.{PlainResource, by_key};
+    ghost use Rattle.otel_resource.specs.ResourceCode.{resource_code};
     ghost use Rattle.std.specs.Prelude.{string_bytes};
 
     ghost Value = { PlainResource };
@@ -59,7 +60,8 @@ pub struct Resource {
 }
 
 impl Model for Resource {
-    ghost use Rattle.otel_resource.specs.Resource.{PlainResource, resource_code, shared_resource};
+    ghost use Rattle.otel_resource.specs.Resource.{PlainResource, shared_resource};
+    ghost use Rattle.otel_resource.specs.ResourceCode.{resource_code};
 
     ghost Value = { PlainResource };
 
@@ -268,7 +270,7 @@ impl<'a> Model for Iter<'a> {
     ghost use Rattle.opentelemetry.specs.Plain.{PlainValue};
     ghost use Rattle.otel_resource.specs.Resource.{pairs_left};
     ghost use Rattle.std.specs.Coded.{coded_list, coded×, coded_ℕ};
-    ghost use Rattle.otel_resource.specs.Resource.{value_code};
+    ghost use Rattle.otel_resource.specs.ResourceCode.{value_code};
 
     ghost Value = { List (List ℕ × PlainValue) };
 
@@ -320,7 +322,8 @@ pub struct ResourceBuilder {
 }
 
 impl Model for ResourceBuilder {
-    ghost use Rattle.otel_resource.specs.Resource.{PlainResource, resource_code};
+    ghost use Rattle.otel_resource.specs.Resource.{PlainResource};
+    ghost use Rattle.otel_resource.specs.ResourceCode.{resource_code};
 
     ghost Value = { PlainResource };
 

@@ -34,7 +34,8 @@ struct OtlpLines {
 }
 
 impl Model for OtlpLines {
-    ghost use Rattle.otel_resource.specs.Resource.{PlainResource, resource_code};
+    ghost use Rattle.otel_resource.specs.Resource.{PlainResource};
+    ghost use Rattle.otel_resource.specs.ResourceCode.{resource_code};
 
     ghost Value = { PlainResource };
 

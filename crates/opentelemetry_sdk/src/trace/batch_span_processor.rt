@@ -39,7 +39,7 @@ impl<E> Model for BatchSpanProcessor<E> {
     ghost use Rattle.std.specs.Duration.{as_nanos};
     ghost use Rattle.std.specs.Coded.{codes};
     ghost use Rattle.std.specs.Option.{option_map};
-    ghost use Rattle.otel_resource.specs.Resource.{resource_code};
+    ghost use Rattle.otel_resource.specs.ResourceCode.{resource_code};
     ghost use Rattle.opentelemetry_sdk.specs.BatchProcessor.{BatchProcessor, IsAtRest};
 
     ghost Value = { BatchProcessor E };

@@ -40,7 +40,7 @@ pub struct BatchMachine<E> {
 impl<E> Model for BatchMachine<E> {
     ghost use Rattle.std.specs.Prelude.{length, vec_len, vec_capacity};
     ghost use Rattle.std.specs.Coded.{codes};
-    ghost use Rattle.otel_resource.specs.Resource.{resource_code};
+    ghost use Rattle.otel_resource.specs.ResourceCode.{resource_code};
     ghost use Rattle.otel_batch.specs.MachineState.{Machine, Control};
     ghost use Rattle.otel_batch.specs.SoundMachine.{IsKept};
 

@@ -32,7 +32,7 @@ pub struct ProviderBuilderOf<P, S, G> {
 
 impl<P, S, G> Model for ProviderBuilderOf<P, S, G> {
     ghost use Rattle.std.specs.Coded.{codes};
-    ghost use Rattle.otel_resource.specs.Resource.{resource_code};
+    ghost use Rattle.otel_resource.specs.ResourceCode.{resource_code};
     ghost use Rattle.otel_pipeline.specs.ProviderBuilder.{BuilderState};
 
     ghost Value = { BuilderState P S G };

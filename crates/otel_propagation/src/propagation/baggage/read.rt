@@ -7,8 +7,10 @@ ghost use Rattle.std.specs.Option.{option_map_or};
 ghost use Rattle.std.specs.Str.{trim};
 ghost use Rattle.opentelemetry.specs.Baggage.{baggage_bytes, with_entry, BreaksLimit};
 ghost use Rattle.opentelemetry.specs.Members.{HasNo, equals_sign};
-ghost use Rattle.otel_propagation.specs.BaggageHeader.{entries_of, entry_of_member, metadata_of, paired_entry, pieces_at};
-ghost use Rattle.otel_propagation.specs.BaggageHeader.{said_by, semicolon};
+ghost use Rattle.otel_propagation.specs.BaggageHeader.{entries_of, entry_of_member, metadata_of, paired_entry};
+ghost use Rattle.opentelemetry.specs.Members.{pieces_at};
+ghost use Rattle.otel_propagation.specs.BaggageHeader.{said_by};
+ghost use Rattle.opentelemetry.specs.Members.{semicolon};
 ghost use Rattle.otel_propagation.specs.BaggagePieces.{entry_with, next_property, properties_behind};
 ghost use Rattle.opentelemetry.specs.Text.{TextGrows};
 

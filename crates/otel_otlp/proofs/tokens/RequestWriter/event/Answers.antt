@@ -2,7 +2,7 @@
 use Rattle.std.proofs.Common.{[], ◌∷◌, codes, ap, string_bytes}
 use Rattle.json.specs.Tree.{json_tokens}
 use Rattle.otel_otlp.specs.Fields.{fields_tokens}
-use Rattle.otel_otlp.specs.Otlp.{event_json}
+use Rattle.otel_otlp.specs.OtlpSpan.{event_json}
 use Rattle.otel_otlp.specs.OtlpValues.{attributes_fields, moment_field, text_field}
 use Rattle.otel_otlp.proofs.Adding.{and_fields, as_object, as_tokens}
 use Rattle.otel_otlp.proofs.tokens.RequestWriter.event.Goals as goal

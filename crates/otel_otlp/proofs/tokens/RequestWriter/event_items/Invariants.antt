@@ -2,7 +2,7 @@
 use Rattle.std.proofs.Common.{Ok, take}
 use Rattle.std.specs.declared.alloc.AllocError.{AllocError}
 use Rattle.otel_otlp.specs.Fields.{Adds, list_tokens}
-use Rattle.otel_otlp.specs.Otlp.{event_json}
+use Rattle.otel_otlp.specs.OtlpSpan.{event_json}
 use Rattle.otel_otlp.proofs.tokens.RequestWriter.event_items.Given as goal
 
 abbrev pub invariant-loop-event : goal.invariant-loop-event

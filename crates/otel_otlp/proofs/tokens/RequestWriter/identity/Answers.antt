@@ -1,7 +1,7 @@
 -- One member after another.
 use Rattle.std.proofs.Common.{◌++◌, ap}
 use Rattle.otel_otlp.specs.Fields.{fields_tokens}
-use Rattle.otel_otlp.specs.Otlp.{context_fields, name_fields, parent_fields, time_fields}
+use Rattle.otel_otlp.specs.OtlpSpan.{context_fields, name_fields, parent_fields, time_fields}
 use Rattle.otel_otlp.proofs.Adding.{and_fields, as_tokens}
 use Rattle.otel_otlp.proofs.tokens.RequestWriter.identity.Goals as goal
 

@@ -2,7 +2,7 @@
 use Rattle.std.proofs.Common.{Bool, List, [], ◌∷◌, ◌++◌, codes, ap}
 use Rattle.json.specs.Tree.{json_tokens}
 use Rattle.otel_otlp.specs.Fields.{Field, fields_tokens}
-use Rattle.otel_otlp.specs.Otlp.{context_fields, flags_of, link_json}
+use Rattle.otel_otlp.specs.OtlpSpan.{context_fields, flags_of, link_json}
 use Rattle.otel_otlp.specs.OtlpValues.{attributes_fields, number_field}
 use Rattle.otel_otlp.proofs.Adding.{and_fields, as_object, as_tokens}
 use Rattle.otel_otlp.proofs.tokens.RequestWriter.link.Goals as goal

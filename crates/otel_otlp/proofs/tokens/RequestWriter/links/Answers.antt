@@ -1,7 +1,7 @@
 -- A list, then a number.
 use Rattle.std.proofs.Common.{[], ◌∷◌, codes, map, ap}
 use Rattle.otel_otlp.specs.Fields.{fields_tokens, list_json, list_tokens}
-use Rattle.otel_otlp.specs.Otlp.{link_json, links_fields}
+use Rattle.otel_otlp.specs.OtlpSpan.{link_json, links_fields}
 use Rattle.otel_otlp.specs.OtlpValues.{number_field}
 use Rattle.otel_otlp.proofs.Adding.{and_fields, as_array, as_field, as_tokens}
 use Rattle.otel_otlp.proofs.tokens.RequestWriter.links.Goals as goal

@@ -2,7 +2,7 @@
 use Rattle.std.proofs.Common.{[], ◌∷◌, ◌++◌, codes, ap}
 use Rattle.opentelemetry.specs.PlainValues.{plain_status}
 use Rattle.otel_otlp.specs.Fields.{fields_tokens}
-use Rattle.otel_otlp.specs.Otlp.{events_fields, links_fields, recording_fields, status_json}
+use Rattle.otel_otlp.specs.OtlpSpan.{events_fields, links_fields, recording_fields, status_json}
 use Rattle.otel_otlp.specs.OtlpValues.{attributes_fields}
 use Rattle.otel_otlp.proofs.Adding.{and_fields, as_field, as_tokens}
 use Rattle.otel_otlp.proofs.tokens.RequestWriter.recording.Goals as goal

@@ -2,7 +2,8 @@
 use Rattle.std.proofs.Common.{[], ◌∷◌, codes, ap, map, ◌∙◌}
 use Rattle.json.specs.Tree.{json_tokens}
 use Rattle.otel_otlp.specs.Fields.{fields_tokens, list_json}
-use Rattle.otel_otlp.specs.Otlp.{or_empty, scope_json, span_json}
+use Rattle.otel_otlp.specs.Otlp.{or_empty, scope_json}
+use Rattle.otel_otlp.specs.OtlpSpan.{span_json}
 use Rattle.otel_otlp.specs.OtlpValues.{text_field}
 use Rattle.otel_otlp.specs.ScopeRuns.{run_scope}
 use Rattle.otel_otlp.proofs.Adding.{and_fields, as_array, as_field, as_object, as_tokens}

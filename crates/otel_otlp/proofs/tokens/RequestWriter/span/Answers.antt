@@ -1,5 +1,5 @@
 -- One member after another.
-use Rattle.otel_otlp.specs.Otlp.{identity_fields, recording_fields, span_fields}
+use Rattle.otel_otlp.specs.OtlpSpan.{identity_fields, recording_fields, span_fields}
 use Rattle.otel_otlp.proofs.Adding.{and_fields, as_object}
 use Rattle.otel_otlp.proofs.tokens.RequestWriter.span.Goals as goal
 

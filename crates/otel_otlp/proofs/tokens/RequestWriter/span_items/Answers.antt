@@ -1,6 +1,6 @@
 -- One span more.
 use Rattle.std.proofs.Common.{arith}
-use Rattle.otel_otlp.specs.Otlp.{span_json}
+use Rattle.otel_otlp.specs.OtlpSpan.{span_json}
 use Rattle.otel_otlp.proofs.Adding.{item_more}
 use Rattle.otel_otlp.proofs.tokens.RequestWriter.span_items.Goals as goal
 

@@ -1,7 +1,7 @@
 -- One member after another.
 use Rattle.std.proofs.Common.{ap}
 use Rattle.otel_otlp.specs.Fields.{fields_tokens}
-use Rattle.otel_otlp.specs.Otlp.{time_fields}
+use Rattle.otel_otlp.specs.OtlpSpan.{time_fields}
 use Rattle.otel_otlp.proofs.Adding.{and_then, as_tokens}
 use Rattle.otel_otlp.proofs.tokens.RequestWriter.time.Goals as goal
 

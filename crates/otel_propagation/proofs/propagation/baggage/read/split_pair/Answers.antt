@@ -1,5 +1,5 @@
 use Rattle.std.proofs.Common.{[], lit<, ◌∙◌, ap, ◌∷◌}
-use Rattle.otel_propagation.specs.BaggageHeader.{pieces_at}
+use Rattle.opentelemetry.specs.Members.{pieces_at}
 use Rattle.otel_propagation.proofs.BaggagePieceLemmas.{cut_once, uncut}
 use Rattle.otel_propagation.proofs.propagation.baggage.read.split_pair.Goals as goal
 
