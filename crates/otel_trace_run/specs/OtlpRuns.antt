@@ -6,8 +6,9 @@ use Rattle.otel_export.specs.PlainSpanData.{PlainSpanData}
 use Rattle.otel_trace_lines.specs.ReplyForm.{Form}
 use Rattle.otel_otlp.specs.Otlp.{otlp_lines}
 use Rattle.otel_pipeline.specs.Provider.{ProviderState}
-use Rattle.otel_trace_run.specs.Streams.{Streams}
-use Rattle.otel_trace_run.specs.TraceRuns.{TracesWhole}
+use Rattle.otel_trace_run.specs.Streams.{EndsAs, Streams}
+use Rattle.otel_trace_run.specs.TraceRuns.{TracesBegun, TracesWhole}
+use Rattle.otel_trace_run.specs.declared.run_end.RunEnd.{RunEnd}
 use Rattle.otel_trace_session.specs.Calls.{Calls, batches_of_first}
 
 -- replies as the lines of their batches; an answer is not written
@@ -29,3 +30,7 @@ module _ {P S G : Type 0} (calls : Calls P S G) (resource : PlainResource) where
     pub traces : TracesWhole calls (otlp_form resource) provider s bad_line
     pub lines : Appends s.output s.output_after
         (otlp_lines resource (exported_since provider traces.finishes.closes.provider))
+
+  -- what a session did whose batches are written, by how it ended
+  abbrev pub ExportsUnder : ProviderState P S G → Streams → RunEnd → Type 0
+  ExportsUnder provider s end = EndsAs (ExportsAll provider s) (TracesBegun calls (otlp_form resource) provider s) s end

@@ -1,5 +1,5 @@
--- The provider that the modes `trace` and `otlp` are asked for, and what a session under it does with the streams. Of the bytes of a
--- stream it speaks where the stream tells them.
+-- The provider that the modes `trace` and `otlp` are asked for, and what a session under it does with the streams. Of
+-- the bytes of a stream it speaks where the stream tells them.
 use Rattle.std.specs.Prelude.{◌≡◌, ◌⊎◌, ℕ, false, List, [], ◌∷◌, Option, None, slice_get}
 use Rattle.std.specs.Io.KnownBytes.{Appends}
 use Rattle.rand_xoshiro.specs.SplitMix64.{splitmix_seed}
@@ -29,11 +29,12 @@ use Rattle.opentelemetry_sdk.specs.declared.trace.processor.ProcessorOf.TheVaria
 use Rattle.otel_trace_lines.specs.ReplyForm.{reply_lines}
 use Rattle.otel_trace_session.specs.Calls.{Calls, calls_of}
 use Rattle.otel_trace_run.specs.OtlpRuns.{ExportsAll, otlp_form}
-use Rattle.otel_trace_run.specs.Streams.{Streams}
+use Rattle.otel_trace_run.specs.Streams.{EndsAs, EndsWith, Streams}
 use Rattle.otel_trace_run.specs.TraceRuns.{TracesBegun, TracesWhole}
 use Rattle.otel_trace_run.specs.declared.program.Asked.{Asked}
 use Rattle.otel_trace_run.specs.declared.program.AskedProcessor.{AskedProcessor}
 use Rattle.otel_trace_run.specs.declared.program.AskedProcessor.TheVariants as asks
+use Rattle.otel_trace_run.specs.declared.run_end.RunEnd.{RunEnd}
 
 -- what the program's processors are: one that exports into memory, each span as it ends or in batches, or one of any
 -- other kind
@@ -111,3 +112,15 @@ module _ {C D E : Type 0} (calls : Calls (MemoryProcessor C D) (SamplerOf E) (Li
       ⊎ ((resource : PlainResource) × IsDetected (strings_given given) resource
       × (provider : ProviderState (MemoryProcessor C D) (SamplerOf E) (List ℕ))
       × IsProviderOf asked provider × TracesBegun calls (otlp_form resource) provider s)
+
+  -- a run of the mode `trace`, by its status, and by what is said of the faults where it has none and where it has one
+  abbrev pub EndsTracing : Streams → Type 0 → (List ℕ → Type 0) → ℕ → Type 0
+  EndsTracing s Silent Says status = EndsWith (TracesAsked s) (BeginsAsked s) Silent Says s status
+
+  -- a run of the mode `otlp`
+  abbrev pub EndsExporting : List (List ℕ) → Streams → Type 0 → (List ℕ → Type 0) → ℕ → Type 0
+  EndsExporting given s Silent Says status = EndsWith (ExportsAsked given s) (BeginsExporting given s) Silent Says s status
+
+  -- what such a run did, by how it ended
+  abbrev pub Exports : List (List ℕ) → Streams → RunEnd → Type 0
+  Exports given s end = EndsAs (ExportsAsked given s) (BeginsExporting given s) s end

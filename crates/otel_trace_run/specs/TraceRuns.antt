@@ -10,7 +10,7 @@ use Rattle.otel_trace_lines.specs.ReplyForm.{Form, texts}
 use Rattle.otel_trace_lines.specs.declared.command.Command.{Command}
 use Rattle.otel_pipeline.specs.Provider.{ProviderState}
 use Rattle.otel_otlp.specs.Streams.{AppendsBeginning}
-use Rattle.otel_trace_run.specs.Streams.{AreAll, Streams}
+use Rattle.otel_trace_run.specs.Streams.{AreAll, EndsAs, Streams}
 use Rattle.otel_trace_run.specs.declared.run_end.RunEnd.{RunEnd}
 use Rattle.otel_trace_run.specs.declared.run_end.RunEnd.TheVariants as ends
 use Rattle.otel_trace_session.specs.Calls.{Calls}
@@ -63,6 +63,14 @@ module _ {P S G : Type 0} (calls : Calls P S G) (form : Form) where
 
   abbrev pub TracesBegun : ProviderState P S G → Streams → Type 0
   TracesBegun provider s = TracesSome (session_under calls.keeps provider) s
+
+  -- what a session did, by how it ended
+  abbrev pub Traces : SessionState P S G → Streams → RunEnd → Type 0
+  Traces begun s end = EndsAs (TracesAll begun s) (TracesSome begun s) s end
+
+  -- what a session under a provider did
+  abbrev pub TracesUnder : ProviderState P S G → Streams → RunEnd → Type 0
+  TracesUnder provider s end = EndsAs (TracesWhole provider s) (TracesBegun provider s) s end
 
   -- a piece was fed to a session, which then forgot what it had shown; of the text of its replies the output was given
   -- what Written says

@@ -5,10 +5,9 @@ ghost use Rattle.std.specs.Prelude.{◌≡◌, ◌++◌, [], IfOk, IsOk, List, M
 ghost use Rattle.otel_resource.specs.DetectedResource.{IsDetected};
 ghost use Rattle.otel_otlp.specs.Otlp.{otlp_lines};
 ghost use Rattle.otel_trace_run.specs.Arguments.{AsksForOtlp, NamesGiven};
-ghost use Rattle.otel_trace_run.specs.OtlpRuns.{ExportsAll, otlp_form};
+ghost use Rattle.otel_trace_run.specs.OtlpRuns.{ExportsUnder, otlp_form};
 ghost use Rattle.otel_trace_run.specs.Program.{strings_given};
-ghost use Rattle.otel_trace_run.specs.Streams.{EndsAs, Streams, streams};
-ghost use Rattle.otel_trace_run.specs.TraceRuns.{TracesBegun};
+ghost use Rattle.otel_trace_run.specs.Streams.{streams};
 ghost use Rattle.otel_trace_session.specs.Calls.{calls_of};
 
 use crate::program::{Asked, AskedProcessor};
@@ -168,13 +167,10 @@ pub(crate) fn export_input<P: KeepsBatches, S: ShouldSample, G: IdGenerator, R: 
     input: &mut R,
     output: &mut W,
 ) -> RunEnd
-    ensures { let s : Streams = streams (R.remaining input.old) (R.remaining input.new)
-        (W.contents output.old) (W.contents output.new) in
-        EndsAs
-        (ExportsAll (calls_of P.SpanProcessor P.DrainDue.own P.KeepsBatches.own S.ShouldSample G.IdGenerator)
-        resource provider s)
-        (TracesBegun (calls_of P.SpanProcessor P.DrainDue.own P.KeepsBatches.own S.ShouldSample G.IdGenerator)
-        (otlp_form resource) provider s) s result }
+    ensures { ExportsUnder (calls_of P.SpanProcessor P.DrainDue.own P.KeepsBatches.own S.ShouldSample G.IdGenerator)
+        resource provider
+        (streams (R.remaining input.old) (R.remaining input.new) (W.contents output.old) (W.contents output.new))
+        result }
 {
     let mut lines = OtlpLines { resource, alloc };
     trace_input(alloc, provider, &mut lines, input, output)

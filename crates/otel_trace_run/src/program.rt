@@ -15,17 +15,16 @@ ghost use Rattle.otel_trace_run.specs.Arguments.{
   usage_text,
 };
 ghost use Rattle.otel_trace_run.specs.Program.{
-  BeginsAsked,
-  BeginsExporting,
-  ExportsAsked,
+  EndsExporting,
+  EndsTracing,
+  Exports,
   IsProviderOf,
   SamplesRoots,
-  TracesAsked,
   memory_calls,
   processor_of,
 };
-ghost use Rattle.otel_trace_run.specs.StepRuns.{StepsBegun, StepsSized};
-ghost use Rattle.otel_trace_run.specs.Streams.{EndsAs, EndsWith, Reports, Streams, streams};
+ghost use Rattle.otel_trace_run.specs.StepRuns.{EndsStepping};
+ghost use Rattle.otel_trace_run.specs.Streams.{Reports, streams};
 
 use crate::otlp::{export_input, otlp_of, resource_of};
 use crate::run_end::RunEnd;
@@ -158,37 +157,26 @@ pub fn run_program<R: Read, W: Write, F: Write>(
         × (result ≡ 2 → Appends (F.contents faults.old) (F.contents faults.new) usage_text)) }
 
     // One session.
-    ensures trace { (asked : Asked) → AsksFor (map string_bytes words.now) asked →
-        let s : Streams = streams (R.remaining input.old) (R.remaining input.new)
-        (W.contents output.old) (W.contents output.new) in
-        EndsWith
-        (TracesAsked (memory_calls ⟦<TraceProcessor as SpanProcessor>⟧
+    ensures trace { (asked : Asked) → AsksFor (map string_bytes words.now) asked → EndsTracing
+        (memory_calls ⟦<TraceProcessor as SpanProcessor>⟧
         (record { due_gives = ⟦<TraceProcessor as DrainDue>⟧.due_gives })
-        ⟦<TraceSampler as ShouldSample>⟧ ⟦<RandomIdGenerator as IdGenerator>⟧) asked s)
-        (BeginsAsked (memory_calls ⟦<TraceProcessor as SpanProcessor>⟧
-        (record { due_gives = ⟦<TraceProcessor as DrainDue>⟧.due_gives })
-        ⟦<TraceSampler as ShouldSample>⟧ ⟦<RandomIdGenerator as IdGenerator>⟧) asked s)
-        (faults.new ≡ faults.old) (Appends (F.contents faults.old) (F.contents faults.new)) s result }
+        ⟦<TraceSampler as ShouldSample>⟧ ⟦<RandomIdGenerator as IdGenerator>⟧) asked
+        (streams (R.remaining input.old) (R.remaining input.new) (W.contents output.old) (W.contents output.new))
+        (faults.new ≡ faults.old) (Appends (F.contents faults.old) (F.contents faults.new)) result }
 
     // One session, whose batches are written in place of its replies.
     ensures otlp { (asked : Asked) (given : List (List ℕ)) → AsksForOtlp (map string_bytes words.now) asked given →
-        let s : Streams = streams (R.remaining input.old) (R.remaining input.new)
-        (W.contents output.old) (W.contents output.new) in
-        EndsWith
-        (ExportsAsked (memory_calls ⟦<TraceProcessor as SpanProcessor>⟧
+        EndsExporting
+        (memory_calls ⟦<TraceProcessor as SpanProcessor>⟧
         (record { due_gives = ⟦<TraceProcessor as DrainDue>⟧.due_gives })
-        ⟦<TraceSampler as ShouldSample>⟧ ⟦<RandomIdGenerator as IdGenerator>⟧) asked given s)
-        (BeginsExporting (memory_calls ⟦<TraceProcessor as SpanProcessor>⟧
-        (record { due_gives = ⟦<TraceProcessor as DrainDue>⟧.due_gives })
-        ⟦<TraceSampler as ShouldSample>⟧ ⟦<RandomIdGenerator as IdGenerator>⟧) asked given s)
-        (faults.new ≡ faults.old) (Appends (F.contents faults.old) (F.contents faults.new)) s result }
+        ⟦<TraceSampler as ShouldSample>⟧ ⟦<RandomIdGenerator as IdGenerator>⟧) asked given
+        (streams (R.remaining input.old) (R.remaining input.new) (W.contents output.old) (W.contents output.new))
+        (faults.new ≡ faults.old) (Appends (F.contents faults.old) (F.contents faults.new)) result }
 
     // One batch queue.
-    ensures steps { (sizes : Sizes) → AsksForSteps (map string_bytes words.now) sizes →
-        let s : Streams = streams (R.remaining input.old) (R.remaining input.new)
-        (W.contents output.old) (W.contents output.new) in
-        EndsWith (StepsSized sizes s) (StepsBegun sizes s)
-        (faults.new ≡ faults.old) (Appends (F.contents faults.old) (F.contents faults.new)) s result }
+    ensures steps { (sizes : Sizes) → AsksForSteps (map string_bytes words.now) sizes → EndsStepping sizes
+        (streams (R.remaining input.old) (R.remaining input.new) (W.contents output.old) (W.contents output.new))
+        (faults.new ≡ faults.old) (Appends (F.contents faults.old) (F.contents faults.new)) result }
 {
     if let Some(sizes) = sizes_of(words) {
         let end = step_input(alloc, sizes, input, output);
@@ -218,17 +206,13 @@ fn run_otlp<R: Read, W: Write>(
     input: &mut R,
     output: &mut W,
 ) -> RunEnd
-    ensures { let s : Streams = streams (R.remaining input.old) (R.remaining input.new)
-        (W.contents output.old) (W.contents output.new) in
-        EndsAs
-        (ExportsAsked (memory_calls ⟦<TraceProcessor as SpanProcessor>⟧
+    ensures { Exports
+        (memory_calls ⟦<TraceProcessor as SpanProcessor>⟧
         (record { due_gives = ⟦<TraceProcessor as DrainDue>⟧.due_gives })
         ⟦<TraceSampler as ShouldSample>⟧ ⟦<RandomIdGenerator as IdGenerator>⟧)
-        asked (map string_bytes given.now) s)
-        (BeginsExporting (memory_calls ⟦<TraceProcessor as SpanProcessor>⟧
-        (record { due_gives = ⟦<TraceProcessor as DrainDue>⟧.due_gives })
-        ⟦<TraceSampler as ShouldSample>⟧ ⟦<RandomIdGenerator as IdGenerator>⟧)
-        asked (map string_bytes given.now) s) s result }
+        asked (map string_bytes given.now)
+        (streams (R.remaining input.old) (R.remaining input.new) (W.contents output.old) (W.contents output.new))
+        result }
 {
     let Ok(resource) = resource_of(alloc, given) else {
         return RunEnd::Failed;

@@ -4,9 +4,9 @@
 ghost use Rattle.std.specs.Prelude.{◌≡◌, ◌++◌, ◌+◌, ◌⊎◌, List, ℕ, IfOk, IfSome, OnErr, length};
 ghost use Rattle.std.specs.Io.KnownBytes.{Appends};
 ghost use Rattle.otel_otlp.specs.Streams.{AppendsBeginning};
-ghost use Rattle.otel_trace_run.specs.StepRuns.{StepsAll, StepsBegun, StepsSized, StepsSome};
-ghost use Rattle.otel_trace_run.specs.Streams.{EndsAs, Streams, streams};
-ghost use Rattle.otel_trace_steps.specs.StepAnswers.{AnswersLines, BeginsAnswers};
+ghost use Rattle.otel_trace_run.specs.StepRuns.{Steps};
+ghost use Rattle.otel_trace_run.specs.Streams.{streams};
+ghost use Rattle.otel_trace_steps.specs.StepAnswers.{AnswersLines, BeginsAnswers, machine_of};
 
 use crate::counted::{bad_line_behind, lines_counted};
 use crate::pieces::Pieces;
@@ -26,9 +26,9 @@ pub fn step_input<R: Read, W: Write>(
     input: &mut R,
     output: &mut W,
 ) -> RunEnd
-    ensures { let s : Streams = streams (R.remaining input.old) (R.remaining input.new)
-        (W.contents output.old) (W.contents output.new) in
-        EndsAs (StepsSized sizes s) (StepsBegun sizes s) s result }
+    ensures { Steps (machine_of sizes)
+        (streams (R.remaining input.old) (R.remaining input.new) (W.contents output.old) (W.contents output.new))
+        result }
 {
     match machine_sized(alloc, sizes) {
         Ok(mut machine) => step_stream(alloc, &mut machine, input, output),
@@ -43,9 +43,9 @@ fn step_stream<R: Read, W: Write>(
     input: &mut R,
     output: &mut W,
 ) -> RunEnd
-    ensures { let s : Streams = streams (R.remaining input.old) (R.remaining input.new)
-        (W.contents output.old) (W.contents output.new) in
-        EndsAs (StepsAll machine.old s) (StepsSome machine.old s) s result }
+    ensures { Steps machine.old
+        (streams (R.remaining input.old) (R.remaining input.new) (W.contents output.old) (W.contents output.new))
+        result }
 {
     let mut pieces = Pieces::new(alloc);
     let mut answers = Vec::new(alloc);

@@ -4,15 +4,13 @@
 ghost use Rattle.std.specs.Prelude.{◌≡◌, IfOk, OnErr, Result};
 ghost use Rattle.std.specs.Io.KnownBytes.{Appends};
 ghost use Rattle.otel_otlp.specs.Streams.{AppendsBeginning};
-ghost use Rattle.otel_trace_run.specs.Streams.{EndsAs, Streams, streams};
+ghost use Rattle.otel_trace_run.specs.Streams.{streams};
 ghost use Rattle.otel_trace_run.specs.TraceRuns.{
   CarriesOutSome,
   FedAs,
   FeedsPiece,
-  TracesAll,
-  TracesBegun,
-  TracesSome,
-  TracesWhole,
+  Traces,
+  TracesUnder,
 };
 ghost use Rattle.otel_trace_session.specs.Calls.{calls_of};
 ghost use Rattle.otel_trace_session.specs.declared.session.FeedError.{FeedError};
@@ -45,13 +43,10 @@ pub fn trace_input<
     input: &mut R,
     output: &mut W,
 ) -> RunEnd
-    ensures { let s : Streams = streams (R.remaining input.old) (R.remaining input.new)
-        (W.contents output.old) (W.contents output.new) in
-        EndsAs
-        (TracesWhole (calls_of P.SpanProcessor P.DrainDue.own P.KeepsBatches.own S.ShouldSample G.IdGenerator)
-        (F.form form.old) provider s)
-        (TracesBegun (calls_of P.SpanProcessor P.DrainDue.own P.KeepsBatches.own S.ShouldSample G.IdGenerator)
-        (F.form form.old) provider s) s result }
+    ensures { TracesUnder (calls_of P.SpanProcessor P.DrainDue.own P.KeepsBatches.own S.ShouldSample G.IdGenerator)
+        (F.form form.old) provider
+        (streams (R.remaining input.old) (R.remaining input.new) (W.contents output.old) (W.contents output.new))
+        result }
 {
     match Session::new(alloc, provider) {
         Ok(session) => trace_session(alloc, session, form, input, output),
@@ -71,13 +66,10 @@ fn trace_session<P: KeepsBatches, S: ShouldSample, G: IdGenerator, F: ReplyForm,
     input: &mut R,
     output: &mut W,
 ) -> RunEnd
-    ensures { let s : Streams = streams (R.remaining input.old) (R.remaining input.new)
-        (W.contents output.old) (W.contents output.new) in
-        EndsAs
-        (TracesAll (calls_of P.SpanProcessor P.DrainDue.own P.KeepsBatches.own S.ShouldSample G.IdGenerator)
-        (F.form form.old) session s)
-        (TracesSome (calls_of P.SpanProcessor P.DrainDue.own P.KeepsBatches.own S.ShouldSample G.IdGenerator)
-        (F.form form.old) session s) s result }
+    ensures { Traces (calls_of P.SpanProcessor P.DrainDue.own P.KeepsBatches.own S.ShouldSample G.IdGenerator)
+        (F.form form.old) session
+        (streams (R.remaining input.old) (R.remaining input.new) (W.contents output.old) (W.contents output.new))
+        result }
 {
     let mut text = Vec::new(alloc);
     let fed = feed_pieces(alloc, &mut session, form, &mut text, input, output);

@@ -1,5 +1,5 @@
-//! Rows of data that ask of values, headers and the SDK's base, and how a row is read. The program `otel_cases` takes
-//! them.
+//! Rows of data that ask of values, headers, resources, samplers and configuration, and how a row is read. The program
+//! `otel_cases` takes them.
 #![tactic(auto)]
 
 pub mod fields;

@@ -1,4 +1,4 @@
-//! Tests of `opentelemetry`, `otel_base` and `otel_export`. What text can show of them is asked by the rows of
+//! Tests of values, headers, resources, samplers and exporters. What text can show of them is asked by the rows of
 //! `otel_value_cases`.
 
 mod clones;
