@@ -6,8 +6,8 @@ use Rattle.std.specs.Str.Parse.{AllDigits}
 use Rattle.otel_batch.specs.declared.machine.step.Step.TheVariants as steps
 use Rattle.otel_trace_lines.specs.Lines.{IsField, IsMoment}
 use Rattle.otel_trace_steps.specs.StepLines.{Finds, IsWord, ReadsOrder, SomeOffer, TakesFields, TakesName, TakesProducer}
-use Rattle.otel_trace_steps.specs.declared.steps.lines.Order.{Order}
-use Rattle.otel_trace_steps.specs.declared.steps.lines.Order.TheVariants as orders
+use Rattle.otel_trace_steps.specs.declared.steps.step_lines.Order.{Order}
+use Rattle.otel_trace_steps.specs.declared.steps.step_lines.Order.TheVariants as orders
 use Rattle.otel_trace_lines.proofs.Fields.{same_field, no_last_field}
 
 -- a number has no space

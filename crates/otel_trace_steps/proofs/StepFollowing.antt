@@ -7,8 +7,8 @@ use Rattle.otel_export.specs.StoredBatches.{StoredBatches}
 use Rattle.otel_trace_steps.specs.StepAnswers.{AnswersBeginning, AnswersLines, MayObey, ObeysEach, Obeys}
 use Rattle.otel_trace_steps.specs.StepLines.{ReadsOrder}
 use Rattle.otel_trace_steps.specs.StepTexts.{outcome_text, state_text}
-use Rattle.otel_trace_steps.specs.declared.steps.lines.Order.{Order}
-use Rattle.otel_trace_steps.specs.declared.steps.lines.Order.TheVariants as orders
+use Rattle.otel_trace_steps.specs.declared.steps.step_lines.Order.{Order}
+use Rattle.otel_trace_steps.specs.declared.steps.step_lines.Order.TheVariants as orders
 
 -- lines, and others behind them
 pub obeys_append : (m middle after : Machine StoredBatches) (number : ℕ) (done more : List (List ℕ)) (bad_line : Option ℕ) (answers rest : List ℕ) → ObeysEach m number done None answers middle → ObeysEach middle (number + length done) more bad_line rest after

@@ -10,8 +10,8 @@ use Rattle.otel_export.specs.declared.trace.export.SpanExporter.{Ghosts}
 use Rattle.otel_trace_lines.specs.ReplyText.{line}
 use Rattle.otel_trace_steps.specs.StepLines.{IsBadOrder, ReadsOrder}
 use Rattle.otel_trace_steps.specs.StepTexts.{outcome_text, state_text}
-use Rattle.otel_trace_steps.specs.declared.steps.lines.Order.{Order}
-use Rattle.otel_trace_steps.specs.declared.steps.lines.Order.TheVariants as orders
+use Rattle.otel_trace_steps.specs.declared.steps.step_lines.Order.{Order}
+use Rattle.otel_trace_steps.specs.declared.steps.step_lines.Order.TheVariants as orders
 use Rattle.otel_trace_steps.specs.declared.steps.Sizes.{Sizes}
 
 -- a new machine of these sizes: a batch has no more spans than may wait, and the exporter has no batch

@@ -7,8 +7,8 @@ use Rattle.otel_resource.specs.Resource.{empty_resource}
 use Rattle.otel_export.specs.PlainSpanData.{PlainSpanData}
 use Rattle.otel_batch.specs.declared.machine.step.Step.TheVariants as steps
 use Rattle.otel_trace_lines.specs.Lines.{IsField, IsMoment}
-use Rattle.otel_trace_steps.specs.declared.steps.lines.Order.{Order}
-use Rattle.otel_trace_steps.specs.declared.steps.lines.Order.TheVariants as orders
+use Rattle.otel_trace_steps.specs.declared.steps.step_lines.Order.{Order}
+use Rattle.otel_trace_steps.specs.declared.steps.step_lines.Order.TheVariants as orders
 
 -- the span that a line offers: it has a name and flags, and nothing else
 abbrev pub named_span : List ℕ → ℕ → PlainSpanData

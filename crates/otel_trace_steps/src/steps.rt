@@ -7,8 +7,8 @@ ghost use Rattle.otel_batch.specs.MachineRun.{Stepped};
 ghost use Rattle.otel_trace_steps.specs.StepAnswers.{AnswersBeginning, AnswersLines, Obeys, ObeysUntold, machine_of, memory_calls};
 ghost use Rattle.otel_trace_steps.specs.StepTexts.{outcome_text};
 
-use crate::steps::lines::{Order, order_of};
-use crate::steps::reply_text::{push_outcome, push_state};
+use crate::steps::step_lines::{Order, order_of};
+use crate::steps::step_texts::{push_outcome, push_state};
 use otel_batch::machine::{BatchMachine, Outcome, Step};
 use otel_batch::trace::BatchConfigBuilder;
 use otel_export::trace::InMemorySpanExporter;
@@ -16,8 +16,8 @@ use otel_trace_lines::lines::first_line;
 use otel_trace_lines::reply_text::write_text;
 use std::alloc::{AllocError, Global};
 
-pub mod lines;
-mod reply_text;
+pub mod step_lines;
+mod step_texts;
 
 /// How many spans may wait, how many a batch may have, and how many producers there are.
 #[derive(Clone, Copy, Debug, PartialEq, Eq)]

@@ -4,8 +4,8 @@ use Rattle.std.proofs.lemmas.List.{nil_from_length}
 use Rattle.otel_trace_steps.specs.StepAnswers.{AnswersBeginning}
 use Rattle.otel_trace_steps.specs.StepLines.{ReadsOrder}
 use Rattle.otel_batch.specs.declared.machine.step.Step.TheVariants as steps
-use Rattle.otel_trace_steps.specs.declared.steps.lines.Order.{Order}
-use Rattle.otel_trace_steps.specs.declared.steps.lines.Order.TheVariants as orders
+use Rattle.otel_trace_steps.specs.declared.steps.step_lines.Order.{Order}
+use Rattle.otel_trace_steps.specs.declared.steps.step_lines.Order.TheVariants as orders
 use Rattle.opentelemetry.proofs.Clauses.{always_on_err, fails_on_err}
 use Rattle.otel_trace_steps.proofs.StepFollowing.{followed_none, followed_blank, followed_all, followed_bad, followed_more, followed_untold, silent_blank, silent_not_read}
 use Rattle.otel_trace_steps.proofs.steps.answer_lines.Goals as goal

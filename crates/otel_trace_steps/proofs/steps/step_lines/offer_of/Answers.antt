@@ -4,8 +4,8 @@ use Rattle.std.proofs.lemmas.List.Elements.{All-from_get_or}
 use Rattle.std.proofs.lemmas.Str.Pattern.{contains_char}
 use Rattle.otel_trace_lines.specs.Lines.{IsField}
 use Rattle.otel_trace_steps.specs.StepLines.{OffersWith, named_span}
-use Rattle.otel_trace_steps.proofs.steps.lines.offer_of.Goals as goal
-use Rattle.otel_trace_steps.proofs.steps.lines.offer_of.Goals.{in-offer, in-text}
+use Rattle.otel_trace_steps.proofs.steps.step_lines.offer_of.Goals as goal
+use Rattle.otel_trace_steps.proofs.steps.step_lines.offer_of.Goals.{in-offer, in-text}
 
 pub returns-clause-found : goal.returns-clause-found
 returns-clause-found c =

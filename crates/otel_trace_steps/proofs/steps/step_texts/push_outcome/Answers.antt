@@ -1,7 +1,7 @@
 -- Each outcome has its text.
 use Rattle.std.proofs.Common.{codes, string_bytes, rules}
 use Rattle.otel_trace_steps.proofs.StepTexts.{grown_if_ok}
-use Rattle.otel_trace_steps.proofs.steps.reply_text.push_outcome.Goals as goal
+use Rattle.otel_trace_steps.proofs.steps.step_texts.push_outcome.Goals as goal
 
 pub returns-in-HandedOver : goal.returns-in-HandedOver
 returns-in-HandedOver c = rw c.in-HandedOver.is (search rules)

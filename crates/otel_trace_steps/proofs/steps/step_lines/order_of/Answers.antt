@@ -2,7 +2,7 @@
 use Rattle.std.proofs.Common.{◌≡◌, ◌++◌, ◌∷◌, IsUtf8, rules}
 use Rattle.opentelemetry.proofs.Clauses.{if_ok_map}
 use Rattle.otel_trace_steps.proofs.StepFields.{fields_found, fields_offer}
-use Rattle.otel_trace_steps.proofs.steps.lines.order_of.Goals as goal
+use Rattle.otel_trace_steps.proofs.steps.step_lines.order_of.Goals as goal
 
 pub returns-in-Some : goal.returns-in-Some
 returns-in-Some c =

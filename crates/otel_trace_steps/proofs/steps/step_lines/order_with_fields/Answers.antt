@@ -1,7 +1,7 @@
 -- What is found of a name or of a producer is found of the fields, and so is an offer.
 use Rattle.opentelemetry.proofs.Clauses.{if_ok_map}
 use Rattle.otel_trace_steps.proofs.StepFields.{name_found, name_offer, producer_found}
-use Rattle.otel_trace_steps.proofs.steps.lines.order_with_fields.Goals as goal
+use Rattle.otel_trace_steps.proofs.steps.step_lines.order_with_fields.Goals as goal
 
 pub returns-in-Some : goal.returns-in-Some
 returns-in-Some c =

@@ -5,7 +5,7 @@ use Rattle.std.proofs.lemmas.List.{length-map}
 use Rattle.std.specs.List.{flat_map}
 use Rattle.otel_trace_steps.specs.StepTexts.{names_text}
 use Rattle.otel_trace_steps.proofs.StepTexts.{told_of}
-use Rattle.otel_trace_steps.proofs.steps.reply_text.push_told.Goals as goal
+use Rattle.otel_trace_steps.proofs.steps.step_texts.push_told.Goals as goal
 
 pub returns : goal.returns
 returns c =
