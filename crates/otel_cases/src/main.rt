@@ -1,5 +1,5 @@
 //! The program `otel_cases`: each line of its input is a row that asks one question of the libraries, and a line of
-//! output answers it. A row is a word and its fields, between single spaces; docs/ROWS.md has the words. Empty lines
+//! output answers it. A row is a word and its fields, between single spaces; docs/CASES.md has the words. Empty lines
 //! and lines that begin with `#` are printed as they came. A row that says none of what it may say is a bad row.
 #![tactic(auto)]
 
