@@ -17,4 +17,5 @@ pub mod StrandedSpans
 pub mod Drains
 pub mod WorkLeft
 pub mod DrainAnswers
+pub mod RunsTo
 pub mod WorkedOff

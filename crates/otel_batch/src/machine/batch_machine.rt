@@ -1,6 +1,6 @@
 //! The batch queue itself: what it is made of, how it is made and read, and its steps.
 
-ghost use Rattle.std.specs.Prelude.{◌≡◌, ◌++◌, ℕ, true, [], IsOk, IfOk, IfErr, OnOk, length, slice_get};
+ghost use Rattle.std.specs.Prelude.{◌≡◌, ◌++◌, List, [], IsOk, IfOk, IfErr, OnOk, length, slice_get};
 
 use crate::machine::slots::idle_slots;
 use crate::machine::span_queue::SpanQueue;
@@ -10,7 +10,7 @@ use crate::trace::batch_config::BatchConfig;
 use circular_buffer::HeapCircularBuffer;
 use otel_export::error::OTelSdkResult;
 use otel_export::trace::{SpanData, SpanExporter};
-use std::alloc::{AllocError, Global};
+use std::alloc::{AllocError, AllocFailed, Global};
 use std::marker::Model;
 
 /// A batch queue with its producers, its worker and its exporter. All memory is taken when it is made, but that of a
@@ -187,17 +187,10 @@ impl<E> BatchMachine<E> {
 impl<E: SpanExporter> BatchMachine<E> {
     ghost use Rattle.otel_batch.specs.MachineState.{counts, first_machine};
     ghost use Rattle.otel_batch.specs.SoundMachine.{IsSound};
-    ghost use Rattle.otel_batch.specs.MachineRun.{Run, accepted, added, batch_sizes, counted_up, full_sends, holds_at};
-    ghost use Rattle.otel_batch.specs.Conservation.{Conserves, IsFirst, LosesNoSpan};
-    ghost use Rattle.otel_batch.specs.ShutdownSilence.{SilentAfterShutdown, StaysSilent};
-    ghost use Rattle.otel_batch.specs.StrandedSpans.{AllAreCounted, CountsStranded};
+    ghost use Rattle.otel_batch.specs.RunsTo.{RunsTo};
     ghost use Rattle.otel_batch.specs.KeptRequests.{KeepsRequests};
-    ghost use Rattle.otel_batch.specs.KnownRequests.{KnowsRequests};
     ghost use Rattle.otel_batch.specs.GoingOn.{GoesOn};
-    ghost use Rattle.otel_batch.specs.Drains.{BoundsDrains, CompletesDrains, FitBatches, largest_batch};
-    ghost use Rattle.otel_batch.specs.DrainAnswers.{AnswersDrains};
-    ghost use Rattle.otel_batch.specs.Slots.{slot_waits};
-    ghost use Rattle.otel_batch.specs.Workers.{is_gone};
+    ghost use Rattle.otel_batch.specs.declared.machine.step.Outcome.{Outcome};
     ghost use Rattle.otel_batch.specs.PermittedStep.{Permitted};
     ghost use Rattle.otel_batch.specs.MovedSpans.{Moved};
 
@@ -259,70 +252,26 @@ impl<E: SpanExporter> BatchMachine<E> {
         &mut self,
         steps: Vec<Step>,
         outcomes: &mut Vec<Outcome>,
-    ) -> Result<(), (Vec<Step>, AllocError)>
-        ensures appended { OnOk result (outcomes.new.items
-            ≡ outcomes.old.items ++ added outcomes.old.items outcomes.new.items) }
-        // Each step has its outcome, and is permitted.
-        ensures ran { OnOk result
-            (Run E.SpanExporter self.old steps.items (added outcomes.old.items outcomes.new.items) self.new) }
-        // The spans that a new machine accepted are, in order and each once, those handed to the exporter, those in the
-        // worker's hand, and those that wait.
-        ensures loses_no_span { IsFirst self.old → OnOk result
-            (LosesNoSpan E.SpanExporter self.old steps.items (added outcomes.old.items outcomes.new.items) self.new) }
-        // So it is from any machine on, behind what was in hand and waited before.
-        ensures conserved { OnOk result (Conserves E.SpanExporter self.old
-            (accepted (holds_at self.old.control.slots) steps.items (added outcomes.old.items outcomes.new.items))
-            (batch_sizes (added outcomes.old.items outcomes.new.items)) self.new) }
-        // Each span that met a full queue is counted.
-        ensures dropped { OnOk result (self.new.control.dropped ≡ counted_up self.old.control.dropped
-            (full_sends steps.items (added outcomes.old.items outcomes.new.items))) }
-        // A finished drain that found memory handed over all that waited at its load.
-        ensures drains { OnOk result (CompletesDrains E.SpanExporter self.old steps.items
-            (added outcomes.old.items outcomes.new.items) self.new) }
-        // Its answer is the first error that its outcomes tell. A shutdown refused for memory leaves the machine open.
-        ensures answers { OnOk result (AnswersDrains E.SpanExporter self.old steps.items
-            (added outcomes.old.items outcomes.new.items) self.new) }
-        // It takes a bounded number of the worker's steps.
-        ensures bounded { OnOk result (BoundsDrains self.old.control steps.items
-            (added outcomes.old.items outcomes.new.items)) }
-        // No batch is empty or too large.
-        ensures batches { OnOk result (FitBatches (largest_batch self.old.control)
-            (batch_sizes (added outcomes.old.items outcomes.new.items))) }
-        // Each request is in the control queue, with the worker or answered, in one of the three and once, up to the
-        // step that collects its answer.
-        ensures requests { OnOk result (KnowsRequests E.SpanExporter self.old steps.items
-            (added outcomes.old.items outcomes.new.items) self.new) }
-        // Once the worker is gone nobody waits for an answer.
-        ensures none_waits { OnOk result (is_gone self.new.control.worker ≡ true → (p : ℕ) →
-            slot_waits (slice_get self.new.control.slots p) ≡ 0) }
-        // Nothing follows a shutdown.
-        ensures silent { OnOk result (SilentAfterShutdown E.SpanExporter self.old steps.items
-            (added outcomes.old.items outcomes.new.items) self.new) }
-        // So it is where the machine was closed before.
-        ensures stays_silent { self.old.control.closed ≡ true → OnOk result
-            (StaysSilent self.old (added outcomes.old.items outcomes.new.items) self.new) }
-        // A shutdown says how many spans it leaves waiting: what was accepted is what was handed over, and those.
-        ensures stranded { OnOk result (CountsStranded self.old steps.items
-            (added outcomes.old.items outcomes.new.items) self.new) }
-        ensures counted { IsFirst self.old → OnOk result
-            (AllAreCounted steps.items (added outcomes.old.items outcomes.new.items)) }
-        ensures sound { OnOk result (IsSound (counts self.new)) }
-        ensures err { IfErr result (λ e. (e.0 ≡ steps)
+    ) -> Result<(), AllocFailed<Vec<Step>>>
+        // The outcomes of these steps go behind those that were there; all that holds of them is a field of `RunsTo`.
+        ensures ok { OnOk result ((os : List Outcome)
+            × (outcomes.new.items ≡ outcomes.old.items ++ os)
+            × RunsTo E.SpanExporter self.old steps.items os self.new) }
+        ensures err { IfErr result (λ e. (e.value ≡ steps)
             × (self.new ≡ self.old)
             × (outcomes.new.items ≡ outcomes.old.items)) }
         // No steps need no memory.
         ensures free { steps.items ≡ [] → IsOk result }
     {
         self.is_sound();
-        if let Err(error) = outcomes.reserve(steps.len()) {
-            return Err((steps, error));
+        if let Err(_) = outcomes.reserve(steps.len()) {
+            return Err(AllocFailed { value: steps });
         }
         let mut rest = steps.into_iter();
         while let Some(step) = rest.next() {
             let outcome = self.step(step);
             outcomes.push_reserved(outcome);
         }
-        self.is_sound();
         Ok(())
     }
 

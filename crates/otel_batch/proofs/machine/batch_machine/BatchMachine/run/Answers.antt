@@ -1,14 +1,8 @@
 use Rattle.std.proofs.Common.{arith, ◌≡◌, refl, ℕ, [], ◌∷◌, ◌++◌, length, drop, append_assoc, append-nil}
 use Rattle.std.proofs.lemmas.Grind.{common_steps}
 use Rattle.std.specs.Vec.Iter.{into_iter_items}
-use Rattle.otel_batch.specs.MachineRun.{added}
-use Rattle.otel_batch.proofs.Conserving.{run-conserves, run-loses_none, run-drops}
-use Rattle.otel_batch.proofs.Silence.{run-silent, run-stays_silent}
-use Rattle.otel_batch.proofs.Knowing.{run-knows, gone-waits}
-use Rattle.otel_batch.proofs.Draining.{run-completes}
-use Rattle.otel_batch.proofs.Bounding.{run-bounds, run-fits}
-use Rattle.otel_batch.proofs.Answering.{run-answers}
-use Rattle.otel_batch.proofs.Stranding.{run-counts, run-strands}
+use Rattle.otel_batch.specs.MachineRun.{Run, added}
+use Rattle.otel_batch.proofs.RunFacts.{run_to}
 use Rattle.otel_batch.proofs.machine.batch_machine.BatchMachine.run.Goals as goal
 
 pub loop-step-preserved : goal.loop-step-preserved
@@ -27,72 +21,13 @@ loop-step-preserved g c =
       room = grind (arith, common_steps);
     }
 
-pub returns-clause-ran : goal.returns-clause-ran
-returns-clause-ran g c =
+pub returns-clause-ok : goal.returns-clause-ok
+returns-clause-ok g c =
     let none : into_iter_items c.loop-step.rest ≡ [] = grind (arith, common_steps) in
-    let outs = added c.args.outcomes.now.items c.loop-step.outcomes.items in
-    rw (← append-nil outs) (c.loop-step.invariant.goes_on [] c.loop-step.self (rw none refl))
-
-pub returns-clause-conserved : goal.returns-clause-conserved
-returns-clause-conserved g c =
-    run-conserves g.E.SpanExporter c.args.self.now c.args.steps.items _ c.loop-step.self
-    (returns-clause-ran g c)
-
-pub returns-clause-loses_no_span : goal.returns-clause-loses_no_span
-returns-clause-loses_no_span g c = λ first.
-    run-loses_none g.E.SpanExporter c.args.self.now c.args.steps.items _ c.loop-step.self first
-    (returns-clause-ran g c)
-
-pub returns-clause-dropped : goal.returns-clause-dropped
-returns-clause-dropped g c =
-    run-drops g.E.SpanExporter c.args.self.now c.args.steps.items _ c.loop-step.self
-    c.is_sound.ensures.fits.dropped_fits
-    (returns-clause-ran g c)
-
-pub returns-clause-silent : goal.returns-clause-silent
-returns-clause-silent g c =
-    run-silent g.E.SpanExporter c.args.self.now c.args.steps.items _ c.loop-step.self
-    (returns-clause-ran g c)
-
-pub returns-clause-drains : goal.returns-clause-drains
-returns-clause-drains g c =
-    run-completes g.E.SpanExporter c.args.self.now c.args.steps.items _ c.loop-step.self c.is_sound.ensures
-    (returns-clause-ran g c)
-
-pub returns-clause-answers : goal.returns-clause-answers
-returns-clause-answers g c =
-    run-answers g.E.SpanExporter c.args.self.now c.args.steps.items _ c.loop-step.self c.is_sound.ensures
-    (returns-clause-ran g c)
-
-pub returns-clause-bounded : goal.returns-clause-bounded
-returns-clause-bounded g c =
-    run-bounds g.E.SpanExporter c.args.self.now c.args.steps.items _ c.loop-step.self c.is_sound.ensures
-    (returns-clause-ran g c)
-
-pub returns-clause-batches : goal.returns-clause-batches
-returns-clause-batches g c =
-    run-fits g.E.SpanExporter c.args.self.now c.args.steps.items _ c.loop-step.self c.is_sound.ensures
-    (returns-clause-ran g c)
-
-pub returns-clause-requests : goal.returns-clause-requests
-returns-clause-requests g c =
-    run-knows g.E.SpanExporter c.args.self.now c.args.steps.items _ c.loop-step.self c.is_sound.ensures
-    (returns-clause-ran g c)
-
-pub returns-clause-stays_silent : goal.returns-clause-stays_silent
-returns-clause-stays_silent g c = λ closed.
-    run-stays_silent g.E.SpanExporter c.args.self.now c.args.steps.items _ c.loop-step.self c.is_sound.ensures
-    (returns-clause-ran g c) closed
-
-pub returns-clause-stranded : goal.returns-clause-stranded
-returns-clause-stranded g c =
-    run-strands g.E.SpanExporter c.args.self.now c.args.steps.items _ c.loop-step.self
-    (returns-clause-ran g c)
-
-pub returns-clause-counted : goal.returns-clause-counted
-returns-clause-counted g c = λ first.
-    run-counts g.E.SpanExporter c.args.self.now c.args.steps.items _ c.loop-step.self first
-    (returns-clause-ran g c)
-
-pub returns-clause-none_waits : goal.returns-clause-none_waits
-returns-clause-none_waits g c = λ gone p. gone-waits _ c.is_sound-2.ensures gone p
+    let os = added c.args.outcomes.now.items c.loop-step.outcomes.items in
+    let ran : Run g.E.SpanExporter c.args.self.now c.args.steps.items os c.loop-step.self =
+    rw (← append-nil os) (c.loop-step.invariant.goes_on [] c.loop-step.self (rw none refl)) in (
+      os,
+      c.loop-step.invariant.kept,
+      run_to g.E.SpanExporter c.args.self.now c.args.steps.items os c.loop-step.self c.is_sound.ensures ran,
+    )
