@@ -5,8 +5,10 @@ use Rattle.std.proofs.lemmas.List.Sums.{sum_by-cons}
 use Rattle.otel_resource.specs.Resource.{PlainResource}
 use Rattle.otel_export.specs.declared.error.OTelSdkError.{OTelSdkError}
 use Rattle.otel_batch.specs.Messages.{is_resource, message_names}
-use Rattle.otel_batch.specs.MachineState.{Machine, Counts, counts, limit_of}
-use Rattle.otel_batch.specs.PermittedStep.{Permitted, TakeRow, ClearRow, LoadRow, PullRow, HandOverRow, SubtractRow, FinishRow, FinishRowFor, CloseRow, finished, put_slot}
+use Rattle.otel_batch.specs.MachineState.{Machine, Counts, counts, limit_of, put_slot}
+use Rattle.otel_batch.specs.WorkerSteps.{TakeRow, ClearRow, LoadRow, PullRow, HandOverRow, SubtractRow}
+use Rattle.otel_batch.specs.DrainEnds.{FinishRow, FinishRowFor, CloseRow, finished}
+use Rattle.otel_batch.specs.PermittedStep.{Permitted}
 use Rattle.otel_batch.specs.GoingOn.{next_step}
 use Rattle.otel_batch.specs.declared.machine.state.Message.{Message}
 use Rattle.otel_batch.specs.declared.machine.state.Message.TheVariants as message

@@ -17,12 +17,15 @@ use Rattle.otel_pipeline.specs.Provider.{IsInternalFailure}
 use Rattle.otel_batch.specs.Slots.{is_answered, is_idle, slot_waits}
 use Rattle.otel_batch.specs.Messages.{message_names, message_of}
 use Rattle.otel_batch.specs.Workers.{is_ready, is_gone, is_draining, is_finishing, is_closing, worker_names}
-use Rattle.otel_batch.specs.MachineState.{Control, Machine, Counts, counts, stranded_in}
+use Rattle.otel_batch.specs.MachineState.{Control, Machine, Counts, counts, stranded_in, is_crowded, slot_at}
 use Rattle.otel_batch.specs.SoundMachine.{IsSound}
 use Rattle.otel_batch.specs.MachineRun.{Stepped}
 use Rattle.otel_batch.specs.MovedSpans.{Keeps, Moved}
 use Rattle.otel_batch.specs.KnownRequests.{step_of}
-use Rattle.otel_batch.specs.PermittedStep.{Permitted, CollectRow, IsErrorOf, RequestRow, ResourceRow, TickRow, is_crowded, slot_at}
+use Rattle.otel_batch.specs.RequestSteps.{CollectRow, RequestRow, ResourceRow}
+use Rattle.otel_batch.specs.DrainResult.{IsErrorOf}
+use Rattle.otel_batch.specs.WorkerSteps.{TickRow}
+use Rattle.otel_batch.specs.PermittedStep.{Permitted}
 use Rattle.otel_batch.specs.declared.machine.state.Message.{Message}
 use Rattle.otel_batch.specs.declared.machine.state.Request.{Request}
 use Rattle.otel_batch.specs.declared.machine.state.Request.TheVariants as request

@@ -8,9 +8,11 @@ use Rattle.otel_export.specs.declared.error.OTelSdkError.TheVariants.{OutOfMemor
 use Rattle.otel_batch.specs.Messages.{message_names}
 use Rattle.otel_batch.specs.Slots.{is_answered, slot_waits}
 use Rattle.otel_batch.specs.Workers.{closing_of, is_closing, is_gone, worker_names}
-use Rattle.otel_batch.specs.MachineState.{Machine, Counts, counts}
+use Rattle.otel_batch.specs.MachineState.{Machine, Counts, counts, put_slot, slot_at}
 use Rattle.otel_batch.specs.SoundMachine.{IsSound}
-use Rattle.otel_batch.specs.PermittedStep.{Permitted, TakeRow, ClearRow, LoadRow, PullRow, HandOverRow, SubtractRow, FinishRow, FinishRowFor, CloseRow, IsDropped, finished, put_slot, slot_at}
+use Rattle.otel_batch.specs.WorkerSteps.{TakeRow, ClearRow, LoadRow, PullRow, HandOverRow, SubtractRow}
+use Rattle.otel_batch.specs.DrainEnds.{FinishRow, FinishRowFor, CloseRow, IsDropped, finished}
+use Rattle.otel_batch.specs.PermittedStep.{Permitted}
 use Rattle.otel_batch.specs.GoingOn.{next_step}
 use Rattle.otel_batch.specs.declared.machine.state.Slot.{Slot}
 use Rattle.otel_batch.specs.declared.machine.state.Slot.TheVariants as slot

@@ -3,10 +3,10 @@ use Rattle.std.proofs.Common.{◌≡◌, ◌⊎◌, ◌∙◌, inl, inr, refl, a
 use Rattle.otel_export.specs.PlainSpanData.{PlainSpanData, is_sampled}
 use Rattle.otel_export.specs.StoredBatches.{one_more}
 use Rattle.otel_batch.specs.Slots.{is_holding, is_idle}
-use Rattle.otel_batch.specs.MachineState.{Machine, counts}
+use Rattle.otel_batch.specs.MachineState.{Machine, counts, slot_at}
 use Rattle.otel_batch.specs.MachineRun.{Stepped}
 use Rattle.otel_batch.specs.MovedSpans.{Moved, Keeps}
-use Rattle.otel_batch.specs.PermittedStep.{OfferRow, SendRow, slot_at}
+use Rattle.otel_batch.specs.ProducerSteps.{OfferRow, SendRow}
 use Rattle.otel_batch.specs.declared.machine.state.Slot.{Slot}
 use Rattle.otel_batch.specs.declared.machine.state.Slot.TheVariants as slot
 use Rattle.otel_batch.specs.declared.machine.step.Outcome.{Outcome}

@@ -7,9 +7,12 @@ use Rattle.otel_export.specs.declared.error.OTelSdkError.{OTelSdkError}
 use Rattle.otel_export.specs.declared.error.OTelSdkError.TheVariants.{OutOfMemory}
 use Rattle.otel_batch.specs.Slots.{is_answered}
 use Rattle.otel_batch.specs.Workers.{is_ready, is_gone, is_draining, is_finishing, is_closing, worker_counts}
-use Rattle.otel_batch.specs.MachineState.{Machine, Counts, counts, limit_of}
+use Rattle.otel_batch.specs.MachineState.{Machine, Counts, counts, limit_of, put_slot, slot_at}
 use Rattle.otel_batch.specs.SoundMachine.{IsSound}
-use Rattle.otel_batch.specs.PermittedStep.{Permitted, TakeRow, ClearRow, LoadRow, PullRow, HandOverRow, SubtractRow, FinishRow, FinishRowFor, CloseRow, finished, first_failure, put_slot, slot_at}
+use Rattle.otel_batch.specs.DrainResult.{first_failure}
+use Rattle.otel_batch.specs.WorkerSteps.{TakeRow, ClearRow, LoadRow, PullRow, HandOverRow, SubtractRow}
+use Rattle.otel_batch.specs.DrainEnds.{FinishRow, FinishRowFor, CloseRow, finished}
+use Rattle.otel_batch.specs.PermittedStep.{Permitted}
 use Rattle.otel_batch.specs.GoingOn.{next_step}
 use Rattle.otel_batch.specs.declared.machine.state.Slot.TheVariants as slot
 use Rattle.otel_batch.specs.declared.machine.state.Worker.{Worker}

@@ -5,8 +5,9 @@ use Rattle.std.proofs.Math.ListN.{length-set}
 use Rattle.circular_buffer.proofs.Places.{slice_get-set_same}
 use Rattle.otel_export.specs.PlainSpanData.{PlainSpanData}
 use Rattle.otel_batch.specs.Slots.{is_holding, is_refused, is_asking, is_posting, is_resetting, number_held}
-use Rattle.otel_batch.specs.MachineState.{Counts}
-use Rattle.otel_batch.specs.PermittedStep.{Permitted, SendRow, UndoRow, AskRow, PostRow, ResetRow, slot_at, after_send}
+use Rattle.otel_batch.specs.MachineState.{Counts, slot_at}
+use Rattle.otel_batch.specs.ProducerSteps.{SendRow, UndoRow, AskRow, PostRow, ResetRow, after_send}
+use Rattle.otel_batch.specs.PermittedStep.{Permitted}
 use Rattle.otel_batch.specs.declared.machine.state.Slot.{Slot}
 use Rattle.otel_batch.specs.declared.machine.state.Slot.TheVariants as slot
 use Rattle.otel_batch.specs.declared.machine.step.Outcome.{Outcome}

@@ -8,11 +8,13 @@ use Rattle.otel_export.specs.Telling.{Tells, and_then_told}
 use Rattle.otel_pipeline.specs.ProcessorTelling.{spans_told}
 use Rattle.otel_batch.specs.Slots.{is_answered, slot_waits}
 use Rattle.otel_batch.specs.Workers.{is_ready, is_gone, is_filling, worker_names, why_names}
-use Rattle.otel_batch.specs.MachineState.{Control, Machine, Counts, counts}
+use Rattle.otel_batch.specs.MachineState.{Control, Machine, Counts, counts, slot_at}
 use Rattle.otel_batch.specs.SoundMachine.{IsSound}
 use Rattle.otel_batch.specs.MachineRun.{accepts, batch_sizes, holds_at}
 use Rattle.otel_batch.specs.Conservation.{Conserves}
-use Rattle.otel_batch.specs.PermittedStep.{Permitted, TakeRow, ClearRow, LoadRow, PullRow, HandOverRow, SubtractRow, FinishRow, FinishRowFor, slot_at}
+use Rattle.otel_batch.specs.WorkerSteps.{TakeRow, ClearRow, LoadRow, PullRow, HandOverRow, SubtractRow}
+use Rattle.otel_batch.specs.DrainEnds.{FinishRow, FinishRowFor}
+use Rattle.otel_batch.specs.PermittedStep.{Permitted}
 use Rattle.otel_batch.specs.GoingOn.{next_step}
 use Rattle.otel_batch.specs.declared.machine.state.Request.{Request}
 use Rattle.otel_batch.specs.declared.machine.state.Slot.TheVariants as slot

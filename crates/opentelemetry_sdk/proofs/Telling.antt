@@ -5,9 +5,12 @@ use Rattle.circular_buffer.proofs.Places.{slice_get-set_same, slice_get-set_othe
 use Rattle.otel_export.specs.declared.error.OTelSdkError.{OTelSdkError}
 use Rattle.otel_export.specs.declared.error.OTelSdkError.TheVariants.{OutOfMemory}
 use Rattle.otel_batch.specs.Slots.{is_answered}
-use Rattle.otel_batch.specs.MachineState.{Machine, Counts, counts}
+use Rattle.otel_batch.specs.MachineState.{Machine, Counts, counts, put_slot, slot_at}
 use Rattle.otel_batch.specs.SoundMachine.{IsSound}
-use Rattle.otel_batch.specs.PermittedStep.{Permitted, TakeRow, ClearRow, LoadRow, PullRow, HandOverRow, SubtractRow, FinishRow, FinishRowFor, IsErrorOf, finished, put_slot, slot_at}
+use Rattle.otel_batch.specs.DrainResult.{IsErrorOf}
+use Rattle.otel_batch.specs.WorkerSteps.{TakeRow, ClearRow, LoadRow, PullRow, HandOverRow, SubtractRow}
+use Rattle.otel_batch.specs.DrainEnds.{FinishRow, FinishRowFor, finished}
+use Rattle.otel_batch.specs.PermittedStep.{Permitted}
 use Rattle.otel_batch.specs.GoingOn.{next_step}
 use Rattle.otel_batch.specs.declared.machine.state.Slot.TheVariants as slot
 use Rattle.otel_batch.specs.declared.machine.state.Worker.{Worker}

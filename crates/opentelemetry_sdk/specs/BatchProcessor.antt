@@ -13,8 +13,8 @@ use Rattle.otel_pipeline.specs.ProcessorTelling.{ProcessorTelling, spans_told}
 use Rattle.otel_pipeline.specs.Provider.{IsInternalFailure}
 use Rattle.otel_batch.specs.PlainBatchConfig.{PlainBatchConfig}
 use Rattle.otel_batch.specs.Workers.{is_ready, is_gone}
-use Rattle.otel_batch.specs.MachineState.{Machine, counts, first_machine, stranded_in}
-use Rattle.otel_batch.specs.PermittedStep.{IsErrorOf, is_crowded}
+use Rattle.otel_batch.specs.MachineState.{Machine, counts, first_machine, stranded_in, is_crowded}
+use Rattle.otel_batch.specs.DrainResult.{IsErrorOf}
 use Rattle.otel_batch.specs.KnownRequests.{step_of}
 use Rattle.otel_batch.specs.MachineRun.{Run}
 use Rattle.otel_batch.specs.declared.machine.state.Request.{Request}

@@ -6,10 +6,9 @@ use Rattle.otel_export.specs.declared.error.OTelSdkError.{OTelSdkError}
 use Rattle.otel_export.specs.PlainSpanData.{PlainSpanData}
 use Rattle.otel_export.specs.declared.trace.export.SpanExporter.{Ghosts}
 use Rattle.otel_export.specs.KeptBatches.{ExporterAppends, Grows, appends_more, nothing_more}
-use Rattle.otel_batch.specs.MachineState.{Control, Machine, counts}
+use Rattle.otel_batch.specs.MachineState.{Control, Machine, counts, is_crowded}
 use Rattle.otel_batch.specs.MachineRun.{Run}
 use Rattle.otel_batch.specs.MovedSpans.{Moved}
-use Rattle.otel_batch.specs.PermittedStep.{is_crowded}
 use Rattle.otel_batch.specs.KnownRequests.{step_of}
 use Rattle.otel_batch.specs.declared.machine.state.Request.{Request}
 use Rattle.otel_batch.specs.declared.machine.step.Outcome.{Outcome}

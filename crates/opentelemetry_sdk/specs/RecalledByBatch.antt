@@ -5,8 +5,7 @@ use Rattle.otel_export.specs.declared.error.OTelSdkError.{OTelSdkError}
 use Rattle.otel_export.specs.PlainSpanData.{PlainSpanData}
 use Rattle.otel_export.specs.RecalledBatches.{ExporterRecalls}
 use Rattle.otel_export.specs.declared.trace.export.SpanExporter.{Ghosts}
-use Rattle.otel_batch.specs.MachineState.{Machine, counts}
-use Rattle.otel_batch.specs.PermittedStep.{is_crowded}
+use Rattle.otel_batch.specs.MachineState.{Machine, counts, is_crowded}
 use Rattle.otel_batch.specs.KnownRequests.{step_of}
 use Rattle.otel_batch.specs.declared.machine.state.Request.{Request}
 use Rattle.otel_batch.specs.declared.machine.step.Outcome.TheVariants as outcome

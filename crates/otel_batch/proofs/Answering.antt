@@ -5,9 +5,12 @@ use Rattle.circular_buffer.proofs.Places.{slice_get-set_same}
 use Rattle.otel_export.specs.declared.error.OTelSdkError.{OTelSdkError}
 use Rattle.otel_export.specs.declared.error.OTelSdkError.TheVariants.{AlreadyShutdown, Timeout, InternalFailure, OutOfMemory}
 use Rattle.otel_batch.specs.Workers.{worker_names}
-use Rattle.otel_batch.specs.MachineState.{Machine, Counts, counts, limit_of}
+use Rattle.otel_batch.specs.MachineState.{Machine, Counts, counts, limit_of, put_slot, slot_at}
 use Rattle.otel_batch.specs.SoundMachine.{IsSound}
-use Rattle.otel_batch.specs.PermittedStep.{Permitted, PullRow, HandOverRow, SubtractRow, FinishRow, FinishRowFor, IsErrorOf, KeepsFailure, finished, first_failure, put_slot, slot_at}
+use Rattle.otel_batch.specs.DrainResult.{IsErrorOf, KeepsFailure, first_failure}
+use Rattle.otel_batch.specs.WorkerSteps.{PullRow, HandOverRow, SubtractRow}
+use Rattle.otel_batch.specs.DrainEnds.{FinishRow, FinishRowFor, finished}
+use Rattle.otel_batch.specs.PermittedStep.{Permitted}
 use Rattle.otel_batch.specs.MachineRun.{Run}
 use Rattle.otel_batch.specs.Drains.{NoneFinishes}
 use Rattle.otel_batch.specs.DrainAnswers.{error_after, error_behind, first_error, finds_no_memory, GivesAnswer, AnswersDrains}

@@ -2,9 +2,11 @@
 use Rattle.std.proofs.Common.{◌≡◌, ◌⊎◌, inl, inr, ◌∙◌, ap, sym, refl, suc, ℕ, ◌+◌, ◌-◌, ◌*◌, ◌<◌, ◌≤◌, ◌==◌, Bool, true, false, List, [], ◌∷◌, ◌++◌, length, Option, Err, take, drop, min, nat_lt, if◌then◌else◌, arith, sum}
 use Rattle.std.proofs.lemmas.Bool.Decides.{eqb_tells}
 use Rattle.otel_batch.specs.Workers.{is_draining, worker_counts}
-use Rattle.otel_batch.specs.MachineState.{Machine, Counts, Control, counts, batch_limit, limit_of}
+use Rattle.otel_batch.specs.MachineState.{Machine, Counts, Control, counts, batch_limit, limit_of, put_slot}
 use Rattle.otel_batch.specs.SoundMachine.{IsSound}
-use Rattle.otel_batch.specs.PermittedStep.{Permitted, PullRow, HandOverRow, SubtractRow, FinishRow, FinishRowFor, finished, put_slot}
+use Rattle.otel_batch.specs.WorkerSteps.{PullRow, HandOverRow, SubtractRow}
+use Rattle.otel_batch.specs.DrainEnds.{FinishRow, FinishRowFor, finished}
+use Rattle.otel_batch.specs.PermittedStep.{Permitted}
 use Rattle.otel_export.specs.declared.error.OTelSdkError.{OTelSdkError}
 use Rattle.otel_export.specs.declared.error.OTelSdkError.TheVariants.{OutOfMemory}
 use Rattle.otel_batch.specs.declared.machine.state.Slot.TheVariants as slot

@@ -15,7 +15,7 @@ use Rattle.otel_batch.specs.Workers.{worker_names}
 use Rattle.otel_batch.specs.Messages.{message_names}
 use Rattle.otel_batch.specs.MachineState.{Counts}
 use Rattle.otel_batch.specs.SoundMachine.{LosesNoRequest, IsSound}
-use Rattle.otel_batch.specs.PermittedStep.{IsDropped, SaysDropped}
+use Rattle.otel_batch.specs.DrainEnds.{IsDropped, SaysDropped}
 use Rattle.otel_batch.proofs.SlotSums.{counts_slot, asks_slot}
 use Rattle.otel_batch.proofs.Soundness.{awaits}
 

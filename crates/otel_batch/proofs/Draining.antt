@@ -9,7 +9,9 @@ use Rattle.otel_batch.specs.Slots.{slot_counts}
 use Rattle.otel_batch.specs.Workers.{is_closing, is_draining, worker_counts}
 use Rattle.otel_batch.specs.MachineState.{Machine, Counts, counts, limit_of}
 use Rattle.otel_batch.specs.SoundMachine.{IsSound}
-use Rattle.otel_batch.specs.PermittedStep.{Permitted, TakeRow, TickRow, ClearRow, LoadRow, PullRow, HandOverRow, SubtractRow, FinishRow, CloseRow}
+use Rattle.otel_batch.specs.WorkerSteps.{TakeRow, TickRow, ClearRow, LoadRow, PullRow, HandOverRow, SubtractRow}
+use Rattle.otel_batch.specs.DrainEnds.{FinishRow, CloseRow}
+use Rattle.otel_batch.specs.PermittedStep.{Permitted}
 use Rattle.otel_batch.specs.MachineRun.{Run, accepts, accepted, holds_after, holds_at, batch_sizes}
 use Rattle.otel_batch.specs.Conservation.{Conserves}
 use Rattle.otel_batch.specs.GoingOn.{is_enabled}

@@ -10,7 +10,7 @@ use Rattle.otel_batch.specs.declared.machine.state.Message.{Message}
 use Rattle.otel_batch.specs.declared.machine.state.Request.{Request}
 use Rattle.otel_batch.specs.Slots.{slot_counts, slot_asks, slot_waits}
 use Rattle.otel_batch.specs.Messages.{message_names}
-use Rattle.otel_batch.specs.PermittedStep.{IsDropped, SaysDropped}
+use Rattle.otel_batch.specs.DrainEnds.{IsDropped, SaysDropped}
 use Rattle.otel_batch.proofs.SlotSums.{counts_slot, asks_slot}
 use Rattle.otel_batch.proofs.Soundness.{slot_waits-one}
 

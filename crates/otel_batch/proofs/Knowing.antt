@@ -5,9 +5,10 @@ use Rattle.circular_buffer.proofs.Places.{slice_get-set_same}
 use Rattle.otel_export.specs.declared.error.OTelSdkError.{OTelSdkError}
 use Rattle.otel_batch.specs.Slots.{slot_waits}
 use Rattle.otel_batch.specs.Workers.{is_gone}
-use Rattle.otel_batch.specs.MachineState.{Machine, Counts, counts}
+use Rattle.otel_batch.specs.MachineState.{Machine, Counts, counts, slot_at}
 use Rattle.otel_batch.specs.SoundMachine.{IsSound}
-use Rattle.otel_batch.specs.PermittedStep.{Permitted, RequestRow, slot_at}
+use Rattle.otel_batch.specs.RequestSteps.{RequestRow}
+use Rattle.otel_batch.specs.PermittedStep.{Permitted}
 use Rattle.otel_batch.specs.MachineRun.{Run}
 use Rattle.otel_batch.specs.KnownRequests.{step_of, requests_of, IsPending, IsAnswered, StaysAnswered, StaysKnown, IsKnownBehind, KnowsRequests}
 use Rattle.otel_batch.specs.declared.machine.state.Request.{Request}

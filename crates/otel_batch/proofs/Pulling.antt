@@ -7,9 +7,9 @@ use Rattle.otel_export.specs.declared.error.OTelSdkError.{OTelSdkError}
 use Rattle.otel_export.specs.PlainSpanData.{PlainSpanData}
 use Rattle.otel_export.specs.declared.trace.export.SpanExporter.{Ghosts}
 use Rattle.otel_batch.specs.Slots.{is_answered}
-use Rattle.otel_batch.specs.MachineState.{Control, Counts, Machine, counts, limit_of}
+use Rattle.otel_batch.specs.MachineState.{Control, Counts, Machine, counts, limit_of, put_worker}
 use Rattle.otel_batch.specs.SoundMachine.{IsSound}
-use Rattle.otel_batch.specs.PermittedStep.{PullRow, put_worker}
+use Rattle.otel_batch.specs.WorkerSteps.{PullRow}
 use Rattle.otel_batch.specs.GoingOn.{next_step}
 use Rattle.otel_batch.specs.MachineRun.{Stepped}
 use Rattle.otel_batch.specs.WorkedOff.{PullsBatch, is_idle_worker, last_error, next_of_worker}

@@ -8,7 +8,8 @@ use Rattle.otel_export.specs.declared.trace.export.SpanExporter.{Ghosts}
 use Rattle.otel_batch.specs.Slots.{held as held_by, is_holding, number_held, slot_counts, slot_asks, slot_waits}
 use Rattle.otel_batch.specs.MachineState.{Control, Machine, counts}
 use Rattle.otel_batch.specs.SoundMachine.{IsSound}
-use Rattle.otel_batch.specs.PermittedStep.{Permitted, after_send}
+use Rattle.otel_batch.specs.ProducerSteps.{after_send}
+use Rattle.otel_batch.specs.PermittedStep.{Permitted}
 use Rattle.otel_batch.specs.MovedSpans.{Moved}
 use Rattle.otel_batch.specs.MachineRun.{Stepped}
 use Rattle.otel_batch.specs.WorkedOff.{GoesBy, OffersSpan, next_of_producer, producers_next}

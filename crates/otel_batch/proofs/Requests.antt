@@ -10,8 +10,12 @@ use Rattle.otel_export.specs.PlainSpanData.{PlainSpanData}
 use Rattle.otel_batch.specs.Slots.{is_holding, is_answered, slot_waits}
 use Rattle.otel_batch.specs.Messages.{message_names}
 use Rattle.otel_batch.specs.Workers.{closing_of, is_closing, is_gone, worker_names, is_ready, is_clearing, is_loading, is_pulling, is_handing, is_subtracting, is_finishing}
-use Rattle.otel_batch.specs.MachineState.{Counts}
-use Rattle.otel_batch.specs.PermittedStep.{Permitted, OfferRow, SendRow, UndoRow, AskRow, PostRow, ResetRow, RequestRow, CollectRow, ResourceRow, TakeRow, TickRow, ClearRow, LoadRow, PullRow, HandOverRow, SubtractRow, FinishRow, FinishRowFor, CloseRow, IsDropped, SaysDropped, finished, put_slot, slot_at}
+use Rattle.otel_batch.specs.MachineState.{Counts, put_slot, slot_at}
+use Rattle.otel_batch.specs.ProducerSteps.{OfferRow, SendRow, UndoRow, AskRow, PostRow, ResetRow}
+use Rattle.otel_batch.specs.RequestSteps.{RequestRow, CollectRow, ResourceRow}
+use Rattle.otel_batch.specs.WorkerSteps.{TakeRow, TickRow, ClearRow, LoadRow, PullRow, HandOverRow, SubtractRow}
+use Rattle.otel_batch.specs.DrainEnds.{FinishRow, FinishRowFor, CloseRow, IsDropped, SaysDropped, finished}
+use Rattle.otel_batch.specs.PermittedStep.{Permitted}
 use Rattle.otel_batch.specs.SoundMachine.{IsSound}
 use Rattle.otel_batch.specs.KeptRequests.{KeepsRequests}
 use Rattle.otel_batch.specs.KnownRequests.{requests_of}

@@ -3,7 +3,9 @@ use Rattle.std.proofs.Common.{◌≡◌, ◌∙◌, ap, sym, refl, zero, suc, �
 use Rattle.otel_batch.specs.Workers.{is_closing, is_gone}
 use Rattle.otel_batch.specs.MachineState.{Machine, Counts, counts}
 use Rattle.otel_batch.specs.SoundMachine.{IsSound}
-use Rattle.otel_batch.specs.PermittedStep.{Permitted, TakeRow, TickRow, ClearRow, LoadRow, PullRow, HandOverRow, SubtractRow, FinishRow, CloseRow}
+use Rattle.otel_batch.specs.WorkerSteps.{TakeRow, TickRow, ClearRow, LoadRow, PullRow, HandOverRow, SubtractRow}
+use Rattle.otel_batch.specs.DrainEnds.{FinishRow, CloseRow}
+use Rattle.otel_batch.specs.PermittedStep.{Permitted}
 use Rattle.otel_batch.specs.MovedSpans.{Keeps, Moved}
 use Rattle.otel_batch.specs.MachineRun.{Run, Stepped, batch_sizes}
 use Rattle.otel_batch.specs.ShutdownSilence.{SilentAfterShutdown, StaysSilent}

@@ -5,9 +5,13 @@ use Rattle.otel_export.specs.declared.error.OTelSdkError.{OTelSdkError}
 use Rattle.otel_export.specs.declared.error.OTelSdkError.TheVariants.{OutOfMemory}
 use Rattle.otel_export.specs.PlainSpanData.{PlainSpanData}
 use Rattle.otel_export.specs.StoredBatches.{one_more}
-use Rattle.otel_batch.specs.MachineState.{Counts}
+use Rattle.otel_batch.specs.MachineState.{Counts, put_slot}
 use Rattle.otel_batch.specs.Drains.{is_workers}
-use Rattle.otel_batch.specs.PermittedStep.{Permitted, OfferRow, SendRow, UndoRow, AskRow, PostRow, ResetRow, RequestRow, CollectRow, ResourceRow, TakeRow, TickRow, ClearRow, LoadRow, PullRow, HandOverRow, SubtractRow, FinishRow, FinishRowFor, CloseRow, finished, put_slot}
+use Rattle.otel_batch.specs.ProducerSteps.{OfferRow, SendRow, UndoRow, AskRow, PostRow, ResetRow}
+use Rattle.otel_batch.specs.RequestSteps.{RequestRow, CollectRow, ResourceRow}
+use Rattle.otel_batch.specs.WorkerSteps.{TakeRow, TickRow, ClearRow, LoadRow, PullRow, HandOverRow, SubtractRow}
+use Rattle.otel_batch.specs.DrainEnds.{FinishRow, FinishRowFor, CloseRow, finished}
+use Rattle.otel_batch.specs.PermittedStep.{Permitted}
 use Rattle.otel_batch.specs.declared.machine.state.Slot.TheVariants as slot
 use Rattle.otel_batch.specs.declared.machine.state.Request.{Request}
 use Rattle.otel_batch.specs.declared.machine.state.Request.TheVariants as request

@@ -6,9 +6,13 @@ use Rattle.otel_export.specs.declared.error.OTelSdkError.TheVariants.{OutOfMemor
 use Rattle.otel_resource.specs.Resource.{PlainResource}
 use Rattle.otel_export.specs.PlainSpanData.{PlainSpanData}
 use Rattle.otel_batch.specs.Messages.{is_resource, message_of}
-use Rattle.otel_batch.specs.MachineState.{Machine, Counts, counts, limit_of}
+use Rattle.otel_batch.specs.MachineState.{Machine, Counts, counts, limit_of, put_slot}
 use Rattle.otel_batch.specs.MachineRun.{Run}
-use Rattle.otel_batch.specs.PermittedStep.{Permitted, OfferRow, SendRow, UndoRow, AskRow, PostRow, ResetRow, RequestRow, CollectRow, ResourceRow, TakeRow, TickRow, ClearRow, LoadRow, PullRow, HandOverRow, SubtractRow, FinishRow, FinishRowFor, CloseRow, finished, put_slot}
+use Rattle.otel_batch.specs.ProducerSteps.{OfferRow, SendRow, UndoRow, AskRow, PostRow, ResetRow}
+use Rattle.otel_batch.specs.RequestSteps.{RequestRow, CollectRow, ResourceRow}
+use Rattle.otel_batch.specs.WorkerSteps.{TakeRow, TickRow, ClearRow, LoadRow, PullRow, HandOverRow, SubtractRow}
+use Rattle.otel_batch.specs.DrainEnds.{FinishRow, FinishRowFor, CloseRow, finished}
+use Rattle.otel_batch.specs.PermittedStep.{Permitted}
 use Rattle.otel_batch.specs.WorkLeft.{worker_work, hand_work, work_left, is_work, work_steps, adds_work, work_added}
 use Rattle.otel_batch.specs.Workers.{is_closing}
 use Rattle.otel_batch.specs.Drains.{is_workers}

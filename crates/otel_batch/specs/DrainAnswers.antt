@@ -4,8 +4,8 @@ use Rattle.std.specs.Prelude.{Err, slice_get}
 use Rattle.std.specs.Result.{result_err}
 use Rattle.otel_export.specs.declared.error.OTelSdkError.{OTelSdkError}
 use Rattle.otel_export.specs.declared.error.OTelSdkError.TheVariants.{OutOfMemory}
-use Rattle.otel_batch.specs.MachineState.{Machine, Counts, counts}
-use Rattle.otel_batch.specs.PermittedStep.{IsErrorOf, slot_at}
+use Rattle.otel_batch.specs.MachineState.{Machine, Counts, counts, slot_at}
+use Rattle.otel_batch.specs.DrainResult.{IsErrorOf}
 use Rattle.otel_batch.specs.MachineRun.{Run}
 use Rattle.otel_batch.specs.Drains.{NoneFinishes}
 use Rattle.otel_batch.specs.declared.machine.state.Slot.TheVariants as slot

@@ -5,8 +5,7 @@ use Rattle.otel_export.specs.declared.error.OTelSdkError.{OTelSdkError}
 use Rattle.otel_batch.specs.Slots.{is_answered}
 use Rattle.otel_batch.specs.Messages.{message_names}
 use Rattle.otel_batch.specs.Workers.{worker_names}
-use Rattle.otel_batch.specs.MachineState.{Counts}
-use Rattle.otel_batch.specs.PermittedStep.{slot_at}
+use Rattle.otel_batch.specs.MachineState.{Counts, slot_at}
 use Rattle.otel_batch.specs.declared.machine.state.Request.{Request}
 use Rattle.otel_batch.specs.declared.machine.state.Slot.TheVariants as slot
 use Rattle.otel_batch.specs.declared.machine.step.Outcome.{Outcome}

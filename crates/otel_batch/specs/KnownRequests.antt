@@ -4,8 +4,7 @@ use Rattle.std.specs.Prelude.{◌≡◌, ℕ, suc, ◌+◌, ◌⊎◌, List, [],
 use Rattle.otel_export.specs.declared.error.OTelSdkError.{OTelSdkError}
 use Rattle.otel_batch.specs.Messages.{message_names}
 use Rattle.otel_batch.specs.Workers.{worker_names}
-use Rattle.otel_batch.specs.MachineState.{Machine, Counts, counts}
-use Rattle.otel_batch.specs.PermittedStep.{slot_at}
+use Rattle.otel_batch.specs.MachineState.{Machine, Counts, counts, slot_at}
 use Rattle.otel_batch.specs.KeptRequests.{AnswersTo, Collects}
 use Rattle.otel_batch.specs.MachineRun.{Run, Stepped}
 use Rattle.otel_batch.specs.declared.machine.state.Request.{Request}

@@ -5,6 +5,11 @@ pub mod Messages
 pub mod Workers
 pub mod MachineState
 pub mod SoundMachine
+pub mod ProducerSteps
+pub mod RequestSteps
+pub mod DrainResult
+pub mod WorkerSteps
+pub mod DrainEnds
 pub mod PermittedStep
 pub mod MovedSpans
 pub mod KeptRequests

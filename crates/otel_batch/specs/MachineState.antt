@@ -1,6 +1,6 @@
 -- The state of a batch queue with its producers, its worker and its exporter.
-use Rattle.std.specs.Prelude.{ℕ, ◌-◌, ◌==◌, Bool, false, min, List, [], length, replicate, Option, Some, None}
-use Rattle.std.specs.Prelude.{Result, Ok, if◌then◌else◌}
+use Rattle.std.specs.Prelude.{ℕ, ◌-◌, ◌==◌, Bool, false, min, List, [], length, replicate, Option, Some, None, slice_get}
+use Rattle.std.specs.Prelude.{slice_set, Result, Ok, if◌then◌else◌}
 use Rattle.otel_export.specs.declared.error.OTelSdkError.{OTelSdkError}
 use Rattle.otel_export.specs.PlainSpanData.{PlainSpanData}
 use Rattle.otel_batch.specs.PlainBatchConfig.{PlainBatchConfig}
@@ -55,6 +55,22 @@ pub record Counts : Type 0 where
 
 abbrev pub counts : {E : Type 0} → Machine E → Counts
 counts m = record { control = m.control; hand = length m.hand; waiting = length m.waiting }
+
+-- the slot of a producer, where there is this producer
+abbrev pub slot_at : Counts → ℕ → Option Slot
+slot_at s p = slice_get s.control.slots p
+
+-- the control queue has its 64 messages
+abbrev pub is_crowded : Counts → Bool
+is_crowded s = length s.control.messages == 64
+
+-- the same state, but for the slot of p
+abbrev pub put_slot : Counts → ℕ → Slot → Counts
+put_slot s p x = record s { control = record s.control { slots = slice_set s.control.slots p x } }
+
+-- the same state, but for the worker
+abbrev pub put_worker : Counts → Worker → Counts
+put_worker s w = record s { control = record s.control { worker = w } }
 
 -- the most spans that a batch may have: the size of a batch, but no more than are left of the target. Where the size is
 -- zero, all that the queue can hold

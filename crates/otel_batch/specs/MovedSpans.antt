@@ -5,7 +5,7 @@ use Rattle.otel_export.specs.Telling.{Tells}
 use Rattle.otel_batch.specs.Slots.{held}
 use Rattle.otel_batch.specs.Messages.{resource_in}
 use Rattle.otel_batch.specs.MachineState.{Machine}
-use Rattle.otel_batch.specs.PermittedStep.{IsErrorOf, first_failure}
+use Rattle.otel_batch.specs.DrainResult.{IsErrorOf, first_failure}
 use Rattle.otel_batch.specs.declared.machine.step.Outcome.{Outcome}
 use Rattle.otel_batch.specs.declared.machine.step.Outcome.TheVariants as outcome
 use Rattle.otel_batch.specs.declared.machine.step.Step.{Step}

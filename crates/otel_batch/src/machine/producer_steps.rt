@@ -16,8 +16,8 @@ use otel_resource::resource::Resource;
 
 impl<E: SpanExporter> BatchMachine<E> {
     ghost use Rattle.otel_batch.specs.MachineState.{counts};
-    ghost use Rattle.otel_batch.specs.PermittedStep.{OfferRow, SendRow, UndoRow, AskRow, PostRow, ResetRow};
-    ghost use Rattle.otel_batch.specs.PermittedStep.{RequestRow, CollectRow, ResourceRow};
+    ghost use Rattle.otel_batch.specs.ProducerSteps.{OfferRow, SendRow, UndoRow, AskRow, PostRow, ResetRow};
+    ghost use Rattle.otel_batch.specs.RequestSteps.{RequestRow, CollectRow, ResourceRow};
     ghost use Rattle.otel_batch.specs.MovedSpans.{Keeps, Moved};
     ghost use Rattle.otel_batch.specs.declared.machine.step.Step.TheVariants as step;
 

@@ -5,7 +5,8 @@ ghost use Rattle.std.specs.Prelude.{Some, slice_get, slice_set, length, replicat
 ghost use Rattle.otel_batch.specs.Slots.{is_idle, is_holding, number_held, is_refused, is_asking, is_posting};
 ghost use Rattle.otel_batch.specs.Slots.{is_resetting, is_answered, held, slot_counts, slot_asks, slot_waits};
 ghost use Rattle.otel_batch.specs.Messages.{message_names};
-ghost use Rattle.otel_batch.specs.PermittedStep.{IsDropped, SaysDropped, IsErrorOf};
+ghost use Rattle.otel_batch.specs.DrainResult.{IsErrorOf};
+ghost use Rattle.otel_batch.specs.DrainEnds.{IsDropped, SaysDropped};
 ghost use Rattle.otel_batch.specs.declared.machine.state.Slot.TheVariants as slot;
 
 use crate::machine::state::{Message, Slot};

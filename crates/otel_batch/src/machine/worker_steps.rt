@@ -3,7 +3,7 @@
 //! exporter itself takes is its own.
 
 ghost use Rattle.std.specs.Prelude.{◌≡◌};
-ghost use Rattle.otel_batch.specs.PermittedStep.{first_failure};
+ghost use Rattle.otel_batch.specs.DrainResult.{first_failure};
 
 use crate::machine::batch_machine::BatchMachine;
 use crate::machine::queue::{batch_limit, has_room};
@@ -16,8 +16,9 @@ use std::mem;
 
 impl<E: SpanExporter> BatchMachine<E> {
     ghost use Rattle.otel_batch.specs.MachineState.{counts};
-    ghost use Rattle.otel_batch.specs.PermittedStep.{TakeRow, TickRow, ClearRow, LoadRow, PullRow};
-    ghost use Rattle.otel_batch.specs.PermittedStep.{HandOverRow, SubtractRow, FinishRow, CloseRow};
+    ghost use Rattle.otel_batch.specs.WorkerSteps.{TakeRow, TickRow, ClearRow, LoadRow, PullRow};
+    ghost use Rattle.otel_batch.specs.WorkerSteps.{HandOverRow, SubtractRow};
+    ghost use Rattle.otel_batch.specs.DrainEnds.{FinishRow, CloseRow};
     ghost use Rattle.otel_batch.specs.MovedSpans.{Keeps, Moved};
     ghost use Rattle.otel_batch.specs.declared.machine.step.Step.TheVariants as step;
 

@@ -1,7 +1,6 @@
 use Rattle.std.proofs.Common.{[], ◌∷◌, refl, arith}
-use Rattle.otel_batch.specs.MachineState.{counts}
+use Rattle.otel_batch.specs.MachineState.{counts, slot_at}
 use Rattle.otel_batch.specs.MachineRun.{Run}
-use Rattle.otel_batch.specs.PermittedStep.{slot_at}
 use Rattle.otel_batch.specs.declared.machine.step.Step.TheVariants as step
 use Rattle.otel_batch.proofs.Soundness.{slot_waits-one}
 use Rattle.opentelemetry_sdk.proofs.Calls.{collects, is_answered_at}
