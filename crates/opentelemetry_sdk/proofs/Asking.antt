@@ -7,8 +7,8 @@ use Rattle.otel_export.specs.declared.error.OTelSdkError.{OTelSdkError}
 use Rattle.otel_batch.specs.Messages.{is_resource, message_names}
 use Rattle.otel_batch.specs.MachineState.{Machine, Counts, counts, limit_of, put_slot}
 use Rattle.otel_batch.specs.WorkerSteps.{TakeRow, ClearRow, LoadRow, PullRow, HandOverRow, SubtractRow}
-use Rattle.otel_batch.specs.DrainEnds.{FinishRow, FinishRowFor, CloseRow, finished}
-use Rattle.otel_batch.specs.PermittedStep.{Permitted}
+use Rattle.otel_batch.specs.DrainEnds.{FinishRow, FinishRowFor, CloseRow, end_of_drain}
+use Rattle.otel_batch.specs.PermittedStep.{IsPermitted}
 use Rattle.otel_batch.specs.GoingOn.{next_step}
 use Rattle.otel_batch.specs.declared.machine.state.Message.{Message}
 use Rattle.otel_batch.specs.declared.machine.state.Message.TheVariants as message
@@ -256,8 +256,8 @@ module _ (kind : Kind) where
   finish_none_for (why.Shutdown p) s e t n none row = shut s.control.refused row.1
     where
       shut : (b : Bool) → t ≡ (if b
-          then put_slot (finished s worker.Ready) p (slot.Answered (Err OutOfMemory))
-          else finished s (worker.Closing p)) → NoneAsked s t
+          then put_slot (end_of_drain s worker.Ready) p (slot.Answered (Err OutOfMemory))
+          else end_of_drain s (worker.Closing p)) → NoneAsked s t
       shut true is = ready_none s t n (ap (λ c. c.control.messages) is)
           (ap (λ c. c.control.worker) is) (ap (λ c. c.control.closed) is)
       shut false is =
@@ -284,7 +284,7 @@ module _ (kind : Kind) where
 
   -- the worker's next step
   pub next_none : (w : Worker) (s : Counts) (o : Outcome) (t : Counts) → s.control.worker ≡ w → requests_in s ≡ 0 →
-      Permitted s (next_step w) o t → NoneAsked s t
+      IsPermitted s (next_step w) o t → NoneAsked s t
   next_none worker.Ready s o t is n row = take_none s o t n row
   next_none worker.Clearing s o t is n row = clear_none s o t n row
   next_none (worker.Loading y) s o t is n row = load_none s o t n row

@@ -19,13 +19,13 @@ use Rattle.otel_batch.specs.Messages.{message_names, message_of}
 use Rattle.otel_batch.specs.Workers.{is_ready, is_gone, is_draining, is_finishing, is_closing, worker_names}
 use Rattle.otel_batch.specs.MachineState.{Control, Machine, Counts, counts, stranded_in, is_crowded, slot_at}
 use Rattle.otel_batch.specs.SoundMachine.{IsSound}
-use Rattle.otel_batch.specs.MachineRun.{Stepped}
-use Rattle.otel_batch.specs.MovedSpans.{Keeps, Moved}
+use Rattle.otel_batch.specs.MachineRun.{IsStep}
+use Rattle.otel_batch.specs.MovedSpans.{Keeps, MovesSpans}
 use Rattle.otel_batch.specs.KnownRequests.{step_of}
 use Rattle.otel_batch.specs.RequestSteps.{CollectRow, RequestRow, ResourceRow}
 use Rattle.otel_batch.specs.DrainResult.{IsErrorOf}
 use Rattle.otel_batch.specs.WorkerSteps.{TickRow}
-use Rattle.otel_batch.specs.PermittedStep.{Permitted}
+use Rattle.otel_batch.specs.PermittedStep.{IsPermitted}
 use Rattle.otel_batch.specs.declared.machine.state.Message.{Message}
 use Rattle.otel_batch.specs.declared.machine.state.Request.{Request}
 use Rattle.otel_batch.specs.declared.machine.state.Request.TheVariants as request
@@ -260,7 +260,7 @@ module _ {E : Type 0} (calls : Ghosts E) where
   pub answered_rests : (asked : Request) (s posted m t : Machine E) (os : List Outcome)
       (answer : Result (Unit {0}) OTelSdkError) → Posted asked s posted → s.hand ≡ [] → IsSound (counts posted) →
       IsSound (counts m) → WorksOff calls next_of_worker posted os m →
-      Stepped calls m (step.Collect 0) (outcome.Collected answer) t → AnsweredRests calls asked s answer t
+      IsStep calls m (step.Collect 0) (outcome.Collected answer) t → AnsweredRests calls asked s answer t
   answered_rests asked s posted m t os answer at empty sound after works collects =
       let alone = goes_alone calls posted works.steps os m sound at.alone works.goes in
       let row = collects.permitted in
@@ -410,14 +410,14 @@ same_machine {E} s t control keeps =
     ∙ ap (λ (e : E). record s { exporter = e }) keeps.exporter
 
 -- a request is one of a row
-pub request_row : (asked : Request) (s : Counts) (o : Outcome) (t : Counts) → Permitted s (step_of asked 0) o t →
+pub request_row : (asked : Request) (s : Counts) (o : Outcome) (t : Counts) → IsPermitted s (step_of asked 0) o t →
     RequestRow s asked 0 o t
 request_row request.Flush s o t row = row
 request_row request.Shutdown s o t row = row
 
 module _ {E : Type 0} (calls : Ghosts E) where
   pub request_keeps : (asked : Request) (s : Machine E) (o : Outcome) (t : Machine E) →
-      Moved calls s (step_of asked 0) o t → Keeps s t
+      MovesSpans calls s (step_of asked 0) o t → Keeps s t
   request_keeps request.Flush s o t moved = moved
   request_keeps request.Shutdown s o t moved = moved
 
@@ -440,7 +440,7 @@ module _ {E : Type 0} (calls : Ghosts E) where
 
   -- a request that is answered
   pub requested_rests : (asked : Request) (s m : Machine E) (answer : Result (Unit {0}) OTelSdkError) (t : Machine E) →
-      IsSound (counts s) → IsAtRest s → Stepped calls s (step_of asked 0) outcome.Requested m →
+      IsSound (counts s) → IsAtRest s → IsStep calls s (step_of asked 0) outcome.Requested m →
       CollectsAnswer calls m answer t → AnsweredRests calls asked s answer t
   requested_rests asked s m answer t sound rest steps collects =
       let at = posted_is asked s m sound rest
@@ -450,12 +450,12 @@ module _ {E : Type 0} (calls : Ghosts E) where
       let worked = collects.answered in
       let after = run-sound calls m works.steps collects.outcomes worked steps.sound
       (goes_runs calls next_of_worker m works.steps collects.outcomes worked works.goes) in
-      let last : Stepped calls worked (step.Collect 0) (outcome.Collected answer) t = rw collects.collects.2 collects.collects.1 in
+      let last : IsStep calls worked (step.Collect 0) (outcome.Collected answer) t = rw collects.collects.2 collects.collects.1 in
       answered_rests calls asked s m worked t collects.outcomes answer at rest.hand steps.sound after works last
 
   -- who asked for a flush has the answer of its own drain
   flush_says : (asked : Request) (s m : Machine E) (answer : Result (Unit {0}) OTelSdkError) (t : Machine E) →
-      IsSound (counts s) → IsAtRest s → Stepped calls s (step_of asked 0) outcome.Requested m →
+      IsSound (counts s) → IsAtRest s → IsStep calls s (step_of asked 0) outcome.Requested m →
       (collected : CollectsAnswer calls m answer t) → asked ≡ request.Flush →
       IsErrorOf answer (own_error None collected.outcomes)
   flush_says asked s m answer t sound rest steps collected is =
@@ -469,13 +469,13 @@ module _ {E : Type 0} (calls : Ghosts E) where
       let works = collected.works in
       let tells = goes_tells calls None m works.steps collected.outcomes collected.answered steps.sound at.alone
       (at.flush is) begins works.goes in
-      let last : Stepped calls collected.answered (step.Collect 0) (outcome.Collected answer) t =
+      let last : IsStep calls collected.answered (step.Collect 0) (outcome.Collected answer) t =
       rw collected.collects.2 collected.collects.1 in
       tells.answered answer last.permitted.0
 
   -- who asked for a shutdown has an answer by whether its own drain found memory
   shutdown_says : (asked : Request) (s m : Machine E) (answer : Result (Unit {0}) OTelSdkError) (t : Machine E) →
-      IsSound (counts s) → IsAtRest s → Stepped calls s (step_of asked 0) outcome.Requested m →
+      IsSound (counts s) → IsAtRest s → IsStep calls s (step_of asked 0) outcome.Requested m →
       (collected : CollectsAnswer calls m answer t) → asked ≡ request.Shutdown →
       ShutdownAnswers (own_refusal false collected.outcomes) answer t.control.closed
   shutdown_says asked s m answer t sound rest steps collected is =
@@ -490,7 +490,7 @@ module _ {E : Type 0} (calls : Ghosts E) where
       let works = collected.works in
       let tells = goes_tells_shutdown calls false m works.steps collected.outcomes collected.answered steps.sound
       at.alone (at.shutdown is) begins works.goes in
-      let last : Stepped calls collected.answered (step.Collect 0) (outcome.Collected answer) t =
+      let last : IsStep calls collected.answered (step.Collect 0) (outcome.Collected answer) t =
       rw collected.collects.2 collected.collects.1 in
       let same : t.control.closed ≡ collected.answered.control.closed =
       ap (λ c. c.control.closed) last.permitted.1 in
@@ -505,7 +505,7 @@ module _ {E : Type 0} (calls : Ghosts E) where
   closes_if_ok true s (Err e) t was_open says = says.1 ∙ sym was_open
 
   -- a request behind a shutdown changes nothing
-  pub request_closed : (asked : Request) (s t : Machine E) → Stepped calls s (step_of asked 0) outcome.Closed t →
+  pub request_closed : (asked : Request) (s t : Machine E) → IsStep calls s (step_of asked 0) outcome.Closed t →
       (s.control.closed ≡ true) × (t ≡ s)
   request_closed asked s t steps =
       let row = request_row asked (counts s) outcome.Closed (counts t) steps.permitted in
@@ -513,7 +513,7 @@ module _ {E : Type 0} (calls : Ghosts E) where
 
   -- so does one that finds the control queue full
   pub request_refused : (asked : Request) (s : Machine E) (o : Outcome) (t : Machine E) → IsAtRest s →
-      Stepped calls s (step_of asked 0) o t → (o ≡ outcome.Requested → ⊥) → (o ≡ outcome.Closed → ⊥) →
+      IsStep calls s (step_of asked 0) o t → (o ≡ outcome.Requested → ⊥) → (o ≡ outcome.Closed → ⊥) →
       (s.control.closed ≡ false) × (is_crowded (counts s) ≡ true) × (t ≡ s)
   request_refused asked s o t rest steps posted shut =
       by_outcome o (request_row asked (counts s) o (counts t) steps.permitted) posted shut
@@ -542,7 +542,7 @@ module _ {E : Type 0} (calls : Ghosts E) where
     pub rest : IsAtRest t
 
   pub made_answered : (asked : Request) (s m : Machine E) (answer : Result (Unit {0}) OTelSdkError) (t : Machine E) →
-      IsSound (counts s) → IsAtRest s → Stepped calls s (step_of asked 0) outcome.Requested m →
+      IsSound (counts s) → IsAtRest s → IsStep calls s (step_of asked 0) outcome.Requested m →
       CollectsAnswer calls m answer t → IsMade asked s answer t
   made_answered asked s m answer t sound rest steps collected =
       let row = request_row asked (counts s) outcome.Requested (counts m) steps.permitted in
@@ -576,13 +576,13 @@ module _ {E : Type 0} (calls : Ghosts E) where
   }
 
   pub made_closed : (asked : Request) (s t : Machine E) → IsAtRest s →
-      Stepped calls s (step_of asked 0) outcome.Closed t → IsMade asked s (Err AlreadyShutdown) t
+      IsStep calls s (step_of asked 0) outcome.Closed t → IsMade asked s (Err AlreadyShutdown) t
   made_closed asked s t rest steps =
       let left = request_closed asked s t steps in
       made_none asked s AlreadyShutdown t rest left.1 (where_true _ _ s.control.closed left.0 (refl, left.1))
 
   pub made_refused : (asked : Request) (s : Machine E) (o : Outcome) (error : OTelSdkError) (t : Machine E) →
-      IsAtRest s → Stepped calls s (step_of asked 0) o t → (o ≡ outcome.Requested → ⊥) → (o ≡ outcome.Closed → ⊥) →
+      IsAtRest s → IsStep calls s (step_of asked 0) o t → (o ≡ outcome.Requested → ⊥) → (o ≡ outcome.Closed → ⊥) →
       IsInternalFailure error → IsMade asked s (Err error) t
   made_refused asked s o error t rest steps posted shut says =
       let left = request_refused asked s o t rest steps posted shut in

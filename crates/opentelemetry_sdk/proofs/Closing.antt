@@ -11,8 +11,8 @@ use Rattle.otel_batch.specs.Workers.{closing_of, is_closing, is_gone, worker_nam
 use Rattle.otel_batch.specs.MachineState.{Machine, Counts, counts, put_slot, slot_at}
 use Rattle.otel_batch.specs.SoundMachine.{IsSound}
 use Rattle.otel_batch.specs.WorkerSteps.{TakeRow, ClearRow, LoadRow, PullRow, HandOverRow, SubtractRow}
-use Rattle.otel_batch.specs.DrainEnds.{FinishRow, FinishRowFor, CloseRow, IsDropped, finished}
-use Rattle.otel_batch.specs.PermittedStep.{Permitted}
+use Rattle.otel_batch.specs.DrainEnds.{FinishRow, FinishRowFor, CloseRow, IsDropped, end_of_drain}
+use Rattle.otel_batch.specs.PermittedStep.{IsPermitted}
 use Rattle.otel_batch.specs.GoingOn.{next_step}
 use Rattle.otel_batch.specs.declared.machine.state.Slot.{Slot}
 use Rattle.otel_batch.specs.declared.machine.state.Slot.TheVariants as slot
@@ -130,7 +130,7 @@ subtract_tells b s _ t n h row = absurd row
 
 -- a shutdown whose drain found no memory was answered so, and the queue is open
 refusal_tells : (s t : Counts) (p : ℕ) → IsSound s → length s.control.slots ≡ 1 → is_answered (slot_at s 0) ≡ false →
-    s.control.worker ≡ worker.Finishing → t ≡ put_slot (finished s worker.Ready) p (slot.Answered (Err OutOfMemory)) →
+    s.control.worker ≡ worker.Finishing → t ≡ put_slot (end_of_drain s worker.Ready) p (slot.Answered (Err OutOfMemory)) →
     TellsShutdown true t
 refusal_tells s t p sound one n at is =
     let slots : t.control.slots ≡ slice_set s.control.slots p (slot.Answered (Err OutOfMemory)) =
@@ -170,8 +170,8 @@ finish_tells_for (why.Flush p) b s e t sound one n at keeps none row = absurd (o
 finish_tells_for (why.Shutdown p) b s e t sound one n at keeps none row = shut s.control.refused b keeps row.1
   where
     shut : (c b : Bool) → c ≡ b → t ≡ (if c
-        then put_slot (finished s worker.Ready) p (slot.Answered (Err OutOfMemory))
-        else finished s (worker.Closing p)) → TellsShutdown b t
+        then put_slot (end_of_drain s worker.Ready) p (slot.Answered (Err OutOfMemory))
+        else end_of_drain s (worker.Closing p)) → TellsShutdown b t
     shut true true e is = refusal_tells s t p sound one n at is
     shut false false e is =
         let closing : t.control.worker ≡ worker.Closing p = ap (λ c. c.control.worker) is in
@@ -256,7 +256,7 @@ close_tells p b s _ t sound one is h row = absurd row
 -- the worker's next step
 next_tells : (w : Worker) (b : Bool) (s : Counts) (o : Outcome) (t : Counts) → s.control.worker ≡ w → IsSound s →
     length s.control.slots ≡ 1 → is_answered (slot_at s 0) ≡ false → requests_in flushing s ≡ 0 → TellsShutdown b s →
-    Permitted s (next_step w) o t → TellsShutdown (refusal_next b o) t
+    IsPermitted s (next_step w) o t → TellsShutdown (refusal_next b o) t
 next_tells worker.Ready b s o t is sound one n none h row = take_tells b s o t n h row
 next_tells worker.Clearing b s o t is sound one n none h row = clear_tells b s o t n h row
 next_tells (worker.Loading y) b s o t is sound one n none h row = load_tells b s o t n h row

@@ -4,8 +4,8 @@ use Rattle.otel_export.specs.PlainSpanData.{PlainSpanData, is_sampled}
 use Rattle.otel_export.specs.StoredBatches.{one_more}
 use Rattle.otel_batch.specs.Slots.{is_holding, is_idle}
 use Rattle.otel_batch.specs.MachineState.{Machine, counts, slot_at}
-use Rattle.otel_batch.specs.MachineRun.{Stepped}
-use Rattle.otel_batch.specs.MovedSpans.{Moved, Keeps}
+use Rattle.otel_batch.specs.MachineRun.{IsStep}
+use Rattle.otel_batch.specs.MovedSpans.{MovesSpans, Keeps}
 use Rattle.otel_batch.specs.ProducerSteps.{OfferRow, SendRow}
 use Rattle.otel_batch.specs.declared.machine.state.Slot.{Slot}
 use Rattle.otel_batch.specs.declared.machine.state.Slot.TheVariants as slot
@@ -48,7 +48,7 @@ SpanGoes false s span t = QueuesLast s span t ⊎ CountsDrop s t
 
 -- the steps of the producer but the send move no span
 keeps_by : {E : Type 0} (calls : Ghosts E) (s : Machine E) (x : Step) (o : Outcome) (t : Machine E)
-    (at : Option Slot) → is_holding at ≡ false → producers_next at ≡ Some x → Moved calls s x o t → Keeps s t
+    (at : Option Slot) → is_holding at ≡ false → producers_next at ≡ Some x → MovesSpans calls s x o t → Keeps s t
 keeps_by calls s (step.Undo p) o t at holds next moved = moved
 keeps_by calls s (step.Ask p) o t at holds next moved = moved
 keeps_by calls s (step.Post p) o t at holds next moved = moved
@@ -90,7 +90,7 @@ module _ {E : Type 0} (calls : Ghosts E) where
   -- behind the send of the span that the producer holds
   behind_send : (s m t : Machine E) (o : Outcome) (span : PlainSpanData) (n : ℕ) →
       slot_at (counts s) 0 ≡ Some (slot.Holding span n) → SendRow (counts s) 0 o (counts m) →
-      Moved calls s (step.Send 0) o m → LeavesRest m t → QueuesNone m t →
+      MovesSpans calls s (step.Send 0) o m → LeavesRest m t → QueuesNone m t →
       SpanGoes s.control.closed s span t × (m.exporter ≡ s.exporter) × (m.hand ≡ s.hand)
   behind_send s m t outcome.Accepted span n at row moved rest none =
       let waits : m.waiting ≡ s.waiting ++ span ∷ [] = rw at at moved.waiting in (
@@ -133,7 +133,7 @@ module _ {E : Type 0} (calls : Ghosts E) where
       let row : SendRow (counts s) 0 o (counts m) = rw is at goes.2.permitted in
       let on = send_goes (counts s) o (counts m) span n at row in
       let rest = rest_goes m xs os t (rw on.puts.slot on.at_work) (rw on.puts.slot on.holds_none) goes.3 in
-      let moved : Moved calls s (step.Send 0) o m = rw is at goes.2.moved in
+      let moved : MovesSpans calls s (step.Send 0) o m = rw is at goes.2.moved in
       let behind = behind_send s m t o span n at row moved rest.0 rest.1 in (
         record {
           exporter = rest.0.exporter ∙ behind.1;
@@ -248,7 +248,7 @@ none_then s m t span false none (inr full) = inr (record {
 
 module _ {E : Type 0} (calls : Ghosts E) where
   pub ends_idle : (s m t : Machine E) (span : PlainSpanData) (o : Outcome) (xs : List Step) (os : List Outcome) →
-      s.control.slots ≡ slot.Idle ∷ [] → Stepped calls s (step.Offer 0 span) o m →
+      s.control.slots ≡ slot.Idle ∷ [] → IsStep calls s (step.Offer 0 span) o m →
       GoesBy calls next_of_producer m xs os t → next_of_producer t.control ≡ None → EndsIdle s span t
   ends_idle s m t span o xs os idle steps goes over =
       let offers = offer_leaves calls s span o m idle steps.permitted steps.moved in

@@ -2,7 +2,7 @@
 use Rattle.std.proofs.Common.{◌≡◌, refl, List, [], ◌∷◌, ◌++◌, Option, Some}
 use Rattle.otel_export.specs.declared.error.OTelSdkError.{OTelSdkError}
 use Rattle.otel_batch.specs.MachineState.{Control, Machine}
-use Rattle.otel_batch.specs.MachineRun.{Run, Stepped}
+use Rattle.otel_batch.specs.MachineRun.{Run, IsStep}
 use Rattle.otel_batch.specs.declared.machine.step.Outcome.{Outcome}
 use Rattle.otel_batch.specs.declared.machine.step.Outcome.TheVariants as outcome
 use Rattle.otel_batch.specs.declared.machine.step.Step.{Step}
@@ -12,7 +12,7 @@ use Rattle.otel_batch.specs.WorkedOff.{GoesBy, last_error}
 module _ {E : Type 0} (calls : Ghosts E) (next : Control → Option Step) where
   -- one step more
   pub goes_more : (s : Machine E) (xs : List Step) (os : List Outcome) (m : Machine E) (x : Step) (o : Outcome)
-      (t : Machine E) → GoesBy calls next s xs os m → next m.control ≡ Some x → Stepped calls m x o t →
+      (t : Machine E) → GoesBy calls next s xs os m → next m.control ≡ Some x → IsStep calls m x o t →
       GoesBy calls next s (xs ++ x ∷ []) (os ++ o ∷ []) t
   goes_more s [] [] m x o t goes is steps = (rw goes at is, t, rw goes at steps, refl)
   goes_more s (y ∷ ys) (p ∷ ps) m x o t goes is steps =

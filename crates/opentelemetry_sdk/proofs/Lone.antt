@@ -11,8 +11,8 @@ use Rattle.otel_batch.specs.MachineState.{Machine, Counts, counts, limit_of, put
 use Rattle.otel_batch.specs.SoundMachine.{IsSound}
 use Rattle.otel_batch.specs.DrainResult.{first_failure}
 use Rattle.otel_batch.specs.WorkerSteps.{TakeRow, ClearRow, LoadRow, PullRow, HandOverRow, SubtractRow}
-use Rattle.otel_batch.specs.DrainEnds.{FinishRow, FinishRowFor, CloseRow, finished}
-use Rattle.otel_batch.specs.PermittedStep.{Permitted}
+use Rattle.otel_batch.specs.DrainEnds.{FinishRow, FinishRowFor, CloseRow, end_of_drain}
+use Rattle.otel_batch.specs.PermittedStep.{IsPermitted}
 use Rattle.otel_batch.specs.GoingOn.{next_step}
 use Rattle.otel_batch.specs.declared.machine.state.Slot.TheVariants as slot
 use Rattle.otel_batch.specs.declared.machine.state.Worker.{Worker}
@@ -241,7 +241,7 @@ subtract_alone s _ t sound a n row = absurd row
 
 -- an answer was put into a slot, behind which the worker is at rest
 answers_alone : (s t : Counts) (p : ℕ) (answer : Result (Unit {0}) OTelSdkError) → IsAlone s →
-    is_answered (slot_at s 0) ≡ false → t ≡ put_slot (finished s worker.Ready) p (slot.Answered answer) →
+    is_answered (slot_at s 0) ≡ false → t ≡ put_slot (end_of_drain s worker.Ready) p (slot.Answered answer) →
     OnOk answer (s.waiting ≡ 0) → IsAlone t
 answers_alone s t p answer a n is empty =
     let slots : t.control.slots ≡ slice_set s.control.slots p (slot.Answered answer) = ap (λ c. c.control.slots) is in
@@ -287,8 +287,8 @@ finish_for (why.Flush p) s e t a n ends row = answers_alone s t p s.control.resu
 finish_for (why.Shutdown p) s e t a n ends row = shut s.control.refused ends row.1
   where
     shut : (b : Bool) → EndsDrain b s → t ≡ (if b
-        then put_slot (finished s worker.Ready) p (slot.Answered (Err OutOfMemory))
-        else finished s (worker.Closing p)) → IsAlone t
+        then put_slot (end_of_drain s worker.Ready) p (slot.Answered (Err OutOfMemory))
+        else end_of_drain s (worker.Closing p)) → IsAlone t
     shut true ended eq = answers_alone s t p (Err OutOfMemory) a n eq tt
     shut false ended eq = alone_closing s t a n (ap (λ c. c.control.slots) eq) p (ap (λ c. c.control.worker) eq)
         (ap (λ c. c.waiting) eq ∙ ended)
@@ -320,7 +320,7 @@ close_alone s _ t a row = absurd row
 
 -- the worker's next step
 pub next_alone : (w : Worker) (s : Counts) (o : Outcome) (t : Counts) → IsSound s → IsAlone s →
-    is_answered (slot_at s 0) ≡ false → Permitted s (next_step w) o t → IsAlone t
+    is_answered (slot_at s 0) ≡ false → IsPermitted s (next_step w) o t → IsAlone t
 next_alone worker.Ready s o t sound a n row = take_alone s o t a n row
 next_alone worker.Clearing s o t sound a n row = clear_alone s o t a n row
 next_alone (worker.Loading y) s o t sound a n row = load_alone s o t sound a n row

@@ -7,7 +7,7 @@ use Rattle.otel_export.specs.PlainSpanData.{PlainSpanData}
 use Rattle.otel_batch.specs.Slots.{is_holding, is_refused, is_asking, is_posting, is_resetting, number_held}
 use Rattle.otel_batch.specs.MachineState.{Counts, slot_at}
 use Rattle.otel_batch.specs.ProducerSteps.{SendRow, UndoRow, AskRow, PostRow, ResetRow, after_send}
-use Rattle.otel_batch.specs.PermittedStep.{Permitted}
+use Rattle.otel_batch.specs.PermittedStep.{IsPermitted}
 use Rattle.otel_batch.specs.declared.machine.state.Slot.{Slot}
 use Rattle.otel_batch.specs.declared.machine.state.Slot.TheVariants as slot
 use Rattle.otel_batch.specs.declared.machine.step.Outcome.{Outcome}
@@ -169,7 +169,7 @@ same_step : (x y : Step) → Some y ≡ Some x → x ≡ y
 same_step x y e = cc
 
 pub next_goes : (s : Counts) (x : Step) (o : Outcome) (t : Counts) (at : Option Slot) → slot_at s 0 ≡ at →
-    is_holding at ≡ false → producers_next at ≡ Some x → Permitted s x o t → GoesOnToIdle s t
+    is_holding at ≡ false → producers_next at ≡ Some x → IsPermitted s x o t → GoesOnToIdle s t
 next_goes s x o t (Some slot.Refused) is holds next row =
     undo_goes s o t is (rw (same_step x (step.Undo 0) next) at row)
 next_goes s x o t (Some slot.Asking) is holds next row =

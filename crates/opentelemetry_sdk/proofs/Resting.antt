@@ -14,7 +14,7 @@ use Rattle.otel_batch.specs.MachineRun.{accepts, batch_sizes, holds_at}
 use Rattle.otel_batch.specs.Conservation.{Conserves}
 use Rattle.otel_batch.specs.WorkerSteps.{TakeRow, ClearRow, LoadRow, PullRow, HandOverRow, SubtractRow}
 use Rattle.otel_batch.specs.DrainEnds.{FinishRow, FinishRowFor}
-use Rattle.otel_batch.specs.PermittedStep.{Permitted}
+use Rattle.otel_batch.specs.PermittedStep.{IsPermitted}
 use Rattle.otel_batch.specs.GoingOn.{next_step}
 use Rattle.otel_batch.specs.declared.machine.state.Request.{Request}
 use Rattle.otel_batch.specs.declared.machine.state.Slot.TheVariants as slot
@@ -213,7 +213,7 @@ finish_leaves s outcome.NotEnabled t none row = leaves s t _ row.1 refl refl
 finish_leaves s _ t none row = absurd row
 
 next_leaves : (w : Worker) (s : Counts) (o : Outcome) (t : Counts) → s.control.worker ≡ w →
-    ((p : ℕ) → worker_names p s.control.why s.control.worker ≡ 0) → Permitted s (next_step w) o t → LeavesIdle s t
+    ((p : ℕ) → worker_names p s.control.why s.control.worker ≡ 0) → IsPermitted s (next_step w) o t → LeavesIdle s t
 next_leaves worker.Ready s o t is none row = take_leaves s o t row
 next_leaves worker.Clearing s o t is none row = clear_leaves s o t row
 next_leaves (worker.Loading y) s o t is none row = load_leaves s o t row

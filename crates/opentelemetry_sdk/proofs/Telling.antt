@@ -9,8 +9,8 @@ use Rattle.otel_batch.specs.MachineState.{Machine, Counts, counts, put_slot, slo
 use Rattle.otel_batch.specs.SoundMachine.{IsSound}
 use Rattle.otel_batch.specs.DrainResult.{IsErrorOf}
 use Rattle.otel_batch.specs.WorkerSteps.{TakeRow, ClearRow, LoadRow, PullRow, HandOverRow, SubtractRow}
-use Rattle.otel_batch.specs.DrainEnds.{FinishRow, FinishRowFor, finished}
-use Rattle.otel_batch.specs.PermittedStep.{Permitted}
+use Rattle.otel_batch.specs.DrainEnds.{FinishRow, FinishRowFor, end_of_drain}
+use Rattle.otel_batch.specs.PermittedStep.{IsPermitted}
 use Rattle.otel_batch.specs.GoingOn.{next_step}
 use Rattle.otel_batch.specs.declared.machine.state.Slot.TheVariants as slot
 use Rattle.otel_batch.specs.declared.machine.state.Worker.{Worker}
@@ -112,7 +112,7 @@ subtract_tells error s _ t n h row = absurd row
 -- an answer was put into a slot, behind which the worker is at rest
 answers_tell : (error : Option OTelSdkError) (s t : Counts) (p : ℕ) (answer : Result (Unit {0}) OTelSdkError) →
     length s.control.slots ≡ 1 → is_answered (slot_at s 0) ≡ false →
-    t ≡ put_slot (finished s worker.Ready) p (slot.Answered answer) → IsErrorOf answer error → TellsError error t
+    t ≡ put_slot (end_of_drain s worker.Ready) p (slot.Answered answer) → IsErrorOf answer error → TellsError error t
 answers_tell error s t p answer one n is says =
     let slots : t.control.slots ≡ slice_set s.control.slots p (slot.Answered answer) = ap (λ c. c.control.slots) is in
     let ready : t.control.worker ≡ worker.Ready = ap (λ c. c.control.worker) is in
@@ -159,7 +159,7 @@ finish_tells error s _ t one n none h row = absurd row
 next_tells : (w : Worker) (error : Option OTelSdkError) (s : Counts) (o : Outcome) (t : Counts) →
     s.control.worker ≡ w → length s.control.slots ≡ 1 → is_answered (slot_at s 0) ≡ false →
     requests_in shutting s ≡ 0 →
-    TellsError error s → Permitted s (next_step w) o t → TellsError (error_next error o) t
+    TellsError error s → IsPermitted s (next_step w) o t → TellsError (error_next error o) t
 next_tells worker.Ready error s o t is one n none h row = take_tells error s o t n h row
 next_tells worker.Clearing error s o t is one n none h row = clear_tells error s o t n h row
 next_tells (worker.Loading y) error s o t is one n none h row = load_tells error s o t n h row

@@ -4,8 +4,8 @@ use Rattle.std.proofs.lemmas.Bool.Decides.{eqb_tells}
 use Rattle.otel_batch.specs.Slots.{is_answered}
 use Rattle.otel_batch.specs.Workers.{is_ready, is_gone}
 use Rattle.otel_batch.specs.MachineState.{Control, Machine, Counts, counts}
-use Rattle.otel_batch.specs.MachineRun.{Stepped}
-use Rattle.otel_batch.specs.PermittedStep.{Permitted}
+use Rattle.otel_batch.specs.MachineRun.{IsStep}
+use Rattle.otel_batch.specs.PermittedStep.{IsPermitted}
 use Rattle.otel_batch.specs.GoingOn.{is_enabled, next_step}
 use Rattle.otel_batch.specs.Drains.{is_workers, AreWorkers}
 use Rattle.otel_batch.specs.WorkLeft.{is_work, work_left}
@@ -67,7 +67,7 @@ is_workers_next (worker.Closing p) = refl
 is_workers_next worker.Gone = refl
 
 -- only a take finds nothing, and none of these steps is the timer's
-finds_work : (s : Counts) (w : Worker) (o : Outcome) (t : Counts) → Permitted s (next_step w) o t →
+finds_work : (s : Counts) (w : Worker) (o : Outcome) (t : Counts) → IsPermitted s (next_step w) o t →
     is_enabled o ≡ true → (is_ready w ≡ true → length s.control.messages ≢ 0) → is_gone w ≡ false → is_work o ≡ true
 finds_work s w outcome.NotEnabled t row on some stays = absurd (cc)
 finds_work s worker.Ready outcome.Nothing t row on some stays = absurd (some refl (ap length row.1))
@@ -93,12 +93,12 @@ finds_work s w _ t row on some stays = refl
 module _ {E : Type 0} (calls : Ghosts E) where
   -- the next step is permitted, as a step of the worker's
   pub next_permitted : (s : Machine E) (x : Step) (o : Outcome) (t : Machine E) → HasNext s.control x →
-      Stepped calls s x o t → Permitted (counts s) (next_step s.control.worker) o (counts t)
+      IsStep calls s x o t → IsPermitted (counts s) (next_step s.control.worker) o (counts t)
   next_permitted s x o t has steps = rw has.is at steps.permitted
 
   -- it lessens what is left
   pub next_lessens : (s : Machine E) (x : Step) (o : Outcome) (t : Machine E) → next_of_worker s.control ≡ Some x →
-      Stepped calls s x o t → work_left (counts t) < work_left (counts s)
+      IsStep calls s x o t → work_left (counts t) < work_left (counts s)
   next_lessens s x o t next steps =
       let has = has_next s.control x next in
       permitted-lessens (counts s) (counts t) (next_step s.control.worker) o (next_permitted s x o t has steps)

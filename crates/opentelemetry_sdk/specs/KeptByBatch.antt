@@ -8,7 +8,7 @@ use Rattle.otel_export.specs.declared.trace.export.SpanExporter.{Ghosts}
 use Rattle.otel_export.specs.KeptBatches.{ExporterAppends, Grows, appends_more, nothing_more}
 use Rattle.otel_batch.specs.MachineState.{Control, Machine, counts, is_crowded}
 use Rattle.otel_batch.specs.MachineRun.{Run}
-use Rattle.otel_batch.specs.MovedSpans.{Moved}
+use Rattle.otel_batch.specs.MovedSpans.{MovesSpans}
 use Rattle.otel_batch.specs.KnownRequests.{step_of}
 use Rattle.otel_batch.specs.declared.machine.state.Request.{Request}
 use Rattle.otel_batch.specs.declared.machine.step.Outcome.{Outcome}
@@ -25,7 +25,7 @@ module _ {E : Type 0} (calls : Ghosts E) (keeps : E → List (List PlainSpanData
   stays s t e = nothing_more keeps s.exporter t.exporter e
 
   -- one step of the queue
-  moved_appends : (s : Machine E) (x : Step) (o : Outcome) (t : Machine E) → Moved calls s x o t
+  moved_appends : (s : Machine E) (x : Step) (o : Outcome) (t : Machine E) → MovesSpans calls s x o t
       → Grows (keeps s.exporter) (keeps t.exporter)
   moved_appends s (step.Send p) outcome.Accepted t m = stays s t m.exporter
   moved_appends s step.Pull outcome.Pulled t m = stays s t m.exporter

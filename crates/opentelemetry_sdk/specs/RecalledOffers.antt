@@ -5,8 +5,8 @@ use Rattle.std.proofs.lemmas.Bool.{false≢true}
 use Rattle.otel_export.specs.PlainSpanData.{PlainSpanData}
 use Rattle.otel_export.specs.declared.trace.export.SpanExporter.{Ghosts}
 use Rattle.otel_batch.specs.MachineState.{Control, Machine}
-use Rattle.otel_batch.specs.MachineRun.{Stepped}
-use Rattle.otel_batch.specs.MovedSpans.{Moved}
+use Rattle.otel_batch.specs.MachineRun.{IsStep}
+use Rattle.otel_batch.specs.MovedSpans.{MovesSpans}
 use Rattle.otel_batch.specs.declared.machine.state.Slot.{Slot}
 use Rattle.otel_batch.specs.declared.machine.state.Slot.TheVariants as slot
 use Rattle.otel_batch.specs.declared.machine.step.Outcome.{Outcome}
@@ -39,7 +39,7 @@ producers_ask_nothing _ = tt
 
 module _ {E : Type 0} (calls : Ghosts E) where
   moved_before : (s : Machine E) (x : Step) (o : Outcome) (t : Machine E) (e : E) → asks_exporter x ≡ false
-      → Moved calls s x o t → Moved calls (in_front_of s e) x o (in_front_of t e)
+      → MovesSpans calls s x o t → MovesSpans calls (in_front_of s e) x o (in_front_of t e)
   moved_before s (step.Send p) outcome.Accepted t e quiet m =
       record { exporter = refl; hand = m.hand; waiting = m.waiting }
   moved_before s step.Pull outcome.Pulled t e quiet m = record { exporter = refl; both = m.both }
@@ -49,7 +49,7 @@ module _ {E : Type 0} (calls : Ghosts E) where
   moved_before s _ _ t e quiet m = record { exporter = refl; hand = m.hand; waiting = m.waiting }
 
   stepped_before : (s : Machine E) (x : Step) (o : Outcome) (t : Machine E) (e : E) → asks_exporter x ≡ false
-      → Stepped calls s x o t → Stepped calls (in_front_of s e) x o (in_front_of t e)
+      → IsStep calls s x o t → IsStep calls (in_front_of s e) x o (in_front_of t e)
   stepped_before s x o t e quiet h = record {
     permitted = h.permitted;
     moved = moved_before s x o t e quiet h.moved;

@@ -6,8 +6,8 @@ use Rattle.otel_export.specs.RecalledBatches.{ExporterRecalls}
 use Rattle.otel_export.specs.RecalledKinds.{exporter_tells_behind, exporter_tells_same}
 use Rattle.otel_export.specs.declared.trace.export.SpanExporter.{Ghosts}
 use Rattle.otel_batch.specs.MachineState.{Machine}
-use Rattle.otel_batch.specs.MachineRun.{Stepped}
-use Rattle.otel_batch.specs.MovedSpans.{Keeps, Moved}
+use Rattle.otel_batch.specs.MachineRun.{IsStep}
+use Rattle.otel_batch.specs.MovedSpans.{Keeps, MovesSpans}
 use Rattle.otel_batch.specs.declared.machine.step.Outcome.{Outcome}
 use Rattle.otel_batch.specs.declared.machine.step.Outcome.TheVariants as outcome
 use Rattle.otel_batch.specs.declared.machine.step.Step.{Step}
@@ -33,7 +33,7 @@ module _ {E : Type 0} (calls : Ghosts E) {keeps : E → List (List PlainSpanData
 
   -- one step
   moved_over : (s : Machine E) (x : Step) (o : Outcome) (t : Machine E) (e : E) → recalled bs s.exporter e
-      → Moved calls s x o t → Over (λ a b. Moved calls a x o b) s e t
+      → MovesSpans calls s x o t → Over (λ a b. MovesSpans calls a x o b) s e t
   moved_over s (step.Send p) outcome.Accepted t e behind m = (
     e,
     subst (λ x. recalled bs x e) (sym m.exporter) behind,
@@ -81,7 +81,7 @@ module _ {E : Type 0} (calls : Ghosts E) {keeps : E → List (List PlainSpanData
   moved_over s _ _ t e behind m = keeps_over s t e behind m
 
   pub stepped_over : (s : Machine E) (x : Step) (o : Outcome) (t : Machine E) (e : E) → recalled bs s.exporter e
-      → Stepped calls s x o t → Over (λ a b. Stepped calls a x o b) s e t
+      → IsStep calls s x o t → Over (λ a b. IsStep calls a x o b) s e t
   stepped_over s x o t e behind m =
       let h = moved_over s x o t e behind m.moved in (
         h.0,

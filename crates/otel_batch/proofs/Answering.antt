@@ -9,8 +9,8 @@ use Rattle.otel_batch.specs.MachineState.{Machine, Counts, counts, limit_of, put
 use Rattle.otel_batch.specs.SoundMachine.{IsSound}
 use Rattle.otel_batch.specs.DrainResult.{IsErrorOf, KeepsFailure, first_failure}
 use Rattle.otel_batch.specs.WorkerSteps.{PullRow, HandOverRow, SubtractRow}
-use Rattle.otel_batch.specs.DrainEnds.{FinishRow, FinishRowFor, finished}
-use Rattle.otel_batch.specs.PermittedStep.{Permitted}
+use Rattle.otel_batch.specs.DrainEnds.{FinishRow, FinishRowFor, end_of_drain}
+use Rattle.otel_batch.specs.PermittedStep.{IsPermitted}
 use Rattle.otel_batch.specs.MachineRun.{Run}
 use Rattle.otel_batch.specs.Drains.{NoneFinishes}
 use Rattle.otel_batch.specs.DrainAnswers.{error_after, error_behind, first_error, finds_no_memory, GivesAnswer, AnswersDrains}
@@ -175,7 +175,7 @@ finish_holds reason error refused s _ t row on h = absurd row
 
 -- one step of a drain
 step_holds : (reason : Why) (error : Option OTelSdkError) (refused : Bool) (s : Counts) (x : Step) (o : Outcome)
-    (t : Counts) → Permitted s x o t → NoneFinishes (o ∷ []) → HoldsAnswer reason error refused s →
+    (t : Counts) → IsPermitted s x o t → NoneFinishes (o ∷ []) → HoldsAnswer reason error refused s →
     HoldsAnswer reason (error_after error o) (refused_after refused o) t
 step_holds reason error refused s (step.Offer p span) o t row on h =
     holds_alone reason error refused o s t (permitted-alone s (step.Offer p span) o t refl row) h
@@ -213,7 +213,7 @@ step_holds reason error refused s step.Subtract o t row on h = subtract_holds re
 step_holds reason error refused s step.Finish o t row on h = finish_holds reason error refused s o t row on h
 
 -- the answer of a drain right behind its load
-load_holds : (s : Counts) (x : Step) (target : ℕ) (t : Counts) → Permitted s x (outcome.Loaded target) t →
+load_holds : (s : Counts) (x : Step) (target : ℕ) (t : Counts) → IsPermitted s x (outcome.Loaded target) t →
     HoldsAnswer t.control.why None false t
 load_holds s step.Load target t row =
     let result = ap (λ c. c.control.result) row.3 in
@@ -231,7 +231,7 @@ load_holds s _ target t row = absurd row
 
 -- only the worker's finish finishes a drain
 finished-finishes : (s : Counts) (x : Step) (e : Option OTelSdkError) (t : Counts) →
-    Permitted s x (outcome.Finished e) t → FinishRow s (outcome.Finished e) t
+    IsPermitted s x (outcome.Finished e) t → FinishRow s (outcome.Finished e) t
 finished-finishes s step.Finish e t row = row
 finished-finishes s _ e t row = absurd row
 
@@ -257,8 +257,8 @@ finished_gives (why.Shutdown p) refused s e t sound at is refusal row =
     shut s.control.refused refused refusal row.1
   where
     shut : (b c : Bool) → b ≡ c → t ≡ (if b
-        then put_slot (finished s worker.Ready) p (slot.Answered (Err OutOfMemory))
-        else finished s (worker.Closing p)) → GivesAnswer (why.Shutdown p) c s.control.result e t
+        then put_slot (end_of_drain s worker.Ready) p (slot.Answered (Err OutOfMemory))
+        else end_of_drain s (worker.Closing p)) → GivesAnswer (why.Shutdown p) c s.control.result e t
     shut true true same eq =
         let runs : s.control.closed ≡ false = sound.awaited.gone ∙ rw at refl in (
           row.0,
@@ -271,7 +271,7 @@ finished_gives (why.Shutdown p) refused s e t sound at is refusal row =
     shut false true same eq = absurd (cc)
 
 finish_gives : (reason : Why) (error : Option OTelSdkError) (refused : Bool) (s : Counts) (x : Step)
-    (e : Option OTelSdkError) (t : Counts) → IsSound s → Permitted s x (outcome.Finished e) t →
+    (e : Option OTelSdkError) (t : Counts) → IsSound s → IsPermitted s x (outcome.Finished e) t →
     HoldsAnswer reason error refused s → GivesAnswer reason refused s.control.result e t
 finish_gives reason error refused s x e t sound row h =
     let ends = finished-finishes s x e t row in
@@ -298,7 +298,7 @@ module _ {E : Type 0} (calls : Ghosts E) where
       absurd (let os : List Outcome = [] in let none : slice_get os m ≡ None = refl in cc)
   ends_drain zero reason error refused e s (x ∷ xs) (o ∷ os) t sound h run on at =
       let is : o ≡ outcome.Finished e = cc in
-      let row : Permitted (counts s) x (outcome.Finished e) (counts run.0) = rw is at run.1.permitted in
+      let row : IsPermitted (counts s) x (outcome.Finished e) (counts run.0) = rw is at run.1.permitted in
       record {
         before = s;
         finish = run.0;

@@ -5,8 +5,8 @@ use Rattle.otel_batch.specs.Workers.{is_draining, worker_counts}
 use Rattle.otel_batch.specs.MachineState.{Machine, Counts, Control, counts, batch_limit, limit_of, put_slot}
 use Rattle.otel_batch.specs.SoundMachine.{IsSound}
 use Rattle.otel_batch.specs.WorkerSteps.{PullRow, HandOverRow, SubtractRow}
-use Rattle.otel_batch.specs.DrainEnds.{FinishRow, FinishRowFor, finished}
-use Rattle.otel_batch.specs.PermittedStep.{Permitted}
+use Rattle.otel_batch.specs.DrainEnds.{FinishRow, FinishRowFor, end_of_drain}
+use Rattle.otel_batch.specs.PermittedStep.{IsPermitted}
 use Rattle.otel_export.specs.declared.error.OTelSdkError.{OTelSdkError}
 use Rattle.otel_export.specs.declared.error.OTelSdkError.TheVariants.{OutOfMemory}
 use Rattle.otel_batch.specs.declared.machine.state.Slot.TheVariants as slot
@@ -38,7 +38,7 @@ limit_within queue batch target done = elim (eqb_tells batch 0) [
   | inr some ↦ rw some.0 (omega arith)
 ]
 
-fit_first : (s : Counts) (x : Step) (o : Outcome) (t : Counts) (ks : List ℕ) → IsSound s → Permitted s x o t →
+fit_first : (s : Counts) (x : Step) (o : Outcome) (t : Counts) (ks : List ℕ) → IsSound s → IsPermitted s x o t →
     FitBatches (largest_batch s.control) ks → FitBatches (largest_batch s.control) (batch_sizes (o ∷ []) ++ ks)
 fit_first s x (outcome.HandedOver k e) t ks sound row fit =
     let is = handed_over-hands s x k e t row in
@@ -406,7 +406,7 @@ fuel_busy worker.Gone left hand extra fuel h = absurd h
 
 -- one step of a drain burns its fuel
 bound_step : (extra fuel given : ℕ) (s : Counts) (x : Step) (o : Outcome) (t : Counts) → IsSound s → IsSound t →
-    IsExtra extra t → t.control.batch_size ≡ s.control.batch_size → NoneFinishes (o ∷ []) → Permitted s x o t →
+    IsExtra extra t → t.control.batch_size ≡ s.control.batch_size → NoneFinishes (o ∷ []) → IsPermitted s x o t →
     InBound extra fuel given s → Burns x o extra fuel (given + handed o) t
 bound_step extra fuel given s (step.Offer p span) o t sound sound' is batch on row h = stays_bound extra fuel given (step.Offer p span) o s t
     (stays_alone (step.Offer p span) o s t refl (permitted-alone s (step.Offer p span) o t refl row)) batch h
@@ -472,8 +472,8 @@ finished-aimed (why.Flush p) s e t row = ap (λ c. c.control.target) row.1
 finished-aimed (why.Shutdown p) s e t row = shut s.control.refused row.1
   where
     shut : (b : Bool) → t ≡ (if b
-        then put_slot (finished s worker.Ready) p (slot.Answered (Err OutOfMemory))
-        else finished s (worker.Closing p)) → t.control.target ≡ s.control.target
+        then put_slot (end_of_drain s worker.Ready) p (slot.Answered (Err OutOfMemory))
+        else end_of_drain s (worker.Closing p)) → t.control.target ≡ s.control.target
     shut true eq = ap (λ c. c.control.target) eq
     shut false eq = ap (λ c. c.control.target) eq
 
@@ -485,7 +485,7 @@ finish_aimed s _ t row = absurd row
 
 -- while the worker is in a drain its target stays
 stays_aimed : (s : Counts) (x : Step) (o : Outcome) (t : Counts) → is_busy s.control.worker ≡ true →
-    Permitted s x o t → t.control.target ≡ s.control.target
+    IsPermitted s x o t → t.control.target ≡ s.control.target
 stays_aimed s (step.Offer p span) o t busy row = (permitted-alone s (step.Offer p span) o t refl row).target
 stays_aimed s (step.Send p) o t busy row = (permitted-alone s (step.Send p) o t refl row).target
 stays_aimed s (step.Undo p) o t busy row = (permitted-alone s (step.Undo p) o t refl row).target

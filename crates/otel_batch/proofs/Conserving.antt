@@ -4,10 +4,10 @@ use Rattle.std.proofs.lemmas.List.{map-append}
 use Rattle.std.proofs.lemmas.List.Concat.{flat_map-append}
 use Rattle.otel_export.specs.declared.error.OTelSdkError.{OTelSdkError}
 use Rattle.otel_export.specs.PlainSpanData.{PlainSpanData, spans_in}
-use Rattle.otel_batch.specs.Slots.{held}
+use Rattle.otel_batch.specs.Slots.{span_held}
 use Rattle.otel_batch.specs.MachineState.{Machine, counts}
-use Rattle.otel_batch.specs.PermittedStep.{Permitted}
-use Rattle.otel_batch.specs.MovedSpans.{Moved, Keeps, QueuesSpan, ExportsHand}
+use Rattle.otel_batch.specs.PermittedStep.{IsPermitted}
+use Rattle.otel_batch.specs.MovedSpans.{MovesSpans, Keeps, QueuesSpan, ExportsHand}
 use Rattle.otel_batch.specs.MachineRun.{Run, accepted, accepts, holds_after, holds_at, batch_sizes, full_sends, counted_up}
 use Rattle.otel_batch.specs.Conservation.{Conserves, IsFirst, LosesNoSpan}
 use Rattle.otel_batch.specs.declared.machine.step.Outcome.{Outcome}
@@ -66,7 +66,7 @@ module _ {E : Type 0} (calls : Ghosts E) where
   queues-conserves : (s : Machine E) (p : ℕ) (t : Machine E) → QueuesSpan s p t →
       Conserves calls s (holds_at s.control.slots p) [] t
   queues-conserves s p t k =
-      let span = held (slice_get s.control.slots p) in
+      let span = span_held (slice_get s.control.slots p) in
       record {
         batches = [];
         sized = refl;
@@ -90,7 +90,7 @@ module _ {E : Type 0} (calls : Ghosts E) where
 
   -- one step loses no span
   pub moved-conserves : (s : Machine E) (x : Step) (o : Outcome) (t : Machine E) →
-      Permitted (counts s) x o (counts t) → Moved calls s x o t →
+      IsPermitted (counts s) x o (counts t) → MovesSpans calls s x o t →
       Conserves calls s (accepts (holds_at s.control.slots) x o) (batch_sizes (o ∷ [])) t
   moved-conserves s (step.Send p) outcome.Accepted t row m = queues-conserves s p t m
   moved-conserves s step.Pull outcome.Pulled t row m = rests s t (ap calls.told m.exporter) m.both

@@ -11,7 +11,7 @@ use Rattle.otel_batch.specs.MachineState.{Machine, Counts, counts, limit_of}
 use Rattle.otel_batch.specs.SoundMachine.{IsSound}
 use Rattle.otel_batch.specs.WorkerSteps.{TakeRow, TickRow, ClearRow, LoadRow, PullRow, HandOverRow, SubtractRow}
 use Rattle.otel_batch.specs.DrainEnds.{FinishRow, CloseRow}
-use Rattle.otel_batch.specs.PermittedStep.{Permitted}
+use Rattle.otel_batch.specs.PermittedStep.{IsPermitted}
 use Rattle.otel_batch.specs.MachineRun.{Run, accepts, accepted, holds_after, holds_at, batch_sizes}
 use Rattle.otel_batch.specs.Conservation.{Conserves}
 use Rattle.otel_batch.specs.GoingOn.{is_enabled}
@@ -328,7 +328,7 @@ finish_drain w given s outcome.NotEnabled t row d = stays_next w given step.Fini
 finish_drain w given s _ t row d = absurd row
 
 -- one step of a drain
-drain_step : (w given : ℕ) (s : Counts) (x : Step) (o : Outcome) (t : Counts) → Permitted s x o t → InDrain w given s →
+drain_step : (w given : ℕ) (s : Counts) (x : Step) (o : Outcome) (t : Counts) → IsPermitted s x o t → InDrain w given s →
     DrainNext w (given + handed o) o t
 drain_step w given s (step.Offer p span) o t row d = stays_next w given (step.Offer p span) o s t
     (stays_alone (step.Offer p span) o s t refl (permitted-alone s (step.Offer p span) o t refl row)) d
@@ -393,11 +393,11 @@ load_target s target t sound row =
     row.2 ∙ (rw row.1 at sound.counted.total) in
     omega (arith, none, total)
 
-pub load-covers : (s t : Counts) (target : ℕ) → IsSound s → Permitted s step.Load (outcome.Loaded target) t →
+pub load-covers : (s t : Counts) (target : ℕ) → IsSound s → IsPermitted s step.Load (outcome.Loaded target) t →
     s.waiting ≤ target
 load-covers s t target sound row = omega (arith, load_target s target t sound row)
 
-pub load-fits : (s t : Counts) (target : ℕ) → IsSound s → Permitted s step.Load (outcome.Loaded target) t →
+pub load-fits : (s t : Counts) (target : ℕ) → IsSound s → IsPermitted s step.Load (outcome.Loaded target) t →
     target ≤ s.control.queue_size + length s.control.slots
 load-fits s t target sound row =
     omega (arith, load_target s target t sound row, counts_le s.control.slots, sound.fits.waiting_fits)
@@ -411,7 +411,7 @@ pub record StartsDrain (target : ℕ) (t : Counts) : Type 0 where
   pub hand_is : t.hand ≡ 0
 
 load_drain : (s : Counts) (x : Step) (target : ℕ) (t : Counts) → IsSound s →
-    Permitted s x (outcome.Loaded target) t → StartsDrain target t
+    IsPermitted s x (outcome.Loaded target) t → StartsDrain target t
 load_drain s step.Load target t sound row =
     let none : s.hand ≡ 0 = sound.drain.hand_empty (rw row.1 refl) in
     let total = load_target s target t sound row in
@@ -559,7 +559,7 @@ module _ {E : Type 0} (calls : Ghosts E) where
     pub sound : IsSound (counts load)
     pub start : StartsDrain target (counts load)
     -- the step that loaded it
-    pub loaded : (before : Counts) × (x : Step) × Permitted before x (outcome.Loaded target) (counts load)
+    pub loaded : (before : Counts) × (x : Step) × IsPermitted before x (outcome.Loaded target) (counts load)
     pub batch_same : load.control.batch_size ≡ s.control.batch_size
     pub queue_same : load.control.queue_size ≡ s.control.queue_size
 
@@ -570,7 +570,7 @@ module _ {E : Type 0} (calls : Ghosts E) where
       absurd (let os : List Outcome = [] in let none : slice_get os n ≡ None = refl in cc)
   at_load zero s (x ∷ xs) (o ∷ os) t target sound run e =
       let is : o ≡ outcome.Loaded target = cc in
-      let row : Permitted (counts s) x (outcome.Loaded target) (counts run.0) = rw is at run.1.permitted in
+      let row : IsPermitted (counts s) x (outcome.Loaded target) (counts run.0) = rw is at run.1.permitted in
       let begun = load_drain (counts s) x target (counts run.0) sound row in
       let leaves = permitted-leaves (counts s) x o (counts run.0) run.1.permitted in
       record {

@@ -8,15 +8,15 @@ use Rattle.otel_resource.specs.Resource.{PlainResource}
 use Rattle.otel_export.specs.declared.error.OTelSdkError.{OTelSdkError}
 use Rattle.otel_export.specs.declared.error.OTelSdkError.TheVariants.{OutOfMemory}
 use Rattle.otel_export.specs.PlainSpanData.{PlainSpanData}
-use Rattle.otel_batch.specs.Slots.{held, is_holding}
+use Rattle.otel_batch.specs.Slots.{span_held, is_holding}
 use Rattle.otel_batch.specs.Messages.{message_names}
 use Rattle.otel_batch.specs.Workers.{closing_of}
 use Rattle.otel_batch.specs.MachineState.{Counts, put_slot}
 use Rattle.otel_batch.specs.ProducerSteps.{OfferRow, SendRow, UndoRow, AskRow, PostRow, ResetRow, after_send}
 use Rattle.otel_batch.specs.RequestSteps.{RequestRow, CollectRow, ResourceRow}
 use Rattle.otel_batch.specs.WorkerSteps.{TakeRow, TickRow, ClearRow, LoadRow, PullRow, HandOverRow, SubtractRow}
-use Rattle.otel_batch.specs.DrainEnds.{FinishRow, FinishRowFor, CloseRow, IsDropped, SaysDropped, finished}
-use Rattle.otel_batch.specs.PermittedStep.{Permitted}
+use Rattle.otel_batch.specs.DrainEnds.{FinishRow, FinishRowFor, CloseRow, IsDropped, SaysDropped, end_of_drain}
+use Rattle.otel_batch.specs.PermittedStep.{IsPermitted}
 use Rattle.otel_batch.specs.MachineRun.{holds_after, holds_at, accepts}
 use Rattle.otel_batch.specs.declared.machine.state.Slot.{Slot}
 use Rattle.otel_batch.specs.declared.machine.state.Slot.TheVariants as slot
@@ -33,12 +33,12 @@ use Rattle.otel_batch.proofs.TableFacts.{slots_of}
 
 -- what the producers are said to hold is what these slots hold
 pub record AreHeldIn (holds : ℕ → List PlainSpanData) (slots : List Slot) : Type 0 where
-  pub each : (p : ℕ) (span : PlainSpanData) → held (slice_get slots p) ≡ span ∷ [] → holds p ≡ span ∷ []
+  pub each : (p : ℕ) (span : PlainSpanData) → span_held (slice_get slots p) ≡ span ∷ [] → holds p ≡ span ∷ []
 
 pub held_at_slots : (slots : List Slot) → AreHeldIn (holds_at slots) slots
 held_at_slots slots = record { each = λ p span e. e }
 
-idle_holds : (n p : ℕ) → held (slice_get (replicate n slot.Idle) p) ≡ []
+idle_holds : (n p : ℕ) → span_held (slice_get (replicate n slot.Idle) p) ≡ []
 idle_holds zero p = refl
 idle_holds (suc n) zero = refl
 idle_holds (suc n) (suc p) = idle_holds n p
@@ -46,7 +46,7 @@ idle_holds (suc n) (suc p) = idle_holds n p
 -- where all are idle nothing is held
 pub held_at_first : (n : ℕ) → AreHeldIn (λ p. []) (replicate n slot.Idle)
 held_at_first n = record {
-  each = λ p span e. absurd (let none : held (slice_get (replicate n slot.Idle) p) ≡ [] =
+  each = λ p span e. absurd (let none : span_held (slice_get (replicate n slot.Idle) p) ≡ [] =
       idle_holds n p in cc);
 }
 
@@ -60,35 +60,35 @@ same_list h slots slots' e a = rw e a
 -- one slot changed
 set_slots : (h h' : ℕ → List PlainSpanData) (slots slots' : List Slot) (p : ℕ) (new : Slot) →
     slots' ≡ slice_set slots p new → ((q : ℕ) → q ≢ p → h' q ≡ h q) →
-    ((span : PlainSpanData) → held (Some new) ≡ span ∷ [] → h' p ≡ span ∷ []) →
+    ((span : PlainSpanData) → span_held (Some new) ≡ span ∷ [] → h' p ≡ span ∷ []) →
     AreHeldIn h slots → AreHeldIn h' slots'
 set_slots h h' slots slots' p new e others own a = rw e (record {
   each = λ q span g. elim (eqb_tells q p) [
     | inl same ↦ elim (slice_get_cases (slice_set slots p new) p).1 [
       | inl found ↦
           let lt : p < length slots = rw length-set at found.1 in
-          rw same.1 (own span (ap held (sym (slice_get-set_same slots p new lt)) ∙ rw same.1 at g))
+          rw same.1 (own span (ap span_held (sym (slice_get-set_same slots p new lt)) ∙ rw same.1 at g))
       | inr past ↦ absurd (
-          let none : held (slice_get (slice_set slots p new) p) ≡ [] = ap held past.1 in
-          let some : held (slice_get (slice_set slots p new) p) ≡ span ∷ [] = rw same.1 at g in
+          let none : span_held (slice_get (slice_set slots p new) p) ≡ [] = ap span_held past.1 in
+          let some : span_held (slice_get (slice_set slots p new) p) ≡ span ∷ [] = rw same.1 at g in
           cc)
     ]
     | inr other ↦
-        others q other.1 ∙ a.each q span (ap held (sym (slice_get-set_other slots p q new other.1)) ∙ g)
+        others q other.1 ∙ a.each q span (ap span_held (sym (slice_get-set_other slots p q new other.1)) ∙ g)
   ];
 })
 
 -- one slot changed to one that holds no span
 frees : (h : ℕ → List PlainSpanData) (slots slots' : List Slot) (p : ℕ) (new : Slot) →
-    slots' ≡ slice_set slots p new → held (Some new) ≡ [] → AreHeldIn h slots → AreHeldIn h slots'
+    slots' ≡ slice_set slots p new → span_held (Some new) ≡ [] → AreHeldIn h slots → AreHeldIn h slots'
 frees h slots slots' p new e free a =
     set_slots h h slots slots' p new e (λ q n. refl)
-    (λ span g. absurd (let f : held (Some new) ≡ [] = free in cc)) a
+    (λ span g. absurd (let f : span_held (Some new) ≡ [] = free in cc)) a
 
-free-after : (batch_size n : ℕ) → held (Some (after_send batch_size n)) ≡ []
+free-after : (batch_size n : ℕ) → span_held (Some (after_send batch_size n)) ≡ []
 free-after batch_size n = either _
   where
-    either : (b : Bool) → held (Some (if b then slot.Asking else slot.Idle)) ≡ []
+    either : (b : Bool) → span_held (Some (if b then slot.Asking else slot.Idle)) ≡ []
     either true = refl
     either false = refl
 
@@ -105,7 +105,7 @@ offer_holds h s p span outcome.NotEnabled t row a = same_slots h s t row.1 a
 offer_holds h s p span _ t row a = absurd row
 
 -- a slot that says that its request was dropped held no span
-says_dropped-held : (new : Option Slot) → SaysDropped new → held new ≡ []
+says_dropped-held : (new : Option Slot) → SaysDropped new → span_held new ≡ []
 says_dropped-held None says = absurd says
 says_dropped-held (Some slot.Idle) says = absurd says
 says_dropped-held (Some (slot.Holding span n)) says = absurd says
@@ -117,9 +117,9 @@ says_dropped-held (Some (slot.Waiting r)) says = absurd says
 says_dropped-held (Some (slot.Answered r)) says = refl
 
 -- a slot after the dropping of requests holds what it held
-dropped_held : (n : ℕ) (old new : Option Slot) (span : PlainSpanData) → IsDropped n old new → held new ≡ span ∷ [] →
-    held old ≡ span ∷ []
-dropped_held zero old new span d e = ap held (sym d) ∙ e
+dropped_held : (n : ℕ) (old new : Option Slot) (span : PlainSpanData) → IsDropped n old new → span_held new ≡ span ∷ [] →
+    span_held old ≡ span ∷ []
+dropped_held zero old new span d e = ap span_held (sym d) ∙ e
 dropped_held (suc n) old new span d e = absurd (let none = says_dropped-held new d in cc)
 
 finished_holds : (h : ℕ → List PlainSpanData) (y : Why) (s : Counts) (e : Option OTelSdkError) (t : Counts) →
@@ -130,8 +130,8 @@ finished_holds h (why.Flush p) s e t row a = frees h _ _ p _ (slots_of _ _ row.1
 finished_holds h (why.Shutdown p) s e t row a = shut s.control.refused row.1
   where
     shut : (b : Bool) → t ≡ (if b
-        then put_slot (finished s worker.Ready) p (slot.Answered (Err OutOfMemory))
-        else finished s (worker.Closing p)) → AreHeldIn h t.control.slots
+        then put_slot (end_of_drain s worker.Ready) p (slot.Answered (Err OutOfMemory))
+        else end_of_drain s (worker.Closing p)) → AreHeldIn h t.control.slots
     shut true eq = frees h s.control.slots t.control.slots p (slot.Answered (Err OutOfMemory)) (slots_of _ _ eq) refl a
     shut false eq = same_list h s.control.slots t.control.slots (slots_of _ _ eq) a
 
@@ -260,7 +260,7 @@ subtract_holds h s _ t row a = absurd row
 
 -- what the producers are said to hold stays what their slots hold
 pub permitted-holds : (h : ℕ → List PlainSpanData) (s : Counts) (x : Step) (o : Outcome) (t : Counts) →
-    Permitted s x o t → AreHeldIn h s.control.slots → AreHeldIn (λ q. holds_after h x o q) t.control.slots
+    IsPermitted s x o t → AreHeldIn h s.control.slots → AreHeldIn (λ q. holds_after h x o q) t.control.slots
 permitted-holds h s (step.Offer p span) o t row a = offer_holds h s p span o t row a
 permitted-holds h s (step.Send p) o t row a = send_holds h s p o t row a
 permitted-holds h s (step.Undo p) o t row a = undo_holds h s p o t row a
@@ -282,7 +282,7 @@ permitted-holds h s step.Close o t row a = close_holds h s o t row a
 permitted-holds h s step.Finish o t row a = finish_holds h s o t row a
 
 -- a slot that holds a span
-held-holding : (o : Option Slot) → is_holding o ≡ true → (span : PlainSpanData) × (held o ≡ span ∷ [])
+held-holding : (o : Option Slot) → is_holding o ≡ true → (span : PlainSpanData) × (span_held o ≡ span ∷ [])
 held-holding None e = cc
 held-holding (Some (slot.Holding span n)) e = (span, refl)
 held-holding (Some slot.Idle) e = cc
@@ -295,7 +295,7 @@ held-holding (Some (slot.Answered r)) e = cc
 
 -- a send accepts what its producer is said to hold
 pub accepts-held : (h : ℕ → List PlainSpanData) (s : Counts) (x : Step) (o : Outcome) (t : Counts) →
-    Permitted s x o t → AreHeldIn h s.control.slots → accepts (holds_at s.control.slots) x o ≡ accepts h x o
+    IsPermitted s x o t → AreHeldIn h s.control.slots → accepts (holds_at s.control.slots) x o ≡ accepts h x o
 accepts-held h s (step.Send p) outcome.Accepted t row a =
     let x = held-holding (slice_get s.control.slots p) row.0 in
     x.1 ∙ sym (a.each p x.0 x.1)

@@ -8,7 +8,7 @@ use Rattle.otel_batch.specs.Workers.{is_gone}
 use Rattle.otel_batch.specs.MachineState.{Machine, Counts, counts, slot_at}
 use Rattle.otel_batch.specs.SoundMachine.{IsSound}
 use Rattle.otel_batch.specs.RequestSteps.{RequestRow}
-use Rattle.otel_batch.specs.PermittedStep.{Permitted}
+use Rattle.otel_batch.specs.PermittedStep.{IsPermitted}
 use Rattle.otel_batch.specs.MachineRun.{Run}
 use Rattle.otel_batch.specs.KnownRequests.{step_of, requests_of, IsPending, IsAnswered, StaysAnswered, StaysKnown, IsKnownBehind, KnowsRequests}
 use Rattle.otel_batch.specs.declared.machine.state.Request.{Request}
@@ -42,7 +42,7 @@ requested-waits s asked p t row =
     rw slots (slice_get-set_same s.control.slots p (slot.Waiting asked) lt)
 
 posted-waits : (s : Counts) (asked : Request) (p : ℕ) (t : Counts) →
-    Permitted s (step_of asked p) outcome.Requested t → slot_at t p ≡ Some (slot.Waiting asked)
+    IsPermitted s (step_of asked p) outcome.Requested t → slot_at t p ≡ Some (slot.Waiting asked)
 posted-waits s request.Flush p t row = requested-waits s request.Flush p t row
 posted-waits s request.Shutdown p t row = requested-waits s request.Shutdown p t row
 
@@ -103,7 +103,7 @@ module _ {E : Type 0} (calls : Ghosts E) where
   made-known zero p asked s (x ∷ xs) (o ∷ os) t run at e =
       let is : x ≡ step_of asked p = cc in
       let made : o ≡ outcome.Requested = cc in
-      let row : Permitted (counts s) (step_of asked p) outcome.Requested (counts run.0) =
+      let row : IsPermitted (counts s) (step_of asked p) outcome.Requested (counts run.0) =
       rw (is, made) at run.1.permitted in
       record {
         before = s;

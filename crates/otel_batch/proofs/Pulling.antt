@@ -11,7 +11,7 @@ use Rattle.otel_batch.specs.MachineState.{Control, Counts, Machine, counts, limi
 use Rattle.otel_batch.specs.SoundMachine.{IsSound}
 use Rattle.otel_batch.specs.WorkerSteps.{PullRow}
 use Rattle.otel_batch.specs.GoingOn.{next_step}
-use Rattle.otel_batch.specs.MachineRun.{Stepped}
+use Rattle.otel_batch.specs.MachineRun.{IsStep}
 use Rattle.otel_batch.specs.WorkedOff.{PullsBatch, is_idle_worker, last_error, next_of_worker}
 use Rattle.otel_batch.specs.declared.machine.state.Worker.{Worker}
 use Rattle.otel_batch.specs.declared.machine.state.Worker.TheVariants as worker
@@ -106,7 +106,7 @@ at c e w hand waiting = record { control = record c { worker = w }; hand = hand;
 module _ {E : Type 0} (calls : Ghosts E) where
   -- one pull, behind which the worker does not pull
   pub pulls_once : (s : Machine E) (o : Outcome) (t : Machine E) → next_of_worker s.control ≡ Some step.Pull →
-      Stepped calls s step.Pull o t → (t.control.worker ≡ worker.Pulling → ⊥) → PullsBatch calls s t
+      IsStep calls s step.Pull o t → (t.control.worker ≡ worker.Pulling → ⊥) → PullsBatch calls s t
   pulls_once s o t next pulled over = record {
     more = 0;
     outcomes = [];
@@ -118,7 +118,7 @@ module _ {E : Type 0} (calls : Ghosts E) where
 
   -- one pull, and then those of the rest
   pulls_on : (s : Machine E) (o : Outcome) (between t : Machine E) → next_of_worker s.control ≡ Some step.Pull →
-      Stepped calls s step.Pull o between → PullsBatch calls between t → PullsBatch calls s t
+      IsStep calls s step.Pull o between → PullsBatch calls between t → PullsBatch calls s t
   pulls_on s o between t next pulled rest = record {
     more = suc rest.more;
     outcomes = rest.pulled ∷ rest.outcomes;
@@ -138,7 +138,7 @@ module _ {E : Type 0} (calls : Ghosts E) (c : Control) (e : E)
 
   -- nothing waits
   finds_none : (hand : List PlainSpanData) → 0 < length hand → IsSound (counts (at c e worker.Pulling hand [])) →
-      Stepped calls (at c e worker.Pulling hand []) step.Pull outcome.Empty (at c e worker.Handing hand [])
+      IsStep calls (at c e worker.Pulling hand []) step.Pull outcome.Empty (at c e worker.Handing hand [])
   finds_none hand some sound =
       let s = counts (at c e worker.Pulling hand []) in
       let ends : put_worker s worker.Handing ≡ put_worker s (if s.hand == 0 then worker.Finishing else worker.Handing) =
@@ -164,7 +164,7 @@ module _ {E : Type 0} (calls : Ghosts E) (c : Control) (e : E)
 
   pulls_one : (hand : List PlainSpanData) (x : PlainSpanData) (ws : List PlainSpanData) →
       IsSound (counts (at c e worker.Pulling hand (x ∷ ws))) →
-      Stepped calls (at c e worker.Pulling hand (x ∷ ws)) step.Pull outcome.Pulled
+      IsStep calls (at c e worker.Pulling hand (x ∷ ws)) step.Pull outcome.Pulled
       (at c e (behind (length hand)) (hand ++ x ∷ []) ws)
   pulls_one hand x ws sound =
       let more = one_more_in_hand hand x in
@@ -198,7 +198,7 @@ module _ {E : Type 0} (calls : Ghosts E) (c : Control) (e : E)
   -- one that leaves room in the hand
   pulls_further : (hand : List PlainSpanData) (x : PlainSpanData) (ws : List PlainSpanData) →
       length hand + 1 < limit_of c → IsSound (counts (at c e worker.Pulling hand (x ∷ ws))) →
-      Stepped calls (at c e worker.Pulling hand (x ∷ ws)) step.Pull outcome.Pulled
+      IsStep calls (at c e worker.Pulling hand (x ∷ ws)) step.Pull outcome.Pulled
       (at c e worker.Pulling (hand ++ x ∷ []) ws)
   pulls_further hand x ws room sound =
       let on : behind (length hand) ≡ worker.Pulling = elim (behind_cases (length hand)) [
@@ -245,7 +245,7 @@ filled k m = at m.control m.exporter worker.Handing (m.hand ++ take k m.waiting)
 
 -- one pull, behind which the worker still pulls, and all that its hand has room for
 pub pulls_full : {E : Type 0} (calls : Ghosts E) (s : Machine E) (o : Outcome) (m : Machine E) (k : ℕ) →
-    next_of_worker s.control ≡ Some step.Pull → Stepped calls s step.Pull o m → m.control.worker ≡ worker.Pulling →
+    next_of_worker s.control ≡ Some step.Pull → IsStep calls s step.Pull o m → m.control.worker ≡ worker.Pulling →
     k ≡ limit_of m.control - length m.hand → PullsBatch calls s (filled k m)
 pulls_full calls s o m k next first pulls room =
     let was = next_is_pull s.control next in

@@ -5,13 +5,13 @@ use Rattle.circular_buffer.proofs.Places.{slice_get-set_same}
 use Rattle.otel_export.specs.PlainSpanData.{PlainSpanData, is_sampled}
 use Rattle.otel_export.specs.StoredBatches.{one_more}
 use Rattle.otel_export.specs.declared.trace.export.SpanExporter.{Ghosts}
-use Rattle.otel_batch.specs.Slots.{held as held_by, is_holding, number_held, slot_counts, slot_asks, slot_waits}
+use Rattle.otel_batch.specs.Slots.{span_held, is_holding, number_held, slot_counts, slot_asks, slot_waits}
 use Rattle.otel_batch.specs.MachineState.{Control, Machine, counts}
 use Rattle.otel_batch.specs.SoundMachine.{IsSound}
 use Rattle.otel_batch.specs.ProducerSteps.{after_send}
-use Rattle.otel_batch.specs.PermittedStep.{Permitted}
-use Rattle.otel_batch.specs.MovedSpans.{Moved}
-use Rattle.otel_batch.specs.MachineRun.{Stepped}
+use Rattle.otel_batch.specs.PermittedStep.{IsPermitted}
+use Rattle.otel_batch.specs.MovedSpans.{MovesSpans}
+use Rattle.otel_batch.specs.MachineRun.{IsStep}
 use Rattle.otel_batch.specs.WorkedOff.{GoesBy, OffersSpan, next_of_producer, producers_next}
 use Rattle.otel_batch.specs.declared.machine.state.Slot.{Slot}
 use Rattle.otel_batch.specs.declared.machine.state.Slot.TheVariants as slot
@@ -52,7 +52,7 @@ put_five (v ∷ vs) old x y z u at = let is : v ≡ old = cc in ap (λ w. w ∷ 
 module _ {E : Type 0} (calls : Ghosts E) where
   -- a step that is permitted, moves spans as it says, and keeps a sound machine sound
   pub stepped : (s : Machine E) (x : Step) (o : Outcome) (t : Machine E) → IsSound (counts s) →
-      Permitted (counts s) x o (counts t) → Moved calls s x o t → IsSound (counts t) → Stepped calls s x o t
+      IsPermitted (counts s) x o (counts t) → MovesSpans calls s x o t → IsSound (counts t) → IsStep calls s x o t
   stepped s x o t sound permitted moved after = record {
     permitted = permitted;
     moved = moved;
@@ -95,7 +95,7 @@ module _ {E : Type 0} (calls : Ghosts E) (s : Machine E) (span : PlainSpanData)
   held_sound = sound_slot (counts s) 0 slot.Idle holding at sound number (length s.waiting) s.control.dropped
       (omega arith) (omega arith) (omega arith) sound.fits.waiting_fits sound.fits.dropped_fits
 
-  offers : is_sampled span ≡ true → Stepped calls s (step.Offer 0 span) (outcome.Counted number) held
+  offers : is_sampled span ≡ true → IsStep calls s (step.Offer 0 span) (outcome.Counted number) held
   offers sampled = stepped calls s (step.Offer 0 span) (outcome.Counted number) held sound (at, sampled, refl, refl)
       (record { exporter = refl; hand = refl; waiting = refl }) held_sound
 
@@ -128,7 +128,7 @@ module _ {E : Type 0} (calls : Ghosts E) (s : Machine E) (span : PlainSpanData)
       sound.fits.waiting_fits lt
 
   undoes : (dropped : ℕ) → dropped < 2 ^ 64 →
-      Stepped calls (refused dropped) (step.Undo 0) outcome.Undone (undone dropped)
+      IsStep calls (refused dropped) (step.Undo 0) outcome.Undone (undone dropped)
   undoes dropped lt = stepped calls (refused dropped) (step.Undo 0) outcome.Undone (undone dropped)
       (refused_sound dropped lt) (refused_at dropped, refl) (record { exporter = refl; hand = refl; waiting = refl })
       (undone_sound dropped lt)
@@ -144,7 +144,7 @@ module _ {E : Type 0} (calls : Ghosts E) (s : Machine E) (span : PlainSpanData)
 
   -- a send that refuses it leaves all but that count
   refuses : (o : Outcome) (dropped : ℕ) → is_sampled span ≡ true → dropped < 2 ^ 64 →
-      Stepped calls held (step.Send 0) o (refused dropped) →
+      IsStep calls held (step.Send 0) o (refused dropped) →
       OffersSpan calls s span (record s { control = record s.control { dropped = dropped } })
   refuses o dropped sampled lt sends = record {
     offered = outcome.Counted number;
@@ -220,7 +220,7 @@ module _ {E : Type 0} (calls : Ghosts E) (s : Machine E) (span : PlainSpanData)
 
   queues : (b : Bool) → nat_le s.control.batch_size number ≡ b → s.control.closed ≡ false →
       length s.waiting < s.control.queue_size →
-      Stepped calls held (step.Send 0) outcome.Accepted (queued (if b then slot.Asking else slot.Idle))
+      IsStep calls held (step.Send 0) outcome.Accepted (queued (if b then slot.Asking else slot.Idle))
   queues b is opens room =
       let next : (if b then slot.Asking else slot.Idle)
       ≡ after_send s.control.batch_size (number_held (slice_get held.control.slots 0)) =
@@ -236,7 +236,7 @@ module _ {E : Type 0} (calls : Ghosts E) (s : Machine E) (span : PlainSpanData)
             ≡ (length s.waiting + 1, after_send s.control.batch_size (number_held (slice_get held.control.slots 0))) =
             (let more = one_longer in cc) in both),
       )
-      (record { exporter = refl; hand = refl; waiting = ap (λ o. s.waiting ++ held_by o) (sym held_at) })
+      (record { exporter = refl; hand = refl; waiting = ap (λ o. s.waiting ++ span_held o) (sym held_at) })
       (queued_sound b room)
 
   -- what is left of a put behind the send
@@ -282,7 +282,7 @@ module _ {E : Type 0} (calls : Ghosts E) (s : Machine E) (span : PlainSpanData)
           slots = slice_set (queued slot.Asking).control.slots 0 slot.Idle;
         };
       } in
-      let asks : Stepped calls (queued slot.Asking) (step.Ask 0) outcome.AlreadyAsked idle =
+      let asks : IsStep calls (queued slot.Asking) (step.Ask 0) outcome.AlreadyAsked idle =
       stepped calls (queued slot.Asking) (step.Ask 0) outcome.AlreadyAsked idle (queued_sound true room)
       (asking_at, flag, refl) (record { exporter = refl; hand = refl; waiting = refl })
       (sound_slot (counts (queued slot.Asking)) 0 slot.Asking slot.Idle asking_at (queued_sound true room) number
@@ -317,7 +317,7 @@ module _ {E : Type 0} (calls : Ghosts E) (s : Machine E) (span : PlainSpanData)
       sound_may_post (counts (queued slot.Asking)) 0 asking_at clear (queued_sound true room)
 
   may_post : length s.waiting < s.control.queue_size → s.control.flag ≡ false →
-      Stepped calls (queued slot.Asking) (step.Ask 0) outcome.MayPost posting
+      IsStep calls (queued slot.Asking) (step.Ask 0) outcome.MayPost posting
   may_post room clear = stepped calls (queued slot.Asking) (step.Ask 0) outcome.MayPost posting
       (queued_sound true room) (asking_at, clear, refl) (record { exporter = refl; hand = refl; waiting = refl })
       (posting_sound room clear)
@@ -338,7 +338,7 @@ module _ {E : Type 0} (calls : Ghosts E) (s : Machine E) (span : PlainSpanData)
         };
       } in
       let crowded : (length s.control.messages == 64) ≡ false = grind (arith, common_steps, places) in
-      let posts : Stepped calls posting (step.Post 0) outcome.Posted idle =
+      let posts : IsStep calls posting (step.Post 0) outcome.Posted idle =
       stepped calls posting (step.Post 0) outcome.Posted idle (posting_sound room clear)
       (posting_at, opens, crowded, refl) (record { exporter = refl; hand = refl; waiting = refl })
       (sound_posted (counts posting) 0 slot.Posting slot.Idle posting_at (posting_sound room clear) message.Export opens
@@ -387,10 +387,10 @@ module _ {E : Type 0} (calls : Ghosts E) (s : Machine E) (span : PlainSpanData)
       sound_slot (counts posting) 0 slot.Posting slot.Resetting posting_at (posting_sound room clear) number
       (length (s.waiting ++ span ∷ [])) s.control.dropped (omega arith) (omega arith) (omega arith)
       (omega (arith, one_longer, room)) sound.fits.dropped_fits in
-      let fails : Stepped calls posting (step.Post 0) outcome.Full resetting =
+      let fails : IsStep calls posting (step.Post 0) outcome.Full resetting =
       stepped calls posting (step.Post 0) outcome.Full resetting (posting_sound room clear)
       (posting_at, opens, crowded, refl) (record { exporter = refl; hand = refl; waiting = refl }) after in
-      let resets : Stepped calls resetting (step.Reset 0) outcome.ResetDone idle =
+      let resets : IsStep calls resetting (step.Reset 0) outcome.ResetDone idle =
       stepped calls resetting (step.Reset 0) outcome.ResetDone idle after (at_reset, refl)
       (record { exporter = refl; hand = refl; waiting = refl }) (sound_reset (counts resetting) 0 at_reset after) in
       accepts true sampled is opens room (step.Ask 0 ∷ step.Post 0 ∷ step.Reset 0 ∷ [])

@@ -14,8 +14,8 @@ use Rattle.otel_batch.specs.MachineState.{Counts, put_slot, slot_at}
 use Rattle.otel_batch.specs.ProducerSteps.{OfferRow, SendRow, UndoRow, AskRow, PostRow, ResetRow}
 use Rattle.otel_batch.specs.RequestSteps.{RequestRow, CollectRow, ResourceRow}
 use Rattle.otel_batch.specs.WorkerSteps.{TakeRow, TickRow, ClearRow, LoadRow, PullRow, HandOverRow, SubtractRow}
-use Rattle.otel_batch.specs.DrainEnds.{FinishRow, FinishRowFor, CloseRow, IsDropped, SaysDropped, finished}
-use Rattle.otel_batch.specs.PermittedStep.{Permitted}
+use Rattle.otel_batch.specs.DrainEnds.{FinishRow, FinishRowFor, CloseRow, IsDropped, SaysDropped, end_of_drain}
+use Rattle.otel_batch.specs.PermittedStep.{IsPermitted}
 use Rattle.otel_batch.specs.SoundMachine.{IsSound}
 use Rattle.otel_batch.specs.KeptRequests.{KeepsRequests}
 use Rattle.otel_batch.specs.KnownRequests.{requests_of}
@@ -224,8 +224,8 @@ finished_keeps (why.Flush q) s e t at is row sound =
 finished_keeps (why.Shutdown q) s e t at is row sound = shut s.control.refused row.1
   where
     shut : (b : Bool) → t ≡ (if b
-        then put_slot (finished s worker.Ready) q (slot.Answered (Err OutOfMemory))
-        else finished s (worker.Closing q)) → KeepsRequests s step.Finish (outcome.Finished e) t
+        then put_slot (end_of_drain s worker.Ready) q (slot.Answered (Err OutOfMemory))
+        else end_of_drain s (worker.Closing q)) → KeepsRequests s step.Finish (outcome.Finished e) t
     shut true eq = answers_keeps s e t q (Err OutOfMemory) (slots_of _ _ eq) (rw (at, is) (one_shutdown q)) sound
     shut false eq = same_keeps s _ _ t (slots_of _ _ eq)
 
@@ -306,7 +306,7 @@ close_keeps s outcome.NotEnabled t row sound = same_keeps s _ _ t (slots_of _ _ 
 close_keeps s _ t row sound = absurd row
 
 -- no step loses a request
-pub permitted-keeps : (s : Counts) (x : Step) (o : Outcome) (t : Counts) → Permitted s x o t → IsSound s →
+pub permitted-keeps : (s : Counts) (x : Step) (o : Outcome) (t : Counts) → IsPermitted s x o t → IsSound s →
     KeepsRequests s x o t
 permitted-keeps s (step.Offer p span) o t row sound = offer_keeps s p span o t row
 permitted-keeps s (step.Send p) o t row sound = send_keeps s p o t row
@@ -334,34 +334,34 @@ enabled_if _ not = refl
 
 -- the next step of a worker that is not gone is enabled
 next_enabled : (s : Counts) (w : Worker) (o : Outcome) (t : Counts) → s.control.worker ≡ w → is_gone w ≡ false →
-    Permitted s (next_step w) o t → is_enabled o ≡ true
+    IsPermitted s (next_step w) o t → is_enabled o ≡ true
 next_enabled s worker.Ready o t at stays row = enabled_if o (λ e.
-    let off : Permitted s step.Take outcome.NotEnabled t = rw e at row in
+    let off : IsPermitted s step.Take outcome.NotEnabled t = rw e at row in
     let no : is_ready s.control.worker ≡ false = off.0 in let yes : is_ready s.control.worker ≡ true = rw at refl in cc)
 next_enabled s worker.Clearing o t at stays row = enabled_if o (λ e.
-    let off : Permitted s step.Clear outcome.NotEnabled t = rw e at row in
+    let off : IsPermitted s step.Clear outcome.NotEnabled t = rw e at row in
     let no : is_clearing s.control.worker ≡ false = off.0 in let yes : is_clearing s.control.worker ≡ true = rw at refl in cc)
 next_enabled s (worker.Loading y) o t at stays row = enabled_if o (λ e.
-    let off : Permitted s step.Load outcome.NotEnabled t = rw e at row in
+    let off : IsPermitted s step.Load outcome.NotEnabled t = rw e at row in
     let no : is_loading s.control.worker ≡ false = off.0 in let yes : is_loading s.control.worker ≡ true = rw at refl in cc)
 next_enabled s worker.Pulling o t at stays row = enabled_if o (λ e.
-    let off : Permitted s step.Pull outcome.NotEnabled t = rw e at row in
+    let off : IsPermitted s step.Pull outcome.NotEnabled t = rw e at row in
     let no : is_pulling s.control.worker ≡ false = off.0 in let yes : is_pulling s.control.worker ≡ true = rw at refl in cc)
 next_enabled s worker.Handing o t at stays row = enabled_if o (λ e.
-    let off : Permitted s step.HandOver outcome.NotEnabled t = rw e at row in
+    let off : IsPermitted s step.HandOver outcome.NotEnabled t = rw e at row in
     let no : is_handing s.control.worker ≡ false = off.0 in let yes : is_handing s.control.worker ≡ true = rw at refl in cc)
 next_enabled s (worker.Subtracting k) o t at stays row = enabled_if o (λ e.
-    let off : Permitted s step.Subtract outcome.NotEnabled t = rw e at row in
+    let off : IsPermitted s step.Subtract outcome.NotEnabled t = rw e at row in
     let no : is_subtracting s.control.worker ≡ false = off.0 in
     let yes : is_subtracting s.control.worker ≡ true = rw at refl in cc)
 next_enabled s worker.Finishing o t at stays row = enabled_if o (λ e.
-    let off : Permitted s step.Finish outcome.NotEnabled t = rw e at row in
+    let off : IsPermitted s step.Finish outcome.NotEnabled t = rw e at row in
     let no : is_finishing s.control.worker ≡ false = off.0 in
     let yes : is_finishing s.control.worker ≡ true = rw at refl in cc)
 next_enabled s (worker.Closing p) o t at stays row = enabled_if o (λ e.
-    let off : Permitted s step.Close outcome.NotEnabled t = rw e at row in
+    let off : IsPermitted s step.Close outcome.NotEnabled t = rw e at row in
     let no : is_closing s.control.worker ≡ false = off.0 in let yes : is_closing s.control.worker ≡ true = rw at refl in cc)
 next_enabled s worker.Gone o t at stays row = cc
 
-pub permitted-goes_on : (s : Counts) (x : Step) (o : Outcome) (t : Counts) → Permitted s x o t → GoesOn s x o
+pub permitted-goes_on : (s : Counts) (x : Step) (o : Outcome) (t : Counts) → IsPermitted s x o t → GoesOn s x o
 permitted-goes_on s x o t row e stays = next_enabled s s.control.worker o t refl stays (rw e at row)

@@ -5,9 +5,9 @@ use Rattle.otel_batch.specs.MachineState.{Machine, Counts, counts}
 use Rattle.otel_batch.specs.SoundMachine.{IsSound}
 use Rattle.otel_batch.specs.WorkerSteps.{TakeRow, TickRow, ClearRow, LoadRow, PullRow, HandOverRow, SubtractRow}
 use Rattle.otel_batch.specs.DrainEnds.{FinishRow, CloseRow}
-use Rattle.otel_batch.specs.PermittedStep.{Permitted}
-use Rattle.otel_batch.specs.MovedSpans.{Keeps, Moved}
-use Rattle.otel_batch.specs.MachineRun.{Run, Stepped, batch_sizes}
+use Rattle.otel_batch.specs.PermittedStep.{IsPermitted}
+use Rattle.otel_batch.specs.MovedSpans.{Keeps, MovesSpans}
+use Rattle.otel_batch.specs.MachineRun.{Run, IsStep, batch_sizes}
 use Rattle.otel_batch.specs.ShutdownSilence.{SilentAfterShutdown, StaysSilent}
 use Rattle.otel_batch.specs.declared.machine.state.Worker.{Worker}
 use Rattle.otel_batch.specs.declared.machine.state.Worker.TheVariants as worker
@@ -101,7 +101,7 @@ finish_gone s outcome.NotEnabled t gone row = rests_gone s t row.1 gone
 finish_gone s _ t gone row = absurd row
 
 permitted_gone : (s : Counts) (x : Step) (o : Outcome) (t : Counts) → s.control.worker ≡ worker.Gone →
-    Permitted s x o t → StaysGone o t
+    IsPermitted s x o t → StaysGone o t
 permitted_gone s (step.Offer p span) o t gone row = gone_by o s t gone (permitted-alone s (step.Offer p span) o t refl row)
 permitted_gone s (step.Send p) o t gone row = gone_by o s t gone (permitted-alone s (step.Send p) o t refl row)
 permitted_gone s (step.Undo p) o t gone row = gone_by o s t gone (permitted-alone s (step.Undo p) o t refl row)
@@ -123,7 +123,7 @@ permitted_gone s step.Close o t gone row = close_gone s o t gone row
 permitted_gone s step.Finish o t gone row = finish_gone s o t gone row
 
 -- only the worker's last step completes a shutdown
-shut_down-closes : (s : Counts) (x : Step) (k : ℕ) (t : Counts) → Permitted s x (outcome.ShutDown k) t → x ≡ step.Close
+shut_down-closes : (s : Counts) (x : Step) (k : ℕ) (t : Counts) → IsPermitted s x (outcome.ShutDown k) t → x ≡ step.Close
 shut_down-closes s (step.Offer p span) k t row = absurd row
 shut_down-closes s (step.Send p) k t row = absurd row
 shut_down-closes s (step.Undo p) k t row = absurd row
@@ -147,7 +147,7 @@ shut_down-closes s step.Finish k t row = absurd row
 module _ {E : Type 0} (calls : Ghosts E) where
   -- a machine that is closed and whose worker is gone moves no span, and keeps its exporter
   moved_gone : (s : Machine E) (x : Step) (o : Outcome) (t : Machine E) → s.control.worker ≡ worker.Gone →
-      s.control.closed ≡ true → Permitted (counts s) x o (counts t) → Moved calls s x o t → Keeps s t
+      s.control.closed ≡ true → IsPermitted (counts s) x o (counts t) → MovesSpans calls s x o t → Keeps s t
   moved_gone s (step.Send p) outcome.Accepted t gone closed row m = absurd (let open_is = row.1 in cc)
   moved_gone s step.Pull outcome.Pulled t gone closed row m = absurd (let at = row.0 in cc)
   moved_gone s step.HandOver (outcome.HandedOver k e) t gone closed row m = absurd (let at = row.0 in cc)
@@ -207,13 +207,13 @@ module _ {E : Type 0} (calls : Ghosts E) where
   -- a step that completes a shutdown changes no telling, leaves the worker gone and the machine closed, and says how
   -- many spans wait
   pub closes : (s : Machine E) (x : Step) (o : Outcome) (k : ℕ) (t : Machine E) → o ≡ outcome.ShutDown k →
-      Stepped calls s x o t → (calls.told t.exporter ≡ calls.told s.exporter) × (t.control.worker ≡ worker.Gone)
+      IsStep calls s x o t → (calls.told t.exporter ≡ calls.told s.exporter) × (t.control.worker ≡ worker.Gone)
       × (t.control.closed ≡ true) × (length t.waiting ≡ k)
   closes s x o k t e took =
-      let row : Permitted (counts s) x (outcome.ShutDown k) (counts t) = rw e at took.permitted in
+      let row : IsPermitted (counts s) x (outcome.ShutDown k) (counts t) = rw e at took.permitted in
       let is : x ≡ step.Close = shut_down-closes (counts s) x k (counts t) row in
-      let moved : Moved calls s step.Close (outcome.ShutDown k) t = rw (e, is) at took.moved in
-      let closed : Permitted (counts s) step.Close (outcome.ShutDown k) (counts t) = rw is at row in (
+      let moved : MovesSpans calls s step.Close (outcome.ShutDown k) t = rw (e, is) at took.moved in
+      let closed : IsPermitted (counts s) step.Close (outcome.ShutDown k) (counts t) = rw is at row in (
         moved.told,
         ap (λ c. c.control.worker) closed.3,
         ap (λ c. c.control.closed) closed.3,

@@ -10,8 +10,8 @@ use Rattle.otel_batch.specs.Drains.{is_workers}
 use Rattle.otel_batch.specs.ProducerSteps.{OfferRow, SendRow, UndoRow, AskRow, PostRow, ResetRow}
 use Rattle.otel_batch.specs.RequestSteps.{RequestRow, CollectRow, ResourceRow}
 use Rattle.otel_batch.specs.WorkerSteps.{TakeRow, TickRow, ClearRow, LoadRow, PullRow, HandOverRow, SubtractRow}
-use Rattle.otel_batch.specs.DrainEnds.{FinishRow, FinishRowFor, CloseRow, finished}
-use Rattle.otel_batch.specs.PermittedStep.{Permitted}
+use Rattle.otel_batch.specs.DrainEnds.{FinishRow, FinishRowFor, CloseRow, end_of_drain}
+use Rattle.otel_batch.specs.PermittedStep.{IsPermitted}
 use Rattle.otel_batch.specs.declared.machine.state.Slot.TheVariants as slot
 use Rattle.otel_batch.specs.declared.machine.state.Request.{Request}
 use Rattle.otel_batch.specs.declared.machine.state.Request.TheVariants as request
@@ -261,8 +261,8 @@ finished_leaves (why.Flush p) s e t row = leaves_by _ _ _ _ _ row.1 refl refl re
 finished_leaves (why.Shutdown p) s e t row = shut s.control.refused row.1
   where
     shut : (b : Bool) → t ≡ (if b
-        then put_slot (finished s worker.Ready) p (slot.Answered (Err OutOfMemory))
-        else finished s (worker.Closing p)) → Leaves step.Finish (outcome.Finished e) s t
+        then put_slot (end_of_drain s worker.Ready) p (slot.Answered (Err OutOfMemory))
+        else end_of_drain s (worker.Closing p)) → Leaves step.Finish (outcome.Finished e) s t
     shut true eq = leaves_by _ _ _ _ _ eq refl refl refl
     shut false eq = leaves_by _ _ _ _ _ eq refl refl refl
 
@@ -272,7 +272,7 @@ finish_leaves s outcome.NotEnabled t row = leaves_by _ _ _ _ _ row.1 refl refl r
 finish_leaves s _ t row = absurd row
 
 -- what every step leaves
-pub permitted-leaves : (s : Counts) (x : Step) (o : Outcome) (t : Counts) → Permitted s x o t → Leaves x o s t
+pub permitted-leaves : (s : Counts) (x : Step) (o : Outcome) (t : Counts) → IsPermitted s x o t → Leaves x o s t
 permitted-leaves s (step.Offer p span) o t row = offer_leaves s p span o t row
 permitted-leaves s (step.Send p) o t row = send_leaves s p o t row
 permitted-leaves s (step.Undo p) o t row = undo_leaves s p o t row
@@ -294,7 +294,7 @@ permitted-leaves s step.Close o t row = close_leaves s o t row
 permitted-leaves s step.Finish o t row = finish_leaves s o t row
 
 -- what a producer's step leaves
-pub permitted-alone : (s : Counts) (x : Step) (o : Outcome) (t : Counts) → is_workers x ≡ false → Permitted s x o t →
+pub permitted-alone : (s : Counts) (x : Step) (o : Outcome) (t : Counts) → is_workers x ≡ false → IsPermitted s x o t →
     LeavesWorker o s t
 permitted-alone s (step.Offer p span) o t not row = offer_alone s p span o t row
 permitted-alone s (step.Send p) o t not row = send_alone s p o t row
@@ -317,7 +317,7 @@ permitted-alone s step.Close o t not row = absurd (cc)
 permitted-alone s step.Finish o t not row = absurd (cc)
 
 -- a step that is not enabled changes nothing
-pub permitted-rests : (s : Counts) (x : Step) (t : Counts) → Permitted s x outcome.NotEnabled t → t ≡ s
+pub permitted-rests : (s : Counts) (x : Step) (t : Counts) → IsPermitted s x outcome.NotEnabled t → t ≡ s
 permitted-rests s (step.Offer p span) t row = row.1
 permitted-rests s (step.Send p) t row = row.1
 permitted-rests s (step.Undo p) t row = row.1
@@ -340,7 +340,7 @@ permitted-rests s step.Finish t row = row.1
 
 -- only the worker's hand-over hands a batch over, which is what was in its hand
 pub handed_over-hands : (s : Counts) (x : Step) (k : ℕ) (e : Option OTelSdkError) (t : Counts) →
-    Permitted s x (outcome.HandedOver k e) t → (s.control.worker ≡ worker.Handing) × (k ≡ s.hand)
+    IsPermitted s x (outcome.HandedOver k e) t → (s.control.worker ≡ worker.Handing) × (k ≡ s.hand)
 handed_over-hands s (step.Offer p span) k e t row = absurd row
 handed_over-hands s (step.Send p) k e t row = absurd row
 handed_over-hands s (step.Undo p) k e t row = absurd row

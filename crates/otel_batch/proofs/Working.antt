@@ -11,8 +11,8 @@ use Rattle.otel_batch.specs.MachineRun.{Run}
 use Rattle.otel_batch.specs.ProducerSteps.{OfferRow, SendRow, UndoRow, AskRow, PostRow, ResetRow}
 use Rattle.otel_batch.specs.RequestSteps.{RequestRow, CollectRow, ResourceRow}
 use Rattle.otel_batch.specs.WorkerSteps.{TakeRow, TickRow, ClearRow, LoadRow, PullRow, HandOverRow, SubtractRow}
-use Rattle.otel_batch.specs.DrainEnds.{FinishRow, FinishRowFor, CloseRow, finished}
-use Rattle.otel_batch.specs.PermittedStep.{Permitted}
+use Rattle.otel_batch.specs.DrainEnds.{FinishRow, FinishRowFor, CloseRow, end_of_drain}
+use Rattle.otel_batch.specs.PermittedStep.{IsPermitted}
 use Rattle.otel_batch.specs.WorkLeft.{worker_work, hand_work, work_left, is_work, work_steps, adds_work, work_added}
 use Rattle.otel_batch.specs.Workers.{is_closing}
 use Rattle.otel_batch.specs.Drains.{is_workers}
@@ -142,8 +142,8 @@ finished_lessens (why.Flush p) s e t at row = rw (row.1, at) (omega arith)
 finished_lessens (why.Shutdown p) s e t at row = shut s.control.refused row.1
   where
     shut : (b : Bool) → t ≡ (if b
-        then put_slot (finished s worker.Ready) p (slot.Answered (Err OutOfMemory))
-        else finished s (worker.Closing p)) → work_left t < work_left s
+        then put_slot (end_of_drain s worker.Ready) p (slot.Answered (Err OutOfMemory))
+        else end_of_drain s (worker.Closing p)) → work_left t < work_left s
     shut true eq = rw (eq, at) (omega arith)
     shut false eq = rw (eq, at) (omega arith)
 
@@ -177,7 +177,7 @@ close_lessens s outcome.NotEnabled t row works = absurd (cc)
 close_lessens s _ t row works = absurd row
 
 -- each step of the worker that finds something to do lessens what is left
-pub permitted-lessens : (s t : Counts) (x : Step) (o : Outcome) → Permitted s x o t → is_workers x ≡ true →
+pub permitted-lessens : (s t : Counts) (x : Step) (o : Outcome) → IsPermitted s x o t → is_workers x ≡ true →
     is_work o ≡ true → work_left t < work_left s
 permitted-lessens s t step.Take o row own works = take_lessens s o t row works
 permitted-lessens s t step.Tick o row own works = tick_lessens s o t row works
@@ -258,7 +258,7 @@ post_resource_adds s resource outcome.Posted t row = let more = one_more_message
 post_resource_adds s resource _ t row = absurd row
 
 -- what a producer's step adds at most
-permitted-adds : (s : Counts) (x : Step) (o : Outcome) (t : Counts) → Permitted s x o t → is_workers x ≡ false →
+permitted-adds : (s : Counts) (x : Step) (o : Outcome) (t : Counts) → IsPermitted s x o t → is_workers x ≡ false →
     work_left t ≤ work_left s + adds_work o
 permitted-adds s (step.Offer p span) o t row others = offer_adds s p span o t row
 permitted-adds s (step.Send p) o t row others = send_adds s p o t row
@@ -273,17 +273,17 @@ permitted-adds s (step.PostResource resource) o t row others = post_resource_add
 permitted-adds s _ o t row others = absurd (cc)
 
 -- only a take finds nothing, and only the timer ticks
-nothing-rests : (s : Counts) (x : Step) (t : Counts) → Permitted s x outcome.Nothing t → t ≡ s
+nothing-rests : (s : Counts) (x : Step) (t : Counts) → IsPermitted s x outcome.Nothing t → t ≡ s
 nothing-rests s step.Take t row = row.2
 nothing-rests s _ t row = absurd row
 
-ticked-adds : (s : Counts) (x : Step) (t : Counts) → Permitted s x outcome.Ticked t →
+ticked-adds : (s : Counts) (x : Step) (t : Counts) → IsPermitted s x outcome.Ticked t →
     work_left t ≤ work_left s + 4
 ticked-adds s step.Tick t row = rw (row.1, row.0) (omega arith)
 ticked-adds s _ t row = absurd row
 
 -- what another step of the worker adds at most
-idle-adds : (s : Counts) (x : Step) (o : Outcome) (t : Counts) → Permitted s x o t → is_work o ≡ false →
+idle-adds : (s : Counts) (x : Step) (o : Outcome) (t : Counts) → IsPermitted s x o t → is_work o ≡ false →
     work_left t ≤ work_left s + adds_work o
 idle-adds s x outcome.NotEnabled t row idle = rw (permitted-rests s x t row) (omega arith)
 idle-adds s x outcome.Nothing t row idle = rw (nothing-rests s x t row) (omega arith)
@@ -291,7 +291,7 @@ idle-adds s x outcome.Ticked t row idle = ticked-adds s x t row
 idle-adds s x _ t row idle = absurd (cc)
 
 -- one step
-step-works : (s : Counts) (x : Step) (o : Outcome) (t : Counts) → Permitted s x o t →
+step-works : (s : Counts) (x : Step) (o : Outcome) (t : Counts) → IsPermitted s x o t →
     (if is_workers x && is_work o then 1 else 0) + work_left t ≤ work_left s + adds_work o
 step-works s x o t row = split (is_workers x) (is_work o) refl refl
   where

@@ -17,21 +17,21 @@ use Rattle.otel_batch.specs.declared.machine.step.Outcome.{Outcome}
 use Rattle.otel_batch.specs.declared.machine.step.Outcome.TheVariants as outcome
 
 -- the drain is over, and its result moved out
-abbrev pub finished : Counts → Worker → Counts
-finished s w = record s { control = record s.control { result = Ok tt; worker = w } }
+abbrev pub end_of_drain : Counts → Worker → Counts
+end_of_drain s w = record s { control = record s.control { result = Ok tt; worker = w } }
 
 -- the result goes to who asked: with the outcome, or to the producer that waits. A shutdown whose drain found no memory
 -- is answered so, and the machine stays open
 abbrev pub FinishRowFor : Why → Counts → Option OTelSdkError → Counts → Type 0
-FinishRowFor why.Asked s e t = (e ≡ result_err s.control.result) × (t ≡ finished s worker.Ready)
-FinishRowFor why.Timer s e t = (e ≡ result_err s.control.result) × (t ≡ finished s worker.Ready)
+FinishRowFor why.Asked s e t = (e ≡ result_err s.control.result) × (t ≡ end_of_drain s worker.Ready)
+FinishRowFor why.Timer s e t = (e ≡ result_err s.control.result) × (t ≡ end_of_drain s worker.Ready)
 FinishRowFor (why.Flush p) s e t =
-    (e ≡ None) × (t ≡ put_slot (finished s worker.Ready) p (slot.Answered s.control.result))
+    (e ≡ None) × (t ≡ put_slot (end_of_drain s worker.Ready) p (slot.Answered s.control.result))
 FinishRowFor (why.Shutdown p) s e t =
     (e ≡ None)
     × (t ≡ (if s.control.refused
-    then put_slot (finished s worker.Ready) p (slot.Answered (Err OutOfMemory))
-    else finished s (worker.Closing p)))
+    then put_slot (end_of_drain s worker.Ready) p (slot.Answered (Err OutOfMemory))
+    else end_of_drain s (worker.Closing p)))
 
 -- the drain ends, for the reason for which it was loaded
 abbrev pub FinishRow : Counts → Outcome → Counts → Type 0

@@ -6,7 +6,7 @@ use Rattle.otel_batch.specs.Messages.{message_names}
 use Rattle.otel_batch.specs.Workers.{worker_names}
 use Rattle.otel_batch.specs.MachineState.{Machine, Counts, counts, slot_at}
 use Rattle.otel_batch.specs.KeptRequests.{AnswersTo, Collects}
-use Rattle.otel_batch.specs.MachineRun.{Run, Stepped}
+use Rattle.otel_batch.specs.MachineRun.{Run, IsStep}
 use Rattle.otel_batch.specs.declared.machine.state.Request.{Request}
 use Rattle.otel_batch.specs.declared.machine.state.Request.TheVariants as request
 use Rattle.otel_batch.specs.declared.machine.state.Slot.TheVariants as slot
@@ -44,7 +44,7 @@ module _ {E : Type 0} (calls : Ghosts E) where
   StaysAnswered p answer s (x ∷ xs) (o ∷ os) t =
       IsAnswered p answer (counts s)
       × (between : Machine E)
-      × Stepped calls s x o between
+      × IsStep calls s x o between
       × (StaysAnswered p answer between xs os t ⊎ Collects x o p answer × Run calls between xs os t)
   StaysAnswered p answer s [] (o ∷ os) t = ⊥
   StaysAnswered p answer s (x ∷ xs) [] t = ⊥
@@ -56,7 +56,7 @@ module _ {E : Type 0} (calls : Ghosts E) where
   StaysKnown p asked s (x ∷ xs) (o ∷ os) t =
       IsPending p asked (counts s)
       × (between : Machine E)
-      × Stepped calls s x o between
+      × IsStep calls s x o between
       × (StaysKnown p asked between xs os t
       ⊎ AnswersTo (counts s) x o p × (answer : Result (Unit {0}) OTelSdkError) × StaysAnswered p answer between xs os t)
   StaysKnown p asked s [] (o ∷ os) t = ⊥

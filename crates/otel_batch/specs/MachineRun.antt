@@ -2,11 +2,11 @@
 use Rattle.std.specs.Prelude.{◌≡◌, ℕ, ◌==◌, ◌+◌, ◌^◌, ◌-◌, min, take, drop, length, List, [], ◌∷◌, ◌++◌, slice_get}
 use Rattle.std.specs.Prelude.{if◌then◌else◌}
 use Rattle.otel_export.specs.PlainSpanData.{PlainSpanData}
-use Rattle.otel_batch.specs.Slots.{held}
+use Rattle.otel_batch.specs.Slots.{span_held}
 use Rattle.otel_batch.specs.MachineState.{Machine, counts}
 use Rattle.otel_batch.specs.SoundMachine.{IsSound}
-use Rattle.otel_batch.specs.PermittedStep.{Permitted}
-use Rattle.otel_batch.specs.MovedSpans.{Moved}
+use Rattle.otel_batch.specs.PermittedStep.{IsPermitted}
+use Rattle.otel_batch.specs.MovedSpans.{MovesSpans}
 use Rattle.otel_batch.specs.KeptRequests.{KeepsRequests}
 use Rattle.otel_batch.specs.GoingOn.{GoesOn}
 use Rattle.otel_batch.specs.declared.machine.state.Slot.{Slot}
@@ -19,9 +19,9 @@ use Rattle.otel_export.specs.declared.trace.export.SpanExporter.{Ghosts}
 module _ {E : Type 0} (calls : Ghosts E) where
   -- one step: it is permitted, moves the spans as it says, loses no request, is enabled where it is the worker's next,
   -- and leaves a sound machine
-  pub record Stepped (s : Machine E) (x : Step) (o : Outcome) (t : Machine E) : Type 0 where
-    pub permitted : Permitted (counts s) x o (counts t)
-    pub moved : Moved calls s x o t
+  pub record IsStep (s : Machine E) (x : Step) (o : Outcome) (t : Machine E) : Type 0 where
+    pub permitted : IsPermitted (counts s) x o (counts t)
+    pub moved : MovesSpans calls s x o t
     pub requests : KeepsRequests (counts s) x o (counts t)
     pub goes_on : GoesOn (counts s) x o
     pub sound : IsSound (counts t)
@@ -29,7 +29,7 @@ module _ {E : Type 0} (calls : Ghosts E) where
   -- a whole run: each step has its outcome, and begins where the one before it ended
   abbrev pub Run : Machine E → List Step → List Outcome → Machine E → Type 0
   Run s [] [] t = t ≡ s
-  Run s (x ∷ xs) (o ∷ os) t = (between : Machine E) × Stepped s x o between × Run between xs os t
+  Run s (x ∷ xs) (o ∷ os) t = (between : Machine E) × IsStep s x o between × Run between xs os t
   Run s [] (o ∷ os) t = ⊥
   Run s (x ∷ xs) [] t = ⊥
 
@@ -41,7 +41,7 @@ module _ {E : Type 0} (calls : Ghosts E) where
 
 -- the span that each producer holds in these slots
 abbrev pub holds_at : List Slot → ℕ → List PlainSpanData
-holds_at slots p = held (slice_get slots p)
+holds_at slots p = span_held (slice_get slots p)
 
 -- the span that each producer holds after a step: that of its last offer that was counted
 abbrev pub holds_after : (ℕ → List PlainSpanData) → Step → Outcome → ℕ → List PlainSpanData

@@ -2,7 +2,7 @@
 use Rattle.std.specs.Prelude.{◌≡◌, ℕ, [], ◌∷◌, ◌++◌, Option, Result, slice_get}
 use Rattle.otel_export.specs.declared.error.OTelSdkError.{OTelSdkError}
 use Rattle.otel_export.specs.Telling.{Tells}
-use Rattle.otel_batch.specs.Slots.{held}
+use Rattle.otel_batch.specs.Slots.{span_held}
 use Rattle.otel_batch.specs.Messages.{resource_in}
 use Rattle.otel_batch.specs.MachineState.{Machine}
 use Rattle.otel_batch.specs.DrainResult.{IsErrorOf, first_failure}
@@ -22,7 +22,7 @@ pub record Keeps {E : Type 0} (s t : Machine E) : Type 0 where
 pub record QueuesSpan {E : Type 0} (s : Machine E) (p : ℕ) (t : Machine E) : Type 0 where
   pub exporter : t.exporter ≡ s.exporter
   pub hand : t.hand ≡ s.hand
-  pub waiting : t.waiting ≡ s.waiting ++ held (slice_get s.control.slots p)
+  pub waiting : t.waiting ≡ s.waiting ++ span_held (slice_get s.control.slots p)
 
 -- the first span that waits goes last into the hand
 pub record PullsSpan {E : Type 0} (s t : Machine E) : Type 0 where
@@ -57,10 +57,10 @@ module _ {E : Type 0} (calls : Ghosts E) where
     pub waiting : t.waiting ≡ s.waiting
 
   -- where the spans go in one step
-  abbrev pub Moved : Machine E → Step → Outcome → Machine E → Type 0
-  Moved s (step.Send p) outcome.Accepted t = QueuesSpan s p t
-  Moved s step.Pull outcome.Pulled t = PullsSpan s t
-  Moved s step.HandOver (outcome.HandedOver k e) t = ExportsHand s e t
-  Moved s step.Take outcome.TookResource t = PassesResource s t
-  Moved s step.Close (outcome.ShutDown n) t = ShutsExporter s t
-  Moved s _ _ t = Keeps s t
+  abbrev pub MovesSpans : Machine E → Step → Outcome → Machine E → Type 0
+  MovesSpans s (step.Send p) outcome.Accepted t = QueuesSpan s p t
+  MovesSpans s step.Pull outcome.Pulled t = PullsSpan s t
+  MovesSpans s step.HandOver (outcome.HandedOver k e) t = ExportsHand s e t
+  MovesSpans s step.Take outcome.TookResource t = PassesResource s t
+  MovesSpans s step.Close (outcome.ShutDown n) t = ShutsExporter s t
+  MovesSpans s _ _ t = Keeps s t

@@ -12,23 +12,23 @@ use Rattle.otel_batch.specs.declared.machine.step.Step.{Step}
 use Rattle.otel_batch.specs.declared.machine.step.Step.TheVariants as step
 
 -- the permitted steps
-abbrev pub Permitted : Counts → Step → Outcome → Counts → Type 0
-Permitted s (step.Offer p span) o t = OfferRow s p span o t
-Permitted s (step.Send p) o t = SendRow s p o t
-Permitted s (step.Undo p) o t = UndoRow s p o t
-Permitted s (step.Ask p) o t = AskRow s p o t
-Permitted s (step.Post p) o t = PostRow s p o t
-Permitted s (step.Reset p) o t = ResetRow s p o t
-Permitted s (step.RequestFlush p) o t = RequestRow s request.Flush p o t
-Permitted s (step.RequestShutdown p) o t = RequestRow s request.Shutdown p o t
-Permitted s (step.Collect p) o t = CollectRow s p o t
-Permitted s (step.PostResource resource) o t = ResourceRow s resource o t
-Permitted s step.Take o t = TakeRow s o t
-Permitted s step.Tick o t = TickRow s o t
-Permitted s step.Clear o t = ClearRow s o t
-Permitted s step.Load o t = LoadRow s o t
-Permitted s step.Pull o t = PullRow s o t
-Permitted s step.HandOver o t = HandOverRow s o t
-Permitted s step.Subtract o t = SubtractRow s o t
-Permitted s step.Finish o t = FinishRow s o t
-Permitted s step.Close o t = CloseRow s o t
+abbrev pub IsPermitted : Counts → Step → Outcome → Counts → Type 0
+IsPermitted s (step.Offer p span) o t = OfferRow s p span o t
+IsPermitted s (step.Send p) o t = SendRow s p o t
+IsPermitted s (step.Undo p) o t = UndoRow s p o t
+IsPermitted s (step.Ask p) o t = AskRow s p o t
+IsPermitted s (step.Post p) o t = PostRow s p o t
+IsPermitted s (step.Reset p) o t = ResetRow s p o t
+IsPermitted s (step.RequestFlush p) o t = RequestRow s request.Flush p o t
+IsPermitted s (step.RequestShutdown p) o t = RequestRow s request.Shutdown p o t
+IsPermitted s (step.Collect p) o t = CollectRow s p o t
+IsPermitted s (step.PostResource resource) o t = ResourceRow s resource o t
+IsPermitted s step.Take o t = TakeRow s o t
+IsPermitted s step.Tick o t = TickRow s o t
+IsPermitted s step.Clear o t = ClearRow s o t
+IsPermitted s step.Load o t = LoadRow s o t
+IsPermitted s step.Pull o t = PullRow s o t
+IsPermitted s step.HandOver o t = HandOverRow s o t
+IsPermitted s step.Subtract o t = SubtractRow s o t
+IsPermitted s step.Finish o t = FinishRow s o t
+IsPermitted s step.Close o t = CloseRow s o t

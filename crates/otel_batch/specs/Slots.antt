@@ -34,9 +34,9 @@ is_answered (Some (slot.Answered answer)) = true
 is_answered _ = false
 
 -- the span that a slot holds
-abbrev pub held : Option Slot → List PlainSpanData
-held (Some (slot.Holding span n)) = span ∷ []
-held _ = []
+abbrev pub span_held : Option Slot → List PlainSpanData
+span_held (Some (slot.Holding span n)) = span ∷ []
+span_held _ = []
 
 -- the counter as it was when the slot took its span
 abbrev pub number_held : Option Slot → ℕ

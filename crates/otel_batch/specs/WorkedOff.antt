@@ -9,7 +9,7 @@ use Rattle.otel_batch.specs.Slots.{is_answered}
 use Rattle.otel_batch.specs.Workers.{is_ready, is_gone}
 use Rattle.otel_batch.specs.MachineState.{Control, Machine}
 use Rattle.otel_batch.specs.GoingOn.{next_step}
-use Rattle.otel_batch.specs.MachineRun.{Run, Stepped}
+use Rattle.otel_batch.specs.MachineRun.{Run, IsStep}
 use Rattle.otel_batch.specs.DrainAnswers.{error_after}
 use Rattle.otel_batch.specs.declared.machine.state.Slot.{Slot}
 use Rattle.otel_batch.specs.declared.machine.state.Slot.TheVariants as slot
@@ -73,7 +73,7 @@ module _ {E : Type 0} (calls : Ghosts E) where
   abbrev pub GoesBy : (Control → Option Step) → Machine E → List Step → List Outcome → Machine E → Type 0
   GoesBy next s [] [] t = t ≡ s
   GoesBy next s (x ∷ xs) (o ∷ os) t =
-      (next s.control ≡ Some x) × (between : Machine E) × Stepped calls s x o between × GoesBy next between xs os t
+      (next s.control ≡ Some x) × (between : Machine E) × IsStep calls s x o between × GoesBy next between xs os t
   GoesBy next s [] (o ∷ os) t = ⊥
   GoesBy next s (x ∷ xs) [] t = ⊥
 

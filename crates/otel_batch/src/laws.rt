@@ -1,5 +1,5 @@
 //! The laws of runs of the batch queue, over the definitions alone. Each function does nothing; its contract is the
-//! law, for every exporter. What `BatchMachine::step` promises of one step is a `Stepped`, which is a run of one step,
+//! law, for every exporter. What `BatchMachine::step` promises of one step is an `IsStep`, which is a run of one step,
 //! and runs are joined: so a caller that takes its steps one at a time has of them all together what
 //! `BatchMachine::run` promises.
 
@@ -8,8 +8,8 @@ ghost use Rattle.otel_batch.specs.MachineState.{Machine, Counts, counts, strande
 ghost use Rattle.otel_batch.specs.Slots.{slot_waits};
 ghost use Rattle.otel_batch.specs.Workers.{is_gone};
 ghost use Rattle.otel_batch.specs.SoundMachine.{IsSound};
-ghost use Rattle.otel_batch.specs.PermittedStep.{Permitted};
-ghost use Rattle.otel_batch.specs.MachineRun.{Run, SplitsRun, Stepped, accepted, batch_sizes, counted_up, full_sends};
+ghost use Rattle.otel_batch.specs.PermittedStep.{IsPermitted};
+ghost use Rattle.otel_batch.specs.MachineRun.{Run, SplitsRun, IsStep, accepted, batch_sizes, counted_up, full_sends};
 ghost use Rattle.otel_batch.specs.MachineRun.{holds_at};
 ghost use Rattle.otel_batch.specs.Conservation.{Conserves, IsFirst, LosesNoSpan};
 ghost use Rattle.otel_batch.specs.KnownRequests.{KnowsRequests};
@@ -28,7 +28,7 @@ use otel_export::trace::SpanExporter;
 /// A step is a run of one step.
 pub fn a_step_is_a_run<E: SpanExporter>()
     ensures { (s t : Machine E) (x : Step) (o : Outcome)
-        → Stepped E.SpanExporter s x o t → Run E.SpanExporter s (x ∷ []) (o ∷ []) t }
+        → IsStep E.SpanExporter s x o t → Run E.SpanExporter s (x ∷ []) (o ∷ []) t }
 {}
 
 /// A run and one that goes on where it ended are one run.
@@ -91,16 +91,16 @@ pub fn runs_bound_drains<E: SpanExporter>()
 /// The target of a drain is at least what waited at its load, and at most the size of the queue and the number of
 /// producers.
 pub fn targets_cover_what_waits()
-    ensures covers { (s t : Counts) (n : ℕ) → IsSound s → Permitted s step.Load (outcome.Loaded n) t
+    ensures covers { (s t : Counts) (n : ℕ) → IsSound s → IsPermitted s step.Load (outcome.Loaded n) t
         → s.waiting ≤ n }
-    ensures fits { (s t : Counts) (n : ℕ) → IsSound s → Permitted s step.Load (outcome.Loaded n) t
+    ensures fits { (s t : Counts) (n : ℕ) → IsSound s → IsPermitted s step.Load (outcome.Loaded n) t
         → n ≤ s.control.queue_size + length s.control.slots }
 {}
 
 /// Each step of the worker lessens the work that is left, but for one that was not enabled or found nothing to do, and
 /// the timer's.
 pub fn the_worker_lessens_its_work()
-    ensures { (s t : Counts) (x : Step) (o : Outcome) → Permitted s x o t
+    ensures { (s t : Counts) (x : Step) (o : Outcome) → IsPermitted s x o t
         → is_workers x ≡ true → is_work o ≡ true → work_left t < work_left s }
 {}
 

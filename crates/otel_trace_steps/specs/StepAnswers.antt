@@ -4,7 +4,7 @@ use Rattle.std.specs.Str.Lines.{lines}
 use Rattle.otel_batch.specs.PlainBatchConfig.{PlainBatchConfig, default_batch_config, cut_to_queue}
 use Rattle.otel_export.specs.StoredBatches.{StoredBatches, StoresBatch, told_unless_lost}
 use Rattle.otel_batch.specs.MachineState.{Machine, first_machine}
-use Rattle.otel_batch.specs.MachineRun.{Stepped}
+use Rattle.otel_batch.specs.MachineRun.{IsStep}
 use Rattle.otel_batch.specs.declared.machine.step.Outcome.{Outcome}
 use Rattle.otel_export.specs.declared.trace.export.SpanExporter.{Ghosts}
 use Rattle.otel_trace_lines.specs.ReplyText.{line}
@@ -34,12 +34,12 @@ memory_calls = record {
 -- what an order does, and its answer: a step is taken, and the question for the state changes nothing
 abbrev pub Obeys : Machine StoredBatches → Order → List ℕ → Machine StoredBatches → Type 0
 Obeys m (orders.Step step) text after =
-    (outcome : Outcome) × Stepped memory_calls m step outcome after × (text ≡ line (outcome_text after.hand outcome))
+    (outcome : Outcome) × IsStep memory_calls m step outcome after × (text ≡ line (outcome_text after.hand outcome))
 Obeys m orders.State text after = (after ≡ m) × (text ≡ line (state_text m))
 
 -- what an order does that gets no answer: its step is taken
 abbrev pub ObeysUntold : Machine StoredBatches → Order → Machine StoredBatches → Type 0
-ObeysUntold m (orders.Step step) after = (outcome : Outcome) × Stepped memory_calls m step outcome after
+ObeysUntold m (orders.Step step) after = (outcome : Outcome) × IsStep memory_calls m step outcome after
 ObeysUntold m orders.State after = after ≡ m
 
 -- a line gets no answer: nothing is done, or what it reads as

@@ -3,7 +3,7 @@
 
 ghost use Rattle.std.specs.Prelude.{◌≡◌, ◌++◌, List, [], Option, ℕ, IfOk, IsOk, OnErr, OnOk};
 ghost use Rattle.opentelemetry.specs.Text.{TextGrows};
-ghost use Rattle.otel_batch.specs.MachineRun.{Stepped};
+ghost use Rattle.otel_batch.specs.MachineRun.{IsStep};
 ghost use Rattle.otel_trace_steps.specs.StepAnswers.{AnswersBeginning, AnswersLines, Obeys, ObeysUntold, machine_of, memory_calls};
 ghost use Rattle.otel_trace_steps.specs.StepTexts.{outcome_text};
 
@@ -107,9 +107,9 @@ fn take_step(
     step: Step,
     answer: &mut String,
 ) -> Result<(), AllocError>
-    ensures ok { OnOk result ((outcome : Outcome) × Stepped memory_calls machine.old step outcome machine.new
+    ensures ok { OnOk result ((outcome : Outcome) × IsStep memory_calls machine.old step outcome machine.new
         × TextGrows answer.old (outcome_text machine.new.hand outcome) answer.new) }
-    ensures err { OnErr result ((outcome : Outcome) × Stepped memory_calls machine.old step outcome machine.new) }
+    ensures err { OnErr result ((outcome : Outcome) × IsStep memory_calls machine.old step outcome machine.new) }
 {
     let outcome = machine.step(step);
     push_outcome(answer, &outcome, machine.hand())

@@ -191,8 +191,8 @@ impl<E: SpanExporter> BatchMachine<E> {
     ghost use Rattle.otel_batch.specs.KeptRequests.{KeepsRequests};
     ghost use Rattle.otel_batch.specs.GoingOn.{GoesOn};
     ghost use Rattle.otel_batch.specs.declared.machine.step.Outcome.{Outcome};
-    ghost use Rattle.otel_batch.specs.PermittedStep.{Permitted};
-    ghost use Rattle.otel_batch.specs.MovedSpans.{Moved};
+    ghost use Rattle.otel_batch.specs.PermittedStep.{IsPermitted};
+    ghost use Rattle.otel_batch.specs.MovedSpans.{MovesSpans};
 
     /// A machine with so many producers, in which nothing waits. It takes the room of the queue, the control queue and
     /// the producers, and fails where there is no memory for them.
@@ -232,8 +232,8 @@ impl<E: SpanExporter> BatchMachine<E> {
     /// One step of a producer or of the worker. Where it is not enabled, or names no producer, nothing changes, and its
     /// span or resource is dropped.
     pub fn step(&mut self, step: Step) -> Outcome
-        ensures permitted { Permitted (counts self.old) step result (counts self.new) }
-        ensures moved { Moved E.SpanExporter self.old step result self.new }
+        ensures permitted { IsPermitted (counts self.old) step result (counts self.new) }
+        ensures moved { MovesSpans E.SpanExporter self.old step result self.new }
         // Who waits for an answer goes on waiting until one that is its own, and has that until it collects it.
         ensures requests { KeepsRequests (counts self.old) step result (counts self.new) }
         // The worker can go on until it is gone.
@@ -276,8 +276,8 @@ impl<E: SpanExporter> BatchMachine<E> {
     }
 
     fn dispatch(&mut self, step: Step) -> Outcome
-        ensures permitted { Permitted (counts self.old) step result (counts self.new) }
-        ensures moved { Moved E.SpanExporter self.old step result self.new }
+        ensures permitted { IsPermitted (counts self.old) step result (counts self.new) }
+        ensures moved { MovesSpans E.SpanExporter self.old step result self.new }
     {
         match step {
             Step::Offer(p, span) => self.offer(p, span),

@@ -18,7 +18,7 @@ impl<E: SpanExporter> BatchMachine<E> {
     ghost use Rattle.otel_batch.specs.MachineState.{counts};
     ghost use Rattle.otel_batch.specs.ProducerSteps.{OfferRow, SendRow, UndoRow, AskRow, PostRow, ResetRow};
     ghost use Rattle.otel_batch.specs.RequestSteps.{RequestRow, CollectRow, ResourceRow};
-    ghost use Rattle.otel_batch.specs.MovedSpans.{Keeps, Moved};
+    ghost use Rattle.otel_batch.specs.MovedSpans.{Keeps, MovesSpans};
     ghost use Rattle.otel_batch.specs.declared.machine.step.Step.TheVariants as step;
 
     #[tactic(auto, using(crate::proofs::SlotSums::slot_sums))]
@@ -40,7 +40,7 @@ impl<E: SpanExporter> BatchMachine<E> {
 
     pub(super) fn send(&mut self, p: usize) -> Outcome
         ensures row { SendRow (counts self.old) p result (counts self.new) }
-        ensures moved { Moved E.SpanExporter self.old (step.Send p) result self.new }
+        ensures moved { MovesSpans E.SpanExporter self.old (step.Send p) result self.new }
     {
         let Some(n) = number_held_at(&self.slots, p) else {
             return Outcome::NotEnabled;

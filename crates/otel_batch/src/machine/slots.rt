@@ -3,7 +3,7 @@
 ghost use Rattle.std.specs.Prelude.{◌≡◌, ℕ, ◌≤◌, ◌<◌, sum_by, true, false, [], ◌∷◌, IsTrue, IfOk, IfSome, IfNone};
 ghost use Rattle.std.specs.Prelude.{Some, slice_get, slice_set, length, replicate};
 ghost use Rattle.otel_batch.specs.Slots.{is_idle, is_holding, number_held, is_refused, is_asking, is_posting};
-ghost use Rattle.otel_batch.specs.Slots.{is_resetting, is_answered, held, slot_counts, slot_asks, slot_waits};
+ghost use Rattle.otel_batch.specs.Slots.{is_resetting, is_answered, span_held, slot_counts, slot_asks, slot_waits};
 ghost use Rattle.otel_batch.specs.Messages.{message_names};
 ghost use Rattle.otel_batch.specs.DrainResult.{IsErrorOf};
 ghost use Rattle.otel_batch.specs.DrainEnds.{IsDropped, SaysDropped};
@@ -117,7 +117,7 @@ pub(super) fn set_slot(slots: &mut Vec<Slot>, p: usize, slot: Slot)
 pub(super) fn take_span(slots: &mut Vec<Slot>, p: usize, after: Slot) -> SpanData
     requires within { p < length slots.old.items }
     requires holding { is_holding (slice_get slots.old.items p) ≡ true }
-    ensures span { held (slice_get slots.old.items p) ≡ result ∷ [] }
+    ensures span { span_held (slice_get slots.old.items p) ≡ result ∷ [] }
     ensures after { slots.new.items ≡ slice_set slots.old.items p after }
 {
     match mem::replace(&mut slots[p], after) {

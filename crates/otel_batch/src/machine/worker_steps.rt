@@ -19,12 +19,12 @@ impl<E: SpanExporter> BatchMachine<E> {
     ghost use Rattle.otel_batch.specs.WorkerSteps.{TakeRow, TickRow, ClearRow, LoadRow, PullRow};
     ghost use Rattle.otel_batch.specs.WorkerSteps.{HandOverRow, SubtractRow};
     ghost use Rattle.otel_batch.specs.DrainEnds.{FinishRow, CloseRow};
-    ghost use Rattle.otel_batch.specs.MovedSpans.{Keeps, Moved};
+    ghost use Rattle.otel_batch.specs.MovedSpans.{Keeps, MovesSpans};
     ghost use Rattle.otel_batch.specs.declared.machine.step.Step.TheVariants as step;
 
     pub(super) fn take(&mut self) -> Outcome
         ensures row { TakeRow (counts self.old) result (counts self.new) }
-        ensures moved { Moved E.SpanExporter self.old step.Take result self.new }
+        ensures moved { MovesSpans E.SpanExporter self.old step.Take result self.new }
     {
         let Worker::Ready = self.worker else {
             return Outcome::NotEnabled;
@@ -96,7 +96,7 @@ impl<E: SpanExporter> BatchMachine<E> {
 
     pub(super) fn pull(&mut self) -> Outcome
         ensures row { PullRow (counts self.old) result (counts self.new) }
-        ensures moved { Moved E.SpanExporter self.old step.Pull result self.new }
+        ensures moved { MovesSpans E.SpanExporter self.old step.Pull result self.new }
     {
         let Worker::Pulling = self.worker else {
             return Outcome::NotEnabled;
@@ -133,7 +133,7 @@ impl<E: SpanExporter> BatchMachine<E> {
 
     pub(super) fn hand_over(&mut self) -> Outcome
         ensures row { HandOverRow (counts self.old) result (counts self.new) }
-        ensures moved { Moved E.SpanExporter self.old step.HandOver result self.new }
+        ensures moved { MovesSpans E.SpanExporter self.old step.HandOver result self.new }
     {
         let Worker::Handing = self.worker else {
             return Outcome::NotEnabled;
@@ -201,7 +201,7 @@ impl<E: SpanExporter> BatchMachine<E> {
 
     pub(super) fn close(&mut self) -> Outcome
         ensures row { CloseRow (counts self.old) result (counts self.new) }
-        ensures moved { Moved E.SpanExporter self.old step.Close result self.new }
+        ensures moved { MovesSpans E.SpanExporter self.old step.Close result self.new }
     {
         let Worker::Closing(p) = self.worker else {
             return Outcome::NotEnabled;

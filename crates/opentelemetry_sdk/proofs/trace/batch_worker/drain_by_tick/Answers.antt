@@ -1,6 +1,6 @@
 use Rattle.std.proofs.Common.{◌≡◌, refl}
 use Rattle.otel_batch.specs.MachineState.{counts}
-use Rattle.otel_batch.specs.MachineRun.{Stepped}
+use Rattle.otel_batch.specs.MachineRun.{IsStep}
 use Rattle.otel_batch.specs.declared.machine.step.Outcome.TheVariants as outcome
 use Rattle.otel_batch.specs.declared.machine.step.Step.TheVariants as step
 use Rattle.opentelemetry_sdk.proofs.Calls.{RestsAgain, ready_open, tells_nothing, ticked_rests, ticks}
@@ -8,12 +8,12 @@ use Rattle.opentelemetry_sdk.proofs.trace.batch_worker.drain_by_tick.Goals as go
 
 -- the timer's step
 stepped : (g : _) (c : goal.After-is_sound-2 g) →
-    Stepped g.E.SpanExporter c.args.machine.now step.Tick outcome.Ticked c.step.new.self
+    IsStep g.E.SpanExporter c.args.machine.now step.Tick outcome.Ticked c.step.new.self
 stepped g c =
     let ready = ready_open c.args.machine.now c.is_sound.ensures c.requires.rest c.requires.is_open in
     let ticked = ticks (counts c.args.machine.now) c.step.result (counts c.step.new.self) ready
     c.step.ensures.permitted in
-    let any : Stepped g.E.SpanExporter c.args.machine.now step.Tick c.step.result c.step.new.self =
+    let any : IsStep g.E.SpanExporter c.args.machine.now step.Tick c.step.result c.step.new.self =
     assumption c.step.ensures in
     rw ticked at any
 

@@ -1,4 +1,4 @@
-use Rattle.otel_batch.specs.MachineRun.{Stepped}
+use Rattle.otel_batch.specs.MachineRun.{IsStep}
 use Rattle.otel_batch.specs.declared.machine.step.Step.TheVariants as step
 use Rattle.opentelemetry_sdk.proofs.Ending.{EndsIdle, ends_idle}
 use Rattle.opentelemetry_sdk.proofs.Calls.{ends_rest, takes_span}
@@ -8,7 +8,7 @@ use Rattle.opentelemetry_sdk.proofs.trace.batch_worker.offer_span.Goals as goal
 ended : (g : _) (c : goal.After-put g) → EndsIdle c.args.machine.now c.args.span c.put.new.self
 ended g c =
     let put = c.put.ensures in
-    let offers : Stepped g.E.SpanExporter c.args.machine.now (step.Offer 0 c.args.span) put.offered put.holding =
+    let offers : IsStep g.E.SpanExporter c.args.machine.now (step.Offer 0 c.args.span) put.offered put.holding =
     rw put.offers.2 put.offers.1 in
     ends_idle g.E.SpanExporter c.args.machine.now put.holding c.put.new.self c.args.span put.offered put.works.steps
     put.outcomes c.requires.slots offers put.works.goes put.works.over

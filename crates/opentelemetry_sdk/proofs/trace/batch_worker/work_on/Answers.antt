@@ -1,6 +1,6 @@
 use Rattle.std.proofs.Common.{◌∙◌, [], Some, ap, refl, replicate, sym}
 use Rattle.std.specs.Result.{result_err}
-use Rattle.otel_batch.specs.MachineRun.{Stepped}
+use Rattle.otel_batch.specs.MachineRun.{IsStep}
 use Rattle.otel_batch.specs.declared.machine.step.Step.TheVariants as step
 use Rattle.opentelemetry_sdk.proofs.trace.batch_worker.work_on.Goals as goal
 
@@ -20,6 +20,6 @@ returns-in-Pull g c =
 
 pub returns-in_default : goal.returns-in_default
 returns-in_default g c =
-    let stepped : Stepped g.E.SpanExporter c.args.machine.now c.args.step c.step.result c.step.new.self =
+    let stepped : IsStep g.E.SpanExporter c.args.machine.now c.args.step c.step.result c.step.new.self =
     assumption c.step.ensures in
     ([], c.step.result, [], (c.requires, c.step.new.self, stepped, refl), c.answer_after.ensures)
