@@ -1,6 +1,9 @@
 use Rattle.std.proofs.Common.{◌≡◌, ◌≢◌, Result, ◌∙◌, sym, ℕ, ◌+◌, ◌<◌, ◌≤◌, List, length, Option, Some, None, inl, inr, refl, true, slice_get, slice_set, arith, sum_by}
 use Rattle.std.proofs.lemmas.List.Sums.{sum_by-set, sum_by-le}
-use Rattle.std.proofs.lemmas.Option.{get_or_from_slice_get, slice_get_cases}
+use Rattle.std.proofs.Math.Dec.{ltb}
+use Rattle.std.proofs.Math.ListN.{get_or}
+use Rattle.std.proofs.lemmas.Bool.{ltb-true}
+use Rattle.std.proofs.lemmas.Option.{get_or_from_slice_get, slice_get_cases, slice_get_read}
 use Rattle.otel_batch.specs.declared.machine.state.Slot.{Slot}
 use Rattle.otel_batch.specs.declared.machine.state.Slot.TheVariants.{Idle, Holding, Refused, Asking, Posting, Resetting, Waiting, Answered}
 use Rattle.std.proofs.lemmas.Bool.Decides.{eqb_tells}
@@ -18,6 +21,12 @@ use Rattle.otel_export.specs.PlainSpanData.{PlainSpanData}
 pub slice_get-within : {X : Type 0} (xs : List X) (i : ℕ) (x : X) → slice_get xs i ≡ Some x → i < length xs
 slice_get-within xs i x e =
     elim (slice_get_cases xs i).1 [ inl found ↦ found.1 | inr past ↦ absurd (let h : None ≡ Some x = sym past.1 ∙ e in cc) ]
+
+-- the slot that a read found is there
+pub slot_found : (read slots : List Slot) (p : ℕ) (found slot : Slot) → read ≡ slots → true ≡ ltb p (length read) →
+    found ≡ get_or read p found → found ≡ slot → slice_get slots p ≡ Some slot
+slot_found read slots p found slot same within at is =
+    rw (← same, ← is) (slice_get_read read (length read) p found refl (ltb-true p (length read) (sym within)) at)
 
 -- the sum after one slot changed
 pub sum_by-slot : (f : Slot → ℕ) (xs : List Slot) (p : ℕ) (old new : Slot) → slice_get xs p ≡ Some old →

@@ -5,10 +5,7 @@ ghost use Rattle.std.specs.Prelude.{◌≡◌};
 
 use crate::machine::batch_machine::BatchMachine;
 use crate::machine::queue::message_of;
-use crate::machine::slots::{
-    is_asking_at, is_idle_at, is_posting_at, is_refused_at, is_resetting_at, number_held_at,
-    set_slot, take_answer, take_span,
-};
+use crate::machine::slots::{number_held_at, set_slot, take_answer, take_span};
 use crate::machine::state::{Message, Request, Slot};
 use crate::machine::step::Outcome;
 use otel_export::trace::{SpanData, SpanExporter};
@@ -26,9 +23,9 @@ impl<E: SpanExporter> BatchMachine<E> {
         ensures row { OfferRow (counts self.old) p span result (counts self.new) }
         ensures moved { Keeps self.old self.new }
     {
-        if !is_idle_at(&self.slots, p) {
+        let Some(Slot::Idle) = self.slots.get(p) else {
             return Outcome::NotEnabled;
-        }
+        };
         if !span.span_context.is_sampled() {
             return Outcome::Skipped;
         }
@@ -68,9 +65,9 @@ impl<E: SpanExporter> BatchMachine<E> {
         ensures row { UndoRow (counts self.old) p result (counts self.new) }
         ensures moved { Keeps self.old self.new }
     {
-        if !is_refused_at(&self.slots, p) {
+        let Some(Slot::Refused) = self.slots.get(p) else {
             return Outcome::NotEnabled;
-        }
+        };
         self.counter -= 1;
         set_slot(&mut self.slots, p, Slot::Idle);
         Outcome::Undone
@@ -80,9 +77,9 @@ impl<E: SpanExporter> BatchMachine<E> {
         ensures row { AskRow (counts self.old) p result (counts self.new) }
         ensures moved { Keeps self.old self.new }
     {
-        if !is_asking_at(&self.slots, p) {
+        let Some(Slot::Asking) = self.slots.get(p) else {
             return Outcome::NotEnabled;
-        }
+        };
         if self.flag {
             set_slot(&mut self.slots, p, Slot::Idle);
             return Outcome::AlreadyAsked;
@@ -96,9 +93,9 @@ impl<E: SpanExporter> BatchMachine<E> {
         ensures row { PostRow (counts self.old) p result (counts self.new) }
         ensures moved { Keeps self.old self.new }
     {
-        if !is_posting_at(&self.slots, p) {
+        let Some(Slot::Posting) = self.slots.get(p) else {
             return Outcome::NotEnabled;
-        }
+        };
         if self.closed {
             set_slot(&mut self.slots, p, Slot::Resetting);
             return Outcome::Closed;
@@ -116,9 +113,9 @@ impl<E: SpanExporter> BatchMachine<E> {
         ensures row { ResetRow (counts self.old) p result (counts self.new) }
         ensures moved { Keeps self.old self.new }
     {
-        if !is_resetting_at(&self.slots, p) {
+        let Some(Slot::Resetting) = self.slots.get(p) else {
             return Outcome::NotEnabled;
-        }
+        };
         self.flag = false;
         set_slot(&mut self.slots, p, Slot::Idle);
         Outcome::ResetDone
@@ -128,9 +125,9 @@ impl<E: SpanExporter> BatchMachine<E> {
         ensures row { RequestRow (counts self.old) request p result (counts self.new) }
         ensures moved { Keeps self.old self.new }
     {
-        if !is_idle_at(&self.slots, p) {
+        let Some(Slot::Idle) = self.slots.get(p) else {
             return Outcome::NotEnabled;
-        }
+        };
         if self.closed {
             return Outcome::Closed;
         }

@@ -1,9 +1,9 @@
 //! Looks at the producers of a batch queue, and changes to one of them.
 
-ghost use Rattle.std.specs.Prelude.{◌≡◌, ℕ, ◌≤◌, ◌<◌, sum_by, true, false, [], ◌∷◌, IsTrue, IfOk, IfSome, IfNone};
+ghost use Rattle.std.specs.Prelude.{◌≡◌, ℕ, ◌≤◌, ◌<◌, sum_by, true, false, [], ◌∷◌, IfOk, IfSome, IfNone};
 ghost use Rattle.std.specs.Prelude.{Some, slice_get, slice_set, length, replicate};
-ghost use Rattle.otel_batch.specs.Slots.{is_idle, is_holding, number_held, is_refused, is_asking, is_posting};
-ghost use Rattle.otel_batch.specs.Slots.{is_resetting, is_answered, span_held, slot_counts, slot_asks, slot_waits};
+ghost use Rattle.otel_batch.specs.Slots.{is_holding, number_held, is_answered, span_held};
+ghost use Rattle.otel_batch.specs.Slots.{slot_counts, slot_asks, slot_waits};
 ghost use Rattle.otel_batch.specs.Messages.{message_names};
 ghost use Rattle.otel_batch.specs.DrainResult.{IsErrorOf};
 ghost use Rattle.otel_batch.specs.DrainEnds.{IsDropped, SaysDropped};
@@ -25,71 +25,6 @@ pub(super) fn idle_slots(alloc: Global, producers: usize) -> Result<Vec<Slot>, A
         slots.push(Slot::Idle)?;
     }
     Ok(slots)
-}
-
-pub(super) fn is_idle_at(slots: &[Slot], p: usize) -> bool
-    ensures value { result ≡ is_idle (slice_get slots.now p) }
-    ensures found { IsTrue result → slice_get slots.now p ≡ Some slot.Idle }
-    ensures within { IsTrue result → p < length slots.now }
-{
-    match slots.get(p) {
-        Some(Slot::Idle) => true,
-        _ => false,
-    }
-}
-
-pub(super) fn is_refused_at(slots: &[Slot], p: usize) -> bool
-    ensures value { result ≡ is_refused (slice_get slots.now p) }
-    ensures found { IsTrue result → slice_get slots.now p ≡ Some slot.Refused }
-    ensures within { IsTrue result → p < length slots.now }
-{
-    match slots.get(p) {
-        Some(Slot::Refused) => true,
-        _ => false,
-    }
-}
-
-pub(super) fn is_asking_at(slots: &[Slot], p: usize) -> bool
-    ensures value { result ≡ is_asking (slice_get slots.now p) }
-    ensures found { IsTrue result → slice_get slots.now p ≡ Some slot.Asking }
-    ensures within { IsTrue result → p < length slots.now }
-{
-    match slots.get(p) {
-        Some(Slot::Asking) => true,
-        _ => false,
-    }
-}
-
-pub(super) fn is_posting_at(slots: &[Slot], p: usize) -> bool
-    ensures value { result ≡ is_posting (slice_get slots.now p) }
-    ensures found { IsTrue result → slice_get slots.now p ≡ Some slot.Posting }
-    ensures within { IsTrue result → p < length slots.now }
-{
-    match slots.get(p) {
-        Some(Slot::Posting) => true,
-        _ => false,
-    }
-}
-
-pub(super) fn is_resetting_at(slots: &[Slot], p: usize) -> bool
-    ensures value { result ≡ is_resetting (slice_get slots.now p) }
-    ensures found { IsTrue result → slice_get slots.now p ≡ Some slot.Resetting }
-    ensures within { IsTrue result → p < length slots.now }
-{
-    match slots.get(p) {
-        Some(Slot::Resetting) => true,
-        _ => false,
-    }
-}
-
-fn is_answered_at(slots: &[Slot], p: usize) -> bool
-    ensures value { result ≡ is_answered (slice_get slots.now p) }
-    ensures within { IsTrue result → p < length slots.now }
-{
-    match slots.get(p) {
-        Some(Slot::Answered(_)) => true,
-        _ => false,
-    }
 }
 
 /// The number of the span that a slot holds.
@@ -133,9 +68,9 @@ pub(super) fn take_answer(slots: &mut Vec<Slot>, p: usize) -> Option<OTelSdkResu
     ensures none { IfNone result (is_answered (slice_get slots.old.items p) ≡ false) }
     ensures same { IfNone result (slots.new.items ≡ slots.old.items) }
 {
-    if !is_answered_at(slots, p) {
+    let Some(Slot::Answered(_)) = slots.get(p) else {
         return None;
-    }
+    };
     match mem::replace(&mut slots[p], Slot::Idle) {
         Slot::Answered(answer) => Some(answer),
         _ => unreachable!(),

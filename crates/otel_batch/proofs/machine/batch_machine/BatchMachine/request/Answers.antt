@@ -2,13 +2,13 @@ use Rattle.std.proofs.Common.{arith, ◌≡◌, ◌∷◌, ◌++◌, [], ◌<◌
 use Rattle.std.proofs.lemmas.Grind.{common_steps}
 use Rattle.otel_batch.specs.declared.machine.state.Slot.TheVariants.{Idle, Waiting}
 use Rattle.otel_batch.specs.Messages.{message_of}
-use Rattle.otel_batch.proofs.SlotSums.{message_of-asks, message_of-own, message_of-others}
+use Rattle.otel_batch.proofs.SlotSums.{slot_found, message_of-asks, message_of-own, message_of-others}
 use Rattle.otel_batch.proofs.Soundness.{sound_posted}
 use Rattle.otel_batch.proofs.machine.batch_machine.BatchMachine.request.Goals as goal
 
 pub invariant_of-self : goal.invariant_of-self
 invariant_of-self g c =
-    let at : slice_get c.self.inside.slots.items c.args.p ≡ Some Idle = grind (arith, common_steps) in
+    let at : slice_get c.self.inside.slots.items c.args.p ≡ Some Idle = slot_found c.deref.result.now c.self.inside.slots.items c.args.p _ Idle c.deref.ensures.value c.in-Some-Idle.ensures.lookup.0 c.in-Some-Idle.ensures.lookup.1 c.in-Some-Idle.field-0-is in
     let room : length c.self.inside.messages.items < 64 = grind (arith, common_steps, c.self.invariant.sound.fits.messages_fit, c.self.invariant.room.control) in
     let took : c.try_push_back.new.self ≡ record { items = c.self.inside.messages.items ++ message_of c.args.request c.args.p ∷ []; capacity = c.self.inside.messages.capacity } = grind (arith, common_steps) in
     rw (c.set_slot.ensures, took) (record {
