@@ -5,6 +5,7 @@ pub mod Messages
 pub mod Workers
 pub mod MachineState
 pub mod SoundMachine
+pub mod MachineFields
 pub mod ProducerSteps
 pub mod RequestSteps
 pub mod DrainResult

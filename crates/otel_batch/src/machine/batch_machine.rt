@@ -38,58 +38,19 @@ pub struct BatchMachine<E> {
 }
 
 impl<E> Model for BatchMachine<E> {
-    ghost use Rattle.std.specs.Prelude.{length, vec_len, vec_capacity};
     ghost use Rattle.std.specs.Coded.{codes};
     ghost use Rattle.otel_resource.specs.ResourceCode.{resource_code};
-    ghost use Rattle.otel_batch.specs.MachineState.{Machine, Control};
-    ghost use Rattle.otel_batch.specs.SoundMachine.{IsKept};
+    ghost use Rattle.otel_batch.specs.MachineState.{Machine};
 
     ghost Value = { Machine E };
 
     ghost coded = { Prim.hlevel (codes, resource_code) };
 
-    ghost view = { λ m. record {
-      control = record {
-        counter = m.counter;
-        flag = m.flag;
-        messages = m.messages.items;
-        dropped = m.dropped;
-        closed = m.closed;
-        slots = m.slots.items;
-        worker = m.worker;
-        why = m.why;
-        target = m.target;
-        done = m.done;
-        result = m.result;
-        refused = m.refused;
-        queue_size = m.waiting.capacity;
-        batch_size = m.batch_size;
-      };
-      hand = m.hand.items;
-      waiting = m.waiting.items;
-      exporter = m.exporter;
-    } };
+    ghost use Rattle.otel_batch.specs.MachineFields.{machine_in, IsKeptIn};
 
-    ghost invariant = { λ m. IsKept (record {
-      control = record {
-        counter = m.counter;
-        flag = m.flag;
-        messages = m.messages.items;
-        dropped = m.dropped;
-        closed = m.closed;
-        slots = m.slots.items;
-        worker = m.worker;
-        why = m.why;
-        target = m.target;
-        done = m.done;
-        result = m.result;
-        refused = m.refused;
-        queue_size = m.waiting.capacity;
-        batch_size = m.batch_size;
-      };
-      hand = length m.hand.items;
-      waiting = length m.waiting.items;
-    }) (vec_len m.hand) (vec_capacity m.hand) m.messages.capacity };
+    ghost view = { machine_in };
+
+    ghost invariant = { IsKeptIn };
 }
 
 impl<E> BatchMachine<E> {
