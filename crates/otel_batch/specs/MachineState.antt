@@ -1,6 +1,6 @@
 -- The state of a batch queue with its producers, its worker and its exporter.
-use Rattle.std.specs.Prelude.{ℕ, ◌-◌, ◌==◌, Bool, false, min, List, [], length, replicate, Option, Some, None, slice_get}
-use Rattle.std.specs.Prelude.{slice_set, Result, Ok, if◌then◌else◌}
+use Rattle.std.specs.Prelude.{ℕ, ◌-◌, ◌==◌, Bool, false, min, List, [], length, replicate, Option, Some, None}
+use Rattle.std.specs.Prelude.{slice_get, slice_set, Result, Ok, if◌then◌else◌}
 use Rattle.otel_export.specs.declared.error.OTelSdkError.{OTelSdkError}
 use Rattle.otel_export.specs.PlainSpanData.{PlainSpanData}
 use Rattle.otel_batch.specs.PlainBatchConfig.{PlainBatchConfig}

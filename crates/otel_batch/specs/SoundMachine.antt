@@ -2,7 +2,8 @@
 use Rattle.std.specs.Prelude.{◌≡◌, ℕ, ◌+◌, ◌≤◌, ◌<◌, ◌^◌, Bool, true, false, List, [], length, sum_by, slice_get}
 use Rattle.otel_batch.specs.Slots.{slot_counts, slot_asks, slot_waits}
 use Rattle.otel_batch.specs.Messages.{message_asks, message_names}
-use Rattle.otel_batch.specs.Workers.{worker_counts, worker_asks, worker_names, is_draining, is_filling, is_pulling, is_handing, is_gone}
+use Rattle.otel_batch.specs.Workers.{worker_counts, worker_asks, worker_names, is_draining, is_filling, is_pulling}
+use Rattle.otel_batch.specs.Workers.{is_handing, is_gone}
 use Rattle.otel_batch.specs.MachineState.{Counts, batch_limit, limit_of}
 use Rattle.otel_batch.specs.declared.machine.state.Slot.{Slot}
 use Rattle.otel_batch.specs.declared.machine.state.Message.{Message}
