@@ -30,7 +30,7 @@ pub fn provider_of<P: SpanProcessor, S: Drop>(
 ) -> Result<ProviderOf<P, S, RandomIdGenerator>, AllocError> {
     match builder_under(alloc, sampler).with_span_processor(processor) {
         Ok(builder) => built(builder),
-        Err((_, error)) => Err(error),
+        Err(_) => Err(AllocError),
     }
 }
 
@@ -40,7 +40,7 @@ pub fn built<P: SpanProcessor, S: Drop>(
 ) -> Result<ProviderOf<P, S, RandomIdGenerator>, AllocError> {
     match builder.build() {
         Ok(provider) => Ok(provider),
-        Err((_, error)) => Err(error),
+        Err(_) => Err(AllocError),
     }
 }
 

@@ -21,12 +21,24 @@ fn trace_request<P: SpanProcessor>(
     match span.finish(provider, Moment(9)) {
         Ok(0) => edited,
         Ok(_refusals) => Err(AllocError),
-        Err((span, error)) => {
-            // It is as it was, and could be finished once there is memory.
-            span.abandon();
-            Err(error)
+        Err(failed) => {
+            // The span is as it was, and could be finished once there is memory.
+            failed.value.abandon();
+            Err(AllocError)
         }
     }
+}
+
+/// A provider with a batch processor over this exporter, by the default configuration.
+fn provider_with<P: OverExporter>(
+    alloc: Global,
+    exporter: P::Exporter,
+) -> Result<ProviderOf<P, Sampler, IdSource>, AllocError> {
+    let strings = ConfigStrings::default();
+    let provider = ProviderOf::<P, Sampler, IdSource>::builder(alloc, &strings, 0)?
+        .with_batch_exporter(exporter)?
+        .build()?;
+    Ok(provider)
 }
 
 /// How many batches the exporter of the first processor keeps.
@@ -41,16 +53,7 @@ fn export_request<P: OverExporter + KeepsBatches>(
     alloc: Global,
     exporter: P::Exporter,
 ) -> Result<(usize, usize, CloseReport), OTelSdkError> {
-    let strings = ConfigStrings::default();
-    let builder = ProviderOf::<P, Sampler, IdSource>::builder(alloc, &strings, 0);
-    let built = match builder.map_err(no_memory)?.with_batch_exporter(exporter) {
-        Ok(builder) => builder.build(),
-        Err(refused) => Err(refused),
-    };
-    let mut provider = match built {
-        Ok(provider) => provider,
-        Err((_builder, error)) => return Err(no_memory(error)),
-    };
+    let mut provider = provider_with::<P>(alloc, exporter).map_err(no_memory)?;
     let traced = trace_request(alloc, &mut provider);
     let before = kept(&provider);
     let flushed = provider.force_flush();

@@ -50,8 +50,8 @@ pub fn trace_input<
 {
     match Session::new(alloc, provider) {
         Ok(session) => trace_session(alloc, session, form, input, output),
-        Err((provider, _)) => {
-            let _ = provider.close();
+        Err(failed) => {
+            let _ = failed.value.close();
             RunEnd::Failed
         }
     }

@@ -34,7 +34,7 @@ use otel_kept::KeepsBatches;
 use otel_pipeline::trace::{DrainDue, ProviderOf, SdkTracer, SpanEdit, SpanProcessor};
 use otel_sampling::trace::{IdGenerator, ShouldSample};
 use otel_trace_lines::{Answer, Command, Reply, ReplyForm, ReplyLines, parse};
-use std::alloc::{AllocError, Global};
+use std::alloc::{AllocError, AllocFailed, Global};
 use std::collections::VecDeque;
 use std::marker::Model;
 use thiserror::Error;
@@ -152,13 +152,13 @@ impl<P: KeepsBatches, S: ShouldSample, G: IdGenerator> Session<P, S, G> {
     pub fn new(
         alloc: Global,
         provider: ProviderOf<P, S, G>,
-    ) -> Result<Session<P, S, G>, (ProviderOf<P, S, G>, AllocError)>
+    ) -> Result<Session<P, S, G>, AllocFailed<ProviderOf<P, S, G>>>
         ensures ok { IfOk result (λ session. session ≡ session_under P.KeepsBatches.own provider) }
-        ensures err { IfErr result (λ e. e.0 ≡ provider) }
+        ensures err { IfErr result (λ failed. failed.value ≡ provider) }
     {
         let tracer = match tracer_of(alloc, &provider) {
             Ok(tracer) => tracer,
-            Err(error) => return Err((provider, error)),
+            Err(_) => return Err(AllocFailed { value: provider }),
         };
         let shown = kept_by_first(provider.processors()).len();
         let lost_before = lost_by_first(provider.processors());

@@ -2,7 +2,7 @@
 //! configured is replaced (OpenTelemetry specification, "TracerProvider Creation").
 //!
 //! Nothing here reads an environment: the strings that are handed in stand for its variables. A call that needs memory
-//! and finds none gives the builder back as it was, beside the error; what was handed to that call is dropped.
+//! and finds none gives the builder back as it was; what was handed to that call is dropped.
 
 ghost use Rattle.std.specs.Prelude.{◌≡◌, ◌++◌, [], ◌∷◌, false, true, IfOk, IsOk, MatchResult};
 ghost use Rattle.std.specs.Bool.{OnFalse};
@@ -17,7 +17,7 @@ use otel_sampling::trace::{
     BatchStrings, ConfigOf, ConfigStrings, IdSource, IdSourceOf, RandomIdGenerator, Sampler,
     SpanLimits,
 };
-use std::alloc::{AllocError, Global};
+use std::alloc::{AllocError, AllocFailed, Global};
 use std::marker::Model;
 
 /// Makes a provider over processors, a sampler and a generator of ids of any one kind each. To contracts it is its
@@ -94,39 +94,39 @@ impl<P, S, G> ProviderOf<P, S, G> {
 
 impl<P: OverExporter, S, G> ProviderBuilderOf<P, S, G> {
     /// Adds a processor that hands each sampled span to this exporter when it ends.
-    pub fn with_simple_exporter(self, exporter: P::Exporter) -> Result<Self, (Self, AllocError)>
+    pub fn with_simple_exporter(self, exporter: P::Exporter) -> Result<Self, AllocFailed<Self>>
         ensures { MatchResult result
             (λ built. built ≡ record self { processors = self.processors ++ P.simple_of exporter ∷ [] })
-            (λ failed. failed.0 ≡ self) }
+            (λ failed. failed.value ≡ self) }
     {
         let simple = P::simple(self.allocator(), exporter);
         self.with_span_processor(simple)
     }
 
     /// Adds a batch processor over this exporter, which the builder's strings configure.
-    pub fn with_batch_exporter(self, exporter: P::Exporter) -> Result<Self, (Self, AllocError)>
+    pub fn with_batch_exporter(self, exporter: P::Exporter) -> Result<Self, AllocFailed<Self>>
         ensures { MatchResult result
             (λ built. (batch : _) × P.batch_of exporter self.batch_strings batch
             × (built ≡ record self { processors = self.processors ++ batch ∷ [] }))
-            (λ failed. failed.0 ≡ self) }
+            (λ failed. failed.value ≡ self) }
     {
         match P::batch(self.allocator(), exporter, &self.batch_strings) {
             Ok(batch) => self.with_span_processor(batch),
-            Err(error) => Err((self, error)),
+            Err(_) => Err(AllocFailed { value: self }),
         }
     }
 }
 
 impl<P: Drop, S, G> ProviderBuilderOf<P, S, G> {
     /// Adds this processor behind the others. Memory is taken where their list grows.
-    pub fn with_span_processor(mut self, processor: P) -> Result<Self, (Self, AllocError)>
+    pub fn with_span_processor(mut self, processor: P) -> Result<Self, AllocFailed<Self>>
         ensures { MatchResult result
             (λ built. built ≡ record self { processors = self.processors ++ processor ∷ [] })
-            (λ failed. failed.0 ≡ self) }
+            (λ failed. failed.value ≡ self) }
     {
         match self.processors.push(processor) {
             Ok(()) => Ok(self),
-            Err(_) => Err((self, AllocError)),
+            Err(_) => Err(AllocFailed { value: self }),
         }
     }
 }
@@ -134,16 +134,16 @@ impl<P: Drop, S, G> ProviderBuilderOf<P, S, G> {
 impl<P, S, G> ProviderBuilderOf<P, S, G> {
     /// The provider's resource: the first that is handed in takes the place of the configured one, later ones are merged
     /// over those before. Memory is taken by a merge alone.
-    pub fn with_resource(self, resource: Resource) -> Result<Self, (Self, AllocError)>
+    pub fn with_resource(self, resource: Resource) -> Result<Self, AllocFailed<Self>>
         ensures merged { MatchResult result
             (λ built. built ≡ building.with_resource self resource)
-            (λ failed. failed.0 ≡ self) }
+            (λ failed. failed.value ≡ self) }
         ensures free { OnFalse self.has_given_resource (IsOk result) }
     {
         if self.has_given_resource {
             match self.config.resource.merge(self.allocator(), resource) {
                 Ok(merged) => Ok(self.with_given_resource(merged)),
-                Err(error) => Err((self, error)),
+                Err(_) => Err(AllocFailed { value: self }),
             }
         } else {
             Ok(self.with_given_resource(resource))
@@ -254,12 +254,12 @@ impl<P, S, C: Drop> ProviderBuilderOf<P, S, IdSourceOf<C>> {
 
 impl<P: SpanProcessor, S, G> ProviderBuilderOf<P, S, G> {
     /// An open provider. Each processor is told the resource before, in its turn and also after one refused it.
-    /// `AllocError` where any of them had no memory to keep it; the builder that comes back has the processors as they
-    /// are then, and its next `build` tells all of them again.
-    pub fn build(self) -> Result<ProviderOf<P, S, G>, (Self, AllocError)>
+    /// Where any of them had no memory to keep it, the builder that comes back has the processors as they are
+    /// then, and its next `build` tells all of them again.
+    pub fn build(self) -> Result<ProviderOf<P, S, G>, AllocFailed<Self>>
         ensures { MatchResult result
             (Opens P.SpanProcessor self)
-            (λ failed. RefusesResource P.SpanProcessor self failed.0) }
+            (λ failed. RefusesResource P.SpanProcessor self failed.value) }
     {
         let ProviderBuilderOf {
             mut processors,
@@ -274,7 +274,7 @@ impl<P: SpanProcessor, S, G> ProviderBuilderOf<P, S, G> {
                 batch_strings,
                 has_given_resource,
             };
-            return Err((builder, AllocError));
+            return Err(AllocFailed { value: builder });
         }
         Ok(provider_over(processors, config))
     }

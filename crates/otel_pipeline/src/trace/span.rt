@@ -17,7 +17,7 @@ use opentelemetry::trace::{Event, Link, SpanContext, Status};
 use opentelemetry::{KeyValue, Moment};
 use otel_export::trace::SpanData;
 use otel_sampling::trace::SpanLimits;
-use std::alloc::{AllocError, Global};
+use std::alloc::{AllocError, AllocFailed, Global};
 use std::marker::Model;
 
 /// A span that somebody holds. `finish` ends and spends it; `end_with_timestamp` ends it and leaves it to be asked who
@@ -298,7 +298,7 @@ impl Span {
         mut self,
         provider: &mut ProviderOf<P, S, G>,
         timestamp: Moment,
-    ) -> Result<usize, (Span, AllocError)>
+    ) -> Result<usize, AllocFailed<Span>>
         ensures ok { IfOk result (λ refused. DeliversIf P.SpanProcessor provider.old.is_shut timestamp.0
             self.recorded
             provider.old.processors provider.new.processors refused) }
@@ -314,7 +314,7 @@ impl Span {
             (history.data_of start edits timestamp.0) provider.old.processors provider.new.processors refused) }
 
         ensures rest { provider.new ≡ record provider.old { processors = provider.new.processors } }
-        ensures err { IfErr result (λ back. (back.0 ≡ self) × (provider.new ≡ provider.old)) }
+        ensures err { IfErr result (λ failed. (failed.value ≡ self) × (provider.new ≡ provider.old)) }
         ensures not_recording { IsNone self.recorded → IsOk result }
         ensures asks_nobody { IsNone self.recorded → provider.new ≡ provider.old }
         ensures shut { IsTrue provider.old.is_shut → IsOk result }
@@ -330,7 +330,7 @@ impl Span {
                 } = self;
                 Ok(refused)
             }
-            Err(error) => Err((self, error)),
+            Err(_) => Err(AllocFailed { value: self }),
         }
     }
 

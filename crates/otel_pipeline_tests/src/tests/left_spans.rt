@@ -32,7 +32,7 @@ fn built<P: SpanProcessor>(
 ) -> Result<ProviderOf<P, TestSampler, RandomIdGenerator>, AllocError> {
     match builder.build() {
         Ok(provider) => Ok(provider),
-        Err((_, error)) => Err(error),
+        Err(_) => Err(AllocError),
     }
 }
 
@@ -42,7 +42,7 @@ fn with_processor<P: Drop, S: Drop, G: Drop>(
 ) -> Result<ProviderBuilderOf<P, S, G>, AllocError> {
     match builder.with_span_processor(processor) {
         Ok(builder) => Ok(builder),
-        Err((_, error)) => Err(error),
+        Err(_) => Err(AllocError),
     }
 }
 

@@ -9,7 +9,7 @@ use otel_resource::resource::Resource;
 use otel_sampling::trace::{
     BatchStrings, ConfigOf, IdSourceOf, RandomIdGenerator, SamplerOf, SpanLimits,
 };
-use std::alloc::{AllocError, Global};
+use std::alloc::{AllocError, AllocFailed, Global};
 use std::cell::Cell;
 use std::rc::Rc;
 use std::test::Fail;
@@ -135,13 +135,13 @@ fn with_resources(alloc: Global, builder: TestBuilder) -> Result<TestBuilder, Al
     made(builder.with_resource(second))
 }
 
-/// The builder, or the error that came with it.
+/// The builder, or the want of memory.
 fn made<P: Drop, S: Drop, G: Drop>(
-    answer: Result<ProviderBuilderOf<P, S, G>, (ProviderBuilderOf<P, S, G>, AllocError)>,
+    answer: Result<ProviderBuilderOf<P, S, G>, AllocFailed<ProviderBuilderOf<P, S, G>>>,
 ) -> Result<ProviderBuilderOf<P, S, G>, AllocError> {
     match answer {
         Ok(builder) => Ok(builder),
-        Err((_, error)) => Err(error),
+        Err(_) => Err(AllocError),
     }
 }
 
@@ -155,7 +155,7 @@ fn built<P: LeavesSpans, S: Drop, G: Drop>(
             let count = provider.processors().len();
             Ok((count, provider.close().result))
         }
-        Err((builder, _)) => Err(builder),
+        Err(failed) => Err(failed.value),
     }
 }
 

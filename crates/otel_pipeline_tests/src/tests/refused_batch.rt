@@ -25,7 +25,7 @@ fn with_batch_again<P: OverExporter, S: Drop>(
 ) -> Result<ProviderBuilderOf<P, S, RandomIdGenerator>, Fail> {
     let builder = match builder.with_batch_exporter(first) {
         Ok(builder) => return Ok(builder),
-        Err((builder, _)) => builder,
+        Err(failed) => failed.value,
     };
     match builder.with_batch_exporter(second) {
         Ok(builder) => Ok(builder),
@@ -47,7 +47,7 @@ fn with_resource_again<P: Drop, S: Drop>(
 ) -> Result<ProviderBuilderOf<P, S, RandomIdGenerator>, Fail> {
     let builder = match builder.with_resource(resource_of(alloc, key)?) {
         Ok(builder) => return Ok(builder),
-        Err((builder, _)) => builder,
+        Err(failed) => failed.value,
     };
     match builder.with_resource(resource_of(alloc, key)?) {
         Ok(builder) => Ok(builder),
@@ -61,7 +61,7 @@ fn build_again<P: SpanProcessor, S: Drop>(
 ) -> Result<ProviderOf<P, S, RandomIdGenerator>, Fail> {
     let builder = match builder.build() {
         Ok(provider) => return Ok(provider),
-        Err((builder, _)) => builder,
+        Err(failed) => failed.value,
     };
     match builder.build() {
         Ok(provider) => Ok(provider),

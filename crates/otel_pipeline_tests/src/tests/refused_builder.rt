@@ -49,7 +49,7 @@ fn provider_by<P: OverExporter>(
     };
     match builder.build() {
         Ok(provider) => Ok(provider),
-        Err((_, error)) => Err(Fail::from(error)),
+        Err(_) => Err(Fail::from(AllocError)),
     }
 }
 

@@ -225,7 +225,7 @@ fn finish<P: SpanProcessor, S: ShouldSample>(
 ) -> Result<u64, Span> {
     match span.finish(provider, Moment(9)) {
         Ok(refused) => Ok(refused as u64),
-        Err((span, _)) => Err(span),
+        Err(failed) => Err(failed.value),
     }
 }
 
