@@ -19,7 +19,8 @@ use Rattle.otel_pipeline.specs.Deliveries.{Delivery, Follows, Hears, EachFollows
 use Rattle.otel_pipeline.specs.Each.{Each, AskedAll}
 use Rattle.otel_pipeline.specs.Ending.{TakesAndTells, Delivers}
 use Rattle.otel_pipeline.specs.Provider.{ProviderState, Flushes, FlushesProcessor, ShutsDown, ShutsProcessor, RunsDue, RunsProcessor}
-use Rattle.otel_pipeline.specs.Starting.{TakesPart, PassesThrough, Records, Decided, Starts, StartsOpen}
+use Rattle.otel_pipeline.specs.StartRequest.{StartRequest}
+use Rattle.otel_pipeline.specs.Starting.{TakesPart, PassesThrough, Records, DecidesStart, Starts, StartsOpen}
 use Rattle.otel_pipeline.specs.declared.trace.span_processor.SpanProcessor.{Ghosts}
 use Rattle.otel_pipeline.specs.declared.trace.drain_due.DrainDue as timing
 use Rattle.otel_kept.specs.RecalledBatches.{FirstRecalled, Recalls, heard_behind}
@@ -196,8 +197,8 @@ module _ {P : Type 0} (calls : Ghosts P) (timer : timing.Ghosts P) (kept : P →
       let passed = passes_again cx (recording start []) (recording start k.edits) ps rs qs h k.passes in
       (passed.0, passed.1, record { edits = k.edits; history_is = k.history_is; passes = passed.2 })
 
-  decided_again : (decision : SamplingDecision) (cx : PlainContext) (start : SpanStart) (ps rs qs : List P) (history : SpanHistory) → FirstRecalled recalled bs ps rs → Decided calls decision cx start ps qs history
-      → (ss : List P) × FirstRecalled recalled bs qs ss × Decided calls decision cx start rs ss history
+  decided_again : (decision : SamplingDecision) (cx : PlainContext) (start : SpanStart) (ps rs qs : List P) (history : SpanHistory) → FirstRecalled recalled bs ps rs → DecidesStart calls decision cx start ps qs history
+      → (ss : List P) × FirstRecalled recalled bs qs ss × DecidesStart calls decision cx start rs ss history
   decided_again decisions.Drop cx start ps rs qs history h k = (rs, subst (λ l. FirstRecalled recalled bs l rs) (sym k.1) h, (k.0, refl))
   decided_again decisions.RecordOnly cx start ps rs qs history h k = records_again cx start ps rs qs history h k
   decided_again decisions.RecordAndSample cx start ps rs qs history h k = records_again cx start ps rs qs history h k
@@ -236,17 +237,17 @@ module _ {P : Type 0} (calls : Ghosts P) (timer : timing.Ghosts P) (kept : P →
     abbrev with_processors : ProviderState P S G → List P → ProviderState P S G
     with_processors provider ps = record provider { processors = ps }
 
-    pub starts_again : (sampler : sampling.Ghosts S) (ids : drawing.Ghosts G) (old : ProviderState P S G) (rs : List P) (scope : PlainScope) (builder : PlainSpanBuilder) (cx : PlainContext) (now : ℕ) (history : SpanHistory) (new : ProviderState P S G)
-        → FirstRecalled recalled bs old.processors rs → Starts calls sampler ids old scope builder cx now history new
-        → (ss : List P) × FirstRecalled recalled bs new.processors ss × Starts calls sampler ids (with_processors old rs) scope builder cx now history (with_processors new ss)
-    starts_again sampler ids old rs scope builder cx now history new h = by (old.is_shut || cx.telemetry_suppressed)
+    pub starts_again : (sampler : sampling.Ghosts S) (ids : drawing.Ghosts G) (old : ProviderState P S G) (rs : List P) (request : StartRequest) (history : SpanHistory) (new : ProviderState P S G)
+        → FirstRecalled recalled bs old.processors rs → Starts calls sampler ids old request history new
+        → (ss : List P) × FirstRecalled recalled bs new.processors ss × Starts calls sampler ids (with_processors old rs) request history (with_processors new ss)
+    starts_again sampler ids old rs request history new h = by (old.is_shut || request.cx.telemetry_suppressed)
       where
-        by : (b : Bool) → MatchBool b ((history ≡ over empty_span_context old.span_limits) × (new ≡ old)) (StartsOpen calls sampler ids old scope builder cx now history new)
+        by : (b : Bool) → MatchBool b ((history ≡ over empty_span_context old.span_limits) × (new ≡ old)) (StartsOpen calls sampler ids old request history new)
             → (ss : List P) × FirstRecalled recalled bs new.processors ss
-            × MatchBool b ((history ≡ over empty_span_context old.span_limits) × (with_processors new ss ≡ with_processors old rs)) (StartsOpen calls sampler ids (with_processors old rs) scope builder cx now history (with_processors new ss))
+            × MatchBool b ((history ≡ over empty_span_context old.span_limits) × (with_processors new ss ≡ with_processors old rs)) (StartsOpen calls sampler ids (with_processors old rs) request history (with_processors new ss))
         by true k = (rs, subst (λ (p : ProviderState P S G). FirstRecalled recalled bs p.processors rs) (sym k.1) h, (k.0, ap (λ (p : ProviderState P S G). with_processors p rs) k.1))
         by false k =
-            let decided = decided_again k.answer.decision cx _ old.processors rs new.processors history h k.decided in (
+            let decided = decided_again k.answer.decision request.cx _ old.processors rs new.processors history h k.decided in (
               decided.0,
               decided.1,
               record {

@@ -3,9 +3,8 @@ use Rattle.std.proofs.Common.{◌≡◌, ℕ, ◌%◌, ◌<◌, ◌^◌, ◌⊎�
 use Rattle.std.specs.Prelude.{Option, Some, unwrap_or, ◌==◌, if◌then◌else◌}
 use Rattle.std.proofs.lemmas.Bool.{both_ways, eqb-true, eq-eqb}
 use Rattle.std.proofs.lemmas.List.Elements.{All-nil, All-cons}
-use Rattle.opentelemetry.specs.Plain.{PlainScope, PlainContext, PlainSpanContext}
+use Rattle.opentelemetry.specs.Plain.{PlainContext, PlainSpanContext}
 use Rattle.opentelemetry.specs.PlainContexts.{current_span_context, empty_span_context}
-use Rattle.opentelemetry.specs.PlainSpanBuilder.{PlainSpanBuilder}
 use Rattle.otel_sampling.specs.Agreement.{Agrees}
 use Rattle.otel_sampling.specs.Sampler.{SamplerPlan, active_in, built_in, by_parent, parent_based, parent_decision, sampler_answer}
 use Rattle.otel_sampling.specs.Sampling.{SamplingQuestion, PlainSamplingResult}
@@ -19,7 +18,8 @@ use Rattle.otel_propagation.proofs.TraceparentLemmas.{injected_carries}
 use Rattle.otel_pipeline.specs.Hops.{AreDrawnHops, AreHops, GoesByParents, IsChild, IsDrawnChild, IsPassedOn, IsReceived}
 use Rattle.otel_pipeline.specs.Provider.{ProviderState}
 use Rattle.otel_pipeline.specs.SpanHistory.{SpanHistory, SpanStart, over, span_of}
-use Rattle.otel_pipeline.specs.Starting.{Decided, DrawsTraceId, Starts, StartsOpen, start_flags, start_question, start_span_context}
+use Rattle.otel_pipeline.specs.StartRequest.{StartRequest, start_as, start_flags, start_question, start_span_context}
+use Rattle.otel_pipeline.specs.Starting.{DecidesStart, DrawsTraceId, Starts, StartsOpen}
 use Rattle.otel_pipeline.specs.declared.trace.span_processor.SpanProcessor.{Ghosts}
 
 -- a child has its parent's sampled flag
@@ -104,7 +104,7 @@ good_hops before (next ∷ more) fits valid (hop, others) =
 module _ {P : Type 0} (calls : Ghosts P) where
   -- whatever was decided, a span has the context of its start
   decided_context : (decision : SamplingDecision) (cx : PlainContext) (start : SpanStart) (old new : List P) (history : SpanHistory)
-      → Decided calls decision cx start old new history → (span_of history).span_context ≡ start.span_context
+      → DecidesStart calls decision cx start old new history → (span_of history).span_context ≡ start.span_context
   decided_context decisions.Drop cx start old new history decided = ap (λ (h : SpanHistory). (span_of h).span_context) decided.0
   decided_context decisions.RecordOnly cx start old new history decided = ap (λ (h : SpanHistory). (span_of h).span_context) decided.history_is
   decided_context decisions.RecordAndSample cx start old new history decided = ap (λ (h : SpanHistory). (span_of h).span_context) decided.history_is
@@ -119,35 +119,35 @@ goes_by_parents {C} custom made delegate question parent based active =
 
 module _ {P S G : Type 0} (calls : Ghosts P) (sampler : sampling.Ghosts S) (ids : drawing.Ghosts G) where
   -- a start at an open provider, in a context that is not suppressed
-  opens : (old new : ProviderState P S G) (scope : PlainScope) (builder : PlainSpanBuilder) (cx : PlainContext) (now : ℕ) (history : SpanHistory) → old.is_shut ≡ false → cx.telemetry_suppressed ≡ false
-      → Starts calls sampler ids old scope builder cx now history new → StartsOpen calls sampler ids old scope builder cx now history new
-  opens old new scope builder cx now history is_open unsuppressed starts =
-      let runs : (old.is_shut || cx.telemetry_suppressed) ≡ false = λ k. is_open k || unsuppressed k in
-      subst (λ (b : Bool). MatchBool b ((history ≡ over empty_span_context old.span_limits) × (new ≡ old)) (StartsOpen calls sampler ids old scope builder cx now history new)) runs starts
+  opens : (old new : ProviderState P S G) (request : StartRequest) (history : SpanHistory) → old.is_shut ≡ false → request.cx.telemetry_suppressed ≡ false
+      → Starts calls sampler ids old request history new → StartsOpen calls sampler ids old request history new
+  opens old new request history is_open unsuppressed starts =
+      let runs : (old.is_shut || request.cx.telemetry_suppressed) ≡ false = λ k. is_open k || unsuppressed k in
+      subst (λ (b : Bool). MatchBool b ((history ≡ over empty_span_context old.span_limits) × (new ≡ old)) (StartsOpen calls sampler ids old request history new)) runs starts
 
   -- a start under a sampler that goes by parents makes a child of the active span
-  pub child_of_start : (old new : ProviderState P S G) (scope : PlainScope) (builder : PlainSpanBuilder) (cx : PlainContext) (now : ℕ) (history : SpanHistory) (parent : PlainSpanContext)
-      → GoesByParents sampler old.sampler → old.is_shut ≡ false → cx.telemetry_suppressed ≡ false → cx.span_context ≡ Some parent
-      → Starts calls sampler ids old scope builder cx now history new → IsChild parent (span_of history).span_context
-  child_of_start old new scope builder cx now history parent by_parents is_open unsuppressed active starts =
-      let started = opens old new scope builder cx now history is_open unsuppressed starts in
-      let is_parent : current_span_context cx ≡ parent = ap (λ (a : Option PlainSpanContext). unwrap_or a empty_span_context) active in
+  pub child_of_start : (old new : ProviderState P S G) (request : StartRequest) (history : SpanHistory) (parent : PlainSpanContext)
+      → GoesByParents sampler old.sampler → old.is_shut ≡ false → request.cx.telemetry_suppressed ≡ false → request.cx.span_context ≡ Some parent
+      → Starts calls sampler ids old request history new → IsChild parent (span_of history).span_context
+  child_of_start old new request history parent by_parents is_open unsuppressed active starts =
+      let started = opens old new request history is_open unsuppressed starts in
+      let is_parent : current_span_context request.cx ≡ parent = ap (λ (a : Option PlainSpanContext). unwrap_or a empty_span_context) active in
       let drawn : DrawsTraceId ids (Some parent) started.draws.between started.trace_id new.id_generator =
       subst (λ (a : Option PlainSpanContext). DrawsTraceId ids a started.draws.between started.trace_id new.id_generator) active started.draws.draws_trace_id in
-      let answered = started.asks ∙ by_parents (start_question cx started.trace_id builder) parent active in (
+      let answered = started.asks ∙ by_parents (start_question request.cx started.trace_id request.builder) parent active in (
         started.span_id,
-        decided_context calls started.answer.decision cx _ old.processors new.processors history started.decided
+        decided_context calls started.answer.decision request.cx _ old.processors new.processors history started.decided
             ∙ (λ k. start_span_context (is_parent k) (drawn.0 k) started.span_id (answered k)),
       )
 
   -- and a hop, where the span id that it drew is not zero
-  pub hop_of_start : (old new : ProviderState P S G) (scope : PlainScope) (builder : PlainSpanBuilder) (cx : PlainContext) (now : ℕ) (history : SpanHistory) (parent : PlainSpanContext)
-      → GoesByParents sampler old.sampler → old.is_shut ≡ false → cx.telemetry_suppressed ≡ false → cx.span_context ≡ Some parent
-      → Starts calls sampler ids old scope builder cx now history new → 0 < (span_of history).span_context.span_id → IsDrawnChild parent (span_of history).span_context
-  hop_of_start old new scope builder cx now history parent by_parents is_open unsuppressed active starts drawn =
-      let started = opens old new scope builder cx now history is_open unsuppressed starts in
-      let context = decided_context calls started.answer.decision cx _ old.processors new.processors history started.decided in
+  pub hop_of_start : (old new : ProviderState P S G) (request : StartRequest) (history : SpanHistory) (parent : PlainSpanContext)
+      → GoesByParents sampler old.sampler → old.is_shut ≡ false → request.cx.telemetry_suppressed ≡ false → request.cx.span_context ≡ Some parent
+      → Starts calls sampler ids old request history new → 0 < (span_of history).span_context.span_id → IsDrawnChild parent (span_of history).span_context
+  hop_of_start old new request history parent by_parents is_open unsuppressed active starts drawn =
+      let started = opens old new request history is_open unsuppressed starts in
+      let context = decided_context calls started.answer.decision request.cx _ old.processors new.processors history started.decided in
       record {
-        is_child = child_of_start old new scope builder cx now history parent by_parents is_open unsuppressed active starts;
+        is_child = child_of_start old new request history parent by_parents is_open unsuppressed active starts;
         is_span_id = (drawn, subst (λ (n : ℕ). n < 2 ^ 64) (sym (ap (λ (c : PlainSpanContext). c.span_id) context)) started.draws.fits);
       }

@@ -1,8 +1,10 @@
 -- What the end of a span delivers, and to whom.
-use Rattle.std.specs.Prelude.{◌≡◌, ℕ, Bool, true, false, List, [], ◌∷◌, Option, Some, None, Result}
+use Rattle.std.specs.Prelude.{◌≡◌, ◌≤◌, ◌⊎◌, ℕ, Bool, true, false, List, [], ◌∷◌, length, Option, Some, None, Result}
+use Rattle.std.specs.Prelude.{IsNone, IsTrue}
 use Rattle.std.specs.declared.alloc.AllocError.{AllocError}
 use Rattle.otel_export.specs.PlainSpanData.{PlainSpanData}
-use Rattle.otel_pipeline.specs.SpanHistory.{ended_at}
+use Rattle.otel_pipeline.specs.SpanHistory.{PlainSpan, ended_at}
+use Rattle.otel_pipeline.specs.Provider.{ProviderState}
 use Rattle.otel_pipeline.specs.ProcessorTelling.{TakesSpan}
 use Rattle.otel_pipeline.specs.Deliveries.{Delivery}
 use Rattle.otel_pipeline.specs.Each.{AskedAll}
@@ -25,6 +27,18 @@ module _ {P : Type 0} (calls : Ghosts P) where
   abbrev pub DeliversIf : Bool → ℕ → Option PlainSpanData → List P → List P → ℕ → Type 0
   DeliversIf shut moment None ps qs n = (qs ≡ ps) × (n ≡ 0)
   DeliversIf shut moment (Some recorded) ps qs n = Delivers shut (ended_at moment recorded) ps qs n
+
+  -- what the end of a span at a moment does to its provider: so many processors refuse what it delivers, and all but the
+  -- processors stays
+  pub record Ends {S G : Type 0} (old : ProviderState P S G) (span : PlainSpan) (moment refused : ℕ)
+      (new : ProviderState P S G) : Type 0 where
+    pub delivers : DeliversIf old.is_shut moment span.recorded old.processors new.processors refused
+    pub rest : new ≡ record old { processors = new.processors }
+
+-- an end that needs no memory: of a span that does not record, at a shut provider, or at one processor at most
+abbrev pub EndIsInfallible : {P S G : Type 0} → PlainSpan → ProviderState P S G → Type 0
+EndIsInfallible span provider =
+    IsNone span.recorded ⊎ (IsTrue provider.is_shut ⊎ (length provider.processors ≤ 1))
 
 -- the deliveries of an end that has this data: none at a shut provider
 abbrev pub end_delivers : Bool → PlainSpanData → ℕ → List Delivery

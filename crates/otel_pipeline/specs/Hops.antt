@@ -6,7 +6,7 @@ use Rattle.otel_sampling.specs.Sampler.{active_in, built_in, parent_decision}
 use Rattle.otel_sampling.specs.Sampling.{SamplingQuestion}
 use Rattle.otel_sampling.specs.declared.trace.sampler.ShouldSample as sampling
 use Rattle.otel_propagation.specs.Traceparent.{ExtractsTraceContext, InjectsTraceContext, IsSpanContext, IsValid}
-use Rattle.otel_pipeline.specs.Starting.{start_span_context}
+use Rattle.otel_pipeline.specs.StartRequest.{start_span_context}
 
 -- a span context is that of a child under a sampler by parents: its trace id is the parent's, its span id a new one, and
 -- the parent alone decided

@@ -1,16 +1,20 @@
-//! The laws of traces over the definitions alone. Each function does nothing; its contract is the law, for all values,
+//! The laws of spans and traces over the definitions alone. Each function does nothing; its contract is the law, for all values,
 //! or for the value behind its reference.
 
-ghost use Rattle.std.specs.Prelude.{◌≡◌, ◌<◌, ℕ, Some, List, All, false};
-ghost use Rattle.opentelemetry.specs.Plain.{PlainContext, PlainScope, PlainSpanContext};
-ghost use Rattle.opentelemetry.specs.PlainSpanBuilder.{PlainSpanBuilder};
+ghost use Rattle.std.specs.Prelude.{◌≡◌, ◌<◌, ℕ, IsNone, Some, List, [], All, Result, false, map};
+ghost use Rattle.std.specs.declared.alloc.AllocError.{AllocError};
+ghost use Rattle.opentelemetry.specs.Plain.{PlainSpanContext};
 ghost use Rattle.otel_sampling.specs.Agreement.{Agrees};
 ghost use Rattle.otel_sampling.specs.Sampler.{SamplerPlan, parent_based, plan};
 ghost use Rattle.otel_propagation.specs.Traceparent.{IsSpanContext, IsValid};
 ghost use Rattle.otel_pipeline.specs.Hops.{AreDrawnHops, AreHops, GoesByParents, IsChild, IsDrawnChild};
 ghost use Rattle.otel_pipeline.specs.Provider.{ProviderState};
-ghost use Rattle.otel_pipeline.specs.SpanHistory.{HasHistory, SpanHistory, span_of};
-ghost use Rattle.otel_pipeline.specs.Starting.{Starts};
+ghost use Rattle.otel_pipeline.specs.Deliveries.{EachFollows};
+ghost use Rattle.otel_pipeline.specs.Ending.{Delivers, Ends, deliveries};
+ghost use Rattle.otel_pipeline.specs.SpanHistory.{Edit, HasHistory, PlainSpan, SpanHistory, SpanStart};
+ghost use Rattle.otel_pipeline.specs.SpanHistory.{after, data_of, ended, recording, span_of};
+ghost use Rattle.otel_pipeline.specs.StartRequest.{StartRequest};
+ghost use Rattle.otel_pipeline.specs.Starting.{AnswersStart, Starts};
 ghost use Rattle.otel_sampling.specs.declared.trace.sampler.SamplerOf.{SamplerOf};
 
 use crate::trace::{Span, SpanProcessor};
@@ -25,6 +29,45 @@ pub fn spans_have_histories(span: &Span)
     span.has_history();
 }
 
+/// A start, whatever it answers, changes the processors and the generator of a provider alone, and each processor tells
+/// what it told.
+pub fn starts_tell_nothing<P: SpanProcessor, S: ShouldSample, G: IdGenerator>()
+    ensures told { (old new : ProviderState P S G) (request : StartRequest) (result : Result PlainSpan AllocError)
+        → AnswersStart P.SpanProcessor S.ShouldSample G.IdGenerator old request result new
+        → map P.told new.processors ≡ map P.told old.processors }
+    ensures rest { (old new : ProviderState P S G) (request : StartRequest) (result : Result PlainSpan AllocError)
+        → AnswersStart P.SpanProcessor S.ShouldSample G.IdGenerator old request result new
+        → new ≡ record old { processors = new.processors; id_generator = new.id_generator } }
+{}
+
+/// Each processor follows what an end delivers.
+pub fn ends_are_followed<P: SpanProcessor, S, G>()
+    ensures { (old new : ProviderState P S G) (span : PlainSpan) (moment refused : ℕ)
+        → Ends P.SpanProcessor old span moment refused new
+        → EachFollows P.SpanProcessor (deliveries old.is_shut moment span.recorded refused)
+        old.processors new.processors }
+{}
+
+/// What an end delivers is the data of the span's history: whole lists, each cut once.
+pub fn ends_deliver_histories<P: SpanProcessor, S, G>()
+    ensures { (old new : ProviderState P S G) (span : PlainSpan) (moment refused : ℕ) (start : SpanStart)
+        (edits : List Edit) → Ends P.SpanProcessor old span moment refused new
+        → span ≡ after edits (recording start [])
+        → Delivers P.SpanProcessor old.is_shut (data_of start edits moment) old.processors new.processors refused }
+{}
+
+/// A span that does not record, as one that has ended, ends without any change of its provider: a second end asks
+/// nobody.
+pub fn second_ends_ask_nobody<P: SpanProcessor, S, G>()
+    ensures { (old new : ProviderState P S G) (span : PlainSpan) (moment refused : ℕ)
+        → Ends P.SpanProcessor old span moment refused new → IsNone span.recorded → new ≡ old }
+{}
+
+/// No edit reaches a span that has ended.
+pub fn ended_spans_stay()
+    ensures { (span : PlainSpan) (edits : List Edit) → after edits (ended span) ≡ ended span }
+{}
+
 /// `ParentBased` goes by parents, whatever its delegate.
 pub fn parent_based_goes_by_parents<C: ShouldSample>()
     ensures { (sampler : SamplerOf C) (delegate : SamplerPlan C) → plan sampler ≡ parent_based delegate
@@ -34,21 +77,21 @@ pub fn parent_based_goes_by_parents<C: ShouldSample>()
 /// A span that starts at an open provider under a sampler that goes by parents, in a context that is not suppressed and
 /// has an active span, is a child of that span.
 pub fn starts_under_parents_make_children<P: SpanProcessor, S: ShouldSample, G: IdGenerator>()
-    ensures { (old new : ProviderState P S G) (scope : PlainScope) (builder : PlainSpanBuilder) (cx : PlainContext)
-        (now : ℕ) (history : SpanHistory) (parent : PlainSpanContext)
+    ensures { (old new : ProviderState P S G) (request : StartRequest) (history : SpanHistory)
+        (parent : PlainSpanContext)
         → GoesByParents S.ShouldSample old.sampler → old.is_shut ≡ false
-        → cx.telemetry_suppressed ≡ false → cx.span_context ≡ Some parent
-        → Starts P.SpanProcessor S.ShouldSample G.IdGenerator old scope builder cx now history new
+        → request.cx.telemetry_suppressed ≡ false → request.cx.span_context ≡ Some parent
+        → Starts P.SpanProcessor S.ShouldSample G.IdGenerator old request history new
         → IsChild parent (span_of history).span_context }
 {}
 
 /// Such a start is a hop of the trace, where the span id that it drew is not zero.
 pub fn starts_under_parents_make_hops<P: SpanProcessor, S: ShouldSample, G: IdGenerator>()
-    ensures { (old new : ProviderState P S G) (scope : PlainScope) (builder : PlainSpanBuilder) (cx : PlainContext)
-        (now : ℕ) (history : SpanHistory) (parent : PlainSpanContext)
+    ensures { (old new : ProviderState P S G) (request : StartRequest) (history : SpanHistory)
+        (parent : PlainSpanContext)
         → GoesByParents S.ShouldSample old.sampler → old.is_shut ≡ false
-        → cx.telemetry_suppressed ≡ false → cx.span_context ≡ Some parent
-        → Starts P.SpanProcessor S.ShouldSample G.IdGenerator old scope builder cx now history new
+        → request.cx.telemetry_suppressed ≡ false → request.cx.span_context ≡ Some parent
+        → Starts P.SpanProcessor S.ShouldSample G.IdGenerator old request history new
         → 0 < (span_of history).span_context.span_id
         → IsDrawnChild parent (span_of history).span_context }
 {}

@@ -22,7 +22,7 @@ use Rattle.otel_trace_session.specs.SpanTurns.{ChildTurn, EditTurn, EndTurn, Sta
 use Rattle.otel_trace_session.specs.Turn.{AsksNobody, Course, TakesTurn, Turn}
 use Rattle.otel_trace_session.specs.Turns.{IsCarriedOut, IsTurn}
 use Rattle.otel_trace_session.proofs.KeptLemmas.{turn_grows}
-use Rattle.otel_trace_session.proofs.TurnLemmas.{Childs, Edits, Ends}
+use Rattle.otel_trace_session.proofs.TurnLemmas.{Childs, Edits, EndsNamed}
 
 -- a turn of which this is so, where something is so of each such turn
 pub took_also : {P S G : Type 0} (Is Also : Turn P S G → Type 0) (p q : ProviderState P S G) (old new : NamedSpans) (answer : Answer) → ((turn : Turn P S G) → Is turn → Also turn) → TakesTurn Is p old answer q new → TakesTurn Also p old answer q new
@@ -96,7 +96,7 @@ module _ {P S G : Type 0} (calls : Calls P S G) (law : OnlyAppends calls.process
 
   -- an end
   pub carries_end : (p q : ProviderState P S G) (old new : NamedSpans) (span : List ℕ) (moment : ℕ) (answer : Answer)
-      → TakesTurn (Ends calls.processor span moment) p old answer q new → TakesTurn (IsCarriedOut calls scope (end span moment)) p old answer q new
+      → TakesTurn (EndsNamed calls.processor span moment) p old answer q new → TakesTurn (IsCarriedOut calls scope (end span moment)) p old answer q new
   carries_end p q old new span moment answer = took_also _ _ p q old new answer
       (λ turn h. carried (end span moment) turn (end_follows calls (turn.before.histories span) span moment turn h) h)
 

@@ -19,7 +19,7 @@ use Rattle.otel_trace_lines.specs.declared.reply.Answer.{Answer}
 use Rattle.otel_trace_session.specs.Calls.{Calls, batches_of_first, losses_of_first}
 use Rattle.otel_trace_session.specs.OpenSpans.{Describe, Histories}
 use Rattle.otel_trace_session.specs.ProviderTurns.{AsksProvider, ShutsOr}
-use Rattle.otel_trace_session.specs.SpanTurns.{ChildTurn, EndTurn, Start, StartTurn, StartsBehind, start_in}
+use Rattle.otel_trace_session.specs.SpanTurns.{ChildTurn, EndTurn, Start, StartTurn, StartsBehind, request_of, start_in}
 use Rattle.otel_trace_session.specs.Turn.{AsksNobody, Course, Turn}
 use Rattle.otel_trace_session.specs.Turns.{AreTurns, IsTurn, Runs, SessionState, TookTurns, course_of, replied, reply_of}
 
@@ -55,8 +55,7 @@ module _ {P S G : Type 0} (calls : Calls P S G) (law : RecallsNothingElse calls)
       → StartsBehind calls found begins turn → Again (StartsBehind calls found begins) turn rs
   behind_again (Some history) begins turn rs h k = nobody_again _ _ turn rs h k
   behind_again None begins turn rs h k =
-      let started = starts_again calls.processor calls.timer calls.keeps.kept calls.keeps.lost calls.keeps.recalled law bs calls.sampler calls.ids turn.before.provider rs begins.scope
-      (named_builder begins.name) begins.cx begins.moment k.history turn.behind.provider h k.starts in (
+      let started = starts_again calls.processor calls.timer calls.keeps.kept calls.keeps.lost calls.keeps.recalled law bs calls.sampler calls.ids turn.before.provider rs (request_of begins) k.history turn.behind.provider h k.starts in (
         started.0,
         started.1,
         record {

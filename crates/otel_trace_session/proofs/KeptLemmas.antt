@@ -15,7 +15,8 @@ use Rattle.otel_export.specs.KeptBatches.{Grows, appends_none}
 use Rattle.otel_kept.specs.ProcessorKeeps.{OnlyAppends}
 use Rattle.otel_pipeline.specs.Provider.{FlushesProcessor, ProviderState, RunsProcessor, ShutsDown, ShutsProcessor}
 use Rattle.otel_pipeline.specs.SpanHistory.{PlainSpan, SpanStart, SpanHistory, begun, over, span_of}
-use Rattle.otel_pipeline.specs.Starting.{PassesThrough, Decided, StartsOpen}
+use Rattle.otel_pipeline.specs.StartRequest.{StartRequest}
+use Rattle.otel_pipeline.specs.Starting.{PassesThrough, DecidesStart, StartsOpen}
 use Rattle.otel_pipeline.specs.declared.trace.span_processor.SpanProcessor.{Ghosts}
 use Rattle.otel_pipeline.specs.declared.trace.drain_due.DrainDue as timing
 use Rattle.otel_kept.specs.declared.keeps_batches.KeepsBatches as keeping
@@ -25,7 +26,7 @@ use Rattle.otel_trace_lines.specs.declared.reply.Answer.TheVariants as answers
 use Rattle.otel_trace_session.specs.Calls.{Calls, batches_of_first, losses_of_first}
 use Rattle.otel_trace_session.specs.Headers.{child_cx}
 use Rattle.otel_trace_session.specs.OpenSpans.{Histories}
-use Rattle.otel_trace_session.specs.SpanTurns.{ChildTurn, EndTurn, InjectTurn, Start, StartsBehind, start_in}
+use Rattle.otel_trace_session.specs.SpanTurns.{ChildTurn, EndTurn, InjectTurn, Start, StartsBehind, request_of, start_in}
 use Rattle.otel_trace_session.specs.Turn.{AsksNobody, Course, Turn}
 use Rattle.otel_trace_session.specs.Turns.{IsTurn, LosesNone}
 
@@ -45,7 +46,7 @@ module _ {P : Type 0} (calls : Ghosts P) (timer : timing.Ghosts P) (keeps : keep
   passed_keeps cx s t (p ∷ ps) (q ∷ qs) h = law.starts p s cx h.0 q h.1.gives
 
   -- the same where the sampler decided
-  decided_keeps : (decision : SamplingDecision) (cx : PlainContext) (from : SpanStart) (ps qs : List P) (history : SpanHistory) → Decided calls decision cx from ps qs history → LosesNothing keeps ps qs
+  decided_keeps : (decision : SamplingDecision) (cx : PlainContext) (from : SpanStart) (ps qs : List P) (history : SpanHistory) → DecidesStart calls decision cx from ps qs history → LosesNothing keeps ps qs
   decided_keeps decisions.Drop cx from ps qs history h = loses_nothing keeps ps qs h.1
   decided_keeps decisions.RecordOnly cx from ps qs history h = passed_keeps cx _ _ ps qs h.passes
   decided_keeps decisions.RecordAndSample cx from ps qs history h = passed_keeps cx _ _ ps qs h.passes
@@ -93,15 +94,15 @@ module _ {P S G : Type 0} (calls : Calls P S G) (law : OnlyAppends calls.process
   nobody_loses : (said : Answer) (histories : Histories) (turn : Turn P S G) → AsksNobody said histories turn → LosesNothing calls.keeps turn.before.provider.processors turn.behind.provider.processors
   nobody_loses said histories turn h = loses_nothing calls.keeps turn.before.provider.processors turn.behind.provider.processors (ap (λ (c : Course P S G). c.provider.processors) h.rest)
 
-  started_loses : (starts_nothing : Bool) (old new : ProviderState P S G) (scope : PlainScope) (builder : PlainSpanBuilder) (cx : PlainContext) (now : ℕ) (history : SpanHistory)
-      → MatchBool starts_nothing ((history ≡ over empty_span_context old.span_limits) × (new ≡ old)) (StartsOpen calls.processor calls.sampler calls.ids old scope builder cx now history new)
+  started_loses : (starts_nothing : Bool) (old new : ProviderState P S G) (request : StartRequest) (history : SpanHistory)
+      → MatchBool starts_nothing ((history ≡ over empty_span_context old.span_limits) × (new ≡ old)) (StartsOpen calls.processor calls.sampler calls.ids old request history new)
       → LosesNothing calls.keeps old.processors new.processors
-  started_loses true old new scope builder cx now history h = loses_nothing calls.keeps old.processors new.processors (ap (λ (r : ProviderState P S G). r.processors) h.1)
-  started_loses false old new scope builder cx now history h = decided_keeps calls.processor calls.timer calls.keeps law h.answer.decision cx _ old.processors new.processors history h.decided
+  started_loses true old new request history h = loses_nothing calls.keeps old.processors new.processors (ap (λ (r : ProviderState P S G). r.processors) h.1)
+  started_loses false old new request history h = decided_keeps calls.processor calls.timer calls.keeps law h.answer.decision request.cx _ old.processors new.processors history h.decided
 
   starts_lose : (found : Option SpanHistory) (asked : Start) (turn : Turn P S G) → StartsBehind calls found asked turn → LosesNothing calls.keeps turn.before.provider.processors turn.behind.provider.processors
   starts_lose (Some history) asked turn h = nobody_loses answers.SpanExists turn.before.histories turn h
-  starts_lose None asked turn h = started_loses (turn.before.provider.is_shut || asked.cx.telemetry_suppressed) turn.before.provider turn.behind.provider asked.scope (named_builder asked.name) asked.cx asked.moment h.history h.starts
+  starts_lose None asked turn h = started_loses (turn.before.provider.is_shut || asked.cx.telemetry_suppressed) turn.before.provider turn.behind.provider (request_of asked) h.history h.starts
 
   child_loses : (found : Option SpanHistory) (asked : Start) (turn : Turn P S G) → ChildTurn calls asked found turn → LosesNothing calls.keeps turn.before.provider.processors turn.behind.provider.processors
   child_loses None asked turn h = nobody_loses answers.NoSuchSpan turn.before.histories turn h

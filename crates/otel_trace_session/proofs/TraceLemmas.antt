@@ -9,6 +9,7 @@ use Rattle.otel_sampling.specs.Agreement.{Agrees}
 use Rattle.otel_pipeline.specs.Hops.{GoesByParents}
 use Rattle.otel_pipeline.specs.Provider.{ProviderState}
 use Rattle.otel_pipeline.specs.SpanHistory.{PlainSpan, SpanHistory, Edit, begun, over, span_of}
+use Rattle.otel_pipeline.specs.StartRequest.{StartRequest}
 use Rattle.otel_pipeline.specs.Starting.{StartsOpen}
 use Rattle.otel_pipeline.proofs.AgreementLemmas.{child_agrees, child_of_start}
 use Rattle.otel_trace_lines.specs.Commands.{PlainCommand, start, child, remote, attr, event, status, inject, end, flush, run, shutdown}
@@ -18,7 +19,7 @@ use Rattle.otel_trace_lines.specs.declared.reply.Answer.TheVariants as answers
 use Rattle.otel_trace_session.specs.Calls.{Calls}
 use Rattle.otel_trace_session.specs.Headers.{child_cx}
 use Rattle.otel_trace_session.specs.OpenSpans.{Describe, Histories, NamedSpans, edited_history, edited_in, is_name, with_history}
-use Rattle.otel_trace_session.specs.SpanTurns.{ChildTurn, EndTurn, Start, StartsBehind, start_in}
+use Rattle.otel_trace_session.specs.SpanTurns.{ChildTurn, EndTurn, Start, StartsBehind, request_of, start_in}
 use Rattle.otel_trace_session.specs.Traces.{ChildrenAgree, KeepsContexts, is_shutdown, made_span, with_child, with_children}
 use Rattle.otel_trace_session.specs.Turn.{AsksNobody, Course, Turn}
 use Rattle.otel_trace_session.specs.Turns.{AreTurns, IsTurn, replied, reply_of}
@@ -169,14 +170,14 @@ module _ {P S G : Type 0} (calls : Calls P S G) where
   nobody_stays : (said : Answer) (histories : Histories) (turn : Turn P S G) → AsksNobody said histories turn → Stays turn.before.provider turn.behind.provider
   nobody_stays said histories turn h = stays turn.before.provider turn.behind.provider turn.before.provider (ap (λ (c : Course P S G). c.provider) h.rest) (refl, refl)
 
-  open_stays : (b : Bool) (old new : ProviderState P S G) (scope : PlainScope) (name : List ℕ) (cx : PlainContext) (now : ℕ) (history : SpanHistory)
-      → MatchBool b ((history ≡ over empty_span_context old.span_limits) × (new ≡ old)) (StartsOpen calls.processor calls.sampler calls.ids old scope (named_builder name) cx now history new) → Stays old new
-  open_stays true old new scope name cx now history h = stays old new old h.1 (refl, refl)
-  open_stays false old new scope name cx now history h = stays old new (record old { processors = new.processors; id_generator = new.id_generator }) h.rest (refl, refl)
+  open_stays : (b : Bool) (old new : ProviderState P S G) (request : StartRequest) (history : SpanHistory)
+      → MatchBool b ((history ≡ over empty_span_context old.span_limits) × (new ≡ old)) (StartsOpen calls.processor calls.sampler calls.ids old request history new) → Stays old new
+  open_stays true old new request history h = stays old new old h.1 (refl, refl)
+  open_stays false old new request history h = stays old new (record old { processors = new.processors; id_generator = new.id_generator }) h.rest (refl, refl)
 
   start_stays : (found : Option SpanHistory) (asked : Start) (turn : Turn P S G) → StartsBehind calls found asked turn → Stays turn.before.provider turn.behind.provider
   start_stays (Some history) asked turn h = nobody_stays answers.SpanExists turn.before.histories turn h
-  start_stays None asked turn h = open_stays (turn.before.provider.is_shut || asked.cx.telemetry_suppressed) turn.before.provider turn.behind.provider asked.scope asked.name asked.cx asked.moment h.history h.starts
+  start_stays None asked turn h = open_stays (turn.before.provider.is_shut || asked.cx.telemetry_suppressed) turn.before.provider turn.behind.provider (request_of asked) h.history h.starts
 
   child_stays : (found : Option SpanHistory) (asked : Start) (turn : Turn P S G) → ChildTurn calls asked found turn → Stays turn.before.provider turn.behind.provider
   child_stays None asked turn h = nobody_stays answers.NoSuchSpan turn.before.histories turn h
@@ -209,7 +210,7 @@ module _ {P S G : Type 0} (calls : Calls P S G) where
       not_made root is_in last span parent name moment turn.answer (ap made_span h.says) agree
   taken_joins None scope root is_in last turn span parent name moment father by_parents is_open there before behind agree h =
       let cx = child_cx (span_of father).span_context in
-      let is_child = child_of_start calls.processor calls.sampler calls.ids turn.before.provider turn.behind.provider scope (named_builder name) cx moment h.history (span_of father).span_context by_parents is_open refl refl h.starts in
+      let is_child = child_of_start calls.processor calls.sampler calls.ids turn.before.provider turn.behind.provider (request_of (start_in scope cx span name moment)) h.history (span_of father).span_context by_parents is_open refl refl h.starts in
       let put : turn.behind.histories span ≡ Some h.history = ap (λ (histories : Histories). histories span) h.histories ∙ put_there (is_name span span) h.history (turn.before.histories span) (is_itself span) in
       let then_father = before parent father there in
       let then_child = behind span h.history put in

@@ -101,11 +101,11 @@ module _ {P S G : Type 0} (processor : Ghosts P) where
     pub put : PutsSpan old span (ended found) new
     pub rest : q ≡ record p { processors = q.processors }
 
-  abbrev pub Ends : List ℕ → ℕ → Turn P S G → Type 0
-  Ends span moment turn = EndTurn processor span moment (turn.before.histories span) turn
+  abbrev pub EndsNamed : List ℕ → ℕ → Turn P S G → Type 0
+  EndsNamed span moment turn = EndTurn processor span moment (turn.before.histories span) turn
 
   end_found : (p q : ProviderState P S G) (before : Course P S G) (old new : NamedSpans) (span : List ℕ) (moment : ℕ) (history : SpanHistory) (answer : Answer) → before.histories span ≡ Some history → Describe before.histories old
-      → EndsSpan p old span moment (span_of history) answer q new → TookTurn (Ends span moment) (record before { provider = p }) answer q new
+      → EndsSpan p old span moment (span_of history) answer q new → TookTurn (EndsNamed span moment) (record before { provider = p }) answer q new
   end_found p q before old new span moment (over context limits) answer e describes h =
       let same : q ≡ p = h.rest ∙ ap (λ (ps : List P). record p { processors = ps }) h.delivers.0 in record {
         delivered = [];
@@ -122,18 +122,18 @@ module _ {P S G : Type 0} (processor : Ghosts P) where
 
   -- of a name without a span, and of one with a span
   pub ends_absent : (p : ProviderState P S G) (old new : NamedSpans) (span : List ℕ) (moment : ℕ) → named old span ≡ None → SameSpans old new
-      → TakesTurn (Ends span moment) p old answers.NoSuchSpan p new
+      → TakesTurn (EndsNamed span moment) p old answers.NoSuchSpan p new
   ends_absent p old new span moment absent same = λ before describes. by before describes (before.histories span) refl
     where
-      by : (before : Course P S G) → Describe before.histories old → (found : Option SpanHistory) → before.histories span ≡ found → TookTurn (Ends span moment) (record before { provider = p }) answers.NoSuchSpan p new
+      by : (before : Course P S G) → Describe before.histories old → (found : Option SpanHistory) → before.histories span ≡ found → TookTurn (EndsNamed span moment) (record before { provider = p }) answers.NoSuchSpan p new
       by before describes None e = record { delivered = []; histories = before.histories; is = rw e (record { says = refl; delivers = refl; rest = refl }); describes = describes_same before.histories old new describes same }
       by before describes (Some history) e = absurd (none-some (span_of history) (sym absent ∙ describes span ∙ ap (option_map span_of) e))
 
   pub ends_there : (p q : ProviderState P S G) (old new : NamedSpans) (span : List ℕ) (moment : ℕ) (found : PlainSpan) (answer : Answer) → named old span ≡ Some found → EndsSpan p old span moment found answer q new
-      → TakesTurn (Ends span moment) p old answer q new
+      → TakesTurn (EndsNamed span moment) p old answer q new
   ends_there p q old new span moment found answer there h = λ before describes. by before describes (before.histories span) refl
     where
-      by : (before : Course P S G) → Describe before.histories old → (history : Option SpanHistory) → before.histories span ≡ history → TookTurn (Ends span moment) (record before { provider = p }) answer q new
+      by : (before : Course P S G) → Describe before.histories old → (history : Option SpanHistory) → before.histories span ≡ history → TookTurn (EndsNamed span moment) (record before { provider = p }) answer q new
       by before describes None e = absurd (none-some found (sym (ap (option_map span_of) e) ∙ sym (describes span) ∙ there))
       by before describes (Some history) e = end_found p q before old new span moment history answer e describes
           (subst (λ (s : PlainSpan). EndsSpan p old span moment s answer q new) (same_Some found (span_of history) (sym there ∙ describes span ∙ ap (option_map span_of) e)) h)

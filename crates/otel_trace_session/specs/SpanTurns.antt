@@ -4,6 +4,7 @@ use Rattle.opentelemetry.specs.Plain.{PlainContext, PlainScope}
 use Rattle.opentelemetry.specs.PlainSpanBuilder.{named_builder}
 use Rattle.otel_export.specs.PlainSpanData.{PlainSpanData}
 use Rattle.otel_pipeline.specs.SpanHistory.{SpanHistory, SpanStart, Edit, add_event, begun, over, data_of, span_of}
+use Rattle.otel_pipeline.specs.StartRequest.{StartRequest}
 use Rattle.otel_pipeline.specs.Starting.{Starts}
 use Rattle.otel_pipeline.specs.Ending.{Delivers, end_delivers}
 use Rattle.otel_pipeline.specs.declared.trace.span_processor.SpanProcessor.{Ghosts}
@@ -25,6 +26,11 @@ pub record Start : Type 0 where
 abbrev pub start_in : PlainScope → PlainContext → List ℕ → List ℕ → ℕ → Start
 start_in scope cx span name moment = record { scope = scope; cx = cx; span = span; name = name; moment = moment }
 
+-- what it asks of the tracer
+abbrev pub request_of : Start → StartRequest
+request_of start =
+    record { scope = start.scope; builder = named_builder start.name; cx = start.cx; now = start.moment }
+
 -- an event without attributes
 abbrev pub bare_event : List ℕ → ℕ → Edit
 bare_event name moment =
@@ -34,8 +40,8 @@ module _ {P S G : Type 0} (calls : Calls P S G) where
   -- a name is given the history that a start makes, and nothing is delivered
   pub record BeginsHistory (start : Start) (turn : Turn P S G) : Type 0 where
     pub history : SpanHistory
-    pub starts : Starts calls.processor calls.sampler calls.ids turn.before.provider start.scope
-        (named_builder start.name) start.cx start.moment history turn.behind.provider
+    pub starts : Starts calls.processor calls.sampler calls.ids turn.before.provider (request_of start) history
+        turn.behind.provider
     pub told : map calls.processor.told turn.behind.provider.processors
         ≡ map calls.processor.told turn.before.provider.processors
     pub says : turn.answer ≡ start_answer (span_of history)

@@ -6,8 +6,7 @@ ghost use Rattle.std.specs.List.Sorted.{IsPermutation};
 ghost use Rattle.opentelemetry.specs.Order.{greatest_status};
 ghost use Rattle.opentelemetry.specs.Plain.{PlainStatus, unset};
 ghost use Rattle.opentelemetry.specs.PlainValues.{plain_status};
-ghost use Rattle.otel_pipeline.specs.Deliveries.{EachFollows};
-ghost use Rattle.otel_pipeline.specs.Ending.{Delivers, DeliversIf, deliveries};
+ghost use Rattle.otel_pipeline.specs.Ending.{EndIsInfallible, Ends};
 ghost use Rattle.otel_pipeline.specs.SpanEdits.{plain_edit};
 ghost use Rattle.otel_pipeline.specs.SpanHistory as history;
 
@@ -241,40 +240,18 @@ impl Span {
     /// refused it; a test shows that they are asked first to last. The answer is how many refused for want of memory.
     /// On an error, which comes before any processor is asked, span and processors are unchanged; the last processor
     /// gets the original, and with one processor nothing is copied. A span that is not recording, or whose provider is
-    /// shut, ends with 0.
+    /// shut, ends with 0. What follows of an end is in `laws`: what is delivered is the data of the span's history, each
+    /// processor follows it, and a second end asks nobody.
     pub fn end_with_timestamp<P: SpanProcessor, S: Drop, G: Drop>(
         &mut self,
         provider: &mut ProviderOf<P, S, G>,
         timestamp: Moment,
     ) -> Result<usize, AllocError>
-        ensures ok { IfOk result (λ refused. DeliversIf P.SpanProcessor provider.old.is_shut timestamp.0
-            self.old.recorded
-            provider.old.processors provider.new.processors refused) }
-        ensures told { IfOk result (λ refused. EachFollows P.SpanProcessor
-            (deliveries provider.old.is_shut timestamp.0 self.old.recorded refused)
-            provider.old.processors provider.new.processors) }
-        ensures history { history.HasHistory self.old }
-
-        // What is delivered is the data of the span's history: whole lists, each cut once.
-        ensures whole { (start : history.SpanStart) (edits : List history.Edit)
-            → self.old ≡ history.after edits (history.recording start [])
-            → IfOk result (λ refused. Delivers P.SpanProcessor provider.old.is_shut
-            (history.data_of start edits timestamp.0) provider.old.processors provider.new.processors refused) }
-
-        ensures rest { provider.new ≡ record provider.old { processors = provider.new.processors } }
+        ensures ok { IfOk result (λ refused.
+            Ends P.SpanProcessor provider.old self.old timestamp.0 refused provider.new) }
         ensures ended { OnOk result (self.new ≡ history.ended self.old) }
-
-        // No edit reaches it any more.
-        ensures over { OnOk result ((edits : List history.Edit) → history.after edits self.new ≡ self.new) }
-
         ensures err { OnErr result ((self.new ≡ self.old) × (provider.new ≡ provider.old)) }
-        ensures not_recording { IsNone self.old.recorded → IsOk result }
-
-        // A second end asks nobody.
-        ensures asks_nobody { IsNone self.old.recorded → provider.new ≡ provider.old }
-
-        ensures shut { IsTrue provider.old.is_shut → IsOk result }
-        ensures one { length provider.old.processors ≤ 1 → IsOk result }
+        ensures free { EndIsInfallible self.old provider.old → IsOk result }
     {
         let Some(recorded) = self.recorded.get() else {
             return Ok(0);
@@ -299,26 +276,10 @@ impl Span {
         provider: &mut ProviderOf<P, S, G>,
         timestamp: Moment,
     ) -> Result<usize, AllocFailed<Span>>
-        ensures ok { IfOk result (λ refused. DeliversIf P.SpanProcessor provider.old.is_shut timestamp.0
-            self.recorded
-            provider.old.processors provider.new.processors refused) }
-        ensures told { IfOk result (λ refused. EachFollows P.SpanProcessor
-            (deliveries provider.old.is_shut timestamp.0 self.recorded refused)
-            provider.old.processors provider.new.processors) }
-        ensures history { history.HasHistory self }
-
-        // What is delivered is the data of the span's history: whole lists, each cut once.
-        ensures whole { (start : history.SpanStart) (edits : List history.Edit)
-            → self ≡ history.after edits (history.recording start [])
-            → IfOk result (λ refused. Delivers P.SpanProcessor provider.old.is_shut
-            (history.data_of start edits timestamp.0) provider.old.processors provider.new.processors refused) }
-
-        ensures rest { provider.new ≡ record provider.old { processors = provider.new.processors } }
+        ensures ok { IfOk result (λ refused.
+            Ends P.SpanProcessor provider.old self timestamp.0 refused provider.new) }
         ensures err { IfErr result (λ failed. (failed.value ≡ self) × (provider.new ≡ provider.old)) }
-        ensures not_recording { IsNone self.recorded → IsOk result }
-        ensures asks_nobody { IsNone self.recorded → provider.new ≡ provider.old }
-        ensures shut { IsTrue provider.old.is_shut → IsOk result }
-        ensures one { length provider.old.processors ≤ 1 → IsOk result }
+        ensures free { EndIsInfallible self provider.old → IsOk result }
     {
         match self.end_with_timestamp(provider, timestamp) {
             Ok(refused) => {

@@ -1,19 +1,13 @@
 //! The tracer of a library: it starts spans under the library's scope (OpenTelemetry specification, "Tracer").
 
-ghost use Rattle.std.specs.Prelude.{◌≡◌, ◌||◌, [], map, IfOk, IsOk, IsTrue, OnErr, string_bytes, unwrap_or};
+ghost use Rattle.std.specs.Prelude.{◌≡◌, ◌||◌, [], IfOk, IsOk, string_bytes, unwrap_or};
 ghost use Rattle.std.specs.Option.{option_map};
 ghost use Rattle.opentelemetry.specs.PlainContexts.{root_cx};
 ghost use Rattle.opentelemetry.specs.PlainSpanBuilder.{named_builder};
 ghost use Rattle.otel_sampling.specs.Sampling.{added_attributes};
-ghost use Rattle.otel_pipeline.specs.Starting.{
-  Drops,
-  OnlyDraws,
-  Starts,
-  start_flags,
-  start_of,
-  start_question,
-};
-ghost use Rattle.otel_pipeline.specs.SpanHistory.{SpanHistory, recording, span_of};
+ghost use Rattle.otel_pipeline.specs.StartRequest.{start_flags, start_of, start_question};
+ghost use Rattle.otel_pipeline.specs.Starting.{AnswersStart, StartIsInfallible};
+ghost use Rattle.otel_pipeline.specs.SpanHistory.{recording};
 
 use super::limits::{attributes_within, events_within, links_within};
 use crate::trace::{ProviderOf, Recorded, Span, SpanProcessor};
@@ -71,22 +65,18 @@ impl SdkTracer {
         provider: &mut ProviderOf<P, S, G>,
         now: Moment,
     ) -> Result<Span, AllocError>
-        ensures ok { IfOk result (λ span. (history : SpanHistory) × (span ≡ span_of history)
-            × Starts P.SpanProcessor S.ShouldSample G.IdGenerator
-            provider.old self.now (named_builder (string_bytes name)) root_cx now.0 history provider.new) }
-        ensures told { map P.told provider.new.processors ≡ map P.told provider.old.processors }
-        ensures rest { provider.new ≡ record provider.old {
-          processors = provider.new.processors;
-          id_generator = provider.new.id_generator;
-        } }
-        ensures err { OnErr result
-            (OnlyDraws S.ShouldSample G.IdGenerator provider.old (named_builder (string_bytes name)) root_cx
-            provider.new) }
-        ensures shut { IsTrue provider.old.is_shut → IsOk result }
-
-        // A span that is dropped takes no memory.
-        ensures dropped { Drops S.ShouldSample provider.old (named_builder (string_bytes name)) root_cx
-            → IsOk result }
+        ensures answers { AnswersStart P.SpanProcessor S.ShouldSample G.IdGenerator provider.old (record {
+          scope = self.now;
+          builder = named_builder (string_bytes name);
+          cx = root_cx;
+          now = now.0;
+        }) result provider.new }
+        ensures free { StartIsInfallible S.ShouldSample provider.old (record {
+          scope = self.now;
+          builder = named_builder (string_bytes name);
+          cx = root_cx;
+          now = now.0;
+        }) → IsOk result }
     {
         self.build_with_context(self.span_builder(name), &self.root, provider, now)
     }
@@ -99,21 +89,18 @@ impl SdkTracer {
         provider: &mut ProviderOf<P, S, G>,
         now: Moment,
     ) -> Result<Span, AllocError>
-        ensures ok { IfOk result (λ span. (history : SpanHistory) × (span ≡ span_of history)
-            × Starts P.SpanProcessor S.ShouldSample G.IdGenerator
-            provider.old self.now (named_builder (string_bytes name)) cx.now now.0 history provider.new) }
-        ensures told { map P.told provider.new.processors ≡ map P.told provider.old.processors }
-        ensures rest { provider.new ≡ record provider.old {
-          processors = provider.new.processors;
-          id_generator = provider.new.id_generator;
-        } }
-        ensures err { OnErr result
-            (OnlyDraws S.ShouldSample G.IdGenerator provider.old (named_builder (string_bytes name)) cx.now
-            provider.new) }
-        ensures shut { IsTrue (provider.old.is_shut || cx.now.telemetry_suppressed) → IsOk result }
-
-        // A span that is dropped takes no memory.
-        ensures dropped { Drops S.ShouldSample provider.old (named_builder (string_bytes name)) cx.now → IsOk result }
+        ensures answers { AnswersStart P.SpanProcessor S.ShouldSample G.IdGenerator provider.old (record {
+          scope = self.now;
+          builder = named_builder (string_bytes name);
+          cx = cx.now;
+          now = now.0;
+        }) result provider.new }
+        ensures free { StartIsInfallible S.ShouldSample provider.old (record {
+          scope = self.now;
+          builder = named_builder (string_bytes name);
+          cx = cx.now;
+          now = now.0;
+        }) → IsOk result }
     {
         self.build_with_context(self.span_builder(name), cx, provider, now)
     }
@@ -131,20 +118,18 @@ impl SdkTracer {
         provider: &mut ProviderOf<P, S, G>,
         now: Moment,
     ) -> Result<Span, AllocError>
-        ensures ok { IfOk result (λ span. (history : SpanHistory) × (span ≡ span_of history)
-            × Starts P.SpanProcessor S.ShouldSample G.IdGenerator
-            provider.old self.now builder cx.now now.0 history provider.new) }
-        ensures told { map P.told provider.new.processors ≡ map P.told provider.old.processors }
-        ensures rest { provider.new ≡ record provider.old {
-          processors = provider.new.processors;
-          id_generator = provider.new.id_generator;
-        } }
-        ensures err { OnErr result
-            (OnlyDraws S.ShouldSample G.IdGenerator provider.old builder cx.now provider.new) }
-        ensures shut { IsTrue (provider.old.is_shut || cx.now.telemetry_suppressed) → IsOk result }
-
-        // A span that is dropped takes no memory.
-        ensures dropped { Drops S.ShouldSample provider.old builder cx.now → IsOk result }
+        ensures answers { AnswersStart P.SpanProcessor S.ShouldSample G.IdGenerator provider.old (record {
+          scope = self.now;
+          builder = builder;
+          cx = cx.now;
+          now = now.0;
+        }) result provider.new }
+        ensures free { StartIsInfallible S.ShouldSample provider.old (record {
+          scope = self.now;
+          builder = builder;
+          cx = cx.now;
+          now = now.0;
+        }) → IsOk result }
     {
         let span_limits = provider.span_limits();
         if starts_nothing(provider, cx) {

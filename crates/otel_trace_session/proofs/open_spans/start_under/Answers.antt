@@ -1,9 +1,10 @@
 use Rattle.std.proofs.Common.{◌≡◌, ◌∙◌, sym, ap, refl, rules, Some, string_bytes, inl, inr}
 use Rattle.std.specs.BTreeMap.Entry.{map_with_value, entry_value}
 use Rattle.opentelemetry.proofs.Clauses.{always_on_err}
+use Rattle.otel_pipeline.proofs.Starting.{answers_told}
 use Rattle.otel_trace_session.specs.Calls.{calls_of}
 use Rattle.otel_trace_session.specs.OpenSpans.{by_name, start_answer}
-use Rattle.otel_trace_session.specs.SpanTurns.{start_in}
+use Rattle.otel_trace_session.specs.SpanTurns.{request_of, start_in}
 use Rattle.otel_trace_session.proofs.NamedLemmas.{named-get, puts_written, may_start_free}
 use Rattle.otel_trace_session.proofs.TurnLemmas.{starts_free, starts_taken}
 use Rattle.otel_trace_session.proofs.open_spans.start_under.Goals as goal
@@ -18,12 +19,12 @@ pub returns-in_err-or_try_insert_with-in-Err-clause-asks : goal.returns-in_err-o
 returns-in_err-or_try_insert_with-in-Err-clause-asks g c =
     let calls = calls_of g.P.SpanProcessor g.P.DrainDue g.P.KeepsBatches g.S.ShouldSample g.G.IdGenerator in
     always_on_err _ (may_start_free calls c.args.provider.now c.start_with_context.new.provider c.args.cx.now (string_bytes c.args.name) _
-    (named-get c.args.spans.now (string_bytes c.args.span) ∙ (rw c.in-Vacant.is at c.in_ok-place.ensures.found)) (inr c.in-Err.ensures.err))
+    (named-get c.args.spans.now (string_bytes c.args.span) ∙ (rw c.in-Vacant.is at c.in_ok-place.ensures.found)) (inr c.in-Err.ensures.answers))
 
 pub returns-in-Ok-clause-ok : goal.returns-in-Ok-clause-ok
 returns-in-Ok-clause-ok g c =
     let calls = calls_of g.P.SpanProcessor g.P.DrainDue g.P.KeepsBatches g.S.ShouldSample g.G.IdGenerator in
-    let begun = c.in-Ok.ensures.ok in
+    let begun = c.in-Ok.ensures.answers in
     let span = c.insert.result.now in
     starts_free calls c.args.provider.now c.start_with_context.new.provider (by_name c.args.spans.now.entries) _ (start_in c.args.tracer.now c.args.cx.now (string_bytes c.args.span) (string_bytes c.args.name) c.args.now.0) c.answer_to_start-answer.result begun.0
     (named-get c.args.spans.now (string_bytes c.args.span) ∙ (rw c.in-Vacant.is at c.in_ok-place.ensures.found))
@@ -31,7 +32,8 @@ returns-in-Ok-clause-ok g c =
     (λ before. record {
       history = begun.0;
       starts = begun.2;
-      told = c.start_with_context.ensures.told;
+      told = answers_told g.P.SpanProcessor g.S.ShouldSample g.G.IdGenerator c.args.provider.now c.start_with_context.new.provider
+          (request_of (start_in c.args.tracer.now c.args.cx.now (string_bytes c.args.span) (string_bytes c.args.name) c.args.now.0)) c.start_with_context.result c.start_with_context.ensures.answers;
       says = c.answer_to_start-answer.ensures ∙ ap start_answer begun.1;
       delivers = refl;
       histories = refl;

@@ -18,7 +18,7 @@ use Rattle.otel_trace_session.specs.Turn.{TakesTurn}
 use Rattle.otel_trace_session.specs.Turns.{IsCarriedOut}
 use Rattle.otel_trace_session.proofs.NamedLemmas.{on_err_both, refused_start_asks_none, refused_child_asks_none}
 use Rattle.otel_trace_session.proofs.CarryLemmas.{carries_call, carries_child, carries_edit, carries_end, carries_inject, carries_remote, carries_start, shuts_by}
-use Rattle.otel_trace_session.proofs.TurnLemmas.{Childs, Edits, Ends}
+use Rattle.otel_trace_session.proofs.TurnLemmas.{Childs, Edits, EndsNamed}
 use Rattle.otel_trace_session.proofs.session.carry_out.Goals as goal
 
 pub returns-in-Start-clause-ok : goal.returns-in-Start-clause-ok
@@ -91,7 +91,7 @@ returns-in-End-clause-ok g c =
     if_ok_map c.end.result (λ answer h.
     subst (λ (command : Command). TakesTurn (IsCarriedOut calls c.args.tracer.now (plain_command command)) c.args.provider.now c.args.spans.now answer c.end.new.provider c.end.new.self) (sym c.in-End.is)
     (carries_end calls g.met.P.KeepsBatches.appends c.args.tracer.now c.args.provider.now c.end.new.provider c.args.spans.now c.end.new.self (string_bytes c.in-End.span) c.in-End.moment.0 answer
-    (subst (λ (span : List ℕ). TakesTurn (Ends g.P.SpanProcessor span c.in-End.moment.0) c.args.provider.now c.args.spans.now answer c.end.new.provider c.end.new.self) c.as_str-in-End.ensures.value h))) c.end.ensures.ok
+    (subst (λ (span : List ℕ). TakesTurn (EndsNamed g.P.SpanProcessor span c.in-End.moment.0) c.args.provider.now c.args.spans.now answer c.end.new.provider c.end.new.self) c.as_str-in-End.ensures.value h))) c.end.ensures.ok
 
 pub returns-in-Flush-clause-ok : goal.returns-in-Flush-clause-ok
 returns-in-Flush-clause-ok g c =

@@ -1,7 +1,7 @@
 use Rattle.std.proofs.Common.{[], rules}
 use Rattle.otel_sampling.specs.Sampling.{added_attributes}
 use Rattle.otel_pipeline.specs.SpanHistory.{begun}
-use Rattle.otel_pipeline.specs.Starting.{start_of}
+use Rattle.otel_pipeline.specs.StartRequest.{start_of}
 use Rattle.otel_pipeline.proofs.trace.tracer.begin.Goals as goal
 
 pub recording-requires : goal.recording-requires
