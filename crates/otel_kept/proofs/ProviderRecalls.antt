@@ -16,7 +16,7 @@ use Rattle.otel_export.specs.Telling.{Tells}
 use Rattle.otel_pipeline.specs.ProcessorTelling.{ProcessorTelling, TakesNothing, TakesSpan, HandsOver, HearsNothing, HearsOne, DropsOne}
 use Rattle.otel_pipeline.specs.SpanHistory.{PlainSpan, SpanHistory, SpanStart, over, recording}
 use Rattle.otel_pipeline.specs.Deliveries.{Delivery, Follows, Hears, EachFollows}
-use Rattle.otel_pipeline.specs.Each.{Each, AskedAll}
+use Rattle.otel_pipeline.specs.Each.{Each, AsksAll}
 use Rattle.otel_pipeline.specs.Ending.{TakesAndTells, Delivers}
 use Rattle.otel_pipeline.specs.Provider.{ProviderState, Flushes, FlushesProcessor, ShutsDown, ShutsProcessor, RunsDue, RunsProcessor}
 use Rattle.otel_pipeline.specs.StartRequest.{StartRequest}

@@ -6,7 +6,7 @@ use Rattle.std.proofs.Math.Seq.{take-append_seam}
 use Rattle.std.proofs.lemmas.List.{take_all, take_more, take_more_set, drop-set-lt, get_or-drop, drop-drop, length-drop, length-set}
 use Rattle.std.proofs.lemmas.Slice.{drop-append-drop}
 use Rattle.opentelemetry.specs.Plain.{PlainContext}
-use Rattle.otel_pipeline.specs.Each.{Each, AskedAll, AskedFirst, error_count, first_failure}
+use Rattle.otel_pipeline.specs.Each.{Each, AsksAll, AsksFirst, error_count, first_failure}
 use Rattle.otel_pipeline.specs.SpanHistory.{PlainSpan}
 use Rattle.otel_pipeline.specs.Starting.{PassesThrough, TakesPart}
 use Rattle.otel_pipeline.specs.declared.trace.span_processor.SpanProcessor.{Ghosts}
@@ -34,7 +34,7 @@ error_count-push (Err _ ∷ rs) (Ok a) = ap (λ n. n + 1) (error_count-push rs (
 error_count-push (Err _ ∷ rs) (Err a) = ap (λ n. n + 1) (error_count-push rs (Err a))
 
 -- one more was asked
-pub asked_push : {P T E : Type 0} (G : P → Result T E → P → Type 0) (ps qs : List P) (n : ℕ) (p : P) (r : Result T E) (q : P) → AskedAll G ps qs n → G p r q → AskedAll G (ps ++ p ∷ []) (qs ++ q ∷ []) (with_answer r n)
+pub asked_push : {P T E : Type 0} (G : P → Result T E → P → Type 0) (ps qs : List P) (n : ℕ) (p : P) (r : Result T E) (q : P) → AsksAll G ps qs n → G p r q → AsksAll G (ps ++ p ∷ []) (qs ++ q ∷ []) (with_answer r n)
 asked_push G ps qs n p r q (rs, counted, each) h = (rs ++ r ∷ [], error_count-push rs r ∙ ap (with_answer r) counted, Each-push G ps rs qs each h)
 
 -- the processor that comes next is as it was
@@ -42,8 +42,8 @@ pub at_front : {P : Type 0} (init now : List P) (i : ℕ) (d : P) → drop i now
 at_front init now i d h = sym (rw add-zero at (get_or-drop i now 0 d)) ∙ ap (λ xs. get_or xs 0 d) h ∙ (rw add-zero at (get_or-drop i init 0 d))
 
 asked_more : {P T E : Type 0} (G : P → Result T E → P → Type 0) (init now : List P) (i n : ℕ) (d q : P) (r : Result T E)
-    → i < length init → length now ≡ length init → drop i now ≡ drop i init → AskedAll G (take i init) (take i now) n → G (get_or now i d) r q
-    → AskedAll G (take (i + 1) init) (take (i + 1) (set now i q)) (with_answer r n)
+    → i < length init → length now ≡ length init → drop i now ≡ drop i init → AsksAll G (take i init) (take i now) n → G (get_or now i d) r q
+    → AsksAll G (take (i + 1) init) (take (i + 1) (set now i q)) (with_answer r n)
 asked_more G init now i n d q r short same rest asked h =
     rw (take_more init i d short, take_more_set now i q (omega arith))
     (asked_push G (take i init) (take i now) n (get_or init i d) r q asked (subst (λ x. G x r q) (at_front init now i d rest) h))
@@ -64,9 +64,9 @@ ok_answer (Err _) n h = cc
 
 -- one more was asked, and the count is as the answer says
 pub asked_next : {P T E : Type 0} (G : P → Result T E → P → Type 0) (init now : List P) (i n m : ℕ) (d q : P) (r : Result T E)
-    → i < length init → length now ≡ length init → drop i now ≡ drop i init → AskedAll G (take i init) (take i now) n → G (get_or now i d) r q → with_answer r n ≡ m
-    → AskedAll G (take (i + 1) init) (take (i + 1) (set now i q)) m
-asked_next G init now i n m d q r short same rest asked h e = subst (λ k. AskedAll G (take (i + 1) init) (take (i + 1) (set now i q)) k) e (asked_more G init now i n d q r short same rest asked h)
+    → i < length init → length now ≡ length init → drop i now ≡ drop i init → AsksAll G (take i init) (take i now) n → G (get_or now i d) r q → with_answer r n ≡ m
+    → AsksAll G (take (i + 1) init) (take (i + 1) (set now i q)) m
+asked_next G init now i n m d q r short same rest asked h e = subst (λ k. AsksAll G (take (i + 1) init) (take (i + 1) (set now i q)) k) e (asked_more G init now i n d q r short same rest asked h)
 
 -- the last of several copies
 pub last_copy : {X : Type 0} (n : ℕ) (d : X) (xs : List X) (x : X) → xs ++ x ∷ [] ≡ replicate (suc n) d → (xs ≡ replicate n d) × (x ≡ d)
@@ -103,17 +103,17 @@ passes_next calls cx x init now i d q y z short same rest passed h =
 
 -- all but the last were asked, and then the last
 pub asked_last : {P T E : Type 0} (G : P → Result T E → P → Type 0) (init front : List P) (last n m : ℕ) (d q : P) (r : Result T E)
-    → last + 1 ≡ length init → length front ≡ last → AskedAll G (take last init) front n → G (get_or (front ++ drop last init) last d) r q → with_answer r n ≡ m
-    → AskedAll G init (set (front ++ drop last init) last q) m
+    → last + 1 ≡ length init → length front ≡ last → AsksAll G (take last init) front n → G (get_or (front ++ drop last init) last d) r q → with_answer r n ≡ m
+    → AsksAll G init (set (front ++ drop last init) last q) m
 asked_last {P} {T} {E} G init front last n m d q r whole size asked h e =
     let now : List P = front ++ drop last init in
     let same : length now ≡ length init = omega (arith, length-append front (drop last init), length-drop last init) in
     let rest : drop last now ≡ drop last init = drop-append-drop last init front last (omega arith) size in
     let front_is : take last now ≡ front = subst (λ (k : ℕ). take k now ≡ front) size (take-append_seam front (drop last init)) in
-    let step = asked_next G init now last n m d q r (omega arith) same rest (subst (λ (l : List P). AskedAll G (take last init) l n) (sym front_is) asked) h e in
+    let step = asked_next G init now last n m d q r (omega arith) same rest (subst (λ (l : List P). AsksAll G (take last init) l n) (sym front_is) asked) h e in
     let init_is : take (last + 1) init ≡ init = take_all (last + 1) init (omega arith) in
     let now_is : take (last + 1) (set now last q) ≡ set now last q = take_all (last + 1) (set now last q) (omega (arith, length-set now last q)) in
-    subst (λ (l : List P). AskedAll G init l m) now_is (subst (λ (l : List P). AskedAll G l (take (last + 1) (set now last q)) m) init_is step)
+    subst (λ (l : List P). AsksAll G init l m) now_is (subst (λ (l : List P). AsksAll G l (take (last + 1) (set now last q)) m) init_is step)
 
 -- one more answer: the first error stays the first
 first_failure-push : {E : Type 0} (rs : List (Result (Unit {0}) E)) (r : Result (Unit {0}) E) → first_failure (rs ++ r ∷ []) ≡ result_and (first_failure rs) r
@@ -124,8 +124,8 @@ first_failure-push (Err _ ∷ rs) r = refl
 
 -- one more was asked, and the answer is the first error so far
 pub first_next : {P E : Type 0} (G : P → Result (Unit {0}) E → P → Type 0) (init now : List P) (i : ℕ) (d q : P) (answer r said : Result (Unit {0}) E)
-    → i < length init → length now ≡ length init → drop i now ≡ drop i init → AskedFirst G (take i init) (take i now) answer → G (get_or now i d) r q → said ≡ result_and answer r
-    → AskedFirst G (take (i + 1) init) (take (i + 1) (set now i q)) said
+    → i < length init → length now ≡ length init → drop i now ≡ drop i init → AsksFirst G (take i init) (take i now) answer → G (get_or now i d) r q → said ≡ result_and answer r
+    → AsksFirst G (take (i + 1) init) (take (i + 1) (set now i q)) said
 first_next G init now i d q answer r said short same rest (rs, first, each) h e =
     let asked : G (get_or init i d) r q = subst (λ x. G x r q) (at_front init now i d rest) h in
     let answered = first_failure-push rs r ∙ ap (λ x. result_and x r) first ∙ sym e in

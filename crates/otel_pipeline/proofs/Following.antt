@@ -11,7 +11,7 @@ use Rattle.std.specs.declared.alloc.AllocError.{AllocError}
 use Rattle.otel_pipeline.specs.ProcessorTelling.{ProcessorTelling, CountsUp, TakesSpan, TakesNothing, HandsOver, HearsNothing}
 use Rattle.otel_pipeline.specs.Deliveries.{Delivery, Hears, Follows, EachFollows, EachOpenHears, Reaches, ReachesFirst, spans_of}
 use Rattle.otel_pipeline.specs.declared.trace.span_processor.SpanProcessor.{Ghosts}
-use Rattle.otel_pipeline.specs.Each.{Each, AskedAll, error_count}
+use Rattle.otel_pipeline.specs.Each.{Each, AsksAll, error_count}
 use Rattle.otel_pipeline.specs.Ending.{TakesAndTells, DeliversIf, deliveries}
 use Rattle.otel_pipeline.specs.SpanHistory.{ended_at}
 
@@ -261,7 +261,7 @@ each_takes_nothing calls G takes (p ∷ ps) (r ∷ rs) (q ∷ qs) h =
 -- processors of which each was asked to flush or to shut down follow no delivery
 pub EachFollows-asked : {P T E : Type 0} (calls : Ghosts P) (G : P → Result T E → P → Type 0)
     → ((p : P) (r : Result T E) (q : P) → G p r q → TakesNothing (calls.told p) (calls.told q))
-    → (ps qs : List P) (n : ℕ) → AskedAll G ps qs n → EachFollows calls [] ps qs
+    → (ps qs : List P) (n : ℕ) → AsksAll G ps qs n → EachFollows calls [] ps qs
 EachFollows-asked calls G takes ps qs n h = each_takes_nothing calls G takes ps h.0 qs h.2
 
 -- the errors among more answers are no fewer
@@ -346,7 +346,7 @@ stays_same calls (p ∷ ps) (q ∷ qs) e =
 -- and so do those of which each was asked what closes none
 pub stays_asked : {P T E : Type 0} (calls : Ghosts P) (G : P → Result T E → P → Type 0)
     → ((p : P) (r : Result T E) (q : P) → G p r q → (calls.told q).is_open ≡ (calls.told p).is_open)
-    → (ps qs : List P) (n : ℕ) → AskedAll G ps qs n → EachStays calls ps qs
+    → (ps qs : List P) (n : ℕ) → AsksAll G ps qs n → EachStays calls ps qs
 stays_asked {P} {T} {E} calls G stays ps qs n h = each ps h.0 qs h.2
   where
     each : (ps : List P) (rs : List (Result T E)) (qs : List P) → Each G ps rs qs → EachStays calls ps qs

@@ -17,8 +17,8 @@ error_count (Ok _ ∷ rs) = error_count rs
 error_count (Err _ ∷ rs) = error_count rs + 1
 
 -- each was asked, also after one refused: n of the answers are errors
-abbrev pub AskedAll : {P T E : Type 0} → (P → Result T E → P → Type 0) → List P → List P → ℕ → Type 0
-AskedAll {P} {T} {E} G ps qs n = (rs : List (Result T E)) × (error_count rs ≡ n) × Each G ps rs qs
+abbrev pub AsksAll : {P T E : Type 0} → (P → Result T E → P → Type 0) → List P → List P → ℕ → Type 0
+AsksAll {P} {T} {E} G ps qs n = (rs : List (Result T E)) × (error_count rs ≡ n) × Each G ps rs qs
 
 -- Ok, or the first error among the answers
 abbrev pub first_failure : {E : Type 0} → List (Result (Unit {0}) E) → Result (Unit {0}) E
@@ -27,7 +27,7 @@ first_failure (Ok _ ∷ rs) = first_failure rs
 first_failure (Err error ∷ rs) = Err error
 
 -- each was asked, also after one refused: the first of their errors is answered, Ok where there is none
-abbrev pub AskedFirst : {P E : Type 0} → (P → Result (Unit {0}) E → P → Type 0) → List P → List P
+abbrev pub AsksFirst : {P E : Type 0} → (P → Result (Unit {0}) E → P → Type 0) → List P → List P
     → Result (Unit {0}) E → Type 0
-AskedFirst {P} {E} G ps qs answer =
+AsksFirst {P} {E} G ps qs answer =
     (rs : List (Result (Unit {0}) E)) × (first_failure rs ≡ answer) × Each G ps rs qs

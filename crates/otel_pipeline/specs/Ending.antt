@@ -7,7 +7,7 @@ use Rattle.otel_pipeline.specs.SpanHistory.{PlainSpan, ended_at}
 use Rattle.otel_pipeline.specs.Provider.{ProviderState}
 use Rattle.otel_pipeline.specs.ProcessorTelling.{TakesSpan}
 use Rattle.otel_pipeline.specs.Deliveries.{Delivery}
-use Rattle.otel_pipeline.specs.Each.{AskedAll}
+use Rattle.otel_pipeline.specs.Each.{AsksAll}
 use Rattle.otel_pipeline.specs.declared.trace.span_processor.SpanProcessor.{Ghosts}
 
 module _ {P : Type 0} (calls : Ghosts P) where
@@ -21,7 +21,7 @@ module _ {P : Type 0} (calls : Ghosts P) where
   -- refuse it
   abbrev pub Delivers : Bool → PlainSpanData → List P → List P → ℕ → Type 0
   Delivers true span ps qs n = (qs ≡ ps) × (n ≡ 0)
-  Delivers false span ps qs n = AskedAll (TakesAndTells span) ps qs n
+  Delivers false span ps qs n = AsksAll (TakesAndTells span) ps qs n
 
   -- the same of a span that may not be recording
   abbrev pub DeliversIf : Bool → ℕ → Option PlainSpanData → List P → List P → ℕ → Type 0

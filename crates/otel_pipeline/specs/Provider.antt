@@ -4,7 +4,7 @@ use Rattle.otel_export.specs.declared.error.OTelSdkError.{OTelSdkError}
 use Rattle.otel_export.specs.declared.error.OTelSdkError.TheVariants as errors
 use Rattle.otel_sampling.specs.declared.trace.span_limit.SpanLimits.{SpanLimits}
 use Rattle.otel_pipeline.specs.ProcessorTelling.{TakesNothing}
-use Rattle.otel_pipeline.specs.Each.{AskedAll, AskedFirst}
+use Rattle.otel_pipeline.specs.Each.{AsksAll, AsksFirst}
 use Rattle.otel_pipeline.specs.declared.trace.close_report.CloseReport.{CloseReport}
 use Rattle.otel_pipeline.specs.declared.trace.span_processor.SpanProcessor.{Ghosts}
 use Rattle.otel_pipeline.specs.declared.trace.drain_due.DrainDue as timing
@@ -57,7 +57,7 @@ module _ {P : Type 0} (calls : Ghosts P) where
   -- first one that failed, Ok where none did
   pub record Flushes {S G : Type 0} (old : ProviderState P S G) (answer : Result (Unit {0}) OTelSdkError)
       (new : ProviderState P S G) : Type 0 where
-    pub asked : AskedFirst FlushesProcessor old.processors new.processors answer
+    pub asked : AsksFirst FlushesProcessor old.processors new.processors answer
     pub rest : new ≡ record old { processors = new.processors }
 
   -- what is done where the time is told, whether the provider is shut or not: each processor did what was due, and the
@@ -65,7 +65,7 @@ module _ {P : Type 0} (calls : Ghosts P) where
   pub record RunsDue {S G : Type 0} (timer : timing.Ghosts P) (now : ℕ) (old : ProviderState P S G)
       (answer : Result (Unit {0}) OTelSdkError) (new : ProviderState P S G) : Type 0 where
     pub failed : ℕ
-    pub asked : AskedAll (RunsProcessor timer now) old.processors new.processors failed
+    pub asked : AsksAll (RunsProcessor timer now) old.processors new.processors failed
     pub ok : IsOk answer ↔ (failed ≡ 0)
     pub err : IfErr answer IsInternalFailure
     pub rest : new ≡ record old { processors = new.processors }
@@ -75,7 +75,7 @@ module _ {P : Type 0} (calls : Ghosts P) where
   pub record ShutsDown {S G : Type 0} (old : ProviderState P S G) (timeout : ℕ)
       (answer : Result (Unit {0}) OTelSdkError) (new : ProviderState P S G) : Type 0 where
     pub failed : ℕ
-    pub asked : AskedAll (ShutsProcessor timeout) old.processors new.processors failed
+    pub asked : AsksAll (ShutsProcessor timeout) old.processors new.processors failed
     pub ok : IsOk answer ↔ (failed ≡ 0)
     pub err : IfErr answer IsInternalFailure
     pub rest : new ≡ record old { processors = new.processors; is_shut = true }

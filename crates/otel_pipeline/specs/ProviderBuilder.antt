@@ -9,7 +9,7 @@ use Rattle.otel_sampling.specs.declared.trace.config.ConfigOf.{ConfigOf}
 use Rattle.otel_sampling.specs.declared.trace.id_generator.IdSourceOf.{IdSourceOf}
 use Rattle.otel_sampling.specs.declared.trace.sampler.SamplerOf.{SamplerOf}
 use Rattle.otel_sampling.specs.declared.trace.span_limit.SpanLimits.{SpanLimits}
-use Rattle.otel_pipeline.specs.Each.{AskedAll}
+use Rattle.otel_pipeline.specs.Each.{AsksAll}
 use Rattle.otel_pipeline.specs.Provider.{ProviderState}
 use Rattle.otel_pipeline.specs.declared.trace.span_processor.SpanProcessor.{Ghosts}
 
@@ -57,7 +57,7 @@ module _ {P : Type 0} (calls : Ghosts P) where
 
   -- the provider that a builder makes is open, and each processor took its resource
   pub record Opens {S G : Type 0} (builder : BuilderState P S G) (provider : ProviderState P S G) : Type 0 where
-    pub told : AskedAll (TakesResource builder.config.resource) builder.processors provider.processors 0
+    pub told : AsksAll (TakesResource builder.config.resource) builder.processors provider.processors 0
     pub rest : provider ≡ record {
       processors = provider.processors;
       sampler = builder.config.sampler;
@@ -70,5 +70,5 @@ module _ {P : Type 0} (calls : Ghosts P) where
   pub record RefusesResource {S G : Type 0} (old new : BuilderState P S G) : Type 0 where
     pub refused : ℕ
     pub some : 0 < refused
-    pub told : AskedAll (TakesResource old.config.resource) old.processors new.processors refused
+    pub told : AsksAll (TakesResource old.config.resource) old.processors new.processors refused
     pub rest : new ≡ record old { processors = new.processors }

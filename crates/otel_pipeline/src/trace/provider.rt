@@ -8,7 +8,7 @@ ghost use Rattle.std.specs.Duration.{as_nanos};
 ghost use Rattle.otel_export.specs.PlainSpanData.{PlainSpanData};
 ghost use Rattle.opentelemetry.specs.Plain.{scope_named};
 ghost use Rattle.otel_pipeline.specs.Deliveries.{EachFollows};
-ghost use Rattle.otel_pipeline.specs.Each.{AskedAll, AskedFirst};
+ghost use Rattle.otel_pipeline.specs.Each.{AsksAll, AsksFirst};
 ghost use Rattle.otel_pipeline.specs.Ending.{TakesAndTells};
 ghost use Rattle.otel_pipeline.specs.Provider.{Flushes, FlushesProcessor, IsInternalFailure, RunsDue, RunsProcessor};
 ghost use Rattle.otel_pipeline.specs.Provider.{ReportsLeft, ShutsDown, ShutsProcessor};
@@ -158,7 +158,7 @@ impl<P: SpanProcessor, S: Drop, G: Drop> ProviderOf<P, S, G> {
     /// A span has ended: each processor gets its copy, the last one the original. The answer is how many refused.
     pub(crate) fn deliver(&mut self, copies: Vec<SpanData>, original: SpanData) -> usize
         requires { copies.items ≡ replicate (length self.old.processors - 1) original }
-        ensures asked { AskedAll (TakesAndTells P.SpanProcessor original) self.old.processors self.new.processors
+        ensures asked { AsksAll (TakesAndTells P.SpanProcessor original) self.old.processors self.new.processors
             result }
         ensures rest { self.new ≡ record self.old { processors = self.new.processors } }
     {
@@ -330,7 +330,7 @@ fn end_each<P: SpanProcessor>(
     original: SpanData,
 ) -> usize
     requires { copies.items ≡ replicate (length processors.old - 1) original }
-    ensures { AskedAll (TakesAndTells P.SpanProcessor original) processors.old processors.new result }
+    ensures { AsksAll (TakesAndTells P.SpanProcessor original) processors.old processors.new result }
 {
     let Some(last) = processors.len().checked_sub(1) else {
         return 0;
@@ -346,7 +346,7 @@ fn end_each<P: SpanProcessor>(
 fn end_copies<P: SpanProcessor>(processors: &mut [P], mut copies: Vec<SpanData>) -> usize
     requires { vec_len copies ≡ length processors.old }
     ensures asked { (d : PlainSpanData) → copies.items ≡ replicate (length processors.old) d
-        → AskedAll (TakesAndTells P.SpanProcessor d) processors.old processors.new result }
+        → AsksAll (TakesAndTells P.SpanProcessor d) processors.old processors.new result }
     ensures few { result ≤ length processors.old }
 {
     let mut refused = 0;
@@ -361,7 +361,7 @@ fn end_copies<P: SpanProcessor>(processors: &mut [P], mut copies: Vec<SpanData>)
 
 /// Each is asked to flush, also after one failed. The answer is the error of the first one that failed.
 fn flush_each<P: SpanProcessor>(processors: &mut [P]) -> OTelSdkResult
-    ensures { AskedFirst (FlushesProcessor P.SpanProcessor) processors.old processors.new result }
+    ensures { AsksFirst (FlushesProcessor P.SpanProcessor) processors.old processors.new result }
 {
     let mut answer = Ok(());
     for processor in processors.iter_mut() {
@@ -373,7 +373,7 @@ fn flush_each<P: SpanProcessor>(processors: &mut [P]) -> OTelSdkResult
 
 /// Each is told the time, also after one failed. The answer is how many failed.
 fn run_each<P: DrainDue>(processors: &mut [P], now: Moment) -> usize
-    ensures { AskedAll (RunsProcessor P.SpanProcessor P.DrainDue.own now.0) processors.old processors.new result }
+    ensures { AsksAll (RunsProcessor P.SpanProcessor P.DrainDue.own now.0) processors.old processors.new result }
 {
     let mut failed = 0;
     for processor in processors.iter_mut() {
@@ -386,7 +386,7 @@ fn run_each<P: DrainDue>(processors: &mut [P], now: Moment) -> usize
 
 /// Each is shut down, also after one failed. The answer is how many failed.
 fn shutdown_each<P: SpanProcessor>(processors: &mut [P], timeout: Duration) -> usize
-    ensures { AskedAll (ShutsProcessor P.SpanProcessor (as_nanos timeout)) processors.old processors.new result }
+    ensures { AsksAll (ShutsProcessor P.SpanProcessor (as_nanos timeout)) processors.old processors.new result }
 {
     let mut failed = 0;
     for processor in processors.iter_mut() {

@@ -6,7 +6,7 @@
 
 ghost use Rattle.std.specs.Prelude.{◌≡◌, ◌++◌, [], ◌∷◌, false, true, IfOk, IsOk, MatchResult};
 ghost use Rattle.std.specs.Bool.{OnFalse};
-ghost use Rattle.otel_pipeline.specs.Each.{AskedAll};
+ghost use Rattle.otel_pipeline.specs.Each.{AsksAll};
 ghost use Rattle.otel_pipeline.specs.ProviderBuilder as building;
 ghost use Rattle.otel_pipeline.specs.ProviderBuilder.{BeginsBy, Opens, RefusesResource, TakesResource, with_limits};
 
@@ -282,7 +282,7 @@ impl<P: SpanProcessor, S, G> ProviderBuilderOf<P, S, G> {
 
 /// Each is told the resource, also after one refused it. The answer is how many refused.
 fn tell_each<P: SpanProcessor>(processors: &mut [P], resource: &Resource) -> usize
-    ensures { AskedAll (TakesResource P.SpanProcessor resource.now) processors.old processors.new result }
+    ensures { AsksAll (TakesResource P.SpanProcessor resource.now) processors.old processors.new result }
 {
     let mut refused = 0;
     for processor in processors.iter_mut() {

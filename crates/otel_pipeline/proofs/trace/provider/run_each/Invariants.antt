@@ -1,11 +1,11 @@
 use Rattle.std.proofs.Common.{◌≡◌, take, drop, ◌≤◌}
-use Rattle.otel_pipeline.specs.Each.{AskedAll}
+use Rattle.otel_pipeline.specs.Each.{AsksAll}
 use Rattle.otel_pipeline.specs.Provider.{RunsProcessor}
 use Rattle.otel_pipeline.proofs.trace.provider.run_each.Given as goal
 
 abbrev pub invariant-loop-processor : goal.invariant-loop-processor
 invariant-loop-processor g l = record {
-  asked : AskedAll (RunsProcessor g.P.SpanProcessor g.P.DrainDue l.fn.now.0) (take l.processor-index l.fn.processors) (take l.processor-index l.processors) l.failed;
+  asked : AsksAll (RunsProcessor g.P.SpanProcessor g.P.DrainDue l.fn.now.0) (take l.processor-index l.fn.processors) (take l.processor-index l.processors) l.failed;
   rest : drop l.processor-index l.processors ≡ drop l.processor-index l.fn.processors;
   few : l.failed ≤ l.processor-index;
 }
