@@ -1,6 +1,6 @@
 -- The part of the batch queue's table by which a producer asks for a flush or a shutdown and has its answer, and by
 -- which a resource is posted.
-use Rattle.std.specs.Prelude.{◌≡◌, ℕ, ◌+◌, true, false, Some, [], ◌∷◌, ◌++◌, slice_set}
+use Rattle.std.specs.Prelude.{◌≡◌, ℕ, true, false, Some, [], ◌∷◌, ◌++◌, slice_set}
 use Rattle.otel_resource.specs.Resource.{PlainResource}
 use Rattle.otel_batch.specs.Slots.{is_idle, is_answered}
 use Rattle.otel_batch.specs.Messages.{message_of}

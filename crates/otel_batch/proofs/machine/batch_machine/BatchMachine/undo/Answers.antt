@@ -1,5 +1,4 @@
 use Rattle.std.proofs.Common.{arith, ◌≡◌, ◌≤◌, Some, slice_get, slice_set}
-use Rattle.std.proofs.lemmas.Grind.{common_steps}
 use Rattle.otel_batch.specs.declared.machine.state.Slot.TheVariants.{Idle, Refused}
 use Rattle.otel_batch.proofs.SlotSums.{counts_slot, slot_found}
 use Rattle.otel_batch.proofs.Soundness.{sound_slot}
