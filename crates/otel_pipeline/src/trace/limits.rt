@@ -1,7 +1,7 @@
 //! What a span keeps within its limits: the first items of each list. Those over a limit are only counted
 //! (OpenTelemetry specification, "Span Limits"). Lists are cut in place.
 
-ghost use Rattle.std.specs.Prelude.{◌≡◌, ◌≤◌, ◌⊎◌, ◌++◌, [], length, map, nat_lt, IfOk, IsOk, OnErr, OnOk, unwrap_or};
+ghost use Rattle.std.specs.Prelude.{◌≡◌, ◌≤◌, ◌⊎◌, ◌++◌, [], length, map, IfOk, IsOk, OnErr, OnOk, unwrap_or};
 ghost use Rattle.std.specs.Option.{option_map};
 ghost use Rattle.otel_sampling.specs.Sampling.{added_attributes};
 ghost use Rattle.otel_export.specs.PlainSpanData.{cut_at, left_out};
@@ -23,25 +23,26 @@ pub(crate) fn cut<T: Drop>(items: &mut Vec<T>, limit: u32) -> u32
     u32::try_from(left_out).unwrap_or(u32::MAX)
 }
 
-/// Adds an item where there is room under the limit, and else drops it, which takes no memory. The answer is whether it
-/// was kept.
+/// Adds an item where there is room under the limit, and else drops it, which takes no memory, and counts it beside
+/// those that were dropped before. The count stops at the greatest `u32`.
 pub(crate) fn push_within<T: Drop>(
     items: &mut Vec<T>,
+    dropped: &mut u32,
     limit: u32,
     item: T,
-) -> Result<bool, AllocError>
+) -> Result<(), AllocError>
     ensures grown { OnOk result (items.new.items ≡ history.grown_within limit items.old.items item) }
-    ensures kept { IfOk result (λ kept. kept ≡ nat_lt (length items.old.items) limit) }
-    ensures err { OnErr result (items.new.items ≡ items.old.items) }
+    ensures counted { OnOk result (dropped.new ≡ history.left_out_with limit items.old.items dropped.old) }
+    ensures err { OnErr result ((items.new.items ≡ items.old.items) × (dropped.new ≡ dropped.old)) }
     ensures full { limit ≤ length items.old.items → IsOk result }
 {
     if items.len() < limit as usize {
         items.reserve(1)?;
         items.push_reserved(item);
-        Ok(true)
     } else {
-        Ok(false)
+        *dropped = dropped.saturating_add(1);
     }
+    Ok(())
 }
 
 /// What is kept of the attributes that a span is given at its start, those of its builder in front of those that the

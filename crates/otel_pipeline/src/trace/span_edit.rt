@@ -11,6 +11,7 @@ use super::limits::{cut_event, cut_link, push_within};
 use crate::trace::Recorded;
 use opentelemetry::KeyValue;
 use opentelemetry::trace::{Event, Link, Status};
+use otel_export::trace::{SpanData, SpanEvents, SpanLinks};
 use otel_sampling::trace::SpanLimits;
 use std::alloc::AllocError;
 
@@ -72,13 +73,13 @@ pub(crate) fn set_attribute(
     let Some(recorded) = recorded.data.first_mut() else {
         return Ok(());
     };
+    let SpanData {
+        attributes,
+        dropped_attributes_count,
+        ..
+    } = recorded;
     let limit = limits.max_attributes_per_span;
-    let kept = push_within(&mut recorded.attributes, limit, attribute)?;
-    if !kept {
-        let count = recorded.dropped_attributes_count;
-        recorded.dropped_attributes_count = count.saturating_add(1);
-    }
-    Ok(())
+    push_within(attributes, dropped_attributes_count, limit, attribute)
 }
 
 /// Adds an event, or counts it.
@@ -97,12 +98,11 @@ pub(crate) fn add_event(
         return Ok(());
     };
     cut_event(&mut event, limits);
-    let events = &mut recorded.events;
-    let kept = push_within(&mut events.events, limits.max_events_per_span, event)?;
-    if !kept {
-        events.dropped_count = events.dropped_count.saturating_add(1);
-    }
-    Ok(())
+    let SpanEvents {
+        events,
+        dropped_count,
+    } = &mut recorded.events;
+    push_within(events, dropped_count, limits.max_events_per_span, event)
 }
 
 /// Adds a link, or counts it.
@@ -121,12 +121,11 @@ pub(crate) fn add_link(
         return Ok(());
     };
     cut_link(&mut link, limits);
-    let links = &mut recorded.links;
-    let kept = push_within(&mut links.links, limits.max_links_per_span, link)?;
-    if !kept {
-        links.dropped_count = links.dropped_count.saturating_add(1);
-    }
-    Ok(())
+    let SpanLinks {
+        links,
+        dropped_count,
+    } = &mut recorded.links;
+    push_within(links, dropped_count, limits.max_links_per_span, link)
 }
 
 /// Keeps the greater of two statuses.
