@@ -1,12 +1,15 @@
 -- A span: its history is how it started and the edits since; its data is that of whole lists, each cut once.
-use Rattle.std.specs.Prelude.{◌≡◌, ℕ, ◌+◌, ◌-◌, ◌^◌, ◌≤◌, Bool, List, [], ◌∷◌, ◌++◌, Option, Some, None, nat_lt}
-use Rattle.std.specs.Prelude.{if◌then◌else◌, length, map, min}
+use Rattle.std.specs.Prelude.{◌≡◌, ℕ, Bool, List, [], ◌∷◌, ◌++◌, Option, Some, None, map}
 use Rattle.std.specs.List.{flat_map}
-use Rattle.opentelemetry.specs.Plain.{PlainKeyValue, PlainSpanContext, PlainEvent, PlainLink, PlainScope, PlainStatus, unset}
-use Rattle.opentelemetry.specs.Order.{greater_status, greatest_status}
+use Rattle.opentelemetry.specs.Plain.{PlainKeyValue, PlainSpanContext, PlainEvent, PlainLink, PlainScope, unset}
+use Rattle.opentelemetry.specs.Order.{greatest_status}
 use Rattle.opentelemetry.specs.declared.trace.span_kind.SpanKind.{SpanKind}
 use Rattle.otel_sampling.specs.declared.trace.span_limit.SpanLimits.{SpanLimits}
 use Rattle.otel_export.specs.PlainSpanData.{PlainSpanData, PlainSpanEvents, PlainSpanLinks, cut_at, left_out}
+pub use Rattle.otel_pipeline.specs.SpanEdits.{Edit, set_attribute, add_event, add_link, set_status, update_name}
+pub use Rattle.otel_pipeline.specs.SpanEdits.{attribute_in, event_in, link_in, name_in, status_in, statuses_set}
+pub use Rattle.otel_pipeline.specs.SpanEdits.{event_within, grown_within, left_out_with, link_within}
+pub use Rattle.otel_pipeline.specs.SpanEdits.{KeepsNoMore, edited_data, edited_if}
 
 -- how a span started; attributes, events and links are those that it was given at once
 pub record SpanStart : Type 0 where
@@ -22,61 +25,10 @@ pub record SpanStart : Type 0 where
   pub instrumentation_scope : PlainScope
   pub limits : SpanLimits
 
--- what may be done to a span while it records
-pub data Edit : Type 0 where
-  set_attribute : PlainKeyValue → Edit
-  add_event : PlainEvent → Edit
-  add_link : PlainLink → Edit
-  set_status : PlainStatus → Edit
-  update_name : List ℕ → Edit
-
--- the attribute that an edit sets, where it sets one
-abbrev pub attribute_in : Edit → List PlainKeyValue
-attribute_in (set_attribute attribute) = attribute ∷ []
-attribute_in _ = []
-
--- the event that it adds
-abbrev pub event_in : Edit → List PlainEvent
-event_in (add_event event) = event ∷ []
-event_in _ = []
-
--- the link that it adds
-abbrev pub link_in : Edit → List PlainLink
-link_in (add_link link) = link ∷ []
-link_in _ = []
-
--- the status that it sets
-abbrev pub status_in : Edit → List PlainStatus
-status_in (set_status status) = status ∷ []
-status_in _ = []
-
--- the name that it gives
-abbrev pub name_in : Edit → List (List ℕ)
-name_in (update_name name) = name ∷ []
-name_in _ = []
-
--- the statuses that a list of edits sets, in order
-abbrev pub statuses_set : List Edit → List PlainStatus
-statuses_set edits = flat_map status_in edits
-
 -- the last of a first name and others
 abbrev pub last_name : List ℕ → List (List ℕ) → List ℕ
 last_name first [] = first
 last_name first (name ∷ more) = last_name name more
-
--- an event whose own attributes are cut at the limit; its count is how many were cut
-abbrev pub event_within : SpanLimits → PlainEvent → PlainEvent
-event_within limits event = record event {
-  attributes = cut_at limits.max_attributes_per_event event.attributes;
-  dropped_attributes_count = left_out limits.max_attributes_per_event event.attributes;
-}
-
--- the same of a link
-abbrev pub link_within : SpanLimits → PlainLink → PlainLink
-link_within limits link = record link {
-  attributes = cut_at limits.max_attributes_per_link link.attributes;
-  dropped_attributes_count = left_out limits.max_attributes_per_link link.attributes;
-}
 
 -- what is kept of a whole list of events
 abbrev pub events_within : SpanLimits → List PlainEvent → PlainSpanEvents
@@ -129,50 +81,6 @@ recording start edits = record {
 -- a span that does not record: it never did, or it has ended
 abbrev pub not_recording : PlainSpanContext → SpanLimits → PlainSpan
 not_recording context limits = record { span_context = context; limits = limits; recorded = None }
-
--- a list under a limit with one item more
-abbrev pub grown_within : {X : Type 0} → ℕ → List X → X → List X
-grown_within limit xs x = if nat_lt (length xs) limit then xs ++ x ∷ [] else xs
-
--- how many the limit has left out then
-abbrev pub left_out_with : {X : Type 0} → ℕ → List X → ℕ → ℕ
-left_out_with limit xs n = if nat_lt (length xs) limit then n else min (n + 1) (2 ^ 32 - 1)
-
--- the data after one edit: over the limit the new item is only counted, and the greater status stays
-abbrev pub edited_data : SpanLimits → Edit → PlainSpanData → PlainSpanData
-edited_data limits (set_attribute attribute) recorded = record recorded {
-  attributes = grown_within limits.max_attributes_per_span recorded.attributes attribute;
-  dropped_attributes_count =
-      left_out_with limits.max_attributes_per_span recorded.attributes recorded.dropped_attributes_count;
-}
-edited_data limits (add_event event) recorded = record recorded {
-  events = record {
-    events = grown_within limits.max_events_per_span recorded.events.events (event_within limits event);
-    dropped_count =
-        left_out_with limits.max_events_per_span recorded.events.events recorded.events.dropped_count;
-  };
-}
-edited_data limits (add_link link) recorded = record recorded {
-  links = record {
-    links = grown_within limits.max_links_per_span recorded.links.links (link_within limits link);
-    dropped_count = left_out_with limits.max_links_per_span recorded.links.links recorded.links.dropped_count;
-  };
-}
-edited_data limits (set_status status) recorded = record recorded { status = greater_status recorded.status status }
-edited_data limits (update_name name) recorded = record recorded { name = name }
-
--- an edit that adds nothing to what is kept, and so takes no memory
-abbrev pub KeepsNoMore : SpanLimits → Edit → PlainSpanData → Type 0
-KeepsNoMore limits (set_attribute _) recorded = limits.max_attributes_per_span ≤ length recorded.attributes
-KeepsNoMore limits (add_event _) recorded = limits.max_events_per_span ≤ length recorded.events.events
-KeepsNoMore limits (add_link _) recorded = limits.max_links_per_span ≤ length recorded.links.links
-KeepsNoMore limits (set_status _) recorded = Unit {0}
-KeepsNoMore limits (update_name _) recorded = Unit {0}
-
--- nothing happens where nothing is recorded
-abbrev pub edited_if : SpanLimits → Edit → Option PlainSpanData → Option PlainSpanData
-edited_if limits edit None = None
-edited_if limits edit (Some recorded) = Some (edited_data limits edit recorded)
 
 -- a span after one edit
 abbrev pub edited : Edit → PlainSpan → PlainSpan
