@@ -41,7 +41,7 @@ use Rattle.otel_batch.proofs.Draining.{is_busy}
 use Rattle.otel_batch.proofs.Runs.{run-sound}
 use Rattle.otel_batch.proofs.Silence.{run-stays_silent}
 use Rattle.otel_batch.specs.WorkedOff.{CollectsAnswer, WorksOff, is_idle_worker, next_of_worker, own_error, own_refusal}
-use Rattle.opentelemetry_sdk.specs.BatchProcessor.{ClosesIfOk, IsAtRest, Requests, ShutdownAnswers, queue_telling}
+use Rattle.opentelemetry_sdk.specs.QueueRequests.{ClosesIfOk, IsAtRest, Requests, ShutdownAnswers, queue_telling}
 use Rattle.opentelemetry_sdk.proofs.Going.{goes_runs}
 use Rattle.opentelemetry_sdk.proofs.Ending.{EndsIdle, QueuesNone, SpanGoes, one_slot}
 use Rattle.opentelemetry_sdk.proofs.Lone.{IsAlone, goes_alone}

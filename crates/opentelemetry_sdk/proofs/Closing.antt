@@ -26,7 +26,7 @@ use Rattle.otel_batch.specs.declared.machine.step.Step.{Step}
 use Rattle.otel_export.specs.declared.trace.export.SpanExporter.{Ghosts}
 use Rattle.otel_batch.proofs.Draining.{is_busy}
 use Rattle.otel_batch.specs.WorkedOff.{GoesBy, next_of_worker, own_refusal, refusal_next}
-use Rattle.opentelemetry_sdk.specs.BatchProcessor.{ShutdownAnswers}
+use Rattle.opentelemetry_sdk.specs.QueueRequests.{ShutdownAnswers}
 use Rattle.opentelemetry_sdk.proofs.Asking.{finishing_why, flushing, next_none, requests_in}
 use Rattle.opentelemetry_sdk.proofs.Lone.{IsAlone, next_alone}
 use Rattle.opentelemetry_sdk.proofs.Worker.{has_next, next_permitted}

@@ -16,8 +16,10 @@ use Rattle.otel_batch.specs.declared.machine.step.Outcome.TheVariants as outcome
 use Rattle.otel_batch.specs.declared.machine.step.Step.{Step}
 use Rattle.otel_batch.specs.declared.machine.step.Step.TheVariants as step
 use Rattle.otel_batch.specs.WorkedOff.{GoesBy, TicksAndWorks, WorkerWorks}
-use Rattle.opentelemetry_sdk.specs.BatchProcessor.{AnswersRequest, BatchDue, BatchProcessor}
-use Rattle.opentelemetry_sdk.specs.BatchProcessor.{DrainsByTimer, Requests, TellsTime, WorksAndTellsTime}
+use Rattle.opentelemetry_sdk.specs.BatchProcessor.{BatchDue, BatchProcessor}
+use Rattle.opentelemetry_sdk.specs.QueueRequests.{AnswersRequest}
+use Rattle.opentelemetry_sdk.specs.BatchProcessor.{DrainsByTimer, TellsTime, WorksAndTellsTime}
+use Rattle.opentelemetry_sdk.specs.QueueRequests.{Requests}
 
 module _ {E : Type 0} (calls : Ghosts E) (keeps : E → List (List PlainSpanData))
     (appends : ExporterAppends calls keeps) where

@@ -10,7 +10,8 @@ use Rattle.otel_batch.specs.KnownRequests.{step_of}
 use Rattle.otel_batch.specs.declared.machine.state.Request.{Request}
 use Rattle.otel_batch.specs.declared.machine.step.Outcome.TheVariants as outcome
 use Rattle.otel_batch.specs.declared.machine.step.Step.TheVariants as step
-use Rattle.opentelemetry_sdk.specs.BatchProcessor.{AnswersRequest, BatchProcessor, Requests}
+use Rattle.opentelemetry_sdk.specs.BatchProcessor.{BatchProcessor}
+use Rattle.opentelemetry_sdk.specs.QueueRequests.{AnswersRequest, Requests}
 use Rattle.opentelemetry_sdk.specs.RecalledRuns.{goes_over, run_over}
 use Rattle.opentelemetry_sdk.specs.RecalledSteps.{Over, in_front_of}
 use Rattle.otel_batch.specs.WorkedOff.{WorkerWorks, next_of_worker}

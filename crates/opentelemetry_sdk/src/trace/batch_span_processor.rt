@@ -8,7 +8,8 @@ ghost use Rattle.otel_pipeline.specs.ProcessorTelling.{TakesNothing};
 ghost use Rattle.otel_batch.specs.SoundMachine.{IsSound};
 ghost use Rattle.otel_batch.specs.MachineState.{counts, stranded_in};
 ghost use Rattle.otel_batch.specs.PlainBatchConfig.{default_batch_config};
-ghost use Rattle.opentelemetry_sdk.specs.BatchProcessor.{IsAtRest, batch_open_over, batch_telling};
+ghost use Rattle.opentelemetry_sdk.specs.BatchProcessor.{batch_open_over, batch_telling};
+ghost use Rattle.opentelemetry_sdk.specs.QueueRequests.{IsAtRest};
 
 use crate::trace::batch_worker::{
     drain_by_tick, make_request, offer_span, post_resource, run_worker,
@@ -40,7 +41,8 @@ impl<E> Model for BatchSpanProcessor<E> {
     ghost use Rattle.std.specs.Coded.{codes};
     ghost use Rattle.std.specs.Option.{option_map};
     ghost use Rattle.otel_resource.specs.ResourceCode.{resource_code};
-    ghost use Rattle.opentelemetry_sdk.specs.BatchProcessor.{BatchProcessor, IsAtRest};
+    ghost use Rattle.opentelemetry_sdk.specs.BatchProcessor.{BatchProcessor};
+    ghost use Rattle.opentelemetry_sdk.specs.QueueRequests.{IsAtRest};
 
     ghost Value = { BatchProcessor E };
 

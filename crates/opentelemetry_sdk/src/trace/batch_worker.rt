@@ -14,7 +14,7 @@ ghost use Rattle.otel_batch.specs.declared.machine.state.Request.TheVariants as 
 ghost use Rattle.otel_batch.specs.declared.machine.step.Outcome as outcomes;
 ghost use Rattle.otel_batch.specs.declared.machine.step.Step as steps;
 ghost use Rattle.otel_batch.specs.WorkedOff.{CollectsAnswer, GoesBy, OffersSpan, TicksAndWorks, WorkerWorks, last_error, next_of_worker};
-ghost use Rattle.opentelemetry_sdk.specs.BatchProcessor.{ClosesIfOk, IsAtRest, PostsResource, Requests, queue_telling};
+ghost use Rattle.opentelemetry_sdk.specs.QueueRequests.{ClosesIfOk, IsAtRest, PostsResource, Requests, queue_telling};
 
 use otel_batch::machine::{BatchMachine, Outcome, Request, Slot, Step, Worker};
 use otel_export::error::{OTelSdkError, OTelSdkResult};
