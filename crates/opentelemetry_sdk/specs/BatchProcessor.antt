@@ -43,7 +43,7 @@ pub record BatchProcessorBuilder (E : Type 0) : Type 0 where
 module _ {E : Type 0} (calls : Ghosts E) where
   -- what a batch processor tells is what its queue tells
   abbrev pub batch_telling : BatchProcessor E → ProcessorTelling
-  batch_telling p = queue_telling p.machine
+  batch_telling p = queue_telling calls p.machine
 
   -- an end
   pub record BatchEnds (old : BatchProcessor E) (span : PlainSpanData) (answer : Result (Unit {0}) AllocError)
@@ -55,7 +55,7 @@ module _ {E : Type 0} (calls : Ghosts E) where
   -- a flush or a shutdown. Where the queue is closed behind it, no span was left behind
   pub record BatchRequests (asked : Request) (old : BatchProcessor E) (answer : Result (Unit {0}) OTelSdkError)
       (new : BatchProcessor E) : Type 0 where
-    pub requests : Requests asked old.machine answer new.machine
+    pub requests : Requests calls asked old.machine answer new.machine
     pub rest : new ≡ record old { machine = new.machine }
     pub shutdown : asked ≡ request.Shutdown → ClosesIfOk old.machine answer new.machine
     pub left : new.machine.control.closed ≡ true → stranded_in new.machine ≡ Some 0
@@ -104,7 +104,7 @@ module _ {E : Type 0} (calls : Ghosts E) where
 
   -- a resource, of which a copy is posted where there is memory for one
   pub record PostsCopy (old : BatchProcessor E) (resource : PlainResource) (new : BatchProcessor E) : Type 0 where
-    pub posts : PostsResource old.machine resource new.machine
+    pub posts : PostsResource calls old.machine resource new.machine
     pub rest : new ≡ record old { machine = new.machine }
 
   abbrev pub BatchTakesResource : BatchProcessor E → PlainResource → Result (Unit {0}) AllocError → BatchProcessor E
