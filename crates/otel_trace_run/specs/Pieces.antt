@@ -1,7 +1,14 @@
 -- What was read of an input and is not answered yet, and what a call that reads on or writes does.
-use Rattle.std.specs.Prelude.{◌≡◌, ◌≢◌, ℕ, ◌<◌, ◌≤◌, ◌-◌, Bool, IsTrue, IsFalse, List, [], ◌++◌, length, drop, Option, Some, None, Result, Ok, Err, All, slice_index}
+use Rattle.std.specs.Prelude.{◌≡◌, ◌≢◌, ℕ, ◌<◌, ◌≤◌, ◌+◌, ◌-◌, Bool, IsTrue, IsFalse, List, [], ◌++◌, length, take, drop}
+use Rattle.std.specs.Prelude.{Option, Some, None, Result, Ok, Err, All, slice_index}
 use Rattle.std.specs.Io.{IsEmptyOrEndsWith}
 use Rattle.std.specs.Io.KnownBytes.{Consumes, IsAtEnd}
+
+-- a read brought so many bytes, which stand here in a buffer; none only at the end of the input
+pub record Brings (before after : Option (List ℕ)) (buffer : List ℕ) (at count : ℕ) : Type 0 where
+  pub fits : at + count ≤ length buffer
+  pub consumed : Consumes before after (take count (drop at buffer))
+  pub end : count ≡ 0 → IsAtEnd after
 
 -- lines, and behind them the line that is not ended yet
 pub record PlainPieces : Type 0 where

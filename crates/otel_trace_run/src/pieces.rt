@@ -4,7 +4,7 @@
 ghost use Rattle.std.specs.Prelude.{◌≡◌, ◌≢◌, ◌+◌, ◌-◌, ◌<◌, ◌≤◌, [], All, IfOk, MatchOption, OnErr, OnOk, length, take, drop, slice_index};
 ghost use Rattle.std.specs.Io.{ReadsAtMost};
 ghost use Rattle.std.specs.Io.KnownBytes.{Consumes, IsAtEnd, Keeps};
-ghost use Rattle.otel_trace_run.specs.Pieces.{EndsLines, GivesLines, KeepsAll};
+ghost use Rattle.otel_trace_run.specs.Pieces.{Brings, EndsLines, GivesLines, KeepsAll};
 
 use std::alloc::Global;
 use std::io;
@@ -146,10 +146,8 @@ fn read_behind<R: Read>(reader: &mut R, buffer: &mut Vec<u8>, filled: usize) -> 
     requires { filled ≤ length buffer.old.items }
     ensures within { filled ≤ length buffer.new.items }
     ensures front { take filled buffer.new.items ≡ take filled buffer.old.items }
-    ensures fits { IfOk result (λ n. filled + n ≤ length buffer.new.items) }
-    ensures ok { IfOk result (λ n. Consumes (R.remaining reader.old) (R.remaining reader.new)
-        (take n (drop filled buffer.new.items))) }
-    ensures end { IfOk result (λ n. n ≡ 0 → IsAtEnd (R.remaining reader.new)) }
+    ensures ok { IfOk result
+        (Brings (R.remaining reader.old) (R.remaining reader.new) buffer.new.items filled) }
     ensures err { OnErr result (Keeps (R.remaining reader.old) (R.remaining reader.new)) }
 {
     make_room(buffer, filled)?;
@@ -176,11 +174,8 @@ fn make_room(buffer: &mut Vec<u8>, filled: usize) -> io::Result<()>
 fn read_at<R: Read>(reader: &mut R, buffer: &mut [u8], at: usize) -> io::Result<usize>
     requires { at < length buffer.old }
     ensures front { take at buffer.new ≡ take at buffer.old }
-    ensures fits { IfOk result (λ n. at + n ≤ length buffer.new) }
-    ensures ok { IfOk result (λ n. Consumes (R.remaining reader.old) (R.remaining reader.new)
-        (take n (drop at buffer.new))) }
+    ensures ok { IfOk result (Brings (R.remaining reader.old) (R.remaining reader.new) buffer.new at) }
     ensures err { OnErr result (Keeps (R.remaining reader.old) (R.remaining reader.new)) }
-    ensures end { IfOk result (λ n. n ≡ 0 → IsAtEnd (R.remaining reader.new)) }
 {
     read_untroubled(reader, &mut buffer[at..])
 }

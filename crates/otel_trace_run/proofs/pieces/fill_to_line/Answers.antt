@@ -14,20 +14,20 @@ returns-in-Some-clause-front g c = front_kept c.args.buffer.now.items c.loop.buf
 
 pub returns-in-Some-clause-read : goal.returns-in-Some-clause-read
 returns-in-Some-clause-read g c =
-    read_more _ _ _ c.loop.buffer.items c.read_behind.new.buffer.items c.args.filled c.loop.now c.in-Ok.count c.loop.invariant.grown c.in-Ok.ensures.within c.read_behind.ensures.front c.loop.invariant.read c.in-Ok.ensures.ok
+    read_more _ _ _ c.loop.buffer.items c.read_behind.new.buffer.items c.args.filled c.loop.now c.in-Ok.count c.loop.invariant.grown c.in-Ok.ensures.within c.read_behind.ensures.front c.loop.invariant.read c.in-Ok.ensures.ok.consumed
 
 pub returns-in-Some-clause-ended : goal.returns-in-Some-clause-ended
 returns-in-Some-clause-ended g c =
     let h = c.in-Some.ensures in
-    ends_in_more c.read_behind.new.buffer.items _ c.args.filled c.loop.now c.in-Ok.count c.in-Some.end c.loop.invariant.grown c.in-Ok.ensures.fits
+    ends_in_more c.read_behind.new.buffer.items _ c.args.filled c.loop.now c.in-Ok.count c.in-Some.end c.loop.invariant.grown c.in-Ok.ensures.ok.fits
     (slice_read c.read_behind.new.buffer.items c.deref.result.now c.loop.now c.in-Ok.count c.deref.ensures.value) h.0 h.1 h.2 h.3
 
 pub loop-preserved : goal.loop-preserved
 loop-preserved g c = record {
   grown = omega arith;
-  within = c.in-Ok.ensures.fits;
+  within = c.in-Ok.ensures.ok.fits;
   front = front_kept c.args.buffer.now.items c.loop.buffer.items c.read_behind.new.buffer.items c.args.filled c.loop.now c.loop.invariant.grown c.loop.invariant.front c.read_behind.ensures.front;
-  read = read_more _ _ _ c.loop.buffer.items c.read_behind.new.buffer.items c.args.filled c.loop.now c.in-Ok.count c.loop.invariant.grown c.in-Ok.ensures.within c.read_behind.ensures.front c.loop.invariant.read c.in-Ok.ensures.ok;
+  read = read_more _ _ _ c.loop.buffer.items c.read_behind.new.buffer.items c.args.filled c.loop.now c.in-Ok.count c.loop.invariant.grown c.in-Ok.ensures.within c.read_behind.ensures.front c.loop.invariant.read c.in-Ok.ensures.ok.consumed;
   none = none_more c.loop.buffer.items c.read_behind.new.buffer.items _ c.args.filled c.loop.now c.in-Ok.count c.loop.invariant.grown c.in-Ok.ensures.within c.read_behind.ensures.front
       (slice_read c.read_behind.new.buffer.items c.deref.result.now c.loop.now c.in-Ok.count c.deref.ensures.value) c.loop.invariant.none c.in_default.ensures;
 }
