@@ -1,5 +1,5 @@
-//! The laws of spans and traces over the definitions alone. Each function does nothing; its contract is the law, for all values,
-//! or for the value behind its reference.
+//! The laws of spans and traces over the definitions alone. Each function does nothing; its contract is the law, for all
+//! values, or for the value behind its reference.
 
 ghost use Rattle.std.specs.Prelude.{◌≡◌, ◌<◌, ℕ, IsNone, Some, List, [], All, Result, false, map};
 ghost use Rattle.std.specs.declared.alloc.AllocError.{AllocError};
