@@ -41,7 +41,7 @@ use Rattle.otel_batch.proofs.Draining.{is_busy}
 use Rattle.otel_batch.proofs.Runs.{run-sound}
 use Rattle.otel_batch.proofs.Silence.{run-stays_silent}
 use Rattle.otel_batch.specs.WorkedOff.{CollectsAnswer, WorksOff, is_idle_worker, next_of_worker, own_error, own_refusal}
-use Rattle.opentelemetry_sdk.specs.QueueRequests.{ClosesIfOk, IsAtRest, Requests, ShutdownAnswers, queue_telling}
+use Rattle.opentelemetry_sdk.specs.QueueRequests.{ClosesIfOk, IsAtRest, MakesRequest, Requests, ShutdownAnswers, queue_telling}
 use Rattle.opentelemetry_sdk.proofs.Going.{goes_runs}
 use Rattle.opentelemetry_sdk.proofs.Ending.{EndsIdle, QueuesNone, SpanGoes, one_slot}
 use Rattle.opentelemetry_sdk.proofs.Lone.{IsAlone, goes_alone}
@@ -531,19 +531,9 @@ module _ {E : Type 0} (calls : Ghosts E) where
           absurd (let idle : is_idle (slot_at (counts s) 0) ≡ true = rw rest.slots refl in let none = row.0 in cc)
       by_outcome _ row posted shut = absurd row
 
-  -- what a request leaves, whether it was carried out or not
-  pub record IsMade (asked : Request) (s : Machine E) (answer : Result (Unit {0}) OTelSdkError) (t : Machine E)
-      : Type 0 where
-    pub gives : Requests calls asked s answer t
-    pub told : TakesNothing (queue_telling calls s) (queue_telling calls t)
-    pub emptied : OnOk answer (t.waiting ≡ [])
-    pub is_open : asked ≡ request.Flush → t.control.closed ≡ s.control.closed
-    pub shutdown : asked ≡ request.Shutdown → ClosesIfOk s answer t
-    pub rest : IsAtRest t
-
   pub made_answered : (asked : Request) (s m : Machine E) (answer : Result (Unit {0}) OTelSdkError) (t : Machine E) →
       IsSound (counts s) → IsAtRest s → IsStep calls s (step_of asked 0) outcome.Requested m →
-      CollectsAnswer calls m answer t → IsMade asked s answer t
+      CollectsAnswer calls m answer t → MakesRequest calls asked s answer t
   made_answered asked s m answer t sound rest steps collected =
       let row = request_row asked (counts s) outcome.Requested (counts m) steps.permitted in
       let left = requested_rests asked s m answer t sound rest steps collected in
@@ -560,30 +550,32 @@ module _ {E : Type 0} (calls : Ghosts E) where
         emptied = left.emptied;
         is_open = left.flush;
         shutdown = λ is. closes_if_ok _ s answer t row.1 (shutdown_says asked s m answer t sound rest steps collected is);
+        left = none_stranded t left.again.rest;
         rest = left.again.rest;
       }
 
   -- one that changes nothing
   made_none : (asked : Request) (s : Machine E) (error : OTelSdkError) (t : Machine E) → IsAtRest s → t ≡ s →
-      Requests calls asked s (Err error) t → IsMade asked s (Err error) t
+      Requests calls asked s (Err error) t → MakesRequest calls asked s (Err error) t
   made_none asked s error t rest is gives = record {
     gives = gives;
     told = rw is (takes_none (queue_telling calls s));
     emptied = tt;
     is_open = λ _. ap (λ m. m.control.closed) is;
     shutdown = λ _. ap (λ m. m.control.closed) is;
+    left = none_stranded t (rw is rest);
     rest = rw is rest;
   }
 
   pub made_closed : (asked : Request) (s t : Machine E) → IsAtRest s →
-      IsStep calls s (step_of asked 0) outcome.Closed t → IsMade asked s (Err AlreadyShutdown) t
+      IsStep calls s (step_of asked 0) outcome.Closed t → MakesRequest calls asked s (Err AlreadyShutdown) t
   made_closed asked s t rest steps =
       let left = request_closed asked s t steps in
       made_none asked s AlreadyShutdown t rest left.1 (where_true _ _ s.control.closed left.0 (refl, left.1))
 
   pub made_refused : (asked : Request) (s : Machine E) (o : Outcome) (error : OTelSdkError) (t : Machine E) →
       IsAtRest s → IsStep calls s (step_of asked 0) o t → (o ≡ outcome.Requested → ⊥) → (o ≡ outcome.Closed → ⊥) →
-      IsInternalFailure error → IsMade asked s (Err error) t
+      IsInternalFailure error → MakesRequest calls asked s (Err error) t
   made_refused asked s o error t rest steps posted shut says =
       let left = request_refused asked s o t rest steps posted shut in
       made_none asked s error t rest left.2 (where_false _ _ s.control.closed left.0

@@ -1,15 +1,15 @@
 -- What a batch queue with one producer does where a request is made to it and carried out, or a resource is posted, and
 -- what it tells.
-use Rattle.std.specs.Prelude.{◌≡◌, ◌||◌, not, Bool, true, false, [], ◌∷◌, None, Result, Ok, Err}
+use Rattle.std.specs.Prelude.{◌≡◌, ◌||◌, not, Bool, true, false, [], ◌∷◌, Some, None, Result, Ok, Err, OnOk}
 use Rattle.std.specs.Prelude.{MatchBool, MatchResult, length}
 use Rattle.otel_resource.specs.Resource.{PlainResource}
 use Rattle.otel_export.specs.declared.error.OTelSdkError.{OTelSdkError}
 use Rattle.otel_export.specs.declared.error.OTelSdkError.TheVariants.{AlreadyShutdown, OutOfMemory}
 use Rattle.otel_export.specs.Telling.{and_then_told}
-use Rattle.otel_pipeline.specs.ProcessorTelling.{ProcessorTelling, spans_told}
+use Rattle.otel_pipeline.specs.ProcessorTelling.{ProcessorTelling, TakesNothing, spans_told}
 use Rattle.otel_pipeline.specs.Provider.{IsInternalFailure}
 use Rattle.otel_batch.specs.Workers.{is_ready, is_gone}
-use Rattle.otel_batch.specs.MachineState.{Machine, counts, is_crowded}
+use Rattle.otel_batch.specs.MachineState.{Machine, counts, is_crowded, stranded_in}
 use Rattle.otel_batch.specs.DrainResult.{IsErrorOf}
 use Rattle.otel_batch.specs.KnownRequests.{step_of}
 use Rattle.otel_batch.specs.MachineRun.{Run}
@@ -73,6 +73,18 @@ module _ {E : Type 0} (calls : Ghosts E) where
       (MatchBool (is_crowded (counts s))
       (MatchResult answer (λ _. ⊥) IsInternalFailure × (t ≡ s))
       (AnswersRequest asked s answer t))
+
+  -- what a request does, whether it was carried out or not: with Ok nothing waits, a flush leaves the queue open or
+  -- closed as it was, and where the queue is closed behind it no span was left behind
+  pub record MakesRequest (asked : Request) (s : Machine E) (answer : Result (Unit {0}) OTelSdkError) (t : Machine E)
+      : Type 0 where
+    pub gives : Requests asked s answer t
+    pub told : TakesNothing (queue_telling s) (queue_telling t)
+    pub emptied : OnOk answer (t.waiting ≡ [])
+    pub is_open : asked ≡ request.Flush → t.control.closed ≡ s.control.closed
+    pub shutdown : asked ≡ request.Shutdown → ClosesIfOk s answer t
+    pub left : t.control.closed ≡ true → stranded_in t ≡ Some 0
+    pub rest : IsAtRest t
 
   -- a resource is posted; a full or closed queue drops it
   pub record PostsResource (s : Machine E) (resource : PlainResource) (t : Machine E) : Type 0 where

@@ -14,7 +14,7 @@ ghost use Rattle.otel_batch.specs.declared.machine.state.Request.TheVariants as 
 ghost use Rattle.otel_batch.specs.declared.machine.step.Outcome as outcomes;
 ghost use Rattle.otel_batch.specs.declared.machine.step.Step as steps;
 ghost use Rattle.otel_batch.specs.WorkedOff.{CollectsAnswer, GoesBy, OffersSpan, TicksAndWorks, WorkerWorks, last_error, next_of_worker};
-ghost use Rattle.opentelemetry_sdk.specs.QueueRequests.{ClosesIfOk, IsAtRest, PostsResource, Requests, queue_telling};
+ghost use Rattle.opentelemetry_sdk.specs.QueueRequests.{IsAtRest, MakesRequest, PostsResource, queue_telling};
 
 use otel_batch::machine::{BatchMachine, Outcome, Request, Slot, Step, Worker};
 use otel_export::error::{OTelSdkError, OTelSdkResult};
@@ -53,13 +53,7 @@ pub(crate) fn make_request<E: SpanExporter>(
     asked: Request,
 ) -> OTelSdkResult
     requires { IsAtRest machine.old }
-    ensures gives { Requests E.SpanExporter asked machine.old result machine.new }
-    ensures told { TakesNothing (queue_telling E.SpanExporter machine.old) (queue_telling E.SpanExporter machine.new) }
-    ensures emptied { OnOk result (machine.new.waiting ≡ []) }
-    ensures is_open { asked ≡ request.Flush → machine.new.control.closed ≡ machine.old.control.closed }
-    ensures shutdown { asked ≡ request.Shutdown → ClosesIfOk machine.old result machine.new }
-    ensures left { machine.new.control.closed ≡ true → stranded_in machine.new ≡ Some 0 }
-    ensures rest { IsAtRest machine.new }
+    ensures { MakesRequest E.SpanExporter asked machine.old result machine.new }
 {
     machine.is_sound();
     match post_request(machine, asked) {
@@ -93,8 +87,7 @@ pub(crate) fn run_worker<E: SpanExporter>(machine: &mut BatchMachine<E>) -> OTel
 
 /// The timer runs out, and the worker carries its drain out. The answer is that of its last drain.
 pub(crate) fn drain_by_tick<E: SpanExporter>(machine: &mut BatchMachine<E>) -> OTelSdkResult
-    requires rest { IsAtRest machine.old }
-    requires is_open { machine.old.control.closed ≡ false }
+    requires { IsAtRest machine.old × (machine.old.control.closed ≡ false) }
     ensures drains { TicksAndWorks E.SpanExporter machine.old result machine.new }
     ensures told { TakesNothing (queue_telling E.SpanExporter machine.old) (queue_telling E.SpanExporter machine.new) }
     ensures closed { machine.new.control.closed ≡ machine.old.control.closed }

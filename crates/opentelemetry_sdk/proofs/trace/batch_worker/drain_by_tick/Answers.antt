@@ -10,7 +10,7 @@ use Rattle.opentelemetry_sdk.proofs.trace.batch_worker.drain_by_tick.Goals as go
 stepped : (g : _) (c : goal.After-is_sound-2 g) →
     IsStep g.E.SpanExporter c.args.machine.now step.Tick outcome.Ticked c.step.new.self
 stepped g c =
-    let ready = ready_open c.args.machine.now c.is_sound.ensures c.requires.rest c.requires.is_open in
+    let ready = ready_open c.args.machine.now c.is_sound.ensures c.requires.0 c.requires.1 in
     let ticked = ticks (counts c.args.machine.now) c.step.result (counts c.step.new.self) ready
     c.step.ensures.permitted in
     let any : IsStep g.E.SpanExporter c.args.machine.now step.Tick c.step.result c.step.new.self =
@@ -25,7 +25,7 @@ left g c =
     let worked = c.work_off_messages-answer.ensures in
     let ticked = stepped g c in
     ticked_rests g.E.SpanExporter c.args.machine.now c.step.new.self worked.outcomes
-    c.work_off_messages-answer.new.machine c.requires.rest ticked.sound c.is_sound-2.ensures ticked.permitted
+    c.work_off_messages-answer.new.machine c.requires.0 ticked.sound c.is_sound-2.ensures ticked.permitted
     ticked.moved worked.works
 
 pub returns-clause-drains : goal.returns-clause-drains

@@ -1,10 +1,11 @@
-use Rattle.opentelemetry_sdk.proofs.Calls.{IsMade, made_answered, made_closed, made_refused, none_stranded}
+use Rattle.opentelemetry_sdk.specs.QueueRequests.{MakesRequest}
+use Rattle.opentelemetry_sdk.proofs.Calls.{made_answered, made_closed, made_refused}
 use Rattle.opentelemetry_sdk.proofs.trace.batch_worker.make_request.Goals.{in-Requested, in-Closed, in_default}
 use Rattle.opentelemetry_sdk.proofs.trace.batch_worker.make_request.Goals as goal
 
 -- what each of the three answers leaves
 made : (g : _) (c : goal.Joined-post_request-2 g) →
-    IsMade g.E.SpanExporter c.args.asked c.args.machine.now c.match-post_request.result c.match-post_request.machine
+    MakesRequest g.E.SpanExporter c.args.asked c.args.machine.now c.match-post_request.result c.match-post_request.machine
 made g c = elim c.match-post_request.branch [
   | in-Requested w ↦
       let steps = rw (w.in-Requested.is, ← c.post_request.ensures.2) at c.post_request.ensures.1 in
@@ -22,23 +23,5 @@ made g c = elim c.match-post_request.branch [
       w.in_default.not-Closed w.crowded.ensures)
 ]
 
-pub returns-clause-gives : goal.returns-clause-gives
-returns-clause-gives g c = (made g c).gives
-
-pub returns-clause-told : goal.returns-clause-told
-returns-clause-told g c = (made g c).told
-
-pub returns-clause-emptied : goal.returns-clause-emptied
-returns-clause-emptied g c = (made g c).emptied
-
-pub returns-clause-is_open : goal.returns-clause-is_open
-returns-clause-is_open g c = (made g c).is_open
-
-pub returns-clause-shutdown : goal.returns-clause-shutdown
-returns-clause-shutdown g c = (made g c).shutdown
-
-pub returns-clause-left : goal.returns-clause-left
-returns-clause-left g c = none_stranded c.match-post_request.machine (made g c).rest
-
-pub returns-clause-rest : goal.returns-clause-rest
-returns-clause-rest g c = (made g c).rest
+pub returns : goal.returns
+returns g c = made g c
