@@ -2,9 +2,8 @@
 use Rattle.std.proofs.Common.{◌≡◌, ℕ, Bool, true, false, if◌then◌else◌, ◌||◌, ◌&&◌, List, [], ◌∷◌, Option, Some, None, MatchBool, map, ◌⊎◌, inl, inr, refl, sym, ◌∙◌, ap, subst}
 use Rattle.std.proofs.lemmas.Option.{none-some, same_Some}
 use Rattle.std.specs.Option.{option_map}
-use Rattle.opentelemetry.specs.Plain.{PlainContext, PlainScope, PlainSpanContext}
+use Rattle.opentelemetry.specs.Plain.{PlainScope, PlainSpanContext}
 use Rattle.opentelemetry.specs.PlainContexts.{empty_span_context, root_cx}
-use Rattle.opentelemetry.specs.PlainSpanBuilder.{named_builder}
 use Rattle.otel_sampling.specs.Agreement.{Agrees}
 use Rattle.otel_pipeline.specs.Hops.{GoesByParents}
 use Rattle.otel_pipeline.specs.Provider.{ProviderState}
