@@ -48,6 +48,16 @@ with_resource builder resource = record builder {
   has_given_resource = true;
 }
 
+-- the provider over these processors that a configuration makes, which is open
+abbrev pub open_provider : {P S G : Type 0} → List P → ConfigOf S G → ProviderState P S G
+open_provider processors config = record {
+  processors = processors;
+  sampler = config.sampler;
+  id_generator = config.id_generator;
+  span_limits = config.span_limits;
+  is_shut = false;
+}
+
 module _ {P : Type 0} (calls : Ghosts P) where
   -- a processor was told the resource: it answers as its call can, and tells what it told
   pub record TakesResource (resource : PlainResource) (old : P) (answer : Result (Unit {0}) AllocError) (new : P)
@@ -58,13 +68,7 @@ module _ {P : Type 0} (calls : Ghosts P) where
   -- the provider that a builder makes is open, and each processor took its resource
   pub record Opens {S G : Type 0} (builder : BuilderState P S G) (provider : ProviderState P S G) : Type 0 where
     pub told : AsksAll (TakesResource builder.config.resource) builder.processors provider.processors 0
-    pub rest : provider ≡ record {
-      processors = provider.processors;
-      sampler = builder.config.sampler;
-      id_generator = builder.config.id_generator;
-      span_limits = builder.config.span_limits;
-      is_shut = false;
-    }
+    pub rest : provider ≡ open_provider provider.processors builder.config
 
   -- each processor of a builder was told its resource, and some refused it
   pub record RefusesResource {S G : Type 0} (old new : BuilderState P S G) : Type 0 where

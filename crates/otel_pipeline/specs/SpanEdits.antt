@@ -2,7 +2,7 @@
 use Rattle.std.specs.Prelude.{ℕ, ◌+◌, ◌-◌, ◌^◌, ◌≤◌, List, [], ◌∷◌, ◌++◌, Option, Some, None, nat_lt, if◌then◌else◌}
 use Rattle.std.specs.Prelude.{length, min, string_bytes}
 use Rattle.std.specs.List.{flat_map}
-use Rattle.opentelemetry.specs.Plain.{PlainKeyValue, PlainEvent, PlainLink, PlainStatus}
+use Rattle.opentelemetry.specs.Plain.{PlainKeyValue, PlainSpanContext, PlainEvent, PlainLink, PlainStatus}
 use Rattle.opentelemetry.specs.PlainValues.{plain_status}
 use Rattle.opentelemetry.specs.Order.{greater_status}
 use Rattle.otel_sampling.specs.declared.trace.span_limit.SpanLimits.{SpanLimits}
@@ -17,6 +17,15 @@ pub data Edit : Type 0 where
   add_link : PlainLink → Edit
   set_status : PlainStatus → Edit
   update_name : List ℕ → Edit
+
+-- an event and a link as they are handed to a span, with all of their attributes
+abbrev pub new_event : List ℕ → ℕ → List PlainKeyValue → PlainEvent
+new_event name timestamp attributes =
+    record { name = name; timestamp = timestamp; attributes = attributes; dropped_attributes_count = 0 }
+
+abbrev pub new_link : PlainSpanContext → List PlainKeyValue → PlainLink
+new_link context attributes =
+    record { span_context = context; attributes = attributes; dropped_attributes_count = 0 }
 
 -- the attribute that an edit sets, where it sets one
 abbrev pub attribute_in : Edit → List PlainKeyValue

@@ -70,6 +70,10 @@ pub record PlainSpan : Type 0 where
   pub limits : SpanLimits
   pub recorded : Option PlainSpanData
 
+-- the same, one by one
+abbrev pub plain_span : PlainSpanContext → SpanLimits → Option PlainSpanData → PlainSpan
+plain_span context limits recorded = record { span_context = context; limits = limits; recorded = recorded }
+
 -- the recording span of a start and edits; until its end it ends when it started
 abbrev pub recording : SpanStart → List Edit → PlainSpan
 recording start edits = record {

@@ -17,6 +17,10 @@ pub record StartRequest : Type 0 where
   pub cx : PlainContext
   pub now : ℕ
 
+-- the same, one by one
+abbrev pub start_request : PlainScope → PlainSpanBuilder → PlainContext → ℕ → StartRequest
+start_request scope builder cx now = record { scope = scope; builder = builder; cx = cx; now = now }
+
 -- what the sampler is asked of a span that is to start in a context
 abbrev pub start_question : PlainContext → ℕ → PlainSpanBuilder → SamplingQuestion
 start_question cx trace_id builder = record {

@@ -12,6 +12,7 @@ ghost use Rattle.otel_pipeline.specs.Each.{AsksAll, AsksFirst};
 ghost use Rattle.otel_pipeline.specs.Ending.{TakesAndTells};
 ghost use Rattle.otel_pipeline.specs.Provider.{Flushes, FlushesProcessor, IsInternalFailure, RunsDue, RunsProcessor};
 ghost use Rattle.otel_pipeline.specs.Provider.{ReportsLeft, ShutsDown, ShutsProcessor};
+ghost use Rattle.otel_pipeline.specs.ProviderBuilder.{open_provider};
 ghost use Rattle.otel_pipeline.specs.Starting.{DrawsIds, PassesThrough};
 ghost use Rattle.otel_pipeline.specs.SpanHistory.{IsEdited, ended_at};
 
@@ -263,13 +264,7 @@ impl<P: DrainDue, S: Drop, G: Drop> ProviderOf<P, S, G> {
 /// An open provider over these processors; it calls none of them. The resource of the configuration is for whoever makes
 /// the processors.
 pub fn provider_over<P, S, G>(processors: Vec<P>, config: ConfigOf<S, G>) -> ProviderOf<P, S, G>
-    ensures { result ≡ record {
-      processors = processors.items;
-      sampler = config.sampler;
-      id_generator = config.id_generator;
-      span_limits = config.span_limits;
-      is_shut = false;
-    } }
+    ensures { result ≡ open_provider processors.items config }
 {
     ProviderOf {
         processors,

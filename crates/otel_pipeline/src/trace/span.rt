@@ -7,7 +7,7 @@ ghost use Rattle.opentelemetry.specs.Order.{greatest_status};
 ghost use Rattle.opentelemetry.specs.Plain.{PlainStatus, unset};
 ghost use Rattle.opentelemetry.specs.PlainValues.{plain_status};
 ghost use Rattle.otel_pipeline.specs.Ending.{EndIsInfallible, Ends};
-ghost use Rattle.otel_pipeline.specs.SpanEdits.{plain_edit};
+ghost use Rattle.otel_pipeline.specs.SpanEdits.{new_event, new_link, plain_edit};
 ghost use Rattle.otel_pipeline.specs.SpanHistory as history;
 
 use super::span_edit;
@@ -48,12 +48,8 @@ impl Span {
         recorded: Recorded,
         span_limits: SpanLimits,
     ) -> Span
-        requires { history.HasHistory (record {
-          span_context = span_context;
-          limits = span_limits;
-          recorded = recorded;
-        }) }
-        ensures { result ≡ record { span_context = span_context; limits = span_limits; recorded = recorded } }
+        requires { history.HasHistory (history.plain_span span_context span_limits recorded) }
+        ensures { result ≡ history.plain_span span_context span_limits recorded }
     {
         Span {
             span_context,
@@ -137,12 +133,8 @@ impl Span {
         timestamp: Moment,
         attributes: Vec<KeyValue>,
     ) -> Result<(), AllocError>
-        ensures ok { OnOk result (self.new ≡ history.edited (history.add_event (record {
-          name = string_bytes name;
-          timestamp = timestamp.0;
-          attributes = attributes.items;
-          dropped_attributes_count = 0;
-        })) self.old) }
+        ensures ok { OnOk result (self.new ≡ history.edited
+            (history.add_event (new_event (string_bytes name) timestamp.0 attributes.items)) self.old) }
         ensures err { OnErr result (self.new ≡ self.old) }
         ensures edits { history.IsEdited self.old self.new }
         ensures free { IsNone self.old.recorded → IsOk result }
@@ -160,11 +152,8 @@ impl Span {
         span_context: SpanContext,
         attributes: Vec<KeyValue>,
     ) -> Result<(), AllocError>
-        ensures ok { OnOk result (self.new ≡ history.edited (history.add_link (record {
-          span_context = span_context;
-          attributes = attributes.items;
-          dropped_attributes_count = 0;
-        })) self.old) }
+        ensures ok { OnOk result (self.new ≡ history.edited
+            (history.add_link (new_link span_context attributes.items)) self.old) }
         ensures err { OnErr result (self.new ≡ self.old) }
         ensures edits { history.IsEdited self.old self.new }
         ensures free { IsNone self.old.recorded → IsOk result }

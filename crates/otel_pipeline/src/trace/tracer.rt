@@ -5,7 +5,7 @@ ghost use Rattle.std.specs.Option.{option_map};
 ghost use Rattle.opentelemetry.specs.PlainContexts.{root_cx};
 ghost use Rattle.opentelemetry.specs.PlainSpanBuilder.{named_builder};
 ghost use Rattle.otel_sampling.specs.Sampling.{added_attributes};
-ghost use Rattle.otel_pipeline.specs.StartRequest.{start_flags, start_of, start_question};
+ghost use Rattle.otel_pipeline.specs.StartRequest.{start_flags, start_of, start_question, start_request};
 ghost use Rattle.otel_pipeline.specs.Starting.{AnswersStart, StartIsInfallible};
 ghost use Rattle.otel_pipeline.specs.SpanHistory.{recording};
 
@@ -65,18 +65,10 @@ impl SdkTracer {
         provider: &mut ProviderOf<P, S, G>,
         now: Moment,
     ) -> Result<Span, AllocError>
-        ensures answers { AnswersStart P.SpanProcessor S.ShouldSample G.IdGenerator provider.old (record {
-          scope = self.now;
-          builder = named_builder (string_bytes name);
-          cx = root_cx;
-          now = now.0;
-        }) result provider.new }
-        ensures free { StartIsInfallible S.ShouldSample provider.old (record {
-          scope = self.now;
-          builder = named_builder (string_bytes name);
-          cx = root_cx;
-          now = now.0;
-        }) → IsOk result }
+        ensures answers { AnswersStart P.SpanProcessor S.ShouldSample G.IdGenerator provider.old
+            (start_request self.now (named_builder (string_bytes name)) root_cx now.0) result provider.new }
+        ensures free { StartIsInfallible S.ShouldSample provider.old
+            (start_request self.now (named_builder (string_bytes name)) root_cx now.0) → IsOk result }
     {
         self.build_with_context(self.span_builder(name), &self.root, provider, now)
     }
@@ -89,18 +81,10 @@ impl SdkTracer {
         provider: &mut ProviderOf<P, S, G>,
         now: Moment,
     ) -> Result<Span, AllocError>
-        ensures answers { AnswersStart P.SpanProcessor S.ShouldSample G.IdGenerator provider.old (record {
-          scope = self.now;
-          builder = named_builder (string_bytes name);
-          cx = cx.now;
-          now = now.0;
-        }) result provider.new }
-        ensures free { StartIsInfallible S.ShouldSample provider.old (record {
-          scope = self.now;
-          builder = named_builder (string_bytes name);
-          cx = cx.now;
-          now = now.0;
-        }) → IsOk result }
+        ensures answers { AnswersStart P.SpanProcessor S.ShouldSample G.IdGenerator provider.old
+            (start_request self.now (named_builder (string_bytes name)) cx.now now.0) result provider.new }
+        ensures free { StartIsInfallible S.ShouldSample provider.old
+            (start_request self.now (named_builder (string_bytes name)) cx.now now.0) → IsOk result }
     {
         self.build_with_context(self.span_builder(name), cx, provider, now)
     }
@@ -118,18 +102,10 @@ impl SdkTracer {
         provider: &mut ProviderOf<P, S, G>,
         now: Moment,
     ) -> Result<Span, AllocError>
-        ensures answers { AnswersStart P.SpanProcessor S.ShouldSample G.IdGenerator provider.old (record {
-          scope = self.now;
-          builder = builder;
-          cx = cx.now;
-          now = now.0;
-        }) result provider.new }
-        ensures free { StartIsInfallible S.ShouldSample provider.old (record {
-          scope = self.now;
-          builder = builder;
-          cx = cx.now;
-          now = now.0;
-        }) → IsOk result }
+        ensures answers { AnswersStart P.SpanProcessor S.ShouldSample G.IdGenerator provider.old
+            (start_request self.now builder cx.now now.0) result provider.new }
+        ensures free { StartIsInfallible S.ShouldSample provider.old
+            (start_request self.now builder cx.now now.0) → IsOk result }
     {
         let span_limits = provider.span_limits();
         if starts_nothing(provider, cx) {
