@@ -1,0 +1,10 @@
+//! Consistent probability sampling (OpenTelemetry specification, "TraceState: Probability Sampling"): every service
+//! compares one random number of a trace with its own threshold, so that what a service keeps, each that keeps more
+//! keeps too; with its laws.
+#![tactic(auto)]
+
+pub mod randomness;
+pub mod threshold;
+
+pub use randomness::Randomness;
+pub use threshold::Threshold;
