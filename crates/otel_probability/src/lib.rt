@@ -3,8 +3,10 @@
 //! keeps too; with its laws.
 #![tactic(auto)]
 
+mod entry;
 pub mod randomness;
 pub mod threshold;
+pub mod trace_state;
 
 pub use randomness::Randomness;
 pub use threshold::Threshold;
