@@ -6,7 +6,8 @@ use Rattle.std.specs.List.{after_first, before_first, filter, join_with_byte, po
 use Rattle.std.specs.Option.{option_map_or}
 use Rattle.opentelemetry.specs.Same.{same_text}
 use Rattle.opentelemetry.specs.Tracestate.{is_some_text, is_value, value_of_key, without_key}
-use Rattle.otel_probability.specs.Numbers.{keeps, randomness_of_id, randomness_of_text, threshold_of_text, threshold_text}
+use Rattle.otel_probability.specs.Numbers.{every_number, randomness_of_id, randomness_of_text, threshold_of_text}
+use Rattle.otel_probability.specs.Numbers.{threshold_text}
 
 -- a trace state: pairs of a key and a value
 abbrev pub Pairs : Type 0
@@ -93,9 +94,10 @@ without_threshold state =
 abbrev pub entry_with : ℕ → List ℕ → List ℕ
 entry_with threshold entry = entry_text ((th ++ 58 ∷ threshold_text threshold) ∷ other_members entry)
 
--- the trace state with a threshold; without one where the entry would be longer than a value may be
+-- the trace state with a threshold; without one where that keeps no span, or where the entry would be longer than a
+-- value may be
 abbrev pub with_threshold : ℕ → Pairs → Pairs
 with_threshold threshold state =
-    if is_value (entry_with threshold (entry_of state))
+    if nat_lt threshold every_number && is_value (entry_with threshold (entry_of state))
     then (ot, entry_with threshold (entry_of state)) ∷ without_key ot state
     else without_threshold state

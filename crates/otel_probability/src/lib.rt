@@ -3,10 +3,15 @@
 //! keeps too; with its laws.
 #![tactic(auto)]
 
+mod answer;
 mod entry;
+pub mod parent_based;
+pub mod probability_based;
 pub mod randomness;
 pub mod threshold;
 pub mod trace_state;
 
+pub use parent_based::ConsistentParentBased;
+pub use probability_based::ConsistentProbabilityBased;
 pub use randomness::Randomness;
 pub use threshold::Threshold;

@@ -1,7 +1,7 @@
 //! The rejection threshold (OpenTelemetry specification, "TraceState: Probability Sampling", "Rejection threshold"):
 //! of the 2^56 numbers that a trace may have as its randomness, how many are rejected.
 
-ghost use Rattle.std.specs.Prelude.{◌≡◌, ◌<◌, ◌≤◌, ◌^◌, IfSome, OnOk, option_map};
+ghost use Rattle.std.specs.Prelude.{◌≡◌, ◌<◌, ◌≤◌, ◌^◌, ◌↔◌, IfSome, IsTrue, OnOk};
 ghost use Rattle.opentelemetry.specs.Hex.{hex_digit, hex_text};
 ghost use Rattle.opentelemetry.specs.Text.{TextGrows};
 ghost use Rattle.otel_probability.specs.Numbers.{every_number, keeps, short_hex, threshold_of_share, threshold_of_text};
@@ -72,6 +72,13 @@ impl Threshold {
         ensures { result ≡ keeps self randomness }
     {
         self.0 <= randomness.to_u64()
+    }
+
+    /// Whether no span is kept.
+    pub fn keeps_none(self) -> bool
+        ensures { IsTrue result ↔ (self ≡ every_number) }
+    {
+        self.0 == 1 << 56
     }
 
     /// The number.

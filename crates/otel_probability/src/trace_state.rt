@@ -38,7 +38,8 @@ fn explicit_randomness(state: &TraceState) -> Option<Randomness>
     Randomness::from_text(sub_value(entry_of(state), "rv")?)
 }
 
-/// A copy with this threshold, its entry in front; without one where the entry would be too long.
+/// A copy with this threshold, its entry in front; without one where that keeps no span, or where the entry would be
+/// longer than the 256 bytes of a value.
 pub fn with_threshold(
     state: &TraceState,
     alloc: Global,
@@ -46,6 +47,9 @@ pub fn with_threshold(
 ) -> Result<TraceState, AllocError>
     ensures { IfOk result (λ new. new ≡ with_threshold threshold state.now) }
 {
+    if threshold.keeps_none() {
+        return without_threshold(state, alloc);
+    }
     let entry = entry_with(alloc, threshold, entry_of(state))?;
     match with_entry(state, alloc, entry)? {
         Some(new) => Ok(new),
