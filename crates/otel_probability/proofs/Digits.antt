@@ -10,7 +10,7 @@ use Rattle.std.specs.Option.{option_map}
 use borrow.Author.Tests.{eq-eqb, eqb-true, ne_eqb}
 use Rattle.opentelemetry.specs.Hex.{hex_digit, hex_text, IsHexDigit, IsHexText}
 use Rattle.opentelemetry.proofs.HexRead.{hex_fits_more, hex_text_push, hex_text_IsHexText, hex_text_injective}
-use Rattle.otel_probability.specs.Numbers.{digit_value, is_digit, number_after, randomness_of_text, threshold_of_text, short_hex}
+use Rattle.otel_probability.specs.Numbers.{digit_value, is_digit, number_after, randomness_of_text, threshold_of_text, short_hex, WritesRandomness, WritesThreshold}
 
 -- ---- one digit
 
@@ -165,6 +165,7 @@ hex_text_none count n none = ap (λ k. hex_text k n) none
 
 -- a digit zero at the end is left out, and the first digit and any other last one stay
 pub short_hex_zero : (count n : ℕ) → 1 < count → n % 16 ≡ 0 → short_hex count n ≡ short_hex (count - 1) (n / 16)
+unfolding short_hex
 short_hex_zero zero n some last = absurd (omega arith)
 short_hex_zero (suc zero) n some last = absurd (omega arith)
 short_hex_zero (suc (suc count)) n some last =
@@ -172,13 +173,13 @@ short_hex_zero (suc (suc count)) n some last =
     ap (λ b. cond b (short_hex (suc count) (n / 16)) (hex_text (suc (suc count)) n)) (eq-eqb (n % 16) 0 last) ∙ ap (λ k. short_hex k (n / 16)) rest
 
 pub short_hex_whole : (count n : ℕ) → (n % 16 ≡ 0 → ⊥) → short_hex count n ≡ hex_text count n
-unfolding hex_text
+unfolding hex_text short_hex
 short_hex_whole zero n other = refl
 short_hex_whole (suc zero) n other = refl
 short_hex_whole (suc (suc count)) n other = ap (λ b. cond b (short_hex (suc count) (n / 16)) (hex_text (suc (suc count)) n)) (ne_eqb (n % 16) 0 other)
 
 pub short_hex_one : (count n : ℕ) → count ≤ 1 → short_hex count n ≡ hex_text count n
-unfolding hex_text
+unfolding hex_text short_hex
 short_hex_one zero n few = refl
 short_hex_one (suc zero) n few = refl
 short_hex_one (suc (suc count)) n few = absurd (omega arith)
@@ -186,3 +187,93 @@ short_hex_one (suc (suc count)) n few = absurd (omega arith)
 -- a digit is one byte
 pub hex_digit_ascii : (d n : ℕ) → d ≡ hex_digit (n % 16) → d < 128
 hex_digit_ascii d n is = let small : n % 16 < 16 = omega arith in grind (arith, nat_tests)
+
+-- ---- what is written reads back
+
+written_of_count : (text : List ℕ) (front count : ℕ) → 1 ≤ count → count ≤ 14 → front < 16 ^ count → text ≡ hex_text count front
+    → threshold_of_text text ≡ Some (front * 16 ^ (14 - count))
+written_of_count text front count some few fits is =
+    let same : count ≡ length text = sym (length_of_hex text front count is) in
+    let P : ℕ → Type 0 = λ k. 1 ≤ k → k ≤ 14 → front < 16 ^ k → text ≡ hex_text k front → threshold_of_text text ≡ Some (front * 16 ^ (14 - k)) in
+    subst P (sym same) (written_threshold text front) some few fits is
+
+one_digit_more : (k n : ℕ) → 1 < k → k ≤ 14 → n % 16 ≡ 0 → n / 16 * 16 ^ (14 - (k - 1)) ≡ n * 16 ^ (14 - k)
+one_digit_more k n some few last =
+    let count : 14 - (k - 1) ≡ suc (14 - k) = omega arith in
+    let power : 16 ^ (14 - (k - 1)) ≡ 16 ^ (14 - k) * 16 = ap (λ j. 16 ^ j) count ∙ pow-suc 16 (14 - k) in
+    let whole : n / 16 * 16 ≡ n = omega arith in
+    let moved : n / 16 * (16 ^ (14 - k) * 16) ≡ n / 16 * 16 * 16 ^ (14 - k) = grind arith in
+    ap (λ p. n / 16 * p) power ∙ moved ∙ ap (λ m. m * 16 ^ (14 - k)) whole
+
+fewer_digits : (k n : ℕ) → 1 < k → n < 16 ^ k → n / 16 < 16 ^ (k - 1)
+fewer_digits zero n some small = absurd (omega arith)
+fewer_digits (suc k) n some small =
+    let rest : k ≡ suc k - 1 = omega arith in
+    let power : 16 ^ suc k ≡ 16 ^ k * 16 = pow-suc 16 k in
+    let quotient : n / 16 < 16 ^ k = omega (arith, power) in
+    subst (λ j. n / 16 < 16 ^ j) rest quotient
+
+short_read : (fuel k n : ℕ) → k ≤ fuel → 1 ≤ k → k ≤ 14 → n < 16 ^ k → threshold_of_text (short_hex k n) ≡ Some (n * 16 ^ (14 - k))
+short_read zero k n within some few small = absurd (omega arith)
+short_read (suc fuel) k n within some few small =
+    ⊎_elim
+    (λ one. written_of_count (short_hex k n) n k some few small (short_hex_one k n (omega arith)))
+    (λ more.
+    ⊎_elim
+    (λ last.
+    let ends : n % 16 ≡ 0 = eqb-true (n % 16) 0 last in
+    ap threshold_of_text (short_hex_zero k n more ends)
+    ∙ short_read fuel (k - 1) (n / 16) (omega arith) (omega arith) (omega arith) (fewer_digits k n more small)
+    ∙ ap Some (one_digit_more k n more few ends))
+    (λ other. written_of_count (short_hex k n) n k some few small (short_hex_whole k n (λ e. absurd (cc (sym other ∙ eq-eqb (n % 16) 0 e)))))
+    (true_or_false (eqb (n % 16) 0)))
+    (cases_lt k 2)
+
+pub threshold_reads_back : (n : ℕ) → n < 16 ^ 14 → threshold_of_text (short_hex 14 n) ≡ Some n
+threshold_reads_back n small =
+    let whole : n * 16 ^ (14 - 14) ≡ n = omega arith in
+    short_read 14 14 n (omega arith) (omega arith) (omega arith) small ∙ ap Some whole
+
+-- ---- what is read was written
+
+some_number : (o : Option ℕ) (p t : ℕ) → option_map (λ n. n * p) o ≡ Some t → (front : ℕ) × (o ≡ Some front) × (t ≡ front * p)
+some_number None p t h = absurd cc
+some_number (Some front) p t h = (front, refl, cc)
+
+length_is : (text : List ℕ) → (leb 1 (length text) && leb (length text) 14) ≡ true → (1 ≤ length text) × (length text ≤ 14)
+length_is text h = (grind (arith, nat_tests), grind (arith, nat_tests))
+
+pub threshold_was_written : (text : List ℕ) (t : ℕ) → threshold_of_text text ≡ Some t → WritesThreshold text t
+threshold_was_written text t h =
+    ⊎_elim
+    (λ (long : (leb 1 (length text) && leb (length text) 14) ≡ true).
+    let rest : option_map (λ n. n * 16 ^ (14 - length text)) (number_after 0 text) ≡ Some t = sym (ap (λ b. cond b (option_map (λ n. n * 16 ^ (14 - length text)) (number_after 0 text)) None) long) ∙ h in
+    let found = some_number (number_after 0 text) (16 ^ (14 - length text)) t rest in
+    let digits = digits_written found.0 text found.1 in
+    record {
+      some = (length_is text long).0;
+      few = (length_is text long).1;
+      front = found.0;
+      fits = digits.0;
+      written = digits.1;
+      value = found.2;
+    })
+    (λ (short : (leb 1 (length text) && leb (length text) 14) ≡ false). absurd (cc (sym (ap (λ b. cond b (option_map (λ n. n * 16 ^ (14 - length text)) (number_after 0 text)) None) short) ∙ h)))
+    (true_or_false (leb 1 (length text) && leb (length text) 14))
+
+pub threshold_is_read : (text : List ℕ) (t : ℕ) → WritesThreshold text t → threshold_of_text text ≡ Some t
+threshold_is_read text t w = written_threshold text w.front w.some w.few w.fits w.written ∙ ap Some (sym w.value)
+
+pub randomness_was_written : (text : List ℕ) (r : ℕ) → randomness_of_text text ≡ Some r → WritesRandomness text r
+randomness_was_written text r h =
+    ⊎_elim
+    (λ long.
+    let digits = digits_written r text (sym (ap (λ b. cond b (number_after 0 text) None) long) ∙ h) in
+    let count : length text ≡ 14 = eqb-true (length text) 14 long in
+    let small : r < 16 ^ 14 = subst (λ k. r < 16 ^ k) count digits.0 in
+    record { small = omega (arith, small); written = digits.1 ∙ ap (λ k. hex_text k r) count })
+    (λ short. absurd (cc (sym (ap (λ b. cond b (number_after 0 text) None) short) ∙ h)))
+    (true_or_false (eqb (length text) 14))
+
+pub randomness_is_read : (text : List ℕ) (r : ℕ) → WritesRandomness text r → randomness_of_text text ≡ Some r
+randomness_is_read text r w = written_randomness text r (omega (arith, w.small)) w.written

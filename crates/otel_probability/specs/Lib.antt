@@ -1,4 +1,5 @@
 pub mod Answers
 pub mod Entry
+pub mod Hops
 pub mod Joining
 pub mod Numbers

@@ -64,7 +64,7 @@ threshold_of_text text =
     else None
 
 -- so many digits of a number, without the zeros at the end, the first digit always
-abbrev pub short_hex : ℕ → ℕ → List ℕ
+unfoldable pub short_hex : ℕ → ℕ → List ℕ
 short_hex zero n = []
 short_hex (suc zero) n = hex_text 1 n
 short_hex (suc (suc count)) n =

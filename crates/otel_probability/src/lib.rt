@@ -5,6 +5,7 @@
 
 mod answer;
 mod entry;
+pub mod laws;
 pub mod parent_based;
 pub mod probability_based;
 pub mod randomness;

@@ -9,3 +9,6 @@ returns t c =
       else-count-gt1-via-then-count-gt1+else-number-eq0 w ↦ rw (short_hex_whole c.args.count c.args.number (λ e. omega arith)) c.push_hex.ensures
       | else-count-gt1-via-else-count-gt1 w ↦ rw (short_hex_one c.args.count c.args.number (omega arith)) c.push_hex.ensures
     ]
+
+pub returns-then-number-eq0 : goal.returns-then-number-eq0
+returns-then-number-eq0 t c = rw (short_hex_zero c.args.count c.args.number (omega arith) (omega arith)) c.push_short_hex.ensures
