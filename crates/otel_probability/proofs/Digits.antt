@@ -1,5 +1,5 @@
 -- Numbers of 56 bits and their texts: what is written reads back, and what is read was written.
-use Rattle.std.proofs.Common.{◌≡◌, ◌≢◌, ◌⊎◌, ℕ, zero, suc, ◌+◌, ◌-◌, ◌*◌, ◌/◌, ◌%◌, ◌^◌, ◌<◌, ◌≤◌, List, [], ◌∷◌, ◌++◌, length, Option, Some, None, Bool, true, false, cond, eqb, leb, ltb, ◌&&◌, ⊎_elim, inl, inr, refl, sym, ap, ◌∙◌, subst, arith, append_assoc, append-nil, length-append, add-one}
+use Rattle.std.proofs.Common.{◌≡◌, ◌⊎◌, ℕ, zero, suc, ◌+◌, ◌-◌, ◌*◌, ◌/◌, ◌%◌, ◌^◌, ◌<◌, ◌≤◌, List, [], ◌∷◌, ◌++◌, length, Option, Some, None, Bool, true, false, cond, eqb, leb, ◌&&◌, ⊎_elim, inl, inr, refl, sym, ap, ◌∙◌, subst, arith, append_assoc, append-nil}
 use Rattle.std.proofs.Math.Nat.{pow-suc, pow-le-pow_right, mul_assoc, mul-le-mul_right}
 use Rattle.std.proofs.lemmas.Nat.{pow-add}
 use Rattle.std.proofs.lemmas.Bool.{cases_lt}
@@ -9,7 +9,7 @@ use Rattle.std.specs.List.{All}
 use Rattle.std.specs.Option.{option_map}
 use borrow.Author.Tests.{eq-eqb, eqb-true, ne_eqb}
 use Rattle.opentelemetry.specs.Hex.{hex_digit, hex_text, IsHexDigit, IsHexText}
-use Rattle.opentelemetry.proofs.HexRead.{hex_fits_more, hex_text_push, hex_text_IsHexText, hex_text_injective}
+use Rattle.opentelemetry.proofs.HexRead.{hex_fits_more, hex_text_push, hex_text_IsHexText}
 use Rattle.otel_probability.specs.Numbers.{digit_value, is_digit, number_after, randomness_of_text, threshold_of_text, short_hex, WritesRandomness, WritesThreshold}
 
 -- ---- one digit

@@ -1,16 +1,14 @@
 -- What the answers of consistent samplers have in common.
-use Rattle.std.proofs.Common.{◌≡◌, ◌≢◌, ℕ, ◌<◌, ◌≤◌, ◌^◌, ◌%◌, List, [], ◌∷◌, Option, Some, None, Bool, true, false, cond, eqb, leb, ltb, ◌&&◌, ⊎_elim, refl, sym, ap, ◌∙◌, subst, arith}
+use Rattle.std.proofs.Common.{◌≡◌, ℕ, ◌<◌, ◌≤◌, ◌%◌, List, [], ◌∷◌, Option, Some, None, Bool, true, false, cond, eqb, leb, ltb, refl, sym, ap, ◌∙◌, arith}
 use Rattle.std.proofs.lemmas.Bool.{leb-true, le-leb}
 use Rattle.std.proofs.lemmas.Bool.Decides.{nat_tests}
 use Rattle.std.specs.Option.{option_map_or}
-use borrow.Author.Tests.{eq-eqb, eqb-true}
+use borrow.Author.Tests.{eq-eqb}
 use Rattle.std.specs.List.{AllByRecursion}
 use Rattle.opentelemetry.specs.Plain.{PlainSpanContext}
 use Rattle.otel_sampling.specs.Agreement.{Agrees}
-use Rattle.otel_sampling.specs.Sampling.{PlainSamplingResult}
-use Rattle.otel_sampling.specs.declared.trace.sampler.SamplingDecision.{SamplingDecision}
 use Rattle.otel_sampling.specs.declared.trace.sampler.SamplingDecision.TheVariants as decisions
-use Rattle.otel_probability.specs.Answers.{bare_answer, by_parent, by_threshold, child_answer, consistent_state, is_consistent, keeps_trace}
+use Rattle.otel_probability.specs.Answers.{bare_answer, by_threshold, child_answer, consistent_state, is_consistent, keeps_trace}
 use Rattle.otel_probability.specs.Entry.{Pairs, entry_of, entry_with, randomness_in, threshold_in, with_threshold, without_threshold}
 use Rattle.otel_probability.specs.Hops.{AreHops, IsHop, OthersFit, state_behind}
 use Rattle.opentelemetry.specs.Tracestate.{is_value}
@@ -114,7 +112,7 @@ hop_agrees : (root parent child : PlainSpanContext) → root.trace_flags % 2 ≡
 hop_agrees root parent child sampled consistent agrees hop =
     let flag : parent.trace_flags % 2 ≡ 1 = agrees.sampled ∙ sampled in
     let same : is_consistent parent.trace_state parent.trace_id ≡ true =
-        ap (λ s. is_consistent s parent.trace_id) agrees.trace_state ∙ ap (λ t. is_consistent root.trace_state t) agrees.trace_id ∙ consistent in
+    ap (λ s. is_consistent s parent.trace_id) agrees.trace_state ∙ ap (λ t. is_consistent root.trace_state t) agrees.trace_id ∙ consistent in
     let answer = consistent_child parent parent.trace_id flag same in
     record {
       trace_id = hop.trace_id ∙ agrees.trace_id;

@@ -1,9 +1,9 @@
 -- What is joined by semicolons is cut at them into the same members.
-use Rattle.std.proofs.Common.{◌≡◌, ◌≢◌, ℕ, zero, suc, ◌+◌, ◌-◌, ◌*◌, ◌/◌, ◌%◌, ◌<◌, ◌≤◌, List, [], ◌∷◌, ◌++◌, length, Bool, true, false, cond, eqb, ⊎_elim, inl, inr, refl, sym, ap, ◌∙◌, subst, arith}
+use Rattle.std.proofs.Common.{◌≡◌, ℕ, zero, suc, ◌/◌, ◌%◌, ◌<◌, List, [], ◌∷◌, ◌++◌, Bool, true, false, cond, eqb, ⊎_elim, refl, sym, ap, ◌∙◌, subst, arith}
 use Rattle.std.proofs.lemmas.Bool.Decides.{nat_tests}
 use Rattle.std.proofs.lemmas.List.Elements.{All-nil, All-cons}
 use Rattle.std.proofs.lemmas.List.Splits.{slice_split_none, slice_split_at, slice_split-cons_yes, slice_split-cons_no}
-use Rattle.std.specs.List.{All, filter, join_with_byte, onto_first, slice_split}
+use Rattle.std.specs.List.{All, filter, join_with_byte, onto_first}
 use Rattle.opentelemetry.specs.Hex.{hex_digit, hex_text}
 use Rattle.otel_probability.specs.Entry.{entry_members, stays}
 use Rattle.otel_probability.specs.Numbers.{short_hex}

@@ -1,5 +1,5 @@
 -- Trace states whose threshold is changed: what is read of them then.
-use Rattle.std.proofs.Common.{◌≡◌, ℕ, ◌<◌, ◌^◌, not, List, [], ◌∷◌, ◌++◌, Option, Some, None, Bool, true, false, cond, ltb, ◌&&◌, ⊎_elim, refl, sym, ap, ◌∙◌, arith}
+use Rattle.std.proofs.Common.{◌≡◌, ℕ, ◌<◌, ◌^◌, not, List, [], ◌∷◌, ◌++◌, Option, Some, None, Bool, true, false, cond, ltb, ◌&&◌, refl, sym, ap, ◌∙◌, arith}
 use Rattle.std.specs.List.{filter, join_with_byte}
 use Rattle.std.specs.Option.{option_map_or}
 use borrow.Author.Tests.{lt-ltb}
@@ -8,7 +8,7 @@ use Rattle.opentelemetry.specs.Tracestate.{is_some_text, is_value, value_of_key,
 use Rattle.otel_probability.specs.Entry.{Pairs, entry_members, entry_of, entry_text, entry_with, ot, other_members, randomness_in, rv, rv_text, stays, sub_value, th, th_text, then_read, threshold_in, with_entry, with_threshold, without_threshold}
 use Rattle.otel_probability.specs.Hops.{OthersFit}
 use Rattle.otel_probability.specs.Numbers.{every_number, randomness_of_id, randomness_of_text, threshold_of_text, threshold_text}
-use Rattle.otel_probability.proofs.Digits.{threshold_reads_back, true_or_false}
+use Rattle.otel_probability.proofs.Digits.{threshold_reads_back}
 use Rattle.otel_probability.proofs.Splits.{AreClean, IsClean, clean_short, filter_clean, joined_members, members_clean}
 use Rattle.otel_probability.proofs.SubKeys.{others_no_th, others_rv, others_stay, th_member, th_no_rv, th_value}
 
@@ -147,7 +147,7 @@ pub handed_on : (threshold : ℕ) (state : Pairs) → threshold < every_number �
     → threshold_in (with_threshold threshold state) ≡ Some threshold
 handed_on threshold state small fits =
     let marks : (ltb threshold every_number && is_value (entry_with threshold (entry_of state))) ≡ true =
-        ap (λ b. b && is_value (entry_with threshold (entry_of state))) (lt-ltb threshold every_number small) ∙ fits in
+    ap (λ b. b && is_value (entry_with threshold (entry_of state))) (lt-ltb threshold every_number small) ∙ fits in
     with_by (λ s. threshold_in s ≡ Some threshold) threshold state
     (λ _. marked_threshold threshold (entry_of state) (omega arith))
     (λ none. absurd (cc (sym marks ∙ none)))

@@ -1,5 +1,5 @@
 -- Which sub-keys the members have that stay where the threshold is changed.
-use Rattle.std.proofs.Common.{◌≡◌, ◌≢◌, not, ℕ, suc, ◌+◌, ◌<◌, ◌≤◌, List, [], ◌∷◌, ◌++◌, length, take, drop, Option, Some, None, Bool, true, false, cond, eqb, ltb, ◌&&◌, ⊎_elim, inl, inr, refl, sym, ap, ◌∙◌, subst, arith}
+use Rattle.std.proofs.Common.{◌≡◌, not, ℕ, ◌<◌, List, [], ◌∷◌, ◌++◌, length, Some, None, Bool, true, false, cond, ltb, ◌&&◌, ⊎_elim, refl, sym, ap, ◌∙◌, arith}
 use Rattle.std.specs.List.{after_first, before_first, filter, position_or_len}
 use borrow.Author.Tests.{lt-ltb}
 use Rattle.opentelemetry.specs.Same.{same_text, same_text_decides}

@@ -1,6 +1,7 @@
 -- What the consistent samplers answer (OpenTelemetry specification, "TraceState: Probability Sampling", "Sampler
 -- behavior"; "Sampling", "Consistent probability sampling").
-use Rattle.std.specs.Prelude.{◌≡◌, ℕ, ◌%◌, ◌==◌, Bool, true, false, if◌then◌else◌, List, [], Option, Some, None, MatchOption}
+use Rattle.std.specs.Prelude.{◌≡◌, ℕ, ◌%◌, ◌==◌, Bool, false, if◌then◌else◌, [], Option, Some, None}
+use Rattle.std.specs.Prelude.{MatchOption}
 use Rattle.std.specs.Option.{option_map_or}
 use Rattle.opentelemetry.specs.Plain.{PlainSpanContext}
 use Rattle.otel_sampling.specs.Sampler.{active_in, passed_trace_state}

@@ -1,6 +1,6 @@
 -- The entry `ot` of a trace state (OpenTelemetry specification, "TraceState Handling" and "TraceState: Probability
 -- Sampling"): sub-keys `key:value` between semicolons. A sub-key that stands twice is read where it stands first.
-use Rattle.std.specs.Prelude.{◌≡◌, ℕ, ◌+◌, ◌%◌, ◌^◌, Bool, true, false, not, ◌&&◌, nat_lt, ◌==◌, if◌then◌else◌, List}
+use Rattle.std.specs.Prelude.{ℕ, Bool, not, ◌&&◌, nat_lt, ◌==◌, if◌then◌else◌, List}
 use Rattle.std.specs.Prelude.{[], ◌∷◌, ◌++◌, length, Option, Some, None}
 use Rattle.std.specs.List.{after_first, before_first, filter, join_with_byte, position_or_len, slice_split}
 use Rattle.std.specs.Option.{option_map_or}

@@ -19,7 +19,8 @@ state_behind (threshold ∷ more) state trace_id =
 -- a span's context is that of a child on which a sampler by parents decided
 pub record IsHop (parent child : PlainSpanContext) : Type 0 where
   pub trace_id : child.trace_id ≡ parent.trace_id
-  pub sampled : (child.trace_flags % 2 ≡ 1) ↔ ((child_answer parent parent.trace_id).decision ≡ decisions.RecordAndSample)
+  pub sampled : (child.trace_flags % 2 ≡ 1)
+      ↔ ((child_answer parent parent.trace_id).decision ≡ decisions.RecordAndSample)
   pub trace_state : child.trace_state ≡ (child_answer parent parent.trace_id).trace_state
 
 -- contexts are each that of a child of the one before

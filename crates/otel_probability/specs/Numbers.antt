@@ -1,7 +1,8 @@
 -- Thresholds and randomness, numbers of 56 bits, and their texts (OpenTelemetry specification, "TraceState:
 -- Probability Sampling", "Rejection threshold" and "Explicit randomness").
 use Rattle.std.specs.Prelude.{◌≡◌, ℕ, zero, suc, ◌+◌, ◌-◌, ◌*◌, ◌/◌, ◌%◌, ◌^◌, ◌<◌, ◌≤◌, min, Bool, ◌&&◌, ◌||◌}
-use Rattle.std.specs.Prelude.{nat_le, nat_lt, ◌==◌, if◌then◌else◌, List, [], ◌∷◌, length, Option, Some, None, option_map}
+use Rattle.std.specs.Prelude.{nat_le, nat_lt, ◌==◌, if◌then◌else◌, List, [], ◌∷◌, length, Option, Some, None}
+use Rattle.std.specs.Prelude.{option_map}
 use Rattle.opentelemetry.specs.Hex.{hex_text}
 use Rattle.otel_sampling.specs.Ratio.{PlainRatio}
 

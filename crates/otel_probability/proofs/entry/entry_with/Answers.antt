@@ -1,4 +1,4 @@
-use Rattle.std.proofs.Common.{◌∙◌, ◌++◌, ◌∷◌, ap, sym}
+use Rattle.std.proofs.Common.{◌∙◌, ◌++◌, ◌∷◌, ap}
 use Rattle.otel_probability.specs.Entry.{other_members, th}
 use Rattle.otel_probability.specs.Joining.{with_members}
 use Rattle.otel_probability.specs.Numbers.{threshold_text}

@@ -1,5 +1,4 @@
-use Rattle.std.proofs.Common.{◌≡◌, ◌++◌, ◌∷◌, [], ◌∙◌, ◌<◌, ◌-◌, ◌/◌, arith, sym, ap, append-nil}
-use Rattle.std.proofs.lemmas.Bool.Decides.{nat_tests}
+use Rattle.std.proofs.Common.{◌++◌, ◌∷◌, [], ◌∙◌, ◌-◌, ◌/◌, arith, sym, ap, append-nil}
 use Rattle.std.specs.Prelude.{string_bytes}
 use Rattle.opentelemetry.specs.Hex.{hex_text}
 use Rattle.otel_probability.proofs.Digits.{hex_text_last, hex_text_none, hex_digit_ascii}

@@ -1,4 +1,4 @@
-use Rattle.std.proofs.Common.{◌∙◌, arith, sym}
+use Rattle.std.proofs.Common.{◌∙◌, sym}
 use Rattle.otel_probability.proofs.Digits.{no_randomness, written_randomness}
 use Rattle.otel_probability.proofs.randomness.Randomness.from_text.Goals as goal
 

@@ -1,4 +1,4 @@
-use Rattle.std.proofs.Common.{◌≡◌, ◌*◌, ◌-◌, ◌^◌, ◌<◌, ◌≤◌, ◌∙◌, length, arith, sym, ap, Some}
+use Rattle.std.proofs.Common.{◌*◌, ◌-◌, ◌≤◌, ◌∙◌, length, arith, sym, ap, Some}
 use Rattle.otel_probability.proofs.Digits.{no_threshold, power_fits, threshold_fits, written_threshold}
 use Rattle.otel_probability.proofs.threshold.Threshold.from_text.Goals as goal
 
