@@ -3,6 +3,7 @@
 use std::alloc::AllocError;
 
 /// Why a row has no answer.
+#[derive(Drop)]
 pub enum RowError {
     /// A field says none of what it may say.
     Field,
