@@ -60,11 +60,7 @@ fn ask<S: ShouldSample>(
     sampler.should_sample(parent_context, trace_id, "", &SpanKind::Internal, &[], &[])
 }
 
-fn push_answer(
-    alloc: Global,
-    answer: &SamplingResult,
-    out: &mut String,
-) -> Result<(), AllocError> {
+fn push_answer(alloc: Global, answer: &SamplingResult, out: &mut String) -> Result<(), AllocError> {
     let name = match answer.decision {
         SamplingDecision::Drop => "Drop ",
         SamplingDecision::RecordOnly => "RecordOnly ",
