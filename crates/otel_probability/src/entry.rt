@@ -1,8 +1,8 @@
 //! The text of the entry `ot` (OpenTelemetry specification, "TraceState Handling"): sub-keys `key:value` between
 //! semicolons, read and written anew with another `th`.
 
-ghost use Rattle.std.specs.Prelude.{◌≡◌, [], ◌∷◌, Some, None, if◌then◌else◌, option_map, string_bytes, IfOk, OnOk};
-ghost use Rattle.std.specs.List.{after_first, filter};
+ghost use Rattle.std.specs.Prelude.{◌≡◌, Some, None, if◌then◌else◌, option_map, string_bytes, IfOk, OnOk};
+ghost use Rattle.std.specs.List.{after_first};
 ghost use Rattle.otel_probability.specs.Entry.{entry_members, entry_text, entry_with, has_sub_key, is_colon};
 ghost use Rattle.otel_probability.specs.Entry.{other_members, stays, sub_value};
 ghost use Rattle.otel_probability.specs.Joining.{with_member, with_members};

@@ -8,7 +8,7 @@ ghost use Rattle.opentelemetry.specs.Tracestate.{is_value};
 ghost use Rattle.otel_sampling.specs.Agreement.{Agrees};
 ghost use Rattle.otel_sampling.specs.Sampling.{SamplingQuestion};
 ghost use Rattle.otel_sampling.specs.declared.trace.sampler.SamplingDecision.TheVariants as decisions;
-ghost use Rattle.otel_probability.specs.Answers.{bare_answer, child_answer, is_consistent, keeps_trace, parent_answer};
+ghost use Rattle.otel_probability.specs.Answers.{child_answer, is_consistent, keeps_trace, parent_answer};
 ghost use Rattle.otel_probability.specs.Answers.{probability_answer, state_of};
 ghost use Rattle.otel_probability.specs.Entry.{Pairs, entry_of, entry_with, randomness_in, threshold_in};
 ghost use Rattle.otel_probability.specs.Entry.{with_threshold, without_threshold};
