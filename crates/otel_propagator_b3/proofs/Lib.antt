@@ -1,0 +1,2 @@
+pub mod B3Lemmas
+pub mod B3RoundTrip

@@ -1,0 +1,2 @@
+pub mod B3
+pub mod B3Headers

@@ -1,0 +1,15 @@
+//! The propagator of B3, the headers of Zipkin: a single one, or many (OpenZipkin, "B3 Propagation"; OpenTelemetry
+//! specification, "B3 Requirements").
+#![tactic(auto)]
+
+pub mod encoding;
+pub mod laws;
+pub mod propagator;
+pub mod sampling_state;
+
+mod field;
+mod read;
+mod write;
+
+pub use encoding::B3Encoding;
+pub use propagator::B3Propagator;
