@@ -111,13 +111,13 @@ state_said Debug old new (between, sets, same) flags sampled = same flags_field 
 
 -- the many headers leave the single one as it is
 many_keep : (c : PlainSpanContext) (old new : Texts) → SetsInTurn old (many_headers c) new → new single_field ≡ old single_field
-many_keep c old new (first, trace, second, span, state) =
+many_keep c old new (first, trace, (second, span, state)) =
     state_keeps (state_of c.trace_flags) second new single_field state single_sampled single_flags
     ∙ span.others single_field single_span ∙ trace.others single_field single_trace
 
 many_said : (c : PlainSpanContext) (old new : Texts) → IsValid c → c.trace_id < 2 ^ 128 → c.span_id < 2 ^ 64 → old flags_field ≡ None → old sampled_field ≡ None → SetsInTurn old (many_headers c) new
     → IsMany new (remote_copy c)
-many_said c old new valid trace_id span_id flags sampled (first, trace, second, span, state) =
+many_said c old new valid trace_id span_id flags sampled (first, trace, (second, span, state)) =
     let s : SamplingState = state_of c.trace_flags in
     many_say c new valid trace_id span_id
     (state_keeps s second new trace_id_field state trace_sampled trace_flags ∙ span.others trace_id_field trace_span ∙ trace.set)
