@@ -1,5 +1,5 @@
 -- Texts of B3 headers: each is cut in one way alone, and says one span context at most.
-use Rattle.std.proofs.Common.{◌≡◌, ◌≢◌, ◌⊎◌, inl, inr, ⊎_elim, ℕ, suc, ◌<◌, ◌^◌, List, [], ◌∷◌, ◌++◌, length, get_or, All, Option, Some, None, IfSome, MatchOption, Result, Ok, Err, OnErr, codes, refl, sym, ap, subst, ◌∙◌, arith, length-append, lit<}
+use Rattle.std.proofs.Common.{◌≡◌, ◌≢◌, ◌⊎◌, inl, inr, ⊎_elim, ℕ, suc, ◌<◌, List, [], ◌∷◌, ◌++◌, length, get_or, All, Option, Some, None, IfSome, MatchOption, Result, Ok, Err, OnErr, codes, refl, sym, ap, subst, ◌∙◌, arith, length-append, lit<}
 use lib.Seq.{get_or-append_seam}
 use Rattle.std.proofs.lemmas.List.Elements.{All-cons, All-head, All-nil, All-tail, All-weaker}
 use Rattle.opentelemetry.specs.Hex.{hex_text, IsHexDigit, IsHexText}

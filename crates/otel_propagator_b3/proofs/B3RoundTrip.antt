@@ -1,11 +1,11 @@
 -- What is injected is extracted.
-use Rattle.std.proofs.Common.{◌≡◌, ◌≢◌, ◌⊎◌, inl, inr, ⊎_elim, ℕ, ◌<◌, ◌≤◌, ◌/◌, ◌%◌, ◌^◌, ◌==◌, Bool, true, false, List, [], ◌∷◌, ◌++◌, length, get_or, length-append, Option, Some, None, Result, Ok, codes, refl, sym, ap, subst, ◌∙◌, arith, eq-eqb}
-use Rattle.opentelemetry.specs.Carrier.{IsOtherName, SameTexts, SetsText, Texts}
+use Rattle.std.proofs.Common.{◌≡◌, ◌≢◌, inl, inr, ℕ, ◌<◌, ◌^◌, List, [], ◌∷◌, length, get_or, length-append, Option, Some, None, Ok, codes, refl, sym, ap, subst, ◌∙◌, arith}
+use Rattle.opentelemetry.specs.Carrier.{IsOtherName, Texts}
 use Rattle.opentelemetry.specs.Hex.{hex_text}
 use Rattle.opentelemetry.specs.Plain.{PlainContext, PlainSpanContext}
 use Rattle.opentelemetry.specs.PlainContexts.{current_span_context}
-use Rattle.otel_propagator_b3.specs.B3.{single_field, trace_id_field, span_id_field, sampled_field, flags_field, flags_of, hyphen, joined, optional, state_of, state_mark, IsMany, IsSingle, SaysMany}
-use Rattle.otel_propagator_b3.specs.B3Headers.{header_text, headers_of, many_headers, remote_copy, single_headers, single_text, state_headers, CarriesSpan, ExtractsB3, InjectsB3, IsValid, LeavesRoom, SaysSpan, SetsInTurn}
+use Rattle.otel_propagator_b3.specs.B3.{single_field, trace_id_field, span_id_field, sampled_field, flags_field, hyphen, joined, optional, state_of, state_mark, IsMany, IsSingle, SaysMany}
+use Rattle.otel_propagator_b3.specs.B3Headers.{header_text, headers_of, many_headers, remote_copy, single_text, state_headers, CarriesSpan, InjectsB3, IsValid, LeavesRoom, SaysSpan, SetsInTurn}
 use Rattle.otel_propagator_b3.specs.declared.encoding.B3Encoding.{B3Encoding}
 use Rattle.otel_propagator_b3.specs.declared.encoding.B3Encoding.TheVariants.{MultipleHeader, SingleHeader, SingleAndMultiHeader}
 use Rattle.otel_propagator_b3.specs.declared.sampling_state.SamplingState.{SamplingState}

@@ -2,7 +2,7 @@
 -- state the flags of a trace keep two bits beside the sampled one, as in the Rust crates: 2 for a decision that is
 -- deferred, and 4 for debug.
 use Rattle.std.specs.Prelude.{◌≡◌, ◌≢◌, ◌⊎◌, ℕ, ◌<◌, ◌/◌, ◌%◌, ◌^◌, ◌==◌, if◌then◌else◌, true, List, [], ◌∷◌, ◌++◌, codes}
-use Rattle.std.specs.Prelude.{Option, None, Some, All, IfSome}
+use Rattle.std.specs.Prelude.{Option, None, Some, IfSome}
 use Rattle.opentelemetry.specs.Carrier.{Texts}
 use Rattle.opentelemetry.specs.Hex.{hex_text, IsHexText}
 use Rattle.opentelemetry.specs.Plain.{PlainSpanContext}

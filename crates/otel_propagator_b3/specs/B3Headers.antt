@@ -1,5 +1,5 @@
 -- What a B3 propagator injects and extracts (OpenTelemetry specification, "B3 Requirements").
-use Rattle.std.specs.Prelude.{◌≡◌, ◌⊎◌, ℕ, ◌<◌, ◌^◌, Bool, true, false, if◌then◌else◌, List, [], ◌∷◌, ◌++◌, codes, Option, Some}
+use Rattle.std.specs.Prelude.{◌≡◌, ◌⊎◌, ℕ, ◌<◌, true, List, [], ◌∷◌, ◌++◌, codes, Option, Some}
 use Rattle.std.specs.Prelude.{None, unwrap_or, Result, OnOk, OnErr, IsOk, map, string_bytes}
 use Rattle.std.specs.Prelude.{String}
 use Rattle.std.specs.declared.alloc.AllocError.{AllocError}

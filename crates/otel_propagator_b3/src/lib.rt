@@ -3,12 +3,11 @@
 #![tactic(auto)]
 
 pub mod encoding;
+mod field;
 pub mod laws;
 pub mod propagator;
-pub mod sampling_state;
-
-mod field;
 mod read;
+pub mod sampling_state;
 mod write;
 
 pub use encoding::B3Encoding;

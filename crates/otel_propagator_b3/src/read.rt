@@ -50,7 +50,10 @@ fn read_many<X: Extractor>(extractor: &X) -> Option<SpanContext>
     let span_text = extractor.get(Field::SpanId.name())?;
     let trace_id = read_trace_id(trace_text)?;
     let span_id = read_span_id(span_text)?;
-    let state = read_flags(extractor.get(Field::Flags.name()), extractor.get(Field::Sampled.name()))?;
+    let state = read_flags(
+        extractor.get(Field::Flags.name()),
+        extractor.get(Field::Sampled.name()),
+    )?;
     Some(remote_context(trace_id, span_id, state))
 }
 

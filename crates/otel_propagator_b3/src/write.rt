@@ -76,7 +76,11 @@ fn push_many(
     let span_id = span_context.span_id();
     headers.push((Field::TraceId, format!(in alloc; "{trace_id}")?))?;
     headers.push((Field::SpanId, format!(in alloc; "{span_id}")?))?;
-    push_state(alloc, headers, SamplingState::of(span_context.trace_flags()))
+    push_state(
+        alloc,
+        headers,
+        SamplingState::of(span_context.trace_flags()),
+    )
 }
 
 /// The header of a sampling state; none of a deferred one.

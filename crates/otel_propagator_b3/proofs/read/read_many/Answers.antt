@@ -1,7 +1,6 @@
 use Rattle.std.proofs.Common.{◌≡◌, List, ℕ, Option, refl, sym, subst, ap, ◌∙◌}
 use Rattle.std.specs.Option.{option_copied}
 use Rattle.opentelemetry.specs.Carrier.{Texts}
-use Rattle.opentelemetry.specs.Plain.{PlainSpanContext}
 use Rattle.otel_propagator_b3.specs.B3.{IsMany, SaysMany, flags_field, sampled_field}
 use Rattle.otel_propagator_b3.proofs.read.read_many.Goals as goal
 

@@ -1,4 +1,4 @@
-use Rattle.std.proofs.Common.{◌≡◌, sym, ◌∙◌, subst, arith}
+use Rattle.std.proofs.Common.{sym, ◌∙◌, subst, arith}
 use Rattle.opentelemetry.specs.Hex.{IsHexText}
 use Rattle.opentelemetry.proofs.HexRead.{hex_text_injective, hex_text_IsHexText}
 use Rattle.otel_propagator_b3.proofs.read.read_span_id.Goals as goal

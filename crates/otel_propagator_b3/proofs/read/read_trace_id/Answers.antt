@@ -1,4 +1,4 @@
-use Rattle.std.proofs.Common.{◌≡◌, inl, inr, refl, ap, sym, ◌∙◌}
+use Rattle.std.proofs.Common.{inl, inr, refl, ap, sym, ◌∙◌}
 use Rattle.opentelemetry.specs.Hex.{hex_text}
 use Rattle.otel_propagator_b3.proofs.B3Lemmas.{no_digits, zeros_say_none}
 use Rattle.otel_propagator_b3.proofs.read.read_trace_id.Goals as goal

@@ -1,4 +1,4 @@
-use Rattle.std.proofs.Common.{◌≡◌, ◌∷◌, List, ℕ, String, Global, inl, inr, refl, sym, subst, ap, ◌∙◌, string_bytes}
+use Rattle.std.proofs.Common.{List, ℕ, String, Global, inl, inr, refl, sym, subst, ◌∙◌, string_bytes}
 use Rattle.opentelemetry.specs.Carrier.{Texts, SetsText}
 use Rattle.otel_propagator_b3.specs.B3Headers.{name_of, plain_headers, SetsInTurn, SetsSome}
 use Rattle.otel_propagator_b3.specs.declared.field.Field.{Field}

@@ -1,4 +1,3 @@
-use Rattle.std.proofs.Common.{List}
 use Rattle.opentelemetry.specs.Carrier.{Texts}
 use Rattle.otel_propagator_b3.specs.B3Headers.{plain_headers, SetsInTurn, SetsSome}
 use Rattle.otel_propagator_b3.proofs.write.set_all.Given as goal
