@@ -1,0 +1,2 @@
+pub mod JaegerLemmas
+pub mod JaegerRoundTrip

@@ -1,0 +1,10 @@
+use Rattle.std.proofs.Common.{true}
+use Rattle.otel_propagator_jaeger.proofs.JaegerLemmas.{match_weaker, neither}
+use Rattle.otel_propagator_jaeger.proofs.read.read_header.Goals as goal
+
+pub returns-in-None : goal.returns-in-None
+returns-in-None c =
+    match_weaker c.read_context-in-None.result
+    (λ none context says. neither c.args.text.now context (λ plain. c.in-None.ensures context plain) (λ escaped. none context escaped) says)
+    (λ context is. (true, is))
+    c.read_context-in-None.ensures
