@@ -1,12 +1,11 @@
 -- Texts of `uber-trace-id`: each says one span context at most.
-use Rattle.std.proofs.Common.{◌≡◌, ◌≢◌, ◌⊎◌, inl, inr, ⊎_elim, ℕ, zero, suc, ◌<◌, ◌≤◌, ◌/◌, ◌%◌, ◌^◌, ◌==◌, if◌then◌else◌, Bool, true, false, List, [], ◌∷◌, ◌++◌, length, get_or, All, Option, Some, None, Result, Ok, Err, IfSome, IsSome, IsOk, MatchResult, MatchOption, codes, refl, sym, ap, subst, ◌∙◌, arith, lit<}
+use Rattle.std.proofs.Common.{◌≡◌, ◌≢◌, ⊎_elim, ℕ, zero, suc, ◌<◌, ◌≤◌, ◌^◌, Bool, true, false, List, [], ◌∷◌, ◌++◌, length, All, Option, Some, None, Result, Ok, Err, IfSome, IsSome, IsOk, MatchResult, MatchOption, refl, sym, ap, subst, ◌∙◌, arith}
 use Rattle.std.specs.Borrow.{Bor}
 use Rattle.std.specs.Option.{option_copied, unwrap_or}
 use Rattle.std.proofs.Math.Nat.{pow-le-pow_right}
-use Rattle.std.proofs.lemmas.List.Elements.{All-head, All-tail, All-weaker}
+use Rattle.std.proofs.lemmas.List.Elements.{All-head, All-tail}
 use Rattle.opentelemetry.specs.Hex.{hex_text, IsHexDigit, IsHexText}
 use Rattle.opentelemetry.specs.Plain.{PlainContext, PlainSpanContext}
-use Rattle.opentelemetry.specs.PlainContexts.{current_span_context}
 use Rattle.opentelemetry.specs.Carrier.{Texts}
 use Rattle.opentelemetry.proofs.HexRead.{hex_text_injective, hex_text_IsHexText}
 use Rattle.otel_propagator_jaeger.specs.UberTraceId.{colon_text, flags_read, header_text, ExtractsJaeger, IsNumber, IsUberTraceId, SaysContext, SaysField}

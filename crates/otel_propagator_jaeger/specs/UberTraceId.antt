@@ -1,7 +1,7 @@
 -- The context of a span as the header `uber-trace-id` (Jaeger, "Client Libraries", "Propagation Format"): which texts
 -- say one, and what is injected and extracted. Of the flags of a trace the sampled bit and 4, for debug, travel.
-use Rattle.std.specs.Prelude.{◌≡◌, ℕ, ◌<◌, ◌≤◌, ◌/◌, ◌%◌, ◌^◌, ◌==◌, if◌then◌else◌, Bool, true, false, List, [], ◌∷◌, ◌++◌}
-use Rattle.std.specs.Prelude.{codes, length, Option, Some, unwrap_or, Result, OnOk, OnErr, IsOk}
+use Rattle.std.specs.Prelude.{◌≡◌, ℕ, ◌<◌, ◌≤◌, ◌/◌, ◌%◌, ◌^◌, ◌==◌, if◌then◌else◌, Bool, true, false, List, [], ◌++◌}
+use Rattle.std.specs.Prelude.{codes, length, Some, unwrap_or, Result, OnOk, OnErr, IsOk}
 use Rattle.std.specs.declared.alloc.AllocError.{AllocError}
 use Rattle.opentelemetry.specs.Carrier.{Texts, SetsText, SameTexts}
 use Rattle.opentelemetry.specs.Hex.{hex_text}

@@ -3,7 +3,6 @@
 
 pub mod laws;
 pub mod propagator;
-
 mod read;
 
 pub use propagator::JaegerPropagator;

@@ -79,7 +79,11 @@ fn cut(text: &str, escaped: bool) -> Option<(&str, &str)>
         → text.now ≡ front ++ (colon_text escaped ++ rest)
         → MatchOption result ⊥ (λ parts. (parts.0.now ≡ front) × (parts.1.now ≡ rest)) }
 {
-    if escaped { cut_escaped(text) } else { cut_plain(text) }
+    if escaped {
+        cut_escaped(text)
+    } else {
+        cut_plain(text)
+    }
 }
 
 fn cut_plain(text: &str) -> Option<(&str, &str)>
