@@ -1,0 +1,2 @@
+pub mod FilteredStore
+pub mod Filtering
