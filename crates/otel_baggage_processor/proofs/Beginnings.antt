@@ -1,5 +1,6 @@
 -- Edits that are made up to one that found no memory.
-use Rattle.std.proofs.Common.{◌≡◌, ℕ, ◌+◌, ◌-◌, ◌^◌, ◌<◌, Bool, true, false, List, [], ◌∷◌, ◌++◌, ◌⊎◌, inl, inr, filter, length, map, min}
+use Rattle.std.proofs.Common.{◌≡◌, ◌⊎◌, ◌<◌, ℕ, ◌+◌, ◌-◌, ◌^◌, Bool, true, false, List, [], ◌∷◌, ◌++◌, inl, inr, min}
+use Rattle.std.proofs.Common.{filter, length, map}
 use Rattle.std.proofs.Common.{if◌then◌else◌, refl, ap, sym, subst, ◌∙◌, append_assoc, append-nil, arith, length-append}
 use Rattle.std.proofs.lemmas.List.Elements.{filter-append}
 use Rattle.std.proofs.lemmas.List.{map_push}
@@ -52,7 +53,8 @@ module _ (takes : List ℕ → Bool) (baggage : PlainBaggage) (entry : PlainBagg
       ∙ ap (λ (t : Bool). filter (λ e. takes e.key) baggage ++ (if t then entry ∷ [] else [])) h
 
   pub taken_more : takes entry.key ≡ true
-      → baggage_edits takes (baggage ++ entry ∷ []) ≡ baggage_edits takes baggage ++ entry_edit entry.key entry.value ∷ []
+      → baggage_edits takes (baggage ++ entry ∷ [])
+      ≡ baggage_edits takes baggage ++ entry_edit entry.key entry.value ∷ []
   taken_more h =
       ap (λ l. map (λ e. entry_edit e.key e.value) l) (chosen true h)
       ∙ map_push (λ (e : PlainBaggageEntry). entry_edit e.key e.value) (filter (λ e. takes e.key) baggage) entry

@@ -16,8 +16,8 @@ use std::alloc::{AllocError, Global};
 use std::marker::Model;
 use std::time::Duration;
 
-/// Sets the entries whose keys its filter takes, as texts and in the baggage's order. Where an entry finds no memory, it
-/// and those behind it are left out and counted.
+/// Sets the entries whose keys its filter takes, as texts and in the baggage's order. Where an entry finds no memory,
+/// it and those behind it are left out and counted.
 #[derive(Drop)]
 pub struct BaggageSpanProcessor<K> {
     keys: K,
@@ -140,3 +140,6 @@ impl<K: KeyFilter> LeavesSpans for BaggageSpanProcessor<K> {
         0
     }
 }
+
+#[cfg(test)]
+mod tests;
