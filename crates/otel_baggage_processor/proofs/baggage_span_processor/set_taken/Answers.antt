@@ -1,4 +1,4 @@
-use Rattle.std.proofs.Common.{◌≡◌, true, [], ◌∷◌, ◌++◌, map, sym, subst}
+use Rattle.std.proofs.Common.{◌≡◌, true, map, sym, subst}
 use Rattle.std.proofs.lemmas.List.{map_push}
 use Rattle.opentelemetry.specs.Baggage.{PlainBaggage, PlainBaggageEntry, plain_item}
 use Rattle.otel_baggage_processor.specs.BaggageEdits.{MakesBeginning, baggage_edits}
