@@ -1,0 +1,12 @@
+-- Columns follow time.
+use Rattle.std.proofs.Common.{◌≡◌, ◌<◌, ◌≤◌, ◌-◌, ◌*◌, ◌/◌, ◌==◌, ℕ, Bool, true, false, min, arith, refl}
+use Rattle.std.proofs.lemmas.Nat.{le-div, mul-le, div-add-mod'}
+use Rattle.std.proofs.lemmas.Grind.{common_steps}
+use Rattle.otel_picture.specs.Bars.{column}
+
+div_follows : (m n k : ℕ) → 0 < k → m ≤ n → m / k ≤ n / k
+div_follows m n k p h = le-div (m / k) n k p (omega (arith, div-add-mod' m k))
+
+pub column_follows : (first last columns earlier later : ℕ) → first ≤ last → earlier ≤ later
+    → column first last columns earlier ≤ column first last columns later
+column_follows first last columns earlier later o h = grind (arith, common_steps, div_follows)

@@ -1,0 +1,5 @@
+//! Pictures of traces from exported spans.
+#![tactic(auto)]
+
+pub mod bar;
+pub mod laws;
