@@ -1,7 +1,9 @@
 //! Laws of pictures. Each function does nothing; its contract is the law, for all values.
 
-ghost use Rattle.std.specs.Prelude.{ℕ, ◌≤◌, max};
+ghost use Rattle.std.specs.Prelude.{ℕ, ◌≡◌, ◌≤◌, All, List, Option, [], max};
 ghost use Rattle.otel_picture.specs.Bars.{column};
+ghost use Rattle.otel_picture.specs.Rows.{HasAncestors, StandUnder};
+ghost use Rattle.otel_picture.specs.declared.rows.Row.{Row};
 
 /// Columns follow time: an earlier moment stands in no later column, so of two spans the earlier start begins no
 /// later, and a span within another has its bar within the other's.
@@ -12,4 +14,11 @@ pub fn columns_follow_time()
         → outer_start ≤ start → max start end ≤ max outer_start outer_end
         → (column first last columns outer_start ≤ column first last columns start)
         × (column first last columns (max start end) ≤ column first last columns (max outer_start outer_end)) }
+{}
+
+/// Where each row is a root or behind its parent's and one level under it, a row's level is the number of its span's
+/// ancestors in the picture; a span of a circle, or under one, has no such number.
+pub fn levels_count_ancestors()
+    ensures { (parents : List (Option ℕ)) (rows : List Row) → StandUnder parents [] rows
+        → All (λ row. (count : ℕ) → HasAncestors parents count row.span → row.level ≡ count) rows }
 {}

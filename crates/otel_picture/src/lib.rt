@@ -3,3 +3,4 @@
 
 pub mod bar;
 pub mod laws;
+pub mod rows;

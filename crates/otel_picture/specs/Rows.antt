@@ -1,0 +1,82 @@
+-- The rows of a trace's picture: which span stands where, and how far under its ancestors. A span is a number, its place
+-- in order of export; of each the number of its parent is known, or that no parent is in the picture.
+use Rattle.std.specs.Prelude.{◌≡◌, ◌<◌, ◌≤◌, ℕ, zero, suc, Bool, true, false, Option, Some, None, List, [], ◌∷◌, Contains}
+use Rattle.std.specs.Prelude.{◌&&◌, ◌==◌, ◌⊎◌, get_or, length, not, count_by, insert, All, if◌then◌else◌}
+use Rattle.otel_picture.specs.declared.rows.Row.{Row}
+
+-- the parent of a span
+abbrev pub parent_of : List (Option ℕ) → ℕ → Option ℕ
+parent_of parents span = get_or parents span None
+
+-- each parent is a span of the picture
+abbrev pub AreKnown : List (Option ℕ) → Type 0
+AreKnown parents = (span parent : ℕ) → parent_of parents span ≡ Some parent → parent < length parents
+
+-- a span has so many ancestors in the picture. In a circle, and under one, no span has
+abbrev pub HasAncestors : List (Option ℕ) → ℕ → ℕ → Type 0
+HasAncestors parents zero span = parent_of parents span ≡ None
+HasAncestors parents (suc count) span =
+    (parent : ℕ) × (parent_of parents span ≡ Some parent) × HasAncestors parents count parent
+
+-- a row at the left: of a span without ancestors, or of one of a circle
+pub record IsRoot (parents : List (Option ℕ)) (row : Row) : Type 0 where
+  pub level : row.level ≡ 0
+  pub ancestors : (count : ℕ) → HasAncestors parents count row.span → count ≡ 0
+
+-- a row under its parent's, which is among those before it
+pub record IsUnder (parents : List (Option ℕ)) (before : List Row) (row : Row) : Type 0 where
+  pub parent : Row
+  pub known : parent_of parents row.span ≡ Some parent.span
+  pub level : row.level ≡ suc parent.level
+  pub is_before : Contains before parent
+
+-- each row is a root, or behind its parent's row and one level under it
+abbrev pub StandUnder : List (Option ℕ) → List Row → List Row → Type 0
+StandUnder parents before [] = Unit {0}
+StandUnder parents before (row ∷ rows) =
+    (IsRoot parents row ⊎ IsUnder parents before row) × StandUnder parents (row ∷ before) rows
+
+-- the rows of a span
+abbrev pub rows_of : ℕ → List Row → ℕ
+rows_of span rows = count_by (λ row. row.span == span) rows
+
+-- whether a parent has a row, if there is one
+abbrev pub is_over : List Bool → Option ℕ → Bool
+is_over placed None = true
+is_over placed (Some parent) = get_or placed parent false
+
+-- whether a span's row can be put in: it has none, and its parent has, if it is in the picture
+abbrev pub is_ready : List (Option ℕ) → List Bool → ℕ → Bool
+is_ready parents placed span = not (get_or placed span true) && is_over placed (parent_of parents span)
+
+-- a span of the picture that has no row yet
+pub record IsLeft (placed : List Bool) (span : ℕ) : Type 0 where
+  pub there : span < length placed
+  pub left : get_or placed span true ≡ false
+
+-- no span is ready
+abbrev pub IsStuck : List (Option ℕ) → List Bool → Type 0
+IsStuck parents placed = (span : ℕ) → span < length placed → is_ready parents placed span ≡ false
+
+-- a span's row may be put in: it is ready, or in a circle or under one
+abbrev pub IsTurn : List (Option ℕ) → List Bool → ℕ → Type 0
+IsTurn parents placed span =
+    (is_ready parents placed span ≡ true) ⊎ ((count : ℕ) → ¬ HasAncestors parents count span)
+
+-- the rows so far, where these spans have one
+pub record ArePlaced (parents : List (Option ℕ)) (placed : List Bool) (rows : List Row) : Type 0 where
+  pub alike : length placed ≡ length parents
+  pub once : (span : ℕ) → rows_of span rows ≡ (if get_or placed span false then 1 else 0)
+  pub no_more : length rows ≡ count_by (λ has_row. has_row) placed
+  pub under : StandUnder parents [] rows
+  pub shallow : All (λ row. row.level < length rows) rows
+
+-- the row of a span was put in
+pub record IsPutIn (parents : List (Option ℕ)) (old new : List Row) (span : ℕ) : Type 0 where
+  pub row : Row
+  pub at : ℕ
+  pub within : at ≤ length old
+  pub is : new ≡ insert old at row
+  pub shows : row.span ≡ span
+  pub shallow : row.level ≤ length old
+  pub under : StandUnder parents [] new
