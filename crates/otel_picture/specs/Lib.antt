@@ -1,2 +1,3 @@
 pub mod Bars
 pub mod Rows
+pub mod Texts

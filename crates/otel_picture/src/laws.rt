@@ -3,6 +3,7 @@
 ghost use Rattle.std.specs.Prelude.{ℕ, ◌≡◌, ◌≤◌, All, List, Option, [], max};
 ghost use Rattle.otel_picture.specs.Bars.{column};
 ghost use Rattle.otel_picture.specs.Rows.{HasAncestors, StandUnder};
+ghost use Rattle.otel_picture.specs.Texts.{IsPiece, escaped_char};
 ghost use Rattle.otel_picture.specs.declared.rows.Row.{Row};
 
 /// Columns follow time: an earlier moment stands in no later column, so of two spans the earlier start begins no
@@ -21,4 +22,9 @@ pub fn columns_follow_time()
 pub fn levels_count_ancestors()
     ensures { (parents : List (Option ℕ)) (rows : List Row) → StandUnder parents [] rows
         → All (λ row. (count : ℕ) → HasAncestors parents count row.span → row.level ≡ count) rows }
+{}
+
+/// What the SVG form writes for a character is an entity, or bytes that begin nothing in XML.
+pub fn escapes_are_pieces()
+    ensures { (c : ℕ) → IsPiece (escaped_char c) }
 {}

@@ -4,3 +4,4 @@
 pub mod bar;
 pub mod laws;
 pub mod rows;
+mod texts;
