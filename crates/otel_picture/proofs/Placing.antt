@@ -87,6 +87,14 @@ all_rows rows at row within low all =
     (All-cons (λ r. r.level < length (insert rows at row)) row (drop at rows) (omega (arith, more))
     (All-drop (λ r. r.level < length (insert rows at row)) at rows grown))
 
+all_there : (parents : List (Option ℕ)) (rows : List Row) (at : ℕ) (row : Row) → row.span < length parents
+    → All (λ r. r.span < length parents) rows → All (λ r. r.span < length parents) (insert rows at row)
+all_there parents rows at row here all =
+    All-append (λ r. r.span < length parents) (take at rows) (row ∷ drop at rows)
+    (All-take (λ r. r.span < length parents) at rows all)
+    (All-cons (λ r. r.span < length parents) row (drop at rows) here
+    (All-drop (λ r. r.span < length parents) at rows all))
+
 pub placed_more : (parents : List (Option ℕ)) (placed : List Bool) (old new : List Row) (span : ℕ)
     → ArePlaced parents placed old → IsLeft placed span → IsPutIn parents old new span
     → ArePlaced parents (set placed span true) new
@@ -101,6 +109,7 @@ placed_more parents placed old new span before left put =
       no_more = omega (arith, length-insert old put.at put.row put.within, before.no_more, rw left.left at counted);
       under = subst (λ rows. StandUnder parents [] rows) put.is put.under;
       shallow = all_rows old put.at put.row put.within put.shallow before.shallow;
+      there = all_there parents old put.at put.row (omega (arith, left.there, before.alike, put.shows)) before.there;
     })
 
 -- a row put in behind its parent's

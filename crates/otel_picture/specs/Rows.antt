@@ -70,6 +70,7 @@ pub record ArePlaced (parents : List (Option ℕ)) (placed : List Bool) (rows : 
   pub no_more : length rows ≡ count_by (λ has_row. has_row) placed
   pub under : StandUnder parents [] rows
   pub shallow : All (λ row. row.level < length rows) rows
+  pub there : All (λ row. row.span < length parents) rows
 
 -- the row of a span was put in
 pub record IsPutIn (parents : List (Option ℕ)) (old new : List Row) (span : ℕ) : Type 0 where

@@ -6,12 +6,16 @@
 //! one of a circle is next, as a root.
 
 ghost use Rattle.std.specs.Prelude.{◌≡◌, ◌<◌, ◌≤◌, ℕ, Bool, true, false, Some, [], length, All, IfNone, IfOk, IfSome};
-ghost use Rattle.std.specs.Prelude.{OnOk, get_or, vec_len};
+ghost use Rattle.std.specs.Prelude.{OnOk, get_or, max, vec_len};
 ghost use Rattle.otel_picture.specs.Rows.{AreKnown, ArePlaced, HasAncestors, IsLeft, IsPutIn, IsStuck, IsTurn};
 ghost use Rattle.otel_picture.specs.Rows.{StandUnder};
+ghost use Rattle.otel_picture.specs.Bars.{column};
+ghost use Rattle.otel_picture.specs.declared.rows.Mark.{Mark};
 ghost use Rattle.otel_picture.specs.declared.rows.Row.{Row};
 ghost use Rattle.otel_picture.specs.Rows.{is_ready, parent_of, rows_of};
 
+use crate::bar::{Bar, Scale};
+use opentelemetry::SpanId;
 use std::alloc::{AllocError, Global};
 
 /// A row: which span of the trace it shows, in order of export, and how many levels it stands under a root.
@@ -21,11 +25,22 @@ pub struct Row {
     pub level: usize,
 }
 
-/// When each span of a trace starts, and which one of them is its parent, in order of export.
+/// What a picture takes of a span beside its texts: where it stands in order of export, and when it was.
+#[derive(Clone, Copy, Debug, PartialEq, Eq)]
+pub struct Mark {
+    pub place: usize,
+    pub id: SpanId,
+    pub parent: SpanId,
+    pub start: u64,
+    pub end: u64,
+}
+
+/// The spans of a trace, and which one of them is the parent of each, in order of export.
 #[derive(Drop)]
 pub struct Family {
-    pub starts: Vec<u64>,
+    pub marks: Vec<Mark>,
     pub parents: Vec<Option<usize>>,
+    ghost alike: { vec_len parents ≡ vec_len marks },
     ghost known: { AreKnown parents.items },
 }
 
@@ -40,8 +55,8 @@ impl Family {
     }
 
     fn start(&self, span: usize) -> u64 {
-        match self.starts.get(span) {
-            Some(start) => *start,
+        match self.marks.get(span) {
+            Some(mark) => mark.start,
             None => 0,
         }
     }
@@ -156,6 +171,43 @@ impl Family {
         }
     }
 
+    /// Whether a span names a parent that is not in the picture.
+    pub fn is_orphan(&self, row: Row) -> bool
+        requires { row.span < vec_len self.now.marks }
+    {
+        self.marks[row.span].parent != SpanId::INVALID && self.parent(row.span).is_none()
+    }
+
+    /// The trace's scale, from its first start to its last end, for bars in so many columns.
+    pub fn scale(&self, columns: u32) -> Scale
+        requires { 0 < columns }
+        ensures { result.columns ≡ columns }
+    {
+        let mut first = self.start(0);
+        let mut last = first;
+        for mark in &self.marks {
+            first = first.min(mark.start);
+            last = last.max(mark.start).max(mark.end);
+        }
+        Scale {
+            first,
+            last,
+            columns,
+        }
+    }
+
+    /// The bar of a row's span, by its own moments.
+    pub fn bar(&self, scale: &Scale, row: Row) -> Bar
+        requires { row.span < vec_len self.now.marks }
+        ensures begin { (d : Mark) → result.begin ≡ column scale.now.first scale.now.last scale.now.columns
+            (get_or self.now.marks.items row.span d).start }
+        ensures end { (d : Mark) → result.end ≡ column scale.now.first scale.now.last scale.now.columns
+            (max (get_or self.now.marks.items row.span d).start (get_or self.now.marks.items row.span d).end) }
+    {
+        let mark = self.marks[row.span];
+        scale.bar(mark.start, mark.end)
+    }
+
     /// Where the row of a span's parent stands.
     fn parent_row(&self, rows: &[Row], span: usize) -> Option<usize>
         ensures there { IfSome result (λ at. at < length rows.now) }
@@ -208,6 +260,7 @@ pub fn rows(alloc: Global, family: &Family) -> Result<Vec<Row>, AllocError>
     ensures each_once { IfOk result (λ rows. (span : ℕ) → span < vec_len family.now.parents
         → rows_of span rows.items ≡ 1) }
     ensures no_more { IfOk result (λ rows. vec_len rows ≡ vec_len family.now.parents) }
+    ensures there { IfOk result (λ rows. All (λ row. row.span < vec_len family.now.parents) rows.items) }
     ensures under { IfOk result (λ rows. StandUnder family.now.parents.items [] rows.items) }
 {
     let count = family.parents.len();
