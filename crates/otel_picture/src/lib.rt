@@ -4,4 +4,6 @@
 pub mod bar;
 pub mod laws;
 pub mod rows;
+pub mod text;
 mod texts;
+pub mod traces;
