@@ -4,6 +4,7 @@
 pub mod bar;
 pub mod laws;
 pub mod rows;
+pub mod svg;
 pub mod text;
 mod texts;
 pub mod traces;
