@@ -35,9 +35,11 @@ counts_all : (parents : List (Option ℕ)) (before rows : List Row)
     → AllByRecursion (Counts parents) rows
 counts_all parents before [] f h = tt
 counts_all parents before (row ∷ rows) f h =
-    let here = counts_row parents before row f h.0 in
-    (here, counts_all parents (row ∷ before) rows
-    (λ r at. counts_at parents before row r f here at.0 at.1 at.2) h.1)
+    let here = counts_row parents before row f h.0 in (
+      here,
+      counts_all parents (row ∷ before) rows
+          (λ r at. counts_at parents before row r f here at.0 at.1 at.2) h.1,
+    )
 
 pub levels_right : (parents : List (Option ℕ)) (rows : List Row) → StandUnder parents [] rows
     → All (λ row. (count : ℕ) → HasAncestors parents count row.span → row.level ≡ count) rows

@@ -40,7 +40,7 @@ escaped_pieces c = elim (cases_eq c 60) [
       | inr d ↦ rw (ne_eqb c 38 d) (elim (cases_eq c 34) [
         | inl e ↦ rw (eq-eqb c 34 e) (inl (inr (inr (inr refl))))
         | inr f ↦ rw (ne_eqb c 34 f) (inr (plain_or_replaced c (is_xml_char c) (plain_byte c a b d f)))
-        ])
       ])
     ])
+  ])
 ]

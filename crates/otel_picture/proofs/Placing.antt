@@ -25,19 +25,20 @@ under_more : (parents : List (Option ℕ)) (before more : List Row) (row : Row)
     → IsRoot parents row ⊎ IsUnder parents before row → IsRoot parents row ⊎ IsUnder parents more row
 under_more parents before more row f (inl root) = inl root
 under_more parents before more row f (inr under) = inr (record {
-    parent = under.parent;
-    known = under.known;
-    level = under.level;
-    is_before = f under.parent under.is_before;
-  })
+  parent = under.parent;
+  known = under.known;
+  level = under.level;
+  is_before = f under.parent under.is_before;
+})
 
 stand_more : (parents : List (Option ℕ)) (before more rows : List Row)
     → ((r : Row) → Contains before r → Contains more r) → StandUnder parents before rows → StandUnder parents more rows
 stand_more parents before more [] f h = tt
-stand_more parents before more (row ∷ rows) f h =
-    (under_more parents before more row f h.0,
-    stand_more parents (row ∷ before) (row ∷ more) rows
-    (λ r at. contains_at row r before more f at.0 at.1 at.2) h.1)
+stand_more parents before more (row ∷ rows) f h = (
+  under_more parents before more row f h.0,
+  stand_more parents (row ∷ before) (row ∷ more) rows
+      (λ r at. contains_at row r before more f at.0 at.1 at.2) h.1,
+)
 
 pub insert_root : (parents : List (Option ℕ)) (before rows : List Row) (at : ℕ) (row : Row) → IsRoot parents row
     → StandUnder parents before rows → StandUnder parents before (insert rows at row)
@@ -51,9 +52,13 @@ pub insert_under : (parents : List (Option ℕ)) (before rows : List Row) (at : 
     → parent_of parents row.span ≡ Some (get_or rows at row).span → row.level ≡ suc (get_or rows at row).level
     → StandUnder parents before rows → StandUnder parents before (insert rows (suc at) row)
 insert_under parents before [] at row l known level h = absurd (omega arith)
-insert_under parents before (r ∷ rows) zero row l known level h =
-    (h.0, (inr (record { parent = r; known = known; level = level; is_before = (0, omega arith, refl) }),
-    stand_more parents (r ∷ before) (row ∷ r ∷ before) rows (contains_more row (r ∷ before)) h.1))
+insert_under parents before (r ∷ rows) zero row l known level h = (
+  h.0,
+  (
+    inr (record { parent = r; known = known; level = level; is_before = (0, omega arith, refl) }),
+    stand_more parents (r ∷ before) (row ∷ r ∷ before) rows (contains_more row (r ∷ before)) h.1,
+  ),
+)
 insert_under parents before (r ∷ rows) (suc at) row l known level h =
     (h.0, insert_under parents (r ∷ before) rows at row (omega arith) known level h.1)
 
@@ -65,9 +70,9 @@ one_more : (span other : ℕ) (row : Row) (placed : List Bool) (rows : List Row)
     → rows_of other (insert rows at row) ≡ (if get_or (set placed span true) other false then 1 else 0)
 one_more span other row placed rows at shows there left once (inl same) =
     let none : rows_of other rows ≡ 0 =
-      once ∙ ap (λ (b : Bool). if b then 1 else 0) (ap (λ k. get_or placed k false) same ∙ left) in
+    once ∙ ap (λ (b : Bool). if b then 1 else 0) (ap (λ k. get_or placed k false) same ∙ left) in
     let here : get_or (set placed span true) other false ≡ true =
-      ap (λ k. get_or (set placed span true) k false) same ∙ get_or-set_same placed span true false there in
+    ap (λ k. get_or (set placed span true) k false) same ∙ get_or-set_same placed span true false there in
     sum_by-insert (λ r. if r.span == other then 1 else 0) rows at row
     ∙ rw (eq-eqb row.span other (shows ∙ sym same), none, here) refl
 one_more span other row placed rows at shows there left once (inr different) =
@@ -80,8 +85,8 @@ all_rows : (rows : List Row) (at : ℕ) (row : Row) → at ≤ length rows → r
 all_rows rows at row within low all =
     let more = length-insert rows at row within in
     let grown : All (λ (r : Row). r.level < length (insert rows at row)) rows =
-      All-weaker (λ r. r.level < length rows) (λ r. r.level < length (insert rows at row))
-      (λ r l. omega (arith, more, l)) rows all in
+    All-weaker (λ r. r.level < length rows) (λ r. r.level < length (insert rows at row))
+    (λ r l. omega (arith, more, l)) rows all in
     All-append (λ r. r.level < length (insert rows at row)) (take at rows) (row ∷ drop at rows)
     (All-take (λ r. r.level < length (insert rows at row)) at rows grown)
     (All-cons (λ r. r.level < length (insert rows at row)) row (drop at rows) (omega (arith, more))
@@ -100,12 +105,12 @@ pub placed_more : (parents : List (Option ℕ)) (placed : List Bool) (old new : 
     → ArePlaced parents (set placed span true) new
 placed_more parents placed old new span before left put =
     let missing : get_or placed span false ≡ false =
-      get_or_default placed span false true left.there ∙ left.left in
+    get_or_default placed span false true left.there ∙ left.left in
     let counted = sum_by-set (λ (b : Bool). if b then 1 else 0) placed span true true left.there in
     subst (λ rows. ArePlaced parents (set placed span true) rows) (sym put.is) (record {
       alike = length-set placed span true ∙ before.alike;
       once = λ other. one_more span other put.row placed old put.at put.shows left.there missing (before.once other)
-        (cases_eq other span);
+          (cases_eq other span);
       no_more = omega (arith, length-insert old put.at put.row put.within, before.no_more, rw left.left at counted);
       under = subst (λ rows. StandUnder parents [] rows) put.is put.under;
       shallow = all_rows old put.at put.row put.within put.shallow before.shallow;
@@ -120,7 +125,7 @@ pub put_behind : (parents : List (Option ℕ)) (placed : List Bool) (old new : L
 put_behind parents placed old new at span parent before there read known is =
     let row : Row = record { span = span; level = parent.level + 1 } in
     let low : parent.level < length old =
-      subst (λ (r : Row). r.level < length old) (sym read) (before.shallow at parent there) in
+    subst (λ (r : Row). r.level < length old) (sym read) (before.shallow at parent there) in
     record {
       row = row;
       at = at + 1;
@@ -129,9 +134,9 @@ put_behind parents placed old new at span parent before there read known is =
       shows = refl;
       shallow = omega (arith, low);
       under = rw (is, add-one) (insert_under parents [] old at row there
-        (known ∙ ap (λ (r : Row). Some r.span) (get_or_default old at parent row there))
-        (add-one parent.level ∙ ap (λ (r : Row). suc r.level) (read ∙ get_or_default old at parent row there))
-        before.under);
+          (known ∙ ap (λ (r : Row). Some r.span) (get_or_default old at parent row there))
+          (add-one parent.level ∙ ap (λ (r : Row). suc r.level) (read ∙ get_or_default old at parent row there))
+          before.under);
     }
 
 both_true : (a b : Bool) → a && b ≡ true → b ≡ true
@@ -165,7 +170,7 @@ put_root parents placed old new at span before within none turn is =
       shows = refl;
       shallow = omega arith;
       under = rw is (insert_root parents [] old at row
-        (record { level = refl; ancestors = root_of parents placed old span before none turn }) before.under);
+          (record { level = refl; ancestors = root_of parents placed old span before none turn }) before.under);
     }
 
 -- where no span is left, there are as many rows as spans
@@ -173,8 +178,11 @@ pub all_counted : (placed : List Bool) → ((span : ℕ) → IsLeft placed span 
     → count_by (λ has_row. has_row) placed ≡ length placed
 all_counted [] h = refl
 all_counted (true ∷ placed) h =
-    omega (arith, sum_by-cons (λ (b : Bool). if b then 1 else 0) true placed,
-    all_counted placed (λ span l. h (suc span) (record { there = omega (arith, l.there); left = l.left })))
+    omega (
+      arith,
+      sum_by-cons (λ (b : Bool). if b then 1 else 0) true placed,
+      all_counted placed (λ span l. h (suc span) (record { there = omega (arith, l.there); left = l.left })),
+    )
 all_counted (false ∷ placed) h = absurd (h 0 (record { there = omega arith; left = refl }))
 
 -- and each has one

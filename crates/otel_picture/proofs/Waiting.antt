@@ -19,7 +19,7 @@ left_above parents placed span parent known alike stuck left e =
     record {
       there = there;
       left = get_or_default placed parent true false there
-        ∙ sym (ready_by parents placed span (Some parent) left.left e) ∙ stuck span left.there;
+          ∙ sym (ready_by parents placed span (Some parent) left.left e) ∙ stuck span left.there;
     }
 
 pub no_ancestors : (parents : List (Option ℕ)) (placed : List Bool) → AreKnown parents

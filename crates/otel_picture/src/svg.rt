@@ -9,8 +9,8 @@ use crate::rows::{Family, Row, rows};
 use crate::text::{push_error, push_moments};
 use crate::texts::{push_duration, push_escaped, push_in_room, push_shown};
 use crate::traces::{begins_trace, family_of, places_of};
-use opentelemetry::{KeyValue, TraceId};
 use opentelemetry::trace::Status;
+use opentelemetry::{KeyValue, TraceId};
 use otel_export::trace::SpanData;
 use std::alloc::{AllocError, Global};
 use std::fmt::Write;
@@ -43,7 +43,10 @@ impl Drawing {
     /// The text that waits, at a place of the line.
     fn push_label(&mut self, x: usize) -> Result<(), AllocError> {
         let y = self.line.saturating_mul(20).saturating_add(15);
-        write!(self.text, "<text x=\"{x}\" y=\"{y}\" xml:space=\"preserve\">")?;
+        write!(
+            self.text,
+            "<text x=\"{x}\" y=\"{y}\" xml:space=\"preserve\">"
+        )?;
         push_escaped(&mut self.text, self.raw.as_str())?;
         self.text.push_str("</text>")?;
         self.raw.clear();
@@ -77,14 +80,24 @@ impl Drawing {
         Ok(())
     }
 
-    fn push_name(&mut self, alloc: Global, span: &SpanData, level: usize, is_orphan: bool) -> Result<(), AllocError> {
+    fn push_name(
+        &mut self,
+        alloc: Global,
+        span: &SpanData,
+        level: usize,
+        is_orphan: bool,
+    ) -> Result<(), AllocError> {
         let mut shown = String::new(alloc);
         if is_orphan {
             shown.push('~')?;
         }
         push_shown(&mut shown, span.name.as_str())?;
         let indent = level.min(20);
-        push_in_room(&mut self.raw, shown.as_str(), NAME_ROOM.saturating_sub(indent.saturating_mul(2)))?;
+        push_in_room(
+            &mut self.raw,
+            shown.as_str(),
+            NAME_ROOM.saturating_sub(indent.saturating_mul(2)),
+        )?;
         self.push_label(10 + 16 * indent)
     }
 
@@ -144,7 +157,12 @@ impl Drawing {
     }
 
     /// A trace's head, its rows, and an empty line.
-    fn push_trace(&mut self, alloc: Global, spans: &[SpanData], trace: TraceId) -> Result<(), AllocError> {
+    fn push_trace(
+        &mut self,
+        alloc: Global,
+        spans: &[SpanData],
+        trace: TraceId,
+    ) -> Result<(), AllocError> {
         let places = places_of(alloc, spans, trace)?;
         let family = family_of(alloc, spans, &places)?;
         let scale = family.scale(BAR_ROOM);
@@ -189,7 +207,10 @@ fn push_begin(text: &mut String, lines: usize) -> Result<(), AllocError> {
         "<svg xmlns=\"http://www.w3.org/2000/svg\" viewBox=\"0 0 1400 {height}\" width=\"1400\" height=\"{height}\">\n"
     )?;
     text.push_str(STYLE)?;
-    write!(text, "<rect class=\"page\" x=\"0\" y=\"0\" width=\"1400\" height=\"{height}\"/>\n")
+    write!(
+        text,
+        "<rect class=\"page\" x=\"0\" y=\"0\" width=\"1400\" height=\"{height}\"/>\n"
+    )
 }
 
 /// Appends the SVG file of the pictures of the traces of spans, which stand in order of export. On an error nothing is

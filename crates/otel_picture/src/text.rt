@@ -53,7 +53,11 @@ fn push_bar(text: &mut String, bar: Bar, room: u32) -> Result<(), AllocError> {
 }
 
 /// Its offset from the trace's first moment, and its length.
-pub(crate) fn push_moments(text: &mut String, first: u64, span: &SpanData) -> Result<(), AllocError> {
+pub(crate) fn push_moments(
+    text: &mut String,
+    first: u64,
+    span: &SpanData,
+) -> Result<(), AllocError> {
     let start = span.start_time.0;
     let end = span.end_time.0;
     text.push_str(" +")?;
@@ -95,7 +99,12 @@ fn push_row(
     text.push('\n')
 }
 
-fn push_head(text: &mut String, trace: TraceId, count: usize, scale: &Scale) -> Result<(), AllocError> {
+fn push_head(
+    text: &mut String,
+    trace: TraceId,
+    count: usize,
+    scale: &Scale,
+) -> Result<(), AllocError> {
     write!(text, "trace {trace}  spans: {count}  ")?;
     push_duration(text, scale.last - scale.first)?;
     text.push('\n')
@@ -132,7 +141,12 @@ fn push_trace(
     push_rows(alloc, text, spans, &family, &scale)
 }
 
-fn push_pictures(alloc: Global, text: &mut String, spans: &[SpanData], room: u32) -> Result<(), AllocError>
+fn push_pictures(
+    alloc: Global,
+    text: &mut String,
+    spans: &[SpanData],
+    room: u32,
+) -> Result<(), AllocError>
     requires { 0 < room }
 {
     for place in 0..spans.len() {

@@ -16,7 +16,11 @@ fn is_of(span: &SpanData, trace: TraceId) -> bool
 }
 
 /// The places of a trace's spans, in order of export.
-pub fn places_of(alloc: Global, spans: &[SpanData], trace: TraceId) -> Result<Vec<usize>, AllocError>
+pub fn places_of(
+    alloc: Global,
+    spans: &[SpanData],
+    trace: TraceId,
+) -> Result<Vec<usize>, AllocError>
     ensures all { IfOk result (λ places. places.items ≡ places_below (is_of spans.now trace) (length spans.now)) }
     ensures there { IfOk result (λ places. All (λ place. place < length spans.now) places.items) }
 {

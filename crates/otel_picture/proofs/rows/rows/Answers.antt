@@ -16,6 +16,11 @@ returns-clause-each_once c = λ span there.
 
 pub returns-clause-no_more : goal.returns-clause-no_more
 returns-clause-no_more c =
-    omega (arith, c.loop-span.invariant.alike, c.args.family.now.parents.ok.0, c.loop-span.rows.ok.0,
-    c.loop-span.invariant.no_more,
-    all_counted c.loop-span.placed.items (rw c.deref.ensures.value at c.in_default.ensures.none))
+    omega (
+      arith,
+      c.loop-span.invariant.alike,
+      c.args.family.now.parents.ok.0,
+      c.loop-span.rows.ok.0,
+      c.loop-span.invariant.no_more,
+      all_counted c.loop-span.placed.items (rw c.deref.ensures.value at c.in_default.ensures.none),
+    )

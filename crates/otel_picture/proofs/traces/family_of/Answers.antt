@@ -10,7 +10,12 @@ invariant_of-result c =
     let marks = c.in_ok-marks.marks in
     let is = rw c.deref.ensures.value at c.in_ok-parents.ensures in
     record {
-      alike = omega (arith, c.in_ok-parents.parents.ok.0, marks.ok.0, ap length is,
-        length-map marks.items (parent_in marks.items));
+      alike = omega (
+        arith,
+        c.in_ok-parents.parents.ok.0,
+        marks.ok.0,
+        ap length is,
+        length-map marks.items (parent_in marks.items),
+      );
       known = known_of marks.items c.in_ok-parents.parents.items is;
     }

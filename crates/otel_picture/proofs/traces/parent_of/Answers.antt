@@ -11,6 +11,6 @@ returns-else-eq c =
     let parent = c.args.mark.parent in
     let named : (parent == 0) ≡ false = first_of (search (rules, tests), grind (arith, nat_tests)) in
     let found : c.position.result ≡ position (λ other. other.id == parent) marks =
-      position_from_yields_List (λ other. other.id == parent) _ _ c.position.result c.position.ensures.ran
-      (YieldsList-from_slice marks c.iter.ensures.rest) (λ x b q k. search (rules, tests)) in
+    position_from_yields_List (λ other. other.id == parent) _ _ c.position.result c.position.ensures.ran
+    (YieldsList-from_slice marks c.iter.ensures.rest) (λ x b q k. search (rules, tests)) in
     rw named found

@@ -13,15 +13,15 @@ loop-place-preserved c =
     let place = c.loop-place.place in
     let here = of_at spans trace place c.index-spans-place.result (omega arith) c.index-spans-place.is in
     elim c.if-is_of.branch [
-    | then-is_of+in_ok-push w ↦ rw (w.places-is, w.in_ok-push.ensures.items) (record {
+      | then-is_of+in_ok-push w ↦ rw (w.places-is, w.in_ok-push.ensures.items) (record {
         all = place_more (is_of spans trace) place c.loop-place.places.items (here ∙ sym c.is_of.ensures ∙ w.if-is_of.true)
-          c.loop-place.invariant.all;
+            c.loop-place.invariant.all;
         there = All-push (λ k. k < length spans) c.loop-place.places.items place c.loop-place.invariant.there
-          (omega arith);
+            (omega arith);
       })
-    | else-is_of w ↦ rw w.places-is (record {
+      | else-is_of w ↦ rw w.places-is (record {
         all = place_stays (is_of spans trace) place c.loop-place.places.items (here ∙ sym c.is_of.ensures ∙ w.if-is_of.false)
-          c.loop-place.invariant.all;
+            c.loop-place.invariant.all;
         there = c.loop-place.invariant.there;
       })
     ]

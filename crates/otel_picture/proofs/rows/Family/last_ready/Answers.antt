@@ -32,7 +32,7 @@ loop-span-preserved c =
     let placed = c.args.placed.now in
     let span = c.loop-span.span in
     elim c.if-is_ready.branch [
-    | then-is_ready+then-not-follows w ↦ rw w.last-is (record {
+      | then-is_ready+then-not-follows w ↦ rw w.last-is (record {
         ready = sym c.is_ready.ensures ∙ w.if-is_ready.true;
         left = record {
           there = omega arith;
@@ -40,15 +40,15 @@ loop-span-preserved c =
         };
         none = tt;
       })
-    | else-is_ready w ↦ rw w.last-is (record {
+      | else-is_ready w ↦ rw w.last-is (record {
         ready = c.loop-span.invariant.ready;
         left = c.loop-span.invariant.left;
         none = one_more (λ k. is_ready parents placed k ≡ false) c.loop-span.last span c.loop-span.invariant.none
-          (elim w.else-is_ready.branch [
-          | else-is_ready-via-then-is_ready+else-not-follows v ↦
-              if_none _ _ c.loop-span.last (λ e. absurd (false≢true (sym e ∙ v.if-not-follows.false))) v.follows.ensures
-          | else-is_ready-via-else-is_ready v ↦
-              when_none _ c.loop-span.last (sym c.is_ready.ensures ∙ v.if-is_ready.false)
-          ]);
+            (elim w.else-is_ready.branch [
+              | else-is_ready-via-then-is_ready+else-not-follows v ↦
+                  if_none _ _ c.loop-span.last (λ e. absurd (false≢true (sym e ∙ v.if-not-follows.false))) v.follows.ensures
+              | else-is_ready-via-else-is_ready v ↦
+                  when_none _ c.loop-span.last (sym c.is_ready.ensures ∙ v.if-is_ready.false)
+            ]);
       })
     ]

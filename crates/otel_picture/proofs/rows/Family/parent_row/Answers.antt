@@ -13,8 +13,11 @@ none_counted : (p : Row → Bool) (rows : List Row) → AllWithin (λ row. p row
 none_counted p [] h = refl
 none_counted p (row ∷ rows) h =
     sum_by-cons (λ r. if p r then 1 else 0) row rows
-    ∙ rw (h 0 row (omega arith) (omega arith), none_counted p rows
-    (λ k d low high. h (suc k) d (omega arith) (omega arith))) refl
+    ∙ rw (
+      h 0 row (omega arith) (omega arith),
+      none_counted p rows
+          (λ k d low high. h (suc k) d (omega arith) (omega arith)),
+    ) refl
 
 none_found : (P : ℕ → Type 0) (p : Row → Bool) (rows : List Row) (r : Option ℕ)
     → MatchOption r (AllWithin (λ row. p row ≡ false) rows 0 (length rows)) P → IfNone r (count_by p rows ≡ 0)
@@ -32,7 +35,7 @@ returns-clause-none c =
     let rows = c.args.rows.now in
     let parent = c.in_ok-parent.parent in
     let found = IsFirst-from_position _ _ c.position.result (λ row. (row.span == parent) ≡ true)
-      (λ row. (row.span == parent) ≡ false) c.position.ensures.ran (YieldsList-from_slice rows c.iter.ensures.rest)
-      (λ x q k. search (rules, tests)) (λ x q k. search (rules, tests)) in
+    (λ row. (row.span == parent) ≡ false) c.position.ensures.ran (YieldsList-from_slice rows c.iter.ensures.rest)
+    (λ x q k. search (rules, tests)) (λ x q k. search (rules, tests)) in
     of_parent (parent_of c.args.self.now.parents.items c.args.span) parent rows c.position.result c.in_ok-parent.ensures
     (none_found _ (λ row. row.span == parent) rows c.position.result found)
