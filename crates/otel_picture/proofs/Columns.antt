@@ -1,6 +1,6 @@
 -- Columns follow time.
-use Rattle.std.proofs.Common.{◌≡◌, ◌<◌, ◌≤◌, ◌-◌, ◌*◌, ◌/◌, ◌==◌, ℕ, Bool, true, false, min, arith, refl}
-use Rattle.std.proofs.lemmas.Nat.{le-div, mul-le, div-add-mod'}
+use Rattle.std.proofs.Common.{◌<◌, ◌≤◌, ◌/◌, ℕ, arith}
+use Rattle.std.proofs.lemmas.Nat.{le-div, div-add-mod'}
 use Rattle.std.proofs.lemmas.Grind.{common_steps}
 use Rattle.otel_picture.specs.Bars.{column}
 

@@ -1,9 +1,9 @@
 -- A row's level is the number of its ancestors: that of its parent's row, and one more.
 use Rattle.std.proofs.Common.{◌≡◌, ◌<◌, ◌⊎◌, inl, inr, ℕ, zero, suc, Option, Some, None, List, [], ◌∷◌, All, Contains}
-use Rattle.std.proofs.Common.{get_or, length, sym, ◌∙◌, subst, ap, arith, refl}
+use Rattle.std.proofs.Common.{get_or, length, sym, ◌∙◌, subst, ap, arith}
 use Rattle.std.specs.List.{AllByRecursion}
 use Rattle.std.proofs.lemmas.List.Elements.{All-from_recursion}
-use Rattle.otel_picture.specs.Rows.{HasAncestors, IsRoot, IsUnder, StandUnder, parent_of}
+use Rattle.otel_picture.specs.Rows.{HasAncestors, IsRoot, IsUnder, StandUnder}
 use Rattle.otel_picture.specs.declared.rows.Row.{Row}
 
 abbrev Counts : List (Option ℕ) → Row → Type 0

@@ -1,6 +1,6 @@
 -- One place more, and parents that are in the picture.
 use Rattle.std.proofs.Common.{◌≡◌, ◌<◌, ◌==◌, ◌++◌, ◌∷◌, [], ◌+◌, ◌∙◌, ℕ, zero, suc, Bool, true, false, List, length, get_or}
-use Rattle.std.proofs.Common.{if◌then◌else◌, sym, ap, add-one, append-nil, map, Option, Some, None, arith, refl}
+use Rattle.std.proofs.Common.{if◌then◌else◌, sym, ap, add-one, append-nil, map, Option, Some, None, arith}
 use Rattle.std.proofs.Common.{position}
 use Rattle.std.proofs.lemmas.List.{get_or-map, length-map}
 use Rattle.std.proofs.lemmas.List.Quantifiers.{position-Some}

@@ -1,14 +1,14 @@
 -- A row put in keeps each row behind its parent's.
-use Rattle.std.proofs.Common.{◌≡◌, ◌<◌, ◌≤◌, ◌⊎◌, inl, inr, ℕ, zero, suc, Bool, true, false, Option, Some, None, List}
+use Rattle.std.proofs.Common.{◌≡◌, ◌<◌, ◌≤◌, ◌⊎◌, inl, inr, ℕ, zero, suc, Bool, true, false, Option, Some, List}
 use Rattle.std.proofs.Common.{[], ◌∷◌, ◌+◌, ◌==◌, ◌∙◌, if◌then◌else◌, get_or, set, length, sym, subst, ap, refl, arith}
-use Rattle.std.proofs.Common.{All, Contains, insert, count_by, take, drop, sum_by, add-one, ◌&&◌}
+use Rattle.std.proofs.Common.{All, Contains, insert, count_by, take, drop, add-one, ◌&&◌}
 use Rattle.std.proofs.lemmas.Bool.{cases_eq, eq-eqb, false≢true, ne_eqb}
 use Rattle.std.proofs.lemmas.List.{length-set, get_or-set_same, get_or-set_other, get_or_default}
 use Rattle.std.proofs.lemmas.List.Edits.{length-insert}
 use Rattle.std.proofs.lemmas.List.Elements.{All-append, All-cons, All-drop, All-take, All-weaker}
 use Rattle.std.proofs.lemmas.List.Sums.{sum_by-cons, sum_by-insert, sum_by-set}
 use Rattle.otel_picture.specs.Rows.{ArePlaced, HasAncestors, IsLeft, IsPutIn, IsRoot, IsUnder, StandUnder, parent_of}
-use Rattle.otel_picture.specs.Rows.{IsTurn, is_ready, rows_of}
+use Rattle.otel_picture.specs.Rows.{IsTurn, rows_of}
 use Rattle.otel_picture.specs.declared.rows.Row.{Row}
 
 contains_at : (row r : Row) (before more : List Row) → ((r : Row) → Contains before r → Contains more r)

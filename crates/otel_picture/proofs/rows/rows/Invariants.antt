@@ -1,5 +1,5 @@
 -- The rows so far are those of the spans that have one.
-use Rattle.std.proofs.Common.{◌≡◌, ◌-◌, vec_len, count_by}
+use Rattle.std.proofs.Common.{◌-◌, vec_len, count_by}
 use Rattle.otel_picture.specs.Rows.{ArePlaced}
 use Rattle.otel_picture.proofs.rows.rows.Given as goal
 

@@ -1,9 +1,9 @@
 -- One more span: it is ready and not before the last one so far, or the last one stays.
 use Rattle.std.proofs.Common.{◌≡◌, ◌<◌, ◌+◌, ℕ, Bool, true, false, Option, Some, None, IfNone, sym, ◌∙◌, get_or, refl}
-use Rattle.std.proofs.Common.{not, ◌&&◌, length, ap, List, arith}
+use Rattle.std.proofs.Common.{not, ◌&&◌, List, arith}
 use borrow.Author.Count.{below_more}
 use Rattle.std.proofs.lemmas.Bool.{false≢true}
-use Rattle.otel_picture.specs.Rows.{IsLeft, is_over, is_ready, parent_of}
+use Rattle.otel_picture.specs.Rows.{is_over, is_ready, parent_of}
 use Rattle.otel_picture.proofs.rows.Family.last_ready.Goals as goal
 use Rattle.otel_picture.proofs.rows.Family.last_ready.Goals.{then-is_ready+then-not-follows, else-is_ready, else-is_ready-via-then-is_ready+else-not-follows, else-is_ready-via-else-is_ready}
 

@@ -1,7 +1,7 @@
 -- Where no row is the parent's, it has none.
-use Rattle.std.proofs.Common.{◌≡◌, ◌<◌, ◌≤◌, ◌==◌, ℕ, suc, Bool, true, false, Option, Some, None, IfNone, List, [], ◌∷◌, length}
-use Rattle.std.proofs.Common.{MatchOption, get_or, count_by, refl, sym, ◌∙◌, arith, rules, tests, if◌then◌else◌, ap}
-use Rattle.std.specs.List.{AllWithin, HoldsAt}
+use Rattle.std.proofs.Common.{◌≡◌, ◌==◌, ℕ, suc, Bool, true, false, Option, Some, None, IfNone, List, [], ◌∷◌, length}
+use Rattle.std.proofs.Common.{MatchOption, count_by, refl, sym, ◌∙◌, arith, rules, tests, if◌then◌else◌, ap}
+use Rattle.std.specs.List.{AllWithin}
 use Rattle.std.proofs.lemmas.Iterator.{IsFirst-from_position, YieldsList-from_slice}
 use Rattle.std.proofs.lemmas.List.Sums.{sum_by-cons}
 use Rattle.otel_picture.specs.Rows.{parent_of, rows_of}
