@@ -90,7 +90,8 @@ fn parents_of(alloc: Global, marks: &[Mark]) -> Result<Vec<Option<usize>>, Alloc
 pub fn family_of(alloc: Global, spans: &[SpanData], places: &[usize]) -> Result<Family, AllocError>
     requires { All (λ place. place < length spans.now) places.now }
     ensures there { IfOk result (λ family. All (λ mark. mark.place < length spans.now) family.marks.items) }
-    ensures parents { IfOk result (λ family. family.parents.items ≡ map (parent_in family.marks.items) family.marks.items) }
+    ensures parents { IfOk result (λ family.
+        family.parents.items ≡ map (parent_in family.marks.items) family.marks.items) }
 {
     let marks = marks_of(alloc, spans, places)?;
     let parents = parents_of(alloc, &marks)?;

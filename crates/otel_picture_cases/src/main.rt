@@ -2,8 +2,8 @@
 //! Empty lines and lines that begin with `#` are left out. A row that is written otherwise than here is answered by
 //! `bad row`.
 //!
-//! A row is `text COLUMNS SPAN ..` or `svg SPAN ..`, between single spaces, and a span, whose parts stand between slashes,
-//! is
+//! A row is `text COLUMNS SPAN ..` or `svg SPAN ..`, between single spaces, and a span, whose parts stand between
+//! slashes, is
 //!
 //!     TRACE/SPAN/PARENT/START/END/STATUS/NAME
 //!
