@@ -2,8 +2,9 @@
 -- Sampling"): sub-keys `key:value` between semicolons. A sub-key that stands twice is read where it stands first.
 use Rattle.std.specs.Prelude.{ℕ, Bool, not, ◌&&◌, nat_lt, ◌==◌, if◌then◌else◌, List}
 use Rattle.std.specs.Prelude.{[], ◌∷◌, ◌++◌, length, Option, Some, None}
-use Rattle.std.specs.List.{after_first, before_first, filter, join_with_byte, position_or_len, slice_split}
+use Rattle.std.specs.List.{after_first, before_first, filter, join_with_byte, position_or_len}
 use Rattle.std.specs.Option.{option_map_or}
+use Rattle.opentelemetry.specs.Members.{pieces_at, semicolon}
 use Rattle.opentelemetry.specs.Same.{same_text}
 use Rattle.opentelemetry.specs.Tracestate.{is_some_text, is_value, value_of_key, without_key}
 use Rattle.otel_probability.specs.Numbers.{every_number, randomness_of_id, randomness_of_text, threshold_of_text}
@@ -34,7 +35,7 @@ has_sub_key name member =
 
 -- the members of the entry: what stands between semicolons
 abbrev pub entry_members : List ℕ → List (List ℕ)
-entry_members entry = slice_split (λ b. b == 59) entry
+entry_members entry = pieces_at semicolon entry
 
 -- the first value of a sub-key among members
 abbrev pub sub_value : List ℕ → List (List ℕ) → Option (List ℕ)
@@ -52,7 +53,7 @@ other_members entry = filter stays (entry_members entry)
 
 -- the text of an entry of these members
 abbrev pub entry_text : List (List ℕ) → List ℕ
-entry_text members = join_with_byte 59 members
+entry_text members = join_with_byte semicolon members
 
 -- the entry of a trace state; the empty one where there is none
 abbrev pub entry_of : Pairs → List ℕ
