@@ -1,8 +1,9 @@
 -- What a provider is made of where strings configure it (OpenTelemetry specification, "General SDK Configuration").
-use Rattle.std.specs.Prelude.{◌≡◌, ◌⊎◌, ℕ, List, [], ◌∷◌, codes}
+use Rattle.std.specs.Prelude.{◌≡◌, ◌⊎◌, ℕ, List, [], ◌∷◌, Option, codes}
 use Rattle.rand_xoshiro.specs.SplitMix64.{splitmix_seed}
 use Rattle.rand_xoshiro.specs.Xoshiro256.{of_seed}
 use Rattle.otel_sampling.specs.ConfigStrings.{PlainConfigStrings, IsConfigured, IsConfiguredNumber, IsConfiguredRatio}
+use Rattle.otel_sampling.specs.ConfigStrings.{IsConfiguredLength}
 use Rattle.otel_resource.specs.DetectedResource.{IsDetected}
 use Rattle.otel_sampling.specs.Limits.{default_limits}
 use Rattle.otel_sampling.specs.Ratio.{PlainRatio}
@@ -35,16 +36,28 @@ IsConfiguredSampler strings sampler =
     (ratio : PlainRatio) × IsConfiguredRatio strings.sampler_arg ratio
     × IsConfigured (IsNamed (sampler_names ratio)) strings.sampler (parent_based always_on) sampler
 
+-- a number that a string of its own configures, and where that says nothing a general one, and else the default
+pub record IsConfiguredBehind {A : Type 0} (Configured : Option (List ℕ) → A → A → Type 0)
+    (own general : Option (List ℕ)) (default value : A) : Type 0 where
+  pub behind : A
+  pub in_general : Configured general default behind
+  pub in_own : Configured own behind value
+
 -- the limits that are configured, the default ones where nothing else is said
 pub record AreConfiguredLimits (strings : PlainConfigStrings) (limits : SpanLimits) : Type 0 where
-  pub attributes : IsConfiguredNumber 32 strings.attribute_count_limit default_limits.max_attributes_per_span
-      limits.max_attributes_per_span
+  pub attributes : IsConfiguredBehind (IsConfiguredNumber 32) strings.attribute_count_limit
+      strings.general_attribute_count_limit default_limits.max_attributes_per_span limits.max_attributes_per_span
   pub events : IsConfiguredNumber 32 strings.event_count_limit default_limits.max_events_per_span
       limits.max_events_per_span
   pub links : IsConfiguredNumber 32 strings.link_count_limit default_limits.max_links_per_span
       limits.max_links_per_span
-  pub attributes_per_event : limits.max_attributes_per_event ≡ default_limits.max_attributes_per_event
-  pub attributes_per_link : limits.max_attributes_per_link ≡ default_limits.max_attributes_per_link
+  pub attributes_per_event : IsConfiguredNumber 32 strings.event_attribute_count_limit
+      default_limits.max_attributes_per_event limits.max_attributes_per_event
+  pub attributes_per_link : IsConfiguredNumber 32 strings.link_attribute_count_limit
+      default_limits.max_attributes_per_link limits.max_attributes_per_link
+  pub value_length : IsConfiguredBehind IsConfiguredLength strings.attribute_value_length_limit
+      strings.general_attribute_value_length_limit default_limits.max_attribute_value_length
+      limits.max_attribute_value_length
 
 -- what strings and a seed configure
 pub record IsConfigOf {C G : Type 0} (strings : PlainConfigStrings) (seed : ℕ)

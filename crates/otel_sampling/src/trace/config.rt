@@ -5,7 +5,7 @@
 ghost use Rattle.std.specs.Prelude.{◌≡◌, IfOk, OnErr, OnOk, string_bytes};
 ghost use Rattle.std.specs.Option.{option_map};
 ghost use Rattle.otel_sampling.specs.Config.{AreConfiguredLimits, IsConfigOf, IsConfiguredSampler};
-ghost use Rattle.otel_sampling.specs.ConfigStrings.{IsConfiguredNumber, IsConfiguredRatio};
+ghost use Rattle.otel_sampling.specs.ConfigStrings.{IsConfiguredLength, IsConfiguredNumber, IsConfiguredRatio, is_true};
 ghost use Rattle.otel_sampling.specs.Sampler.{parent_based, plan};
 
 use crate::trace::{
@@ -50,8 +50,20 @@ impl Model for BatchStrings {
 pub struct ConfigStrings {
     pub resource: ResourceStrings,
     pub batch: BatchStrings,
+    /// Whether no span is to record, usually of `OTEL_SDK_DISABLED`: it is where this is `true`, in whatever case.
+    pub sdk_disabled: Option<String>,
     /// How many attributes a span keeps, usually of `OTEL_SPAN_ATTRIBUTE_COUNT_LIMIT`.
     pub attribute_count_limit: Option<String>,
+    /// The same where that says nothing, usually of `OTEL_ATTRIBUTE_COUNT_LIMIT`.
+    pub general_attribute_count_limit: Option<String>,
+    /// How many attributes an event keeps, usually of `OTEL_EVENT_ATTRIBUTE_COUNT_LIMIT`.
+    pub event_attribute_count_limit: Option<String>,
+    /// How many attributes a link keeps, usually of `OTEL_LINK_ATTRIBUTE_COUNT_LIMIT`.
+    pub link_attribute_count_limit: Option<String>,
+    /// How many characters a text among attributes keeps, usually of `OTEL_SPAN_ATTRIBUTE_VALUE_LENGTH_LIMIT`.
+    pub attribute_value_length_limit: Option<String>,
+    /// The same where that says nothing, usually of `OTEL_ATTRIBUTE_VALUE_LENGTH_LIMIT`.
+    pub general_attribute_value_length_limit: Option<String>,
     /// How many events a span keeps, usually of `OTEL_SPAN_EVENT_COUNT_LIMIT`.
     pub event_count_limit: Option<String>,
     /// How many links a span keeps, usually of `OTEL_SPAN_LINK_COUNT_LIMIT`.
@@ -73,12 +85,30 @@ impl Model for ConfigStrings {
     ghost view = { λ s. record {
       resource = s.resource;
       batch = s.batch;
+      sdk_disabled = option_map string_bytes s.sdk_disabled;
       attribute_count_limit = option_map string_bytes s.attribute_count_limit;
+      general_attribute_count_limit = option_map string_bytes s.general_attribute_count_limit;
+      event_attribute_count_limit = option_map string_bytes s.event_attribute_count_limit;
+      link_attribute_count_limit = option_map string_bytes s.link_attribute_count_limit;
+      attribute_value_length_limit = option_map string_bytes s.attribute_value_length_limit;
+      general_attribute_value_length_limit = option_map string_bytes s.general_attribute_value_length_limit;
       event_count_limit = option_map string_bytes s.event_count_limit;
       link_count_limit = option_map string_bytes s.link_count_limit;
       sampler = option_map string_bytes s.sampler;
       sampler_arg = option_map string_bytes s.sampler_arg;
     } };
+}
+
+impl ConfigStrings {
+    /// Whether no span is to record.
+    pub fn is_sdk_disabled(&self) -> bool
+        ensures { result ≡ is_true self.now.sdk_disabled }
+    {
+        match &self.sdk_disabled {
+            Some(text) => text.eq_ignore_ascii_case("true"),
+            None => false,
+        }
+    }
 }
 
 /// What a provider is made of besides its processors, over a sampler and a generator of ids of any one kind each.
@@ -191,14 +221,27 @@ fn configured_limits(strings: &ConfigStrings) -> SpanLimits
     ensures { AreConfiguredLimits strings.now result }
 {
     let defaults = SpanLimits::default();
+    let attributes = count_or(
+        &strings.general_attribute_count_limit,
+        defaults.max_attributes_per_span,
+    );
+    let value_length = length_or(
+        &strings.general_attribute_value_length_limit,
+        defaults.max_attribute_value_length,
+    );
     SpanLimits {
         max_events_per_span: count_or(&strings.event_count_limit, defaults.max_events_per_span),
-        max_attributes_per_span: count_or(
-            &strings.attribute_count_limit,
-            defaults.max_attributes_per_span,
-        ),
+        max_attributes_per_span: count_or(&strings.attribute_count_limit, attributes),
         max_links_per_span: count_or(&strings.link_count_limit, defaults.max_links_per_span),
-        ..defaults
+        max_attributes_per_event: count_or(
+            &strings.event_attribute_count_limit,
+            defaults.max_attributes_per_event,
+        ),
+        max_attributes_per_link: count_or(
+            &strings.link_attribute_count_limit,
+            defaults.max_attributes_per_link,
+        ),
+        max_attribute_value_length: length_or(&strings.attribute_value_length_limit, value_length),
     }
 }
 
@@ -208,6 +251,19 @@ fn count_or(given: &Option<String>, default: u32) -> u32
 {
     match given {
         Some(text) => text.as_str().parse::<u32>().unwrap_or(default),
+        None => default,
+    }
+}
+
+/// The length that a string writes, and else this one.
+fn length_or(given: &Option<String>, default: Option<u32>) -> Option<u32>
+    ensures { IsConfiguredLength (option_map string_bytes given.now) default result }
+{
+    match given {
+        Some(text) => match text.as_str().parse::<u32>() {
+            Ok(length) => Some(length),
+            Err(_) => default,
+        },
         None => default,
     }
 }
