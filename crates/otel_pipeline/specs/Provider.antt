@@ -1,5 +1,5 @@
 -- What contracts see of a provider, what a flush and a shutdown do to it, and what its close reports.
-use Rattle.std.specs.Prelude.{◌≡◌, ℕ, ◌↔◌, Bool, true, List, Result, IsOk, IfErr, OnOk, sum_by, unwrap_or}
+use Rattle.std.specs.Prelude.{◌≡◌, ℕ, ◌↔◌, Bool, true, List, [], Result, Ok, Err, IsOk, IfErr, OnOk, sum_by, unwrap_or}
 use Rattle.otel_export.specs.declared.error.OTelSdkError.{OTelSdkError}
 use Rattle.otel_export.specs.declared.error.OTelSdkError.TheVariants as errors
 use Rattle.otel_sampling.specs.declared.trace.span_limit.SpanLimits.{SpanLimits}
@@ -10,13 +10,19 @@ use Rattle.otel_pipeline.specs.declared.trace.span_processor.SpanProcessor.{Ghos
 use Rattle.otel_pipeline.specs.declared.trace.drain_due.DrainDue as timing
 use Rattle.otel_pipeline.specs.declared.trace.leaves_spans.LeavesSpans as leaving
 
--- a provider: its processors, what each start asks and is handed, and whether it is shut
+-- a provider: its processors, what each start asks and is handed, whether it is shut, and whether it was disabled
 pub record ProviderState (P S G : Type 0) : Type 0 where
   pub processors : List P
   pub sampler : S
   pub id_generator : G
   pub span_limits : SpanLimits
   pub is_shut : Bool
+  pub is_disabled : Bool
+
+-- what a shutdown answers where the provider is shut: an error, but Ok where it was disabled, and so has no processors
+abbrev pub shut_answer : {P : Type 0} → Bool → List P → Result (Unit {0}) OTelSdkError
+shut_answer true [] = Ok tt
+shut_answer _ _ = Err errors.AlreadyShutdown
 
 -- a failure of the SDK that is not one of the named ones
 abbrev pub IsInternalFailure : OTelSdkError → Type 0

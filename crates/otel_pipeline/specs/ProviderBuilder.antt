@@ -1,9 +1,9 @@
 -- What a provider is made of, step by step, and what making it does (OpenTelemetry specification, "TracerProvider
 -- Creation").
-use Rattle.std.specs.Prelude.{◌≡◌, ◌<◌, ℕ, Bool, true, false, List, [], Result}
+use Rattle.std.specs.Prelude.{◌≡◌, ◌<◌, ℕ, Bool, true, false, List, [], Result, MatchBool}
 use Rattle.std.specs.declared.alloc.AllocError.{AllocError}
 use Rattle.otel_sampling.specs.Config.{IsConfigOf}
-use Rattle.otel_sampling.specs.ConfigStrings.{PlainBatchStrings, PlainConfigStrings}
+use Rattle.otel_sampling.specs.ConfigStrings.{PlainBatchStrings, PlainConfigStrings, is_true}
 use Rattle.otel_resource.specs.Resource.{PlainResource, merge}
 use Rattle.otel_sampling.specs.declared.trace.config.ConfigOf.{ConfigOf}
 use Rattle.otel_sampling.specs.declared.trace.id_generator.IdSourceOf.{IdSourceOf}
@@ -13,13 +13,14 @@ use Rattle.otel_pipeline.specs.Each.{AsksAll}
 use Rattle.otel_pipeline.specs.Provider.{ProviderState}
 use Rattle.otel_pipeline.specs.declared.trace.span_processor.SpanProcessor.{Ghosts}
 
--- a builder: its processors, what else the provider is made of, the strings of its batch processors, and whether its
--- resource was handed in
+-- a builder: its processors, what else the provider is made of, the strings of its batch processors, whether its
+-- resource was handed in, and whether the provider is to record nothing
 pub record BuilderState (P S G : Type 0) : Type 0 where
   pub processors : List P
   pub config : ConfigOf S G
   pub batch_strings : PlainBatchStrings
   pub has_given_resource : Bool
+  pub is_disabled : Bool
 
 -- the builder that strings and a seed begin: it has no processor, and what they configure
 pub record BeginsBy {P C G : Type 0} (strings : PlainConfigStrings) (seed : ℕ)
@@ -28,6 +29,7 @@ pub record BeginsBy {P C G : Type 0} (strings : PlainConfigStrings) (seed : ℕ)
   pub config : IsConfigOf strings seed builder.config
   pub batch_strings : builder.batch_strings ≡ strings.batch
   pub has_given_resource : builder.has_given_resource ≡ false
+  pub is_disabled : builder.is_disabled ≡ is_true strings.sdk_disabled
 
 -- a builder of other limits
 abbrev pub with_limits : {P S G : Type 0} → BuilderState P S G → SpanLimits → BuilderState P S G
@@ -56,7 +58,12 @@ open_provider processors config = record {
   id_generator = config.id_generator;
   span_limits = config.span_limits;
   is_shut = false;
+  is_disabled = false;
 }
+
+-- the provider of a configuration that records nothing: it is shut from the first, and has no processors
+abbrev pub disabled_provider : {P S G : Type 0} → ConfigOf S G → ProviderState P S G
+disabled_provider config = record (open_provider [] config) { is_shut = true; is_disabled = true }
 
 module _ {P : Type 0} (calls : Ghosts P) where
   -- a processor was told the resource: it answers as its call can, and tells what it told
@@ -65,13 +72,19 @@ module _ {P : Type 0} (calls : Ghosts P) where
     pub gives : calls.resource_gives old resource answer new
     pub told : calls.told new ≡ calls.told old
 
-  -- the provider that a builder makes is open, and each processor took its resource
+  -- the provider that a builder opens, where each processor took its resource
   pub record Opens {S G : Type 0} (builder : BuilderState P S G) (provider : ProviderState P S G) : Type 0 where
     pub told : AsksAll (TakesResource builder.config.resource) builder.processors provider.processors 0
     pub rest : provider ≡ open_provider provider.processors builder.config
 
+  -- the provider that a builder makes: one that records nothing where it was disabled
+  abbrev pub Builds : {S G : Type 0} → BuilderState P S G → ProviderState P S G → Type 0
+  Builds builder provider =
+      MatchBool builder.is_disabled (provider ≡ disabled_provider builder.config) (Opens builder provider)
+
   -- each processor of a builder was told its resource, and some refused it
   pub record RefusesResource {S G : Type 0} (old new : BuilderState P S G) : Type 0 where
+    pub is_enabled : old.is_disabled ≡ false
     pub refused : ℕ
     pub some : 0 < refused
     pub told : AsksAll (TakesResource old.config.resource) old.processors new.processors refused

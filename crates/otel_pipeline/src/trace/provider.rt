@@ -11,8 +11,8 @@ ghost use Rattle.otel_pipeline.specs.Deliveries.{EachFollows};
 ghost use Rattle.otel_pipeline.specs.Each.{AsksAll, AsksFirst};
 ghost use Rattle.otel_pipeline.specs.Ending.{TakesAndTells};
 ghost use Rattle.otel_pipeline.specs.Provider.{Flushes, FlushesProcessor, IsInternalFailure, RunsDue, RunsProcessor};
-ghost use Rattle.otel_pipeline.specs.Provider.{ReportsLeft, ShutsDown, ShutsProcessor};
-ghost use Rattle.otel_pipeline.specs.ProviderBuilder.{open_provider};
+ghost use Rattle.otel_pipeline.specs.Provider.{ReportsLeft, ShutsDown, ShutsProcessor, shut_answer};
+ghost use Rattle.otel_pipeline.specs.ProviderBuilder.{disabled_provider, open_provider};
 ghost use Rattle.otel_pipeline.specs.Starting.{DrawsIds, PassesThrough};
 ghost use Rattle.otel_pipeline.specs.SpanHistory.{IsEdited, ended_at};
 
@@ -32,6 +32,8 @@ pub struct ProviderOf<P, S, G> {
     id_generator: G,
     span_limits: SpanLimits,
     is_shut: bool,
+    // Such a provider has no processors.
+    is_disabled: bool,
 }
 
 impl<P, S, G> Model for ProviderOf<P, S, G> {
@@ -45,6 +47,7 @@ impl<P, S, G> Model for ProviderOf<P, S, G> {
       id_generator = a.id_generator;
       span_limits = a.span_limits;
       is_shut = a.is_shut;
+      is_disabled = a.is_disabled;
     } };
 }
 
@@ -180,10 +183,10 @@ impl<P: SpanProcessor, S: Drop, G: Drop> ProviderOf<P, S, G> {
 
     /// Shuts every processor down, also after one failed; a test shows that they are asked first to last. A second
     /// shutdown answers `AlreadyShutdown` and asks none; failures of processors are an `InternalFailure` that counts
-    /// them.
+    /// them. Where the SDK is disabled each shutdown is Ok.
     pub fn shutdown_with_timeout(&mut self, timeout: Duration) -> OTelSdkResult
         ensures again { OnTrue self.old.is_shut
-            (IsErrOf result OTelSdkError.AlreadyShutdown × (self.new ≡ self.old)) }
+            ((result ≡ shut_answer self.old.is_disabled self.old.processors) × (self.new ≡ self.old)) }
         ensures first { OnFalse self.old.is_shut
             (ShutsDown P.SpanProcessor self.old (as_nanos timeout) result self.new) }
 
@@ -191,7 +194,7 @@ impl<P: SpanProcessor, S: Drop, G: Drop> ProviderOf<P, S, G> {
         ensures told { EachFollows P.SpanProcessor [] self.old.processors self.new.processors }
     {
         if self.is_shut {
-            return Err(OTelSdkError::AlreadyShutdown);
+            return self.shut_answer();
         }
         self.is_shut = true;
         let failed = shutdown_each(&mut self.processors, timeout);
@@ -201,11 +204,21 @@ impl<P: SpanProcessor, S: Drop, G: Drop> ProviderOf<P, S, G> {
     /// The same with 5 seconds.
     pub fn shutdown(&mut self) -> OTelSdkResult
         ensures again { OnTrue self.old.is_shut
-            (IsErrOf result OTelSdkError.AlreadyShutdown × (self.new ≡ self.old)) }
+            ((result ≡ shut_answer self.old.is_disabled self.old.processors) × (self.new ≡ self.old)) }
         ensures first { OnFalse self.old.is_shut (ShutsDown P.SpanProcessor self.old 5_000_000_000 result self.new) }
         ensures told { EachFollows P.SpanProcessor [] self.old.processors self.new.processors }
     {
         self.shutdown_with_timeout(Duration::from_secs(5))
+    }
+
+    /// What a shutdown answers where the provider is shut.
+    fn shut_answer(&self) -> OTelSdkResult
+        ensures { result ≡ shut_answer self.now.is_disabled self.now.processors }
+    {
+        if self.is_disabled && self.processors.is_empty() {
+            return Ok(());
+        }
+        Err(OTelSdkError::AlreadyShutdown)
     }
 }
 
@@ -237,6 +250,7 @@ impl<P: LeavesSpans, S: Drop, G: Drop> ProviderOf<P, S, G> {
             id_generator: _,
             span_limits: _,
             is_shut: _,
+            is_disabled: _,
         } = self;
         CloseReport {
             result: answer,
@@ -272,7 +286,18 @@ pub fn provider_over<P, S, G>(processors: Vec<P>, config: ConfigOf<S, G>) -> Pro
         id_generator: config.id_generator,
         span_limits: config.span_limits,
         is_shut: false,
+        is_disabled: false,
     }
+}
+
+/// A provider that records nothing, and has no processors.
+pub(crate) fn provider_of_none<P, S, G>(alloc: Global, config: ConfigOf<S, G>) -> ProviderOf<P, S, G>
+    ensures { result ≡ disabled_provider config }
+{
+    let mut provider = provider_over(Vec::new(alloc), config);
+    provider.is_shut = true;
+    provider.is_disabled = true;
+    provider
 }
 
 /// What is answered where so many processors failed. The reason stays empty where there is no memory for it.

@@ -8,9 +8,9 @@ ghost use Rattle.std.specs.Prelude.{◌≡◌, ◌++◌, [], ◌∷◌, false, t
 ghost use Rattle.std.specs.Bool.{OnFalse};
 ghost use Rattle.otel_pipeline.specs.Each.{AsksAll};
 ghost use Rattle.otel_pipeline.specs.ProviderBuilder as building;
-ghost use Rattle.otel_pipeline.specs.ProviderBuilder.{BeginsBy, Opens, RefusesResource, TakesResource, with_limits};
+ghost use Rattle.otel_pipeline.specs.ProviderBuilder.{BeginsBy, Builds, Opens, RefusesResource, TakesResource, with_limits};
 
-use crate::trace::provider::provider_over;
+use crate::trace::provider::{provider_of_none, provider_over};
 use crate::trace::{OverExporter, ProviderOf, SpanProcessor};
 use otel_resource::resource::Resource;
 use otel_sampling::trace::{
@@ -28,6 +28,7 @@ pub struct ProviderBuilderOf<P, S, G> {
     config: ConfigOf<S, G>,
     batch_strings: BatchStrings,
     has_given_resource: bool,
+    is_disabled: bool,
 }
 
 impl<P, S, G> Model for ProviderBuilderOf<P, S, G> {
@@ -44,6 +45,7 @@ impl<P, S, G> Model for ProviderBuilderOf<P, S, G> {
       config = a.config;
       batch_strings = a.batch_strings;
       has_given_resource = a.has_given_resource;
+      is_disabled = a.is_disabled;
     } };
 }
 
@@ -64,7 +66,11 @@ impl<P> ProviderOf<P, Sampler, IdSource> {
         };
         config.set_from_strings(alloc, strings, seed)?;
         let batch_strings = strings.batch.clone()?;
-        Ok(ProviderOf::builder_with_config(alloc, config, batch_strings))
+        let builder = ProviderOf::builder_with_config(alloc, config, batch_strings);
+        Ok(ProviderBuilderOf {
+            is_disabled: strings.is_sdk_disabled(),
+            ..builder
+        })
     }
 }
 
@@ -81,6 +87,7 @@ impl<P, S, G> ProviderOf<P, S, G> {
           config = config;
           batch_strings = batch_strings;
           has_given_resource = false;
+          is_disabled = false;
         } }
     {
         ProviderBuilderOf {
@@ -88,6 +95,7 @@ impl<P, S, G> ProviderOf<P, S, G> {
             config,
             batch_strings,
             has_given_resource: false,
+            is_disabled: false,
         }
     }
 }
@@ -255,17 +263,32 @@ impl<P, S, C: Drop> ProviderBuilderOf<P, S, IdSourceOf<C>> {
 impl<P: SpanProcessor, S, G> ProviderBuilderOf<P, S, G> {
     /// An open provider. Each processor is told the resource before, in its turn and also after one refused it.
     /// Where any of them had no memory to keep it, the builder that comes back has the processors as they are
-    /// then, and its next `build` tells all of them again.
+    /// then, and its next `build` tells all of them again. Where the strings disabled the SDK the processors are
+    /// dropped, and the provider records nothing.
     pub fn build(self) -> Result<ProviderOf<P, S, G>, AllocFailed<Self>>
         ensures { MatchResult result
-            (Opens P.SpanProcessor self)
+            (Builds P.SpanProcessor self)
             (λ failed. RefusesResource P.SpanProcessor self failed.value) }
+    {
+        if self.is_disabled {
+            let alloc = self.allocator();
+            return Ok(provider_of_none(alloc, self.config));
+        }
+        self.opened()
+    }
+
+    /// The open provider.
+    fn opened(self) -> Result<ProviderOf<P, S, G>, AllocFailed<Self>>
+        ensures { MatchResult result
+            (Opens P.SpanProcessor self)
+            (λ failed. self.is_disabled ≡ false → RefusesResource P.SpanProcessor self failed.value) }
     {
         let ProviderBuilderOf {
             mut processors,
             config,
             batch_strings,
             has_given_resource,
+            is_disabled,
         } = self;
         if tell_each(&mut processors, &config.resource) > 0 {
             let builder = ProviderBuilderOf {
@@ -273,6 +296,7 @@ impl<P: SpanProcessor, S, G> ProviderBuilderOf<P, S, G> {
                 config,
                 batch_strings,
                 has_given_resource,
+                is_disabled,
             };
             return Err(AllocFailed { value: builder });
         }
