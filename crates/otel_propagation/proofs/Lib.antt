@@ -5,6 +5,7 @@ pub mod BaggagePieceLemmas
 pub mod BaggageRoundTrip
 pub mod BaggageTextLemmas
 pub mod CompositeLemmas
+pub mod CompositeListLemmas
 pub mod TextPieces
 pub mod TraceparentLemmas
 pub mod TrimLemmas

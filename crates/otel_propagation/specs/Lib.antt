@@ -1,4 +1,6 @@
 pub mod BaggageHeader
 pub mod BaggagePieces
 pub mod Composite
+pub mod CompositeList
+pub mod PropagatorKinds
 pub mod Traceparent

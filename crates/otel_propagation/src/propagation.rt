@@ -2,8 +2,12 @@
 
 pub mod baggage;
 pub mod composite;
+pub mod composite_list;
+pub mod propagator_kinds;
 pub mod trace_context;
 
 pub use baggage::BaggagePropagator;
 pub use composite::{CompositePropagator, FieldsError};
+pub use composite_list::{ListFieldsError, TextMapCompositePropagator};
+pub use propagator_kinds::PropagatorOf;
 pub use trace_context::TraceContextPropagator;

@@ -109,9 +109,9 @@ impl<A: TextMapPropagator, B: TextMapPropagator> TextMapPropagator for Composite
     }
 }
 
-/// How many names of a list stand before what further ones add to its first `given` ones. None where they add what does
-/// not stand there.
-fn names_added(list: &[&str], given: usize, names: FieldIter) -> Option<usize>
+// How many names of a list stand before what further ones add to its first `given` ones. None where they add what does
+// not stand there.
+pub(super) fn names_added(list: &[&str], given: usize, names: FieldIter) -> Option<usize>
     requires { given ≤ length list.now }
     ensures { MatchOption result
         ((more : List (List ℕ)) → names_of list.now ≢ joined_onto (take given (names_of list.now)) names ++ more)
