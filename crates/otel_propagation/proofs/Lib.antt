@@ -6,6 +6,7 @@ pub mod BaggageRoundTrip
 pub mod BaggageTextLemmas
 pub mod CompositeLemmas
 pub mod CompositeListLemmas
+pub mod ConfiguredLemmas
 pub mod TextPieces
 pub mod TraceparentLemmas
 pub mod TrimLemmas

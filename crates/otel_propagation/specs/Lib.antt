@@ -2,5 +2,6 @@ pub mod BaggageHeader
 pub mod BaggagePieces
 pub mod Composite
 pub mod CompositeList
+pub mod ConfiguredPropagators
 pub mod PropagatorKinds
 pub mod Traceparent

@@ -3,11 +3,13 @@
 pub mod baggage;
 pub mod composite;
 pub mod composite_list;
+pub mod configured;
 pub mod propagator_kinds;
 pub mod trace_context;
 
 pub use baggage::BaggagePropagator;
 pub use composite::{CompositePropagator, FieldsError};
 pub use composite_list::{ListFieldsError, TextMapCompositePropagator};
+pub use configured::{ConfiguredPropagators, configured_propagators};
 pub use propagator_kinds::PropagatorOf;
 pub use trace_context::TraceContextPropagator;

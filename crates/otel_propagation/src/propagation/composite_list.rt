@@ -19,8 +19,8 @@ pub struct ListFieldsError;
 /// Injects by each propagator in turn until one is refused, and extracts in the same order.
 #[derive(Debug, Drop)]
 pub struct TextMapCompositePropagator<P> {
-    propagators: Vec<P>,
-    fields: &'static [&'static str],
+    pub(super) propagators: Vec<P>,
+    pub(super) fields: &'static [&'static str],
 }
 
 impl<P: TextMapPropagator + Drop> TextMapCompositePropagator<P> {
