@@ -1,14 +1,19 @@
 //! The laws of headers, over the definitions alone. Each function does nothing; its contract is the law, for all values.
 
-ghost use Rattle.std.specs.Prelude.{◌≡◌, ℕ, List, All};
+ghost use Rattle.std.specs.Prelude.{◌≡◌, ◌↔◌, ℕ, List, [], ◌∷◌, All, Result};
+ghost use Rattle.std.specs.declared.alloc.AllocError.{AllocError};
 ghost use Rattle.opentelemetry.specs.PlainContexts.{current_span_context};
 ghost use Rattle.opentelemetry.specs.Plain.{PlainContext, PlainSpanContext};
 ghost use Rattle.opentelemetry.specs.Baggage.{PlainBaggage};
 ghost use Rattle.opentelemetry.specs.Carrier.{Texts};
 ghost use Rattle.otel_propagation.specs.BaggageHeader.{entries_of, header_of, Carries, InjectsBaggage, IsBaggage};
 ghost use Rattle.otel_propagation.specs.BaggageHeader.{IsCarriedUnchanged, IsSaidUnchanged};
+ghost use Rattle.otel_propagation.specs.Composite.{BothAreInfallible, ExtractsBoth, InjectsBoth, joined};
+ghost use Rattle.otel_propagation.specs.CompositeList.{ExtractsEach, InjectsEach, ListIsInfallible, fields_onto};
 ghost use Rattle.otel_propagation.specs.Traceparent.{CarriesSpan, InjectsTraceContext, IsSpanContext};
 ghost use Rattle.otel_propagation.specs.Traceparent.{IsTraceparent, IsValid};
+
+use opentelemetry::propagation::TextMapPropagator;
 
 /// The header of a baggage reads back as it, in order, where each entry is said unchanged.
 pub fn baggage_headers_read_back()
@@ -34,4 +39,19 @@ pub fn injected_span_context_is_carried()
     ensures { (cx : PlainContext) (old new : Texts) → IsSpanContext (current_span_context cx)
         → IsValid (current_span_context cx)
         → InjectsTraceContext cx old (Ok tt) new → CarriesSpan new (current_span_context cx) }
+{}
+
+/// A list of two propagators says what the pair of them says.
+pub fn two_in_a_list_are_a_pair<P: TextMapPropagator>()
+    ensures injects { (a b : P) (cx : PlainContext) (old new : Texts) (result : Result (Unit {0}) AllocError)
+        → InjectsEach P.inject_gives (a ∷ b ∷ []) cx old result new
+        ↔ InjectsBoth (P.inject_gives a) (P.inject_gives b) cx old result new }
+    ensures extracts { (a b : P) (cx found : PlainContext) (texts : Texts)
+        → ExtractsEach P.extract_gives (a ∷ b ∷ []) cx texts found
+        ↔ ExtractsBoth (P.extract_gives a) (P.extract_gives b) cx texts found }
+    ensures infallible { (a b : P) (cx : PlainContext) (texts : Texts)
+        → ListIsInfallible P.extract_gives P.extract_is_infallible (a ∷ b ∷ []) cx texts
+        ↔ BothAreInfallible (P.extract_gives a) (P.extract_is_infallible a) (P.extract_is_infallible b) cx texts }
+    ensures fields { (a b : P) → fields_onto P.field_names [] (a ∷ b ∷ [])
+        ≡ joined (P.field_names a) (P.field_names b) }
 {}

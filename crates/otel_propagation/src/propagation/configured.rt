@@ -168,7 +168,10 @@ fn composite_of<C: TextMapPropagator + Drop>(
     })
 }
 
-fn propagators_of<C: Drop>(alloc: Global, built_ins: BuiltIns) -> Result<Vec<PropagatorOf<C>>, AllocError>
+fn propagators_of<C: Drop>(
+    alloc: Global,
+    built_ins: BuiltIns,
+) -> Result<Vec<PropagatorOf<C>>, AllocError>
     ensures { IfOk result (λ propagators. propagators.items ≡ built_in_propagators built_ins) }
 {
     let trace_context = PropagatorOf::TraceContext(TraceContextPropagator);

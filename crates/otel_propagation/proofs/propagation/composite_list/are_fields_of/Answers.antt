@@ -9,6 +9,6 @@ returns-in_default g c =
     let names = g.P.TextMapPropagator.field_names in (
       search rules,
       λ same. absurd (other_fields names (names_of c.args.fields.now) (take c.loop-propagator.given (names_of c.args.fields.now)) c.fields.result
-      (fields_onto names [] c.args.propagators.now) c.args.propagators.now c.loop-propagator.propagator-index c.propagator-item.result
-      (omega arith) (search rules) c.fields.ensures c.loop-propagator.invariant.joined c.in_default.ensures same),
+          (fields_onto names [] c.args.propagators.now) c.args.propagators.now c.loop-propagator.propagator-index c.propagator-item.result
+          (omega arith) (search rules) c.fields.ensures c.loop-propagator.invariant.joined c.in_default.ensures same),
     )
