@@ -3,6 +3,7 @@
 
 mod clones;
 mod composite;
+mod composite_list;
 mod copies;
 mod crossing;
 mod error;

@@ -1,4 +1,5 @@
-//! The three headers of the built-in pair of propagators, and the names of each propagator's headers.
+//! The three headers of the built-in pair of propagators, the names of each propagator's headers, and the propagators
+//! that a text configures.
 
 use super::trace::{carrier_of, context_of};
 use super::{put_active, set_given, text_at};
@@ -7,7 +8,8 @@ use crate::values::{baggage_of, put_entries};
 use opentelemetry::Context;
 use opentelemetry::propagation::{FieldIter, MapCarrier, TextMapPropagator};
 use otel_propagation::propagation::{
-    BaggagePropagator, CompositePropagator, FieldsError, TraceContextPropagator,
+    BaggagePropagator, CompositePropagator, FieldsError, ListFieldsError, TraceContextPropagator,
+    configured_propagators,
 };
 use std::alloc::{AllocError, Global};
 
@@ -22,6 +24,8 @@ pub fn answer(alloc: Global, row: &Row, out: &mut String) -> Result<bool, RowErr
         "extract-all" => put_extracted(alloc, row, out)?,
         "header-names" => put_names(fields_of(row.field(0))?, out)?,
         "header-names-error" => put_error(FieldsError, out)?,
+        "list-names-error" => put_list_error(ListFieldsError, out)?,
+        "propagators" => put_configured(alloc, row.given(0), out)?,
         _ => return Ok(false),
     }
     Ok(true)
@@ -98,4 +102,20 @@ fn put_names(fields: FieldIter, out: &mut String) -> Result<(), AllocError> {
 /// Puts out what an error says.
 fn put_error(error: FieldsError, out: &mut String) -> Result<(), AllocError> {
     write!(out, "{error}")
+}
+
+/// Puts out what the error of a list says.
+fn put_list_error(error: ListFieldsError, out: &mut String) -> Result<(), AllocError> {
+    write!(out, "{error}")
+}
+
+/// Puts out the names of the headers of the propagators that a text configures, and behind question marks the names in
+/// it that are unknown, each with a bar behind it.
+fn put_configured(alloc: Global, text: Option<&str>, out: &mut String) -> Result<(), AllocError> {
+    let configured = configured_propagators::<BuiltIn>(alloc, text)?;
+    put_names(configured.propagator.fields(), out)?;
+    for name in &configured.unknown {
+        write!(out, "?{name}|")?;
+    }
+    Ok(())
 }

@@ -35,8 +35,8 @@ fn three(
     CompositePropagator::new(turned(fields)?, BaggagePropagator::new(), fields)
 }
 
-/// Whether the fields of a propagator have these names.
-fn are_named<P: TextMapPropagator>(
+// Whether the fields of a propagator have these names.
+pub(super) fn are_named<P: TextMapPropagator>(
     alloc: Global,
     propagator: &P,
     wanted: &str,

@@ -6,9 +6,9 @@ use opentelemetry::propagation::{Extractor, FieldIter, Injector, MapCarrier, Tex
 use std::alloc::{AllocError, Global};
 use std::test::Fail;
 
-/// Sets one text, and asks for it when it reads.
+// Sets one text, and asks for it when it reads.
 #[derive(Clone, Copy, Default)]
-struct Greeting;
+pub(super) struct Greeting;
 
 impl TextMapPropagator for Greeting {
     ghost use Rattle.std.specs.Prelude.{◌≡◌, ◌∷◌, [], Some, OnOk, OnErr, codes};

@@ -1,9 +1,9 @@
-use Rattle.std.proofs.Common.{◌≡◌, List, [], ◌∷◌, Result, Ok, Err, refl, sym, ap, subst, inl, inr, ◌∙◌}
+use Rattle.std.proofs.Common.{Result, Ok, Err, refl, sym, subst, inl, inr}
 use Rattle.std.specs.declared.alloc.AllocError.{AllocError}
 use Rattle.opentelemetry.specs.Carrier.{Injection, Texts}
 use Rattle.opentelemetry.specs.Plain.{PlainContext}
-use Rattle.otel_propagation.specs.Composite.{InjectsBoth, Extraction, ExtractsBoth}
-use Rattle.otel_propagation.specs.CompositeList.{InjectsNothing, ExtractsNothing}
+use Rattle.otel_propagation.specs.Composite.{InjectsBoth}
+use Rattle.otel_propagation.specs.CompositeList.{InjectsNothing}
 use Rattle.otel_propagation.proofs.laws.two_in_a_list_are_a_pair.Goals as goal
 
 alone : (those : Injection) (cx : PlainContext) (old new : Texts) (result : Result (Unit {0}) AllocError)
