@@ -1,6 +1,7 @@
 pub mod Agreement
 pub mod Config
 pub mod ConfigStrings
+pub mod GivesAt
 pub mod IdSource
 pub mod Ids
 pub mod Limits
@@ -8,3 +9,4 @@ pub mod Ratio
 pub mod SameSamplingResult
 pub mod Sampler
 pub mod Sampling
+pub mod XrayIds

@@ -5,9 +5,11 @@ pub mod id_generator;
 pub mod ratio;
 pub mod sampler;
 pub mod span_limit;
+pub mod xray_id_generator;
 
 pub use config::{BatchStrings, Config, ConfigOf, ConfigStrings};
 pub use id_generator::{IdGenerator, IdSource, IdSourceOf, RandomIdGenerator};
 pub use ratio::{Ratio, RatioError};
 pub use sampler::{Sampler, SamplerOf, SamplingDecision, SamplingResult, ShouldSample};
 pub use span_limit::SpanLimits;
+pub use xray_id_generator::XrayIdGenerator;
