@@ -18,7 +18,7 @@ use Rattle.otel_propagation.proofs.TraceparentLemmas.{injected_carries}
 use Rattle.otel_pipeline.specs.Hops.{AreDrawnHops, AreHops, GoesByParents, IsChild, IsDrawnChild, IsPassedOn, IsReceived}
 use Rattle.otel_pipeline.specs.Provider.{ProviderState}
 use Rattle.otel_pipeline.specs.SpanHistory.{SpanHistory, SpanStart, over, span_of}
-use Rattle.otel_pipeline.specs.StartRequest.{StartRequest, start_as, start_flags, start_question, start_span_context}
+use Rattle.otel_pipeline.specs.StartRequest.{StartRequest, start_as, start_flags, start_moment, start_question, start_span_context}
 use Rattle.otel_pipeline.specs.Starting.{DecidesStart, DrawsTraceId, Starts, StartsOpen}
 use Rattle.otel_pipeline.specs.declared.trace.span_processor.SpanProcessor.{Ghosts}
 
@@ -132,8 +132,8 @@ module _ {P S G : Type 0} (calls : Ghosts P) (sampler : sampling.Ghosts S) (ids 
   child_of_start old new request history parent by_parents is_open unsuppressed active starts =
       let started = opens old new request history is_open unsuppressed starts in
       let is_parent : current_span_context request.cx ≡ parent = ap (λ (a : Option PlainSpanContext). unwrap_or a empty_span_context) active in
-      let drawn : DrawsTraceId ids (Some parent) started.draws.between started.trace_id new.id_generator =
-      subst (λ (a : Option PlainSpanContext). DrawsTraceId ids a started.draws.between started.trace_id new.id_generator) active started.draws.draws_trace_id in
+      let drawn : DrawsTraceId ids (Some parent) (start_moment request.builder request.now) started.draws.between started.trace_id new.id_generator =
+      subst (λ (a : Option PlainSpanContext). DrawsTraceId ids a (start_moment request.builder request.now) started.draws.between started.trace_id new.id_generator) active started.draws.draws_trace_id in
       let answered = started.asks ∙ by_parents (start_question request.cx started.trace_id request.builder) parent active in (
         started.span_id,
         decided_context calls started.answer.decision request.cx _ old.processors new.processors history started.decided

@@ -9,7 +9,7 @@ use Rattle.otel_sampling.specs.declared.trace.sampler.ShouldSample as sampling
 use Rattle.otel_sampling.specs.declared.trace.id_generator.IdGenerator as drawing
 use Rattle.otel_sampling.specs.Sampling.{PlainSamplingResult}
 use Rattle.otel_pipeline.specs.Provider.{ProviderState}
-use Rattle.otel_pipeline.specs.StartRequest.{StartRequest, start_as, start_question, start_span_context}
+use Rattle.otel_pipeline.specs.StartRequest.{StartRequest, start_as, start_moment, start_question, start_span_context}
 use Rattle.otel_pipeline.specs.Starting.{AnswersStart, DrawsIds, PassesThrough, Records, DecidesStart, Starts, StartsOpen}
 use Rattle.otel_pipeline.specs.SpanHistory.{PlainSpan, SpanStart, SpanHistory, begun, over, span_of, IsEdited, after, recording, not_recording}
 use Rattle.otel_pipeline.specs.declared.trace.span_processor.SpanProcessor.{Ghosts}
@@ -56,7 +56,7 @@ module _ {P S G : Type 0} (calls : Ghosts P) (sampler : sampling.Ghosts S) (ids 
   -- what the sampler decided, from the provider behind the draws
   opened : (old drawn new : ProviderState P S G) (request : StartRequest) (trace_id span_id : ℕ) (answer : PlainSamplingResult) (history : SpanHistory)
       → (old.is_shut || request.cx.telemetry_suppressed) ≡ false
-      → DrawsIds ids request.cx.span_context old.id_generator trace_id span_id drawn.id_generator → drawn ≡ record old { id_generator = drawn.id_generator }
+      → DrawsIds ids request.cx.span_context (start_moment request.builder request.now) old.id_generator trace_id span_id drawn.id_generator → drawn ≡ record old { id_generator = drawn.id_generator }
       → answer ≡ sampler.answer drawn.sampler (start_question request.cx trace_id request.builder)
       → DecidesStart calls answer.decision request.cx (start_as request old.span_limits trace_id span_id answer) drawn.processors new.processors history
       → new ≡ record drawn { processors = new.processors }
@@ -69,7 +69,7 @@ module _ {P S G : Type 0} (calls : Ghosts P) (sampler : sampling.Ghosts S) (ids 
         trace_id = trace_id;
         span_id = span_id;
         answer = answer;
-        draws = subst (λ (g : G). DrawsIds ids request.cx.span_context old.id_generator trace_id span_id g) (sym generator) draws;
+        draws = subst (λ (g : G). DrawsIds ids request.cx.span_context (start_moment request.builder request.now) old.id_generator trace_id span_id g) (sym generator) draws;
         asks = subst (λ (s : S). answer ≡ sampler.answer s (start_question request.cx trace_id request.builder)) (ap (λ (p : ProviderState P S G). p.sampler) d) asked;
         decided = subst (λ (ps : List P). DecidesStart calls answer.decision request.cx start ps new.processors history) same decided;
         rest = rest ∙ ap (λ (p : ProviderState P S G). record p { processors = new.processors }) d
@@ -80,7 +80,7 @@ module _ {P S G : Type 0} (calls : Ghosts P) (sampler : sampling.Ghosts S) (ids 
   -- a span that is dropped
   pub starts_dropped : (old drawn : ProviderState P S G) (request : StartRequest) (trace_id span_id : ℕ) (answer : PlainSamplingResult) (span : PlainSpan)
       → (old.is_shut || request.cx.telemetry_suppressed) ≡ false
-      → DrawsIds ids request.cx.span_context old.id_generator trace_id span_id drawn.id_generator → drawn ≡ record old { id_generator = drawn.id_generator }
+      → DrawsIds ids request.cx.span_context (start_moment request.builder request.now) old.id_generator trace_id span_id drawn.id_generator → drawn ≡ record old { id_generator = drawn.id_generator }
       → answer ≡ sampler.answer drawn.sampler (start_question request.cx trace_id request.builder)
       → answer.decision ≡ decisions.Drop
       → span ≡ not_recording (start_span_context (current_span_context request.cx) trace_id span_id answer) old.span_limits
@@ -96,7 +96,7 @@ module _ {P S G : Type 0} (calls : Ghosts P) (sampler : sampling.Ghosts S) (ids 
   -- a span that records
   pub starts_recording : (old drawn new : ProviderState P S G) (request : StartRequest) (trace_id span_id : ℕ) (answer : PlainSamplingResult) (first span : PlainSpan)
       → (old.is_shut || request.cx.telemetry_suppressed) ≡ false
-      → DrawsIds ids request.cx.span_context old.id_generator trace_id span_id drawn.id_generator → drawn ≡ record old { id_generator = drawn.id_generator }
+      → DrawsIds ids request.cx.span_context (start_moment request.builder request.now) old.id_generator trace_id span_id drawn.id_generator → drawn ≡ record old { id_generator = drawn.id_generator }
       → answer ≡ sampler.answer drawn.sampler (start_question request.cx trace_id request.builder)
       → answer.decision ≢ decisions.Drop
       → first ≡ recording (start_as request old.span_limits trace_id span_id answer) []

@@ -21,6 +21,10 @@ pub record StartRequest : Type 0 where
 abbrev pub start_request : PlainScope → PlainSpanBuilder → PlainContext → ℕ → StartRequest
 start_request scope builder cx now = record { scope = scope; builder = builder; cx = cx; now = now }
 
+-- the moment at which a span starts: what its builder says, or else now
+abbrev pub start_moment : PlainSpanBuilder → ℕ → ℕ
+start_moment builder now = unwrap_or builder.start_time now
+
 -- what the sampler is asked of a span that is to start in a context
 abbrev pub start_question : PlainContext → ℕ → PlainSpanBuilder → SamplingQuestion
 start_question cx trace_id builder = record {
@@ -62,7 +66,7 @@ start_of scope builder parent now limits context added = record {
   parent_span_is_remote = is_remote_parent parent;
   span_kind = unwrap_or builder.span_kind Internal;
   name = builder.name;
-  start_time = unwrap_or builder.start_time now;
+  start_time = start_moment builder now;
   attributes = unwrap_or builder.attributes [] ++ added;
   events = unwrap_or builder.events [];
   links = unwrap_or builder.links [];

@@ -9,33 +9,36 @@ use Rattle.otel_sampling.specs.declared.trace.sampler.SamplingDecision.{Sampling
 use Rattle.otel_sampling.specs.declared.trace.sampler.SamplingDecision.TheVariants as decisions
 use Rattle.otel_sampling.specs.declared.trace.sampler.ShouldSample as sampling
 use Rattle.otel_sampling.specs.declared.trace.id_generator.IdGenerator as drawing
+use Rattle.otel_sampling.specs.GivesAt.{GivesAt}
 use Rattle.otel_sampling.specs.Sampling.{PlainSamplingResult}
 use Rattle.otel_pipeline.specs.SpanHistory.{PlainSpan, SpanStart, SpanHistory, IsEdited, begun, over, Edit, recording}
 use Rattle.otel_pipeline.specs.SpanHistory.{span_of}
-use Rattle.otel_pipeline.specs.StartRequest.{StartRequest, start_as, start_question}
+use Rattle.otel_pipeline.specs.StartRequest.{StartRequest, start_as, start_moment, start_question}
 use Rattle.otel_pipeline.specs.Provider.{ProviderState}
 use Rattle.otel_pipeline.specs.declared.trace.span_processor.SpanProcessor.{Ghosts}
 
 module _ {G : Type 0} (ids : drawing.Ghosts G) where
-  -- the trace id of a span: that of the active one, or one that is drawn
-  abbrev pub DrawsTraceId : Option PlainSpanContext → G → ℕ → G → Type 0
-  DrawsTraceId None old trace_id new = ids.trace_id_gives old trace_id new
-  DrawsTraceId (Some active) old trace_id new = (trace_id ≡ active.trace_id) × (new ≡ old)
+  -- the trace id of a span that starts at a moment: that of the active one, or one that is drawn
+  abbrev pub DrawsTraceId : Option PlainSpanContext → ℕ → G → ℕ → G → Type 0
+  DrawsTraceId None start old trace_id new = GivesAt ids.trace_id_gives ids.trace_id_at_gives old start trace_id new
+  DrawsTraceId (Some active) start old trace_id new = (trace_id ≡ active.trace_id) × (new ≡ old)
 
-  -- the ids of a span: the span id, of 64 bits, is drawn first
-  pub record DrawsIds (active : Option PlainSpanContext) (old : G) (trace_id span_id : ℕ) (new : G) : Type 0 where
+  -- the ids of a span that starts at a moment: the span id, of 64 bits, is drawn first
+  pub record DrawsIds (active : Option PlainSpanContext) (start : ℕ) (old : G) (trace_id span_id : ℕ) (new : G)
+      : Type 0 where
     pub between : G
     pub draws_span_id : ids.span_id_gives old span_id between
-    pub draws_trace_id : DrawsTraceId active between trace_id new
+    pub draws_trace_id : DrawsTraceId active start between trace_id new
     pub fits : span_id < 2 ^ 64
 
 module _ {P S G : Type 0} (sampler : sampling.Ghosts S) (ids : drawing.Ghosts G) where
   -- ids were drawn, and nothing else happened; where the sampler needs no memory for the question, the span was to record
   pub record OnlyDraws (old : ProviderState P S G) (builder : PlainSpanBuilder) (cx : PlainContext)
-      (new : ProviderState P S G) : Type 0 where
+      (now : ℕ) (new : ProviderState P S G) : Type 0 where
     pub trace_id : ℕ
     pub span_id : ℕ
-    pub draws : DrawsIds ids cx.span_context old.id_generator trace_id span_id new.id_generator
+    pub draws : DrawsIds ids cx.span_context (start_moment builder now) old.id_generator trace_id span_id
+        new.id_generator
     pub needs : sampler.is_infallible old.sampler (start_question cx trace_id builder)
         → (sampler.answer old.sampler (start_question cx trace_id builder)).decision ≢ decisions.Drop
     pub rest : new ≡ record old { id_generator = new.id_generator }
@@ -87,7 +90,8 @@ module _ {P S G : Type 0} (calls : Ghosts P) (sampler : sampling.Ghosts S) (ids 
     pub trace_id : ℕ
     pub span_id : ℕ
     pub answer : PlainSamplingResult
-    pub draws : DrawsIds ids request.cx.span_context old.id_generator trace_id span_id new.id_generator
+    pub draws : DrawsIds ids request.cx.span_context (start_moment request.builder request.now) old.id_generator
+        trace_id span_id new.id_generator
     pub asks : answer ≡ sampler.answer old.sampler (start_question request.cx trace_id request.builder)
     pub decided : DecidesStart calls answer.decision request.cx
         (start_as request old.span_limits trace_id span_id answer) old.processors new.processors history
@@ -105,4 +109,4 @@ module _ {P S G : Type 0} (calls : Ghosts P) (sampler : sampling.Ghosts S) (ids 
       → Type 0
   AnswersStart old request result new = MatchResult result
       (λ span. (history : SpanHistory) × (span ≡ span_of history) × Starts old request history new)
-      (λ _. OnlyDraws sampler ids old request.builder request.cx new)
+      (λ _. OnlyDraws sampler ids old request.builder request.cx request.now new)

@@ -13,10 +13,12 @@ ghost use Rattle.otel_pipeline.specs.Ending.{TakesAndTells};
 ghost use Rattle.otel_pipeline.specs.Provider.{Flushes, FlushesProcessor, IsInternalFailure, RunsDue, RunsProcessor};
 ghost use Rattle.otel_pipeline.specs.Provider.{ReportsLeft, ShutsDown, ShutsProcessor, shut_answer};
 ghost use Rattle.otel_pipeline.specs.ProviderBuilder.{disabled_provider, open_provider};
+ghost use Rattle.otel_pipeline.specs.StartRequest.{start_moment};
 ghost use Rattle.otel_pipeline.specs.Starting.{DrawsIds, PassesThrough};
 ghost use Rattle.otel_pipeline.specs.SpanHistory.{IsEdited, ended_at};
 
 use crate::trace::{CloseReport, DrainDue, LeavesSpans, SdkTracer, Span, SpanProcessor};
+use opentelemetry::trace::SpanBuilder;
 use opentelemetry::{Context, InstrumentationScope, Moment, SpanId, TraceId};
 use otel_export::error::{OTelSdkError, OTelSdkResult};
 use otel_export::trace::SpanData;
@@ -131,18 +133,24 @@ impl<P, S, G> ProviderOf<P, S, G> {
 }
 
 impl<P, S, G: IdGenerator> ProviderOf<P, S, G> {
-    /// The ids of a new span in a context. The span id is drawn first; a trace id is drawn only where no span is
-    /// active.
-    pub(crate) fn draw_ids(&mut self, cx: &Context) -> (TraceId, SpanId)
-        ensures draws { DrawsIds G.IdGenerator cx.now.span_context self.old.id_generator result.0 result.1
-            self.new.id_generator }
+    /// The ids of a span that is to start in a context. The span id is drawn first; a trace id is drawn only where no
+    /// span is active, and the generator is told the moment at which the span starts.
+    pub(crate) fn draw_ids(
+        &mut self,
+        cx: &Context,
+        builder: &SpanBuilder,
+        now: Moment,
+    ) -> (TraceId, SpanId)
+        ensures draws { DrawsIds G.IdGenerator cx.now.span_context (start_moment builder.now now.0)
+            self.old.id_generator result.0 result.1 self.new.id_generator }
         ensures rest { self.new ≡ record self.old { id_generator = self.new.id_generator } }
     {
         let span_id = self.id_generator.new_span_id();
         let trace_id = if cx.has_active_span() {
             cx.span_context().trace_id()
         } else {
-            self.id_generator.new_trace_id()
+            let start = builder.start_time.unwrap_or(now);
+            self.id_generator.new_trace_id_at(start)
         };
         (trace_id, span_id)
     }

@@ -113,7 +113,7 @@ impl SdkTracer {
             let context = SpanContext::empty_context();
             return Ok(Span::not_recording(alloc, context, span_limits));
         }
-        let (trace_id, span_id) = provider.draw_ids(cx);
+        let (trace_id, span_id) = provider.draw_ids(cx, &builder, now);
         let SamplingResult {
             decision,
             attributes,
