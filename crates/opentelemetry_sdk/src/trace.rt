@@ -22,7 +22,7 @@ pub use otel_pipeline::trace::{
     SimpleSpanProcessor, Span, SpanEdit, SpanProcessor,
 };
 pub use otel_sampling::trace::{
-    BatchStrings, Config, ConfigOf, ConfigStrings, IdGenerator, IdSource, IdSourceOf,
+    BatchStrings, Config, ConfigOf, ConfigStrings, IdGenerator, IdSource, IdSourceOf, ParentBased,
     RandomIdGenerator, Ratio, RatioError, Sampler, SamplerOf, SamplingDecision, SamplingResult,
     ShouldSample, SpanLimits,
 };

@@ -5,6 +5,7 @@ pub mod GivesAt
 pub mod IdSource
 pub mod Ids
 pub mod Limits
+pub mod ParentBased
 pub mod Ratio
 pub mod SameSamplingResult
 pub mod Sampler

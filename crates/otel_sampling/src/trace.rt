@@ -2,6 +2,7 @@
 
 pub mod config;
 pub mod id_generator;
+pub mod parent_based;
 pub mod ratio;
 pub mod sampler;
 pub mod span_limit;
@@ -9,6 +10,7 @@ pub mod xray_id_generator;
 
 pub use config::{BatchStrings, Config, ConfigOf, ConfigStrings};
 pub use id_generator::{IdGenerator, IdSource, IdSourceOf, RandomIdGenerator};
+pub use parent_based::ParentBased;
 pub use ratio::{Ratio, RatioError};
 pub use sampler::{Sampler, SamplerOf, SamplingDecision, SamplingResult, ShouldSample};
 pub use span_limit::SpanLimits;
