@@ -15,7 +15,7 @@ use Rattle.otel_sampling.specs.declared.trace.sampler.ShouldSample as sampling
 use Rattle.opentelemetry.specs.Tracestate.{ArePairs}
 use Rattle.otel_propagation.specs.Traceparent.{IsSpanContext, IsValid, remote_copy}
 use Rattle.otel_propagation.proofs.TraceparentLemmas.{injected_carries}
-use Rattle.otel_pipeline.specs.Hops.{AreDrawnHops, AreHops, GoesByParents, IsChild, IsDrawnChild, IsPassedOn, IsReceived}
+use Rattle.otel_pipeline.specs.Hops.{AreDrawnHops, AreHops, GoesByParent, GoesByParents, IsChild, IsDrawnChild, IsPassedOn, IsReceived}
 use Rattle.otel_pipeline.specs.Provider.{ProviderState}
 use Rattle.otel_pipeline.specs.SpanHistory.{SpanHistory, SpanStart, over, span_of}
 use Rattle.otel_pipeline.specs.StartRequest.{StartRequest, start_as, start_flags, start_moment, start_question, start_span_context}
@@ -125,29 +125,40 @@ module _ {P S G : Type 0} (calls : Ghosts P) (sampler : sampling.Ghosts S) (ids 
       let runs : (old.is_shut || request.cx.telemetry_suppressed) ≡ false = λ k. is_open k || unsuppressed k in
       subst (λ (b : Bool). MatchBool b ((history ≡ over empty_span_context old.span_limits) × (new ≡ old)) (StartsOpen calls sampler ids old request history new)) runs starts
 
-  -- a start under a sampler that goes by parents makes a child of the active span
-  pub child_of_start : (old new : ProviderState P S G) (request : StartRequest) (history : SpanHistory) (parent : PlainSpanContext)
-      → GoesByParents sampler old.sampler → old.is_shut ≡ false → request.cx.telemetry_suppressed ≡ false → request.cx.span_context ≡ Some parent
+  -- a start under a sampler that goes by the active span makes a child of that one
+  pub child_under : (old new : ProviderState P S G) (request : StartRequest) (history : SpanHistory) (parent : PlainSpanContext)
+      → GoesByParent sampler old.sampler parent → old.is_shut ≡ false → request.cx.telemetry_suppressed ≡ false → request.cx.span_context ≡ Some parent
       → Starts calls sampler ids old request history new → IsChild parent (span_of history).span_context
-  child_of_start old new request history parent by_parents is_open unsuppressed active starts =
+  child_under old new request history parent by_parent is_open unsuppressed active starts =
       let started = opens old new request history is_open unsuppressed starts in
       let is_parent : current_span_context request.cx ≡ parent = ap (λ (a : Option PlainSpanContext). unwrap_or a empty_span_context) active in
       let drawn : DrawsTraceId ids (Some parent) (start_moment request.builder request.now) started.draws.between started.trace_id new.id_generator =
       subst (λ (a : Option PlainSpanContext). DrawsTraceId ids a (start_moment request.builder request.now) started.draws.between started.trace_id new.id_generator) active started.draws.draws_trace_id in
-      let answered = started.asks ∙ by_parents (start_question request.cx started.trace_id request.builder) parent active in (
+      let answered = started.asks ∙ by_parent (start_question request.cx started.trace_id request.builder) active in (
         started.span_id,
         decided_context calls started.answer.decision request.cx _ old.processors new.processors history started.decided
             ∙ (λ k. start_span_context (is_parent k) (drawn.0 k) started.span_id (answered k)),
       )
 
   -- and a hop, where the span id that it drew is not zero
-  pub hop_of_start : (old new : ProviderState P S G) (request : StartRequest) (history : SpanHistory) (parent : PlainSpanContext)
-      → GoesByParents sampler old.sampler → old.is_shut ≡ false → request.cx.telemetry_suppressed ≡ false → request.cx.span_context ≡ Some parent
+  pub hop_under : (old new : ProviderState P S G) (request : StartRequest) (history : SpanHistory) (parent : PlainSpanContext)
+      → GoesByParent sampler old.sampler parent → old.is_shut ≡ false → request.cx.telemetry_suppressed ≡ false → request.cx.span_context ≡ Some parent
       → Starts calls sampler ids old request history new → 0 < (span_of history).span_context.span_id → IsDrawnChild parent (span_of history).span_context
-  hop_of_start old new request history parent by_parents is_open unsuppressed active starts drawn =
+  hop_under old new request history parent by_parent is_open unsuppressed active starts drawn =
       let started = opens old new request history is_open unsuppressed starts in
       let context = decided_context calls started.answer.decision request.cx _ old.processors new.processors history started.decided in
       record {
-        is_child = child_of_start old new request history parent by_parents is_open unsuppressed active starts;
+        is_child = child_under old new request history parent by_parent is_open unsuppressed active starts;
         is_span_id = (drawn, subst (λ (n : ℕ). n < 2 ^ 64) (sym (ap (λ (c : PlainSpanContext). c.span_id) context)) started.draws.fits);
       }
+
+  -- the same under a sampler that goes by parents
+  pub child_of_start : (old new : ProviderState P S G) (request : StartRequest) (history : SpanHistory) (parent : PlainSpanContext)
+      → GoesByParents sampler old.sampler → old.is_shut ≡ false → request.cx.telemetry_suppressed ≡ false → request.cx.span_context ≡ Some parent
+      → Starts calls sampler ids old request history new → IsChild parent (span_of history).span_context
+  child_of_start old new request history parent by_parents = child_under old new request history parent (λ question. by_parents question parent)
+
+  pub hop_of_start : (old new : ProviderState P S G) (request : StartRequest) (history : SpanHistory) (parent : PlainSpanContext)
+      → GoesByParents sampler old.sampler → old.is_shut ≡ false → request.cx.telemetry_suppressed ≡ false → request.cx.span_context ≡ Some parent
+      → Starts calls sampler ids old request history new → 0 < (span_of history).span_context.span_id → IsDrawnChild parent (span_of history).span_context
+  hop_of_start old new request history parent by_parents = hop_under old new request history parent (λ question. by_parents question parent)

@@ -1,5 +1,6 @@
 pub mod AgreementLemmas
 pub mod Cutting
+pub mod DelegateLemmas
 pub mod EachLemmas
 pub mod EndLemmas
 pub mod SpanLaws

@@ -21,6 +21,16 @@ GoesByParents sampler s = (question : SamplingQuestion) (parent : PlainSpanConte
     → active_in question.parent_context ≡ Some parent
     → sampler.answer s question ≡ built_in (parent_decision parent) (Some parent)
 
+-- a sampler goes by one parent: wherever that one is active, its decision is the answer
+abbrev pub GoesByParent : {S : Type 0} → sampling.Ghosts S → S → PlainSpanContext → Type 0
+GoesByParent sampler s parent = (question : SamplingQuestion)
+    → active_in question.parent_context ≡ Some parent
+    → sampler.answer s question ≡ built_in (parent_decision parent) (Some parent)
+
+-- a sampler goes by valid parents, and a span context that is not valid may be no parent to it
+abbrev pub GoesByValidParents : {S : Type 0} → sampling.Ghosts S → S → Type 0
+GoesByValidParents sampler s = (parent : PlainSpanContext) → IsValid parent → GoesByParent sampler s parent
+
 -- a child whose span id was drawn as one: it is not zero, and has 64 bits
 pub record IsDrawnChild (parent child : PlainSpanContext) : Type 0 where
   pub is_child : IsChild parent child

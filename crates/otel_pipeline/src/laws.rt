@@ -5,9 +5,11 @@ ghost use Rattle.std.specs.Prelude.{◌≡◌, ◌<◌, ℕ, IsNone, Some, List,
 ghost use Rattle.std.specs.declared.alloc.AllocError.{AllocError};
 ghost use Rattle.opentelemetry.specs.Plain.{PlainSpanContext};
 ghost use Rattle.otel_sampling.specs.Agreement.{Agrees};
+ghost use Rattle.otel_sampling.specs.ParentBased.{FollowParents, delegates_of};
 ghost use Rattle.otel_sampling.specs.Sampler.{SamplerPlan, parent_based, plan};
 ghost use Rattle.otel_propagation.specs.Traceparent.{IsSpanContext, IsValid};
-ghost use Rattle.otel_pipeline.specs.Hops.{AreDrawnHops, AreHops, GoesByParents, IsChild, IsDrawnChild};
+ghost use Rattle.otel_pipeline.specs.Hops.{AreDrawnHops, AreHops, GoesByParents, GoesByValidParents, IsChild};
+ghost use Rattle.otel_pipeline.specs.Hops.{IsDrawnChild};
 ghost use Rattle.otel_pipeline.specs.Provider.{ProviderState};
 ghost use Rattle.otel_pipeline.specs.Deliveries.{EachFollows};
 ghost use Rattle.otel_pipeline.specs.Ending.{Delivers, Ends, deliveries};
@@ -15,12 +17,13 @@ ghost use Rattle.otel_pipeline.specs.SpanHistory.{Edit, HasHistory, PlainSpan, S
 ghost use Rattle.otel_pipeline.specs.SpanHistory.{after, data_of, ended, recording, span_of};
 ghost use Rattle.otel_pipeline.specs.StartRequest.{StartRequest};
 ghost use Rattle.otel_pipeline.specs.Starting.{AnswersStart, Starts};
+ghost use Rattle.otel_sampling.specs.declared.trace.parent_based.ParentBased.{ParentBased};
 ghost use Rattle.otel_sampling.specs.declared.trace.sampler.SamplerOf.{SamplerOf};
 
 use crate::trace::{Span, SpanProcessor};
 use opentelemetry::laws::span_contexts_fit;
 use opentelemetry::trace::SpanContext;
-use otel_sampling::trace::{IdGenerator, SamplerOf, ShouldSample};
+use otel_sampling::trace::{IdGenerator, ParentBased, SamplerOf, ShouldSample};
 
 /// Each span, wherever it comes from, has a history: a start and edits that made what it records, or it is over.
 pub fn spans_have_histories(span: &Span)
@@ -90,6 +93,31 @@ pub fn starts_under_parents_make_hops<P: SpanProcessor, S: ShouldSample, G: IdGe
     ensures { (old new : ProviderState P S G) (request : StartRequest) (history : SpanHistory)
         (parent : PlainSpanContext)
         → GoesByParents S.ShouldSample old.sampler → old.is_shut ≡ false
+        → request.cx.telemetry_suppressed ≡ false → request.cx.span_context ≡ Some parent
+        → Starts P.SpanProcessor S.ShouldSample G.IdGenerator old request history new
+        → 0 < (span_of history).span_context.span_id
+        → IsDrawnChild parent (span_of history).span_context }
+{}
+
+/// A `ParentBased` with delegates goes by valid parents where the delegates decide as the parents did, as the standard's
+/// do, whatever its sampler of roots.
+pub fn parent_based_with_delegates_goes_by_parents<S: ShouldSample>()
+    ensures { (sampler : ParentBased S) → FollowParents S.answer (delegates_of sampler)
+        → GoesByValidParents ⟦<ParentBased<S> as ShouldSample>⟧ sampler }
+{}
+
+/// Under a sampler that goes by valid parents, such a start below a valid span makes a child, and a hop where the span
+/// id that it drew is not zero.
+pub fn starts_under_valid_parents_make_hops<P: SpanProcessor, S: ShouldSample, G: IdGenerator>()
+    ensures child { (old new : ProviderState P S G) (request : StartRequest) (history : SpanHistory)
+        (parent : PlainSpanContext)
+        → GoesByValidParents S.ShouldSample old.sampler → IsValid parent → old.is_shut ≡ false
+        → request.cx.telemetry_suppressed ≡ false → request.cx.span_context ≡ Some parent
+        → Starts P.SpanProcessor S.ShouldSample G.IdGenerator old request history new
+        → IsChild parent (span_of history).span_context }
+    ensures hop { (old new : ProviderState P S G) (request : StartRequest) (history : SpanHistory)
+        (parent : PlainSpanContext)
+        → GoesByValidParents S.ShouldSample old.sampler → IsValid parent → old.is_shut ≡ false
         → request.cx.telemetry_suppressed ≡ false → request.cx.span_context ≡ Some parent
         → Starts P.SpanProcessor S.ShouldSample G.IdGenerator old request history new
         → 0 < (span_of history).span_context.span_id

@@ -1,10 +1,13 @@
 -- What the sampler by parents with a delegate for each kind of parent answers (OpenTelemetry specification,
 -- "ParentBased").
-use Rattle.std.specs.Prelude.{ℕ, ◌%◌, ◌==◌, ◌&&◌, nat_lt, if◌then◌else◌, Bool, true, false, Option, Some, None, MatchOption}
+use Rattle.std.specs.Prelude.{◌≡◌, ◌%◌, ◌==◌, ◌&&◌, nat_lt, if◌then◌else◌, Bool, true, false, Option, Some, None, MatchOption}
 use Rattle.opentelemetry.specs.Plain.{PlainContext, PlainSpanContext}
 use Rattle.opentelemetry.specs.PlainContexts.{current_span_context}
 use Rattle.otel_sampling.specs.Sampling.{SamplingQuestion, PlainSamplingResult}
-use Rattle.otel_sampling.specs.Sampler.{SamplerPlan, SamplerIsInfallible, always_on, always_off, plan, sampler_answer}
+use Rattle.otel_sampling.specs.Sampler.{SamplerPlan, SamplerIsInfallible, active_in, always_on, always_off, built_in}
+use Rattle.otel_sampling.specs.Sampler.{plan, sampler_answer}
+use Rattle.otel_sampling.specs.declared.trace.sampler.SamplingDecision.{SamplingDecision}
+use Rattle.otel_sampling.specs.declared.trace.sampler.SamplingDecision.TheVariants as decisions
 use Rattle.otel_sampling.specs.declared.trace.parent_based.ParentBased.{ParentBased}
 
 -- the sampler of roots, and one for each kind of parent
@@ -74,3 +77,17 @@ ParentBasedIsInfallible is_infallible delegates question =
     MatchOption (parent_in question.parent_context)
     (is_infallible delegates.root question)
     (λ parent. SamplerIsInfallible is_infallible (parent_delegate delegates parent) question)
+
+-- a sampler answers each question as the SDK's of one decision does: without attributes, the trace state passed on
+abbrev pub AnswersAs : {S : Type 0} → (S → SamplingQuestion → PlainSamplingResult)
+    → SamplingDecision → SamplerPlan S → Type 0
+AnswersAs answer decision sampler = (question : SamplingQuestion)
+    → sampler_answer answer sampler question ≡ built_in decision (active_in question.parent_context)
+
+-- delegates decide as the parents did: those for sampled ones sample, and those for others drop
+pub record FollowParents {S : Type 0} (answer : S → SamplingQuestion → PlainSamplingResult)
+    (delegates : Delegates S) : Type 0 where
+  pub remote_parent_sampled : AnswersAs answer decisions.RecordAndSample delegates.remote_parent_sampled
+  pub remote_parent_not_sampled : AnswersAs answer decisions.Drop delegates.remote_parent_not_sampled
+  pub local_parent_sampled : AnswersAs answer decisions.RecordAndSample delegates.local_parent_sampled
+  pub local_parent_not_sampled : AnswersAs answer decisions.Drop delegates.local_parent_not_sampled
