@@ -9,6 +9,7 @@ mod crossing;
 mod error;
 mod exporter_box;
 mod id_generator;
+mod parent_based;
 mod propagation;
 mod resource;
 mod sampler;
