@@ -1,4 +1,5 @@
-//! The laws of ratios and delegates, over the definitions alone. Each function does nothing; its contract is the law, for all values.
+//! The laws of ratios and delegates, over the definitions alone. Each function does nothing; its contract is the law, for
+//! all values.
 
 ghost use Rattle.std.specs.Prelude.{◌≡◌, ◌*◌, ◌<◌, ◌≤◌, IsTrue, ℕ};
 ghost use Rattle.otel_sampling.specs.ParentBased.{FollowParents, default_delegates};
