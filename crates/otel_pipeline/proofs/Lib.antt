@@ -3,6 +3,8 @@ pub mod Cutting
 pub mod DelegateLemmas
 pub mod EachLemmas
 pub mod EndLemmas
+pub mod FirstChars
 pub mod SpanLaws
 pub mod Starting
+pub mod Unlimited
 pub mod Following

@@ -11,7 +11,7 @@ use Rattle.opentelemetry.specs.Order.{greater_status, greatest_status}
 use Rattle.opentelemetry.proofs.StatusLaws.{greatest_in_any_order}
 use Rattle.otel_sampling.specs.declared.trace.span_limit.SpanLimits.{SpanLimits}
 use Rattle.otel_export.specs.PlainSpanData.{PlainSpanData, PlainSpanEvents, PlainSpanLinks, cut_at, left_out}
-use Rattle.otel_pipeline.specs.SpanHistory.{PlainSpan, SpanStart, Edit, set_attribute, add_event, add_link, set_status, update_name, attribute_in, event_in, link_in, status_in, name_in, last_name, event_within, link_within, events_within, links_within, data_of, recording, grown_within, left_out_with, edited, edited_if, after, IsEdited, ended, not_recording, statuses_set, SpanHistory, begun, over, span_of, HasHistory}
+use Rattle.otel_pipeline.specs.SpanHistory.{PlainSpan, SpanStart, Edit, set_attribute, add_event, add_link, set_status, update_name, attribute_in, event_in, link_in, status_in, name_in, last_name, attribute_within, attributes_within, event_within, link_within, events_within, links_within, data_of, recording, grown_within, left_out_with, edited, edited_if, after, IsEdited, ended, not_recording, statuses_set, SpanHistory, begun, over, span_of, HasHistory}
 
 -- below the limit
 short : {X : Type 0} (limit : ℕ) (xs : List X) (x : X) → length xs < limit → (grown_within limit (cut_at limit xs) x ≡ cut_at limit (xs ++ x ∷ [])) × (left_out_with limit (cut_at limit xs) (left_out limit xs) ≡ left_out limit (xs ++ x ∷ []))
@@ -95,11 +95,11 @@ same_name start edits edit e = ap (last_name start.name) (brings_none name_in []
 same_status : (edits : List Edit) (edit : Edit) → status_in edit ≡ [] → greatest_status unset (flat_map status_in edits) ≡ greatest_status unset (flat_map status_in (edits ++ edit ∷ []))
 same_status edits edit e = ap (greatest_status unset) (brings_none status_in [] edits edit e)
 
-attributes_stay : (start : SpanStart) (edits : List Edit) (edit : Edit) → attribute_in edit ≡ [] → (cut_at start.limits.max_attributes_per_span (start.attributes ++ flat_map attribute_in edits) ≡ cut_at start.limits.max_attributes_per_span (start.attributes ++ flat_map attribute_in (edits ++ edit ∷ [])))
+attributes_stay : (start : SpanStart) (edits : List Edit) (edit : Edit) → attribute_in edit ≡ [] → (attributes_within start.limits start.limits.max_attributes_per_span (start.attributes ++ flat_map attribute_in edits) ≡ attributes_within start.limits start.limits.max_attributes_per_span (start.attributes ++ flat_map attribute_in (edits ++ edit ∷ [])))
     × (left_out start.limits.max_attributes_per_span (start.attributes ++ flat_map attribute_in edits) ≡ left_out start.limits.max_attributes_per_span (start.attributes ++ flat_map attribute_in (edits ++ edit ∷ [])))
 attributes_stay start edits edit e =
     let same = brings_none attribute_in start.attributes edits edit e in
-    (ap (cut_at start.limits.max_attributes_per_span) same, ap (left_out start.limits.max_attributes_per_span) same)
+    (ap (attributes_within start.limits start.limits.max_attributes_per_span) same, ap (left_out start.limits.max_attributes_per_span) same)
 
 same_events : (start : SpanStart) (edits : List Edit) (edit : Edit) → event_in edit ≡ [] → events_within start.limits (start.events ++ flat_map event_in edits) ≡ events_within start.limits (start.events ++ flat_map event_in (edits ++ edit ∷ []))
 same_events start edits edit e = ap (events_within start.limits) (brings_none event_in start.events edits edit e)
@@ -148,7 +148,8 @@ edited-recording start edits (set_attribute attribute) =
     let e : Edit = set_attribute attribute in
     let grown = brings attribute_in start.attributes edits e (attribute ∷ []) refl in
     made_same start (same_name start edits e refl)
-    (grown_within-cut_at limit whole attribute ∙ ap (cut_at limit) grown) (left_out_with-cut_at limit whole attribute ∙ ap (left_out limit) grown)
+    (mapped_within (attribute_within start.limits) limit whole attribute ∙ ap (attributes_within start.limits limit) grown)
+    (mapped_left_out (attribute_within start.limits) limit whole attribute ∙ ap (left_out limit) grown)
     (same_events start edits e refl) (same_links start edits e refl) (same_status edits e refl)
 edited-recording start edits (add_event event) =
     let e : Edit = add_event event in

@@ -1,12 +1,13 @@
 -- Edits of a span, as its history has them, and what each does to what the span has recorded.
 use Rattle.std.specs.Prelude.{ℕ, ◌+◌, ◌-◌, ◌^◌, ◌≤◌, List, [], ◌∷◌, ◌++◌, Option, Some, None, nat_lt, if◌then◌else◌}
-use Rattle.std.specs.Prelude.{length, min, string_bytes}
+use Rattle.std.specs.Prelude.{length, map, min, string_bytes}
 use Rattle.std.specs.List.{flat_map}
 use Rattle.opentelemetry.specs.Plain.{PlainKeyValue, PlainSpanContext, PlainEvent, PlainLink, PlainStatus}
 use Rattle.opentelemetry.specs.PlainValues.{plain_status}
 use Rattle.opentelemetry.specs.Order.{greater_status}
 use Rattle.otel_sampling.specs.declared.trace.span_limit.SpanLimits.{SpanLimits}
 use Rattle.otel_export.specs.PlainSpanData.{PlainSpanData, cut_at, left_out}
+use Rattle.otel_pipeline.specs.ValueLength.{attribute_within}
 use Rattle.otel_pipeline.specs.declared.trace.span_edit.SpanEdit.{SpanEdit}
 use Rattle.otel_pipeline.specs.declared.trace.span_edit.SpanEdit.TheVariants as edits
 
@@ -64,17 +65,21 @@ plain_edit (edits.AddLink link) = add_link link
 plain_edit (edits.SetStatus status) = set_status (plain_status status)
 plain_edit (edits.UpdateName name) = update_name (string_bytes name)
 
+-- what is kept of a list of attributes under a limit: the first ones, and of each what its values' length allows
+abbrev pub attributes_within : SpanLimits → ℕ → List PlainKeyValue → List PlainKeyValue
+attributes_within limits count attributes = map (attribute_within limits) (cut_at count attributes)
+
 -- an event whose own attributes are cut at the limit; its count is how many were cut
 abbrev pub event_within : SpanLimits → PlainEvent → PlainEvent
 event_within limits event = record event {
-  attributes = cut_at limits.max_attributes_per_event event.attributes;
+  attributes = attributes_within limits limits.max_attributes_per_event event.attributes;
   dropped_attributes_count = left_out limits.max_attributes_per_event event.attributes;
 }
 
 -- the same of a link
 abbrev pub link_within : SpanLimits → PlainLink → PlainLink
 link_within limits link = record link {
-  attributes = cut_at limits.max_attributes_per_link link.attributes;
+  attributes = attributes_within limits limits.max_attributes_per_link link.attributes;
   dropped_attributes_count = left_out limits.max_attributes_per_link link.attributes;
 }
 
@@ -89,7 +94,7 @@ left_out_with limit xs n = if nat_lt (length xs) limit then n else min (n + 1) (
 -- the data after one edit: over the limit the new item is only counted, and the greater status stays
 abbrev pub edited_data : SpanLimits → Edit → PlainSpanData → PlainSpanData
 edited_data limits (set_attribute attribute) recorded = record recorded {
-  attributes = grown_within limits.max_attributes_per_span recorded.attributes attribute;
+  attributes = grown_within limits.max_attributes_per_span recorded.attributes (attribute_within limits attribute);
   dropped_attributes_count =
       left_out_with limits.max_attributes_per_span recorded.attributes recorded.dropped_attributes_count;
 }

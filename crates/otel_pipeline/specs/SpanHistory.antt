@@ -1,4 +1,5 @@
--- A span: its history is how it started and the edits since; its data is that of whole lists, each cut once.
+-- A span: its history is how it started and the edits since; its data is that of whole lists and whole values, each
+-- cut once.
 use Rattle.std.specs.Prelude.{◌≡◌, ℕ, Bool, List, [], ◌∷◌, ◌++◌, Option, Some, None, map}
 use Rattle.std.specs.List.{flat_map}
 use Rattle.opentelemetry.specs.Plain.{PlainKeyValue, PlainSpanContext, PlainEvent, PlainLink, PlainScope, unset}
@@ -8,7 +9,8 @@ use Rattle.otel_sampling.specs.declared.trace.span_limit.SpanLimits.{SpanLimits}
 use Rattle.otel_export.specs.PlainSpanData.{PlainSpanData, PlainSpanEvents, PlainSpanLinks, cut_at, left_out}
 pub use Rattle.otel_pipeline.specs.SpanEdits.{Edit, set_attribute, add_event, add_link, set_status, update_name}
 pub use Rattle.otel_pipeline.specs.SpanEdits.{attribute_in, event_in, link_in, name_in, status_in, statuses_set}
-pub use Rattle.otel_pipeline.specs.SpanEdits.{event_within, grown_within, left_out_with, link_within}
+pub use Rattle.otel_pipeline.specs.SpanEdits.{attributes_within, event_within, grown_within, left_out_with, link_within}
+pub use Rattle.otel_pipeline.specs.ValueLength.{attribute_within, value_within}
 pub use Rattle.otel_pipeline.specs.SpanEdits.{KeepsNoMore, edited_data, edited_if}
 
 -- how a span started; attributes, events and links are those that it was given at once
@@ -44,8 +46,8 @@ links_within limits links = record {
   dropped_count = left_out limits.max_links_per_span links;
 }
 
--- the data of a span with this start and these edits, ended at a moment: whole lists, each cut once, the last name and
--- the greatest status
+-- the data of a span with this start and these edits, ended at a moment: whole lists and values, each cut once, the
+-- last name and the greatest status
 abbrev pub data_of : SpanStart → List Edit → ℕ → PlainSpanData
 data_of start edits moment = record {
   span_context = start.span_context;
@@ -55,7 +57,8 @@ data_of start edits moment = record {
   name = last_name start.name (flat_map name_in edits);
   start_time = start.start_time;
   end_time = moment;
-  attributes = cut_at start.limits.max_attributes_per_span (start.attributes ++ flat_map attribute_in edits);
+  attributes = attributes_within start.limits start.limits.max_attributes_per_span
+      (start.attributes ++ flat_map attribute_in edits);
   dropped_attributes_count =
       left_out start.limits.max_attributes_per_span (start.attributes ++ flat_map attribute_in edits);
   events = events_within start.limits (start.events ++ flat_map event_in edits);

@@ -1,7 +1,8 @@
 //! The laws of spans and traces over the definitions alone. Each function does nothing; its contract is the law, for all
 //! values, or for the value behind its reference.
 
-ghost use Rattle.std.specs.Prelude.{◌≡◌, ◌<◌, ℕ, IsNone, Some, List, [], All, Result, false, map};
+ghost use Rattle.std.specs.Prelude.{◌≡◌, ◌<◌, ◌≤◌, ◌++◌, ℕ, IsNone, Some, List, [], All, Result, false, length, map};
+ghost use Rattle.std.specs.Str.{IsUtf8, chars};
 ghost use Rattle.std.specs.declared.alloc.AllocError.{AllocError};
 ghost use Rattle.opentelemetry.specs.Plain.{PlainSpanContext};
 ghost use Rattle.otel_sampling.specs.Agreement.{Agrees};
@@ -17,6 +18,7 @@ ghost use Rattle.otel_pipeline.specs.SpanHistory.{Edit, HasHistory, PlainSpan, S
 ghost use Rattle.otel_pipeline.specs.SpanHistory.{after, data_of, ended, recording, span_of};
 ghost use Rattle.otel_pipeline.specs.StartRequest.{StartRequest};
 ghost use Rattle.otel_pipeline.specs.Starting.{AnswersStart, Starts};
+ghost use Rattle.otel_pipeline.specs.ValueLength.{first_chars};
 ghost use Rattle.otel_sampling.specs.declared.trace.parent_based.ParentBased.{ParentBased};
 ghost use Rattle.otel_sampling.specs.declared.trace.sampler.SamplerOf.{SamplerOf};
 
@@ -57,6 +59,16 @@ pub fn ends_deliver_histories<P: SpanProcessor, S, G>()
         (edits : List Edit) → Ends P.SpanProcessor old span moment refused new
         → span ≡ after edits (recording start [])
         → Delivers P.SpanProcessor old.is_shut (data_of start edits moment) old.processors new.processors refused }
+{}
+
+/// What a limit of values' lengths leaves of a text: a beginning that ends between two characters and has at most so
+/// many of them, and the longest one; so the whole text where it has no more.
+pub fn texts_keep_their_longest_beginnings(text: &str)
+    ensures beginning { (count : ℕ) → (rest : List ℕ) × (text.now ≡ first_chars count text.now ++ rest) }
+    ensures within { (count : ℕ) → IsUtf8 (first_chars count text.now)
+        × (length (chars (first_chars count text.now)) ≤ count) }
+    ensures longest { (count : ℕ) (front rest : List ℕ) → text.now ≡ front ++ rest → IsUtf8 front
+        → length (chars front) ≤ count → length front ≤ length (first_chars count text.now) }
 {}
 
 /// A span that does not record, as one that has ended, ends without any change of its provider: a second end asks

@@ -13,6 +13,7 @@ pub mod span;
 pub mod span_edit;
 pub mod span_processor;
 pub mod tracer;
+mod value_length;
 
 pub use close_report::CloseReport;
 pub use drain_due::DrainDue;

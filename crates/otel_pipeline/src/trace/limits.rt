@@ -1,5 +1,6 @@
 //! What a span keeps within its limits: the first items of each list. Those over a limit are only counted
-//! (OpenTelemetry specification, "Span Limits"). Lists are cut in place.
+//! (OpenTelemetry specification, "Span Limits"). Lists are cut in place, and then the texts of the attributes that are
+//! kept.
 
 ghost use Rattle.std.specs.Prelude.{◌≡◌, ◌≤◌, ◌⊎◌, ◌++◌, [], length, map, IfOk, IsOk, OnErr, OnOk, unwrap_or};
 ghost use Rattle.std.specs.Option.{option_map};
@@ -7,6 +8,7 @@ ghost use Rattle.otel_sampling.specs.Sampling.{added_attributes};
 ghost use Rattle.otel_export.specs.PlainSpanData.{cut_at, left_out};
 ghost use Rattle.otel_pipeline.specs.SpanHistory as history;
 
+use super::value_length::cut_each_attribute;
 use opentelemetry::KeyValue;
 use opentelemetry::trace::{Event, Link};
 use otel_export::trace::{SpanEvents, SpanLinks};
@@ -51,12 +53,12 @@ pub(crate) fn attributes_within(
     alloc: Global,
     given: Option<Vec<KeyValue>>,
     added: Option<Vec<KeyValue>>,
-    limit: u32,
+    limits: &SpanLimits,
 ) -> Result<(Vec<KeyValue>, u32), AllocError>
-    ensures cut { IfOk result (λ answer. answer.0.items
-        ≡ cut_at limit (added_attributes given ++ added_attributes added)) }
+    ensures cut { IfOk result (λ answer. answer.0.items ≡ history.attributes_within limits.now
+        limits.now.max_attributes_per_span (added_attributes given ++ added_attributes added)) }
     ensures left_out { IfOk result (λ answer. answer.1
-        ≡ left_out limit (added_attributes given ++ added_attributes added)) }
+        ≡ left_out limits.now.max_attributes_per_span (added_attributes given ++ added_attributes added)) }
     ensures free { (added_attributes given ≡ []) ⊎ (added_attributes added ≡ []) → IsOk result }
 {
     if given.is_none() && added.is_none() {
@@ -64,7 +66,9 @@ pub(crate) fn attributes_within(
     }
     let given = given.unwrap_or(Vec::new(alloc));
     let added = added.unwrap_or(Vec::new(alloc));
-    joined_within(given, added, limit)
+    let (mut attributes, left_out) = joined_within(given, added, limits.max_attributes_per_span)?;
+    cut_each_attribute(&mut attributes, limits);
+    Ok((attributes, left_out))
 }
 
 /// Two lists joined and cut at a limit, and how many items were left out. Where one is empty the other one comes back
@@ -93,18 +97,20 @@ fn joined_within<T: Drop>(
     Ok((front, left_out.saturating_add(left_out_behind)))
 }
 
-/// Cuts an event's own attributes; its count becomes how many were cut.
+/// Cuts an event's own attributes and their texts; its count becomes how many attributes were cut.
 pub(crate) fn cut_event(event: &mut Event, limits: SpanLimits)
     ensures { event.new ≡ history.event_within limits event.old }
 {
     event.dropped_attributes_count = cut(&mut event.attributes, limits.max_attributes_per_event);
+    cut_each_attribute(&mut event.attributes, &limits);
 }
 
-/// Cuts a link's own attributes; its count becomes how many were cut.
+/// Cuts a link's own attributes and their texts; its count becomes how many attributes were cut.
 pub(crate) fn cut_link(link: &mut Link, limits: SpanLimits)
     ensures { link.new ≡ history.link_within limits link.old }
 {
     link.dropped_attributes_count = cut(&mut link.attributes, limits.max_attributes_per_link);
+    cut_each_attribute(&mut link.attributes, &limits);
 }
 
 /// What is kept of the events that a span is given at its start.

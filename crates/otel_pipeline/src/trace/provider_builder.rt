@@ -4,7 +4,7 @@
 //! Nothing here reads an environment: the strings that are handed in stand for its variables. A call that needs memory
 //! and finds none gives the builder back as it was; what was handed to that call is dropped.
 
-ghost use Rattle.std.specs.Prelude.{◌≡◌, ◌++◌, [], ◌∷◌, false, true, IfOk, IsOk, MatchResult};
+ghost use Rattle.std.specs.Prelude.{◌≡◌, ◌++◌, [], ◌∷◌, false, true, IfOk, IsOk, MatchResult, Some};
 ghost use Rattle.std.specs.Bool.{OnFalse};
 ghost use Rattle.otel_pipeline.specs.Each.{AsksAll};
 ghost use Rattle.otel_pipeline.specs.ProviderBuilder as building;
@@ -199,6 +199,18 @@ impl<P, S, G> ProviderBuilderOf<P, S, G> {
     {
         self.config.span_limits.max_attributes_per_link = max_attributes;
         self
+    }
+
+    /// How many characters each text among the attributes of a span, its events and its links keeps.
+    pub fn with_max_attribute_value_length(self, max_length: u32) -> Self
+        ensures { result
+            ≡ with_limits self (record self.config.span_limits { max_attribute_value_length = Some max_length }) }
+    {
+        let span_limits = SpanLimits {
+            max_attribute_value_length: Some(max_length),
+            ..self.config.span_limits
+        };
+        self.with_span_limits(span_limits)
     }
 
     /// All limits of a span at once.

@@ -8,6 +8,7 @@ ghost use Rattle.otel_pipeline.specs.SpanEdits.{plain_edit};
 ghost use Rattle.otel_pipeline.specs.SpanHistory as history;
 
 use super::limits::{cut_event, cut_link, push_within};
+use super::value_length::cut_attribute;
 use crate::trace::Recorded;
 use opentelemetry::KeyValue;
 use opentelemetry::trace::{Event, Link, Status};
@@ -61,7 +62,7 @@ impl SpanEdit {
 pub(crate) fn set_attribute(
     recorded: &mut Recorded,
     limits: &SpanLimits,
-    attribute: KeyValue,
+    mut attribute: KeyValue,
 ) -> Result<(), AllocError>
     ensures ok { OnOk result (recorded.new
         ≡ history.edited_if limits.now (history.set_attribute attribute) recorded.old) }
@@ -73,6 +74,7 @@ pub(crate) fn set_attribute(
     let Some(recorded) = recorded.data.first_mut() else {
         return Ok(());
     };
+    cut_attribute(&mut attribute, limits);
     let SpanData {
         attributes,
         dropped_attributes_count,

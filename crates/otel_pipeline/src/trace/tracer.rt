@@ -92,9 +92,9 @@ impl SdkTracer {
     /// Starts a span in a context, as a child of the one that is active there. The provider decides alone: where it is
     /// shut, or telemetry is suppressed in the context, the span does not record and has the empty span context. Else
     /// its sampler is asked, and each processor is told of a span that records. What the builder leaves open the tracer
-    /// fills in: the kind is internal, and the span starts now (nanoseconds since 1970). Lists are cut at the
-    /// provider's limits. On an error no processor was asked, but ids may have been drawn (OpenTelemetry specification,
-    /// "Span Creation").
+    /// fills in: the kind is internal, and the span starts now (nanoseconds since 1970). Lists and values are cut
+    /// at the provider's limits. On an error no processor was asked, but ids may have been drawn (OpenTelemetry
+    /// specification, "Span Creation").
     pub fn build_with_context<P: SpanProcessor, S: ShouldSample, G: IdGenerator>(
         &self,
         builder: SpanBuilder,
@@ -230,7 +230,7 @@ fn begin(
         alloc,
         attributes,
         added,
-        span_limits.max_attributes_per_span,
+        &span_limits,
     )?;
     let instrumentation_scope = scope.clone()?;
     let recorded_context = span_context.clone()?;
