@@ -5,6 +5,8 @@ pub mod EachLemmas
 pub mod EndLemmas
 pub mod FirstChars
 pub mod SpanLaws
+pub mod SettingMany
+pub mod Unrecorded
 pub mod Starting
 pub mod Unlimited
 pub mod Following

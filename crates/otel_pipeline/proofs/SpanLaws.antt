@@ -217,7 +217,7 @@ status_is span start edits statuses recorded e h p =
     ap (λ (d : PlainSpanData). d.status) same ∙ greatest_in_any_order unset (statuses_set edits) statuses p
 
 -- a span with a history has one after an edit
-edited_history : (edit : Edit) (span : PlainSpan) (history : SpanHistory) → span ≡ span_of history → HasHistory (edited edit span)
+pub edited_history : (edit : Edit) (span : PlainSpan) (history : SpanHistory) → span ≡ span_of history → HasHistory (edited edit span)
 edited_history edit span (begun start edits) is = record { history = begun start (edits ++ edit ∷ []); is = ap (edited edit) is ∙ edited-recording start edits edit }
 edited_history edit span (over context limits) is = record { history = over context limits; is = ap (edited edit) is }
 

@@ -91,6 +91,14 @@ grown_within limit xs x = if nat_lt (length xs) limit then xs ++ x ∷ [] else x
 abbrev pub left_out_with : {X : Type 0} → ℕ → List X → ℕ → ℕ
 left_out_with limit xs n = if nat_lt (length xs) limit then n else min (n + 1) (2 ^ 32 - 1)
 
+-- a list of attributes with others behind it, as far as there is room for them under the limit
+abbrev pub grown_by : SpanLimits → List PlainKeyValue → List PlainKeyValue → List PlainKeyValue
+grown_by limits xs added = xs ++ attributes_within limits (limits.max_attributes_per_span - length xs) added
+
+-- how many the limit has left out then
+abbrev pub left_out_by : {X : Type 0} → ℕ → List X → List X → ℕ → ℕ
+left_out_by limit xs added n = min (n + (length added - (limit - length xs))) (2 ^ 32 - 1)
+
 -- the data after one edit: over the limit the new item is only counted, and the greater status stays
 abbrev pub edited_data : SpanLimits → Edit → PlainSpanData → PlainSpanData
 edited_data limits (set_attribute attribute) recorded = record recorded {
@@ -126,3 +134,17 @@ KeepsNoMore limits (update_name _) recorded = Unit {0}
 abbrev pub edited_if : SpanLimits → Edit → Option PlainSpanData → Option PlainSpanData
 edited_if limits edit None = None
 edited_if limits edit (Some recorded) = Some (edited_data limits edit recorded)
+
+-- what edits make one behind the other of what is recorded
+abbrev pub edited_each : SpanLimits → List Edit → Option PlainSpanData → Option PlainSpanData
+edited_each limits [] recorded = recorded
+edited_each limits (edit ∷ edits) recorded = edited_each limits edits (edited_if limits edit recorded)
+
+-- what is recorded where a list of attributes is set at once
+abbrev pub set_each : SpanLimits → List PlainKeyValue → Option PlainSpanData → Option PlainSpanData
+set_each limits added None = None
+set_each limits added (Some recorded) = Some (record recorded {
+  attributes = grown_by limits recorded.attributes added;
+  dropped_attributes_count = left_out_by limits.max_attributes_per_span recorded.attributes added
+      recorded.dropped_attributes_count;
+})

@@ -9,9 +9,10 @@ use Rattle.otel_sampling.specs.declared.trace.span_limit.SpanLimits.{SpanLimits}
 use Rattle.otel_export.specs.PlainSpanData.{PlainSpanData, PlainSpanEvents, PlainSpanLinks, cut_at, left_out}
 pub use Rattle.otel_pipeline.specs.SpanEdits.{Edit, set_attribute, add_event, add_link, set_status, update_name}
 pub use Rattle.otel_pipeline.specs.SpanEdits.{attribute_in, event_in, link_in, name_in, status_in, statuses_set}
-pub use Rattle.otel_pipeline.specs.SpanEdits.{attributes_within, event_within, grown_within, left_out_with, link_within}
+pub use Rattle.otel_pipeline.specs.SpanEdits.{attributes_within, event_within, grown_by, grown_within, left_out_by}
+pub use Rattle.otel_pipeline.specs.SpanEdits.{left_out_with, link_within}
 pub use Rattle.otel_pipeline.specs.ValueLength.{attribute_within, value_within}
-pub use Rattle.otel_pipeline.specs.SpanEdits.{KeepsNoMore, edited_data, edited_if}
+pub use Rattle.otel_pipeline.specs.SpanEdits.{KeepsNoMore, edited_data, edited_each, edited_if, set_each}
 
 -- how a span started; attributes, events and links are those that it was given at once
 pub record SpanStart : Type 0 where

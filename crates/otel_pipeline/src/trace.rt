@@ -2,6 +2,7 @@
 
 pub mod close_report;
 pub mod drain_due;
+pub mod exception;
 pub mod leaves_spans;
 mod limits;
 pub mod over_exporter;
@@ -17,6 +18,7 @@ mod value_length;
 
 pub use close_report::CloseReport;
 pub use drain_due::DrainDue;
+pub use exception::Exception;
 pub use leaves_spans::LeavesSpans;
 pub use over_exporter::OverExporter;
 pub use provider::ProviderOf;

@@ -2,7 +2,7 @@
 //! (OpenTelemetry specification, "Span Limits"). Lists are cut in place, and then the texts of the attributes that are
 //! kept.
 
-ghost use Rattle.std.specs.Prelude.{◌≡◌, ◌≤◌, ◌⊎◌, ◌++◌, [], length, map, IfOk, IsOk, OnErr, OnOk, unwrap_or};
+ghost use Rattle.std.specs.Prelude.{◌≡◌, ◌-◌, ◌≤◌, ◌⊎◌, ◌++◌, [], length, map, IfOk, IsOk, OnErr, OnOk, unwrap_or};
 ghost use Rattle.std.specs.Option.{option_map};
 ghost use Rattle.otel_sampling.specs.Sampling.{added_attributes};
 ghost use Rattle.otel_export.specs.PlainSpanData.{cut_at, left_out};
@@ -45,6 +45,38 @@ pub(crate) fn push_within<T: Drop>(
         *dropped = dropped.saturating_add(1);
     }
     Ok(())
+}
+
+/// Adds attributes behind those that are there as far as there is room under the limit, and drops the others, which are
+/// counted beside those that were dropped before. Of those that are kept the texts are cut.
+pub(crate) fn append_within(
+    attributes: &mut Vec<KeyValue>,
+    dropped: &mut u32,
+    limits: &SpanLimits,
+    mut added: Vec<KeyValue>,
+) -> Result<(), AllocError>
+    ensures grown { OnOk result (attributes.new.items
+        ≡ history.grown_by limits.now attributes.old.items added.items) }
+    ensures counted { OnOk result (dropped.new
+        ≡ history.left_out_by limits.now.max_attributes_per_span attributes.old.items added.items dropped.old) }
+    ensures err { OnErr result ((attributes.new.items ≡ attributes.old.items) × (dropped.new ≡ dropped.old)) }
+    ensures full { limits.now.max_attributes_per_span ≤ length attributes.old.items → IsOk result }
+{
+    let room = room_behind(attributes, limits.max_attributes_per_span);
+    let left_out = cut(&mut added, room);
+    cut_each_attribute(&mut added, limits);
+    if !added.is_empty() {
+        attributes.append(&mut added)?;
+    }
+    *dropped = dropped.saturating_add(left_out);
+    Ok(())
+}
+
+/// How many items find room behind these under a limit.
+fn room_behind<T>(items: &[T], limit: u32) -> u32
+    ensures { result ≡ limit - length items.now }
+{
+    limit.saturating_sub(u32::try_from(items.len()).unwrap_or(u32::MAX))
 }
 
 /// What is kept of the attributes that a span is given at its start, those of its builder in front of those that the

@@ -299,7 +299,10 @@ pub fn provider_over<P, S, G>(processors: Vec<P>, config: ConfigOf<S, G>) -> Pro
 }
 
 /// A provider that records nothing, and has no processors.
-pub(crate) fn provider_of_none<P, S, G>(alloc: Global, config: ConfigOf<S, G>) -> ProviderOf<P, S, G>
+pub(crate) fn provider_of_none<P, S, G>(
+    alloc: Global,
+    config: ConfigOf<S, G>,
+) -> ProviderOf<P, S, G>
     ensures { result ≡ disabled_provider config }
 {
     let mut provider = provider_over(Vec::new(alloc), config);

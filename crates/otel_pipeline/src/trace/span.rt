@@ -1,7 +1,7 @@
 //! A span: one operation within a trace. It records until its end; its end delivers what it recorded to the processors
 //! of its provider. A span must be spent, so that none is forgotten.
 
-ghost use Rattle.std.specs.Prelude.{◌≡◌, ◌≤◌, [], length, List, OnOk, OnErr, IfErr, IfOk, IfSome, IsOk, IsNone, Some, is_some, string_bytes};
+ghost use Rattle.std.specs.Prelude.{◌≡◌, ◌≤◌, [], length, map, List, OnOk, OnErr, IfErr, IfOk, IfSome, IsOk, IsNone, Some, is_some, string_bytes};
 ghost use Rattle.std.specs.List.Sorted.{IsPermutation};
 ghost use Rattle.opentelemetry.specs.Order.{greatest_status};
 ghost use Rattle.opentelemetry.specs.Plain.{PlainStatus, unset};
@@ -123,6 +123,19 @@ impl Span {
             return Ok(());
         }
         span_edit::set_attribute(&mut self.recorded, &self.span_limits, attribute)
+    }
+
+    /// Sets attributes in their order, each as `set_attribute` does. Where there is no memory none is set.
+    pub fn set_attributes(&mut self, attributes: Vec<KeyValue>) -> Result<(), AllocError>
+        ensures ok { OnOk result
+            (self.new ≡ history.after (map history.set_attribute attributes.items) self.old) }
+        ensures err { OnErr result (self.new ≡ self.old) }
+        ensures edits { history.IsEdited self.old self.new }
+        ensures free { IsNone self.old.recorded → IsOk result }
+        ensures full { IfSome self.old.recorded
+            (λ recorded. self.old.limits.max_attributes_per_span ≤ length recorded.attributes → IsOk result) }
+    {
+        span_edit::set_attributes(&mut self.recorded, &self.span_limits, attributes)
     }
 
     /// Adds an event that happened at this moment. Its attributes are cut at their own limit; over the limit of events

@@ -7,7 +7,7 @@ ghost use Rattle.opentelemetry.specs.PlainValues.{plain_status};
 ghost use Rattle.otel_pipeline.specs.SpanEdits.{plain_edit};
 ghost use Rattle.otel_pipeline.specs.SpanHistory as history;
 
-use super::limits::{cut_event, cut_link, push_within};
+use super::limits::{append_within, cut_event, cut_link, push_within};
 use super::value_length::cut_attribute;
 use crate::trace::Recorded;
 use opentelemetry::KeyValue;
@@ -82,6 +82,29 @@ pub(crate) fn set_attribute(
     } = recorded;
     let limit = limits.max_attributes_per_span;
     push_within(attributes, dropped_attributes_count, limit, attribute)
+}
+
+/// Sets attributes in their order, as far as there is room for them, and counts the others.
+pub(crate) fn set_attributes(
+    recorded: &mut Recorded,
+    limits: &SpanLimits,
+    added: Vec<KeyValue>,
+) -> Result<(), AllocError>
+    ensures ok { OnOk result (recorded.new ≡ history.set_each limits.now added.items recorded.old) }
+    ensures err { OnErr result (recorded.new ≡ recorded.old) }
+    ensures free { IsNone recorded.old → IsOk result }
+    ensures full { IfSome recorded.old
+        (λ recorded. limits.now.max_attributes_per_span ≤ length recorded.attributes → IsOk result) }
+{
+    let Some(recorded) = recorded.data.first_mut() else {
+        return Ok(());
+    };
+    let SpanData {
+        attributes,
+        dropped_attributes_count,
+        ..
+    } = recorded;
+    append_within(attributes, dropped_attributes_count, limits, added)
 }
 
 /// Adds an event, or counts it.
