@@ -24,7 +24,7 @@ pub use otel_pipeline::trace::{
 pub use otel_sampling::trace::{
     BatchStrings, Config, ConfigOf, ConfigStrings, IdGenerator, IdSource, IdSourceOf, ParentBased,
     RandomIdGenerator, Ratio, RatioError, Sampler, SamplerOf, SamplingDecision, SamplingResult,
-    ShouldSample, SpanLimits,
+    ShouldSample, SpanLimits, XrayIdGenerator,
 };
 pub use processor::{Processor, ProcessorOf};
 

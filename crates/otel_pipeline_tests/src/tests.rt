@@ -11,4 +11,5 @@ mod refused_builder;
 mod refused_memory;
 mod run_processors;
 mod simple_span_processor;
+mod start_ids;
 mod starts;

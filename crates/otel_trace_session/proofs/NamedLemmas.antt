@@ -74,20 +74,20 @@ on_err_both (Err e) f h k = f h k
 
 module _ {P S G : Type 0} (calls : Calls P S G) where
   -- a start that is refused, under a name that has no span
-  pub may_start_free : (p q : ProviderState P S G) (cx : PlainContext) (name : List ℕ) (found : Option PlainSpan)
-      → found ≡ None → MayStart calls p cx name None q → MayStart calls p cx name found q
-  may_start_free p q cx name found free h = subst (λ (o : Option PlainSpan). MayStart calls p cx name o q) (sym free) h
+  pub may_start_free : (p q : ProviderState P S G) (cx : PlainContext) (name : List ℕ) (now : ℕ) (found : Option PlainSpan)
+      → found ≡ None → MayStart calls p cx name now None q → MayStart calls p cx name now found q
+  may_start_free p q cx name now found free h = subst (λ (o : Option PlainSpan). MayStart calls p cx name now o q) (sym free) h
 
   -- a start that is refused leaves each processor as it was
-  pub refused_start_asks_none : (p q : ProviderState P S G) (cx : PlainContext) (name : List ℕ) (found : Option PlainSpan) → MayStart calls p cx name found q → q.processors ≡ p.processors
-  refused_start_asks_none p q cx name (Some span) h = absurd h
-  refused_start_asks_none p q cx name None (inl e) = ap (λ (r : ProviderState P S G). r.processors) e
-  refused_start_asks_none p q cx name None (inr h) = ap (λ (r : ProviderState P S G). r.processors) h.rest
+  pub refused_start_asks_none : (p q : ProviderState P S G) (cx : PlainContext) (name : List ℕ) (now : ℕ) (found : Option PlainSpan) → MayStart calls p cx name now found q → q.processors ≡ p.processors
+  refused_start_asks_none p q cx name now (Some span) h = absurd h
+  refused_start_asks_none p q cx name now None (inl e) = ap (λ (r : ProviderState P S G). r.processors) e
+  refused_start_asks_none p q cx name now None (inr h) = ap (λ (r : ProviderState P S G). r.processors) h.rest
 
-  pub refused_child_asks_none : (p q : ProviderState P S G) (parent : Option PlainSpan) (name : List ℕ) (found : Option PlainSpan) → ChildMayStart calls p parent name found q → q.processors ≡ p.processors
-  refused_child_asks_none p q None name found e = ap (λ (r : ProviderState P S G). r.processors) e
-  refused_child_asks_none p q (Some parent) name found (inl e) = ap (λ (r : ProviderState P S G). r.processors) e
-  refused_child_asks_none p q (Some parent) name found (inr h) = refused_start_asks_none p q (child_cx parent.span_context) name found h
+  pub refused_child_asks_none : (p q : ProviderState P S G) (parent : Option PlainSpan) (name : List ℕ) (now : ℕ) (found : Option PlainSpan) → ChildMayStart calls p parent name now found q → q.processors ≡ p.processors
+  refused_child_asks_none p q None name now found e = ap (λ (r : ProviderState P S G). r.processors) e
+  refused_child_asks_none p q (Some parent) name now found (inl e) = ap (λ (r : ProviderState P S G). r.processors) e
+  refused_child_asks_none p q (Some parent) name now found (inr h) = refused_start_asks_none p q (child_cx parent.span_context) name now found h
 
 put_history : (spans : NamedSpans) (span was : PlainSpan) (q : List ℕ) (b : Bool) → HaveHistories spans → HasHistory span → (if b then Some span else named spans q) ≡ Some was → HasHistory was
 put_history spans span was q true have has e = let same : span ≡ was = cc in subst HasHistory same has

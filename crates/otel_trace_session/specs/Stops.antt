@@ -20,10 +20,11 @@ module _ {P S G : Type 0} (calls : Calls P S G) where
   -- what a command that is refused may have done to the provider: nothing, but that a start under a new name may have
   -- drawn ids. The provider's own calls are not refused
   abbrev pub MayAsk : ProviderState P S G → NamedSpans → PlainCommand → ProviderState P S G → Type 0
-  MayAsk p spans (start span name moment) q = MayStart calls p root_cx name (named spans span) q
+  MayAsk p spans (start span name moment) q = MayStart calls p root_cx name moment (named spans span) q
   MayAsk p spans (child span parent name moment) q =
-      ChildMayStart calls p (named spans parent) name (named spans span) q
-  MayAsk p spans (remote span header name moment) q = RemoteMayStart calls p header name (named spans span) q
+      ChildMayStart calls p (named spans parent) name moment (named spans span) q
+  MayAsk p spans (remote span header name moment) q =
+      RemoteMayStart calls p header name moment (named spans span) q
   MayAsk p spans (attr span key value) q = q ≡ p
   MayAsk p spans (event span name moment) q = q ≡ p
   MayAsk p spans (status span how) q = q ≡ p

@@ -82,7 +82,7 @@ impl OpenSpans {
             (string_bytes name) now.0)) provider.old self.old answer provider.new self.new) }
         ensures asks { OnErr result (MayStart
             (calls_of P.SpanProcessor P.DrainDue.own P.KeepsBatches.own S.ShouldSample G.IdGenerator)
-            provider.old cx.now (string_bytes name) (named self.old (string_bytes span)) provider.new) }
+            provider.old cx.now (string_bytes name) now.0 (named self.old (string_bytes span)) provider.new) }
         ensures err { OnErr result (SameSpans self.old self.new) }
     {
         start_under(&mut self.spans, span, cx, tracer, provider, name, now)
@@ -102,7 +102,7 @@ impl OpenSpans {
             P.KeepsBatches.own S.ShouldSample G.IdGenerator) (start_in tracer.now root_cx (string_bytes span) (string_bytes
             name) now.0) (turn.before.histories parent.now) turn) provider.old self.old answer provider.new self.new) }
         ensures asks { OnErr result (ChildMayStart (calls_of P.SpanProcessor P.DrainDue.own P.KeepsBatches.own
-            S.ShouldSample G.IdGenerator) provider.old (named self.old parent.now) (string_bytes name)
+            S.ShouldSample G.IdGenerator) provider.old (named self.old parent.now) (string_bytes name) now.0
             (named self.old (string_bytes span)) provider.new) }
         ensures err { OnErr result (SameSpans self.old self.new) }
     {
@@ -191,7 +191,8 @@ fn start_under<P: KeepsBatches, S: ShouldSample, G: IdGenerator>(
         provider.old (by_name spans.old.entries) answer provider.new (by_name spans.new.entries)) }
     ensures asks { OnErr result (MayStart
         (calls_of P.SpanProcessor P.DrainDue.own P.KeepsBatches.own S.ShouldSample G.IdGenerator)
-        provider.old cx.now (string_bytes name) (named (by_name spans.old.entries) (string_bytes span)) provider.new) }
+        provider.old cx.now (string_bytes name) now.0 (named (by_name spans.old.entries) (string_bytes span))
+        provider.new) }
     ensures err { OnErr result (SameSpans (by_name spans.old.entries) (by_name spans.new.entries)) }
 {
     match spans.entry(span)? {

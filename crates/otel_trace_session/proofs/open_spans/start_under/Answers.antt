@@ -12,13 +12,13 @@ use Rattle.otel_trace_session.proofs.open_spans.start_under.Goals as goal
 pub returns-in_err-place-clause-asks : goal.returns-in_err-place-clause-asks
 returns-in_err-place-clause-asks g c =
     let calls = calls_of g.P.SpanProcessor g.P.DrainDue g.P.KeepsBatches g.S.ShouldSample g.G.IdGenerator in
-    always_on_err _ (may_start_free calls c.args.provider.now c.args.provider.now c.args.cx.now (string_bytes c.args.name) _
+    always_on_err _ (may_start_free calls c.args.provider.now c.args.provider.now c.args.cx.now (string_bytes c.args.name) c.args.now.0 _
     (named-get c.args.spans.now (string_bytes c.args.span) ∙ c.in_err-place.ensures.absent) (inl refl))
 
 pub returns-in_err-or_try_insert_with-in-Err-clause-asks : goal.returns-in_err-or_try_insert_with-in-Err-clause-asks
 returns-in_err-or_try_insert_with-in-Err-clause-asks g c =
     let calls = calls_of g.P.SpanProcessor g.P.DrainDue g.P.KeepsBatches g.S.ShouldSample g.G.IdGenerator in
-    always_on_err _ (may_start_free calls c.args.provider.now c.start_with_context.new.provider c.args.cx.now (string_bytes c.args.name) _
+    always_on_err _ (may_start_free calls c.args.provider.now c.start_with_context.new.provider c.args.cx.now (string_bytes c.args.name) c.args.now.0 _
     (named-get c.args.spans.now (string_bytes c.args.span) ∙ (rw c.in-Vacant.is at c.in_ok-place.ensures.found)) (inr c.in-Err.ensures.answers))
 
 pub returns-in-Ok-clause-ok : goal.returns-in-Ok-clause-ok

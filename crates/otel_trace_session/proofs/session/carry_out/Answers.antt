@@ -123,8 +123,8 @@ returns-in-Start-clause-err g c =
     subst (λ (command : Command). RefusesOne calls c.args.provider.now c.args.spans.now (plain_command command) c.start_in.new.provider c.start_in.new.self) (sym c.in-Start.is)
     (record {
       spans = same;
-      asks = subst (λ (cx : PlainContext). MayStart calls c.args.provider.now cx (string_bytes c.in-Start.name) (named c.args.spans.now (string_bytes c.in-Start.span)) c.start_in.new.provider) c.requires h;
-      processors = refused_start_asks_none calls c.args.provider.now c.start_in.new.provider _ (string_bytes c.in-Start.name) _ h;
+      asks = subst (λ (cx : PlainContext). MayStart calls c.args.provider.now cx (string_bytes c.in-Start.name) c.in-Start.moment.0 (named c.args.spans.now (string_bytes c.in-Start.span)) c.start_in.new.provider) c.requires h;
+      processors = refused_start_asks_none calls c.args.provider.now c.start_in.new.provider _ (string_bytes c.in-Start.name) _ _ h;
     })) c.start_in.ensures.err c.start_in.ensures.asks
 
 pub returns-in-Child-clause-err : goal.returns-in-Child-clause-err
@@ -134,8 +134,8 @@ returns-in-Child-clause-err g c =
     subst (λ (command : Command). RefusesOne calls c.args.provider.now c.args.spans.now (plain_command command) c.start_child.new.provider c.start_child.new.self) (sym c.in-Child.is)
     (record {
       spans = same;
-      asks = subst (λ (parent : List ℕ). ChildMayStart calls c.args.provider.now (named c.args.spans.now parent) (string_bytes c.in-Child.name) (named c.args.spans.now (string_bytes c.in-Child.span)) c.start_child.new.provider) c.as_str.ensures.value h;
-      processors = refused_child_asks_none calls c.args.provider.now c.start_child.new.provider _ (string_bytes c.in-Child.name) _ h;
+      asks = subst (λ (parent : List ℕ). ChildMayStart calls c.args.provider.now (named c.args.spans.now parent) (string_bytes c.in-Child.name) c.in-Child.moment.0 (named c.args.spans.now (string_bytes c.in-Child.span)) c.start_child.new.provider) c.as_str.ensures.value h;
+      processors = refused_child_asks_none calls c.args.provider.now c.start_child.new.provider _ (string_bytes c.in-Child.name) _ _ h;
     })) c.start_child.ensures.err c.start_child.ensures.asks
 
 pub returns-in_ok-cx-in-Remote-clause-err : goal.returns-in_ok-cx-in-Remote-clause-err
@@ -146,5 +146,5 @@ returns-in_ok-cx-in-Remote-clause-err g c =
     (record {
       spans = same;
       asks = inr (c.in_ok-cx-in-Remote.cx, c.in_ok-cx-in-Remote.ensures, h);
-      processors = refused_start_asks_none calls c.args.provider.now c.start_in-in-Remote.new.provider _ (string_bytes c.in-Remote.name) _ h;
+      processors = refused_start_asks_none calls c.args.provider.now c.start_in-in-Remote.new.provider _ (string_bytes c.in-Remote.name) _ _ h;
     })) c.start_in-in-Remote.ensures.err c.start_in-in-Remote.ensures.asks
