@@ -111,8 +111,8 @@ pub fn starts_under_parents_make_hops<P: SpanProcessor, S: ShouldSample, G: IdGe
         → IsDrawnChild parent (span_of history).span_context }
 {}
 
-/// A `ParentBased` with delegates goes by valid parents where the delegates decide as the parents did, as the standard's
-/// do, whatever its sampler of roots.
+/// A `ParentBased` with delegates goes by valid parents where the delegates decide as the parents did, as the
+/// standard's do, whatever its sampler of roots.
 pub fn parent_based_with_delegates_goes_by_parents<S: ShouldSample>()
     ensures { (sampler : ParentBased S) → FollowParents S.answer (delegates_of sampler)
         → GoesByValidParents ⟦<ParentBased<S> as ShouldSample>⟧ sampler }

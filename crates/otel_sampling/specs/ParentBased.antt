@@ -1,6 +1,7 @@
 -- What the sampler by parents with a delegate for each kind of parent answers (OpenTelemetry specification,
 -- "ParentBased").
-use Rattle.std.specs.Prelude.{◌≡◌, ◌%◌, ◌==◌, ◌&&◌, nat_lt, if◌then◌else◌, Bool, true, false, Option, Some, None, MatchOption}
+use Rattle.std.specs.Prelude.{◌≡◌, ◌%◌, ◌==◌, ◌&&◌, nat_lt, if◌then◌else◌, Bool, true, false}
+use Rattle.std.specs.Prelude.{Option, Some, None, MatchOption}
 use Rattle.opentelemetry.specs.Plain.{PlainContext, PlainSpanContext}
 use Rattle.opentelemetry.specs.PlainContexts.{current_span_context}
 use Rattle.otel_sampling.specs.Sampling.{SamplingQuestion, PlainSamplingResult}

@@ -14,6 +14,7 @@ use std::alloc::{AllocError, Global};
 use std::test::Fail;
 
 /// Finds no memory.
+#[derive(Drop)]
 struct Refusing;
 
 impl TextMapPropagator for Refusing {

@@ -45,22 +45,22 @@ impl ShouldSample for Numbered {
     }
 }
 
-fn numbered(alloc: Global, number: i64) -> Numbered {
+fn delegate(alloc: Global, number: i64) -> Numbered {
     Numbered { alloc, number }
 }
 
 /// A sampler of roots alone.
 fn by_default(alloc: Global) -> ParentBased<Numbered> {
-    ParentBased::new(numbered(alloc, 0))
+    ParentBased::new(delegate(alloc, 0))
 }
 
 /// With each delegate chosen.
 fn by_delegates(alloc: Global) -> ParentBased<Numbered> {
     by_default(alloc)
-        .with_remote_parent_sampled(numbered(alloc, 1))
-        .with_remote_parent_not_sampled(numbered(alloc, 2))
-        .with_local_parent_sampled(numbered(alloc, 3))
-        .with_local_parent_not_sampled(numbered(alloc, 4))
+        .with_remote_parent_sampled(delegate(alloc, 1))
+        .with_remote_parent_not_sampled(delegate(alloc, 2))
+        .with_local_parent_sampled(delegate(alloc, 3))
+        .with_local_parent_not_sampled(delegate(alloc, 4))
 }
 
 /// A parent: its span id, its flags, and whether it is remote.
@@ -111,12 +111,10 @@ fn ask<S: ShouldSample>(
 
 fn number_of(attributes: &[KeyValue]) -> Option<i64> {
     match attributes {
-        [
-            KeyValue {
-                value: Value::I64(number),
-                ..
-            },
-        ] => Some(*number),
+        [attribute] => match &attribute.value {
+            Value::I64(number) => Some(*number),
+            _ => None,
+        },
         _ => None,
     }
 }
