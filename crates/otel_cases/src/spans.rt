@@ -3,7 +3,7 @@
 
 use opentelemetry::propagation::{Extractor, Injector, MapCarrier, TextMapPropagator};
 use opentelemetry::trace::{Event, Link, SpanBuilder, SpanContext};
-use opentelemetry::{Context, Key, KeyValue, Moment, Value};
+use opentelemetry::{Array, Context, Key, KeyValue, Moment, Value};
 use otel_export::trace::{InMemorySpanExporter, SpanData};
 use otel_pipeline::trace::provider::provider_over;
 use otel_pipeline::trace::{ProviderOf, SimpleSpanProcessor, Span, SpanEdit};
@@ -13,7 +13,7 @@ use otel_sampling::trace::{ConfigOf, RandomIdGenerator, SamplerOf, SpanLimits};
 use otel_trace_lines::reply_text::write_batches;
 use otel_trace_run::program::{NoSampler, TraceSampler};
 use otel_value_cases::fields::{Row, RowError, pair_of, small_number_of};
-use otel_value_cases::status_of;
+use otel_value_cases::{status_of, texts_of};
 use std::alloc::{AllocError, Global};
 use std::fmt::Write;
 
@@ -59,8 +59,8 @@ fn provider_of(
     Ok(provider_over(processors, config))
 }
 
-/// The limits of attributes, events, links, attributes of an event, and of a link, between commas; 128 where a text is
-/// `-`, or has no more.
+/// The limits of attributes, events, links, attributes of an event, of a link, and of a value's length, between commas;
+/// 128 where a text is `-`, or has no more, and no limit of the length.
 fn limits_of(text: &str) -> Result<SpanLimits, RowError> {
     let mut limits = SpanLimits::default();
     for (i, part) in text.split(',').enumerate() {
@@ -71,6 +71,8 @@ fn limits_of(text: &str) -> Result<SpanLimits, RowError> {
             2 => limits.max_links_per_span = limit,
             3 => limits.max_attributes_per_event = limit,
             4 => limits.max_attributes_per_link = limit,
+            5 if part == "-" => {}
+            5 => limits.max_attribute_value_length = Some(limit),
             _ => return Err(RowError::Field),
         }
     }
@@ -215,6 +217,7 @@ fn edit_of(alloc: Global, field: &str) -> Result<SpanEdit, RowError> {
     let (word, rest) = halves_of(field);
     match word {
         "attribute" => Ok(SpanEdit::SetAttribute(attribute_of(alloc, rest)?)),
+        "texts" => Ok(SpanEdit::SetAttribute(list_attribute_of(alloc, rest)?)),
         "event" => Ok(SpanEdit::AddEvent(event_of(alloc, rest)?)),
         "link" => Ok(SpanEdit::AddLink(link_of(alloc, rest)?)),
         "name" => Ok(SpanEdit::UpdateName(String::from_str(alloc, rest)?)),
@@ -228,6 +231,13 @@ fn attribute_of(alloc: Global, text: &str) -> Result<KeyValue, RowError> {
     let (key, value) = pair_of(text)?;
     let key = Key::new(String::from_str(alloc, key)?);
     Ok(KeyValue::new(key, Value::String(String::from_str(alloc, value)?)))
+}
+
+/// The attribute of `KEY=TEXT,..`, whose value is a list.
+fn list_attribute_of(alloc: Global, text: &str) -> Result<KeyValue, RowError> {
+    let (key, items) = pair_of(text)?;
+    let key = Key::new(String::from_str(alloc, key)?);
+    Ok(KeyValue::new(key, Value::Array(Array::String(texts_of(alloc, items)?))))
 }
 
 /// The attributes of `KEY=VALUE,..`.

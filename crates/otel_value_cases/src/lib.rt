@@ -9,7 +9,7 @@ mod values;
 
 use fields::{Row, RowError};
 use std::alloc::Global;
-pub use values::status_of;
+pub use values::{status_of, texts_of};
 
 /// Answers a row whose word is one of these; false where it is none.
 pub fn answer(alloc: Global, row: &Row, out: &mut String) -> Result<bool, RowError> {

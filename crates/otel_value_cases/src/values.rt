@@ -10,7 +10,7 @@ mod spans;
 mod states;
 
 use crate::fields::{Row, RowError};
-pub use attributes::{integer_of, integers_of, truth_of};
+pub use attributes::{integer_of, integers_of, texts_of, truth_of};
 pub use baggages::{baggage_of, put_entries};
 pub use ids::numbered_flags_of;
 pub use spans::{put_span, status_of};

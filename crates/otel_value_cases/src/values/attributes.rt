@@ -117,7 +117,8 @@ pub fn integers_of(alloc: Global, text: &str) -> Result<Vec<i64>, RowError> {
     Ok(items)
 }
 
-fn texts_of(alloc: Global, text: &str) -> Result<Vec<String>, AllocError> {
+/// The texts between commas; those that are empty are left out.
+pub fn texts_of(alloc: Global, text: &str) -> Result<Vec<String>, AllocError> {
     let mut items = Vec::new(alloc);
     for item in text.split(',') {
         if !item.is_empty() {
