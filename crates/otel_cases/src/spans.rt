@@ -4,9 +4,10 @@
 use opentelemetry::propagation::{Extractor, Injector, MapCarrier, TextMapPropagator};
 use opentelemetry::trace::{Event, Link, SpanBuilder, SpanContext};
 use opentelemetry::{Array, Context, Key, KeyValue, Moment, Value};
+use otel_export::error::OTelSdkError;
 use otel_export::trace::{InMemorySpanExporter, SpanData};
 use otel_pipeline::trace::provider::provider_over;
-use otel_pipeline::trace::{ProviderOf, SimpleSpanProcessor, Span, SpanEdit};
+use otel_pipeline::trace::{Exception, ProviderOf, SimpleSpanProcessor, Span, SpanEdit};
 use otel_propagation::propagation::TraceContextPropagator;
 use otel_resource::resource::Resource;
 use otel_sampling::trace::{ConfigOf, RandomIdGenerator, SamplerOf, SpanLimits};
@@ -200,7 +201,7 @@ fn edit_all(
     for field in row.fields.iter() {
         match field.as_str() {
             "end" if is_started => refused = Some(end(span, provider)?),
-            field if is_started => edit(span, edit_of(alloc, field)?)?,
+            field if is_started => change(alloc, span, field)?,
             "start" => is_started = true,
             _ => {}
         }
@@ -210,6 +211,33 @@ fn edit_all(
 
 fn end(span: &mut Span, provider: &mut RowProvider) -> Result<usize, AllocError> {
     span.end_with_timestamp(provider, Moment(9))
+}
+
+/// Does to a span what a field writes.
+fn change(alloc: Global, span: &mut Span, field: &str) -> Result<(), RowError> {
+    match halves_of(field) {
+        ("attributes", rest) => span.set_attributes(attributes_of(alloc, rest)?)?,
+        ("exception", rest) => {
+            span.record_exception(alloc, exception_of(alloc, rest)?, Moment(8))?
+        }
+        ("shut", _) => span.record_error(alloc, &OTelSdkError::AlreadyShutdown, Moment(8))?,
+        _ => edit(span, edit_of(alloc, field)?)?,
+    }
+    Ok(())
+}
+
+/// The error of `MESSAGE:TYPE:STACKTRACE`, of which the last two may be absent.
+fn exception_of(alloc: Global, text: &str) -> Result<Exception, AllocError> {
+    let (message, rest) = halves_of(text);
+    let (exception_type, stacktrace) = halves_of(rest);
+    let mut exception = Exception::new(String::from_str(alloc, message)?);
+    if !exception_type.is_empty() {
+        exception = exception.with_type(String::from_str(alloc, exception_type)?);
+    }
+    if !stacktrace.is_empty() {
+        exception = exception.with_stacktrace(String::from_str(alloc, stacktrace)?);
+    }
+    Ok(exception)
 }
 
 /// The edit that a field writes.

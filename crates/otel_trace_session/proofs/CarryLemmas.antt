@@ -1,14 +1,12 @@
 -- A command that took a turn was carried out: each processor follows what the turn delivered.
-use Rattle.std.proofs.Common.{◌≡◌, ℕ, List, [], Option, Some, None, Result, Err, MatchBool, map, true, false, Bool, refl, sym, ap, subst}
+use Rattle.std.proofs.Common.{◌≡◌, ℕ, List, [], Option, Some, None, Result, MatchBool, map, true, false, Bool, refl, sym, ap, subst}
 use Rattle.std.specs.Bool.{OnTrue, OnFalse}
-use Rattle.std.specs.Result.{IsErrOf}
 use Rattle.opentelemetry.specs.Plain.{PlainContext, PlainScope}
 use Rattle.opentelemetry.specs.PlainContexts.{root_cx}
 use Rattle.otel_export.specs.declared.error.OTelSdkError.{OTelSdkError}
-use Rattle.otel_export.specs.declared.error.OTelSdkError.TheVariants as errors
 use Rattle.otel_pipeline.specs.Deliveries.{Delivery, EachFollows}
 use Rattle.otel_kept.specs.ProcessorKeeps.{OnlyAppends}
-use Rattle.otel_pipeline.specs.Provider.{ProviderState, ShutsDown}
+use Rattle.otel_pipeline.specs.Provider.{ProviderState, ShutsDown, shut_answer}
 use Rattle.otel_pipeline.specs.SpanHistory.{SpanHistory, Edit, begun, over, data_of, span_of}
 use Rattle.otel_pipeline.proofs.Following.{EachFollows-same, delivered_follows}
 use Rattle.otel_trace_lines.specs.Commands.{PlainCommand, start, child, remote, inject, end}
@@ -110,10 +108,10 @@ module _ {P S G : Type 0} (calls : Calls P S G) (law : OnlyAppends calls.process
 
 -- a shutdown, by what is promised of a second one and of a first one
 pub shuts_by : {P S G : Type 0} (calls : Calls P S G) (p q : ProviderState P S G) (said : Result (Unit {0}) OTelSdkError)
-    → OnTrue p.is_shut (IsErrOf said errors.AlreadyShutdown × (q ≡ p)) → OnFalse p.is_shut (ShutsDown calls.processor p 5_000_000_000 said q) → Shuts calls.processor p said q
+    → OnTrue p.is_shut ((said ≡ shut_answer p.is_disabled p.processors) × (q ≡ p)) → OnFalse p.is_shut (ShutsDown calls.processor p 5_000_000_000 said q) → Shuts calls.processor p said q
 shuts_by {P} {S} {G} calls p q said again first = by p.is_shut again first
   where
-    by : (is_shut : Bool) → OnTrue is_shut (IsErrOf said errors.AlreadyShutdown × (q ≡ p)) → OnFalse is_shut (ShutsDown calls.processor p 5_000_000_000 said q)
-        → MatchBool is_shut ((said ≡ Err errors.AlreadyShutdown) × (q ≡ p)) (ShutsDown calls.processor p 5_000_000_000 said q)
+    by : (is_shut : Bool) → OnTrue is_shut ((said ≡ shut_answer p.is_disabled p.processors) × (q ≡ p)) → OnFalse is_shut (ShutsDown calls.processor p 5_000_000_000 said q)
+        → MatchBool is_shut ((said ≡ shut_answer p.is_disabled p.processors) × (q ≡ p)) (ShutsDown calls.processor p 5_000_000_000 said q)
     by true again first = again
     by false again first = first

@@ -6,7 +6,7 @@ use Rattle.opentelemetry.specs.Plain.{PlainScope}
 use Rattle.otel_export.specs.declared.error.OTelSdkError.{OTelSdkError}
 use Rattle.otel_export.specs.declared.error.OTelSdkError.TheVariants as errors
 use Rattle.otel_pipeline.specs.Each.{Each, error_count, first_failure}
-use Rattle.otel_pipeline.specs.Provider.{Flushes, FlushesProcessor, ProviderState, ShutsDown, ShutsProcessor}
+use Rattle.otel_pipeline.specs.Provider.{Flushes, FlushesProcessor, ProviderState, ShutsDown, ShutsProcessor, shut_answer}
 use Rattle.otel_pipeline.specs.declared.trace.span_processor.SpanProcessor.{Ghosts}
 use Rattle.otel_trace_lines.specs.Commands.{PlainCommand, start, child, remote, attr, event, status, inject, end, flush, run, shutdown}
 use Rattle.otel_trace_lines.specs.PlainReply.{PlainReply}
@@ -48,13 +48,19 @@ module _ {P : Type 0} (calls : Ghosts P) where
   first_shutdown_leaves_none old new timeout (Err _) h e = cc
 
 module _ {P S G : Type 0} (calls : Calls P S G) where
-  shutdown_leaves_none : (b : Bool) (old new : ProviderState P S G) (said : Result (Unit {0}) OTelSdkError) → MatchBool b ((said ≡ Err errors.AlreadyShutdown) × (new ≡ old)) (ShutsDown calls.processor old 5_000_000_000 said new)
+  shutdown_leaves_none : (b : Bool) (old new : ProviderState P S G) (said : Result (Unit {0}) OTelSdkError) → MatchBool b ((said ≡ shut_answer old.is_disabled old.processors) × (new ≡ old)) (ShutsDown calls.processor old 5_000_000_000 said new)
       → call_answer said ≡ answers.Ok → NoneWaits calls.processor new.processors
-  shutdown_leaves_none true old new said h e = absurd (failed_again said h.0 e)
+  shutdown_leaves_none true old new said h e =
+      subst (λ (p : ProviderState P S G). NoneWaits calls.processor p.processors) (sym h.1) (none_again old.is_disabled old.processors h.0)
     where
       failed_again : (said : Result (Unit {0}) OTelSdkError) → said ≡ Err errors.AlreadyShutdown → call_answer said ≡ answers.Ok → ⊥
       failed_again (Ok _) h e = cc
       failed_again (Err _) h e = cc
+
+      none_again : (is_disabled : Bool) (ps : List P) → said ≡ shut_answer is_disabled ps → NoneWaits calls.processor ps
+      none_again true [] h = λ k d within. absurd (omega (arith, within))
+      none_again true (p ∷ ps) h = absurd (failed_again said h e)
+      none_again false ps h = absurd (failed_again said h e)
   shutdown_leaves_none false old new said h e = first_shutdown_leaves_none calls.processor old new 5_000_000_000 said h e
 
   -- behind one command

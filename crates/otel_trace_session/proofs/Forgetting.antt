@@ -7,7 +7,7 @@ use Rattle.opentelemetry.specs.PlainContexts.{root_cx}
 use Rattle.otel_export.specs.declared.error.OTelSdkError.{OTelSdkError}
 use Rattle.otel_export.specs.PlainSpanData.{PlainSpanData}
 use Rattle.otel_export.specs.KeptBatches.{Grows}
-use Rattle.otel_pipeline.specs.Provider.{ProviderState, ShutsDown}
+use Rattle.otel_pipeline.specs.Provider.{ProviderState, ShutsDown, shut_answer}
 use Rattle.otel_pipeline.specs.SpanHistory.{SpanHistory, begun, over, data_of}
 use Rattle.otel_kept.specs.RecalledBatches.{FirstRecalled, Recalls}
 use Rattle.otel_kept.proofs.ProviderRecalls.{delivers_again, first_once, flushes_again, follows_again, runs_again, shuts_again, starts_again, told_again}
@@ -17,7 +17,7 @@ use Rattle.otel_trace_lines.specs.declared.command.Command.{Command}
 use Rattle.otel_trace_lines.specs.declared.reply.Answer.{Answer}
 use Rattle.otel_trace_session.specs.Calls.{Calls, batches_of_first, losses_of_first}
 use Rattle.otel_trace_session.specs.OpenSpans.{Describe, Histories}
-use Rattle.otel_trace_session.specs.ProviderTurns.{AsksProvider, ShutsOr}
+use Rattle.otel_trace_session.specs.ProviderTurns.{AsksProvider, Shuts, ShutsOr}
 use Rattle.otel_trace_session.specs.SpanTurns.{ChildTurn, EndTurn, Start, StartTurn, StartsBehind, request_of, start_in}
 use Rattle.otel_trace_session.specs.Turn.{AsksNobody, Course, Turn}
 use Rattle.otel_trace_session.specs.Turns.{AreTurns, IsTurn, Runs, SessionState, TookTurns, course_of, replied, reply_of}
@@ -117,6 +117,22 @@ module _ {P S G : Type 0} (calls : Calls P S G) (law : RecallsNothingElse calls)
       by true k = (rs, subst (λ (p : ProviderState P S G). FirstRecalled calls.keeps.recalled bs p.processors rs) (sym k.1) h, (k.0, ap (λ (p : ProviderState P S G). record p { processors = rs }) k.1))
       by false k = shuts_again calls.processor calls.timer calls.keeps.kept calls.keeps.lost calls.keeps.recalled law bs 5_000_000_000 old rs said new h k
 
+  -- what a second shutdown answers stays, since as many processors stay
+  same_shut_answer : (is_disabled : Bool) (ps rs : List P) → FirstRecalled calls.keeps.recalled bs ps rs → shut_answer is_disabled ps ≡ shut_answer is_disabled rs
+  same_shut_answer false ps rs h = refl
+  same_shut_answer true [] [] h = refl
+  same_shut_answer true [] (r ∷ rs) h = absurd h
+  same_shut_answer true (p ∷ ps) [] h = absurd h
+  same_shut_answer true (p ∷ ps) (r ∷ rs) h = refl
+
+  shuts_as_asked : (old : ProviderState P S G) (rs : List P) (said : Result (Unit {0}) OTelSdkError) (new : ProviderState P S G)
+      → FirstRecalled calls.keeps.recalled bs old.processors rs → Shuts calls.processor old said new
+      → (ss : List P) × FirstRecalled calls.keeps.recalled bs new.processors ss × Shuts calls.processor (record old { processors = rs }) said (record new { processors = ss })
+  shuts_as_asked old rs said new h k =
+      let again = shuts_or_again (shut_answer old.is_disabled old.processors) old rs said new h k in
+      (again.0, again.1, subst (λ (answer : Result (Unit {0}) OTelSdkError). ShutsOr calls.processor answer (record old { processors = rs }) said (record new { processors = again.0 }))
+      (same_shut_answer old.is_disabled old.processors rs h) again.2)
+
   -- the turn of a command
   turn_again : (scope : PlainScope) (command : PlainCommand) (turn : Turn P S G) (rs : List P) → FirstRecalled calls.keeps.recalled bs turn.before.provider.processors rs
       → IsTurn calls scope command turn → Again (IsTurn calls scope command) turn rs
@@ -136,7 +152,7 @@ module _ {P S G : Type 0} (calls : Calls P S G) (law : RecallsNothingElse calls)
   turn_again scope (end span moment) turn rs h k = end_again span moment (turn.before.histories span) turn rs h k
   turn_again scope flush turn rs h k = asks_again _ (λ old rs said new. flushes_again calls.processor calls.timer calls.keeps.kept calls.keeps.lost calls.keeps.recalled law bs old rs said new) turn rs h k
   turn_again scope (run moment) turn rs h k = asks_again _ (λ old rs said new. runs_again calls.processor calls.timer calls.keeps.kept calls.keeps.lost calls.keeps.recalled law bs moment old rs said new) turn rs h k
-  turn_again scope shutdown turn rs h k = asks_again _ (λ old rs said new. shuts_or_again _ old rs said new) turn rs h k
+  turn_again scope shutdown turn rs h k = asks_again _ (λ old rs said new. shuts_as_asked old rs said new) turn rs h k
 
   -- what the first processor keeps and lost
   pub kept_again : (ps rs : List P) → FirstRecalled calls.keeps.recalled bs ps rs → batches_of_first calls.keeps rs ≡ bs ++ batches_of_first calls.keeps ps

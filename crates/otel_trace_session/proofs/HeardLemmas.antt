@@ -1,15 +1,14 @@
 -- What the processors of a session hear of all that its commands deliver: a processor closes at a shutdown of the
 -- provider alone, and nothing is delivered behind that.
-use Rattle.std.proofs.Common.{◌≡◌, ℕ, Bool, true, false, List, [], ◌∷◌, ◌++◌, map, Option, Some, None, Result, MatchBool, Err, refl, sym, ◌∙◌, ap, subst}
+use Rattle.std.proofs.Common.{◌≡◌, ℕ, Bool, true, false, List, [], ◌∷◌, ◌++◌, map, Option, Some, None, Result, MatchBool, refl, sym, ◌∙◌, ap, subst}
 use Rattle.opentelemetry.specs.Plain.{PlainScope}
 use Rattle.opentelemetry.specs.PlainContexts.{root_cx}
 use Rattle.otel_export.specs.declared.error.OTelSdkError.{OTelSdkError}
-use Rattle.otel_export.specs.declared.error.OTelSdkError.TheVariants as errors
 use Rattle.otel_export.specs.PlainSpanData.{PlainSpanData}
 use Rattle.otel_pipeline.specs.Deliveries.{Delivery, EachFollows, EachOpenHears}
 use Rattle.otel_pipeline.specs.Ending.{Delivers, TakesAndTells, end_delivers}
 use Rattle.otel_pipeline.specs.Each.{error_count}
-use Rattle.otel_pipeline.specs.Provider.{FlushesProcessor, ProviderState, RunsProcessor, ShutsDown}
+use Rattle.otel_pipeline.specs.Provider.{FlushesProcessor, ProviderState, RunsProcessor, ShutsDown, shut_answer}
 use Rattle.otel_pipeline.specs.SpanHistory.{SpanHistory, begun, over, span_of}
 use Rattle.otel_pipeline.proofs.Following.{EachFollows-same, EachFollows-append, EachStays, hears_first, hears_no_delivery, hears_on, stays_same, stays_asked}
 use Rattle.otel_trace_lines.specs.Commands.{PlainCommand, start, child, remote, attr, event, status, inject, end, flush, run, shutdown}
@@ -101,10 +100,10 @@ module _ {P S G : Type 0} (calls : Calls P S G) where
   shut_delivers_none scope (run moment) turn shut h = h.delivers
   shut_delivers_none scope shutdown turn shut h = h.delivers
 
-  shut_by : (is_shut : Bool) (old new : ProviderState P S G) (said : Result (Unit {0}) OTelSdkError)
-      → old.is_shut ≡ is_shut → MatchBool is_shut ((said ≡ Err errors.AlreadyShutdown) × (new ≡ old)) (ShutsDown calls.processor old 5_000_000_000 said new) → new.is_shut ≡ true
-  shut_by true old new said e h = ap (λ (p : ProviderState P S G). p.is_shut) h.1 ∙ e
-  shut_by false old new said e h = ap (λ (p : ProviderState P S G). p.is_shut) h.rest
+  shut_by : (again : Result (Unit {0}) OTelSdkError) (is_shut : Bool) (old new : ProviderState P S G) (said : Result (Unit {0}) OTelSdkError)
+      → old.is_shut ≡ is_shut → MatchBool is_shut ((said ≡ again) × (new ≡ old)) (ShutsDown calls.processor old 5_000_000_000 said new) → new.is_shut ≡ true
+  shut_by again true old new said e h = ap (λ (p : ProviderState P S G). p.is_shut) h.1 ∙ e
+  shut_by again false old new said e h = ap (λ (p : ProviderState P S G). p.is_shut) h.rest
 
   -- behind a shutdown the provider is shut
   shutdown_shuts : (scope : PlainScope) (command : PlainCommand) (turn : Turn P S G) → is_shutdown command ≡ true → IsTurn calls scope command turn → (turn.behind.provider.is_shut ≡ true) × (turn.delivered ≡ [])
@@ -118,7 +117,7 @@ module _ {P S G : Type 0} (calls : Calls P S G) where
   shutdown_shuts scope (end span moment) turn e h = cc
   shutdown_shuts scope flush turn e h = cc
   shutdown_shuts scope (run moment) turn e h = cc
-  shutdown_shuts scope shutdown turn e h = (shut_by turn.before.provider.is_shut turn.before.provider turn.behind.provider h.said refl h.gives, h.delivers)
+  shutdown_shuts scope shutdown turn e h = (shut_by (shut_answer turn.before.provider.is_disabled turn.before.provider.processors) turn.before.provider.is_shut turn.before.provider turn.behind.provider h.said refl h.gives, h.delivers)
 
   -- a shut provider stays shut over any command
   stays_shut : (b : Bool) (scope : PlainScope) (command : PlainCommand) (turn : Turn P S G) → is_shutdown command ≡ b → turn.before.provider.is_shut ≡ true → IsTurn calls scope command turn → turn.behind.provider.is_shut ≡ true

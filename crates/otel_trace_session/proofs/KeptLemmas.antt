@@ -1,10 +1,9 @@
 -- The batches that the first processor of a session keeps over a turn, and how many it loses.
-use Rattle.std.proofs.Common.{◌≡◌, ℕ, List, [], ◌∷◌, Result, Err, Option, Some, None, Bool, true, false, ◌||◌, MatchBool, refl, ap, rules}
+use Rattle.std.proofs.Common.{◌≡◌, ℕ, List, [], ◌∷◌, Result, Option, Some, None, Bool, true, false, ◌||◌, MatchBool, refl, ap, rules}
 use Rattle.std.specs.declared.alloc.AllocError.{AllocError}
 use Rattle.opentelemetry.specs.Plain.{PlainContext, PlainScope}
 use Rattle.opentelemetry.specs.PlainContexts.{empty_span_context, root_cx}
 use Rattle.otel_export.specs.declared.error.OTelSdkError.{OTelSdkError}
-use Rattle.otel_export.specs.declared.error.OTelSdkError.TheVariants as errors
 use Rattle.otel_sampling.specs.declared.trace.sampler.SamplingDecision.{SamplingDecision}
 use Rattle.otel_sampling.specs.declared.trace.sampler.SamplingDecision.TheVariants as decisions
 use Rattle.otel_export.specs.PlainSpanData.{PlainSpanData}
@@ -12,7 +11,7 @@ use Rattle.otel_pipeline.specs.Each.{Each}
 use Rattle.otel_pipeline.specs.Ending.{Delivers, TakesAndTells}
 use Rattle.otel_export.specs.KeptBatches.{Grows, appends_none}
 use Rattle.otel_kept.specs.ProcessorKeeps.{OnlyAppends}
-use Rattle.otel_pipeline.specs.Provider.{FlushesProcessor, ProviderState, RunsProcessor, ShutsDown, ShutsProcessor}
+use Rattle.otel_pipeline.specs.Provider.{FlushesProcessor, ProviderState, RunsProcessor, ShutsDown, ShutsProcessor, shut_answer}
 use Rattle.otel_pipeline.specs.SpanHistory.{PlainSpan, SpanStart, SpanHistory, begun, over, span_of}
 use Rattle.otel_pipeline.specs.StartRequest.{StartRequest}
 use Rattle.otel_pipeline.specs.Starting.{PassesThrough, DecidesStart, StartsOpen}
@@ -136,7 +135,7 @@ module _ {P S G : Type 0} (calls : Calls P S G) (law : OnlyAppends calls.process
   turn_grows scope (end span moment) turn h = end_grows (turn.before.histories span) span moment turn h
   turn_grows scope flush turn h = first_flushed calls.processor calls.timer calls.keeps law turn.before.provider.processors turn.behind.provider.processors h.gives.asked.0 h.gives.asked.2
   turn_grows scope (run moment) turn h = first_ran calls.processor calls.timer calls.keeps law moment turn.before.provider.processors turn.behind.provider.processors h.gives.asked.0 h.gives.asked.2
-  turn_grows scope shutdown turn h = shutdown_grows (Err errors.AlreadyShutdown) turn.before.provider.is_shut turn.before.provider turn.behind.provider h.said h.gives
+  turn_grows scope shutdown turn h = shutdown_grows (shut_answer turn.before.provider.is_disabled turn.before.provider.processors) turn.before.provider.is_shut turn.before.provider turn.behind.provider h.said h.gives
 
   -- and where it is neither an end nor a flush, a run or a shutdown none is lost
   pub turn_loses_none : (scope : PlainScope) (command : PlainCommand) (turn : Turn P S G) → IsTurn calls scope command turn → is_end command ≡ false

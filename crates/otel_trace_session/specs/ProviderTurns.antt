@@ -1,8 +1,7 @@
 -- The turns of commands of the provider: a flush, a run and a shutdown.
 use Rattle.std.specs.Prelude.{◌≡◌, Bool, true, false, List, [], Result, Ok, Err, MatchBool, IsTrue, All}
 use Rattle.otel_export.specs.declared.error.OTelSdkError.{OTelSdkError}
-use Rattle.otel_export.specs.declared.error.OTelSdkError.TheVariants as errors
-use Rattle.otel_pipeline.specs.Provider.{ProviderState, ShutsDown}
+use Rattle.otel_pipeline.specs.Provider.{ProviderState, ShutsDown, shut_answer}
 use Rattle.otel_pipeline.specs.declared.trace.span_processor.SpanProcessor.{Ghosts}
 use Rattle.otel_trace_lines.specs.Commands.{PlainCommand, flush, shutdown}
 use Rattle.otel_trace_lines.specs.declared.reply.Answer.{Answer}
@@ -31,9 +30,9 @@ ShutsOr processor again old answer new =
     MatchBool old.is_shut ((answer ≡ again) × (new ≡ old)) (ShutsDown processor old 5_000_000_000 answer new)
 
 module _ {P S G : Type 0} (processor : Ghosts P) where
-  -- a shutdown as a command asks for it: a second one is an error
+  -- a shutdown as a command asks for it: a second one is an error, where the SDK is not disabled
   abbrev pub Shuts : ProviderState P S G → Result (Unit {0}) OTelSdkError → ProviderState P S G → Type 0
-  Shuts old answer new = ShutsOr processor (Err errors.AlreadyShutdown) old answer new
+  Shuts old answer new = ShutsOr processor (shut_answer old.is_disabled old.processors) old answer new
 
   -- a shutdown of a provider that may be shut already, which is no error
   abbrev pub ShutsIfOpen : ProviderState P S G → Result (Unit {0}) OTelSdkError → ProviderState P S G → Type 0

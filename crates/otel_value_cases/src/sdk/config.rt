@@ -10,6 +10,8 @@ use std::alloc::{AllocError, Global};
 pub fn answer(alloc: Global, row: &Row, out: &mut String) -> Result<bool, RowError> {
     match row.word.as_str() {
         "config-limits" => push_limits(alloc, row, out)?,
+        "config-attribute-limits" => push_attribute_limits(alloc, row, out)?,
+        "config-disabled" => push_disabled(alloc, row, out)?,
         "config-sampler" => push_configured_sampler(alloc, row, out)?,
         "config-resource" => push_configured_resource(alloc, row, out)?,
         _ => return Ok(false),
@@ -33,6 +35,42 @@ fn push_limits(alloc: Global, row: &Row, out: &mut String) -> Result<(), AllocEr
     let of_link = limits.max_attributes_per_link;
     write!(out, "{attributes} {events} {links} {of_event} {of_link}")?;
     Ok(())
+}
+
+/// How much a span keeps of its attributes and of those of events and links, by the strings of attributes in general, of
+/// events and of links, then of the length of values and of that in general: how many of each, and how long.
+fn push_attribute_limits(alloc: Global, row: &Row, out: &mut String) -> Result<(), AllocError> {
+    let strings = ConfigStrings {
+        general_attribute_count_limit: row.owned(alloc, 0)?,
+        event_attribute_count_limit: row.owned(alloc, 1)?,
+        link_attribute_count_limit: row.owned(alloc, 2)?,
+        attribute_value_length_limit: row.owned(alloc, 3)?,
+        general_attribute_value_length_limit: row.owned(alloc, 4)?,
+        attribute_count_limit: row.owned(alloc, 5)?,
+        ..ConfigStrings::default()
+    };
+    let limits = Config::from_strings(alloc, &strings, 0)?.span_limits;
+    let attributes = limits.max_attributes_per_span;
+    let of_event = limits.max_attributes_per_event;
+    let of_link = limits.max_attributes_per_link;
+    write!(out, "{attributes} {of_event} {of_link}")?;
+    match limits.max_attribute_value_length {
+        Some(length) => write!(out, " {length}"),
+        None => out.push_str(" -"),
+    }
+}
+
+/// Whether a string disables the SDK.
+fn push_disabled(alloc: Global, row: &Row, out: &mut String) -> Result<(), AllocError> {
+    let strings = ConfigStrings {
+        sdk_disabled: row.owned(alloc, 0)?,
+        ..ConfigStrings::default()
+    };
+    out.push_str(if strings.is_sdk_disabled() {
+        "disabled"
+    } else {
+        "enabled"
+    })
 }
 
 /// The strings of a row whose first fields are a sampler's name and its argument.
