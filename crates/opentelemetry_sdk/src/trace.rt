@@ -18,8 +18,8 @@ pub use otel_export::trace::{
 };
 pub use otel_kept::KeepsBatches;
 pub use otel_pipeline::trace::{
-    CloseReport, DrainDue, LeavesSpans, OverExporter, ProviderBuilderOf, ProviderOf, SdkTracer,
-    SimpleSpanProcessor, Span, SpanEdit, SpanProcessor,
+    CloseReport, DrainDue, Exception, LeavesSpans, OverExporter, ProviderBuilderOf, ProviderOf,
+    SdkTracer, SimpleSpanProcessor, Span, SpanEdit, SpanProcessor,
 };
 pub use otel_sampling::trace::{
     BatchStrings, Config, ConfigOf, ConfigStrings, IdGenerator, IdSource, IdSourceOf, ParentBased,

@@ -1,6 +1,7 @@
 //! Tests of `otel_pipeline`. They call a provider by small functions without clauses, most of them in `fixtures`, so that
 //! the proof of a test carries no facts of the pipeline.
 
+mod disabled;
 mod fixtures;
 mod kept_batches;
 mod left_spans;
