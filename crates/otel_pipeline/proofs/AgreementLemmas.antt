@@ -18,7 +18,7 @@ use Rattle.otel_propagation.proofs.TraceparentLemmas.{injected_carries}
 use Rattle.otel_pipeline.specs.Hops.{AreDrawnHops, AreHops, GoesByParent, GoesByParents, IsChild, IsDrawnChild, IsPassedOn, IsReceived}
 use Rattle.otel_pipeline.specs.Provider.{ProviderState}
 use Rattle.otel_pipeline.specs.SpanHistory.{SpanHistory, SpanStart, over, span_of}
-use Rattle.otel_pipeline.specs.StartRequest.{StartRequest, start_as, start_flags, start_moment, start_question, start_span_context}
+use Rattle.otel_pipeline.specs.StartRequest.{StartRequest, start_flags, start_moment, start_question, start_span_context}
 use Rattle.otel_pipeline.specs.Starting.{DecidesStart, DrawsTraceId, Starts, StartsOpen}
 use Rattle.otel_pipeline.specs.declared.trace.span_processor.SpanProcessor.{Ghosts}
 

@@ -1,10 +1,10 @@
 -- A sampler by parents whose delegates decide as the parents did goes by valid parents.
-use Rattle.std.proofs.Common.{◌≡◌, ℕ, ◌%◌, ◌<◌, Bool, true, false, ◌&&◌, refl, sym, ap, ◌∙◌, nat_lt}
+use Rattle.std.proofs.Common.{◌≡◌, ◌%◌, Bool, true, false, ◌&&◌, ap, ◌∙◌}
 use Rattle.std.specs.Prelude.{Option, Some, None, unwrap_or, ◌==◌, if◌then◌else◌}
 use Rattle.std.proofs.lemmas.Bool.{lt-ltb}
 use Rattle.opentelemetry.specs.Plain.{PlainContext, PlainSpanContext}
 use Rattle.opentelemetry.specs.PlainContexts.{empty_span_context}
-use Rattle.otel_sampling.specs.ParentBased.{Delegates, FollowParents, by_delegates, delegate_for, parent_based_answer, parent_delegate, parent_in, valid_one}
+use Rattle.otel_sampling.specs.ParentBased.{Delegates, FollowParents, by_delegates, delegate_for, parent_based_answer, parent_in, valid_one}
 use Rattle.otel_sampling.specs.Sampler.{active_in, built_in, parent_decision, sampler_answer}
 use Rattle.otel_sampling.specs.Sampling.{SamplingQuestion, PlainSamplingResult}
 use Rattle.otel_sampling.specs.declared.trace.sampler.SamplingDecision.TheVariants as decisions

@@ -1,5 +1,5 @@
 -- What follows of an end.
-use Rattle.std.proofs.Common.{◌≡◌, ℕ, Bool, true, false, List, [], Option, Some, None, IsNone, ◌∙◌, ap, refl, subst}
+use Rattle.std.proofs.Common.{◌≡◌, ℕ, Bool, List, [], Option, Some, None, IsNone, ◌∙◌, ap, refl, subst}
 use Rattle.otel_export.specs.PlainSpanData.{PlainSpanData}
 use Rattle.otel_pipeline.specs.Deliveries.{EachFollows}
 use Rattle.otel_pipeline.specs.Ending.{Delivers, DeliversIf, Ends, deliveries}

@@ -1,12 +1,12 @@
 -- Attributes that are set one behind the other are added at once, as far as there is room.
-use Rattle.std.proofs.Common.{◌≡◌, ℕ, suc, ◌+◌, ◌-◌, ◌^◌, ◌<◌, ◌≤◌, Bool, true, false, min, map, List, [], ◌∷◌, ◌++◌, Option, Some, None, Result, Ok, Err, OnOk, OnErr, refl, sym, ◌∙◌, ap, subst, length, take, arith, append_assoc, append-nil, length-append, nat_lt}
+use Rattle.std.proofs.Common.{◌≡◌, ℕ, suc, ◌+◌, ◌-◌, ◌^◌, ◌<◌, ◌≤◌, true, false, min, map, List, [], ◌∷◌, ◌++◌, Option, Some, None, Result, Ok, Err, OnOk, OnErr, refl, sym, ◌∙◌, ap, subst, length, take, arith, append_assoc, append-nil, length-append, nat_lt}
 use native.Mathlib.Decide.{dec_lt}
 use Rattle.std.proofs.lemmas.Bool.Decides.{nat_tests}
 use Rattle.std.proofs.lemmas.List.{take_all}
 use Rattle.opentelemetry.specs.Plain.{PlainKeyValue, PlainSpanContext}
 use Rattle.otel_sampling.specs.declared.trace.span_limit.SpanLimits.{SpanLimits}
 use Rattle.otel_export.specs.PlainSpanData.{PlainSpanData}
-use Rattle.otel_pipeline.specs.SpanHistory.{PlainSpan, Edit, set_attribute, attribute_within, attributes_within, grown_by, grown_within, left_out_by, left_out_with, edited_each, edited_if, edited, after, IsEdited, HasHistory, plain_span, SpanHistory, begun, over, span_of, data_of, set_each}
+use Rattle.otel_pipeline.specs.SpanHistory.{PlainSpan, Edit, set_attribute, attribute_within, grown_by, left_out_by, edited_each, edited_if, after, IsEdited, HasHistory, plain_span, SpanHistory, begun, over, span_of, data_of, set_each}
 use Rattle.otel_pipeline.proofs.SpanLaws.{edited_history}
 
 -- data of other attributes, and of another count of those that were dropped

@@ -1,5 +1,5 @@
 -- Where nothing is recorded an error is not recorded either, whatever it shows.
-use Rattle.std.proofs.Common.{◌≡◌, ℕ, List, [], Option, Some, None, Bool, true, false, IfSome, is_some, refl}
+use Rattle.std.proofs.Common.{◌≡◌, ℕ, List, [], Option, Some, None, false, IfSome, is_some, refl}
 use Rattle.opentelemetry.specs.Plain.{PlainSpanContext}
 use Rattle.otel_sampling.specs.declared.trace.span_limit.SpanLimits.{SpanLimits}
 use Rattle.otel_export.specs.PlainSpanData.{PlainSpanData}

@@ -1,5 +1,5 @@
 -- What is asked of a start, and the start of a span that it gives (OpenTelemetry specification, "Span Creation").
-use Rattle.std.specs.Prelude.{◌≡◌, ℕ, ◌+◌, ◌*◌, ◌/◌, ◌++◌, ◌&&◌, Bool, false, List, [], Some, nat_lt, unwrap_or}
+use Rattle.std.specs.Prelude.{ℕ, ◌+◌, ◌*◌, ◌/◌, ◌++◌, ◌&&◌, Bool, false, List, [], Some, nat_lt, unwrap_or}
 use Rattle.opentelemetry.specs.Plain.{PlainKeyValue, PlainSpanContext, PlainContext, PlainScope}
 use Rattle.opentelemetry.specs.PlainContexts.{current_span_context}
 use Rattle.opentelemetry.specs.PlainSpanBuilder.{PlainSpanBuilder}

@@ -67,18 +67,18 @@ fn full_context(alloc: Global) -> Result<Context, Fail> {
         false,
         TraceState::new(),
     );
-    Ok(Context::new()
-        .with_baggage(baggage)?
-        .with_span_context(span_context)?)
+    Ok(
+        Context::new()
+            .with_baggage(baggage)?
+            .with_span_context(span_context)?,
+    )
 }
 
 /// The texts under three names once a propagator injected, and whether it was refused.
 fn shown<P: TextMapPropagator>(alloc: Global, propagator: &P) -> Result<String, Fail> {
     let cx = full_context(alloc)?;
     let mut carrier = MapCarrier::new(alloc);
-    let refused = propagator
-        .inject_context(alloc, &cx, &mut carrier)
-        .is_err();
+    let refused = propagator.inject_context(alloc, &cx, &mut carrier).is_err();
     let baggage = carrier.get("baggage").unwrap_or("-");
     let greeting = carrier.get("greeting").unwrap_or("-");
     let parent = carrier.get("traceparent").unwrap_or("-");
@@ -89,14 +89,20 @@ fn shown<P: TextMapPropagator>(alloc: Global, propagator: &P) -> Result<String, 
 fn greeting_between(alloc: Global) -> Result<String, Fail> {
     let propagators = around(alloc, Greeting)?;
     let fields = &["baggage", "Greeting", "traceparent", "tracestate"];
-    shown(alloc, &TextMapCompositePropagator::new(propagators, fields)?)
+    shown(
+        alloc,
+        &TextMapCompositePropagator::new(propagators, fields)?,
+    )
 }
 
 /// The same with one between that is refused.
 fn refused_between(alloc: Global) -> Result<String, Fail> {
     let propagators = around(alloc, Refusing)?;
     let fields = &["baggage", "traceparent", "tracestate"];
-    shown(alloc, &TextMapCompositePropagator::new(propagators, fields)?)
+    shown(
+        alloc,
+        &TextMapCompositePropagator::new(propagators, fields)?,
+    )
 }
 
 #[test]
@@ -117,10 +123,20 @@ fn are_refused(alloc: Global, fields: &'static [&'static str]) -> Result<bool, A
 
 #[test]
 fn other_fields_are_refused_of_a_list(rt: HostRuntime) -> Result<(), Fail> {
-    assert!(rt; are_refused(rt.alloc(), &["Greeting", "baggage", "traceparent", "tracestate"])?);
+    assert!(rt;
+        are_refused(
+            rt.alloc(),
+            &["Greeting", "baggage", "traceparent", "tracestate"]
+        )?
+    );
     assert!(rt; are_refused(rt.alloc(), &["baggage", "Greeting", "traceparent"])?);
     assert!(rt; are_refused(rt.alloc(), &[])?);
-    assert!(rt; !are_refused(rt.alloc(), &["baggage", "Greeting", "traceparent", "tracestate"])?);
+    assert!(rt;
+        !are_refused(
+            rt.alloc(),
+            &["baggage", "Greeting", "traceparent", "tracestate"]
+        )?
+    );
     Ok(())
 }
 
