@@ -1,7 +1,7 @@
 //! The program `otel_example_runs` tries the examples, which lie in the folder that it runs in. Each has three files:
 //! `NAME.txt` is a script, `NAME.args` the arguments of `otel_trace` for it, one a line, and `NAME.out` what is written
-//! then. The program runs each script, in the order of the names, and prints whether it wrote that and ended well, or
-//! else what it wrote.
+//! then. What the same script writes under `NAME.KIND.args` is `NAME.KIND`. The program runs each script, in the order of
+//! the names, and prints whether it wrote that and ended well, or else what it wrote.
 #![tactic(auto)]
 
 use otel_trace_run::run_program;
@@ -18,7 +18,7 @@ fn main(rt: HostRuntime) -> io::Result<()> {
     rt.stdout().write_all(&out)
 }
 
-/// The names of the scripts in this folder, in order.
+/// The names of the arguments in this folder, in order.
 fn example_names(rt: &HostRuntime) -> io::Result<Vec<String>> {
     let mut names = Vec::new(rt.alloc());
     for entry in fs::read_dir(rt, ".")? {
@@ -26,7 +26,7 @@ fn example_names(rt: &HostRuntime) -> io::Result<Vec<String>> {
         if let Some(name) = entry
             .file_name()
             .to_str()
-            .and_then(|file| file.strip_suffix(".txt"))
+            .and_then(|file| file.strip_suffix(".args"))
         {
             names.push(String::from_str(rt.alloc(), name)?)?;
         }
@@ -38,11 +38,26 @@ fn example_names(rt: &HostRuntime) -> io::Result<Vec<String>> {
 /// Runs one example, and puts out what came of it.
 fn try_example(rt: &HostRuntime, name: &str, out: &mut Vec<u8>) -> io::Result<()> {
     let arguments = fs::read_to_string(rt, format!(in rt.alloc(); "{name}.args")?)?;
-    let script = fs::read(rt, format!(in rt.alloc(); "{name}.txt")?)?;
-    let wanted = fs::read(rt, format!(in rt.alloc(); "{name}.out")?)?;
+    let (script, wanted) = files_of(rt.alloc(), name)?;
+    let script = fs::read(rt, script)?;
+    let wanted = fs::read(rt, wanted)?;
     let words = lines_of(rt.alloc(), arguments.as_str())?;
     put_answer(rt.alloc(), name, &words, &script, &wanted, out)?;
     Ok(())
+}
+
+/// The files of an example: its script, and what that writes.
+fn files_of(alloc: Global, name: &str) -> Result<(String, String), AllocError> {
+    match name.split_once('.') {
+        Some((script, _)) => Ok((
+            format!(in alloc; "{script}.txt")?,
+            String::from_str(alloc, name)?,
+        )),
+        None => Ok((
+            format!(in alloc; "{name}.txt")?,
+            format!(in alloc; "{name}.out")?,
+        )),
+    }
 }
 
 /// Each line of a text.

@@ -68,10 +68,10 @@ module _ {P S G : Type 0} (calls : Calls P S G)
       let begun = session_under calls.keeps provider in
       let took = f.feeds.these.ran.took (λ _. None) (λ q. refl) in
       let left = drop f.after.shown (batches_of_first calls.keeps f.closes.provider.processors) in
-      let all : exported_in f.feeds.replies ++ left ≡ exported_since calls resource provider f.closes.provider =
+      let all : exported_in f.feeds.replies ++ left ≡ exported_since calls provider f.closes.provider =
       closes_rest calls law begun f.after f.closes.provider (λ _. None) (plain_commands f.feeds.these.commands)
       f.feeds.replies f.closes.shutdown took f.closes.shuts (omega arith) in
-      let text : h.text ≡ otlp_lines resource (exported_since calls resource provider f.closes.provider) =
+      let text : h.text ≡ otlp_lines resource (exported_since calls provider f.closes.provider) =
       closing_lines f.after f.written h.text f.closes
       ∙ ap (λ bs. bs ++ otlp_lines resource left) (f.feeds.written ∙ texts_are_lines resource f.feeds.replies)
       ∙ sym (lines_joined resource (exported_in f.feeds.replies) left) ∙ ap (otlp_lines resource) all in

@@ -1,6 +1,8 @@
 pub mod Cut
+pub mod Drawing
 pub mod Exporting
 pub mod OtlpWords
+pub mod PictureWords
 pub mod ProgramLemmas
 pub mod ReadPieces
 pub mod StepStream

@@ -29,7 +29,7 @@ three_first h (x ∷ y ∷ z ∷ more) a b c p q r least ea eb ec ep eq er =
     cc
 
 -- words name one processor, with one word behind it at most
-given_once : (words : List (List ℕ)) (asked other : AskedProcessor) (given more : List (List ℕ))
+pub given_once : (words : List (List ℕ)) (asked other : AskedProcessor) (given more : List (List ℕ))
     → NamesGiven words asked given → NamesGiven words other more → (asked ≡ other) × (given ≡ more)
 given_once words asks.Simple asks.Simple given more h k =
     let same : codes "simple" ∷ given ≡ codes "simple" ∷ more = sym h.1 ∙ k.1 in
@@ -48,7 +48,7 @@ given_once words (asks.Batch queue batch) (asks.Batch other size) given more
     (rw (first, second) refl, behind)
 
 -- what is asked, part by part
-abbrev asked_of : ℕ → AskedProcessor → Asked
+abbrev pub asked_of : ℕ → AskedProcessor → Asked
 asked_of seed processor = record { seed = seed; processor = processor }
 
 -- words ask for one thing

@@ -147,7 +147,7 @@ one_mode words asked sizes traces steps =
     other_mode words (traces.digits ∷ traces.kind) (steps.queue ∷ steps.batch ∷ steps.producers ∷ []) traces.words_are steps.words_are
 
 -- words name one processor
-named_once : (words : List (List ℕ)) (asked other : AskedProcessor) → NamesProcessor words asked → NamesProcessor words other → asked ≡ other
+pub named_once : (words : List (List ℕ)) (asked other : AskedProcessor) → NamesProcessor words asked → NamesProcessor words other → asked ≡ other
 named_once words asks.Simple asks.Simple h k = refl
 named_once words asks.Simple (asks.Batch queue batch) h (q, b, is_queue, is_batch, k) =
     let same : codes "simple" ∷ [] ≡ codes "batch" ∷ q ∷ b ∷ [] = sym h ∙ k in let no : ⊥ = cc in absurd no

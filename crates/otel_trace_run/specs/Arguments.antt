@@ -3,6 +3,8 @@ use Rattle.std.specs.Prelude.{◌≡◌, ◌≤◌, ℕ, List, [], ◌∷◌, �
 use Rattle.std.specs.Fmt.{decimal}
 use Rattle.otel_trace_lines.specs.Lines.{IsMoment}
 use Rattle.otel_trace_steps.specs.declared.steps.Sizes.{Sizes}
+use Rattle.otel_trace_run.specs.declared.picture.PictureForm.{PictureForm}
+use Rattle.otel_trace_run.specs.declared.picture.PictureForm.TheVariants as forms
 use Rattle.otel_trace_run.specs.declared.program.Asked.{Asked}
 use Rattle.otel_trace_run.specs.declared.program.AskedProcessor.{AskedProcessor}
 use Rattle.otel_trace_run.specs.declared.program.AskedProcessor.TheVariants as asks
@@ -36,6 +38,34 @@ pub record AsksForOtlp (words : List (List ℕ)) (asked : Asked) (given : List (
   pub named : NamesGiven behind asked.processor given
   pub words_are : words ≡ codes "otlp" ∷ digits ∷ behind
 
+-- the columns that a word gives, 20 at least and 400 at most, or 72 where none does
+abbrev pub GivesColumns : List (List ℕ) → ℕ → Type 0
+GivesColumns [] columns = columns ≡ 72
+GivesColumns (digits ∷ more) columns = IsMoment digits columns × (20 ≤ columns) × (columns ≤ 400)
+
+-- the words `picture SEED`, those of a processor, and a number of columns, if one is given
+pub record AsksForText (words : List (List ℕ)) (asked : Asked) (columns : ℕ) : Type 0 where
+  pub digits : List ℕ
+  pub behind : List (List ℕ)
+  pub given : List (List ℕ)
+  pub seed : IsMoment digits asked.seed
+  pub named : NamesGiven behind asked.processor given
+  pub wide : GivesColumns given columns
+  pub words_are : words ≡ codes "picture" ∷ digits ∷ behind
+
+-- the words `svg SEED` and those of a processor
+pub record AsksForSvg (words : List (List ℕ)) (asked : Asked) : Type 0 where
+  pub digits : List ℕ
+  pub kind : List (List ℕ)
+  pub seed : IsMoment digits asked.seed
+  pub processor : NamesProcessor kind asked.processor
+  pub words_are : words ≡ codes "svg" ∷ digits ∷ kind
+
+-- the words of a picture, by its form
+abbrev pub AsksForPicture : List (List ℕ) → Asked → PictureForm → Type 0
+AsksForPicture words asked (forms.Text columns) = AsksForText words asked columns
+AsksForPicture words asked forms.Svg = AsksForSvg words asked
+
 -- words that ask for no trace
 abbrev pub AsksForNoTrace : List (List ℕ) → Type 0
 AsksForNoTrace words = (asked : Asked) → AsksFor words asked → ⊥
@@ -57,6 +87,7 @@ pub record AsksForSteps (words : List (List ℕ)) (sizes : Sizes) : Type 0 where
 abbrev pub AsksForNothing : List (List ℕ) → Type 0
 AsksForNothing words = AsksForNoTrace words × ((sizes : Sizes) → AsksForSteps words sizes → ⊥)
     × ((asked : Asked) (given : List (List ℕ)) → AsksForOtlp words asked given → ⊥)
+    × ((asked : Asked) (form : PictureForm) → AsksForPicture words asked form → ⊥)
 
 -- what is said of wrong words
 abbrev pub usage_text : List ℕ

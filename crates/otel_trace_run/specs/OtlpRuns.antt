@@ -18,18 +18,19 @@ otlp_form resource = record {
   rest = λ batches. otlp_lines resource batches;
 }
 
-module _ {P S G : Type 0} (calls : Calls P S G) (resource : PlainResource) where
-  -- the batches that the first processor's exporter took since
-  abbrev pub exported_since : ProviderState P S G → ProviderState P S G → List (List PlainSpanData)
-  exported_since begun closed =
-      drop (length (batches_of_first calls.keeps begun.processors)) (batches_of_first calls.keeps closed.processors)
+-- the batches that the first processor's exporter took since
+abbrev pub exported_since : {P S G : Type 0} → Calls P S G → ProviderState P S G → ProviderState P S G
+    → List (List PlainSpanData)
+exported_since calls begun closed =
+    drop (length (batches_of_first calls.keeps begun.processors)) (batches_of_first calls.keeps closed.processors)
 
+module _ {P S G : Type 0} (calls : Calls P S G) (resource : PlainResource) where
   -- one session carried out the whole input, up to its first bad line, and closed; the output was given the lines of
   -- all batches that it exported, in order
   pub record ExportsAll (provider : ProviderState P S G) (s : Streams) (bad_line : Option ℕ) : Type 0 where
     pub traces : TracesWhole calls (otlp_form resource) provider s bad_line
     pub lines : Appends s.output s.output_after
-        (otlp_lines resource (exported_since provider traces.finishes.closes.provider))
+        (otlp_lines resource (exported_since calls provider traces.finishes.closes.provider))
 
   -- what a session did whose batches are written, by how it ended
   abbrev pub ExportsUnder : ProviderState P S G → Streams → RunEnd → Type 0

@@ -1,5 +1,5 @@
--- The provider that the modes `trace` and `otlp` are asked for, and what a session under it does with the streams. Of
--- the bytes of a stream it speaks where the stream tells them.
+-- The provider that the modes of traces are asked for, and what a session under it does with the streams. Of the bytes
+-- of a stream it speaks where the stream tells them.
 use Rattle.std.specs.Prelude.{◌≡◌, ◌⊎◌, ℕ, false, List, [], ◌∷◌, Option, None, slice_get}
 use Rattle.std.specs.Io.KnownBytes.{Appends}
 use Rattle.rand_xoshiro.specs.SplitMix64.{splitmix_seed}
@@ -29,8 +29,10 @@ use Rattle.opentelemetry_sdk.specs.declared.trace.processor.ProcessorOf.TheVaria
 use Rattle.otel_trace_lines.specs.ReplyForm.{reply_lines}
 use Rattle.otel_trace_session.specs.Calls.{Calls, calls_of}
 use Rattle.otel_trace_run.specs.OtlpRuns.{ExportsAll, otlp_form}
+use Rattle.otel_trace_run.specs.PictureRuns.{DrawsAll, DrawsSome}
 use Rattle.otel_trace_run.specs.Streams.{EndsAs, EndsWith, Streams}
 use Rattle.otel_trace_run.specs.TraceRuns.{TracesBegun, TracesWhole}
+use Rattle.otel_trace_run.specs.declared.picture.PictureForm.{PictureForm}
 use Rattle.otel_trace_run.specs.declared.program.Asked.{Asked}
 use Rattle.otel_trace_run.specs.declared.program.AskedProcessor.{AskedProcessor}
 use Rattle.otel_trace_run.specs.declared.program.AskedProcessor.TheVariants as asks
@@ -113,6 +115,18 @@ module _ {C D E : Type 0} (calls : Calls (MemoryProcessor C D) (SamplerOf E) (Li
       × (provider : ProviderState (MemoryProcessor C D) (SamplerOf E) (List ℕ))
       × IsProviderOf asked provider × TracesBegun calls (otlp_form resource) provider s)
 
+  -- the output was given the picture of the spans that a session exported over the whole input, under the provider that
+  -- is asked for
+  abbrev pub DrawsAsked : PictureForm → Streams → Option ℕ → Type 0
+  DrawsAsked form s bad_line = (provider : ProviderState (MemoryProcessor C D) (SamplerOf E) (List ℕ))
+      × IsProviderOf asked provider × DrawsAll calls form provider s bad_line
+
+  -- the output was given a beginning of such a picture, or nothing
+  abbrev pub BeginsDrawing : PictureForm → Streams → Type 0
+  BeginsDrawing form s = Appends s.output s.output_after []
+      ⊎ ((provider : ProviderState (MemoryProcessor C D) (SamplerOf E) (List ℕ))
+      × IsProviderOf asked provider × DrawsSome calls form provider s)
+
   -- a run of the mode `trace`, by its status, and by what is said of the faults where it has none and where it has one
   abbrev pub EndsTracing : Streams → Type 0 → (List ℕ → Type 0) → ℕ → Type 0
   EndsTracing s Silent Says status = EndsWith (TracesAsked s) (BeginsAsked s) Silent Says s status
@@ -121,6 +135,14 @@ module _ {C D E : Type 0} (calls : Calls (MemoryProcessor C D) (SamplerOf E) (Li
   abbrev pub EndsExporting : List (List ℕ) → Streams → Type 0 → (List ℕ → Type 0) → ℕ → Type 0
   EndsExporting given s Silent Says status = EndsWith (ExportsAsked given s) (BeginsExporting given s) Silent Says s status
 
+  -- a run of the modes `picture` and `svg`
+  abbrev pub EndsDrawing : PictureForm → Streams → Type 0 → (List ℕ → Type 0) → ℕ → Type 0
+  EndsDrawing form s Silent Says status = EndsWith (DrawsAsked form s) (BeginsDrawing form s) Silent Says s status
+
   -- what such a run did, by how it ended
+  abbrev pub DrawsTo : PictureForm → Streams → RunEnd → Type 0
+  DrawsTo form s end = EndsAs (DrawsAsked form s) (BeginsDrawing form s) s end
+
+  -- what a run of the mode `otlp` did, by how it ended
   abbrev pub Exports : List (List ℕ) → Streams → RunEnd → Type 0
   Exports given s end = EndsAs (ExportsAsked given s) (BeginsExporting given s) s end

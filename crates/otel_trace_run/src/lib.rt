@@ -3,6 +3,7 @@
 
 mod counted;
 mod otlp;
+pub mod picture;
 mod pieces;
 pub mod program;
 pub mod run_end;

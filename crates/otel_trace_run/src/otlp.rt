@@ -121,7 +121,7 @@ pub(crate) fn otlp_of(words: &[String]) -> Option<(Asked, &[String])>
 }
 
 /// The processor that is named, and behind it one more word at most; none where the words are others.
-fn given_behind(words: &[String]) -> Option<(AskedProcessor, &[String])>
+pub(crate) fn given_behind(words: &[String]) -> Option<(AskedProcessor, &[String])>
     ensures { MatchOption result
         ((asked : AskedProcessor) (given : List (List ℕ)) → NamesGiven (map string_bytes words.now) asked given → ⊥)
         (λ found. NamesGiven (map string_bytes words.now) found.0 (map string_bytes found.1.now)) }

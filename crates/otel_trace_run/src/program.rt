@@ -8,6 +8,7 @@ ghost use Rattle.otel_trace_run.specs.Arguments.{
   AsksForNoTrace,
   AsksForNothing,
   AsksForOtlp,
+  AsksForPicture,
   AsksForSteps,
   NamesProcessor,
   WriteSizes,
@@ -15,6 +16,8 @@ ghost use Rattle.otel_trace_run.specs.Arguments.{
   usage_text,
 };
 ghost use Rattle.otel_trace_run.specs.Program.{
+  DrawsTo,
+  EndsDrawing,
   EndsExporting,
   EndsTracing,
   Exports,
@@ -27,6 +30,7 @@ ghost use Rattle.otel_trace_run.specs.StepRuns.{EndsStepping};
 ghost use Rattle.otel_trace_run.specs.Streams.{Reports, streams};
 
 use crate::otlp::{export_input, otlp_of, resource_of};
+use crate::picture::{PictureForm, draw_input, svg_asked, text_asked};
 use crate::run_end::RunEnd;
 use crate::step_stream::step_input;
 use crate::trace_stream::trace_input;
@@ -144,7 +148,8 @@ pub enum AskedProcessor {
 /// line or wrong arguments; 1 where reading, writing or the closing fails, memory is missing or a batch was lost, also
 /// where 2 would be due. `words` are the arguments without the program's name; wrong ones are found before anything is
 /// read. Lines are answered as they come: what answers them is written and sent on before more is read, and a run of
-/// status 1 has written a beginning. Behind a bad line nothing is read.
+/// status 1 has written a beginning. Behind a bad line nothing is read. A picture is written at the end of the input,
+/// which is read to that whatever its lines are.
 pub fn run_program<R: Read, W: Write, F: Write>(
     alloc: Global,
     words: &[String],
@@ -173,6 +178,15 @@ pub fn run_program<R: Read, W: Write, F: Write>(
         (streams (R.remaining input.old) (R.remaining input.new) (W.contents output.old) (W.contents output.new))
         (faults.new ≡ faults.old) (Appends (F.contents faults.old) (F.contents faults.new)) result }
 
+    // One session, whose spans are drawn at the end.
+    ensures picture { (asked : Asked) (form : PictureForm) → AsksForPicture (map string_bytes words.now) asked form →
+        EndsDrawing
+        (memory_calls ⟦<TraceProcessor as SpanProcessor>⟧
+        (record { due_gives = ⟦<TraceProcessor as DrainDue>⟧.due_gives })
+        ⟦<TraceSampler as ShouldSample>⟧ ⟦<RandomIdGenerator as IdGenerator>⟧) asked form
+        (streams (R.remaining input.old) (R.remaining input.new) (W.contents output.old) (W.contents output.new))
+        (faults.new ≡ faults.old) (Appends (F.contents faults.old) (F.contents faults.new)) result }
+
     // One batch queue.
     ensures steps { (sizes : Sizes) → AsksForSteps (map string_bytes words.now) sizes → EndsStepping sizes
         (streams (R.remaining input.old) (R.remaining input.new) (W.contents output.old) (W.contents output.new))
@@ -184,6 +198,10 @@ pub fn run_program<R: Read, W: Write, F: Write>(
     }
     if let Some((asked, given)) = otlp_of(words) {
         let end = run_otlp(alloc, asked, given, input, output);
+        return status_of(alloc, end, faults);
+    }
+    if let Some((asked, form)) = picture_of(words) {
+        let end = run_picture(alloc, asked, form, input, output);
         return status_of(alloc, end, faults);
     }
     match provider_for(alloc, words) {
@@ -223,6 +241,42 @@ fn run_otlp<R: Read, W: Write>(
     }
 }
 
+/// What the words of the modes `picture` and `svg` ask for; none where the words are others.
+fn picture_of(words: &[String]) -> Option<(Asked, PictureForm)>
+    ensures { MatchOption result
+        ((asked : Asked) (form : PictureForm) → AsksForPicture (map string_bytes words.now) asked form → ⊥)
+        (λ found. AsksForPicture (map string_bytes words.now) found.0 found.1) }
+{
+    if let Some((asked, columns)) = text_asked(words) {
+        return Some((asked, PictureForm::Text { columns }));
+    }
+    let asked = svg_asked(words)?;
+    Some((asked, PictureForm::Svg))
+}
+
+/// Runs a session whose spans are drawn, under the provider that is asked for; a failure where there is no memory for
+/// it.
+fn run_picture<R: Read, W: Write>(
+    alloc: Global,
+    asked: Asked,
+    form: PictureForm,
+    input: &mut R,
+    output: &mut W,
+) -> RunEnd
+    ensures { DrawsTo
+        (memory_calls ⟦<TraceProcessor as SpanProcessor>⟧
+        (record { due_gives = ⟦<TraceProcessor as DrainDue>⟧.due_gives })
+        ⟦<TraceSampler as ShouldSample>⟧ ⟦<RandomIdGenerator as IdGenerator>⟧)
+        asked form
+        (streams (R.remaining input.old) (R.remaining input.new) (W.contents output.old) (W.contents output.new))
+        result }
+{
+    match provider_of(alloc, asked) {
+        Ok(provider) => draw_input(alloc, provider, form, input, output),
+        Err(_) => RunEnd::Failed,
+    }
+}
+
 /// The provider that the arguments ask for, or that there is no memory for it; none where they ask for nothing.
 fn provider_for(alloc: Global, words: &[String]) -> Option<Result<TraceProvider, AllocError>>
     ensures { MatchOption result
@@ -250,7 +304,7 @@ fn asked_of(words: &[String]) -> Option<Asked>
 }
 
 /// The processor of `simple` or `batch Q B`; none where the words are others.
-fn processor_named(words: &[String]) -> Option<AskedProcessor>
+pub(crate) fn processor_named(words: &[String]) -> Option<AskedProcessor>
     ensures { MatchOption result
         ((asked : AskedProcessor) → NamesProcessor (map string_bytes words.now) asked → ⊥)
         (λ asked. NamesProcessor (map string_bytes words.now) asked) }

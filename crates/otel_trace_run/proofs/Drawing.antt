@@ -1,0 +1,176 @@
+-- A session that carries out commands and then a shutdown closes as in the mode `trace`, and its replies show all spans
+-- that it exported.
+use Rattle.std.proofs.Common.{◌≡◌, ◌++◌, ◌∙◌, ◌==◌, ◌≤◌, ℕ, Bool, true, false, List, [], ◌∷◌, Option, Some, None, Result, Ok, Err, IsTrue, MatchBool}
+use Rattle.std.proofs.Common.{All, inl, inr, ap, append-nil, arith, drop, length, map, refl, subst, sym, not}
+use Rattle.std.proofs.lemmas.Bool.{eq-eqb}
+use Rattle.std.proofs.lemmas.List.Concat.{flat_map-append}
+use Rattle.std.specs.Io.KnownBytes.{Appends, IsAtEnd}
+use Rattle.otel_export.specs.PlainSpanData.{PlainSpanData, spans_in}
+use Rattle.otel_export.specs.declared.error.OTelSdkError.{OTelSdkError}
+use Rattle.otel_export.specs.declared.error.OTelSdkError.TheVariants as errors
+use Rattle.otel_kept.specs.ProcessorKeeps.{OnlyAppends}
+use Rattle.otel_otlp.specs.Streams.{AppendsBeginning}
+use Rattle.otel_pipeline.specs.Provider.{IsInternalFailure, ProviderState, ShutsDown}
+use Rattle.otel_trace_lines.specs.Commands.{plain_commands, shutdown}
+use Rattle.otel_trace_lines.specs.PlainReply.{NoneRefused, PlainReply, counts_refusals}
+use Rattle.otel_trace_lines.specs.ReplyForm.{reply_lines, texts}
+use Rattle.otel_trace_lines.specs.declared.command.Command.TheVariants as requests
+use Rattle.otel_trace_run.specs.OtlpRuns.{exported_since}
+use Rattle.otel_trace_run.specs.PictureRuns.{Draws, DrawsAll, DrawsLines, DrawsSome, DrawsUnder, IsPicture, RunsOut, RunsShutdown, says_shut}
+use Rattle.otel_sampling.specs.declared.trace.sampler.SamplerOf.{SamplerOf}
+use Rattle.otel_trace_run.specs.Program.{BeginsDrawing, DrawsAsked, IsProviderOf, MemoryProcessor}
+use Rattle.otel_trace_run.specs.Streams.{EndsAs, Streams}
+use Rattle.otel_trace_run.specs.declared.program.Asked.{Asked}
+use Rattle.otel_trace_run.specs.Arguments.{AsksForPicture}
+use Rattle.otel_trace_run.proofs.PictureWords.{picture_once}
+use Rattle.otel_trace_run.proofs.TraceStream.{appends_all}
+use Rattle.otel_trace_run.specs.declared.picture.PictureForm.{PictureForm}
+use Rattle.otel_trace_run.specs.declared.run_end.RunEnd.{RunEnd}
+use Rattle.otel_trace_run.specs.declared.run_end.RunEnd.TheVariants as ends
+use Rattle.otel_trace_session.specs.Calls.{Calls, batches_of_first, losses_of_first}
+use Rattle.otel_trace_session.specs.Closing.{Closes, Finishes, or_no_memory}
+use Rattle.otel_trace_session.specs.OpenSpans.{Describe, Histories}
+use Rattle.otel_trace_session.specs.ProviderTurns.{Shuts, ShutsIfOpen, call_answer}
+use Rattle.otel_trace_session.specs.Shown.{exported_in}
+use Rattle.otel_trace_session.specs.Turn.{Course, Turn}
+use Rattle.otel_trace_session.specs.Turns.{AreTurns, Runs, SessionState, course_of, replied, reply_of, session_under}
+use Rattle.otel_trace_session.proofs.CloseLemmas.{none_lost}
+use Rattle.otel_trace_session.proofs.FeedLemmas.{finishes}
+use Rattle.otel_trace_session.proofs.ShownLemmas.{closes_rest}
+
+module _ {P S G : Type 0} (calls : Calls P S G) where
+  -- what a shutdown did, by its answer, as a close has it
+  shut_by : (old new : ProviderState P S G) (said : Result (Unit {0}) OTelSdkError) (is_shut : Bool) → is_shut ≡ old.is_shut
+      → IsTrue (says_shut (call_answer said))
+      → MatchBool is_shut ((said ≡ Err errors.AlreadyShutdown) × (new ≡ old)) (ShutsDown calls.processor old 5_000_000_000 said new)
+      → MatchBool is_shut ((Ok tt ≡ Ok {E = OTelSdkError} tt) × (new ≡ old)) (ShutsDown calls.processor old 5_000_000_000 (Ok tt) new)
+      × (new.is_shut ≡ true)
+  shut_by old new said true e says h = ((refl, h.1), ap (λ (p : ProviderState P S G). p.is_shut) h.1 ∙ sym e)
+  shut_by old new (Ok done) false e says h = (h, ap (λ (p : ProviderState P S G). p.is_shut) h.rest)
+  shut_by old new (Err (errors.InternalFailure text)) false e says h = absurd says
+  shut_by old new (Err errors.AlreadyShutdown) false e says h = absurd h.err
+  shut_by old new (Err errors.OutOfMemory) false e says h = absurd says
+  shut_by old new (Err (errors.Timeout time)) false e says h = absurd says
+
+  -- how a session stands behind a shutdown
+  record StandsShut (old : SessionState P S G) (replies : List PlainReply) (new : SessionState P S G) : Type 0 where
+    pub shuts : ShutsIfOpen calls.processor old.provider (Ok tt) new.provider
+    pub is_shut : new.provider.is_shut ≡ true
+    pub shows : exported_in replies ≡ drop old.shown (batches_of_first calls.keeps new.provider.processors)
+
+  stands_shut : (old new : SessionState P S G) (histories after : Histories) (turns : List (Turn P S G))
+      → AreTurns calls old.scope (course_of old histories) (shutdown ∷ []) turns (course_of new after)
+      → All (λ reply. IsTrue (says_shut reply.answer)) (map (reply_of calls) turns)
+      → StandsShut old (map (reply_of calls) turns) new
+  stands_shut old new histories after [] h says = absurd h
+  stands_shut old new histories after (turn ∷ turn2 ∷ turns) h says = absurd h.3
+  stands_shut old new histories after (turn ∷ []) h says =
+      let course : course_of new after ≡ replied calls turn.behind = h.3 in
+      let begins : turn.before ≡ course_of old histories = h.0 in
+      let asks = h.1.is_turn in
+      let there : turn.behind.provider ≡ new.provider = sym (ap (λ (c : Course P S G). c.provider) course) in
+      let from : turn.before.provider ≡ old.provider = ap (λ (c : Course P S G). c.provider) begins in
+      let at : turn.before.shown ≡ old.shown = ap (λ (c : Course P S G). c.shown) begins in
+      let answered : IsTrue (says_shut (call_answer asks.said)) =
+      subst (λ answer. IsTrue (says_shut answer)) asks.says (says 0 (reply_of calls turn) (omega arith)) in
+      let done = shut_by turn.before.provider turn.behind.provider asks.said turn.before.provider.is_shut refl answered asks.gives in
+      let moved : ShutsIfOpen calls.processor old.provider (Ok tt) new.provider =
+      subst (λ (p : ProviderState P S G). ShutsIfOpen calls.processor p (Ok tt) new.provider) from
+      (subst (λ (p : ProviderState P S G). ShutsIfOpen calls.processor turn.before.provider (Ok tt) p) there done.0) in
+      record {
+        shuts = moved;
+        is_shut = subst (λ (p : ProviderState P S G). p.is_shut ≡ true) there done.1;
+        shows = append-nil _
+            ∙ ap (λ (n : ℕ). drop n (batches_of_first calls.keeps turn.behind.provider.processors)) at
+            ∙ ap (λ (p : ProviderState P S G). drop old.shown (batches_of_first calls.keeps p.processors)) there;
+      }
+
+  -- what closing a session does whose provider is shut
+  stays_shut : (old new : ProviderState P S G) (said : Result (Unit {0}) OTelSdkError) (is_shut : Bool) → is_shut ≡ true
+      → MatchBool is_shut ((said ≡ Ok tt) × (new ≡ old)) (ShutsDown calls.processor old 5_000_000_000 said new) → new ≡ old
+  stays_shut old new said true e h = h.1
+  stays_shut old new said false e h = let no : ⊥ = cc in absurd no
+
+-- what is answered where no batch was lost
+none_lost_answer : (lost before : ℕ) → lost ≡ before
+    → Ok tt ≡ (if not (lost == before) then or_no_memory (Ok tt) else Ok {E = OTelSdkError} tt)
+none_lost_answer lost before e = rw (eq-eqb lost before e) refl
+
+module _ {P S G : Type 0} (calls : Calls P S G)
+    (law : OnlyAppends calls.processor calls.timer calls.keeps.kept calls.keeps.lost) where
+  -- the lines of a text were carried out, and a session that then closed well exported these spans
+  pub draws : (form : PictureForm) (provider : ProviderState P S G) (after : SessionState P S G)
+      (input input_after : Option (List ℕ)) (bad_line : Option ℕ) (picture left : List ℕ)
+      → (lines : DrawsLines calls form (session_under calls.keeps provider) input input_after bad_line picture after)
+      → Closes calls reply_lines after [] (Ok tt) left
+      → Draws calls form provider lines.reads.bytes bad_line picture
+  draws form provider after input input_after bad_line picture left lines closed =
+      let begun = session_under calls.keeps provider in
+      let ran = lines.ran in
+      let middle = ran.middle in
+      let took = ran.ran.took (λ _. None) (λ q. refl) in
+      let last = ran.shut.ran.took took.after took.describes in
+      let shut = subst (λ (replies : List PlainReply). StandsShut calls middle replies after) (sym last.replied_to)
+      (stands_shut calls middle after took.after last.after last.turns last.are_turns
+      (subst (λ (replies : List PlainReply). All (λ reply. IsTrue (says_shut reply.answer)) replies) last.replied_to ran.shut.says)) in
+      let same : closed.provider ≡ after.provider =
+      stays_shut calls after.provider closed.provider closed.shutdown after.provider.is_shut shut.is_shut closed.shuts in
+      let kept : losses_of_first calls.keeps after.provider.processors ≡ middle.lost_before =
+      ap (λ (p : ProviderState P S G). losses_of_first calls.keeps p.processors) (sym same)
+      ∙ none_lost calls reply_lines after [] left closed ∙ ran.shut.ran.lost_before in
+      let replied = texts reply_lines ran.replies in
+      let all : exported_in (ran.replies ++ ran.last) ≡ exported_since calls provider after.provider =
+      flat_map-append (λ (reply : PlainReply). reply.exported) ran.replies ran.last
+      ∙ ap (λ bs. exported_in ran.replies ++ bs) shut.shows
+      ∙ closes_rest calls law begun middle after.provider (λ _. None) (plain_commands lines.commands) ran.replies (Ok tt) took
+      shut.shuts (omega arith) in
+      record {
+        replied = _;
+        finishes = finishes calls reply_lines begun middle lines.reads.bytes bad_line replied _
+            (record {
+              replies = ran.replies;
+              written = refl;
+              none_refused = ran.none_refused;
+              these = record { commands = lines.commands; spelled = lines.reads.spelled; ran = ran.ran };
+            })
+            (record {
+              provider = after.provider;
+              shutdown = Ok tt;
+              shuts = shut.shuts;
+              writes = inl (record {
+                answers = none_lost_answer (losses_of_first calls.keeps after.provider.processors) middle.lost_before kept;
+                written = refl;
+              });
+            });
+        drawn = subst (λ (spans : List PlainSpanData). IsPicture form spans picture) (ran.shown ∙ ap spans_in all) lines.drawn;
+      }
+
+module _ {P S G : Type 0} (calls : Calls P S G) (form : PictureForm) (provider : ProviderState P S G) where
+  -- what was drawn whole is a beginning
+  pub drawn_begun : (s : Streams) (bad_line : Option ℕ) → DrawsAll calls form provider s bad_line
+      → DrawsSome calls form provider s
+  drawn_begun s bad_line h = inr (h.bytes, bad_line, h.picture, h.all, h.draws, appends_all s.output s.output_after h.picture h.written)
+
+module _ {C D E : Type 0} (calls : Calls (MemoryProcessor C D) (SamplerOf E) (List ℕ)) (form : PictureForm) where
+  -- what is drawn under the provider that is asked for
+  pub draws_asked : (asked : Asked) (provider : ProviderState (MemoryProcessor C D) (SamplerOf E) (List ℕ)) (s : Streams)
+      (end : RunEnd) → IsProviderOf asked provider → DrawsUnder calls form provider s end
+      → EndsAs (DrawsAsked calls asked form s) (BeginsDrawing calls asked form s) s end
+  draws_asked asked provider s ends.Done of h = ((provider, of, h.0), h.1)
+  draws_asked asked provider s (ends.BadLine line) of h = (provider, of, h)
+  draws_asked asked provider s ends.Failed of h = inr (provider, of, h)
+
+  -- what was drawn whole is a beginning
+  pub asked_begun : (asked : Asked) (s : Streams) (bad_line : Option ℕ) → DrawsAsked calls asked form s bad_line
+      → BeginsDrawing calls asked form s
+  asked_begun asked s bad_line (provider, of, h) = inr (provider, of, drawn_begun calls form provider s bad_line h)
+
+  -- what is asked once is asked by any such words
+  pub draws_once : (words : List (List ℕ)) (asked other : Asked) (also : PictureForm) (s : Streams) (end : RunEnd)
+      → AsksForPicture words asked form → AsksForPicture words other also
+      → EndsAs (DrawsAsked calls other also s) (BeginsDrawing calls other also s) s end
+      → EndsAs (DrawsAsked calls asked form s) (BeginsDrawing calls asked form s) s end
+  draws_once words asked other also s end h k run =
+      let same = picture_once words other asked also form k h in
+      subst (λ (f : PictureForm). EndsAs (DrawsAsked calls asked f s) (BeginsDrawing calls asked f s) s end) same.1
+      (subst (λ (a : Asked). EndsAs (DrawsAsked calls a also s) (BeginsDrawing calls a also s) s end) same.0 run)

@@ -1,0 +1,98 @@
+-- What the modes `picture` and `svg` do with their streams: all spans that a session exports are drawn.
+use Rattle.std.specs.Prelude.{◌≡◌, ◌⊎◌, ℕ, Bool, true, false, List, [], ◌∷◌, ◌++◌, Option, All, IsTrue}
+use Rattle.std.specs.Io.KnownBytes.{Appends, IsAtEnd}
+use Rattle.otel_export.specs.PlainSpanData.{PlainSpanData, spans_in}
+use Rattle.otel_export.specs.declared.error.OTelSdkError.{OTelSdkError}
+use Rattle.otel_export.specs.declared.error.OTelSdkError.TheVariants as errors
+use Rattle.otel_otlp.specs.Streams.{AppendsBeginning}
+use Rattle.otel_picture.specs.Pictures.{IsSvgPicture, IsTextPicture}
+use Rattle.otel_pipeline.specs.Provider.{ProviderState}
+use Rattle.otel_trace_lines.specs.Commands.{PlainCommand, plain_commands}
+use Rattle.otel_trace_lines.specs.Lines.{TextSpells}
+use Rattle.otel_trace_lines.specs.PlainReply.{NoneRefused, PlainReply}
+use Rattle.otel_trace_lines.specs.ReplyForm.{reply_lines}
+use Rattle.otel_trace_lines.specs.declared.command.Command.{Command}
+use Rattle.otel_trace_lines.specs.declared.command.Command.TheVariants as requests
+use Rattle.otel_trace_lines.specs.declared.reply.Answer.{Answer}
+use Rattle.otel_trace_lines.specs.declared.reply.Answer.TheVariants as answers
+use Rattle.otel_trace_run.specs.OtlpRuns.{exported_since}
+use Rattle.otel_trace_run.specs.Streams.{AreAll, EndsAs, Streams}
+use Rattle.otel_trace_run.specs.declared.picture.PictureForm.{PictureForm}
+use Rattle.otel_trace_run.specs.declared.picture.PictureForm.TheVariants as forms
+use Rattle.otel_trace_run.specs.declared.run_end.RunEnd.{RunEnd}
+use Rattle.otel_trace_session.specs.Calls.{Calls}
+use Rattle.otel_trace_session.specs.Closing.{Finishes}
+use Rattle.otel_trace_session.specs.Shown.{exported_in}
+use Rattle.otel_trace_session.specs.Turns.{Runs, SessionState, session_under}
+
+-- the picture of spans, in a form
+abbrev pub IsPicture : PictureForm → List PlainSpanData → List ℕ → Type 0
+IsPicture (forms.Text columns) spans text = IsTextPicture columns spans text
+IsPicture forms.Svg spans text = IsSvgPicture spans text
+
+-- whether an answer to a shutdown says that the provider is shut: by this one, or it was before
+abbrev pub says_shut : Answer → Bool
+says_shut answers.Ok = true
+says_shut (answers.Failed errors.AlreadyShutdown) = true
+says_shut _ = false
+
+-- an input was read to its end, and spells commands up to its first bad line
+pub record ReadsScript (input after : Option (List ℕ)) (commands : List PlainCommand) (bad_line : Option ℕ)
+    : Type 0 where
+  pub bytes : List ℕ
+  pub all : AreAll input bytes
+  pub at_end : IsAtEnd after
+  pub spelled : TextSpells bytes commands bad_line
+
+module _ {P S G : Type 0} (calls : Calls P S G) where
+  -- a session carried out a shutdown, behind which its provider is shut
+  pub record RunsShutdown (old : SessionState P S G) (replies : List PlainReply) (new : SessionState P S G)
+      : Type 0 where
+    pub ran : Runs calls old (requests.Shutdown ∷ []) replies new
+    pub says : All (λ reply. IsTrue (says_shut reply.answer)) replies
+
+  -- a session carried out commands and then a shutdown, and exported these spans
+  pub record RunsOut (old : SessionState P S G) (commands : List Command) (spans : List PlainSpanData)
+      (new : SessionState P S G) : Type 0 where
+    pub replies : List PlainReply
+    pub last : List PlainReply
+    pub middle : SessionState P S G
+    pub ran : Runs calls old commands replies middle
+    pub none_refused : NoneRefused replies
+    pub shut : RunsShutdown middle last new
+    pub shown : spans ≡ spans_in (exported_in (replies ++ last))
+
+  -- a session carried out the lines of an input, up to its first bad line, and then a shutdown, and this is the picture
+  -- of the spans that it exported
+  pub record DrawsLines (form : PictureForm) (old : SessionState P S G) (input after : Option (List ℕ))
+      (bad_line : Option ℕ) (picture : List ℕ) (new : SessionState P S G) : Type 0 where
+    pub commands : List Command
+    pub spans : List PlainSpanData
+    pub reads : ReadsScript input after (plain_commands commands) bad_line
+    pub ran : RunsOut old commands spans new
+    pub drawn : IsPicture form spans picture
+
+module _ {P S G : Type 0} (calls : Calls P S G) (form : PictureForm) (provider : ProviderState P S G) where
+  -- one session carried out a text, up to its first bad line, and closed as in the mode `trace`, and this is the picture
+  -- of all spans that it exported
+  pub record Draws (bytes : List ℕ) (bad_line : Option ℕ) (picture : List ℕ) : Type 0 where
+    pub replied : List ℕ
+    pub finishes : Finishes calls reply_lines (session_under calls.keeps provider) bytes bad_line replied
+    pub drawn : IsPicture form (spans_in (exported_since calls provider finishes.closes.provider)) picture
+
+  -- the output was given the picture of the whole input
+  pub record DrawsAll (s : Streams) (bad_line : Option ℕ) : Type 0 where
+    pub bytes : List ℕ
+    pub picture : List ℕ
+    pub all : AreAll s.input bytes
+    pub draws : Draws bytes bad_line picture
+    pub written : Appends s.output s.output_after picture
+
+  -- the output was given nothing, or a beginning of the picture of the whole input
+  abbrev pub DrawsSome : Streams → Type 0
+  DrawsSome s = Appends s.output s.output_after [] ⊎ ((bytes : List ℕ) × (bad_line : Option ℕ) × (picture : List ℕ)
+      × AreAll s.input bytes × Draws bytes bad_line picture × AppendsBeginning s.output s.output_after picture)
+
+  -- what a session did whose spans are drawn, by how it ended
+  abbrev pub DrawsUnder : Streams → RunEnd → Type 0
+  DrawsUnder s end = EndsAs (DrawsAll s) (DrawsSome s) s end

@@ -1,0 +1,256 @@
+//! The modes `picture` and `svg`: at the end of the input all spans that a session exported over it are drawn, and no
+//! reply is written. So these modes hold the input and its spans, and their memory grows with both.
+
+ghost use Rattle.std.specs.Prelude.{◌≡◌, ◌++◌, ◌≤◌, IfOk, IfSome, MatchOption, OnOk, List, ℕ, map, string_bytes};
+ghost use Rattle.otel_export.specs.PlainSpanData.{spans_in};
+ghost use Rattle.otel_trace_lines.specs.Commands.{plain_commands};
+ghost use Rattle.otel_trace_run.specs.Arguments.{AsksForSvg, AsksForText, GivesColumns};
+ghost use Rattle.otel_trace_run.specs.PictureRuns.{DrawsLines, DrawsUnder, IsPicture};
+ghost use Rattle.otel_trace_run.specs.PictureRuns.{ReadsScript, RunsOut, RunsShutdown, says_shut};
+ghost use Rattle.otel_trace_run.specs.Streams.{streams};
+ghost use Rattle.otel_trace_session.specs.Calls.{calls_of};
+ghost use Rattle.otel_trace_session.specs.Shown.{exported_in};
+
+use crate::otlp::given_behind;
+use crate::program::{Asked, processor_named};
+use crate::run_end::RunEnd;
+use otel_export::error::OTelSdkError;
+use otel_export::trace::SpanData;
+use otel_kept::KeepsBatches;
+use otel_otlp::stream::write_whole;
+use otel_picture::svg::write_svg;
+use otel_picture::text::{COLUMNS, write_text};
+use otel_pipeline::trace::ProviderOf;
+use otel_sampling::trace::{IdGenerator, ShouldSample};
+use otel_trace_lines::lines::number_of;
+use otel_trace_lines::{Answer, Command, Reply, Script, parse};
+use otel_trace_session::Session;
+use std::alloc::{AllocError, Global};
+use std::io;
+use std::io::{Read, Write};
+
+/// In which form spans are drawn.
+#[derive(Clone, Copy, Debug, PartialEq, Eq)]
+pub enum PictureForm {
+    /// As text of so many columns.
+    Text { columns: u32 },
+    /// As one SVG file.
+    Svg,
+}
+
+/// What was drawn of an input, and its first bad line, from 1 and with empty lines counted.
+#[derive(Drop)]
+struct Drawn {
+    picture: Vec<u8>,
+    bad_line: Option<u64>,
+}
+
+/// What the words of the mode `picture` ask for, and how many columns; none where the words are others.
+pub(crate) fn text_asked(words: &[String]) -> Option<(Asked, u32)>
+    ensures { MatchOption result
+        ((asked : Asked) (columns : ℕ) → AsksForText (map string_bytes words.now) asked columns → ⊥)
+        (λ found. AsksForText (map string_bytes words.now) found.0 found.1) }
+{
+    match words {
+        [mode, seed, behind @ ..] if mode.as_str() == "picture" => match given_behind(behind) {
+            Some((processor, given)) => {
+                let seed = number_of(seed.as_str())?;
+                let columns = columns_in(given)?;
+                Some((Asked { seed, processor }, columns))
+            }
+            None => None,
+        },
+        _ => None,
+    }
+}
+
+/// What the words of the mode `svg` ask for; none where the words are others.
+pub(crate) fn svg_asked(words: &[String]) -> Option<Asked>
+    ensures { MatchOption result
+        ((asked : Asked) → AsksForSvg (map string_bytes words.now) asked → ⊥)
+        (λ asked. AsksForSvg (map string_bytes words.now) asked) }
+{
+    match words {
+        [mode, seed, kind @ ..] if mode.as_str() == "svg" => Some(Asked {
+            seed: number_of(seed.as_str())?,
+            processor: processor_named(kind)?,
+        }),
+        _ => None,
+    }
+}
+
+/// The columns that the first word gives, or 72 where there is none; none where it gives none.
+fn columns_in(given: &[String]) -> Option<u32>
+    ensures { MatchOption result
+        ((columns : ℕ) → GivesColumns (map string_bytes given.now) columns → ⊥)
+        (λ columns. GivesColumns (map string_bytes given.now) columns) }
+{
+    match given {
+        [] => Some(COLUMNS),
+        [columns, ..] => {
+            let number = number_of(columns.as_str())?;
+            if number < 20 || number > 400 {
+                return None;
+            }
+            Some(number as u32)
+        }
+    }
+}
+
+/// Carries out the lines of an input by one session under a provider, and writes the picture of all spans that it
+/// exports.
+pub(crate) fn draw_input<P: KeepsBatches, S: ShouldSample, G: IdGenerator, R: Read, W: Write>(
+    alloc: Global,
+    provider: ProviderOf<P, S, G>,
+    form: PictureForm,
+    input: &mut R,
+    output: &mut W,
+) -> RunEnd
+    ensures { DrawsUnder (calls_of P.SpanProcessor P.DrainDue.own P.KeepsBatches.own S.ShouldSample G.IdGenerator)
+        form provider
+        (streams (R.remaining input.old) (R.remaining input.new) (W.contents output.old) (W.contents output.new))
+        result }
+{
+    let mut session = match Session::new(alloc, provider) {
+        Ok(session) => session,
+        Err(failed) => {
+            let _ = failed.value.close();
+            return RunEnd::Failed;
+        }
+    };
+    let drawn = draw_lines(alloc, &mut session, form, input);
+    let mut left = Vec::new(alloc);
+    let closed = session.close(&mut left);
+    let Some(drawn) = drawn else {
+        return RunEnd::Failed;
+    };
+    let Ok(()) = closed else {
+        return RunEnd::Failed;
+    };
+    let Ok(()) = write_whole(output, &drawn.picture) else {
+        return RunEnd::Failed;
+    };
+    match drawn.bad_line {
+        None => RunEnd::Done,
+        Some(line) => RunEnd::BadLine(line),
+    }
+}
+
+/// Carries out the lines of an input, up to the first bad one, and a shutdown behind them, and draws the spans that were
+/// exported. None where reading, memory or the shutdown failed, or a batch was lost.
+fn draw_lines<P: KeepsBatches, S: ShouldSample, G: IdGenerator, R: Read>(
+    alloc: Global,
+    session: &mut Session<P, S, G>,
+    form: PictureForm,
+    input: &mut R,
+) -> Option<Drawn>
+    ensures { IfSome result (λ drawn. DrawsLines
+        (calls_of P.SpanProcessor P.DrainDue.own P.KeepsBatches.own S.ShouldSample G.IdGenerator)
+        form session.old (R.remaining input.old) (R.remaining input.new) drawn.bad_line drawn.picture.items
+        session.new) }
+{
+    let script = read_script(alloc, input).ok()?;
+    let spans = exported_by(alloc, session, script.commands)?;
+    let picture = picture_of(alloc, form, &spans).ok()?;
+    Some(Drawn {
+        picture,
+        bad_line: script.bad_line,
+    })
+}
+
+/// Reads an input to its end, and the commands of its lines.
+fn read_script<R: Read>(alloc: Global, input: &mut R) -> io::Result<Script>
+    ensures { IfOk result (λ script. ReadsScript (R.remaining input.old) (R.remaining input.new)
+        (plain_commands script.commands.items) script.bad_line) }
+{
+    let mut text = Vec::new(alloc);
+    input.read_to_end(&mut text)?;
+    let script = parse(alloc, &text)?;
+    Ok(script)
+}
+
+/// Carries out commands and a shutdown behind them, and gives the spans that were exported. None where memory ran out, a
+/// processor refused a span, a batch was lost or the shutdown failed.
+fn exported_by<P: KeepsBatches, S: ShouldSample, G: IdGenerator>(
+    alloc: Global,
+    session: &mut Session<P, S, G>,
+    commands: Vec<Command>,
+) -> Option<Vec<SpanData>>
+    ensures { IfSome result (λ spans. RunsOut
+        (calls_of P.SpanProcessor P.DrainDue.own P.KeepsBatches.own S.ShouldSample G.IdGenerator)
+        session.old commands.items spans.items session.new) }
+{
+    let mut replies = Vec::new(alloc);
+    session.run(commands, &mut replies).ok()?;
+    if replies.iter().any(|reply| reply.answer.counts_refusals()) {
+        return None;
+    }
+    let mut last = shut_down(alloc, session)?;
+    replies.append(&mut last).ok()?;
+    spans_of(alloc, replies).ok()
+}
+
+/// Shuts the provider of a session down where it is open.
+fn shut_down<P: KeepsBatches, S: ShouldSample, G: IdGenerator>(
+    alloc: Global,
+    session: &mut Session<P, S, G>,
+) -> Option<Vec<Reply>>
+    ensures { IfSome result (λ replies. RunsShutdown
+        (calls_of P.SpanProcessor P.DrainDue.own P.KeepsBatches.own S.ShouldSample G.IdGenerator)
+        session.old replies.items session.new) }
+{
+    let mut commands = Vec::new(alloc);
+    commands.push(Command::Shutdown).ok()?;
+    let mut replies = Vec::new(alloc);
+    session.run(commands, &mut replies).ok()?;
+    if replies.iter().all(|reply| says_shut(&reply.answer)) {
+        Some(replies)
+    } else {
+        None
+    }
+}
+
+/// Whether an answer to a shutdown says that the provider is shut.
+fn says_shut(answer: &Answer) -> bool
+    ensures { result ≡ says_shut answer.now }
+{
+    match answer {
+        Answer::Ok | Answer::Failed(OTelSdkError::AlreadyShutdown) => true,
+        _ => false,
+    }
+}
+
+/// The spans that replies show, in order.
+fn spans_of(alloc: Global, replies: Vec<Reply>) -> Result<Vec<SpanData>, AllocError>
+    ensures { IfOk result (λ spans. spans.items ≡ spans_in (exported_in replies.items)) }
+{
+    let mut spans = Vec::new(alloc);
+    for reply in replies {
+        push_batches(&mut spans, reply.exported)?;
+    }
+    Ok(spans)
+}
+
+/// Appends the spans of batches.
+fn push_batches(spans: &mut Vec<SpanData>, batches: Vec<Vec<SpanData>>) -> Result<(), AllocError>
+    ensures { OnOk result (spans.new.items
+        ≡ spans.old.items ++ spans_in (map (λ batch. batch.items) batches.items)) }
+{
+    for batch in batches {
+        let mut batch = batch;
+        spans.append(&mut batch)?;
+    }
+    Ok(())
+}
+
+/// The picture of spans.
+fn picture_of(alloc: Global, form: PictureForm, spans: &[SpanData]) -> Result<Vec<u8>, AllocError>
+    ensures { IfOk result (λ picture. IsPicture form spans.now picture.items) }
+{
+    let mut picture = Vec::new(alloc);
+    match form {
+        PictureForm::Text { columns } => write_text(alloc, &mut picture, spans, columns)?,
+        PictureForm::Svg => write_svg(alloc, &mut picture, spans)?,
+    }
+    Ok(picture)
+}
