@@ -7,6 +7,9 @@
 //!
 //!     TRACE/SPAN/PARENT/START/END/STATUS/NAME
 //!
+//! A row `chain COUNT` is of so many spans, each under the one before it: span `k` starts at `k`, ends at twice the
+//! count, and is named `link`. Of its picture the first line, the last one and how many there are stand in the answer.
+//!
 //! Ids and moments are decimal numbers; STATUS is `unset`, `ok` or `error:TEXT`. Status and name have the escapes of
 //! `otel_value_cases::fields`.
 #![tactic(auto)]
@@ -15,7 +18,7 @@ use opentelemetry::trace::{SpanContext, SpanKind, TraceState};
 use opentelemetry::{InstrumentationScope, Moment, SpanId, TraceFlags, TraceId};
 use otel_export::trace::{SpanData, SpanEvents, SpanLinks};
 use otel_picture::svg::write_svg;
-use otel_picture::text::write_text;
+use otel_picture::text::{COLUMNS, write_text};
 use otel_value_cases::fields::{Row, RowError, parts_of, push_bytes, small_number_of};
 use otel_value_cases::status_of;
 use std::alloc::{AllocError, Global};
@@ -53,6 +56,7 @@ fn answer(alloc: Global, line: &str, out: &mut Vec<u8>) -> Result<(), RowError> 
     let (word, rest) = line.split_once(' ').ok_or(RowError::Field)?;
     match word {
         "text" => answer_text(alloc, rest, out)?,
+        "chain" => answer_chain(alloc, rest, out)?,
         "svg" => {
             let spans = spans_of(alloc, rest)?;
             write_svg(alloc, out, &spans)?;
@@ -69,6 +73,36 @@ fn answer_text(alloc: Global, rest: &str, out: &mut Vec<u8>) -> Result<(), RowEr
     let spans = spans_of(alloc, list)?;
     write_text(alloc, out, &spans, columns)?;
     Ok(())
+}
+
+fn answer_chain(alloc: Global, rest: &str, out: &mut Vec<u8>) -> Result<(), RowError> {
+    let count = small_number_of(rest)?;
+    let spans = chain_of(alloc, count)?;
+    let mut picture = Vec::new(alloc);
+    write_text(alloc, &mut picture, &spans, COLUMNS)?;
+    let text = String::from_utf8(picture).or(Err(RowError::Field))?;
+    let lines = text.as_str().lines().count();
+    let first = text.as_str().lines().next().unwrap_or("");
+    let last = text.as_str().lines().last().unwrap_or("");
+    let answer = format!(in alloc; "{first}\n{last}\n{lines} lines\n")?;
+    out.extend_from_slice(answer.as_bytes())?;
+    Ok(())
+}
+
+/// So many spans, each under the one before it.
+fn chain_of(alloc: Global, count: u32) -> Result<Vec<SpanData>, RowError> {
+    let mut spans = Vec::new(alloc);
+    let last = u64::from(count).saturating_mul(2);
+    for number in 1..=count {
+        let number = u64::from(number);
+        let row = format!(in alloc;
+            "1/{number}/{parent}/{number}/{last}/unset/link",
+            parent = number - 1
+        )?;
+        let parts = parts_of(alloc, row.as_str())?;
+        spans.push(span_of(alloc, &parts)?)?;
+    }
+    Ok(spans)
 }
 
 fn spans_of(alloc: Global, list: &str) -> Result<Vec<SpanData>, RowError> {
