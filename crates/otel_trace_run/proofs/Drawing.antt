@@ -16,7 +16,7 @@ use Rattle.otel_trace_lines.specs.PlainReply.{NoneRefused, PlainReply, counts_re
 use Rattle.otel_trace_lines.specs.ReplyForm.{reply_lines, texts}
 use Rattle.otel_trace_lines.specs.declared.command.Command.TheVariants as requests
 use Rattle.otel_trace_run.specs.OtlpRuns.{exported_since}
-use Rattle.otel_trace_run.specs.PictureRuns.{Draws, DrawsAll, DrawsLines, DrawsSome, DrawsUnder, IsPicture, RunsOut, RunsShutdown, says_shut}
+use Rattle.otel_trace_run.specs.PictureRuns.{Draws, DrawsAll, DrawsLines, DrawsSome, DrawsUnder, Painting, RunsOut, RunsShutdown, says_shut}
 use Rattle.otel_sampling.specs.declared.trace.sampler.SamplerOf.{SamplerOf}
 use Rattle.otel_trace_run.specs.Program.{BeginsDrawing, DrawsAsked, IsProviderOf, MemoryProcessor}
 use Rattle.otel_trace_run.specs.Streams.{EndsAs, Streams}
@@ -99,12 +99,12 @@ none_lost_answer lost before e = rw (eq-eqb lost before e) refl
 module _ {P S G : Type 0} (calls : Calls P S G)
     (law : OnlyAppends calls.processor calls.timer calls.keeps.kept calls.keeps.lost) where
   -- the lines of a text were carried out, and a session that then closed well exported these spans
-  pub draws : (form : PictureForm) (provider : ProviderState P S G) (after : SessionState P S G)
+  pub draws : (Paints : Painting) (provider : ProviderState P S G) (after : SessionState P S G)
       (input input_after : Option (List ℕ)) (bad_line : Option ℕ) (picture left : List ℕ)
-      → (lines : DrawsLines calls form (session_under calls.keeps provider) input input_after bad_line picture after)
+      → (lines : DrawsLines calls Paints (session_under calls.keeps provider) input input_after bad_line picture after)
       → Closes calls reply_lines after [] (Ok tt) left
-      → Draws calls form provider lines.reads.bytes bad_line picture
-  draws form provider after input input_after bad_line picture left lines closed =
+      → Draws calls Paints provider lines.reads.bytes bad_line picture
+  draws Paints provider after input input_after bad_line picture left lines closed =
       let begun = session_under calls.keeps provider in
       let ran = lines.ran in
       let middle = ran.middle in
@@ -142,35 +142,35 @@ module _ {P S G : Type 0} (calls : Calls P S G)
                 written = refl;
               });
             });
-        drawn = subst (λ (spans : List PlainSpanData). IsPicture form spans picture) (ran.shown ∙ ap spans_in all) lines.drawn;
+        drawn = subst (λ (spans : List PlainSpanData). Paints spans picture) (ran.shown ∙ ap spans_in all) lines.drawn;
       }
 
-module _ {P S G : Type 0} (calls : Calls P S G) (form : PictureForm) (provider : ProviderState P S G) where
+module _ {P S G : Type 0} (calls : Calls P S G) (Paints : Painting) (provider : ProviderState P S G) where
   -- what was drawn whole is a beginning
-  pub drawn_begun : (s : Streams) (bad_line : Option ℕ) → DrawsAll calls form provider s bad_line
-      → DrawsSome calls form provider s
+  pub drawn_begun : (s : Streams) (bad_line : Option ℕ) → DrawsAll calls Paints provider s bad_line
+      → DrawsSome calls Paints provider s
   drawn_begun s bad_line h = inr (h.bytes, bad_line, h.picture, h.all, h.draws, appends_all s.output s.output_after h.picture h.written)
 
-module _ {C D E : Type 0} (calls : Calls (MemoryProcessor C D) (SamplerOf E) (List ℕ)) (form : PictureForm) where
+module _ {C D E : Type 0} (calls : Calls (MemoryProcessor C D) (SamplerOf E) (List ℕ)) where
   -- what is drawn under the provider that is asked for
-  pub draws_asked : (asked : Asked) (provider : ProviderState (MemoryProcessor C D) (SamplerOf E) (List ℕ)) (s : Streams)
-      (end : RunEnd) → IsProviderOf asked provider → DrawsUnder calls form provider s end
-      → EndsAs (DrawsAsked calls asked form s) (BeginsDrawing calls asked form s) s end
-  draws_asked asked provider s ends.Done of h = ((provider, of, h.0), h.1)
-  draws_asked asked provider s (ends.BadLine line) of h = (provider, of, h)
-  draws_asked asked provider s ends.Failed of h = inr (provider, of, h)
+  pub draws_asked : (Paints : Painting) (asked : Asked) (provider : ProviderState (MemoryProcessor C D) (SamplerOf E) (List ℕ))
+      (s : Streams) (end : RunEnd) → IsProviderOf asked provider → DrawsUnder calls Paints provider s end
+      → EndsAs (DrawsAsked calls asked Paints s) (BeginsDrawing calls asked Paints s) s end
+  draws_asked Paints asked provider s ends.Done of h = ((provider, of, h.0), h.1)
+  draws_asked Paints asked provider s (ends.BadLine line) of h = (provider, of, h)
+  draws_asked Paints asked provider s ends.Failed of h = inr (provider, of, h)
 
   -- what was drawn whole is a beginning
-  pub asked_begun : (asked : Asked) (s : Streams) (bad_line : Option ℕ) → DrawsAsked calls asked form s bad_line
-      → BeginsDrawing calls asked form s
-  asked_begun asked s bad_line (provider, of, h) = inr (provider, of, drawn_begun calls form provider s bad_line h)
+  pub asked_begun : (Paints : Painting) (asked : Asked) (s : Streams) (bad_line : Option ℕ)
+      → DrawsAsked calls asked Paints s bad_line → BeginsDrawing calls asked Paints s
+  asked_begun Paints asked s bad_line (provider, of, h) = inr (provider, of, drawn_begun calls Paints provider s bad_line h)
 
   -- what is asked once is asked by any such words
-  pub draws_once : (words : List (List ℕ)) (asked other : Asked) (also : PictureForm) (s : Streams) (end : RunEnd)
-      → AsksForPicture words asked form → AsksForPicture words other also
-      → EndsAs (DrawsAsked calls other also s) (BeginsDrawing calls other also s) s end
-      → EndsAs (DrawsAsked calls asked form s) (BeginsDrawing calls asked form s) s end
-  draws_once words asked other also s end h k run =
+  pub draws_once : (Painted : PictureForm → Painting) (words : List (List ℕ)) (asked other : Asked) (form also : PictureForm)
+      (s : Streams) (end : RunEnd) → AsksForPicture words asked form → AsksForPicture words other also
+      → EndsAs (DrawsAsked calls other (Painted also) s) (BeginsDrawing calls other (Painted also) s) s end
+      → EndsAs (DrawsAsked calls asked (Painted form) s) (BeginsDrawing calls asked (Painted form) s) s end
+  draws_once Painted words asked other form also s end h k run =
       let same = picture_once words other asked also form k h in
-      subst (λ (f : PictureForm). EndsAs (DrawsAsked calls asked f s) (BeginsDrawing calls asked f s) s end) same.1
-      (subst (λ (a : Asked). EndsAs (DrawsAsked calls a also s) (BeginsDrawing calls a also s) s end) same.0 run)
+      subst (λ (f : PictureForm). EndsAs (DrawsAsked calls asked (Painted f) s) (BeginsDrawing calls asked (Painted f) s) s end) same.1
+      (subst (λ (a : Asked). EndsAs (DrawsAsked calls a (Painted also) s) (BeginsDrawing calls a (Painted also) s) s end) same.0 run)

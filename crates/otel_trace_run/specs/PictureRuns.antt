@@ -5,7 +5,6 @@ use Rattle.otel_export.specs.PlainSpanData.{PlainSpanData, spans_in}
 use Rattle.otel_export.specs.declared.error.OTelSdkError.{OTelSdkError}
 use Rattle.otel_export.specs.declared.error.OTelSdkError.TheVariants as errors
 use Rattle.otel_otlp.specs.Streams.{AppendsBeginning}
-use Rattle.otel_picture.specs.Pictures.{IsSvgPicture, IsTextPicture}
 use Rattle.otel_pipeline.specs.Provider.{ProviderState}
 use Rattle.otel_trace_lines.specs.Commands.{PlainCommand, plain_commands}
 use Rattle.otel_trace_lines.specs.Lines.{TextSpells}
@@ -17,18 +16,15 @@ use Rattle.otel_trace_lines.specs.declared.reply.Answer.{Answer}
 use Rattle.otel_trace_lines.specs.declared.reply.Answer.TheVariants as answers
 use Rattle.otel_trace_run.specs.OtlpRuns.{exported_since}
 use Rattle.otel_trace_run.specs.Streams.{AreAll, EndsAs, Streams}
-use Rattle.otel_trace_run.specs.declared.picture.PictureForm.{PictureForm}
-use Rattle.otel_trace_run.specs.declared.picture.PictureForm.TheVariants as forms
 use Rattle.otel_trace_run.specs.declared.run_end.RunEnd.{RunEnd}
 use Rattle.otel_trace_session.specs.Calls.{Calls}
 use Rattle.otel_trace_session.specs.Closing.{Finishes}
 use Rattle.otel_trace_session.specs.Shown.{exported_in}
 use Rattle.otel_trace_session.specs.Turns.{Runs, SessionState, session_under}
 
--- the picture of spans, in a form
-abbrev pub IsPicture : PictureForm → List PlainSpanData → List ℕ → Type 0
-IsPicture (forms.Text columns) spans text = IsTextPicture columns spans text
-IsPicture forms.Svg spans text = IsSvgPicture spans text
+-- what is said of spans and what was painted of them
+abbrev pub Painting : Type 1
+Painting = List PlainSpanData → List ℕ → Type 0
 
 -- whether an answer to a shutdown says that the provider is shut: by this one, or it was before
 abbrev pub says_shut : Answer → Bool
@@ -62,23 +58,24 @@ module _ {P S G : Type 0} (calls : Calls P S G) where
     pub shut : RunsShutdown middle last new
     pub shown : spans ≡ spans_in (exported_in (replies ++ last))
 
-  -- a session carried out the lines of an input, up to its first bad line, and then a shutdown, and this is the picture
-  -- of the spans that it exported
-  pub record DrawsLines (form : PictureForm) (old : SessionState P S G) (input after : Option (List ℕ))
+  -- a session carried out the lines of an input, up to its first bad line, and then a shutdown, and this is what
+  -- was painted of the spans that it exported
+  pub record DrawsLines (Paints : Painting) (old : SessionState P S G) (input after : Option (List ℕ))
       (bad_line : Option ℕ) (picture : List ℕ) (new : SessionState P S G) : Type 0 where
     pub commands : List Command
     pub spans : List PlainSpanData
     pub reads : ReadsScript input after (plain_commands commands) bad_line
     pub ran : RunsOut old commands spans new
-    pub drawn : IsPicture form spans picture
+    pub drawn : Paints spans picture
 
-module _ {P S G : Type 0} (calls : Calls P S G) (form : PictureForm) (provider : ProviderState P S G) where
-  -- one session carried out a text, up to its first bad line, and closed as in the mode `trace`, and this is the picture
-  -- of all spans that it exported
+module _ {P S G : Type 0} (calls : Calls P S G) (Paints : Painting)
+    (provider : ProviderState P S G) where
+  -- one session carried out a text, up to its first bad line, and closed as in the mode `trace`, and this is what was
+  -- painted of all spans that it exported, in order
   pub record Draws (bytes : List ℕ) (bad_line : Option ℕ) (picture : List ℕ) : Type 0 where
     pub replied : List ℕ
     pub finishes : Finishes calls reply_lines (session_under calls.keeps provider) bytes bad_line replied
-    pub drawn : IsPicture form (spans_in (exported_since calls provider finishes.closes.provider)) picture
+    pub drawn : Paints (spans_in (exported_since calls provider finishes.closes.provider)) picture
 
   -- the output was given the picture of the whole input
   pub record DrawsAll (s : Streams) (bad_line : Option ℕ) : Type 0 where

@@ -29,10 +29,9 @@ use Rattle.opentelemetry_sdk.specs.declared.trace.processor.ProcessorOf.TheVaria
 use Rattle.otel_trace_lines.specs.ReplyForm.{reply_lines}
 use Rattle.otel_trace_session.specs.Calls.{Calls, calls_of}
 use Rattle.otel_trace_run.specs.OtlpRuns.{ExportsAll, otlp_form}
-use Rattle.otel_trace_run.specs.PictureRuns.{DrawsAll, DrawsSome}
+use Rattle.otel_trace_run.specs.PictureRuns.{DrawsAll, DrawsSome, Painting}
 use Rattle.otel_trace_run.specs.Streams.{EndsAs, EndsWith, Streams}
 use Rattle.otel_trace_run.specs.TraceRuns.{TracesBegun, TracesWhole}
-use Rattle.otel_trace_run.specs.declared.picture.PictureForm.{PictureForm}
 use Rattle.otel_trace_run.specs.declared.program.Asked.{Asked}
 use Rattle.otel_trace_run.specs.declared.program.AskedProcessor.{AskedProcessor}
 use Rattle.otel_trace_run.specs.declared.program.AskedProcessor.TheVariants as asks
@@ -117,15 +116,15 @@ module _ {C D E : Type 0} (calls : Calls (MemoryProcessor C D) (SamplerOf E) (Li
 
   -- the output was given the picture of the spans that a session exported over the whole input, under the provider that
   -- is asked for
-  abbrev pub DrawsAsked : PictureForm → Streams → Option ℕ → Type 0
-  DrawsAsked form s bad_line = (provider : ProviderState (MemoryProcessor C D) (SamplerOf E) (List ℕ))
-      × IsProviderOf asked provider × DrawsAll calls form provider s bad_line
+  abbrev pub DrawsAsked : Painting → Streams → Option ℕ → Type 0
+  DrawsAsked Paints s bad_line = (provider : ProviderState (MemoryProcessor C D) (SamplerOf E) (List ℕ))
+      × IsProviderOf asked provider × DrawsAll calls Paints provider s bad_line
 
   -- the output was given a beginning of such a picture, or nothing
-  abbrev pub BeginsDrawing : PictureForm → Streams → Type 0
-  BeginsDrawing form s = Appends s.output s.output_after []
+  abbrev pub BeginsDrawing : Painting → Streams → Type 0
+  BeginsDrawing Paints s = Appends s.output s.output_after []
       ⊎ ((provider : ProviderState (MemoryProcessor C D) (SamplerOf E) (List ℕ))
-      × IsProviderOf asked provider × DrawsSome calls form provider s)
+      × IsProviderOf asked provider × DrawsSome calls Paints provider s)
 
   -- a run of the mode `trace`, by its status, and by what is said of the faults where it has none and where it has one
   abbrev pub EndsTracing : Streams → Type 0 → (List ℕ → Type 0) → ℕ → Type 0
@@ -136,12 +135,12 @@ module _ {C D E : Type 0} (calls : Calls (MemoryProcessor C D) (SamplerOf E) (Li
   EndsExporting given s Silent Says status = EndsWith (ExportsAsked given s) (BeginsExporting given s) Silent Says s status
 
   -- a run of the modes `picture` and `svg`
-  abbrev pub EndsDrawing : PictureForm → Streams → Type 0 → (List ℕ → Type 0) → ℕ → Type 0
-  EndsDrawing form s Silent Says status = EndsWith (DrawsAsked form s) (BeginsDrawing form s) Silent Says s status
+  abbrev pub EndsDrawing : Painting → Streams → Type 0 → (List ℕ → Type 0) → ℕ → Type 0
+  EndsDrawing Paints s Silent Says status = EndsWith (DrawsAsked Paints s) (BeginsDrawing Paints s) Silent Says s status
 
   -- what such a run did, by how it ended
-  abbrev pub DrawsTo : PictureForm → Streams → RunEnd → Type 0
-  DrawsTo form s end = EndsAs (DrawsAsked form s) (BeginsDrawing form s) s end
+  abbrev pub DrawsTo : Painting → Streams → RunEnd → Type 0
+  DrawsTo Paints s end = EndsAs (DrawsAsked Paints s) (BeginsDrawing Paints s) s end
 
   -- what a run of the mode `otlp` did, by how it ended
   abbrev pub Exports : List (List ℕ) → Streams → RunEnd → Type 0

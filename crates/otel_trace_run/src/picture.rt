@@ -2,10 +2,10 @@
 //! reply is written. So these modes hold the input and its spans, and their memory grows with both.
 
 ghost use Rattle.std.specs.Prelude.{◌≡◌, ◌++◌, ◌≤◌, IfOk, IfSome, MatchOption, OnOk, List, ℕ, map, string_bytes};
-ghost use Rattle.otel_export.specs.PlainSpanData.{spans_in};
+ghost use Rattle.otel_export.specs.PlainSpanData.{PlainSpanData, spans_in};
 ghost use Rattle.otel_trace_lines.specs.Commands.{plain_commands};
 ghost use Rattle.otel_trace_run.specs.Arguments.{AsksForSvg, AsksForText, GivesColumns};
-ghost use Rattle.otel_trace_run.specs.PictureRuns.{DrawsLines, DrawsUnder, IsPicture};
+ghost use Rattle.otel_trace_run.specs.PictureRuns.{DrawsLines, DrawsUnder};
 ghost use Rattle.otel_trace_run.specs.PictureRuns.{ReadsScript, RunsOut, RunsShutdown, says_shut};
 ghost use Rattle.otel_trace_run.specs.Streams.{streams};
 ghost use Rattle.otel_trace_session.specs.Calls.{calls_of};
@@ -29,6 +29,22 @@ use std::alloc::{AllocError, Global};
 use std::io;
 use std::io::{Read, Write};
 
+/// What draws spans.
+pub trait SpanPainter {
+    /// What is said of spans, in order of export, and of the text that is drawn of them.
+    ghost paints: { Self → List PlainSpanData → List ℕ → Type 0 } = { λ _ _ _. Unit {0} };
+
+    /// Appends a picture of spans, which stand in order of export.
+    fn paint(
+        &self,
+        alloc: Global,
+        output: &mut Vec<u8>,
+        spans: &[SpanData],
+    ) -> Result<(), AllocError>
+        ensures { OnOk result ((picture : List ℕ) × paints self.now spans.now picture
+            × (output.new.items ≡ output.old.items ++ picture)) };
+}
+
 /// In which form spans are drawn.
 #[derive(Clone, Copy, Debug, PartialEq, Eq)]
 pub enum PictureForm {
@@ -36,6 +52,20 @@ pub enum PictureForm {
     Text { columns: u32 },
     /// As one SVG file.
     Svg,
+}
+
+impl SpanPainter for PictureForm {
+    fn paint(
+        &self,
+        alloc: Global,
+        output: &mut Vec<u8>,
+        spans: &[SpanData],
+    ) -> Result<(), AllocError> {
+        match self {
+            PictureForm::Text { columns } => write_text(alloc, output, spans, *columns),
+            PictureForm::Svg => write_svg(alloc, output, spans),
+        }
+    }
 }
 
 /// What was drawn of an input, and its first bad line, from 1 and with empty lines counted.
@@ -99,15 +129,22 @@ fn columns_in(given: &[String]) -> Option<u32>
 
 /// Carries out the lines of an input by one session under a provider, and writes the picture of all spans that it
 /// exports.
-pub(crate) fn draw_input<P: KeepsBatches, S: ShouldSample, G: IdGenerator, R: Read, W: Write>(
+pub(crate) fn draw_input<
+    P: KeepsBatches,
+    S: ShouldSample,
+    G: IdGenerator,
+    D: SpanPainter,
+    R: Read,
+    W: Write,
+>(
     alloc: Global,
     provider: ProviderOf<P, S, G>,
-    form: PictureForm,
+    painter: &D,
     input: &mut R,
     output: &mut W,
 ) -> RunEnd
     ensures { DrawsUnder (calls_of P.SpanProcessor P.DrainDue.own P.KeepsBatches.own S.ShouldSample G.IdGenerator)
-        form provider
+        (D.paints painter.now) provider
         (streams (R.remaining input.old) (R.remaining input.new) (W.contents output.old) (W.contents output.new))
         result }
 {
@@ -118,7 +155,7 @@ pub(crate) fn draw_input<P: KeepsBatches, S: ShouldSample, G: IdGenerator, R: Re
             return RunEnd::Failed;
         }
     };
-    let drawn = draw_lines(alloc, &mut session, form, input);
+    let drawn = draw_lines(alloc, &mut session, painter, input);
     let mut left = Vec::new(alloc);
     let closed = session.close(&mut left);
     let Some(drawn) = drawn else {
@@ -138,20 +175,20 @@ pub(crate) fn draw_input<P: KeepsBatches, S: ShouldSample, G: IdGenerator, R: Re
 
 /// Carries out the lines of an input, up to the first bad one, and a shutdown behind them, and draws the spans that were
 /// exported. None where reading, memory or the shutdown failed, or a batch was lost.
-fn draw_lines<P: KeepsBatches, S: ShouldSample, G: IdGenerator, R: Read>(
+fn draw_lines<P: KeepsBatches, S: ShouldSample, G: IdGenerator, D: SpanPainter, R: Read>(
     alloc: Global,
     session: &mut Session<P, S, G>,
-    form: PictureForm,
+    painter: &D,
     input: &mut R,
 ) -> Option<Drawn>
     ensures { IfSome result (λ drawn. DrawsLines
         (calls_of P.SpanProcessor P.DrainDue.own P.KeepsBatches.own S.ShouldSample G.IdGenerator)
-        form session.old (R.remaining input.old) (R.remaining input.new) drawn.bad_line drawn.picture.items
+        (D.paints painter.now) session.old (R.remaining input.old) (R.remaining input.new) drawn.bad_line drawn.picture.items
         session.new) }
 {
     let script = read_script(alloc, input).ok()?;
     let spans = exported_by(alloc, session, script.commands)?;
-    let picture = picture_of(alloc, form, &spans).ok()?;
+    let picture = picture_of(alloc, painter, &spans).ok()?;
     Some(Drawn {
         picture,
         bad_line: script.bad_line,
@@ -244,13 +281,14 @@ fn push_batches(spans: &mut Vec<SpanData>, batches: Vec<Vec<SpanData>>) -> Resul
 }
 
 /// The picture of spans.
-fn picture_of(alloc: Global, form: PictureForm, spans: &[SpanData]) -> Result<Vec<u8>, AllocError>
-    ensures { IfOk result (λ picture. IsPicture form spans.now picture.items) }
+fn picture_of<D: SpanPainter>(
+    alloc: Global,
+    painter: &D,
+    spans: &[SpanData],
+) -> Result<Vec<u8>, AllocError>
+    ensures { IfOk result (λ picture. D.paints painter.now spans.now picture.items) }
 {
     let mut picture = Vec::new(alloc);
-    match form {
-        PictureForm::Text { columns } => write_text(alloc, &mut picture, spans, columns)?,
-        PictureForm::Svg => write_svg(alloc, &mut picture, spans)?,
-    }
+    painter.paint(alloc, &mut picture, spans)?;
     Ok(picture)
 }

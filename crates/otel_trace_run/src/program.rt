@@ -30,7 +30,7 @@ ghost use Rattle.otel_trace_run.specs.StepRuns.{EndsStepping};
 ghost use Rattle.otel_trace_run.specs.Streams.{Reports, streams};
 
 use crate::otlp::{export_input, otlp_of, resource_of};
-use crate::picture::{PictureForm, draw_input, svg_asked, text_asked};
+use crate::picture::{PictureForm, SpanPainter, draw_input, svg_asked, text_asked};
 use crate::run_end::RunEnd;
 use crate::step_stream::step_input;
 use crate::trace_stream::trace_input;
@@ -183,7 +183,8 @@ pub fn run_program<R: Read, W: Write, F: Write>(
         EndsDrawing
         (memory_calls ⟦<TraceProcessor as SpanProcessor>⟧
         (record { due_gives = ⟦<TraceProcessor as DrainDue>⟧.due_gives })
-        ⟦<TraceSampler as ShouldSample>⟧ ⟦<RandomIdGenerator as IdGenerator>⟧) asked form
+        ⟦<TraceSampler as ShouldSample>⟧ ⟦<RandomIdGenerator as IdGenerator>⟧) asked
+        (⟦<PictureForm as SpanPainter>⟧.paints form)
         (streams (R.remaining input.old) (R.remaining input.new) (W.contents output.old) (W.contents output.new))
         (faults.new ≡ faults.old) (Appends (F.contents faults.old) (F.contents faults.new)) result }
 
@@ -267,12 +268,12 @@ fn run_picture<R: Read, W: Write>(
         (memory_calls ⟦<TraceProcessor as SpanProcessor>⟧
         (record { due_gives = ⟦<TraceProcessor as DrainDue>⟧.due_gives })
         ⟦<TraceSampler as ShouldSample>⟧ ⟦<RandomIdGenerator as IdGenerator>⟧)
-        asked form
+        asked (⟦<PictureForm as SpanPainter>⟧.paints form)
         (streams (R.remaining input.old) (R.remaining input.new) (W.contents output.old) (W.contents output.new))
         result }
 {
     match provider_of(alloc, asked) {
-        Ok(provider) => draw_input(alloc, provider, form, input, output),
+        Ok(provider) => draw_input(alloc, provider, &form, input, output),
         Err(_) => RunEnd::Failed,
     }
 }
