@@ -1,10 +1,12 @@
 -- A session that carries out commands and then a shutdown closes as in the mode `trace`, and its replies show all spans
 -- that it exported.
-use Rattle.std.proofs.Common.{◌≡◌, ◌++◌, ◌∙◌, ◌==◌, ◌≤◌, ℕ, Bool, true, false, List, [], ◌∷◌, Option, Some, None, Result, Ok, Err, IsTrue, MatchBool}
-use Rattle.std.proofs.Common.{All, inl, inr, ap, append-nil, arith, drop, length, map, refl, subst, sym, not}
+use Rattle.std.proofs.Common.{◌≡◌, ◌++◌, ◌∙◌, ◌==◌, ◌≤◌, ℕ, Bool, true, false, List, [], ◌∷◌, Option, Some, None, Result, Ok, Err, IsTrue, MatchBool, ◌||◌}
+use Rattle.std.proofs.Common.{All, inl, inr, ap, append-nil, append_assoc, arith, drop, length, map, refl, subst, sym, not}
 use Rattle.std.proofs.lemmas.Bool.{eq-eqb}
+use Rattle.std.proofs.lemmas.List.{map-append}
 use Rattle.std.proofs.lemmas.List.Concat.{flat_map-append}
 use Rattle.std.specs.Io.KnownBytes.{Appends, IsAtEnd}
+use Rattle.std.specs.List.{list_any}
 use Rattle.otel_export.specs.PlainSpanData.{PlainSpanData, spans_in}
 use Rattle.otel_export.specs.declared.error.OTelSdkError.{OTelSdkError}
 use Rattle.otel_export.specs.declared.error.OTelSdkError.TheVariants as errors
@@ -161,9 +163,9 @@ module _ {C D E : Type 0} (calls : Calls (MemoryProcessor C D) (SamplerOf E) (Li
   draws_asked Paints asked provider s ends.Failed of h = inr (provider, of, h)
 
   -- what was drawn whole is a beginning
-  pub asked_begun : (Paints : Painting) (asked : Asked) (s : Streams) (bad_line : Option ℕ)
+  pub drawing_begun : (Paints : Painting) (asked : Asked) (s : Streams) (bad_line : Option ℕ)
       → DrawsAsked calls asked Paints s bad_line → BeginsDrawing calls asked Paints s
-  asked_begun Paints asked s bad_line (provider, of, h) = inr (provider, of, drawn_begun calls Paints provider s bad_line h)
+  drawing_begun Paints asked s bad_line (provider, of, h) = inr (provider, of, drawn_begun calls Paints provider s bad_line h)
 
   -- what is asked once is asked by any such words
   pub draws_once : (Painted : PictureForm → Painting) (words : List (List ℕ)) (asked other : Asked) (form also : PictureForm)
@@ -174,3 +176,39 @@ module _ {C D E : Type 0} (calls : Calls (MemoryProcessor C D) (SamplerOf E) (Li
       let same = picture_once words other asked also form k h in
       subst (λ (f : PictureForm). EndsAs (DrawsAsked calls asked (Painted f) s) (BeginsDrawing calls asked (Painted f) s) s end) same.1
       (subst (λ (a : Asked). EndsAs (DrawsAsked calls a (Painted also) s) (BeginsDrawing calls a (Painted also) s) s end) same.0 run)
+
+-- what none of the replies counts that were looked at
+pub none_counted : (replies : List PlainReply) → list_any (λ (reply : PlainReply). counts_refusals reply.answer) replies ≡ false
+    → NoneRefused replies
+none_counted [] e = tt
+none_counted (reply ∷ replies) e = by (counts_refusals reply.answer) refl e
+  where
+    by : (counted : Bool) → counted ≡ counts_refusals reply.answer
+        → (counted || list_any (λ (r : PlainReply). counts_refusals r.answer) replies) ≡ false → NoneRefused (reply ∷ replies)
+    by true same h = let no : ⊥ = cc in absurd no
+    by false same h = (sym same, none_counted replies h)
+
+-- the spans of batches, and of more behind them
+pub spans_joined : (first second : List (List PlainSpanData)) → spans_in (first ++ second) ≡ spans_in first ++ spans_in second
+spans_joined first second = flat_map-append (λ (batch : List PlainSpanData). batch) first second
+
+-- the spans of one batch more
+pub spans_more : {X : Type 0} (items : X → List PlainSpanData) (batches : List X) (batch : X) (before now after : List PlainSpanData)
+    → now ≡ before ++ spans_in (map items batches) → after ≡ now ++ items batch
+    → after ≡ before ++ spans_in (map items (batches ++ batch ∷ []))
+spans_more items batches batch before now after h k =
+    k ∙ ap (λ (spans : List PlainSpanData). spans ++ items batch) h
+    ∙ append_assoc before (spans_in (map items batches)) (items batch)
+    ∙ ap (λ (spans : List PlainSpanData). before ++ spans) (sym
+    (ap spans_in (map-append items batches (batch ∷ [])) ∙ spans_joined (map items batches) (items batch ∷ [])
+    ∙ ap (λ (spans : List PlainSpanData). spans_in (map items batches) ++ spans) (append-nil (items batch))))
+
+-- the spans that one reply more shows
+pub spans_shown : (replies : List PlainReply) (reply : PlainReply) (now after : List PlainSpanData)
+    → now ≡ spans_in (exported_in replies) → after ≡ now ++ spans_in reply.exported
+    → after ≡ spans_in (exported_in (replies ++ reply ∷ []))
+spans_shown replies reply now after h k =
+    k ∙ ap (λ (spans : List PlainSpanData). spans ++ spans_in reply.exported) h
+    ∙ sym (spans_joined (exported_in replies) reply.exported)
+    ∙ ap spans_in (sym (flat_map-append (λ (r : PlainReply). r.exported) replies (reply ∷ [])
+    ∙ ap (λ (batches : List (List PlainSpanData)). exported_in replies ++ batches) (append-nil reply.exported)))

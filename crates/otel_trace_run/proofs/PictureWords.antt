@@ -1,11 +1,14 @@
 -- What the words of the modes `picture` and `svg` ask for.
-use Rattle.std.proofs.Common.{◌≡◌, ◌∙◌, ℕ, List, [], ◌∷◌, ap, codes, refl, subst, sym}
+use Rattle.std.proofs.Common.{◌≡◌, ◌<◌, ◌≤◌, ◌⊎◌, ◌∙◌, ℕ, List, [], ◌∷◌, ap, arith, codes, inl, inr, length, map, refl}
+use Rattle.std.proofs.Common.{subst, sym}
+use Rattle.std.proofs.Math.ListN.{get_or}
 use Rattle.std.specs.Str.Parse.{digits_value}
 use Rattle.otel_trace_run.specs.Arguments.{AsksForPicture, AsksForSvg, AsksForText, GivesColumns, NamesGiven, NamesProcessor}
 use Rattle.otel_trace_run.specs.declared.picture.PictureForm.{PictureForm}
 use Rattle.otel_trace_run.specs.declared.picture.PictureForm.TheVariants as forms
 use Rattle.otel_trace_run.specs.declared.program.Asked.{Asked}
-use Rattle.otel_trace_run.proofs.OtlpWords.{asked_of, given_once}
+use Rattle.otel_trace_lines.specs.Lines.{IsMoment}
+use Rattle.otel_trace_run.proofs.OtlpWords.{asked_of, given_once, one_first}
 use Rattle.otel_trace_run.proofs.ProgramLemmas.{named_once}
 
 -- words give one number of columns
@@ -58,3 +61,26 @@ picture_once words asked other (forms.Text columns) (forms.Text wide) h k =
 picture_once words asked other forms.Svg forms.Svg h k = (svg_once words asked other h k, refl)
 picture_once words asked other (forms.Text columns) forms.Svg h k = absurd (one_form words asked other columns h k)
 picture_once words asked other forms.Svg (forms.Text columns) h k = absurd (one_form words other asked columns k h)
+
+module _ {X : Type 0} (h : X → List ℕ) (items : List X) (first : X) (digits : List ℕ) (least : 1 ≤ length items)
+    (at : first ≡ get_or items 0 first) (written : h first ≡ digits) where
+  -- the first word gives columns
+  pub columns_given : (columns : ℕ) → IsMoment digits columns → 20 ≤ columns → columns ≤ 400
+      → GivesColumns (map h items) columns
+  columns_given columns is low high =
+      subst (λ (words : List (List ℕ)). GivesColumns words columns) (sym (one_first h items first digits least at written))
+      (is, low, high)
+
+  -- columns that are given, the first word gives
+  pub columns_written : (columns : ℕ) → GivesColumns (map h items) columns
+      → IsMoment digits columns × (20 ≤ columns) × (columns ≤ 400)
+  columns_written columns gives =
+      subst (λ (words : List (List ℕ)). GivesColumns words columns) (one_first h items first digits least at written) gives
+
+  -- no columns are given where the word writes a number out of range
+  pub no_columns : (number : ℕ) → IsMoment digits number → (number < 20) ⊎ (400 < number) → (columns : ℕ)
+      → GivesColumns (map h items) columns → ⊥
+  no_columns number is (inl low) columns gives =
+      let g = columns_written columns gives in omega (arith, is.1, g.0.1, g.1, low)
+  no_columns number is (inr high) columns gives =
+      let g = columns_written columns gives in omega (arith, is.1, g.0.1, g.2, high)

@@ -1,4 +1,5 @@
 use Rattle.std.proofs.Common.{rules}
+use Rattle.otel_trace_run.proofs.Drawing.{drawing_begun, draws_once}
 use Rattle.otel_trace_run.proofs.Exporting.{exporting_begun, exports_once}
 use Rattle.otel_trace_run.proofs.ProgramLemmas.{asked_begun, ends_with, found, one_mode, status_small, steps_sized, traces_asked}
 use Rattle.otel_trace_run.proofs.StepStream.{all_begun}
@@ -50,3 +51,16 @@ returns-in-Some-otlp_of-clause-otlp g c = λ asked given asks.
     (λ bad_line h. exporting_begun _ asked given s bad_line h)
     (exports_once _ _ asked c.in-Some-otlp_of.asked given _ s c.run_otlp-end.result asks c.in-Some-otlp_of.ensures
     c.run_otlp-end.ensures) c.status_of-in-Some-otlp_of.ensures
+
+pub returns-in-None-clause-picture : goal.returns-in-None-clause-picture
+returns-in-None-clause-picture g c = λ asked form asks. absurd (c.in_default-picture_of.ensures asked form asks)
+
+pub returns-in-Some-picture_of-clause-picture : goal.returns-in-Some-picture_of-clause-picture
+returns-in-Some-picture_of-clause-picture g c = λ asked form asks.
+    let s = streams (g.R.Read.remaining c.args.input.now) (g.R.Read.remaining c.run_picture-end.new.input)
+    (g.W.Write.contents c.args.output.now) (g.W.Write.contents c.run_picture-end.new.output) in
+    ends_with _ _ _ _ s c.run_picture-end.result c.status_of-in-Some-picture_of.result
+    (λ bad_line h. drawing_begun _ _ asked s bad_line h)
+    (draws_once _ (λ f spans text. Unit {0}) _ asked c.in-Some-picture_of.asked form c.in-Some-picture_of.form s
+    c.run_picture-end.result asks c.in-Some-picture_of.ensures c.run_picture-end.ensures)
+    c.status_of-in-Some-picture_of.ensures
