@@ -1,7 +1,7 @@
 -- A session that carries out commands and then a shutdown closes as in the mode `trace`, and its replies show all spans
 -- that it exported.
 use Rattle.std.proofs.Common.{◌≡◌, ◌++◌, ◌∙◌, ◌==◌, ◌≤◌, ℕ, Bool, true, false, List, [], ◌∷◌, Option, Some, None, Result, Ok, Err, IsTrue, MatchBool, ◌||◌}
-use Rattle.std.proofs.Common.{All, inl, inr, ap, append-nil, append_assoc, arith, drop, length, map, refl, subst, sym, not}
+use Rattle.std.proofs.Common.{All, inl, inr, ap, append-nil, append_assoc, arith, drop, length, map, refl, subst, sym, not, if◌then◌else◌}
 use Rattle.std.proofs.lemmas.Bool.{eq-eqb}
 use Rattle.std.proofs.lemmas.List.{map-append}
 use Rattle.std.proofs.lemmas.List.Concat.{flat_map-append}
@@ -16,12 +16,14 @@ use Rattle.otel_pipeline.specs.Provider.{IsInternalFailure, ProviderState, Shuts
 use Rattle.otel_trace_lines.specs.Commands.{plain_commands, shutdown}
 use Rattle.otel_trace_lines.specs.PlainReply.{NoneRefused, PlainReply, counts_refusals}
 use Rattle.otel_trace_lines.specs.ReplyForm.{reply_lines, texts}
+use Rattle.otel_trace_lines.specs.declared.command.Command.{Command}
 use Rattle.otel_trace_lines.specs.declared.command.Command.TheVariants as requests
+use Rattle.otel_trace_session.specs.Stops.{Gains}
 use Rattle.otel_trace_run.specs.OtlpRuns.{exported_since}
 use Rattle.otel_trace_run.specs.PictureRuns.{Draws, DrawsAll, DrawsLines, DrawsSome, DrawsUnder, Painting, RunsOut, RunsShutdown, says_shut}
 use Rattle.otel_sampling.specs.declared.trace.sampler.SamplerOf.{SamplerOf}
 use Rattle.otel_trace_run.specs.Program.{BeginsDrawing, DrawsAsked, IsProviderOf, MemoryProcessor}
-use Rattle.otel_trace_run.specs.Streams.{EndsAs, Streams}
+use Rattle.otel_trace_run.specs.Streams.{AreAll, EndsAs, Streams}
 use Rattle.otel_trace_run.specs.declared.program.Asked.{Asked}
 use Rattle.otel_trace_run.specs.Arguments.{AsksForPicture}
 use Rattle.otel_trace_run.proofs.PictureWords.{picture_once}
@@ -37,22 +39,25 @@ use Rattle.otel_trace_session.specs.Shown.{exported_in}
 use Rattle.otel_trace_session.specs.Turn.{Course, Turn}
 use Rattle.otel_trace_session.specs.Turns.{AreTurns, Runs, SessionState, course_of, replied, reply_of, session_under}
 use Rattle.otel_trace_session.proofs.CloseLemmas.{none_lost}
-use Rattle.otel_trace_session.proofs.FeedLemmas.{finishes}
 use Rattle.otel_trace_session.proofs.ShownLemmas.{closes_rest}
+
+-- an answer without an error
+abbrev well : Result (Unit {0}) OTelSdkError
+well = Ok tt
 
 module _ {P S G : Type 0} (calls : Calls P S G) where
   -- what a shutdown did, by its answer, as a close has it
   shut_by : (old new : ProviderState P S G) (said : Result (Unit {0}) OTelSdkError) (is_shut : Bool) → is_shut ≡ old.is_shut
       → IsTrue (says_shut (call_answer said))
       → MatchBool is_shut ((said ≡ Err errors.AlreadyShutdown) × (new ≡ old)) (ShutsDown calls.processor old 5_000_000_000 said new)
-      → MatchBool is_shut ((Ok tt ≡ Ok {E = OTelSdkError} tt) × (new ≡ old)) (ShutsDown calls.processor old 5_000_000_000 (Ok tt) new)
+      → MatchBool is_shut ((well ≡ well) × (new ≡ old)) (ShutsDown calls.processor old 5_000_000_000 (Ok tt) new)
       × (new.is_shut ≡ true)
   shut_by old new said true e says h = ((refl, h.1), ap (λ (p : ProviderState P S G). p.is_shut) h.1 ∙ sym e)
   shut_by old new (Ok done) false e says h = (h, ap (λ (p : ProviderState P S G). p.is_shut) h.rest)
-  shut_by old new (Err (errors.InternalFailure text)) false e says h = absurd says
+  shut_by old new (Err (errors.InternalFailure text)) false e says h = let no : ⊥ = cc in absurd no
   shut_by old new (Err errors.AlreadyShutdown) false e says h = absurd h.err
-  shut_by old new (Err errors.OutOfMemory) false e says h = absurd says
-  shut_by old new (Err (errors.Timeout time)) false e says h = absurd says
+  shut_by old new (Err errors.OutOfMemory) false e says h = let no : ⊥ = cc in absurd no
+  shut_by old new (Err (errors.Timeout time)) false e says h = let no : ⊥ = cc in absurd no
 
   -- how a session stands behind a shutdown
   record StandsShut (old : SessionState P S G) (replies : List PlainReply) (new : SessionState P S G) : Type 0 where
@@ -95,7 +100,7 @@ module _ {P S G : Type 0} (calls : Calls P S G) where
 
 -- what is answered where no batch was lost
 none_lost_answer : (lost before : ℕ) → lost ≡ before
-    → Ok tt ≡ (if not (lost == before) then or_no_memory (Ok tt) else Ok {E = OTelSdkError} tt)
+    → well ≡ (if not (lost == before) then or_no_memory well else well)
 none_lost_answer lost before e = rw (eq-eqb lost before e) refl
 
 module _ {P S G : Type 0} (calls : Calls P S G)
@@ -128,22 +133,26 @@ module _ {P S G : Type 0} (calls : Calls P S G)
       shut.shuts (omega arith) in
       record {
         replied = _;
-        finishes = finishes calls reply_lines begun middle lines.reads.bytes bad_line replied _
-            (record {
-              replies = ran.replies;
+        finishes = record {
+          written = replied;
+          after = middle;
+          feeds = record {
+            replies = ran.replies;
+            written = refl;
+            none_refused = ran.none_refused;
+            these = record { commands = lines.commands; spelled = lines.reads.spelled; ran = ran.ran };
+          };
+          closes = record {
+            provider = after.provider;
+            shutdown = Ok tt;
+            shuts = shut.shuts;
+            writes = inl (record {
+              answers = none_lost_answer (losses_of_first calls.keeps after.provider.processors) middle.lost_before kept;
               written = refl;
-              none_refused = ran.none_refused;
-              these = record { commands = lines.commands; spelled = lines.reads.spelled; ran = ran.ran };
-            })
-            (record {
-              provider = after.provider;
-              shutdown = Ok tt;
-              shuts = shut.shuts;
-              writes = inl (record {
-                answers = none_lost_answer (losses_of_first calls.keeps after.provider.processors) middle.lost_before kept;
-                written = refl;
-              });
             });
+          };
+          loses_none = kept ∙ ran.ran.lost_before;
+        };
         drawn = subst (λ (spans : List PlainSpanData). Paints spans picture) (ran.shown ∙ ap spans_in all) lines.drawn;
       }
 
@@ -181,12 +190,14 @@ module _ {C D E : Type 0} (calls : Calls (MemoryProcessor C D) (SamplerOf E) (Li
 pub none_counted : (replies : List PlainReply) → list_any (λ (reply : PlainReply). counts_refusals reply.answer) replies ≡ false
     → NoneRefused replies
 none_counted [] e = tt
-none_counted (reply ∷ replies) e = by (counts_refusals reply.answer) refl e
+none_counted (reply ∷ replies) e = by (counts_refusals reply.answer) refl e (none_counted replies)
   where
     by : (counted : Bool) → counted ≡ counts_refusals reply.answer
-        → (counted || list_any (λ (r : PlainReply). counts_refusals r.answer) replies) ≡ false → NoneRefused (reply ∷ replies)
-    by true same h = let no : ⊥ = cc in absurd no
-    by false same h = (sym same, none_counted replies h)
+        → (counted || list_any (λ (r : PlainReply). counts_refusals r.answer) replies) ≡ false
+        → (list_any (λ (r : PlainReply). counts_refusals r.answer) replies ≡ false → NoneRefused replies)
+        → NoneRefused (reply ∷ replies)
+    by true same h more = let no : ⊥ = cc in absurd no
+    by false same h more = (sym same, more h)
 
 -- the spans of batches, and of more behind them
 pub spans_joined : (first second : List (List PlainSpanData)) → spans_in (first ++ second) ≡ spans_in first ++ spans_in second
@@ -212,3 +223,39 @@ spans_shown replies reply now after h k =
     ∙ sym (spans_joined (exported_in replies) reply.exported)
     ∙ ap spans_in (sym (flat_map-append (λ (r : PlainReply). r.exported) replies (reply ∷ [])
     ∙ ap (λ (batches : List (List PlainSpanData)). exported_in replies ++ batches) (append-nil reply.exported)))
+
+module _ {P S G : Type 0} (calls : Calls P S G) where
+  -- commands were carried out, and a shutdown behind them, and these are the spans of all their replies
+  pub runs_out : (old middle new : SessionState P S G) (commands : List Command) (before first last all : List PlainReply)
+      (spans : List PlainSpanData) → before ≡ [] → Gains before first (λ added. Runs calls old commands added middle)
+      → list_any (λ (reply : PlainReply). counts_refusals reply.answer) first ≡ false → RunsShutdown calls middle last new
+      → all ≡ first ++ last → spans ≡ spans_in (exported_in all) → RunsOut calls old commands spans new
+  runs_out old middle new commands before first last all spans none gains counted shut both shown =
+      let same : first ≡ gains.0 = gains.1 ∙ ap (λ (replies : List PlainReply). replies ++ gains.0) none in
+      record {
+        replies = first;
+        last = last;
+        middle = middle;
+        ran = subst (λ (replies : List PlainReply). Runs calls old commands replies middle) (sym same) gains.2;
+        none_refused = none_counted first counted;
+        shut = shut;
+        shown = shown ∙ ap (λ (replies : List PlainReply). spans_in (exported_in replies)) both;
+      }
+
+module _ {P S G : Type 0} (calls : Calls P S G)
+    (law : OnlyAppends calls.processor calls.timer calls.keeps.kept calls.keeps.lost) where
+  -- what was drawn of an input by a new session that then closed well
+  pub draws_from : (Paints : Painting) (provider : ProviderState P S G) (session after : SessionState P S G)
+      (input input_after : Option (List ℕ)) (bad_line bad : Option ℕ) (picture before left : List ℕ)
+      (answer : Result (Unit {0}) OTelSdkError) → session ≡ session_under calls.keeps provider
+      → DrawsLines calls Paints session input input_after bad_line picture after → bad_line ≡ bad → before ≡ []
+      → answer ≡ well → Closes calls reply_lines after before answer left
+      → (bytes : List ℕ) × AreAll input bytes × IsAtEnd input_after × Draws calls Paints provider bytes bad picture
+  draws_from Paints provider session after input input_after bad_line bad picture before left answer new lines is none ok closed =
+      let these =
+      subst (λ (s : SessionState P S G). DrawsLines calls Paints s input input_after bad picture after) new
+      (subst (λ (b : Option ℕ). DrawsLines calls Paints session input input_after b picture after) is lines) in
+      let closes =
+      subst (λ (bs : List ℕ). Closes calls reply_lines after bs well left) none
+      (subst (λ (said : Result (Unit {0}) OTelSdkError). Closes calls reply_lines after before said left) ok closed) in
+      (these.reads.bytes, these.reads.all, these.reads.at_end, draws calls law Paints provider after input input_after bad picture left these closes)

@@ -218,13 +218,20 @@ fn exported_by<P: KeepsBatches, S: ShouldSample, G: IdGenerator>(
         session.old commands.items spans.items session.new) }
 {
     let mut replies = Vec::new(alloc);
-    session.run(commands, &mut replies).ok()?;
+    let Ok(()) = session.run(commands, &mut replies) else {
+        return None;
+    };
     if replies.iter().any(|reply| reply.answer.counts_refusals()) {
         return None;
     }
     let mut last = shut_down(alloc, session)?;
-    replies.append(&mut last).ok()?;
-    spans_of(alloc, replies).ok()
+    let Ok(()) = replies.append(&mut last) else {
+        return None;
+    };
+    match spans_of(alloc, replies) {
+        Ok(spans) => Some(spans),
+        Err(_) => None,
+    }
 }
 
 /// Shuts the provider of a session down where it is open.
@@ -239,7 +246,9 @@ fn shut_down<P: KeepsBatches, S: ShouldSample, G: IdGenerator>(
     let mut commands = Vec::new(alloc);
     commands.push(Command::Shutdown).ok()?;
     let mut replies = Vec::new(alloc);
-    session.run(commands, &mut replies).ok()?;
+    let Ok(()) = session.run(commands, &mut replies) else {
+        return None;
+    };
     if replies.iter().all(|reply| says_shut(&reply.answer)) {
         Some(replies)
     } else {

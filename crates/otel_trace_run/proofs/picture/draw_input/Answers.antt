@@ -1,0 +1,61 @@
+-- What was drawn of all lines, and how far it was written.
+use Rattle.std.proofs.Common.{rules, ◌≡◌, Option, Some, None, Result, Ok, ℕ, inr, subst}
+use Rattle.std.specs.Io.KnownBytes.{Appends}
+use Rattle.otel_export.specs.declared.error.OTelSdkError.{OTelSdkError}
+use Rattle.otel_otlp.specs.Streams.{AppendsBeginning}
+use Rattle.otel_trace_session.specs.Calls.{calls_of}
+use Rattle.otel_trace_run.proofs.Drawing.{draws_from}
+use Rattle.otel_trace_run.proofs.picture.draw_input.Goals as goal
+
+pub returns-in_default-write_whole : goal.returns-in_default-write_whole
+returns-in_default-write_whole g c =
+    let calls = calls_of g.P.SpanProcessor g.P.DrainDue g.P.KeepsBatches g.S.ShouldSample g.G.IdGenerator in
+    let well : c.close-closed.result ≡ Ok tt = search rules in
+    let d = draws_from calls g.met.P.KeepsBatches.appends (g.D.SpanPainter.paints c.args.painter.now) c.args.provider c.in-Ok.session
+    c.draw_lines-drawn.new.session _ _ c.in-Some.drawn.bad_line c.in-Some.drawn.bad_line c.in-Some.drawn.picture.items
+    c.new-left.result.items c.close-closed.new.output.items c.close-closed.result c.in-Ok.ensures.ok c.in-Some.ensures (search rules)
+    c.new-left.ensures.items well c.close-closed.ensures in
+    inr (
+      d.0,
+      c.in-Some.drawn.bad_line,
+      c.in-Some.drawn.picture.items,
+      d.1,
+      d.3,
+      subst (AppendsBeginning _ _) c.deref.ensures.value c.in_default-write_whole.ensures.err,
+    )
+
+pub returns-in-None : goal.returns-in-None
+returns-in-None g c =
+    let calls = calls_of g.P.SpanProcessor g.P.DrainDue g.P.KeepsBatches g.S.ShouldSample g.G.IdGenerator in
+    let well : c.close-closed.result ≡ Ok tt = search rules in
+    let none : c.in-Some.drawn.bad_line ≡ None = search rules in
+    let d = draws_from calls g.met.P.KeepsBatches.appends (g.D.SpanPainter.paints c.args.painter.now) c.args.provider c.in-Ok.session
+    c.draw_lines-drawn.new.session _ _ c.in-Some.drawn.bad_line None c.in-Some.drawn.picture.items
+    c.new-left.result.items c.close-closed.new.output.items c.close-closed.result c.in-Ok.ensures.ok c.in-Some.ensures none
+    c.new-left.ensures.items well c.close-closed.ensures in (
+      record {
+        bytes = d.0;
+        picture = c.in-Some.drawn.picture.items;
+        all = d.1;
+        draws = d.3;
+        written = subst (Appends _ _) c.deref.ensures.value c.in-Ok-write_whole.ensures.ok;
+      },
+      d.2,
+    )
+
+pub returns : goal.returns
+returns g c =
+    let calls = calls_of g.P.SpanProcessor g.P.DrainDue g.P.KeepsBatches g.S.ShouldSample g.G.IdGenerator in
+    let well : c.close-closed.result ≡ Ok tt = search rules in
+    let bad : c.in-Some.drawn.bad_line ≡ Some c.in-Some-bad_line.line = search rules in
+    let d = draws_from calls g.met.P.KeepsBatches.appends (g.D.SpanPainter.paints c.args.painter.now) c.args.provider c.in-Ok.session
+    c.draw_lines-drawn.new.session _ _ c.in-Some.drawn.bad_line (Some c.in-Some-bad_line.line) c.in-Some.drawn.picture.items
+    c.new-left.result.items c.close-closed.new.output.items c.close-closed.result c.in-Ok.ensures.ok c.in-Some.ensures bad
+    c.new-left.ensures.items well c.close-closed.ensures in
+    record {
+      bytes = d.0;
+      picture = c.in-Some.drawn.picture.items;
+      all = d.1;
+      draws = d.3;
+      written = subst (Appends _ _) c.deref.ensures.value c.in-Ok-write_whole.ensures.ok;
+    }
