@@ -1,7 +1,7 @@
 //! The program `otel_example_runs` tries the examples, which lie in the folder that it runs in. Each has three files:
 //! `NAME.txt` is a script, `NAME.args` the arguments of `otel_trace` for it, one a line, and `NAME.out` what is written
-//! then. What the same script writes under `NAME.KIND.args` is `NAME.KIND`. The program runs each script, in the order of
-//! the names, and prints whether it wrote that and ended well, or else what it wrote.
+//! then. What the same script writes under `NAME.KIND.args` is `NAME.KIND`. The program runs each script, in the order
+//! of the names, and prints whether it wrote that and ended well, or else what it wrote.
 #![tactic(auto)]
 
 use otel_trace_run::run_program;

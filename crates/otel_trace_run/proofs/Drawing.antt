@@ -1,23 +1,21 @@
 -- A session that carries out commands and then a shutdown closes as in the mode `trace`, and its replies show all spans
 -- that it exported.
-use Rattle.std.proofs.Common.{◌≡◌, ◌++◌, ◌∙◌, ◌==◌, ◌≤◌, ℕ, Bool, true, false, List, [], ◌∷◌, Option, Some, None, Result, Ok, Err, IsTrue, MatchBool, ◌||◌}
-use Rattle.std.proofs.Common.{All, inl, inr, ap, append-nil, append_assoc, arith, drop, length, map, refl, subst, sym, not, if◌then◌else◌}
+use Rattle.std.proofs.Common.{◌≡◌, ◌++◌, ◌∙◌, ◌==◌, ℕ, Bool, true, false, List, [], ◌∷◌, Option, None, Result, Ok, Err, IsTrue, MatchBool, ◌||◌}
+use Rattle.std.proofs.Common.{All, inl, inr, ap, append-nil, append_assoc, arith, drop, map, refl, subst, sym, not, if◌then◌else◌}
 use Rattle.std.proofs.lemmas.Bool.{eq-eqb}
 use Rattle.std.proofs.lemmas.List.{map-append}
 use Rattle.std.proofs.lemmas.List.Concat.{flat_map-append}
-use Rattle.std.specs.Io.KnownBytes.{Appends, IsAtEnd}
+use Rattle.std.specs.Io.KnownBytes.{IsAtEnd}
 use Rattle.std.specs.List.{list_any}
 use Rattle.otel_export.specs.PlainSpanData.{PlainSpanData, spans_in}
 use Rattle.otel_export.specs.declared.error.OTelSdkError.{OTelSdkError}
 use Rattle.otel_export.specs.declared.error.OTelSdkError.TheVariants as errors
 use Rattle.otel_kept.specs.ProcessorKeeps.{OnlyAppends}
-use Rattle.otel_otlp.specs.Streams.{AppendsBeginning}
-use Rattle.otel_pipeline.specs.Provider.{IsInternalFailure, ProviderState, ShutsDown}
+use Rattle.otel_pipeline.specs.Provider.{ProviderState, ShutsDown}
 use Rattle.otel_trace_lines.specs.Commands.{plain_commands, shutdown}
 use Rattle.otel_trace_lines.specs.PlainReply.{NoneRefused, PlainReply, counts_refusals}
 use Rattle.otel_trace_lines.specs.ReplyForm.{reply_lines, texts}
 use Rattle.otel_trace_lines.specs.declared.command.Command.{Command}
-use Rattle.otel_trace_lines.specs.declared.command.Command.TheVariants as requests
 use Rattle.otel_trace_session.specs.Stops.{Gains}
 use Rattle.otel_trace_run.specs.OtlpRuns.{exported_since}
 use Rattle.otel_trace_run.specs.PictureRuns.{Draws, DrawsAll, DrawsLines, DrawsSome, DrawsUnder, Painting, RunsOut, RunsShutdown, says_shut}
@@ -32,9 +30,9 @@ use Rattle.otel_trace_run.specs.declared.picture.PictureForm.{PictureForm}
 use Rattle.otel_trace_run.specs.declared.run_end.RunEnd.{RunEnd}
 use Rattle.otel_trace_run.specs.declared.run_end.RunEnd.TheVariants as ends
 use Rattle.otel_trace_session.specs.Calls.{Calls, batches_of_first, losses_of_first}
-use Rattle.otel_trace_session.specs.Closing.{Closes, Finishes, or_no_memory}
-use Rattle.otel_trace_session.specs.OpenSpans.{Describe, Histories}
-use Rattle.otel_trace_session.specs.ProviderTurns.{Shuts, ShutsIfOpen, call_answer}
+use Rattle.otel_trace_session.specs.Closing.{Closes, or_no_memory}
+use Rattle.otel_trace_session.specs.OpenSpans.{Histories}
+use Rattle.otel_trace_session.specs.ProviderTurns.{ShutsIfOpen, call_answer}
 use Rattle.otel_trace_session.specs.Shown.{exported_in}
 use Rattle.otel_trace_session.specs.Turn.{Course, Turn}
 use Rattle.otel_trace_session.specs.Turns.{AreTurns, Runs, SessionState, course_of, replied, reply_of, session_under}

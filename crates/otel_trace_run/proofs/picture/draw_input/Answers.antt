@@ -1,7 +1,6 @@
 -- What was drawn of all lines, and how far it was written.
-use Rattle.std.proofs.Common.{rules, ◌≡◌, Option, Some, None, Result, Ok, ℕ, inr, subst}
+use Rattle.std.proofs.Common.{rules, ◌≡◌, Some, None, Ok, inr, subst}
 use Rattle.std.specs.Io.KnownBytes.{Appends}
-use Rattle.otel_export.specs.declared.error.OTelSdkError.{OTelSdkError}
 use Rattle.otel_otlp.specs.Streams.{AppendsBeginning}
 use Rattle.otel_trace_session.specs.Calls.{calls_of}
 use Rattle.otel_trace_run.proofs.Drawing.{draws_from}
