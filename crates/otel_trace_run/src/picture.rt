@@ -173,8 +173,8 @@ pub(crate) fn draw_input<
     }
 }
 
-/// Carries out the lines of an input, up to the first bad one, and a shutdown behind them, and draws the spans that were
-/// exported. None where reading, memory or the shutdown failed, or a batch was lost.
+/// Carries out the lines of an input, up to the first bad one, and a shutdown behind them, and draws the spans that
+/// were exported. None where reading, memory or the shutdown failed, or a batch was lost.
 fn draw_lines<P: KeepsBatches, S: ShouldSample, G: IdGenerator, D: SpanPainter, R: Read>(
     alloc: Global,
     session: &mut Session<P, S, G>,
@@ -183,8 +183,8 @@ fn draw_lines<P: KeepsBatches, S: ShouldSample, G: IdGenerator, D: SpanPainter, 
 ) -> Option<Drawn>
     ensures { IfSome result (λ drawn. DrawsLines
         (calls_of P.SpanProcessor P.DrainDue.own P.KeepsBatches.own S.ShouldSample G.IdGenerator)
-        (D.paints painter.now) session.old (R.remaining input.old) (R.remaining input.new) drawn.bad_line drawn.picture.items
-        session.new) }
+        (D.paints painter.now) session.old (R.remaining input.old) (R.remaining input.new)
+        drawn.bad_line drawn.picture.items session.new) }
 {
     let script = read_script(alloc, input).ok()?;
     let spans = exported_by(alloc, session, script.commands)?;
@@ -206,8 +206,8 @@ fn read_script<R: Read>(alloc: Global, input: &mut R) -> io::Result<Script>
     Ok(script)
 }
 
-/// Carries out commands and a shutdown behind them, and gives the spans that were exported. None where memory ran out, a
-/// processor refused a span, a batch was lost or the shutdown failed.
+/// Carries out commands and a shutdown behind them, and gives the spans that were exported. None where memory ran out,
+/// a processor refused a span, a batch was lost or the shutdown failed.
 fn exported_by<P: KeepsBatches, S: ShouldSample, G: IdGenerator>(
     alloc: Global,
     session: &mut Session<P, S, G>,
