@@ -19,8 +19,10 @@ pub record PlainPieces : Type 0 where
 abbrev pub EndsNoLine : List ℕ → Type 0
 EndsNoLine bytes = All (λ b. b ≢ 10) bytes
 
--- a call read on behind a rest: there are lines, whole ones; or the input is at its end, and nothing is left behind them
-pub record GivesLines (before after : Option (List ℕ)) (rest : List ℕ) (goes_on : Bool) (now : PlainPieces) : Type 0 where
+-- a call read on behind a rest: there are lines, whole ones; or the input is at its end, and nothing is left behind
+-- them
+pub record GivesLines (before after : Option (List ℕ)) (rest : List ℕ) (goes_on : Bool) (now : PlainPieces)
+    : Type 0 where
   pub read : List ℕ
   pub consumed : Consumes before after read
   pub joined : rest ++ read ≡ now.lines ++ now.rest

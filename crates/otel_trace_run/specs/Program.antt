@@ -132,7 +132,8 @@ module _ {C D E : Type 0} (calls : Calls (MemoryProcessor C D) (SamplerOf E) (Li
 
   -- a run of the mode `otlp`
   abbrev pub EndsExporting : List (List ℕ) → Streams → Type 0 → (List ℕ → Type 0) → ℕ → Type 0
-  EndsExporting given s Silent Says status = EndsWith (ExportsAsked given s) (BeginsExporting given s) Silent Says s status
+  EndsExporting given s Silent Says status =
+      EndsWith (ExportsAsked given s) (BeginsExporting given s) Silent Says s status
 
   -- a run of the modes `picture` and `svg`
   abbrev pub EndsDrawing : Painting → Streams → Type 0 → (List ℕ → Type 0) → ℕ → Type 0

@@ -129,9 +129,12 @@ module _ {P S G : Type 0} (calls : Calls P S G) (law : RecallsNothingElse calls)
       → FirstRecalled calls.keeps.recalled bs old.processors rs → Shuts calls.processor old said new
       → (ss : List P) × FirstRecalled calls.keeps.recalled bs new.processors ss × Shuts calls.processor (record old { processors = rs }) said (record new { processors = ss })
   shuts_as_asked old rs said new h k =
-      let again = shuts_or_again (shut_answer old.is_disabled old.processors) old rs said new h k in
-      (again.0, again.1, subst (λ (answer : Result (Unit {0}) OTelSdkError). ShutsOr calls.processor answer (record old { processors = rs }) said (record new { processors = again.0 }))
-      (same_shut_answer old.is_disabled old.processors rs h) again.2)
+      let again = shuts_or_again (shut_answer old.is_disabled old.processors) old rs said new h k in (
+        again.0,
+        again.1,
+        subst (λ (answer : Result (Unit {0}) OTelSdkError). ShutsOr calls.processor answer (record old { processors = rs }) said (record new { processors = again.0 }))
+            (same_shut_answer old.is_disabled old.processors rs h) again.2,
+      )
 
   -- the turn of a command
   turn_again : (scope : PlainScope) (command : PlainCommand) (turn : Turn P S G) (rs : List P) → FirstRecalled calls.keeps.recalled bs turn.before.provider.processors rs

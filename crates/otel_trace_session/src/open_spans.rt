@@ -99,8 +99,9 @@ impl OpenSpans {
         now: Moment,
     ) -> Result<Answer, AllocError>
         ensures ok { IfOk result (λ answer. TakesTurn (λ turn. ChildTurn (calls_of P.SpanProcessor P.DrainDue.own
-            P.KeepsBatches.own S.ShouldSample G.IdGenerator) (start_in tracer.now root_cx (string_bytes span) (string_bytes
-            name) now.0) (turn.before.histories parent.now) turn) provider.old self.old answer provider.new self.new) }
+            P.KeepsBatches.own S.ShouldSample G.IdGenerator)
+            (start_in tracer.now root_cx (string_bytes span) (string_bytes name) now.0)
+            (turn.before.histories parent.now) turn) provider.old self.old answer provider.new self.new) }
         ensures asks { OnErr result (ChildMayStart (calls_of P.SpanProcessor P.DrainDue.own P.KeepsBatches.own
             S.ShouldSample G.IdGenerator) provider.old (named self.old parent.now) (string_bytes name) now.0
             (named self.old (string_bytes span)) provider.new) }

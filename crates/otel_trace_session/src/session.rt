@@ -369,8 +369,8 @@ impl<P: KeepsBatches, S: ShouldSample, G: IdGenerator> Session<P, S, G> {
         lost_by_first(self.provider.processors())
     }
 
-    /// Forgets what replies have shown: where they have shown every batch that the first processor's exporter keeps, that
-    /// gives all of them up; else nothing happens. No later reply, answer or delivery is another for it.
+    /// Forgets what replies have shown: where they have shown every batch that the first processor's exporter keeps,
+    /// that gives all of them up; else nothing happens. No later reply, answer or delivery is another for it.
     pub fn forget_shown(&mut self)
         ensures forgets { HasForgotten P.KeepsBatches.own self.old self.new }
         ensures frees { self.old.shown ≡ length (session_batches P.KeepsBatches.own self.old)
