@@ -11,7 +11,7 @@ use Rattle.otel_export.specs.PlainSpanData.{PlainSpanData, spans_in}
 use Rattle.otel_export.specs.declared.error.OTelSdkError.{OTelSdkError}
 use Rattle.otel_export.specs.declared.error.OTelSdkError.TheVariants as errors
 use Rattle.otel_kept.specs.ProcessorKeeps.{OnlyAppends}
-use Rattle.otel_pipeline.specs.Provider.{ProviderState, ShutsDown}
+use Rattle.otel_pipeline.specs.Provider.{ProviderState, ShutsDown, shut_answer}
 use Rattle.otel_trace_lines.specs.Commands.{plain_commands, shutdown}
 use Rattle.otel_trace_lines.specs.PlainReply.{NoneRefused, PlainReply, counts_refusals}
 use Rattle.otel_trace_lines.specs.ReplyForm.{reply_lines, texts}
@@ -45,17 +45,17 @@ well = Ok tt
 
 module _ {P S G : Type 0} (calls : Calls P S G) where
   -- what a shutdown did, by its answer, as a close has it
-  shut_by : (old new : ProviderState P S G) (said : Result (Unit {0}) OTelSdkError) (is_shut : Bool) → is_shut ≡ old.is_shut
+  shut_by : (again : Result (Unit {0}) OTelSdkError) (old new : ProviderState P S G) (said : Result (Unit {0}) OTelSdkError) (is_shut : Bool) → is_shut ≡ old.is_shut
       → IsTrue (says_shut (call_answer said))
-      → MatchBool is_shut ((said ≡ Err errors.AlreadyShutdown) × (new ≡ old)) (ShutsDown calls.processor old 5_000_000_000 said new)
+      → MatchBool is_shut ((said ≡ again) × (new ≡ old)) (ShutsDown calls.processor old 5_000_000_000 said new)
       → MatchBool is_shut ((well ≡ well) × (new ≡ old)) (ShutsDown calls.processor old 5_000_000_000 (Ok tt) new)
       × (new.is_shut ≡ true)
-  shut_by old new said true e says h = ((refl, h.1), ap (λ (p : ProviderState P S G). p.is_shut) h.1 ∙ sym e)
-  shut_by old new (Ok done) false e says h = (h, ap (λ (p : ProviderState P S G). p.is_shut) h.rest)
-  shut_by old new (Err (errors.InternalFailure text)) false e says h = let no : ⊥ = cc in absurd no
-  shut_by old new (Err errors.AlreadyShutdown) false e says h = absurd h.err
-  shut_by old new (Err errors.OutOfMemory) false e says h = let no : ⊥ = cc in absurd no
-  shut_by old new (Err (errors.Timeout time)) false e says h = let no : ⊥ = cc in absurd no
+  shut_by again old new said true e says h = ((refl, h.1), ap (λ (p : ProviderState P S G). p.is_shut) h.1 ∙ sym e)
+  shut_by again old new (Ok done) false e says h = (h, ap (λ (p : ProviderState P S G). p.is_shut) h.rest)
+  shut_by again old new (Err (errors.InternalFailure text)) false e says h = let no : ⊥ = cc in absurd no
+  shut_by again old new (Err errors.AlreadyShutdown) false e says h = absurd h.err
+  shut_by again old new (Err errors.OutOfMemory) false e says h = let no : ⊥ = cc in absurd no
+  shut_by again old new (Err (errors.Timeout time)) false e says h = let no : ⊥ = cc in absurd no
 
   -- how a session stands behind a shutdown
   record StandsShut (old : SessionState P S G) (replies : List PlainReply) (new : SessionState P S G) : Type 0 where
@@ -78,7 +78,7 @@ module _ {P S G : Type 0} (calls : Calls P S G) where
       let at : turn.before.shown ≡ old.shown = ap (λ (c : Course P S G). c.shown) begins in
       let answered : IsTrue (says_shut (call_answer asks.said)) =
       subst (λ answer. IsTrue (says_shut answer)) asks.says (says 0 (reply_of calls turn) (omega arith)) in
-      let done = shut_by turn.before.provider turn.behind.provider asks.said turn.before.provider.is_shut refl answered asks.gives in
+      let done = shut_by (shut_answer turn.before.provider.is_disabled turn.before.provider.processors) turn.before.provider turn.behind.provider asks.said turn.before.provider.is_shut refl answered asks.gives in
       let moved : ShutsIfOpen calls.processor old.provider (Ok tt) new.provider =
       subst (λ (p : ProviderState P S G). ShutsIfOpen calls.processor p (Ok tt) new.provider) from
       (subst (λ (p : ProviderState P S G). ShutsIfOpen calls.processor turn.before.provider (Ok tt) p) there done.0) in

@@ -3,7 +3,7 @@
 use super::resource::{push_resource, strings_of};
 use super::sampling::push_ratio;
 use crate::fields::{Row, RowError};
-use otel_sampling::trace::{Config, ConfigStrings, Sampler};
+use otel_sampling::trace::{Config, ConfigStrings, Sampler, SpanLimits};
 use std::alloc::{AllocError, Global};
 
 /// Answers a row whose word is one of these; false where it is none.
@@ -19,37 +19,59 @@ pub fn answer(alloc: Global, row: &Row, out: &mut String) -> Result<bool, RowErr
     Ok(true)
 }
 
+/// The first fields of a row.
+fn texts_of(alloc: Global, row: &Row, count: usize) -> Result<Vec<Option<String>>, AllocError> {
+    let mut texts = Vec::new(alloc);
+    for i in 0..count {
+        texts.push(row.owned(alloc, i)?)?;
+    }
+    Ok(texts)
+}
+
+/// The strings of a span's attributes, events and links.
+fn limit_strings(texts: Vec<Option<String>>) -> ConfigStrings {
+    let mut texts = texts.into_iter();
+    ConfigStrings {
+        attribute_count_limit: texts.next().flatten(),
+        event_count_limit: texts.next().flatten(),
+        link_count_limit: texts.next().flatten(),
+        ..ConfigStrings::default()
+    }
+}
+
+/// The strings of attributes in general, of events and of links, of the length of values and of that in general, and of
+/// a span's attributes.
+fn attribute_strings(texts: Vec<Option<String>>) -> ConfigStrings {
+    let mut texts = texts.into_iter();
+    ConfigStrings {
+        general_attribute_count_limit: texts.next().flatten(),
+        event_attribute_count_limit: texts.next().flatten(),
+        link_attribute_count_limit: texts.next().flatten(),
+        attribute_value_length_limit: texts.next().flatten(),
+        general_attribute_value_length_limit: texts.next().flatten(),
+        attribute_count_limit: texts.next().flatten(),
+        ..ConfigStrings::default()
+    }
+}
+
+fn limits_by(alloc: Global, strings: &ConfigStrings) -> Result<SpanLimits, AllocError> {
+    Ok(Config::from_strings(alloc, strings, 0)?.span_limits)
+}
+
 /// How much a span keeps: attributes, events and links, then attributes of an event and of a link.
 fn push_limits(alloc: Global, row: &Row, out: &mut String) -> Result<(), AllocError> {
-    let strings = ConfigStrings {
-        attribute_count_limit: row.owned(alloc, 0)?,
-        event_count_limit: row.owned(alloc, 1)?,
-        link_count_limit: row.owned(alloc, 2)?,
-        ..ConfigStrings::default()
-    };
-    let limits = Config::from_strings(alloc, &strings, 0)?.span_limits;
+    let limits = limits_by(alloc, &limit_strings(texts_of(alloc, row, 3)?))?;
     let attributes = limits.max_attributes_per_span;
     let events = limits.max_events_per_span;
     let links = limits.max_links_per_span;
     let of_event = limits.max_attributes_per_event;
     let of_link = limits.max_attributes_per_link;
-    write!(out, "{attributes} {events} {links} {of_event} {of_link}")?;
-    Ok(())
+    write!(out, "{attributes} {events} {links} {of_event} {of_link}")
 }
 
-/// How much a span keeps of its attributes and of those of events and links, by the strings of attributes in general, of
-/// events and of links, then of the length of values and of that in general: how many of each, and how long.
+/// How many attributes a span, an event and a link keep, and how long their values are.
 fn push_attribute_limits(alloc: Global, row: &Row, out: &mut String) -> Result<(), AllocError> {
-    let strings = ConfigStrings {
-        general_attribute_count_limit: row.owned(alloc, 0)?,
-        event_attribute_count_limit: row.owned(alloc, 1)?,
-        link_attribute_count_limit: row.owned(alloc, 2)?,
-        attribute_value_length_limit: row.owned(alloc, 3)?,
-        general_attribute_value_length_limit: row.owned(alloc, 4)?,
-        attribute_count_limit: row.owned(alloc, 5)?,
-        ..ConfigStrings::default()
-    };
-    let limits = Config::from_strings(alloc, &strings, 0)?.span_limits;
+    let limits = limits_by(alloc, &attribute_strings(texts_of(alloc, row, 6)?))?;
     let attributes = limits.max_attributes_per_span;
     let of_event = limits.max_attributes_per_event;
     let of_link = limits.max_attributes_per_link;
@@ -62,8 +84,9 @@ fn push_attribute_limits(alloc: Global, row: &Row, out: &mut String) -> Result<(
 
 /// Whether a string disables the SDK.
 fn push_disabled(alloc: Global, row: &Row, out: &mut String) -> Result<(), AllocError> {
+    let sdk_disabled = row.owned(alloc, 0)?;
     let strings = ConfigStrings {
-        sdk_disabled: row.owned(alloc, 0)?,
+        sdk_disabled,
         ..ConfigStrings::default()
     };
     out.push_str(if strings.is_sdk_disabled() {
@@ -75,9 +98,11 @@ fn push_disabled(alloc: Global, row: &Row, out: &mut String) -> Result<(), Alloc
 
 /// The strings of a row whose first fields are a sampler's name and its argument.
 pub fn sampler_strings(alloc: Global, row: &Row) -> Result<ConfigStrings, AllocError> {
+    let sampler = row.owned(alloc, 0)?;
+    let sampler_arg = row.owned(alloc, 1)?;
     Ok(ConfigStrings {
-        sampler: row.owned(alloc, 0)?,
-        sampler_arg: row.owned(alloc, 1)?,
+        sampler,
+        sampler_arg,
         ..ConfigStrings::default()
     })
 }
@@ -110,8 +135,9 @@ fn push_leaf(sampler: &Sampler, out: &mut String) -> Result<(), AllocError> {
 }
 
 fn push_configured_resource(alloc: Global, row: &Row, out: &mut String) -> Result<(), AllocError> {
+    let resource = strings_of(alloc, row)?;
     let strings = ConfigStrings {
-        resource: strings_of(alloc, row)?,
+        resource,
         ..ConfigStrings::default()
     };
     push_resource(&Config::from_strings(alloc, &strings, 0)?.resource, out)
