@@ -1,7 +1,6 @@
 //! Tests of `otel_pipeline`. They call a provider by small functions without clauses, most of them in `fixtures`, so that
 //! the proof of a test carries no facts of the pipeline.
 
-mod disabled;
 mod fixtures;
 mod kept_batches;
 mod left_spans;
@@ -12,5 +11,4 @@ mod refused_builder;
 mod refused_memory;
 mod run_processors;
 mod simple_span_processor;
-mod start_ids;
 mod starts;
