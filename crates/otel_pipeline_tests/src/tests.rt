@@ -1,14 +1,9 @@
-//! Tests of `otel_pipeline`. They call a provider by small functions without clauses, most of them in `fixtures`, so that
-//! the proof of a test carries no facts of the pipeline.
+//! Tests of `otel_pipeline`. Most of their helpers are generic in the provider's parts and have no clauses, so that the
+//! proof of a test carries no facts of the pipeline. A step that only sets a test up stops it where there is no memory.
 
 mod fixtures;
-mod kept_batches;
-mod left_spans;
 mod processors;
 mod provider_builder;
 mod refused_batch;
-mod refused_builder;
 mod refused_memory;
-mod run_processors;
-mod simple_span_processor;
 mod starts;

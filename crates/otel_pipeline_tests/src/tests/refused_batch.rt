@@ -1,134 +1,207 @@
-//! A provider that is built over a batch processor, and a span that it exports, where one allocation is refused:
-//! `rt try --test --fail-alloc N` has the Nth refused. Each call that finds no memory is made again.
+//! A provider that is built over a batch processor as strings say, and a span that it exports, where one allocation is
+//! refused: `rt try --test --fail-alloc N` has the Nth refused. Each call that finds no memory is made again.
 
-use super::fixtures::{
-    TestSampler, attribute_of, config_under, flush, handed_on, memory, refused_again, start_in,
-};
-use super::refused_memory::finish_again;
+use super::fixtures::{AGAIN, SETUP, attribute_of, recorded, start_in};
 use opentelemetry::{Context, Moment};
 use opentelemetry_sdk::trace::Processor;
-use otel_export::error::OTelSdkResult;
+use otel_export::trace::{ExporterBox, InMemorySpanExporter};
 use otel_kept::KeepsBatches;
 use otel_pipeline::trace::{
     DrainDue, OverExporter, ProviderBuilderOf, ProviderOf, Span, SpanProcessor,
 };
 use otel_resource::resource::Resource;
-use otel_sampling::trace::{BatchStrings, RandomIdGenerator, ShouldSample};
-use std::alloc::{AllocError, Global};
-use std::test::Fail;
+use otel_sampling::trace::{
+    BatchStrings, ConfigStrings, IdGenerator, IdSource, Sampler, ShouldSample,
+};
+use std::alloc::Global;
+use std::process::Abort;
+
+fn one(rt: &impl Abort, alloc: Global) -> Option<String> {
+    Some(String::from_str(alloc, "1").expect(rt, SETUP))
+}
+
+/// Strings by which a span keeps one attribute, and a batch one span.
+fn strings_of_one(rt: &impl Abort, alloc: Global) -> ConfigStrings {
+    let mut strings = ConfigStrings::default();
+    strings.attribute_count_limit = one(rt, alloc);
+    strings.batch.max_export_batch_size = one(rt, alloc);
+    strings
+}
+
+/// Begins, and begins again where that finds no memory, under seed 0.
+fn begin_again<P>(
+    rt: &impl Abort,
+    alloc: Global,
+    strings: &ConfigStrings,
+) -> ProviderBuilderOf<P, Sampler, IdSource> {
+    match ProviderOf::builder(alloc, strings, 0) {
+        Ok(builder) => builder,
+        Err(_) => ProviderOf::builder(alloc, strings, 0).expect(rt, AGAIN),
+    }
+}
 
 /// Adds a batch processor over the first exporter, or over the second where that finds no memory.
-fn with_batch_again<P: OverExporter, S: Drop>(
-    builder: ProviderBuilderOf<P, S, RandomIdGenerator>,
+fn with_batch_again<P: OverExporter, S: Drop, G: Drop>(
+    rt: &impl Abort,
+    builder: ProviderBuilderOf<P, S, G>,
     first: P::Exporter,
     second: P::Exporter,
-) -> Result<ProviderBuilderOf<P, S, RandomIdGenerator>, Fail> {
-    let builder = match builder.with_batch_exporter(first) {
-        Ok(builder) => return Ok(builder),
-        Err(failed) => failed.value,
-    };
-    match builder.with_batch_exporter(second) {
-        Ok(builder) => Ok(builder),
-        Err(_) => Err(refused_again()),
+) -> ProviderBuilderOf<P, S, G> {
+    match builder.with_batch_exporter(first) {
+        Ok(builder) => builder,
+        Err(failed) => failed
+            .value
+            .with_batch_exporter(second)
+            .ok()
+            .expect(rt, AGAIN),
     }
 }
 
 /// A resource of one attribute.
-fn resource_of(alloc: Global, key: &'static str) -> Result<Resource, AllocError> {
-    let builder = Resource::builder_empty(alloc).with_attribute(attribute_of(key))?;
-    Ok(builder.build())
+fn resource_of(rt: &impl Abort, alloc: Global, key: &'static str) -> Resource {
+    let builder = Resource::builder_empty(alloc);
+    builder
+        .with_attribute(attribute_of(key))
+        .expect(rt, SETUP)
+        .build()
 }
 
 /// Hands a resource in, again where that finds no memory.
-fn with_resource_again<P: Drop, S: Drop>(
+fn with_resource_again<P: Drop, S: Drop, G: Drop>(
+    rt: &impl Abort,
     alloc: Global,
-    builder: ProviderBuilderOf<P, S, RandomIdGenerator>,
+    builder: ProviderBuilderOf<P, S, G>,
     key: &'static str,
-) -> Result<ProviderBuilderOf<P, S, RandomIdGenerator>, Fail> {
-    let builder = match builder.with_resource(resource_of(alloc, key)?) {
-        Ok(builder) => return Ok(builder),
-        Err(failed) => failed.value,
-    };
-    match builder.with_resource(resource_of(alloc, key)?) {
-        Ok(builder) => Ok(builder),
-        Err(_) => Err(refused_again()),
+) -> ProviderBuilderOf<P, S, G> {
+    match builder.with_resource(resource_of(rt, alloc, key)) {
+        Ok(builder) => builder,
+        Err(failed) => {
+            let resource = resource_of(rt, alloc, key);
+            failed.value.with_resource(resource).ok().expect(rt, AGAIN)
+        }
     }
 }
 
 /// Builds, and builds again where that finds no memory.
-fn build_again<P: SpanProcessor, S: Drop>(
-    builder: ProviderBuilderOf<P, S, RandomIdGenerator>,
-) -> Result<ProviderOf<P, S, RandomIdGenerator>, Fail> {
-    let builder = match builder.build() {
-        Ok(provider) => return Ok(provider),
-        Err(failed) => failed.value,
-    };
+fn build_again<P: SpanProcessor, S: Drop, G: Drop>(
+    rt: &impl Abort,
+    builder: ProviderBuilderOf<P, S, G>,
+) -> ProviderOf<P, S, G> {
     match builder.build() {
-        Ok(provider) => Ok(provider),
-        Err(_) => Err(refused_again()),
+        Ok(provider) => provider,
+        Err(failed) => match failed.value.build() {
+            Ok(provider) => provider,
+            Err(_) => rt.panic(AGAIN),
+        },
     }
 }
 
-fn start_again<P: SpanProcessor, S: ShouldSample>(
+/// Starts a span of two attributes, again where that finds no memory.
+fn start_again<P: SpanProcessor, S: ShouldSample, G: IdGenerator>(
+    rt: &impl Abort,
     alloc: Global,
-    provider: &mut ProviderOf<P, S, RandomIdGenerator>,
-) -> Result<Span, Fail> {
-    if let Ok(span) = start_in(alloc, &Context::new(), 1, provider) {
-        return Ok(span);
-    }
-    match start_in(alloc, &Context::new(), 1, provider) {
-        Ok(span) => Ok(span),
-        Err(_) => Err(refused_again()),
+    provider: &mut ProviderOf<P, S, G>,
+) -> Span {
+    match start_in(rt, alloc, &Context::new(), 2, provider) {
+        Ok(span) => span,
+        Err(_) => start_in(rt, alloc, &Context::new(), 2, provider).expect(rt, AGAIN),
     }
 }
 
-/// Starts a span, again where that finds no memory, and finishes it. The answer is how many processors refused it.
-fn start_and_finish<P: KeepsBatches, S: ShouldSample>(
+/// Exports a span. The answer is what it recorded and how many processors refused it.
+fn export<P: SpanProcessor, S: ShouldSample, G: IdGenerator>(
+    rt: &impl Abort,
     alloc: Global,
-    provider: &mut ProviderOf<P, S, RandomIdGenerator>,
-) -> Result<Option<u64>, Fail> {
-    let span = start_again(alloc, provider)?;
-    Ok(finish_again(span, provider))
+    provider: &mut ProviderOf<P, S, G>,
+) -> (String, usize) {
+    let mut span = start_again(rt, alloc, provider);
+    let text = recorded(rt, alloc, &span);
+    let refused = span.end_with_timestamp(provider, Moment(9));
+    span.abandon();
+    (
+        text,
+        refused.expect(rt, "an end at one processor wants no memory"),
+    )
 }
 
-/// The timer is started and runs out twice; then the provider is flushed.
-fn drain_again<P: DrainDue, S: Drop>(
-    provider: &mut ProviderOf<P, S, RandomIdGenerator>,
-) -> OTelSdkResult {
+/// The timer is started and runs out twice; then the provider is flushed. The answer is whether that was well.
+fn drain<P: DrainDue, S: Drop, G: Drop>(provider: &mut ProviderOf<P, S, G>) -> bool {
     for seconds in [0, 5, 10] {
         let _ = provider.run_processors(Moment(seconds * 1_000_000_000));
     }
-    flush(provider)
+    provider.force_flush().is_ok()
 }
 
-/// Exports a span. The answer is how many processors refused it, how many batches were handed on, and how flush and
-/// close answered.
-fn export_again<P: OverExporter + KeepsBatches>(
+/// How many batches the processors of a provider handed to their exporters, which kept or lost them.
+fn handed_on<P: KeepsBatches, S, G>(provider: &ProviderOf<P, S, G>) -> u64 {
+    let mut count = 0u64;
+    for processor in provider.processors() {
+        let kept = processor.batches().len() as u64;
+        count = count
+            .saturating_add(kept)
+            .saturating_add(processor.lost_batches());
+    }
+    count
+}
+
+/// Exports a span and closes the provider: what the span recorded, how many processors refused it, whether a flush was
+/// well, how many batches were handed on, whether the close was well, and how many spans it left in queues.
+fn exported<P: KeepsBatches, S: ShouldSample, G: IdGenerator>(
+    rt: &impl Abort,
+    alloc: Global,
+    mut provider: ProviderOf<P, S, G>,
+) -> String {
+    let (recorded, refused) = export(rt, alloc, &mut provider);
+    let is_well = drain(&mut provider);
+    let batches = handed_on(&provider);
+    let report = provider.close();
+    let (is_closed, stranded, left) = (report.result.is_ok(), report.stranded, report.left_open);
+    let text = format!(in alloc;
+        "{recorded} {refused} {is_well} {batches} {is_closed} {stranded} {left}"
+    );
+    text.expect(rt, SETUP)
+}
+
+/// What comes of a span at a provider with a batch processor, whose builder was handed two resources.
+fn exported_in_a_batch<P: OverExporter + KeepsBatches>(
+    rt: &impl Abort,
     alloc: Global,
     first: P::Exporter,
     second: P::Exporter,
-) -> Result<(Option<u64>, u64, OTelSdkResult), Fail> {
-    let config = config_under(alloc, TestSampler::AlwaysOn);
-    let builder = ProviderOf::<P, _, _>::builder_with_config(
-        alloc,
-        config,
-        BatchStrings::default(),
-    );
-    let builder = with_batch_again(builder, first, second)?;
-    let builder = with_resource_again(alloc, builder, "a")?;
-    let builder = with_resource_again(alloc, builder, "b")?;
-    let mut provider = build_again(builder)?;
-    let refused = start_and_finish(alloc, &mut provider);
-    let flushed = drain_again(&mut provider);
-    let batches = handed_on(&provider);
-    let closed = provider.close();
-    Ok((refused?, batches, flushed.and(closed.result)))
+) -> String {
+    let builder = begin_again::<P>(rt, alloc, &strings_of_one(rt, alloc));
+    let builder = with_batch_again(rt, builder, first, second);
+    let builder = with_resource_again(rt, alloc, builder, "a");
+    let builder = with_resource_again(rt, alloc, builder, "b");
+    exported(rt, alloc, build_again(rt, builder))
+}
+
+/// The same with a processor that exports at once.
+fn exported_at_once<P: OverExporter + KeepsBatches>(
+    rt: &impl Abort,
+    alloc: Global,
+    exporter: P::Exporter,
+) -> String {
+    let builder = begin_again::<P>(rt, alloc, &strings_of_one(rt, alloc));
+    let builder = builder
+        .with_simple_exporter(exporter)
+        .ok()
+        .expect(rt, SETUP);
+    exported(rt, alloc, build_again(rt, builder))
+}
+
+/// What comes of a span that kept one attribute of two, that no processor refused, and that left in a batch.
+const EXPORTED: &str = " 7-7 given, 1 0 0] 0 true 1 true 0 0";
+
+fn memory(alloc: Global) -> ExporterBox {
+    ExporterBox::Memory(InMemorySpanExporter::new(alloc))
 }
 
 #[test]
-fn a_span_leaves_in_a_batch_where_an_allocation_is_refused(rt: HostRuntime) -> Result<(), Fail> {
+fn a_span_leaves_as_strings_say_where_an_allocation_is_refused(rt: HostRuntime) {
     let alloc = rt.alloc();
-    let exported = export_again::<Processor>(alloc, memory(alloc), memory(alloc))?;
-    assert_eq!(rt; exported, (Some(0), 1, Ok(())));
-    Ok(())
+    let by_batch = exported_in_a_batch::<Processor>(&rt, alloc, memory(alloc), memory(alloc));
+    assert!(rt; by_batch.as_str().ends_with(EXPORTED), "{by_batch}");
+    let at_once = exported_at_once::<Processor>(&rt, alloc, memory(alloc));
+    assert!(rt; at_once.as_str().ends_with(EXPORTED), "{at_once}");
 }

@@ -1,410 +1,202 @@
-//! What a call that finds no memory leaves behind, and that the same call succeeds when it is made again. A sampler
-//! that refuses shows it of starts. Edits, ends, and starts whose builder and sampler both bring attributes want memory
-//! of the machine alone, which an ordinary run has: `rt try --test --fail-alloc N` has the Nth allocation refused.
+//! What a call that finds no memory leaves, and that the same call succeeds when it is made again. Edits, ends,
+//! and starts whose builder and sampler both bring attributes want memory of the machine alone, which an ordinary run
+//! has: `rt try --test --fail-alloc N` has the Nth allocation refused.
 
 use super::fixtures::{
-    Asked, TestProvider, TestSampler, answer_of, attribute_of, close, empty_board, end, handed_on,
-    memory, provider_of, recorded, recorded_keys, refused_again, start_in, writers,
+    AGAIN, Asked, Board, SETUP, Writer, asked_on, attribute_of, empty_board, provider_of, recorded,
+    start_in, writers,
 };
 use opentelemetry::trace::SpanContext;
-use opentelemetry::{Context, Moment, SpanId};
-use opentelemetry_sdk::trace::Processor;
-use otel_export::trace::SpanData;
-use otel_kept::KeepsBatches;
-use otel_pipeline::trace::{ProviderOf, SimpleSpanProcessor, Span, SpanProcessor};
-use otel_sampling::trace::{RandomIdGenerator, SamplerOf, SamplingDecision, ShouldSample};
+use opentelemetry::{Context, Moment};
+use otel_pipeline::trace::{ProviderOf, Span, SpanProcessor};
+use otel_sampling::trace::{IdGenerator, RandomIdGenerator, SamplingDecision, ShouldSample};
 use std::alloc::{AllocError, Global};
-use std::cell::Cell;
-use std::rc::Rc;
-use std::test::Fail;
+use std::process::Abort;
 
-/// A sampler that samples every span with so many attributes; one that refuses, all but the first.
-fn sampling(alloc: Global, marks: usize, refuses: bool) -> Result<TestSampler, AllocError> {
-    let answer = answer_of(alloc, SamplingDecision::RecordAndSample, marks)?;
-    Ok(SamplerOf::Custom(Asked {
-        asked: empty_board(alloc)?,
-        answer,
-        refuses,
-    }))
-}
-
-/// The id of a span that is started and abandoned.
-fn started<P: SpanProcessor, S: ShouldSample>(
+/// A provider of so many writers, under a sampler that samples each span with so many attributes.
+fn provider_with(
+    rt: &impl Abort,
     alloc: Global,
-    provider: &mut ProviderOf<P, S, RandomIdGenerator>,
-) -> Result<SpanId, AllocError> {
-    let span = start_in(alloc, &Context::new(), 0, provider)?;
-    let span_id = span.span_context().span_id();
-    span.abandon();
-    Ok(span_id)
-}
-
-/// The same. Where there is no memory for it, the test stops, once another start succeeds.
-fn started_now<P: SpanProcessor, S: ShouldSample>(
-    alloc: Global,
-    provider: &mut ProviderOf<P, S, RandomIdGenerator>,
-) -> Result<SpanId, Fail> {
-    match started(alloc, provider) {
-        Ok(span_id) => Ok(span_id),
-        Err(error) if started(alloc, provider).is_ok() => Err(Fail::from(error)),
-        Err(_) => Err(refused_again()),
-    }
-}
-
-/// The second span id under seed 0, where a trace id is drawn between the two.
-const SECOND_SPAN_ID: u64 = 0x02ee_bf8c_3bbe_5e1a;
-
-/// A start that is refused and one that is not, each with what then stands on the board.
-#[derive(Debug, PartialEq, Drop)]
-struct TwoStarts {
-    is_refused: bool,
-    told: u64,
-    again: SpanId,
-    told_again: u64,
-}
-
-fn start_twice<P: SpanProcessor, S: ShouldSample>(
-    alloc: Global,
-    provider: &mut ProviderOf<P, S, RandomIdGenerator>,
-    board: &Rc<Cell<u64>>,
-) -> Result<TwoStarts, Fail> {
-    let is_refused = started(alloc, provider).is_err();
-    let told = board.get();
-    let again = started_now(alloc, provider)?;
-    Ok(TwoStarts {
-        is_refused,
-        told,
-        again,
-        told_again: board.get(),
-    })
-}
-
-/// A provider of three writers, under a sampler of so many attributes.
-fn three_writers(
-    alloc: Global,
-    board: &Rc<Cell<u64>>,
+    board: &Board,
     marks: usize,
-    refuses: bool,
-) -> Result<TestProvider, AllocError> {
-    let processors = writers(alloc, board, &[false, false, false])?;
-    let sampler = sampling(alloc, marks, refuses)?;
-    Ok(provider_of(alloc, processors, sampler))
+) -> ProviderOf<Writer, Asked, RandomIdGenerator> {
+    let processors = writers(rt, alloc, board, &[false, false]);
+    let asked = empty_board(rt, alloc);
+    let sampler = asked_on(rt, alloc, asked, (SamplingDecision::RecordAndSample, marks));
+    provider_of(alloc, processors, sampler)
 }
 
-/// The same two starts at three writers, and whether their provider was closed.
-fn refused_then_started(alloc: Global) -> Result<(TwoStarts, bool), Fail> {
-    let board = empty_board(alloc)?;
-    let mut provider = three_writers(alloc, &board, 0, true)?;
-    let starts = start_twice(alloc, &mut provider, &board);
-    let is_closed = close(provider).is_ok();
-    Ok((starts?, is_closed))
-}
-
-#[test]
-fn a_refused_start_tells_no_processor_and_succeeds_again(rt: HostRuntime) -> Result<(), Fail> {
-    let wanted = TwoStarts {
-        is_refused: true,
-        told: 0,
-        again: SpanId::from(SECOND_SPAN_ID),
-        told_again: 123,
-    };
-    assert_eq!(rt; refused_then_started(rt.alloc())?, (wanted, true));
-    Ok(())
-}
-
-/// Starts a span of a builder that has an attribute. The answer is what then stands on the board, and the keys that the
-/// span recorded, where it started.
-fn start_keys<P: SpanProcessor, S: ShouldSample>(
+/// Starts a span with so many attributes, again where that finds no memory and nothing stands on the board.
+fn start_again<P: SpanProcessor, S: ShouldSample, G: IdGenerator>(
+    rt: &impl Abort,
     alloc: Global,
-    provider: &mut ProviderOf<P, S, RandomIdGenerator>,
-    board: &Rc<Cell<u64>>,
-) -> (u64, Option<String>) {
-    let started = start_in(alloc, &Context::new(), 1, provider);
-    let told = board.get();
-    let Ok(span) = started else {
-        return (told, None);
-    };
-    let keys = keys_of(alloc, &span);
+    given: usize,
+    (provider, board): (&mut ProviderOf<P, S, G>, &Board),
+) -> Span {
+    match start_in(rt, alloc, &Context::new(), given, provider) {
+        Ok(span) => span,
+        Err(_) => {
+            assert_eq!(rt; board.get(), 0);
+            start_in(rt, alloc, &Context::new(), given, provider).expect(rt, AGAIN)
+        }
+    }
+}
+
+/// The text of a span that is started so and abandoned.
+fn started_again<P: SpanProcessor, S: ShouldSample, G: IdGenerator>(
+    rt: &impl Abort,
+    alloc: Global,
+    provider: &mut ProviderOf<P, S, G>,
+    board: &Board,
+) -> String {
+    let span = start_again(rt, alloc, 1, (provider, board));
+    let text = recorded(rt, alloc, &span);
     span.abandon();
-    (told, keys)
+    text
 }
 
-/// The keys that a span recorded, also where the first look at them finds no memory.
-fn keys_of(alloc: Global, span: &Span) -> Option<String> {
-    match recorded_keys(alloc, span) {
-        Ok(keys) => Some(keys),
-        Err(_) => recorded_keys(alloc, span).ok(),
-    }
+/// The same at two writers under a sampler that adds an attribute.
+fn grown_start(rt: &impl Abort, alloc: Global, board: &Board) -> String {
+    let mut provider = provider_with(rt, alloc, board, 1);
+    let text = started_again(rt, alloc, &mut provider, board);
+    let _ = provider.close();
+    text
 }
 
-/// The same, again where it was refused: what then stood on the board, and what both answer of the start that was not.
-fn start_keys_again<P: SpanProcessor, S: ShouldSample>(
-    alloc: Global,
-    provider: &mut ProviderOf<P, S, RandomIdGenerator>,
-    board: &Rc<Cell<u64>>,
-) -> (u64, u64, Option<String>) {
-    let (told, keys) = start_keys(alloc, provider, board);
-    if keys.is_some() {
-        return (0, told, keys);
-    }
-    let (told_again, keys) = start_keys(alloc, provider, board);
-    (told, told_again, keys)
-}
-
-/// The same at three writers under a sampler that adds an attribute, and whether their provider was closed.
-fn grown_start(alloc: Global) -> Result<((u64, u64, Option<String>), bool), AllocError> {
-    let board = empty_board(alloc)?;
-    let mut provider = three_writers(alloc, &board, 1, false)?;
-    let started = start_keys_again(alloc, &mut provider, &board);
-    Ok((started, close(provider).is_ok()))
-}
-
+/// Each writer is told of one start, and of the close.
 #[test]
-fn a_refused_start_of_a_list_that_grows_tells_no_processor_and_succeeds_again(
-    rt: HostRuntime,
-) -> Result<(), Fail> {
-    let ((told_in_vain, told, keys), is_closed) = grown_start(rt.alloc())?;
-    let Some(keys) = keys else {
-        return Err(refused_again());
-    };
-    assert_eq!(rt; (told_in_vain, told, is_closed), (0, 123, true));
-    assert_eq!(rt; keys.as_str(), "given,marked,");
-    Ok(())
+fn a_refused_start_of_a_list_that_grows_tells_no_processor_and_succeeds_again(rt: HostRuntime) {
+    let board = empty_board(&rt, rt.alloc());
+    let text = grown_start(&rt, rt.alloc(), &board);
+    assert!(rt;
+        text.as_str().ends_with(" 7-7 given,marked, 0 0 0]"),
+        "{text}"
+    );
+    assert_eq!(rt; board.get(), 1212);
 }
 
-/// An edit of a kind that wants memory, by its own call.
-#[derive(Clone, Copy)]
-enum Kind {
-    Attribute,
-    Event,
-    Link,
-}
-
-fn edit(alloc: Global, span: &mut Span, kind: Kind) -> Result<(), AllocError> {
+/// An edit that wants memory: an attribute, an event or a link.
+fn edit(alloc: Global, span: &mut Span, kind: usize) -> Result<(), AllocError> {
     match kind {
-        Kind::Attribute => span.set_attribute(attribute_of("k")),
-        Kind::Event => {
-            span.add_event_with_timestamp(String::new(alloc), Moment(8), Vec::new(alloc))
-        }
-        Kind::Link => span.add_link(SpanContext::empty_context(), Vec::new(alloc)),
+        0 => span.set_attribute(attribute_of("k")),
+        1 => span.add_event_with_timestamp(String::new(alloc), Moment(8), Vec::new(alloc)),
+        _ => span.add_link(SpanContext::empty_context(), Vec::new(alloc)),
     }
 }
 
-/// What a span has recorded, also where there is no memory for a copy.
-type Recorded = Result<Option<SpanData>, AllocError>;
-
-/// Whether a span has recorded the same as before.
-fn is_as_before(span: &Span, before: &Recorded) -> bool {
-    recorded(span) == *before
-}
-
-/// Makes an edit, and makes it again where it was refused. The answer is whether the span was then as before, and the
-/// second time succeeded.
-fn edit_again(alloc: Global, span: &mut Span, kind: Kind) -> bool {
-    let before = recorded(span);
-    edit_from(alloc, span, kind, &before)
-}
-
-fn edit_from(alloc: Global, span: &mut Span, kind: Kind, before: &Recorded) -> bool {
-    edit(alloc, span, kind).is_ok() || is_as_before(span, before) && edit(alloc, span, kind).is_ok()
-}
-
-/// The same of each edit.
-fn edit_all(alloc: Global, span: &mut Span) -> bool {
-    let mut holds = true;
-    for kind in [Kind::Attribute, Kind::Event, Kind::Link] {
-        holds = edit_again(alloc, span, kind) && holds;
-    }
-    holds
-}
-
-/// Finishes a span; it comes back where that found no memory.
-fn finish<P: SpanProcessor, S: ShouldSample>(
-    span: Span,
-    provider: &mut ProviderOf<P, S, RandomIdGenerator>,
-) -> Result<u64, Span> {
-    match span.finish(provider, Moment(9)) {
-        Ok(refused) => Ok(refused as u64),
-        Err(failed) => Err(failed.value),
+/// Makes an edit, and makes it again where it was refused, which must leave the span as it was.
+fn edit_again(rt: &impl Abort, alloc: Global, span: &mut Span, kind: usize) {
+    let before = recorded(rt, alloc, span);
+    if edit(alloc, span, kind).is_err() {
+        let left = recorded(rt, alloc, span);
+        assert_eq!(rt; left.as_str(), before.as_str());
+        edit(alloc, span, kind).expect(rt, AGAIN);
     }
 }
 
-/// What an end that finds no memory is to leave: what the span has recorded, and how many batches were handed on.
-type Before = (Recorded, u64);
-
-fn before_end<P: KeepsBatches, S>(
-    span: &Span,
-    provider: &ProviderOf<P, S, RandomIdGenerator>,
-) -> Before {
-    (recorded(span), handed_on(provider))
+/// Asserts that a span and a board are as before.
+fn assert_left(
+    rt: &impl Abort,
+    alloc: Global,
+    (span, board): (&Span, &Board),
+    (before, told): (&str, u64),
+) {
+    let left = recorded(rt, alloc, span);
+    assert_eq!(rt; left.as_str(), before);
+    assert_eq!(rt; board.get(), told);
 }
 
-/// Whether it is left so.
-fn is_left<P: KeepsBatches, S>(
-    span: &Span,
-    provider: &ProviderOf<P, S, RandomIdGenerator>,
-    before: &Before,
-) -> bool {
-    is_as_before(span, &before.0) && handed_on(provider) == before.1
-}
-
-/// Finishes a span, and finishes it again where it came back, which it must do as it was, with nothing handed on. The
+/// Finishes a span, and finishes it again where it came back, which it must do as it was, with no processor told. The
 /// answer is how many processors refused it.
-pub(super) fn finish_again<P: KeepsBatches, S: ShouldSample>(
+fn finish_again<P: SpanProcessor, S: Drop, G: Drop>(
+    rt: &impl Abort,
+    alloc: Global,
     span: Span,
-    provider: &mut ProviderOf<P, S, RandomIdGenerator>,
-) -> Option<u64> {
-    let before = before_end(&span, provider);
-    finish_from(span, provider, &before)
-}
-
-fn finish_from<P: KeepsBatches, S: ShouldSample>(
-    span: Span,
-    provider: &mut ProviderOf<P, S, RandomIdGenerator>,
-    before: &Before,
-) -> Option<u64> {
-    match finish(span, provider) {
-        Ok(refused) => Some(refused),
-        Err(span) => finish_left(span, provider, before),
-    }
-}
-
-/// Finishes a span that came back, if all is as before.
-fn finish_left<P: KeepsBatches, S: ShouldSample>(
-    span: Span,
-    provider: &mut ProviderOf<P, S, RandomIdGenerator>,
-    before: &Before,
-) -> Option<u64> {
-    if !is_left(&span, provider, before) {
-        span.abandon();
-        return None;
-    }
-    match finish(span, provider) {
-        Ok(refused) => Some(refused),
-        Err(span) => {
-            span.abandon();
-            None
-        }
-    }
-}
-
-/// Ends a span, and ends it again where that found no memory, which must leave it as it was and hand nothing on. The
-/// answer is how many processors refused it.
-fn end_again<P: KeepsBatches, S: ShouldSample>(
-    span: &mut Span,
-    provider: &mut ProviderOf<P, S, RandomIdGenerator>,
-) -> Option<u64> {
-    let before = before_end(span, provider);
-    end_from(span, provider, &before)
-}
-
-fn end_from<P: KeepsBatches, S: ShouldSample>(
-    span: &mut Span,
-    provider: &mut ProviderOf<P, S, RandomIdGenerator>,
-    before: &Before,
-) -> Option<u64> {
-    let refused = match end(span, provider) {
-        Ok(refused) => refused,
-        Err(_) if is_left(span, provider, before) => end(span, provider).ok()?,
-        Err(_) => return None,
+    (provider, board): (&mut ProviderOf<P, S, G>, &Board),
+) -> usize {
+    let (before, told) = (recorded(rt, alloc, &span), board.get());
+    let span = match span.finish(provider, Moment(9)) {
+        Ok(refused) => return refused,
+        Err(failed) => failed.value,
     };
-    Some(refused as u64)
+    assert_left(rt, alloc, (&span, board), (before.as_str(), told));
+    match span.finish(provider, Moment(9)) {
+        Ok(refused) => refused,
+        Err(_) => rt.panic(AGAIN),
+    }
 }
 
-/// Which call ends a span.
-#[derive(Clone, Copy)]
-enum Ending {
-    Finish,
-    EndWithTimestamp,
-}
-
-/// Starts a span, edits it in each way, and ends it: whether each edit did what it must, and how many processors
-/// refused the span.
-fn edit_and_end<P: KeepsBatches, S: ShouldSample>(
+/// Ends a span, and ends it again where that found no memory, which must leave it as it was, with no processor told.
+fn end_again<P: SpanProcessor, S: Drop, G: Drop>(
+    rt: &impl Abort,
     alloc: Global,
-    provider: &mut ProviderOf<P, S, RandomIdGenerator>,
-    ending: Ending,
-) -> Result<(bool, Option<u64>), AllocError> {
-    let mut span = start_in(alloc, &Context::new(), 0, provider)?;
-    let edited = edit_all(alloc, &mut span);
-    if let Ending::Finish = ending {
-        return Ok((edited, finish_again(span, provider)));
-    }
-    let refused = end_again(&mut span, provider);
-    span.abandon();
-    Ok((edited, refused))
-}
-
-/// Whether each batch that was kept is of one span with each edit.
-fn keeps_edits<P: KeepsBatches, S>(provider: &ProviderOf<P, S, RandomIdGenerator>) -> bool {
-    let mut holds = true;
-    for processor in provider.processors() {
-        holds = are_edited(processor.batches()) && holds;
-    }
-    holds
-}
-
-fn are_edited(batches: &[Vec<SpanData>]) -> bool {
-    for batch in batches {
-        if !is_edited(batch) {
-            return false;
+    span: &mut Span,
+    (provider, board): (&mut ProviderOf<P, S, G>, &Board),
+) -> usize {
+    let (before, told) = (recorded(rt, alloc, span), board.get());
+    match span.end_with_timestamp(provider, Moment(9)) {
+        Ok(refused) => refused,
+        Err(_) => {
+            assert_left(rt, alloc, (span, board), (before.as_str(), told));
+            span.end_with_timestamp(provider, Moment(9))
+                .expect(rt, AGAIN)
         }
     }
-    true
 }
 
-fn is_edited(batch: &[SpanData]) -> bool {
-    match batch {
-        [span] => {
-            let (events, links) = (span.events.as_slice().len(), span.links.as_slice().len());
-            [span.attributes.len(), events, links] == [1, 1, 1]
-        }
-        _ => false,
-    }
-}
-
-/// How many spans were edited as they must, and how many refusals of processors there were.
-fn edit_and_end_each<P: KeepsBatches, S: ShouldSample>(
+/// A span that is started and edited in each way.
+fn edited<P: SpanProcessor, S: ShouldSample, G: IdGenerator>(
+    rt: &impl Abort,
     alloc: Global,
-    provider: &mut ProviderOf<P, S, RandomIdGenerator>,
-) -> Result<(u64, u64), AllocError> {
-    let (mut count, mut refusals) = (0u64, 0u64);
-    for ending in [Ending::Finish, Ending::EndWithTimestamp] {
-        if let (true, Some(refused)) = edit_and_end(alloc, provider, ending)? {
-            count = count.saturating_add(1);
-            refusals = refusals.saturating_add(refused);
-        }
+    provider: &mut ProviderOf<P, S, G>,
+) -> Span {
+    let mut span = start_in(rt, alloc, &Context::new(), 0, provider).expect(rt, SETUP);
+    for kind in 0..3 {
+        edit_again(rt, alloc, &mut span, kind);
     }
-    Ok((count, refusals))
+    span
 }
 
-/// The same at two processors that export: how many batches they handed on, and whether those that were kept are of one
-/// span with each edit.
-fn edited_and_ended(alloc: Global) -> Result<((u64, u64), u64, bool), AllocError> {
-    let processors = two_exporting(alloc)?;
-    let mut provider = provider_of(alloc, processors, TestSampler::AlwaysOn);
-    let outcome = edit_and_end_each(alloc, &mut provider);
-    let (exported, holds) = (handed_on(&provider), keeps_edits(&provider));
-    let is_closed = close(provider).is_ok();
-    Ok((outcome?, exported, holds && is_closed))
+/// Ends two such spans, one by each call. The answer is how many processors refused them.
+fn end_both<P: SpanProcessor, S: ShouldSample, G: IdGenerator>(
+    rt: &impl Abort,
+    alloc: Global,
+    provider: &mut ProviderOf<P, S, G>,
+    board: &Board,
+) -> usize {
+    let first = edited(rt, alloc, provider);
+    let refused = finish_again(rt, alloc, first, (provider, board));
+    let mut second = edited(rt, alloc, provider);
+    let refused_too = end_again(rt, alloc, &mut second, (provider, board));
+    second.abandon();
+    refused.saturating_add(refused_too)
 }
 
-fn two_exporting(alloc: Global) -> Result<Vec<Processor>, AllocError> {
-    let mut processors = Vec::new(alloc);
-    processors.push(exporting_boxed(alloc))?;
-    processors.push(exporting_boxed(alloc))?;
-    Ok(processors)
+/// How many spans with each edit these writers took.
+fn taken_by(writers: &[Writer]) -> usize {
+    let mut count = 0usize;
+    for writer in writers {
+        let edited = writer.taken.as_str().matches(" 7-9 k, 0 1 1]").count();
+        count = count.saturating_add(edited);
+    }
+    count
 }
 
-fn exporting_boxed(alloc: Global) -> Processor {
-    Processor::Simple(SimpleSpanProcessor::new(alloc, memory(alloc)))
+/// How many processors refused them, and how many took them, at two writers.
+fn edited_and_ended(rt: &impl Abort, alloc: Global, board: &Board) -> (usize, usize) {
+    let mut provider = provider_with(rt, alloc, board, 0);
+    let refused = end_both(rt, alloc, &mut provider, board);
+    let taken = taken_by(provider.processors());
+    let _ = provider.close();
+    (refused, taken)
 }
 
-/// Two spans end at two processors: each of the four deliveries is exported once, or refused.
+/// Two spans end at two processors: each of the four deliveries is taken, or refused. The writers are told of two
+/// starts, two ends and the close.
 #[test]
-fn refused_edits_and_ends_change_nothing_and_succeed_again(rt: HostRuntime) -> Result<(), Fail> {
-    let ((ended, refused), exported, holds) = edited_and_ended(rt.alloc())?;
-    assert!(rt; holds);
-    assert_eq!(rt; (ended, refused.saturating_add(exported)), (2, 4));
-    Ok(())
+fn refused_edits_and_ends_change_nothing_and_succeed_again(rt: HostRuntime) {
+    let board = empty_board(&rt, rt.alloc());
+    let (refused, taken) = edited_and_ended(&rt, rt.alloc(), &board);
+    assert_eq!(rt; refused.saturating_add(taken), 4);
+    assert_eq!(rt; board.get(), 1_212_121_212);
 }
