@@ -1,58 +1,13 @@
-//! The exporter by itself: behind a shutdown, and over a stream that fails.
+//! The exporter over a stream of one's own that fails, and under a processor.
 
-use crate::tests::lines::{BARE, batch, line};
-use otel_export::error::{OTelSdkError, OTelSdkResult};
+use super::lines::{BARE, NAMED, SETUP, batch, line, resource, span};
+use opentelemetry_sdk::trace::{SimpleSpanProcessor, SpanProcessor};
+use otel_export::error::OTelSdkResult;
 use otel_export::trace::SpanExporter;
 use otel_otlp::OtlpJsonExporter;
-use std::alloc::{AllocError, Global};
+use std::alloc::Global;
 use std::io::{self, ErrorKind, Write};
-use std::test::Fail;
-
-/// The text of an answer.
-fn text_of(alloc: Global, answer: OTelSdkResult) -> Result<String, AllocError> {
-    match answer {
-        Ok(()) => String::from_str(alloc, "ok"),
-        Err(error) => error.to_string(alloc),
-    }
-}
-
-/// What an export of a span of this name answers.
-fn export<E: SpanExporter>(
-    alloc: Global,
-    exporter: &mut E,
-    name: &str,
-) -> Result<String, AllocError> {
-    let answer = exporter.export(batch(alloc, name)?);
-    text_of(alloc, answer)
-}
-
-/// What an export, two shutdowns, and an export behind them answer.
-fn shut_twice<E: SpanExporter>(alloc: Global, exporter: &mut E) -> Result<[String; 4], AllocError> {
-    let before = export(alloc, exporter, "a")?;
-    let first = text_of(alloc, exporter.shutdown())?;
-    let behind = export(alloc, exporter, "b")?;
-    let second = text_of(alloc, exporter.shutdown())?;
-    Ok([before, first, behind, second])
-}
-
-/// The same of an exporter, and what it wrote.
-fn written_around_a_shutdown(alloc: Global) -> Result<([String; 4], Vec<u8>), AllocError> {
-    let mut exporter = OtlpJsonExporter::new(alloc, Vec::new(alloc));
-    let answers = shut_twice(alloc, &mut exporter)?;
-    Ok((answers, exporter.writer().clone()?))
-}
-
-#[test]
-fn behind_a_shutdown_nothing_is_written(rt: HostRuntime) -> Result<(), Fail> {
-    let ([before, first, behind, second], written) = written_around_a_shutdown(rt.alloc())?;
-    assert_eq!(rt; before.as_str(), "ok");
-    assert_eq!(rt; first.as_str(), "ok");
-    assert_eq!(rt; behind.as_str(), "Shutdown already invoked");
-    assert_eq!(rt; second.as_str(), "Shutdown already invoked");
-    let wanted = line(rt.alloc(), BARE, &["a"])?;
-    assert_eq!(rt; written.as_slice(), wanted.as_bytes());
-    Ok(())
-}
+use std::process::Abort;
 
 /// Takes at most a hundred bytes a call. Its call of one number fails so, a write or a flush.
 #[derive(Drop)]
@@ -86,12 +41,23 @@ impl Write for Failing {
     }
 }
 
-/// What two exports answer where the call of this number fails so, and what was written.
-fn two_over(
-    alloc: Global,
-    failing: usize,
-    kind: ErrorKind,
-) -> Result<(String, String, Vec<u8>), AllocError> {
+/// The text of an answer.
+fn text_of(rt: &impl Abort, alloc: Global, answer: OTelSdkResult) -> String {
+    match answer {
+        Ok(()) => String::from_str(alloc, "ok").expect(rt, SETUP),
+        Err(error) => error.to_string(alloc).expect(rt, SETUP),
+    }
+}
+
+/// What exports of two spans answer.
+fn export_both<E: SpanExporter>(rt: &impl Abort, alloc: Global, exporter: &mut E) -> String {
+    let first = text_of(rt, alloc, exporter.export(batch(rt, alloc, "a")));
+    let second = text_of(rt, alloc, exporter.export(batch(rt, alloc, "b")));
+    format!(in alloc; "{first}; {second}; ").expect(rt, SETUP)
+}
+
+/// The same where the call of this number fails so, and what was written.
+fn written_over(rt: &impl Abort, alloc: Global, failing: usize, kind: ErrorKind) -> String {
     let bytes = Vec::new(alloc);
     let writer = Failing {
         bytes,
@@ -100,51 +66,74 @@ fn two_over(
         kind,
     };
     let mut exporter = OtlpJsonExporter::new(alloc, writer);
-    let first = export(alloc, &mut exporter, "a")?;
-    let second = export(alloc, &mut exporter, "b")?;
-    Ok((first, second, exporter.writer().bytes.clone()?))
+    let mut text = export_both(rt, alloc, &mut exporter);
+    push_bytes(rt, &mut text, &exporter.writer().bytes);
+    text
 }
 
-/// So many bytes of the first line, a line feed, and the second line.
-fn cut_at(alloc: Global, count: usize) -> Result<Vec<u8>, AllocError> {
-    let mut lines = Vec::new(alloc);
-    for byte in line(alloc, BARE, &["a"])?.as_bytes().iter().take(count) {
-        lines.push(*byte)?;
-    }
-    lines.push(b'\n')?;
-    lines.extend_from_slice(line(alloc, BARE, &["b"])?.as_bytes())?;
-    Ok(lines)
+fn push_bytes(rt: &impl Abort, text: &mut String, bytes: &[u8]) {
+    let written = str::from_utf8(bytes).unwrap_or("no text");
+    text.push_str(written).expect(rt, SETUP);
+}
+
+/// What is wanted where the first line is cut after so many bytes.
+fn cut_at(rt: &impl Abort, alloc: Global, count: usize) -> String {
+    let first = line(rt, alloc, BARE, "a");
+    let second = line(rt, alloc, BARE, "b");
+    let cut = first.as_str().get(..count).unwrap_or("");
+    let named = "Operation failed: cannot write spans: no storage space";
+    format!(in alloc; "{named}; ok; {cut}\n{second}").expect(rt, SETUP)
+}
+
+/// What is wanted where no line is cut.
+fn uncut(rt: &impl Abort, alloc: Global) -> String {
+    let first = line(rt, alloc, BARE, "a");
+    let second = line(rt, alloc, BARE, "b");
+    format!(in alloc; "ok; ok; {first}{second}").expect(rt, SETUP)
 }
 
 /// A line is 542 bytes long, and so six writes; the seventh call is its flush.
 #[test]
-fn a_stream_that_fails_is_named_and_the_next_line_begins_anew(rt: HostRuntime) -> Result<(), Fail> {
-    let named = "Operation failed: cannot write spans: no storage space";
+fn a_stream_that_fails_is_named_and_the_next_line_begins_anew(rt: HostRuntime) {
     for (failing, count) in [(1, 0), (2, 100), (6, 500), (7, 542)] {
-        let (first, second, written) = two_over(rt.alloc(), failing, ErrorKind::StorageFull)?;
-        assert_eq!(rt; first.as_str(), named, "call {failing}");
-        assert_eq!(rt; second.as_str(), "ok", "call {failing}");
-        let wanted = cut_at(rt.alloc(), count)?;
-        assert_eq!(rt; written.as_slice(), wanted.as_slice(), "call {failing}");
+        let text = written_over(&rt, rt.alloc(), failing, ErrorKind::StorageFull);
+        let wanted = cut_at(&rt, rt.alloc(), count);
+        assert_eq!(rt; text.as_str(), wanted.as_str(), "call {failing}");
     }
-    Ok(())
+    for failing in [1, 2, 6] {
+        let text = written_over(&rt, rt.alloc(), failing, ErrorKind::Interrupted);
+        let wanted = uncut(&rt, rt.alloc());
+        assert_eq!(rt; text.as_str(), wanted.as_str(), "call {failing}");
+    }
 }
 
-/// Both lines.
-fn uncut(alloc: Global) -> Result<String, AllocError> {
-    let mut lines = line(alloc, BARE, &["a"])?;
-    lines.push_str(line(alloc, BARE, &["b"])?.as_str())?;
-    Ok(lines)
+/// Sets the resource of a processor and lets a span end, and one more after a shutdown. The answer is that of a flush,
+/// and those of two shutdowns.
+fn run<P: SpanProcessor>(rt: &impl Abort, alloc: Global, processor: &mut P) -> String {
+    processor
+        .set_resource(&resource(rt, alloc))
+        .expect(rt, SETUP);
+    processor.on_end(span(rt, alloc, "a")).expect(rt, SETUP);
+    let flushed = text_of(rt, alloc, processor.force_flush());
+    let first = text_of(rt, alloc, processor.shutdown());
+    processor.on_end(span(rt, alloc, "late")).expect(rt, SETUP);
+    let second = text_of(rt, alloc, processor.shutdown());
+    format!(in alloc; "{flushed}; {first}; {second}; ").expect(rt, SETUP)
+}
+
+/// What a simple processor answers so, and what its exporter wrote.
+fn written_by_simple(rt: &impl Abort, alloc: Global) -> String {
+    let exporter = OtlpJsonExporter::new(alloc, Vec::new(alloc));
+    let mut processor = SimpleSpanProcessor::new(alloc, exporter);
+    let mut text = run(rt, alloc, &mut processor);
+    push_bytes(rt, &mut text, processor.exporter().writer());
+    text
 }
 
 #[test]
-fn an_interrupted_write_is_made_again(rt: HostRuntime) -> Result<(), Fail> {
-    for failing in [1, 2, 6] {
-        let (first, second, written) = two_over(rt.alloc(), failing, ErrorKind::Interrupted)?;
-        assert_eq!(rt; first.as_str(), "ok", "call {failing}");
-        assert_eq!(rt; second.as_str(), "ok", "call {failing}");
-        let wanted = uncut(rt.alloc())?;
-        assert_eq!(rt; written.as_slice(), wanted.as_bytes(), "call {failing}");
-    }
-    Ok(())
+fn a_simple_processor_writes_a_span_before_a_shutdown(rt: HostRuntime) {
+    let text = written_by_simple(&rt, rt.alloc());
+    let line = line(&rt, rt.alloc(), NAMED, "a");
+    let wanted = format!(in rt.alloc(); "ok; ok; Shutdown already invoked; {line}");
+    assert_eq!(rt; text.as_str(), wanted.expect(&rt, SETUP).as_str());
 }
