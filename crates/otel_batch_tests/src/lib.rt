@@ -1,5 +1,5 @@
-//! Tests of `otel_batch`: what no clause says of it. They stand apart, so that the crate is proved once and its edits are
-//! tried beside no test.
+//! Tests of `otel_batch`: what no clause says of it. They stand apart, so that the crate is proved once and its edits
+//! are tried beside no test.
 #![tactic(auto)]
 
 #[cfg(test)]
