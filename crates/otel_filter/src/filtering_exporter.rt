@@ -115,6 +115,3 @@ impl<E: StoresBatches, F: SpanFilter> StoresBatches for FilteringExporter<E, F> 
         self.exporter.forget_batches();
     }
 }
-
-#[cfg(test)]
-mod tests;

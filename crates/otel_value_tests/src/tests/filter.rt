@@ -1,0 +1,77 @@
+//! A filter of one's own in front of an exporter.
+
+use super::span_data::{moments_of, spans_from};
+use otel_export::trace::{
+    ExporterBox, InMemorySpanExporter, SpanData, SpanExporter, StoresBatches,
+};
+use otel_filter::{FilteringExporter, SpanFilter};
+use otel_resource::resource::Resource;
+use std::alloc::{AllocError, Global};
+use std::test::Fail;
+
+/// Keeps the spans that started at this moment or later.
+#[derive(Drop)]
+struct StartedFrom {
+    moment: u64,
+}
+
+impl SpanFilter for StartedFrom {
+    ghost use Rattle.std.specs.Prelude.{not, nat_lt};
+
+    ghost keeps = { λ filter span. not (nat_lt span.start_time filter.moment) };
+
+    fn keeps(&self, span: &SpanData) -> bool {
+        !(span.start_time.0 < self.moment)
+    }
+}
+
+/// Exports a batch of spans that started at these moments. The answer is whether that went well.
+fn export<E: SpanExporter>(
+    alloc: Global,
+    exporter: &mut E,
+    moments: &[u64],
+) -> Result<bool, AllocError> {
+    let batch = spans_from(alloc, moments)?;
+    Ok(exporter.export(batch).is_ok())
+}
+
+/// All other calls: whether each answers Ok.
+fn end<E: StoresBatches>(alloc: Global, exporter: &mut E) -> bool {
+    exporter.set_resource(&Resource::builder_empty(alloc).build());
+    let is_flushed = exporter.force_flush().is_ok();
+    let is_shut = exporter.shutdown().is_ok();
+    is_flushed && is_shut
+}
+
+/// What is kept of three batches, whether they and the other calls were answered by Ok, and what is left of them once
+/// they are forgotten. Where one was lost there was no memory for it.
+fn kept_of_three<E: StoresBatches>(alloc: Global, exporter: &mut E) -> Result<String, AllocError> {
+    let first = export(alloc, exporter, &[4, 9, 5, 3, 7])?;
+    let second = export(alloc, exporter, &[1, 2])?;
+    let third = export(alloc, exporter, &[6])?;
+    let is_ended = end(alloc, exporter);
+    if exporter.lost_batches() > 0 {
+        return Err(AllocError);
+    }
+    let kept = moments_of(alloc, exporter.batches())?;
+    exporter.forget_batches();
+    let left = exporter.batches().len();
+    format!(in alloc; "{kept} {first} {second} {third} {is_ended} {left}")
+}
+
+fn exported(alloc: Global) -> Result<String, AllocError> {
+    let mut exporter = FilteringExporter {
+        exporter: ExporterBox::Memory(InMemorySpanExporter::new(alloc)),
+        filter: StartedFrom { moment: 5 },
+    };
+    kept_of_three(alloc, &mut exporter)
+}
+
+#[test]
+fn the_spans_that_a_filter_keeps_are_exported_in_order(rt: HostRuntime) -> Result<(), Fail> {
+    assert_eq!(rt;
+        exported(rt.alloc())?.as_str(),
+        "[9 5 7 ][6 ] true true true true 0"
+    );
+    Ok(())
+}
