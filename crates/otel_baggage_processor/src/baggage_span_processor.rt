@@ -140,6 +140,3 @@ impl<K: KeyFilter> LeavesSpans for BaggageSpanProcessor<K> {
         0
     }
 }
-
-#[cfg(test)]
-mod tests;

@@ -1,8 +1,8 @@
 //! An exporter of one's own: it writes a line for each span to anything that takes bytes.
 //!
 //! An exporter says what it tells, which here is nothing, and has `export`, `shutdown_with_timeout` and `set_resource`.
-//! What the sink keeps back is sent on at the shutdown, and where a holder of the exporter calls `force_flush`, which no
-//! processor of the SDK does. The lines do not name the resource. Among exporters of other kinds, this one is
+//! What the sink keeps back is sent on at the shutdown, and where a holder of the exporter calls `force_flush`, which
+//! no processor of the SDK does. The lines do not name the resource. Among exporters of other kinds, this one is
 //! `ExporterBox::Custom(Box::new(alloc, LineExporter::new(alloc, sink))?)`.
 
 ghost use Rattle.std.specs.Prelude.{None};
@@ -64,63 +64,33 @@ impl<W: Write + Drop> SpanExporter for LineExporter<W> {
 #[cfg(test)]
 mod tests {
     use super::LineExporter;
-    use crate::providers::{provider_of, trace_span};
-    use opentelemetry_sdk::trace::{
-        ProviderOf, RandomIdGenerator, Sampler, SimpleSpanProcessor, SpanProcessor,
-    };
+    use crate::providers::{Shows, internal_request, traced};
+    use opentelemetry_sdk::trace::{Sampler, SimpleSpanProcessor};
     use std::alloc::{AllocError, Global};
     use std::test::Fail;
 
-    type LineProvider = ProviderOf<
-        SimpleSpanProcessor<LineExporter<Vec<u8>>>,
-        Sampler,
-        RandomIdGenerator,
-    >;
+    type LineProcessor = SimpleSpanProcessor<LineExporter<Vec<u8>>>;
 
-    /// A provider whose spans are written at once.
-    fn line_provider(alloc: Global) -> Result<LineProvider, AllocError> {
-        let exporter = LineExporter::new(alloc, Vec::new(alloc));
-        provider_of(
-            alloc,
-            Sampler::AlwaysOn,
-            SimpleSpanProcessor::new(alloc, exporter),
-        )
-    }
-
-    /// Traces two spans. The answer is how many processors refused each.
-    fn trace_two<P: SpanProcessor>(
-        alloc: Global,
-        provider: &mut ProviderOf<P, Sampler, RandomIdGenerator>,
-    ) -> Result<[usize; 2], AllocError> {
-        let first = trace_span(alloc, provider, "GET", 7)?;
-        let second = trace_span(alloc, provider, "db", 8)?;
-        Ok([first, second])
-    }
-
-    /// What the exporter has written.
-    fn written(alloc: Global, provider: &LineProvider) -> Result<Vec<u8>, AllocError> {
-        match provider.processors().first() {
-            Some(processor) => processor.exporter().sink.clone(),
-            None => Ok(Vec::new(alloc)),
+    impl Shows for LineProcessor {
+        fn show(&self, text: &mut String) -> Result<(), AllocError> {
+            text.push_str(str::from_utf8(&self.exporter().sink).unwrap_or("no text"))
         }
     }
 
-    /// The same of the two spans, how many processors refused them, and whether the provider was shut and closed.
-    fn traced(alloc: Global) -> Result<([usize; 2], Vec<u8>, bool), AllocError> {
-        let mut provider = line_provider(alloc)?;
-        let refused = trace_two(alloc, &mut provider);
-        let is_shut = provider.shutdown().is_ok();
-        let written = written(alloc, &provider);
-        let is_closed = provider.close().result.is_ok();
-        Ok((refused?, written?, is_shut && is_closed))
+    /// A processor that has its spans written at once.
+    fn processor(alloc: Global) -> LineProcessor {
+        SimpleSpanProcessor::new(alloc, LineExporter::new(alloc, Vec::new(alloc)))
     }
 
     #[test]
     fn each_span_is_written_when_it_ends(rt: HostRuntime) -> Result<(), Fail> {
-        let (refused, written, is_closed) = traced(rt.alloc())?;
-        assert_eq!(rt; refused, [0, 0]);
-        assert_eq!(rt; written.as_slice(), "GET 7 9\ndb 8 10\n".as_bytes());
-        assert!(rt; is_closed);
+        let alloc = rt.alloc();
+        let requests = [internal_request(7, "a"), internal_request(8, "b")];
+        let told = traced(alloc, Sampler::AlwaysOn, processor(alloc), &requests)?;
+        assert_eq!(rt;
+            told.as_str(),
+            "a=true ; b=true ; GET 7 9\nGET 8 10\n then GET 7 9\nGET 8 10\n"
+        );
         Ok(())
     }
 }

@@ -1,12 +1,19 @@
-//! Examples: an exporter, two processors and a sampler of one's own, each whole in a file and ended by a test that uses
-//! it in a provider, and the quick start of the README.
+//! Examples: an exporter, two processors, a sampler and a filter of a baggage's keys of one's own, each whole in a file
+//! and ended by a test that uses it in a provider, and the quick start of the README. All of it is compiled for the
+//! tests alone.
 #![tactic(auto)]
 
-pub mod exporter;
-pub mod processor;
+#[cfg(test)]
+mod exporter;
+#[cfg(test)]
+mod key_filter;
+#[cfg(test)]
+mod processor;
 #[cfg(test)]
 mod providers;
-pub mod queueing_processor;
+#[cfg(test)]
+mod queueing_processor;
 #[cfg(test)]
 mod quick_start;
-pub mod sampler;
+#[cfg(test)]
+mod sampler;

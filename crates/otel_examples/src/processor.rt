@@ -86,80 +86,34 @@ impl<P: LeavesSpans> LeavesSpans for FilteringProcessor<P> {
 #[cfg(test)]
 mod tests {
     use super::{FilteringProcessor, MARK};
-    use crate::providers::{provider_of, push_batch, start_span};
-    use opentelemetry::{Key, KeyValue, Moment, Value};
-    use opentelemetry_sdk::trace::{
-        InMemorySpanExporter, ProviderOf, RandomIdGenerator, Sampler, SimpleSpanProcessor,
-        SpanProcessor,
-    };
+    use crate::providers::{Shows, internal_request, push_batches, traced};
+    use opentelemetry_sdk::trace::{InMemorySpanExporter, Sampler, SimpleSpanProcessor};
     use std::alloc::{AllocError, Global};
     use std::test::Fail;
 
-    type FilteringProvider = ProviderOf<
-        FilteringProcessor<SimpleSpanProcessor<InMemorySpanExporter>>,
-        Sampler,
-        RandomIdGenerator,
-    >;
+    type OverMemory = FilteringProcessor<SimpleSpanProcessor<InMemorySpanExporter>>;
 
-    /// A provider that exports into memory what the filter lets through.
-    fn filtering_provider(alloc: Global) -> Result<FilteringProvider, AllocError> {
-        let inner = SimpleSpanProcessor::new(alloc, InMemorySpanExporter::new(alloc));
-        provider_of(alloc, Sampler::AlwaysOn, FilteringProcessor { inner })
-    }
-
-    /// Starts a span at a moment, sets the mark to a value, and ends it. The answer is how many processors refused it.
-    fn trace_marked<P: SpanProcessor>(
-        alloc: Global,
-        provider: &mut ProviderOf<P, Sampler, RandomIdGenerator>,
-        start: u64,
-        mark: bool,
-    ) -> Result<usize, AllocError> {
-        let mut span = start_span(alloc, provider, "", start)?;
-        let mark = KeyValue::new(Key::from_static_str(MARK), Value::Bool(mark));
-        let marked = span.set_attribute(mark);
-        let refused = span.end_with_timestamp(provider, Moment(9));
-        span.abandon();
-        marked?;
-        refused
-    }
-
-    /// Traces a span with the mark and one without. The answer is how many processors refused each.
-    fn trace_both<P: SpanProcessor>(
-        alloc: Global,
-        provider: &mut ProviderOf<P, Sampler, RandomIdGenerator>,
-    ) -> Result<[usize; 2], AllocError> {
-        let first = trace_marked(alloc, provider, 7, true)?;
-        let second = trace_marked(alloc, provider, 8, false)?;
-        Ok([first, second])
-    }
-
-    /// The moments at which the exported spans started, each batch between brackets.
-    fn exported(alloc: Global, provider: &FilteringProvider) -> Result<String, AllocError> {
-        let mut text = String::new(alloc);
-        for processor in provider.processors() {
-            for batch in processor.inner.exporter().batches() {
-                push_batch(&mut text, batch)?;
-            }
+    impl Shows for OverMemory {
+        fn show(&self, text: &mut String) -> Result<(), AllocError> {
+            push_batches(text, self.inner.exporter().batches())
         }
-        Ok(text)
     }
 
-    /// What came of both spans, and whether the provider was shut and closed.
-    fn traced(alloc: Global) -> Result<([usize; 2], String, bool), AllocError> {
-        let mut provider = filtering_provider(alloc)?;
-        let refused = trace_both(alloc, &mut provider);
-        let is_shut = provider.shutdown().is_ok();
-        let exported = exported(alloc, &provider);
-        let is_closed = provider.close().result.is_ok();
-        Ok((refused?, exported?, is_shut && is_closed))
+    /// A processor that has exported into memory what it lets through.
+    fn processor(alloc: Global) -> OverMemory {
+        let inner = SimpleSpanProcessor::new(alloc, InMemorySpanExporter::new(alloc));
+        FilteringProcessor { inner }
     }
 
     #[test]
     fn a_marked_span_is_kept_back_and_others_are_exported(rt: HostRuntime) -> Result<(), Fail> {
-        let (refused, exported, is_closed) = traced(rt.alloc())?;
-        assert_eq!(rt; refused, [0, 0]);
-        assert_eq!(rt; exported.as_str(), "[8 ]");
-        assert!(rt; is_closed);
+        let alloc = rt.alloc();
+        let requests = [internal_request(7, MARK), internal_request(8, "a")];
+        let told = traced(alloc, Sampler::AlwaysOn, processor(alloc), &requests)?;
+        assert_eq!(rt;
+            told.as_str(),
+            "example.drop=true ; a=true ; [8 ] then [8 ]"
+        );
         Ok(())
     }
 }

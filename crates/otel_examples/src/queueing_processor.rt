@@ -132,77 +132,39 @@ impl<E: SpanExporter> LeavesSpans for QueueingProcessor<E> {
 #[cfg(test)]
 mod tests {
     use super::QueueingProcessor;
-    use crate::providers::{provider_of, push_batch, trace_span};
-    use opentelemetry_sdk::trace::{
-        InMemorySpanExporter, ProviderOf, RandomIdGenerator, Sampler, SpanProcessor,
-    };
+    use crate::providers::{Shows, internal_request, push_batches, traced};
+    use opentelemetry_sdk::trace::{InMemorySpanExporter, Sampler};
     use std::alloc::{AllocError, Global};
     use std::test::Fail;
 
-    type ProviderOver<P> = ProviderOf<P, Sampler, RandomIdGenerator>;
+    type OverMemory = QueueingProcessor<InMemorySpanExporter>;
 
-    type QueueingProvider = ProviderOver<QueueingProcessor<InMemorySpanExporter>>;
-
-    /// A provider over a queue in front of an exporter in memory, in which two spans have room.
-    fn queueing_provider(alloc: Global) -> Result<QueueingProvider, AllocError> {
-        let exporter = InMemorySpanExporter::new(alloc);
-        provider_of(
-            alloc,
-            Sampler::AlwaysOn,
-            QueueingProcessor::new(alloc, exporter, 2),
-        )
-    }
-
-    /// Traces three spans. The answer is how many processors refused each.
-    fn trace_three<P: SpanProcessor>(
-        alloc: Global,
-        provider: &mut ProviderOver<P>,
-    ) -> Result<[usize; 3], AllocError> {
-        let first = trace_span(alloc, provider, "", 7)?;
-        let second = trace_span(alloc, provider, "", 8)?;
-        let third = trace_span(alloc, provider, "", 9)?;
-        Ok([first, second, third])
-    }
-
-    /// Flushes twice, and shuts down: whether all went well.
-    fn flush_and_shut<P: SpanProcessor>(provider: &mut ProviderOver<P>) -> bool {
-        let flushed = provider.force_flush().is_ok();
-        let again = provider.force_flush().is_ok();
-        let shut = provider.shutdown().is_ok();
-        flushed && again && shut
-    }
-
-    /// The moments at which the exported spans started, each batch between brackets, and how many spans were dropped.
-    fn exported(alloc: Global, provider: &QueueingProvider) -> Result<String, AllocError> {
-        let mut text = String::new(alloc);
-        for processor in provider.processors() {
-            for batch in processor.exporter.batches() {
-                push_batch(&mut text, batch)?;
-            }
-            let dropped = processor.dropped;
-            write!(text, " and {dropped}")?;
+    impl Shows for OverMemory {
+        fn show(&self, text: &mut String) -> Result<(), AllocError> {
+            push_batches(text, self.exporter.batches())?;
+            let dropped = self.dropped;
+            write!(text, "dropped {dropped}")
         }
-        Ok(text)
     }
 
-    /// What came of three spans before a flush and behind it, and whether each request and the close went well.
-    fn traced(alloc: Global) -> Result<([usize; 3], String, String, bool), AllocError> {
-        let mut provider = queueing_provider(alloc)?;
-        let refused = trace_three(alloc, &mut provider);
-        let before = exported(alloc, &provider);
-        let went_well = flush_and_shut(&mut provider);
-        let behind = exported(alloc, &provider);
-        let is_closed = provider.close().result.is_ok();
-        Ok((refused?, before?, behind?, went_well && is_closed))
+    /// A queue in front of an exporter in memory, in which two spans have room.
+    fn processor(alloc: Global) -> OverMemory {
+        QueueingProcessor::new(alloc, InMemorySpanExporter::new(alloc), 2)
     }
 
     #[test]
     fn a_flush_exports_what_waits_in_one_batch(rt: HostRuntime) -> Result<(), Fail> {
-        let (refused, before, behind, went_well) = traced(rt.alloc())?;
-        assert_eq!(rt; refused, [0, 0, 0]);
-        assert_eq!(rt; before.as_str(), " and 1");
-        assert_eq!(rt; behind.as_str(), "[7 8 ] and 1");
-        assert!(rt; went_well);
+        let alloc = rt.alloc();
+        let requests = [
+            internal_request(7, "a"),
+            internal_request(8, "b"),
+            internal_request(9, "c"),
+        ];
+        let told = traced(alloc, Sampler::AlwaysOn, processor(alloc), &requests)?;
+        assert_eq!(rt;
+            told.as_str(),
+            "a=true ; b=true ; c=true ; dropped 1 then [7 8 ]dropped 1"
+        );
         Ok(())
     }
 }

@@ -1,23 +1,32 @@
-//! The quick start of the README, which prints all of this file but these lines and the last. A provider is configured
-//! by strings and built with a batch processor, and a span is exported when the provider is flushed. Spans and providers
-//! must be spent on every way out: so what can fail while the provider is open stands in a function of its own.
+//! The quick start, of which the README prints lines. A provider is configured by strings and built with a batch
+//! processor, and a span is exported when the provider is flushed. Spans and providers must be spent on every way out:
+//! so what can fail while the provider is open stands in a function of its own.
 
 use opentelemetry::{Key, KeyValue, Moment, Value};
 use opentelemetry_sdk::error::OTelSdkError;
 use opentelemetry_sdk::trace::{
-    CloseReport, ConfigStrings, IdSource, KeepsBatches, OverExporter, ProviderOf, Sampler,
+    CloseReport, ConfigStrings, IdSource, KeepsBatches, OverExporter, ProviderOf, Sampler, Span,
     SpanProcessor,
 };
 use std::alloc::{AllocError, Global};
 
-/// Starts a span, sets an attribute, and finishes it, by which it waits for a batch.
+/// Starts a span and sets an attribute, for which there may be no memory.
+fn start_request<P: SpanProcessor>(
+    alloc: Global,
+    provider: &mut ProviderOf<P, Sampler, IdSource>,
+) -> Result<(Span, Result<(), AllocError>), AllocError> {
+    let tracer = provider.tracer(String::from_str(alloc, "shop")?)?;
+    let mut span = tracer.start(String::from_str(alloc, "GET")?, provider, Moment(7))?;
+    let edited = span.set_attribute(KeyValue::new(Key::from_static_str("size"), Value::I64(3)));
+    Ok((span, edited))
+}
+
+/// Finishes such a span, by which it waits for a batch.
 fn trace_request<P: SpanProcessor>(
     alloc: Global,
     provider: &mut ProviderOf<P, Sampler, IdSource>,
 ) -> Result<(), AllocError> {
-    let tracer = provider.tracer(String::from_str(alloc, "shop")?)?;
-    let mut span = tracer.start(String::from_str(alloc, "GET")?, provider, Moment(7))?;
-    let edited = span.set_attribute(KeyValue::new(Key::from_static_str("size"), Value::I64(3)));
+    let (span, edited) = start_request(alloc, provider)?;
     match span.finish(provider, Moment(9)) {
         Ok(0) => edited,
         Ok(_refusals) => Err(AllocError),
@@ -29,16 +38,25 @@ fn trace_request<P: SpanProcessor>(
     }
 }
 
-/// A provider with a batch processor over this exporter, by the default configuration.
+/// A provider with a batch processor over this exporter, as strings configure it.
 fn provider_with<P: OverExporter>(
     alloc: Global,
+    strings: &ConfigStrings,
     exporter: P::Exporter,
 ) -> Result<ProviderOf<P, Sampler, IdSource>, AllocError> {
-    let strings = ConfigStrings::default();
     let provider = ProviderOf::<P, Sampler, IdSource>::builder(alloc, &strings, 0)?
         .with_batch_exporter(exporter)?
         .build()?;
     Ok(provider)
+}
+
+/// The same by the default configuration.
+fn default_provider<P: OverExporter>(
+    alloc: Global,
+    exporter: P::Exporter,
+) -> Result<ProviderOf<P, Sampler, IdSource>, AllocError> {
+    let strings = ConfigStrings::default();
+    provider_with(alloc, &strings, exporter)
 }
 
 /// How many batches the exporter of the first processor keeps.
@@ -53,7 +71,7 @@ fn export_request<P: OverExporter + KeepsBatches>(
     alloc: Global,
     exporter: P::Exporter,
 ) -> Result<(usize, usize, CloseReport), OTelSdkError> {
-    let mut provider = provider_with::<P>(alloc, exporter).map_err(no_memory)?;
+    let mut provider = default_provider::<P>(alloc, exporter).map_err(no_memory)?;
     let traced = trace_request(alloc, &mut provider);
     let before = kept(&provider);
     let flushed = provider.force_flush();
