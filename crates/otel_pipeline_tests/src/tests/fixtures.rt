@@ -52,17 +52,22 @@ impl Writer {
         Ok(())
     }
 
-    /// Writes the digit of each value of a resource, in the order of the keys, and how many bytes the schema has.
+    /// Keeps the text of a span, or refuses it.
+    fn take(&mut self, span: &SpanData) -> Result<(), AllocError> {
+        if self.asked().is_err() {
+            return Err(AllocError);
+        }
+        let text = span_text(*self.taken.allocator(), span)?;
+        self.taken.push_str(text.as_str())
+    }
+
+    /// Writes the digit of each value of a resource.
     fn write_all(&self, resource: &Resource) {
         for (_, value) in resource {
             if let Value::I64(number) = value {
                 write(&self.board, number.unsigned_abs());
             }
         }
-        write(
-            &self.board,
-            resource.schema_url().unwrap_or("").len() as u64,
-        );
     }
 }
 
@@ -72,11 +77,7 @@ impl SpanProcessor for Writer {
     }
 
     fn on_end(&mut self, span: SpanData) -> Result<(), AllocError> {
-        if self.asked().is_err() {
-            return Err(AllocError);
-        }
-        let text = span_text(*self.taken.allocator(), &span)?;
-        self.taken.push_str(text.as_str())
+        self.take(&span)
     }
 
     fn force_flush(&mut self) -> OTelSdkResult {
@@ -273,6 +274,30 @@ pub(super) fn start_in<P: SpanProcessor, S: ShouldSample, G: IdGenerator>(
     let tracer = tracer_of(rt, alloc, provider);
     let builder = builder_with(alloc, given).expect(rt, SETUP);
     tracer.build_with_context(builder, cx, provider, Moment(7))
+}
+
+/// Starts a root of so many attributes; where that finds no memory, the test stops with this message.
+pub(super) fn start_root<P: SpanProcessor, S: ShouldSample, G: IdGenerator>(
+    rt: &impl Abort,
+    alloc: Global,
+    given: usize,
+    provider: &mut ProviderOf<P, S, G>,
+    message: &str,
+) -> Span {
+    start_in(rt, alloc, &Context::new(), given, provider).expect(rt, message)
+}
+
+/// Starts a root of so many attributes, again where that finds no memory.
+pub(super) fn start_again<P: SpanProcessor, S: ShouldSample, G: IdGenerator>(
+    rt: &impl Abort,
+    alloc: Global,
+    given: usize,
+    provider: &mut ProviderOf<P, S, G>,
+) -> Span {
+    match start_in(rt, alloc, &Context::new(), given, provider) {
+        Ok(span) => span,
+        Err(_) => start_root(rt, alloc, given, provider, AGAIN),
+    }
 }
 
 /// The text of what a span has recorded.

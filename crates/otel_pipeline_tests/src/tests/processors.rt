@@ -1,14 +1,24 @@
 //! That each of several processors is asked in its turn, which no clause says, also after one that fails.
 
 use super::fixtures::{
-    Board, SETUP, Writer, asked_on, empty_board, provider_of, start_in, writers,
+    Board, SETUP, Writer, asked_on, empty_board, provider_of, start_root, writers,
 };
-use opentelemetry::{Context, Moment};
+use opentelemetry::Moment;
 use otel_export::error::OTelSdkResult;
-use otel_pipeline::trace::{DrainDue, ProviderOf, SpanProcessor};
+use otel_pipeline::trace::{DrainDue, ProviderOf, Span, SpanProcessor};
 use otel_sampling::trace::{IdGenerator, SamplingDecision, ShouldSample};
 use std::alloc::Global;
 use std::process::Abort;
+
+/// How many processors refused a span at an end.
+fn end<P: SpanProcessor, S: Drop, G: Drop>(
+    rt: &impl Abort,
+    span: &mut Span,
+    provider: &mut ProviderOf<P, S, G>,
+) -> usize {
+    span.end_with_timestamp(provider, Moment(9))
+        .expect(rt, SETUP)
+}
 
 /// Starts a span with an attribute and ends it twice. The answer is how many processors refused it at each end.
 fn start_and_end_twice<P: SpanProcessor, S: ShouldSample, G: IdGenerator>(
@@ -16,11 +26,11 @@ fn start_and_end_twice<P: SpanProcessor, S: ShouldSample, G: IdGenerator>(
     alloc: Global,
     provider: &mut ProviderOf<P, S, G>,
 ) -> (usize, usize) {
-    let mut span = start_in(rt, alloc, &Context::new(), 1, provider).expect(rt, SETUP);
-    let first = span.end_with_timestamp(provider, Moment(9));
-    let second = span.end_with_timestamp(provider, Moment(9));
+    let mut span = start_root(rt, alloc, 1, provider, SETUP);
+    let first = end(rt, &mut span, provider);
+    let second = end(rt, &mut span, provider);
     span.abandon();
-    (first.expect(rt, SETUP), second.expect(rt, SETUP))
+    (first, second)
 }
 
 /// The text of an answer. The test stops where there was no memory for how many failed.

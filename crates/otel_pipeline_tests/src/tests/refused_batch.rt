@@ -1,18 +1,14 @@
 //! A provider that is built over a batch processor as strings say, and a span that it exports, where one allocation is
 //! refused: `rt try --test --fail-alloc N` has the Nth refused. Each call that finds no memory is made again.
 
-use super::fixtures::{AGAIN, SETUP, attribute_of, recorded, start_in};
-use opentelemetry::{Context, Moment};
+use super::fixtures::{AGAIN, SETUP, attribute_of, recorded, start_again};
+use opentelemetry::Moment;
 use opentelemetry_sdk::trace::Processor;
 use otel_export::trace::{ExporterBox, InMemorySpanExporter};
 use otel_kept::KeepsBatches;
-use otel_pipeline::trace::{
-    DrainDue, OverExporter, ProviderBuilderOf, ProviderOf, Span, SpanProcessor,
-};
+use otel_pipeline::trace::{DrainDue, OverExporter, ProviderBuilderOf, ProviderOf, SpanProcessor};
 use otel_resource::resource::Resource;
-use otel_sampling::trace::{
-    BatchStrings, ConfigStrings, IdGenerator, IdSource, Sampler, ShouldSample,
-};
+use otel_sampling::trace::{ConfigStrings, IdGenerator, IdSource, Sampler, ShouldSample};
 use std::alloc::Global;
 use std::process::Abort;
 
@@ -21,15 +17,15 @@ fn one(rt: &impl Abort, alloc: Global) -> Option<String> {
 }
 
 /// Strings by which a span keeps one attribute, and a batch one span.
-fn strings_of_one(rt: &impl Abort, alloc: Global) -> ConfigStrings {
+fn strings_of_one(rt: &impl Abort, alloc: Global) -> Box<ConfigStrings> {
     let mut strings = ConfigStrings::default();
     strings.attribute_count_limit = one(rt, alloc);
     strings.batch.max_export_batch_size = one(rt, alloc);
-    strings
+    Box::new(alloc, strings).ok().expect(rt, SETUP)
 }
 
-/// Begins, and begins again where that finds no memory, under seed 0.
-fn begin_again<P>(
+/// Begins as these strings say, and begins again where that finds no memory, under seed 0.
+fn begin_by<P>(
     rt: &impl Abort,
     alloc: Global,
     strings: &ConfigStrings,
@@ -38,6 +34,12 @@ fn begin_again<P>(
         Ok(builder) => builder,
         Err(_) => ProviderOf::builder(alloc, strings, 0).expect(rt, AGAIN),
     }
+}
+
+/// Begins so with a limit of one attribute, and of one span in a batch.
+fn begin_again<P>(rt: &impl Abort, alloc: Global) -> ProviderBuilderOf<P, Sampler, IdSource> {
+    let strings = strings_of_one(rt, alloc);
+    begin_by(rt, alloc, &strings)
 }
 
 /// Adds a batch processor over the first exporter, or over the second where that finds no memory.
@@ -96,25 +98,13 @@ fn build_again<P: SpanProcessor, S: Drop, G: Drop>(
     }
 }
 
-/// Starts a span of two attributes, again where that finds no memory.
-fn start_again<P: SpanProcessor, S: ShouldSample, G: IdGenerator>(
-    rt: &impl Abort,
-    alloc: Global,
-    provider: &mut ProviderOf<P, S, G>,
-) -> Span {
-    match start_in(rt, alloc, &Context::new(), 2, provider) {
-        Ok(span) => span,
-        Err(_) => start_in(rt, alloc, &Context::new(), 2, provider).expect(rt, AGAIN),
-    }
-}
-
 /// Exports a span. The answer is what it recorded and how many processors refused it.
 fn export<P: SpanProcessor, S: ShouldSample, G: IdGenerator>(
     rt: &impl Abort,
     alloc: Global,
     provider: &mut ProviderOf<P, S, G>,
 ) -> (String, usize) {
-    let mut span = start_again(rt, alloc, provider);
+    let mut span = start_again(rt, alloc, 2, provider);
     let text = recorded(rt, alloc, &span);
     let refused = span.end_with_timestamp(provider, Moment(9));
     span.abandon();
@@ -162,32 +152,43 @@ fn exported<P: KeepsBatches, S: ShouldSample, G: IdGenerator>(
     text.expect(rt, SETUP)
 }
 
-/// What comes of a span at a provider with a batch processor, whose builder was handed two resources.
-fn exported_in_a_batch<P: OverExporter + KeepsBatches>(
+/// What comes of a span at a provider with a batch processor, whose builder is handed two resources.
+fn exported_in_a_batch<P: OverExporter + KeepsBatches, S: ShouldSample, G: IdGenerator>(
     rt: &impl Abort,
     alloc: Global,
-    first: P::Exporter,
-    second: P::Exporter,
+    builder: ProviderBuilderOf<P, S, G>,
+    (first, second): (P::Exporter, P::Exporter),
 ) -> String {
-    let builder = begin_again::<P>(rt, alloc, &strings_of_one(rt, alloc));
     let builder = with_batch_again(rt, builder, first, second);
     let builder = with_resource_again(rt, alloc, builder, "a");
     let builder = with_resource_again(rt, alloc, builder, "b");
     exported(rt, alloc, build_again(rt, builder))
 }
 
-/// The same with a processor that exports at once.
-fn exported_at_once<P: OverExporter + KeepsBatches>(
+/// The same with a processor that exports at once, and no resource.
+fn exported_at_once<P: OverExporter + KeepsBatches, S: ShouldSample, G: IdGenerator>(
     rt: &impl Abort,
     alloc: Global,
+    builder: ProviderBuilderOf<P, S, G>,
     exporter: P::Exporter,
 ) -> String {
-    let builder = begin_again::<P>(rt, alloc, &strings_of_one(rt, alloc));
     let builder = builder
         .with_simple_exporter(exporter)
         .ok()
         .expect(rt, SETUP);
     exported(rt, alloc, build_again(rt, builder))
+}
+
+/// What comes of two spans, one at each of both providers.
+fn exported_by_each<P: OverExporter + KeepsBatches>(
+    rt: &impl Abort,
+    alloc: Global,
+    exporters: (P::Exporter, P::Exporter),
+    exporter: P::Exporter,
+) -> (String, String) {
+    let by_batch = exported_in_a_batch(rt, alloc, begin_again::<P>(rt, alloc), exporters);
+    let at_once = exported_at_once(rt, alloc, begin_again::<P>(rt, alloc), exporter);
+    (by_batch, at_once)
 }
 
 /// What comes of a span that kept one attribute of two, that no processor refused, and that left in a batch.
@@ -197,11 +198,14 @@ fn memory(alloc: Global) -> ExporterBox {
     ExporterBox::Memory(InMemorySpanExporter::new(alloc))
 }
 
+fn exported_by_kinds(rt: &impl Abort, alloc: Global) -> (String, String) {
+    let exporters = (memory(alloc), memory(alloc));
+    exported_by_each::<Processor>(rt, alloc, exporters, memory(alloc))
+}
+
 #[test]
 fn a_span_leaves_as_strings_say_where_an_allocation_is_refused(rt: HostRuntime) {
-    let alloc = rt.alloc();
-    let by_batch = exported_in_a_batch::<Processor>(&rt, alloc, memory(alloc), memory(alloc));
+    let (by_batch, at_once) = exported_by_kinds(&rt, rt.alloc());
     assert!(rt; by_batch.as_str().ends_with(EXPORTED), "{by_batch}");
-    let at_once = exported_at_once::<Processor>(&rt, alloc, memory(alloc));
     assert!(rt; at_once.as_str().ends_with(EXPORTED), "{at_once}");
 }

@@ -1,19 +1,19 @@
-//! What a call that finds no memory leaves, and that the same call succeeds when it is made again. Edits, ends,
-//! and starts whose builder and sampler both bring attributes want memory of the machine alone, which an ordinary run
-//! has: `rt try --test --fail-alloc N` has the Nth allocation refused.
+//! What a call that finds no memory leaves, and that the same call succeeds when it is made again. Edits, ends, and
+//! starts whose builder and sampler both bring attributes want memory of the machine alone, which an ordinary run has:
+//! `rt try --test --fail-alloc N` has the Nth allocation refused.
 
 use super::fixtures::{
     AGAIN, Asked, Board, SETUP, Writer, asked_on, attribute_of, empty_board, provider_of, recorded,
-    start_in, writers,
+    start_again, start_root, writers,
 };
+use opentelemetry::Moment;
 use opentelemetry::trace::SpanContext;
-use opentelemetry::{Context, Moment};
 use otel_pipeline::trace::{ProviderOf, Span, SpanProcessor};
 use otel_sampling::trace::{IdGenerator, RandomIdGenerator, SamplingDecision, ShouldSample};
 use std::alloc::{AllocError, Global};
 use std::process::Abort;
 
-/// A provider of so many writers, under a sampler that samples each span with so many attributes.
+/// A provider of two writers, under a sampler that samples each span with so many attributes.
 fn provider_with(
     rt: &impl Abort,
     alloc: Global,
@@ -26,30 +26,13 @@ fn provider_with(
     provider_of(alloc, processors, sampler)
 }
 
-/// Starts a span with so many attributes, again where that finds no memory and nothing stands on the board.
-fn start_again<P: SpanProcessor, S: ShouldSample, G: IdGenerator>(
-    rt: &impl Abort,
-    alloc: Global,
-    given: usize,
-    (provider, board): (&mut ProviderOf<P, S, G>, &Board),
-) -> Span {
-    match start_in(rt, alloc, &Context::new(), given, provider) {
-        Ok(span) => span,
-        Err(_) => {
-            assert_eq!(rt; board.get(), 0);
-            start_in(rt, alloc, &Context::new(), given, provider).expect(rt, AGAIN)
-        }
-    }
-}
-
-/// The text of a span that is started so and abandoned.
+/// The text of a span that is started, again where that finds no memory, and abandoned.
 fn started_again<P: SpanProcessor, S: ShouldSample, G: IdGenerator>(
     rt: &impl Abort,
     alloc: Global,
     provider: &mut ProviderOf<P, S, G>,
-    board: &Board,
 ) -> String {
-    let span = start_again(rt, alloc, 1, (provider, board));
+    let span = start_again(rt, alloc, 1, provider);
     let text = recorded(rt, alloc, &span);
     span.abandon();
     text
@@ -58,12 +41,12 @@ fn started_again<P: SpanProcessor, S: ShouldSample, G: IdGenerator>(
 /// The same at two writers under a sampler that adds an attribute.
 fn grown_start(rt: &impl Abort, alloc: Global, board: &Board) -> String {
     let mut provider = provider_with(rt, alloc, board, 1);
-    let text = started_again(rt, alloc, &mut provider, board);
+    let text = started_again(rt, alloc, &mut provider);
     let _ = provider.close();
     text
 }
 
-/// Each writer is told of one start, and of the close.
+/// Each writer is told of the start that was not refused, and of the close.
 #[test]
 fn a_refused_start_of_a_list_that_grows_tells_no_processor_and_succeeds_again(rt: HostRuntime) {
     let board = empty_board(&rt, rt.alloc());
@@ -84,60 +67,63 @@ fn edit(alloc: Global, span: &mut Span, kind: usize) -> Result<(), AllocError> {
     }
 }
 
+/// Asserts that what a refused call leaves of a span is as before.
+fn assert_left(rt: &impl Abort, alloc: Global, span: &Span, before: &str) {
+    let left = recorded(rt, alloc, span);
+    assert_eq!(rt; left.as_str(), before);
+}
+
 /// Makes an edit, and makes it again where it was refused, which must leave the span as it was.
 fn edit_again(rt: &impl Abort, alloc: Global, span: &mut Span, kind: usize) {
     let before = recorded(rt, alloc, span);
     if edit(alloc, span, kind).is_err() {
-        let left = recorded(rt, alloc, span);
-        assert_eq!(rt; left.as_str(), before.as_str());
+        assert_left(rt, alloc, span, before.as_str());
         edit(alloc, span, kind).expect(rt, AGAIN);
     }
 }
 
-/// Asserts that a span and a board are as before.
-fn assert_left(
-    rt: &impl Abort,
-    alloc: Global,
-    (span, board): (&Span, &Board),
-    (before, told): (&str, u64),
-) {
-    let left = recorded(rt, alloc, span);
-    assert_eq!(rt; left.as_str(), before);
-    assert_eq!(rt; board.get(), told);
-}
-
-/// Finishes a span, and finishes it again where it came back, which it must do as it was, with no processor told. The
-/// answer is how many processors refused it.
+/// Finishes a span, and finishes it again where it came back, which it must do as it was. The answer is how many
+/// processors refused it.
 fn finish_again<P: SpanProcessor, S: Drop, G: Drop>(
     rt: &impl Abort,
     alloc: Global,
     span: Span,
-    (provider, board): (&mut ProviderOf<P, S, G>, &Board),
+    provider: &mut ProviderOf<P, S, G>,
 ) -> usize {
-    let (before, told) = (recorded(rt, alloc, &span), board.get());
-    let span = match span.finish(provider, Moment(9)) {
-        Ok(refused) => return refused,
-        Err(failed) => failed.value,
-    };
-    assert_left(rt, alloc, (&span, board), (before.as_str(), told));
+    let before = recorded(rt, alloc, &span);
+    match span.finish(provider, Moment(9)) {
+        Ok(refused) => refused,
+        Err(failed) => {
+            assert_left(rt, alloc, &failed.value, before.as_str());
+            finish(rt, failed.value, provider)
+        }
+    }
+}
+
+/// Finishes a span that came back.
+fn finish<P: SpanProcessor, S: Drop, G: Drop>(
+    rt: &impl Abort,
+    span: Span,
+    provider: &mut ProviderOf<P, S, G>,
+) -> usize {
     match span.finish(provider, Moment(9)) {
         Ok(refused) => refused,
         Err(_) => rt.panic(AGAIN),
     }
 }
 
-/// Ends a span, and ends it again where that found no memory, which must leave it as it was, with no processor told.
+/// Ends a span, and ends it again where that found no memory, which must leave it as it was.
 fn end_again<P: SpanProcessor, S: Drop, G: Drop>(
     rt: &impl Abort,
     alloc: Global,
     span: &mut Span,
-    (provider, board): (&mut ProviderOf<P, S, G>, &Board),
+    provider: &mut ProviderOf<P, S, G>,
 ) -> usize {
-    let (before, told) = (recorded(rt, alloc, span), board.get());
+    let before = recorded(rt, alloc, span);
     match span.end_with_timestamp(provider, Moment(9)) {
         Ok(refused) => refused,
         Err(_) => {
-            assert_left(rt, alloc, (span, board), (before.as_str(), told));
+            assert_left(rt, alloc, span, before.as_str());
             span.end_with_timestamp(provider, Moment(9))
                 .expect(rt, AGAIN)
         }
@@ -150,7 +136,7 @@ fn edited<P: SpanProcessor, S: ShouldSample, G: IdGenerator>(
     alloc: Global,
     provider: &mut ProviderOf<P, S, G>,
 ) -> Span {
-    let mut span = start_in(rt, alloc, &Context::new(), 0, provider).expect(rt, SETUP);
+    let mut span = start_root(rt, alloc, 0, provider, SETUP);
     for kind in 0..3 {
         edit_again(rt, alloc, &mut span, kind);
     }
@@ -162,12 +148,11 @@ fn end_both<P: SpanProcessor, S: ShouldSample, G: IdGenerator>(
     rt: &impl Abort,
     alloc: Global,
     provider: &mut ProviderOf<P, S, G>,
-    board: &Board,
 ) -> usize {
     let first = edited(rt, alloc, provider);
-    let refused = finish_again(rt, alloc, first, (provider, board));
+    let refused = finish_again(rt, alloc, first, provider);
     let mut second = edited(rt, alloc, provider);
-    let refused_too = end_again(rt, alloc, &mut second, (provider, board));
+    let refused_too = end_again(rt, alloc, &mut second, provider);
     second.abandon();
     refused.saturating_add(refused_too)
 }
@@ -185,14 +170,14 @@ fn taken_by(writers: &[Writer]) -> usize {
 /// How many processors refused them, and how many took them, at two writers.
 fn edited_and_ended(rt: &impl Abort, alloc: Global, board: &Board) -> (usize, usize) {
     let mut provider = provider_with(rt, alloc, board, 0);
-    let refused = end_both(rt, alloc, &mut provider, board);
+    let refused = end_both(rt, alloc, &mut provider);
     let taken = taken_by(provider.processors());
     let _ = provider.close();
     (refused, taken)
 }
 
 /// Two spans end at two processors: each of the four deliveries is taken, or refused. The writers are told of two
-/// starts, two ends and the close.
+/// starts, two ends and the close, and of no end that was refused.
 #[test]
 fn refused_edits_and_ends_change_nothing_and_succeed_again(rt: HostRuntime) {
     let board = empty_board(&rt, rt.alloc());

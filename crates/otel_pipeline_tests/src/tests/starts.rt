@@ -3,7 +3,7 @@
 use super::fixtures::{Asked, Board, SETUP, Writer, asked_on, empty_board, provider_of, start_in};
 use opentelemetry::trace::{SpanContext, TraceState};
 use opentelemetry::{Context, SpanId, TraceFlags, TraceId};
-use otel_pipeline::trace::{LeavesSpans, ProviderOf, SpanProcessor};
+use otel_pipeline::trace::{ProviderOf, SpanProcessor};
 use otel_sampling::trace::{
     IdGenerator, RandomIdGenerator, SamplerOf, SamplingDecision, ShouldSample,
 };
@@ -14,32 +14,22 @@ use std::process::Abort;
 fn start<P: SpanProcessor, S: ShouldSample, G: IdGenerator>(
     rt: &impl Abort,
     alloc: Global,
-    cx: &Context,
+    cx: Context,
     provider: &mut ProviderOf<P, S, G>,
 ) {
-    let span = start_in(rt, alloc, cx, 0, provider).expect(rt, SETUP);
-    span.abandon();
+    start_in(rt, alloc, &cx, 0, provider)
+        .expect(rt, SETUP)
+        .abandon();
 }
 
-/// Starts a span under this one.
-fn start_under<P: SpanProcessor, S: ShouldSample, G: IdGenerator>(
-    rt: &impl Abort,
-    alloc: Global,
-    parent: SpanContext,
-    provider: &mut ProviderOf<P, S, G>,
-) {
-    let cx = Context::new().with_span_context(parent).expect(rt, SETUP);
-    start(rt, alloc, &cx, provider);
+/// The context in which a span is active.
+fn under(rt: &impl Abort, parent: SpanContext) -> Context {
+    Context::new().with_span_context(parent).expect(rt, SETUP)
 }
 
-/// Starts a span where telemetry is suppressed.
-fn start_suppressed<P: SpanProcessor, S: ShouldSample, G: IdGenerator>(
-    rt: &impl Abort,
-    alloc: Global,
-    provider: &mut ProviderOf<P, S, G>,
-) {
-    let cx = Context::new().with_telemetry_suppressed().expect(rt, SETUP);
-    start(rt, alloc, &cx, provider);
+/// The context in which telemetry is suppressed.
+fn suppressed(rt: &impl Abort) -> Context {
+    Context::new().with_telemetry_suppressed().expect(rt, SETUP)
 }
 
 /// Starts a span under a sampled one, under one that is not sampled, and where the empty span context is active.
@@ -48,9 +38,20 @@ fn start_children<P: SpanProcessor, S: ShouldSample, G: IdGenerator>(
     alloc: Global,
     provider: &mut ProviderOf<P, S, G>,
 ) {
-    start_under(rt, alloc, span_with(1), provider);
-    start_under(rt, alloc, span_with(0), provider);
-    start_under(rt, alloc, SpanContext::empty_context(), provider);
+    start(rt, alloc, under(rt, span_with(1)), provider);
+    start(rt, alloc, under(rt, span_with(0)), provider);
+    start(rt, alloc, under(rt, SpanContext::empty_context()), provider);
+}
+
+/// Starts a span where telemetry is suppressed, and one at the provider that is shut down.
+fn start_in_vain<P: SpanProcessor, S: ShouldSample, G: IdGenerator>(
+    rt: &impl Abort,
+    alloc: Global,
+    provider: &mut ProviderOf<P, S, G>,
+) {
+    start(rt, alloc, suppressed(rt), provider);
+    let _ = provider.shutdown();
+    start(rt, alloc, Context::new(), provider);
 }
 
 /// The span context of a valid span with these flags.
@@ -62,20 +63,17 @@ fn span_with(flags: u8) -> SpanContext {
 
 /// How often the sampler was asked once spans were started under others, once one was started at a root, and once two
 /// were where telemetry is suppressed and at a provider that was shut down.
-fn asked_by_starts<P: LeavesSpans, S: ShouldSample, G: IdGenerator>(
+fn asked_by_starts<P: SpanProcessor, S: ShouldSample, G: IdGenerator>(
     rt: &impl Abort,
     alloc: Global,
-    mut provider: ProviderOf<P, S, G>,
+    provider: &mut ProviderOf<P, S, G>,
     asked: &Board,
 ) -> (u64, u64, u64) {
-    start_children(rt, alloc, &mut provider);
+    start_children(rt, alloc, provider);
     let by_children = asked.get();
-    start(rt, alloc, &Context::new(), &mut provider);
+    start(rt, alloc, Context::new(), provider);
     let by_root = asked.get();
-    start_suppressed(rt, alloc, &mut provider);
-    let _ = provider.shutdown();
-    start(rt, alloc, &Context::new(), &mut provider);
-    let _ = provider.close();
+    start_in_vain(rt, alloc, provider);
     (by_children, by_root, asked.get())
 }
 
@@ -91,12 +89,16 @@ fn provider_by_parents(
     provider_of(alloc, Vec::new(alloc), sampler)
 }
 
+/// How often the delegate was asked so.
+fn delegate_asked(rt: &impl Abort, alloc: Global) -> (u64, u64, u64) {
+    let asked = empty_board(rt, alloc);
+    let mut provider = provider_by_parents(rt, alloc, &asked);
+    let counts = asked_by_starts(rt, alloc, &mut provider, &asked);
+    let _ = provider.close();
+    counts
+}
+
 #[test]
 fn a_sampler_and_its_delegate_are_asked_once_and_only_at_an_open_root(rt: HostRuntime) {
-    let asked = empty_board(&rt, rt.alloc());
-    let provider = provider_by_parents(&rt, rt.alloc(), &asked);
-    assert_eq!(rt;
-        asked_by_starts(&rt, rt.alloc(), provider, &asked),
-        (0, 1, 1)
-    );
+    assert_eq!(rt; delegate_asked(&rt, rt.alloc()), (0, 1, 1));
 }
