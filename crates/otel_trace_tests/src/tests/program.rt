@@ -1,55 +1,28 @@
 //! Runs of the program over streams that fail, and the texts of errors. All other runs are rows of `otel_cases`.
 
+use super::fixtures::SETUP;
+use super::streams::PiecesReader;
 use otel_trace_run::run_program;
 use otel_trace_session::{FeedError, RunError};
 use std::alloc::{AllocError, Global};
 use std::io;
 use std::io::{Read, Write};
-use std::test::Fail;
+use std::process::Abort;
 
-const SIMPLE: &[&str] = &["trace", "0", "simple"];
+pub const SIMPLE: &[&str] = &["trace", "0", "simple"];
 
-/// Gives its bytes one a call, and fails behind them.
+/// Takes no byte, or takes each byte and loses all of them.
 #[derive(Drop)]
-struct BrokenReader {
-    bytes: &'static [u8],
+struct FailingWriter {
+    takes: bool,
 }
 
-impl Read for BrokenReader {
-    fn read(&mut self, buf: &mut [u8]) -> io::Result<usize> {
-        if buf.is_empty() {
-            return Ok(0);
-        }
-        let [first, rest @ ..] = self.bytes else {
-            return Err(io::ErrorKind::Other.into());
-        };
-        buf[0] = *first;
-        self.bytes = rest;
-        Ok(1)
-    }
-}
-
-/// Takes no byte.
-#[derive(Drop)]
-struct FullWriter;
-
-impl Write for FullWriter {
-    fn write(&mut self, _buf: &[u8]) -> io::Result<usize> {
-        Err(io::ErrorKind::StorageFull.into())
-    }
-
-    fn flush(&mut self) -> io::Result<()> {
-        Ok(())
-    }
-}
-
-/// Takes each byte and loses all of them.
-#[derive(Drop)]
-struct LosingWriter;
-
-impl Write for LosingWriter {
+impl Write for FailingWriter {
     fn write(&mut self, buf: &[u8]) -> io::Result<usize> {
-        Ok(buf.len())
+        if self.takes {
+            return Ok(buf.len());
+        }
+        Err(io::ErrorKind::StorageFull.into())
     }
 
     fn flush(&mut self) -> io::Result<()> {
@@ -66,98 +39,78 @@ fn words_of(alloc: Global, words: &[&str]) -> Result<Vec<String>, AllocError> {
 }
 
 /// The status of a run over these streams.
-pub fn status_over<R: Read, W: Write, F: Write>(
+fn status_over<R: Read, W: Write, F: Write>(
+    rt: &impl Abort,
     alloc: Global,
     words: &[&str],
     input: &mut R,
-    output: &mut W,
-    faults: &mut F,
-) -> Result<u8, AllocError> {
-    let words = words_of(alloc, words)?;
-    Ok(run_program(alloc, &words, input, output, faults))
+    (output, faults): (&mut W, &mut F),
+) -> u8 {
+    let words = words_of(alloc, words).expect(rt, SETUP);
+    run_program(alloc, &words, input, output, faults)
 }
 
-/// The status where the input fails behind these bytes, and how many bytes were written.
-fn status_of_input(alloc: Global, bytes: &'static [u8]) -> Result<(u8, usize), AllocError> {
-    let mut input = BrokenReader { bytes };
+/// The status of a run, what it wrote, and what it said was wrong.
+pub type Ran = (u8, Vec<u8>, Vec<u8>);
+
+/// What a run over this input comes to.
+pub fn ran<R: Read>(rt: &impl Abort, alloc: Global, words: &[&str], input: &mut R) -> Ran {
     let mut output = Vec::new(alloc);
     let mut faults = Vec::new(alloc);
-    let status = status_over(alloc, SIMPLE, &mut input, &mut output, &mut faults)?;
-    Ok((status, output.len().saturating_add(faults.len())))
+    let status = status_over(rt, alloc, words, input, (&mut output, &mut faults));
+    (status, output, faults)
 }
 
-/// The status where a bad line stands behind a good one and the output goes to this writer, and how many bytes name it.
-fn status_of_output<W: Write>(alloc: Global, output: &mut W) -> Result<(u8, usize), AllocError> {
+/// The status where the input fails after these bytes, and how many bytes were written.
+fn status_of_input(rt: &impl Abort, alloc: Global, text: &'static str) -> (u8, usize) {
+    let mut input = PiecesReader::new(text, 1, true);
+    let (status, output, faults) = ran(rt, alloc, SIMPLE, &mut input);
+    (status, output.len().saturating_add(faults.len()))
+}
+
+/// The status where a bad line follows a good one and the output fails, and how many bytes name the line.
+fn status_of_output(rt: &impl Abort, alloc: Global, takes: bool) -> (u8, usize) {
     let mut input: &[u8] = b"end x 5\nstop\n";
     let mut faults = Vec::new(alloc);
-    let status = status_over(alloc, SIMPLE, &mut input, output, &mut faults)?;
-    Ok((status, faults.len()))
+    let streams = (&mut FailingWriter { takes }, &mut faults);
+    let status = status_over(rt, alloc, SIMPLE, &mut input, streams);
+    (status, faults.len())
 }
 
-/// The status where a bad line, or the arguments before it, are named to this writer.
-fn status_of_fault<F: Write>(
-    alloc: Global,
-    words: &[&str],
-    faults: &mut F,
-) -> Result<u8, AllocError> {
+/// The status where a bad line, or the arguments before it, are named to a stream that fails.
+fn status_of_fault(rt: &impl Abort, alloc: Global, words: &[&str], takes: bool) -> u8 {
     let mut input: &[u8] = b"stop\n";
-    status_over(alloc, words, &mut input, &mut Vec::new(alloc), faults)
-}
-
-/// What comes of an input that fails at once, and of one that fails within its first line.
-fn of_failing_inputs(alloc: Global) -> Result<[(u8, usize); 2], AllocError> {
-    let empty = status_of_input(alloc, b"")?;
-    let begun = status_of_input(alloc, b"start s a 1")?;
-    Ok([empty, begun])
-}
-
-/// What comes of an output that takes no byte, and of one that loses all of them.
-fn of_failing_outputs(alloc: Global) -> Result<[(u8, usize); 2], AllocError> {
-    let full = status_of_output(alloc, &mut FullWriter)?;
-    let losing = status_of_output(alloc, &mut LosingWriter)?;
-    Ok([full, losing])
-}
-
-/// The same where faults are named to such a writer.
-fn of_failing_faults(alloc: Global, words: &[&str]) -> Result<[u8; 2], AllocError> {
-    let full = status_of_fault(alloc, words, &mut FullWriter)?;
-    let losing = status_of_fault(alloc, words, &mut LosingWriter)?;
-    Ok([full, losing])
+    let mut output = Vec::new(alloc);
+    let streams = (&mut output, &mut FailingWriter { takes });
+    status_over(rt, alloc, words, &mut input, streams)
 }
 
 #[test]
-fn an_input_or_output_that_fails_is_status_1(rt: HostRuntime) -> Result<(), Fail> {
-    let inputs = of_failing_inputs(rt.alloc())?;
-    assert_eq!(rt; inputs, [(1, 0), (1, 0)]);
-    let outputs = of_failing_outputs(rt.alloc())?;
-    assert_eq!(rt; outputs, [(1, 0), (1, 0)]);
-    Ok(())
+fn a_stream_that_fails_is_status_1(rt: HostRuntime) {
+    for text in ["", "start s a 1"] {
+        assert_eq!(rt; status_of_input(&rt, rt.alloc(), text), (1, 0), "{text}");
+    }
+    for takes in [false, true] {
+        assert_eq!(rt; status_of_output(&rt, rt.alloc(), takes), (1, 0));
+        assert_eq!(rt; status_of_fault(&rt, rt.alloc(), SIMPLE, takes), 1);
+        assert_eq!(rt; status_of_fault(&rt, rt.alloc(), &["trace"], takes), 1);
+    }
+}
+
+/// The text of each error that stops a text or a run.
+fn texts_of_errors(alloc: Global) -> Result<String, AllocError> {
+    let (line, memory) = (FeedError::Line(2), FeedError::Memory);
+    let (refused, lost) = (FeedError::Refused, FeedError::BatchLost);
+    let (of_run, lost_in_run) = (RunError::Memory, RunError::BatchLost);
+    format!(in alloc; "{line}; {memory}; {refused}; {lost}; {of_run}; {lost_in_run}")
 }
 
 #[test]
-fn a_fault_that_nobody_hears_is_status_1(rt: HostRuntime) -> Result<(), Fail> {
-    for words in [SIMPLE, &["trace"]] {
-        assert_eq!(rt; of_failing_faults(rt.alloc(), words)?, [1, 1]);
-    }
-    Ok(())
-}
-
-#[test]
-fn what_stopped_a_text_says_so(rt: HostRuntime) -> Result<(), Fail> {
-    let line = FeedError::Line(2).to_string(rt.alloc())?;
-    assert_eq!(rt; line.as_str(), "line 2: cannot read");
-    for (error, text) in [
-        (FeedError::Memory, "no memory"),
-        (FeedError::Refused, "a processor refused a span"),
-        (FeedError::BatchLost, "a batch was lost"),
-    ] {
-        assert_eq!(rt; error.to_string(rt.alloc())?.as_str(), text);
-    }
-    for (error, text) in [
-        (RunError::Memory, "no memory"),
-        (RunError::BatchLost, "a batch was lost"),
-    ] {
-        assert_eq!(rt; error.to_string(rt.alloc())?.as_str(), text);
-    }
-    Ok(())
+fn what_stopped_a_text_says_so(rt: HostRuntime) {
+    let texts = texts_of_errors(rt.alloc()).expect(&rt, SETUP);
+    assert_eq!(rt;
+        texts.as_str(),
+        "line 2: cannot read; no memory; a processor refused a span; a batch was lost; no memory; \
+         a batch was lost"
+    );
 }

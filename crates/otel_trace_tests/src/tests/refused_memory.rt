@@ -1,15 +1,14 @@
-//! A session where one allocation is refused.
+//! A session where one allocation is refused: `rt try --test --fail-alloc N` has the Nth refused.
 
-use super::fixtures::*;
-use super::program::status_over;
+use super::fixtures::{AGAIN, SETUP, close, exporting, feed, refusing, session_over, text_of};
 use otel_export::error::OTelSdkError;
 use otel_export::trace::SpanData;
 use otel_kept::KeepsBatches;
 use otel_sampling::trace::{IdGenerator, ShouldSample};
-use otel_trace_lines::{Answer, Reply};
-use otel_trace_session::{FeedError, RunError, Session};
-use std::alloc::{AllocError, Global};
-use std::test::Fail;
+use otel_trace_lines::{Answer, Reply, parse};
+use otel_trace_session::Session;
+use std::alloc::Global;
+use std::process::Abort;
 
 /// What a span, its child and a remote one live through, a command a line.
 const LIVES: [&[u8]; 12] = [
@@ -27,29 +26,30 @@ const LIVES: [&[u8]; 12] = [
     b"shutdown",
 ];
 
-/// Runs the command of a line, and runs it again where it found no memory.
-fn run_again<P: KeepsBatches, S: ShouldSample, G: IdGenerator>(
+/// Runs the command of a line. The answer is whether it found memory.
+fn run<P: KeepsBatches, S: ShouldSample, G: IdGenerator>(
     alloc: Global,
     session: &mut Session<P, S, G>,
     line: &[u8],
     replies: &mut Vec<Reply>,
-) -> Result<(), RunError> {
-    if run(alloc, session, line, replies).is_ok() {
-        return Ok(());
+) -> bool {
+    match parse(alloc, line) {
+        Ok(script) => session.run(script.commands, replies).is_ok(),
+        Err(_) => false,
     }
-    run(alloc, session, line, replies)
 }
 
-/// Runs each line so.
+/// Runs each line, again where it found no memory.
 fn run_each<P: KeepsBatches, S: ShouldSample, G: IdGenerator>(
+    rt: &impl Abort,
     alloc: Global,
     session: &mut Session<P, S, G>,
     replies: &mut Vec<Reply>,
-) -> Result<(), RunError> {
+) {
     for line in LIVES {
-        run_again(alloc, session, line, replies)?;
+        let is_run = run(alloc, session, line, replies) || run(alloc, session, line, replies);
+        assert!(rt; is_run, "{AGAIN}");
     }
-    Ok(())
 }
 
 /// How many spans these batches have.
@@ -99,139 +99,126 @@ fn fitting(replies: &[Reply]) -> usize {
     count
 }
 
-/// What came of runs: how they ended, how many replies there are, how many of them fit their lines, and how many spans
-/// they show or count as refused.
-type Came = (Result<(), RunError>, [usize; 3]);
-
+/// How many replies the runs come to, how many of them fit their lines, and how many spans they show or count as
+/// refused.
 fn came_of_runs<P: KeepsBatches, S: ShouldSample, G: IdGenerator>(
+    rt: &impl Abort,
     alloc: Global,
     session: &mut Session<P, S, G>,
-) -> Came {
+) -> [usize; 3] {
     let mut replies = Vec::new(alloc);
-    let run = run_each(alloc, session, &mut replies);
-    let counts = [replies.len(), fitting(&replies), shown_or_refused(&replies)];
-    (run, counts)
+    run_each(rt, alloc, session, &mut replies);
+    [replies.len(), fitting(&replies), shown_or_refused(&replies)]
 }
 
-/// What came of the runs of a session over this processor, and how many batches its exporter lost.
-fn lived<P: KeepsBatches>(alloc: Global, processor: P) -> Result<(Came, u64), AllocError> {
-    let mut session = session_over(alloc, provider_of(alloc, processor)?)?;
-    let came = came_of_runs(alloc, &mut session);
-    let lost = session.lost_batches();
-    close_unheard(alloc, session);
-    Ok((came, lost))
+/// The same of a session over this processor, whose spans may also be of batches that its exporter lost.
+fn lived<P: KeepsBatches>(rt: &impl Abort, alloc: Global, processor: P) -> [usize; 3] {
+    let mut session = session_over(rt, alloc, processor, None);
+    let [replies, fitting, told] = came_of_runs(rt, alloc, &mut session);
+    let lost = session.lost_batches() as usize;
+    let _ = session.close(&mut Vec::new(alloc));
+    [replies, fitting, told.saturating_add(lost)]
 }
 
-fn lived_in_memory(alloc: Global) -> Result<(Came, u64), AllocError> {
-    lived(alloc, first_processor(alloc, Kind::Memory)?)
-}
-
-/// `rt try --test --fail-alloc N` has the Nth allocation refused: then the command that wanted it is run again, and
-/// answers as it would have, or as a second one of its kind does. Each of both ended spans is shown by one reply, or
-/// its batch is counted as refused or lost.
+/// The command that wanted memory is run again, and answers as it would have, or as a second one of its kind does. Each
+/// of both ended spans is shown by one reply, or its batch is counted as refused or lost.
 #[test]
-fn a_run_that_found_no_memory_succeeds_again(rt: HostRuntime) -> Result<(), Fail> {
-    let ((run, counts), lost) = lived_in_memory(rt.alloc())?;
-    let [replies, fitting, shown_or_refused] = counts;
-    assert_eq!(rt; run, Ok(()));
-    assert_eq!(rt; replies, LIVES.len());
-    assert_eq!(rt; fitting, LIVES.len());
-    assert_eq!(rt; (shown_or_refused as u64).saturating_add(lost), 2);
-    Ok(())
+fn a_run_that_found_no_memory_succeeds_again(rt: HostRuntime) {
+    let [replies, fitting, told] = lived(&rt, rt.alloc(), exporting(rt.alloc()));
+    assert_eq!(rt; (replies, fitting, told), (12, 12, 2));
 }
 
-/// Feeds a line, and feeds it again where it found no memory. The answer is whether it did, and had put nothing out.
+/// Feeds a line, and feeds it again where it found no memory, which must put nothing out. The answer is whether it did.
 fn feed_again<P: KeepsBatches, S: ShouldSample, G: IdGenerator>(
+    rt: &impl Abort,
     session: &mut Session<P, S, G>,
     line: &[u8],
     output: &mut Vec<u8>,
-) -> Result<bool, FeedError> {
+) -> bool {
     let before = output.len();
-    if feed(session, line, output).is_ok() {
-        return Ok(false);
+    if session.feed(line, output).is_ok() {
+        return false;
     }
-    if output.len() != before {
-        return Err(FeedError::Memory);
-    }
-    feed(session, line, output)?;
-    Ok(true)
+    assert_eq!(rt; output.len(), before);
+    assert!(rt; session.feed(line, output).is_ok(), "{AGAIN}");
+    true
 }
 
 /// Feeds each line so. The answer is how many ends were fed twice.
 fn feed_each<P: KeepsBatches, S: ShouldSample, G: IdGenerator>(
+    rt: &impl Abort,
     session: &mut Session<P, S, G>,
     output: &mut Vec<u8>,
-) -> Result<usize, FeedError> {
+) -> usize {
     let mut count = 0usize;
     for line in LIVES {
-        if feed_again(session, line, output)? && line.starts_with(b"end") {
+        if feed_again(rt, session, line, output) && line.starts_with(b"end") {
             count = count.saturating_add(1);
         }
     }
-    Ok(count)
-}
-
-/// How many lines of spans there are, each of which ends with the count of its links.
-fn span_lines(output: &[u8]) -> usize {
-    text_of(output)
-        .lines()
-        .filter(|line| line.ends_with(" links 0 0"))
-        .count()
+    count
 }
 
 /// How many ends a session over this processor was fed twice, and how many spans it puts out, its close too.
-fn fed<P: KeepsBatches>(
-    alloc: Global,
-    processor: P,
-) -> Result<(Result<usize, FeedError>, usize), AllocError> {
-    let mut session = session_over(alloc, provider_of(alloc, processor)?)?;
+fn fed<P: KeepsBatches>(rt: &impl Abort, alloc: Global, processor: P) -> (usize, usize) {
+    let mut session = session_over(rt, alloc, processor, None);
     let mut output = Vec::new(alloc);
-    let ends = feed_each(&mut session, &mut output);
-    let _ = close(session, &mut output);
-    Ok((ends, span_lines(&output)))
+    let ends = feed_each(rt, &mut session, &mut output);
+    let _ = session.close(&mut output);
+    (ends, span_lines(&output))
 }
 
-fn fed_in_memory(alloc: Global) -> Result<(Result<usize, FeedError>, usize), AllocError> {
-    fed(alloc, first_processor(alloc, Kind::Memory)?)
+/// How many lines of spans there are, each of which ends with the count of its links.
+pub fn span_lines(output: &[u8]) -> usize {
+    text_of(output).matches(" links 0 0\n").count()
 }
 
 /// A text that found no memory puts nothing of its line out, and its line is read again. Each of both ended spans is
 /// put out once, or its end found no memory.
 #[test]
-fn a_text_that_found_no_memory_is_read_again(rt: HostRuntime) -> Result<(), Fail> {
-    let (ends, shown) = fed_in_memory(rt.alloc())?;
-    let Ok(ends) = ends else {
-        return Err(Fail::new("a line was not read again"));
-    };
-    assert!(rt; shown <= 2);
-    assert!(rt; shown.saturating_add(ends) >= 2);
-    Ok(())
+fn a_text_that_found_no_memory_is_read_again(rt: HostRuntime) {
+    let (ends, shown) = fed(&rt, rt.alloc(), exporting(rt.alloc()));
+    assert!(rt; shown <= 2 && shown.saturating_add(ends) >= 2);
 }
 
-const BATCHES_OF_ONE: [&str; 5] = ["trace", "1", "batch", "5", "1"];
+/// What a closing puts out and answers after a span that one processor exported and another one refused, and the same
+/// where its lines found no memory.
+const CLOSED: &str = "span 5c0fdf91ec9a7bfc61da6f3dc380d507 53175d61490b23df 0000000000000000 01 \
+    1 2 a unset attrs [] 0 events [] 0 links 0 0\nOperation failed: Shutdown errors: 1";
 
-/// Lines that start and end five spans, of which none is exported before the end of the input. The last batch has the
-/// exporter's list grow.
-const FIVE_SPANS: &str = "start a a 1\nstart b b 1\nstart c c 1\nstart d d 1\nstart e e 1\n\
-    end a 2\nend b 2\nend c 2\nend d 2\nend e 2\n";
+const CLOSED_WITHOUT_LINES: &str = "Operation failed: Shutdown errors: 1";
 
-/// The status of a run of the program over these lines, and how many spans it writes.
-fn traced(alloc: Global, lines: &str) -> Result<(u8, usize), AllocError> {
-    let mut input = lines.as_bytes();
+/// What a session over these processors puts out after the answer to the start and what stopped the end.
+fn closed<P: KeepsBatches>(rt: &impl Abort, alloc: Global, processors: (P, P)) -> String {
+    let mut session = session_over(rt, alloc, processors.0, Some(processors.1));
     let mut output = Vec::new(alloc);
-    let mut faults = Vec::new(alloc);
-    let status = status_over(alloc, &BATCHES_OF_ONE, &mut input, &mut output, &mut faults)?;
-    Ok((status, span_lines(&output)))
+    feed(rt, alloc, &mut session, "start s a 1\n", &mut output);
+    feed(rt, alloc, &mut session, "end s 2\n", &mut output);
+    close(rt, alloc, session, &mut output);
+    let (_, stopped) = text_of(&output).split_once('\n').unwrap_or(("", ""));
+    let (_, rest) = stopped.split_once('\n').unwrap_or(("", ""));
+    String::from_str(alloc, rest).expect(rt, SETUP)
 }
 
-/// A run that wrote fewer spans than ended says so by its status. One request is refused, so one of two runs is whole.
+/// The same where one of the two exports into memory.
+fn closed_over_two(rt: &impl Abort, alloc: Global) -> String {
+    closed(rt, alloc, (exporting(alloc), refusing()))
+}
+
+/// Whether a closing tells as much as there was memory for: the lines whole or not at all, and always that the shutdown
+/// failed, if not why.
+fn is_told(text: &str) -> bool {
+    text == CLOSED
+        || text == CLOSED_WITHOUT_LINES
+        || text.len() < CLOSED.len() && CLOSED.starts_with(text) && text.ends_with("failed: ")
+}
+
+/// The closing is not made again, since it spends its session; another session's is.
 #[test]
-fn a_program_that_lost_a_batch_is_status_1(rt: HostRuntime) -> Result<(), Fail> {
-    let first = traced(rt.alloc(), FIVE_SPANS)?;
-    let second = traced(rt.alloc(), FIVE_SPANS)?;
-    for (status, spans) in [first, second] {
-        assert!(rt; status == 1 || (status, spans) == (0, 5));
-    }
-    assert!(rt; first == (0, 5) || second == (0, 5));
-    Ok(())
+fn a_closing_that_loses_its_lines_tells_that_the_shutdown_failed(rt: HostRuntime) {
+    let first = closed_over_two(&rt, rt.alloc());
+    assert!(rt; is_told(first.as_str()), "{first}");
+    let second = closed_over_two(&rt, rt.alloc());
+    assert!(rt; is_told(second.as_str()), "{second}");
+    assert!(rt; first.as_str() == CLOSED || second.as_str() == CLOSED);
 }

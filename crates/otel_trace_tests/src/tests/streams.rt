@@ -1,11 +1,11 @@
 //! Runs of the program over inputs that come in pieces: where they are cut shows nowhere, and what was read before a
 //! failure is answered.
 
-use crate::tests::program::status_over;
-use std::alloc::{AllocError, Global};
+use super::program::{Ran, ran};
+use std::alloc::Global;
 use std::io;
 use std::io::Read;
-use std::test::Fail;
+use std::process::Abort;
 
 const TRACE: &[&str] = &["trace", "0", "batch", "4", "2"];
 
@@ -18,13 +18,24 @@ const COMMANDS: &str =
 /// The same of steps.
 const ORDERS: &str = "offer 0 caf\u{e9}\r\n\nsend 0\npull\r\nstate";
 
-/// Gives its bytes in pieces of one size, each behind a call that is interrupted, and at their end fails, or not.
+/// Gives its bytes in pieces of one size, each after a call that is interrupted, and at their end fails, or not.
 #[derive(Drop)]
-struct PiecesReader {
+pub struct PiecesReader {
     bytes: &'static [u8],
     size: usize,
     is_interrupted: bool,
     fails: bool,
+}
+
+impl PiecesReader {
+    pub fn new(text: &'static str, size: usize, fails: bool) -> PiecesReader {
+        PiecesReader {
+            bytes: text.as_bytes(),
+            size,
+            is_interrupted: false,
+            fails,
+        }
+    }
 }
 
 impl Read for PiecesReader {
@@ -45,93 +56,67 @@ impl Read for PiecesReader {
     }
 }
 
-/// What a run comes to: its status, what it wrote, and what it said was wrong.
-#[derive(Debug, Drop, PartialEq, Eq)]
-struct Outcome {
-    status: u8,
-    output: Vec<u8>,
-    faults: Vec<u8>,
-}
-
-fn outcome_over<R: Read>(
+/// What a run over a text in such pieces comes to.
+fn ran_in_pieces(
+    rt: &impl Abort,
     alloc: Global,
     words: &[&str],
-    input: &mut R,
-) -> Result<Outcome, AllocError> {
-    let mut output = Vec::new(alloc);
-    let mut faults = Vec::new(alloc);
-    let status = status_over(alloc, words, input, &mut output, &mut faults)?;
-    Ok(Outcome {
-        status,
-        output,
-        faults,
-    })
+    text: &'static str,
+    (size, fails): (usize, bool),
+) -> Ran {
+    ran(rt, alloc, words, &mut PiecesReader::new(text, size, fails))
 }
 
-fn outcome_in_pieces(
-    alloc: Global,
-    words: &[&str],
-    bytes: &'static [u8],
-    size: usize,
-    fails: bool,
-) -> Result<Outcome, AllocError> {
-    let mut input = PiecesReader {
-        bytes,
-        size,
-        is_interrupted: false,
-        fails,
-    };
-    outcome_over(alloc, words, &mut input)
+/// What a run over a whole text comes to.
+fn ran_whole(rt: &impl Abort, alloc: Global, words: &[&str], text: &'static str) -> Ran {
+    let mut input = text.as_bytes();
+    ran(rt, alloc, words, &mut input)
 }
 
-fn outcome_of_whole(
-    alloc: Global,
-    words: &[&str],
-    bytes: &'static [u8],
-) -> Result<Outcome, AllocError> {
-    let mut input = bytes;
-    outcome_over(alloc, words, &mut input)
+fn is_same(one: &Ran, other: &Ran) -> bool {
+    one.0 == other.0
+        && one.1.as_slice() == other.1.as_slice()
+        && one.2.as_slice() == other.2.as_slice()
+}
+
+/// Whether runs over pieces of one to seven bytes come to the same as one over the whole.
+fn is_same_in_pieces(rt: &impl Abort, alloc: Global, words: &[&str], text: &'static str) -> bool {
+    let whole = ran_whole(rt, alloc, words, text);
+    let mut is_well = true;
+    for size in 1..8 {
+        let pieces = ran_in_pieces(rt, alloc, words, text, (size, false));
+        is_well = is_well && is_same(&pieces, &whole);
+    }
+    is_well
+}
+
+/// Whether the lines of a text are answered where reading fails after them.
+fn is_answered(rt: &impl Abort, alloc: Global, words: &[&str], text: &'static str) -> bool {
+    let whole = ran_whole(rt, alloc, words, text);
+    let failed = ran_in_pieces(rt, alloc, words, text, (3, true));
+    whole.0 == 0
+        && failed.0 == 1
+        && !failed.1.is_empty()
+        && whole.1.as_slice().starts_with(failed.1.as_slice())
+}
+
+/// Whether the third line is named, which is bad, and after which reading would fail.
+fn is_named(rt: &impl Abort, alloc: Global, words: &[&str], text: &'static str) -> bool {
+    let ran = ran_in_pieces(rt, alloc, words, text, (1, true));
+    ran.0 == 2 && ran.2.as_slice() == b"line 3: cannot read\n".as_slice()
 }
 
 #[test]
-fn pieces_of_any_size_show_nowhere(rt: HostRuntime) -> Result<(), Fail> {
+fn pieces_of_any_size_show_nowhere(rt: HostRuntime) {
     for (words, text) in [(TRACE, COMMANDS), (STEPS, ORDERS), (STEPS, COMMANDS)] {
-        let whole = outcome_of_whole(rt.alloc(), words, text.as_bytes())?;
-        for size in 1..8 {
-            let pieces = outcome_in_pieces(rt.alloc(), words, text.as_bytes(), size, false)?;
-            assert_eq!(rt; pieces, whole);
-        }
+        assert!(rt; is_same_in_pieces(&rt, rt.alloc(), words, text), "{text}");
     }
-    Ok(())
 }
 
 #[test]
-fn lines_are_answered_before_more_is_read(rt: HostRuntime) -> Result<(), Fail> {
-    for (words, text) in [
-        (TRACE, "start s a 1\nend s 5\n"),
-        (STEPS, "offer 0 a\nstate\n"),
-    ] {
-        let whole = outcome_of_whole(rt.alloc(), words, text.as_bytes())?;
-        let failed = outcome_in_pieces(rt.alloc(), words, text.as_bytes(), 3, true)?;
-        assert_eq!(rt; (whole.status, failed.status), (0, 1));
-        assert!(rt; !failed.output.is_empty());
-        assert!(rt; whole.output.starts_with(&failed.output));
-    }
-    Ok(())
-}
-
-#[test]
-fn behind_a_bad_line_nothing_is_read(rt: HostRuntime) -> Result<(), Fail> {
-    for (words, text) in [
-        (TRACE, "start s a 1\n\nstop\n"),
-        (STEPS, "offer 0 a\n\nstop\n"),
-    ] {
-        let outcome = outcome_in_pieces(rt.alloc(), words, text.as_bytes(), 1, true)?;
-        assert_eq!(rt; outcome.status, 2);
-        assert_eq!(rt;
-            outcome.faults.as_slice(),
-            b"line 3: cannot read\n".as_slice()
-        );
-    }
-    Ok(())
+fn lines_are_answered_before_more_is_read(rt: HostRuntime) {
+    assert!(rt; is_answered(&rt, rt.alloc(), TRACE, "start s a 1\nend s 5\n"));
+    assert!(rt; is_answered(&rt, rt.alloc(), STEPS, "offer 0 a\nstate\n"));
+    assert!(rt; is_named(&rt, rt.alloc(), TRACE, "start s a 1\n\nstop\n"));
+    assert!(rt; is_named(&rt, rt.alloc(), STEPS, "offer 0 a\n\nstop\n"));
 }
