@@ -77,16 +77,17 @@ mod tests {
         }
     }
 
-    /// A processor that has its spans written at once.
-    fn processor(alloc: Global) -> LineProcessor {
-        SimpleSpanProcessor::new(alloc, LineExporter::new(alloc, Vec::new(alloc)))
+    /// A processor that has its spans written at once, for which there is room.
+    fn processor(alloc: Global) -> Result<LineProcessor, AllocError> {
+        let sink = Vec::with_capacity(alloc, 64)?;
+        Ok(SimpleSpanProcessor::new(alloc, LineExporter::new(alloc, sink)))
     }
 
     #[test]
     fn each_span_is_written_when_it_ends(rt: HostRuntime) -> Result<(), Fail> {
         let alloc = rt.alloc();
         let requests = [internal_request(7, "a"), internal_request(8, "b")];
-        let told = traced(alloc, Sampler::AlwaysOn, processor(alloc), &requests)?;
+        let told = traced(alloc, Sampler::AlwaysOn, processor(alloc)?, &requests)?;
         assert_eq!(rt;
             told.as_str(),
             "a=true ; b=true ; GET 7 9\nGET 8 10\n then GET 7 9\nGET 8 10\n"

@@ -95,7 +95,7 @@ mod tests {
 
     impl Shows for OverMemory {
         fn show(&self, text: &mut String) -> Result<(), AllocError> {
-            push_batches(text, self.inner.exporter().batches())
+            push_batches(text, self.inner.exporter())
         }
     }
 

@@ -4,8 +4,8 @@ use opentelemetry::trace::{SpanBuilder, SpanKind};
 use opentelemetry::{Context, Key, KeyValue, Moment, Value};
 use opentelemetry_sdk::Resource;
 use opentelemetry_sdk::trace::{
-    BatchStrings, ConfigOf, LeavesSpans, ProviderOf, RandomIdGenerator, SdkTracer, ShouldSample,
-    Span, SpanData, SpanLimits, SpanProcessor,
+    BatchStrings, ConfigOf, InMemorySpanExporter, LeavesSpans, ProviderOf, RandomIdGenerator,
+    SdkTracer, ShouldSample, Span, SpanData, SpanLimits, SpanProcessor,
 };
 use std::alloc::{AllocError, Global};
 
@@ -172,9 +172,13 @@ pub fn internal_request(start: u64, key: &'static str) -> Request {
     }
 }
 
-/// Appends the moments at which the spans of each batch started, between brackets.
-pub fn push_batches(text: &mut String, batches: &[Vec<SpanData>]) -> Result<(), AllocError> {
-    for batch in batches {
+/// Appends the moments at which the spans of each kept batch started, between brackets. Where a batch was lost there was
+/// no memory for it.
+pub fn push_batches(text: &mut String, exporter: &InMemorySpanExporter) -> Result<(), AllocError> {
+    if exporter.lost_batches() > 0 {
+        return Err(AllocError);
+    }
+    for batch in exporter.batches() {
         text.push('[')?;
         push_starts(text, batch)?;
         text.push(']')?;

@@ -141,7 +141,7 @@ mod tests {
 
     impl Shows for OverMemory {
         fn show(&self, text: &mut String) -> Result<(), AllocError> {
-            push_batches(text, self.exporter.batches())?;
+            push_batches(text, &self.exporter)?;
             let dropped = self.dropped;
             write!(text, "dropped {dropped}")
         }

@@ -84,7 +84,7 @@ mod tests {
 
     impl Shows for ToMemory {
         fn show(&self, text: &mut String) -> Result<(), AllocError> {
-            push_batches(text, self.exporter().batches())
+            push_batches(text, self.exporter())
         }
     }
 
