@@ -69,23 +69,22 @@ fn asked_of<P: DrainDue, S: ShouldSample, G: IdGenerator>(
     format!(in alloc; "{first} {second}; {answers}").expect(rt, SETUP)
 }
 
-/// What the first of these writers took.
-fn taken_by(rt: &impl Abort, alloc: Global, writers: &[Writer]) -> String {
-    let taken = match writers.first() {
-        Some(first) => first.taken.as_str(),
-        None => "",
-    };
-    String::from_str(alloc, taken).expect(rt, SETUP)
+/// What the first of these writers took. The test stops where there was no memory for it.
+fn taken_by(rt: &impl Abort, writers: &[Writer]) -> String {
+    match writers.first() {
+        Some(first) if first.taken.len() > 0 => first.taken.clone().expect(rt, SETUP),
+        _ => rt.panic(SETUP),
+    }
 }
 
-/// The same of three writers on a board, of which the last two fail, and what the first took.
+/// What three writers on a board, of which the last two fail, refused and answered, and what the first took.
 fn asked_of_three(rt: &impl Abort, alloc: Global, board: &Board) -> (String, String) {
     let processors = writers(rt, alloc, board, &[false, true, true]);
     let asked = empty_board(rt, alloc);
     let sampler = asked_on(rt, alloc, asked, (SamplingDecision::RecordAndSample, 0));
     let mut provider = provider_of(alloc, processors, sampler);
     let answers = asked_of(rt, alloc, &mut provider);
-    let taken = taken_by(rt, alloc, provider.processors());
+    let taken = taken_by(rt, provider.processors());
     let _ = provider.close();
     (answers, taken)
 }

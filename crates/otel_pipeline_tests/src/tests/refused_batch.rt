@@ -194,8 +194,15 @@ fn exported_by_each<P: OverExporter + KeepsBatches>(
 /// What comes of a span that kept one attribute of two, that no processor refused, and that left in a batch.
 const EXPORTED: &str = " 7-7 given, 1 0 0] 0 true 1 true 0 0";
 
+/// The same where a processor that exports at once found no memory, and refused the span.
+const REFUSED: &str = " 7-7 given, 1 0 0] 1 true 0 true 0 0";
+
 fn memory(alloc: Global) -> ExporterBox {
     ExporterBox::Memory(InMemorySpanExporter::new(alloc))
+}
+
+fn is_exported_or_refused(text: &str) -> bool {
+    text.ends_with(EXPORTED) || text.ends_with(REFUSED)
 }
 
 fn exported_by_kinds(rt: &impl Abort, alloc: Global) -> (String, String) {
@@ -207,5 +214,5 @@ fn exported_by_kinds(rt: &impl Abort, alloc: Global) -> (String, String) {
 fn a_span_leaves_as_strings_say_where_an_allocation_is_refused(rt: HostRuntime) {
     let (by_batch, at_once) = exported_by_kinds(&rt, rt.alloc());
     assert!(rt; by_batch.as_str().ends_with(EXPORTED), "{by_batch}");
-    assert!(rt; at_once.as_str().ends_with(EXPORTED), "{at_once}");
+    assert!(rt; is_exported_or_refused(at_once.as_str()), "{at_once}");
 }
