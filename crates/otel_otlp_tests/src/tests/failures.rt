@@ -92,18 +92,30 @@ fn uncut(rt: &impl Abort, alloc: Global) -> String {
     format!(in alloc; "ok; ok; {first}{second}").expect(rt, SETUP)
 }
 
+/// Asserts what comes of a call of this number that fails, after so many bytes of the first line.
+fn assert_cut(rt: &impl Abort, alloc: Global, failing: usize, count: usize) {
+    let text = written_over(rt, alloc, failing, ErrorKind::StorageFull);
+    assert_eq!(rt;
+        text.as_str(),
+        cut_at(rt, alloc, count).as_str(),
+        "call {failing}"
+    );
+}
+
+/// Asserts what comes of a call of this number that is interrupted.
+fn assert_uncut(rt: &impl Abort, alloc: Global, failing: usize) {
+    let text = written_over(rt, alloc, failing, ErrorKind::Interrupted);
+    assert_eq!(rt; text.as_str(), uncut(rt, alloc).as_str(), "call {failing}");
+}
+
 /// A line is 542 bytes long, and so six writes; the seventh call is its flush.
 #[test]
 fn a_stream_that_fails_is_named_and_the_next_line_begins_anew(rt: HostRuntime) {
     for (failing, count) in [(1, 0), (2, 100), (6, 500), (7, 542)] {
-        let text = written_over(&rt, rt.alloc(), failing, ErrorKind::StorageFull);
-        let wanted = cut_at(&rt, rt.alloc(), count);
-        assert_eq!(rt; text.as_str(), wanted.as_str(), "call {failing}");
+        assert_cut(&rt, rt.alloc(), failing, count);
     }
     for failing in [1, 2, 6] {
-        let text = written_over(&rt, rt.alloc(), failing, ErrorKind::Interrupted);
-        let wanted = uncut(&rt, rt.alloc());
-        assert_eq!(rt; text.as_str(), wanted.as_str(), "call {failing}");
+        assert_uncut(&rt, rt.alloc(), failing);
     }
 }
 
