@@ -2,17 +2,16 @@
 
 ghost use Rattle.std.specs.Prelude.{None};
 
-use opentelemetry::trace::{SpanContext, SpanKind, Status, TraceState};
-use opentelemetry::{
-    InstrumentationScope, Key, KeyValue, Moment, SpanId, TraceFlags, TraceId, Value,
-};
+use opentelemetry::trace::{SpanContext, TraceState};
+use opentelemetry::{Key, KeyValue, Moment, SpanId, TraceFlags, TraceId, Value};
 use opentelemetry_sdk::error::{OTelSdkError, OTelSdkResult};
 use opentelemetry_sdk::resource::Resource;
 use opentelemetry_sdk::trace::{
     BatchConfig, BatchConfigBuilder, BatchSpanProcessor, DrainDue, SimpleSpanProcessor, SpanData,
-    SpanEvents, SpanExporter, SpanLinks, SpanProcessor,
+    SpanExporter, SpanProcessor,
 };
-use otel_value_cases::fields::{Row, RowError, number_of};
+use otel_case_rows::fields::{Row, RowError, number_of};
+use otel_case_rows::spans::bare_span;
 use std::alloc::{AllocError, Global};
 use std::fmt::Write;
 use std::time::Duration;
@@ -89,9 +88,9 @@ pub fn answer(alloc: Global, row: &Row, out: &mut String) -> Result<bool, RowErr
 fn answer_batch(alloc: Global, row: &Row, out: &mut String) -> Result<(), RowError> {
     let config = config_of(row)?;
     let exporter = exporter_named(alloc, row.field(0))?;
-    let mut processor = BatchSpanProcessor::new(alloc, exporter, config)?;
+    let mut processor = Box::new(alloc, BatchSpanProcessor::new(alloc, exporter, config)?)?;
     for call in row.fields.iter().skip(3) {
-        answer_batch_call(alloc, &mut processor, call.as_str(), out)?;
+        answer_batch_call(alloc, &mut *processor, call.as_str(), out)?;
     }
     let dropped = processor.dropped_count();
     write!(out, "dropped {dropped} told{}", processor.exporter().told)?;
@@ -101,9 +100,9 @@ fn answer_batch(alloc: Global, row: &Row, out: &mut String) -> Result<(), RowErr
 /// `simple-processor EXPORTER CALL ..`: each call's answer, and what the exporter was told.
 fn answer_simple(alloc: Global, row: &Row, out: &mut String) -> Result<(), RowError> {
     let exporter = exporter_named(alloc, row.field(0))?;
-    let mut processor = SimpleSpanProcessor::new(alloc, exporter);
+    let mut processor = Box::new(alloc, SimpleSpanProcessor::new(alloc, exporter))?;
     for call in row.fields.iter().skip(1) {
-        if !answer_call(alloc, &mut processor, call.as_str(), out)? {
+        if !answer_call(alloc, &mut *processor, call.as_str(), out)? {
             return Err(RowError::Field);
         }
     }
@@ -227,27 +226,22 @@ fn put_said(said: OTelSdkResult, out: &mut String) -> Result<(), AllocError> {
     }
 }
 
-/// The data of a span of this name and these flags.
+/// The data of a span of this name and these flags, from moment 7 to 9.
 fn span_named(alloc: Global, name: &str, flags: u8) -> Result<SpanData, AllocError> {
-    Ok(SpanData {
-        span_context: SpanContext::new(
-            TraceId::from(1),
-            SpanId::from(2),
-            TraceFlags::new(flags),
-            false,
-            TraceState::new(),
-        ),
-        parent_span_id: SpanId::INVALID,
-        parent_span_is_remote: false,
-        span_kind: SpanKind::Internal,
-        name: String::from_str(alloc, name)?,
-        start_time: Moment(7),
-        end_time: Moment(9),
-        attributes: Vec::new(alloc),
-        dropped_attributes_count: 0,
-        events: SpanEvents::new(alloc),
-        links: SpanLinks::new(alloc),
-        status: Status::Unset,
-        instrumentation_scope: InstrumentationScope::builder(alloc, String::new(alloc)).build()?,
-    })
+    let mut span = bare_span(alloc, numbered_context(flags))?;
+    span.name = String::from_str(alloc, name)?;
+    span.start_time = Moment(7);
+    span.end_time = Moment(9);
+    Ok(Box::into_inner(span))
+}
+
+fn numbered_context(flags: u8) -> SpanContext {
+    let (trace_id, span_id) = (TraceId::from(1), SpanId::from(2));
+    SpanContext::new(
+        trace_id,
+        span_id,
+        TraceFlags::new(flags),
+        false,
+        TraceState::new(),
+    )
 }

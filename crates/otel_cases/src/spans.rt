@@ -4,6 +4,8 @@
 use opentelemetry::propagation::{Extractor, Injector, MapCarrier, TextMapPropagator};
 use opentelemetry::trace::{Event, Link, SpanBuilder, SpanContext};
 use opentelemetry::{Array, Context, Key, KeyValue, Moment, Value};
+use otel_case_rows::fields::{Row, RowError, pair_of, small_number_of};
+use otel_case_rows::values::{status_of, texts_of};
 use otel_export::error::OTelSdkError;
 use otel_export::trace::{InMemorySpanExporter, SpanData};
 use otel_pipeline::trace::provider::provider_over;
@@ -13,8 +15,6 @@ use otel_resource::resource::Resource;
 use otel_sampling::trace::{ConfigOf, RandomIdGenerator, SamplerOf, SpanLimits};
 use otel_trace_lines::reply_text::write_batches;
 use otel_trace_run::program::{NoSampler, TraceSampler};
-use otel_value_cases::fields::{Row, RowError, pair_of, small_number_of};
-use otel_value_cases::{status_of, texts_of};
 use std::alloc::{AllocError, Global};
 use std::fmt::Write;
 

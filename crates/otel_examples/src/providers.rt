@@ -172,8 +172,8 @@ pub fn internal_request(start: u64, key: &'static str) -> Request {
     }
 }
 
-/// Appends the moments at which the spans of each kept batch started, between brackets. Where a batch was lost there was
-/// no memory for it.
+/// Appends the moments at which the spans of each kept batch started, between brackets. Where a batch was lost there
+/// was no memory for it.
 pub fn push_batches(text: &mut String, exporter: &InMemorySpanExporter) -> Result<(), AllocError> {
     if exporter.lost_batches() > 0 {
         return Err(AllocError);

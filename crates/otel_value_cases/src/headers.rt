@@ -3,10 +3,11 @@
 mod baggage;
 mod both;
 mod trace;
+mod vendors;
 
-use crate::fields::{Row, RowError};
 use opentelemetry::Context;
 use opentelemetry::propagation::{Extractor, Injector, MapCarrier};
+use otel_case_rows::fields::{Row, RowError};
 use std::alloc::{AllocError, Global};
 
 /// Answers a row whose word is one of these; false where it is none.
@@ -14,7 +15,8 @@ pub fn answer(alloc: Global, row: &Row, out: &mut String) -> Result<bool, RowErr
     Ok(
         trace::answer(alloc, row, out)?
             || baggage::answer(alloc, row, out)?
-            || both::answer(alloc, row, out)?,
+            || both::answer(alloc, row, out)?
+            || vendors::answer(alloc, row, out)?,
     )
 }
 

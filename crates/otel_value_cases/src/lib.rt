@@ -1,21 +1,20 @@
-//! Rows of data that ask of values, headers, resources, samplers and configuration, and how a row is read. The program
-//! `otel_cases` takes them.
+//! Cases that ask of values, headers, resources, samplers and configuration.
 #![tactic(auto)]
 
-pub mod fields;
 mod headers;
+mod probability;
 mod sdk;
 mod values;
 
-use fields::{Row, RowError};
+use otel_case_rows::fields::{Row, RowError};
 use std::alloc::Global;
-pub use values::{status_of, texts_of};
 
-/// Answers a row whose word is one of these; false where it is none.
+/// Puts out the answer to a row whose word is one of these; false where it is none.
 pub fn answer(alloc: Global, row: &Row, out: &mut String) -> Result<bool, RowError> {
     Ok(
         values::answer(alloc, row, out)?
             || headers::answer(alloc, row, out)?
-            || sdk::answer(alloc, row, out)?,
+            || sdk::answer(alloc, row, out)?
+            || probability::answer(alloc, row, out)?,
     )
 }

@@ -1,13 +1,12 @@
 //! What the SDK's base answers: resources, ratios and samplers, configuration, ids and the texts of errors.
 
-mod batch;
 mod config;
 mod errors;
 mod ids;
 mod resource;
 mod sampling;
 
-use crate::fields::{Row, RowError};
+use otel_case_rows::fields::{Row, RowError};
 use std::alloc::Global;
 
 /// Answers a row whose word is one of these; false where it is none.
@@ -22,9 +21,5 @@ pub fn answer(alloc: Global, row: &Row, out: &mut String) -> Result<bool, RowErr
 
 /// The same of the words that make a text of numbers and names alone.
 fn values_answer(alloc: Global, row: &Row, out: &mut String) -> Result<bool, RowError> {
-    Ok(
-        batch::answer(alloc, row, out)?
-            || errors::answer(alloc, row, out)?
-            || ids::answer(row, out)?,
-    )
+    Ok(errors::answer(alloc, row, out)? || ids::answer(row, out)?)
 }

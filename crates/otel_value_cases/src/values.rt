@@ -4,17 +4,13 @@ mod attributes;
 mod baggages;
 mod carriers;
 mod contexts;
-mod equality;
 mod ids;
 mod spans;
 mod states;
 
-use crate::fields::{Row, RowError};
-pub use attributes::{integer_of, integers_of, texts_of, truth_of};
 pub use baggages::{baggage_of, put_entries};
-pub use ids::numbered_flags_of;
-pub use spans::{put_span, status_of};
-pub use states::state_of;
+use otel_case_rows::fields::{Row, RowError};
+pub use spans::put_span;
 use std::alloc::Global;
 
 /// Answers a row whose word is one of these; false where it is none.
@@ -37,7 +33,6 @@ fn answer_whole(alloc: Global, row: &Row, out: &mut String) -> Result<bool, RowE
         baggages::answer(alloc, row, out)?
             || carriers::answer(alloc, row, out)?
             || spans::answer(alloc, row, out)?
-            || contexts::answer(alloc, row, out)?
-            || equality::answer(alloc, row, out)?,
+            || contexts::answer(alloc, row, out)?,
     )
 }

@@ -1,10 +1,10 @@
 //! The header `baggage`. It is read over a context whose baggage is `old=1`.
 
 use super::{set_given, text_at};
-use crate::fields::{Row, RowError, put_short};
 use crate::values::{baggage_of, put_entries};
 use opentelemetry::Context;
 use opentelemetry::propagation::{MapCarrier, TextMapPropagator};
+use otel_case_rows::fields::{Row, RowError, put_short};
 use otel_propagation::propagation::BaggagePropagator;
 use std::alloc::{AllocError, Global};
 
@@ -21,26 +21,28 @@ pub fn answer(alloc: Global, row: &Row, out: &mut String) -> Result<bool, RowErr
 }
 
 /// A context with the baggage of a list.
-fn context_of(alloc: Global, list: &str) -> Result<Context, RowError> {
-    Ok(Context::new().with_baggage(baggage_of(alloc, list)?)?)
+fn context_of(alloc: Global, list: &str) -> Result<Box<Context>, RowError> {
+    let cx = Context::new().with_baggage(baggage_of(alloc, list)?)?;
+    Ok(Box::new(alloc, cx)?)
 }
 
 /// What is read of a carrier.
-fn read(alloc: Global, carrier: &MapCarrier) -> Result<Context, RowError> {
+fn read(alloc: Global, carrier: &MapCarrier) -> Result<Box<Context>, RowError> {
     let cx = context_of(alloc, "old=1|")?;
-    Ok(BaggagePropagator::new().extract_with_context(alloc, &cx, carrier)?)
+    let found = BaggagePropagator::new().extract_with_context(alloc, &cx, carrier)?;
+    Ok(Box::new(alloc, found)?)
 }
 
 /// A carrier with the header of a context's baggage.
-fn written(alloc: Global, cx: &Context) -> Result<MapCarrier, AllocError> {
-    let mut carrier = MapCarrier::new(alloc);
-    BaggagePropagator::new().inject_context(alloc, cx, &mut carrier)?;
+fn written(alloc: Global, cx: &Context) -> Result<Box<MapCarrier>, AllocError> {
+    let mut carrier = Box::new(alloc, MapCarrier::new(alloc))?;
+    BaggagePropagator::new().inject_context(alloc, cx, &mut *carrier)?;
     Ok(carrier)
 }
 
 /// What is read of a header, where it is given.
-fn found(alloc: Global, header: Option<&str>) -> Result<Context, RowError> {
-    let mut carrier = MapCarrier::new(alloc);
+fn found(alloc: Global, header: Option<&str>) -> Result<Box<Context>, RowError> {
+    let mut carrier = Box::new(alloc, MapCarrier::new(alloc))?;
     set_given(alloc, &mut carrier, "baggage", header)?;
     read(alloc, &carrier)
 }
@@ -72,8 +74,8 @@ fn put_injected(alloc: Global, list: &str, out: &mut String) -> Result<(), RowEr
 }
 
 /// The baggage of a list as the other side has it.
-fn crossed(alloc: Global, list: &str) -> Result<Context, RowError> {
-    let carrier = written(alloc, &context_of(alloc, list)?)?;
+fn crossed(alloc: Global, list: &str) -> Result<Box<Context>, RowError> {
+    let carrier = written(alloc, &*context_of(alloc, list)?)?;
     read(alloc, &carrier)
 }
 

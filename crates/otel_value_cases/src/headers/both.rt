@@ -3,10 +3,10 @@
 
 use super::trace::{carrier_of, context_of};
 use super::{put_active, set_given, text_at};
-use crate::fields::{Row, RowError};
 use crate::values::{baggage_of, put_entries};
 use opentelemetry::Context;
 use opentelemetry::propagation::{FieldIter, MapCarrier, TextMapPropagator};
+use otel_case_rows::fields::{Row, RowError};
 use otel_propagation::propagation::{
     BaggagePropagator, CompositePropagator, FieldsError, ListFieldsError, TraceContextPropagator,
     configured_propagators,
@@ -19,7 +19,7 @@ type BuiltIn = CompositePropagator<TraceContextPropagator, BaggagePropagator>;
 /// Answers a row whose word is one of these; false where it is none.
 pub fn answer(alloc: Global, row: &Row, out: &mut String) -> Result<bool, RowError> {
     match row.word.as_str() {
-        "inject-all" => put_injected(&injected(alloc, row)?, out)?,
+        "inject-all" => put_injected(&*injected(alloc, row)?, out)?,
         "cross-all" => put_crossed(alloc, row, out)?,
         "extract-all" => put_extracted(alloc, row, out)?,
         "header-names" => put_names(fields_of(row.field(0))?, out)?,
@@ -32,16 +32,17 @@ pub fn answer(alloc: Global, row: &Row, out: &mut String) -> Result<bool, RowErr
 }
 
 /// A context with a span of four fields and the baggage of a fifth.
-fn context_of_both(alloc: Global, row: &Row) -> Result<Context, RowError> {
+fn context_of_both(alloc: Global, row: &Row) -> Result<Box<Context>, RowError> {
     let cx = context_of(alloc, row)?;
-    Ok(cx.with_baggage(baggage_of(alloc, row.field(4))?)?)
+    let cx = cx.with_baggage(baggage_of(alloc, row.field(4))?)?;
+    Ok(Box::new(alloc, cx)?)
 }
 
 /// What a carrier has of it.
-fn injected(alloc: Global, row: &Row) -> Result<MapCarrier, RowError> {
+fn injected(alloc: Global, row: &Row) -> Result<Box<MapCarrier>, RowError> {
     let cx = context_of_both(alloc, row)?;
-    let mut carrier = MapCarrier::new(alloc);
-    BuiltIn::default().inject_context(alloc, &cx, &mut carrier)?;
+    let mut carrier = Box::new(alloc, MapCarrier::new(alloc))?;
+    BuiltIn::default().inject_context(alloc, &cx, &mut *carrier)?;
     Ok(carrier)
 }
 
@@ -60,7 +61,10 @@ fn put_read(
     carrier: &MapCarrier,
     out: &mut String,
 ) -> Result<(), AllocError> {
-    let found = BuiltIn::default().extract_with_context(alloc, cx, carrier)?;
+    let found = Box::new(
+        alloc,
+        BuiltIn::default().extract_with_context(alloc, cx, carrier)?,
+    )?;
     put_entries(alloc, found.baggage(), out)?;
     out.push(' ')?;
     put_active(alloc, &found, out)
@@ -77,7 +81,7 @@ fn put_crossed(alloc: Global, row: &Row, out: &mut String) -> Result<(), RowErro
 fn put_extracted(alloc: Global, row: &Row, out: &mut String) -> Result<(), RowError> {
     let mut carrier = carrier_of(alloc, row.given(5), row.given(6))?;
     set_given(alloc, &mut carrier, "baggage", row.given(7))?;
-    put_read(alloc, &context_of_both(alloc, row)?, &carrier, out)?;
+    put_read(alloc, &*context_of_both(alloc, row)?, &carrier, out)?;
     Ok(())
 }
 

@@ -1,11 +1,11 @@
 //! The headers `traceparent` and `tracestate`.
 
 use super::{put_active, set_given, text_at};
-use crate::fields::{Row, RowError};
-use crate::values::{numbered_flags_of, state_of};
 use opentelemetry::propagation::{MapCarrier, TextMapPropagator};
 use opentelemetry::trace::{SpanContext, TraceState};
 use opentelemetry::{Context, SpanId, TraceId};
+use otel_case_rows::fields::{Row, RowError};
+use otel_case_rows::values::{flags_of, state_of};
 use otel_propagation::propagation::TraceContextPropagator;
 use std::alloc::{AllocError, Global};
 
@@ -23,18 +23,24 @@ pub fn answer(alloc: Global, row: &Row, out: &mut String) -> Result<bool, RowErr
 
 /// The context of a local span, of whose ids, flags and trace state each is a field; the empty one where the first is
 /// `-`.
-pub fn context_of(alloc: Global, row: &Row) -> Result<Context, RowError> {
+pub fn context_of(alloc: Global, row: &Row) -> Result<Box<Context>, RowError> {
     let Some(trace_id) = row.given(0) else {
-        return Ok(Context::new());
+        return Ok(Box::new(alloc, Context::new())?);
     };
     let trace_id = TraceId::from_hex(trace_id).or(Err(RowError::Field))?;
     let state = state_of(alloc, row.given(3))?;
-    Ok(Context::new().with_span_context(span_of(trace_id, row, state)?)?)
+    in_span(alloc, span_of(trace_id, row, state)?)
+}
+
+/// A context of a span.
+pub fn in_span(alloc: Global, span_context: SpanContext) -> Result<Box<Context>, RowError> {
+    let cx = Context::new().with_span_context(span_context)?;
+    Ok(Box::new(alloc, cx)?)
 }
 
 fn span_of(trace_id: TraceId, row: &Row, state: TraceState) -> Result<SpanContext, RowError> {
     let span_id = SpanId::from_hex(row.field(1)).or(Err(RowError::Field))?;
-    let flags = numbered_flags_of(row.field(2))?;
+    let flags = flags_of(row.field(2))?;
     Ok(SpanContext::new(trace_id, span_id, flags, false, state))
 }
 
@@ -43,8 +49,8 @@ pub fn carrier_of(
     alloc: Global,
     parent: Option<&str>,
     state: Option<&str>,
-) -> Result<MapCarrier, AllocError> {
-    let mut carrier = MapCarrier::new(alloc);
+) -> Result<Box<MapCarrier>, AllocError> {
+    let mut carrier = Box::new(alloc, MapCarrier::new(alloc))?;
     set_given(alloc, &mut carrier, "traceparent", parent)?;
     set_given(alloc, &mut carrier, "tracestate", state)?;
     Ok(carrier)
@@ -68,7 +74,7 @@ fn put_extracted(alloc: Global, row: &Row, out: &mut String) -> Result<(), Alloc
 
 fn put_extracted_over(alloc: Global, row: &Row, out: &mut String) -> Result<(), RowError> {
     let carrier = carrier_of(alloc, row.given(4), row.given(5))?;
-    put_read(alloc, &context_of(alloc, row)?, &carrier, out)?;
+    put_read(alloc, &*context_of(alloc, row)?, &carrier, out)?;
     Ok(())
 }
 

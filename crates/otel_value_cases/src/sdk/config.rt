@@ -2,7 +2,7 @@
 
 use super::resource::{push_resource, strings_of};
 use super::sampling::push_ratio;
-use crate::fields::{Row, RowError};
+use otel_case_rows::fields::{Row, RowError};
 use otel_sampling::trace::{Config, ConfigStrings, Sampler, SpanLimits};
 use std::alloc::{AllocError, Global};
 
@@ -19,39 +19,27 @@ pub fn answer(alloc: Global, row: &Row, out: &mut String) -> Result<bool, RowErr
     Ok(true)
 }
 
-/// The first fields of a row.
-fn texts_of(alloc: Global, row: &Row, count: usize) -> Result<Vec<Option<String>>, AllocError> {
-    let mut texts = Vec::new(alloc);
-    for i in 0..count {
-        texts.push(row.owned(alloc, i)?)?;
-    }
-    Ok(texts)
-}
-
-/// The strings of a span's attributes, events and links.
-fn limit_strings(texts: Vec<Option<String>>) -> ConfigStrings {
-    let mut texts = texts.into_iter();
-    ConfigStrings {
-        attribute_count_limit: texts.next().flatten(),
-        event_count_limit: texts.next().flatten(),
-        link_count_limit: texts.next().flatten(),
-        ..ConfigStrings::default()
-    }
+/// The strings of a span's attributes, events and links, a field each. They stand in a box, since a function that may
+/// end early while it holds all strings drops each of them there, which is slow to prove.
+fn limit_strings(alloc: Global, row: &Row) -> Result<Box<ConfigStrings>, AllocError> {
+    let mut strings = Box::new(alloc, ConfigStrings::default())?;
+    strings.attribute_count_limit = row.owned(alloc, 0)?;
+    strings.event_count_limit = row.owned(alloc, 1)?;
+    strings.link_count_limit = row.owned(alloc, 2)?;
+    Ok(strings)
 }
 
 /// The strings of attributes in general, of events and of links, of the length of values and of that in general, and of
 /// a span's attributes.
-fn attribute_strings(texts: Vec<Option<String>>) -> ConfigStrings {
-    let mut texts = texts.into_iter();
-    ConfigStrings {
-        general_attribute_count_limit: texts.next().flatten(),
-        event_attribute_count_limit: texts.next().flatten(),
-        link_attribute_count_limit: texts.next().flatten(),
-        attribute_value_length_limit: texts.next().flatten(),
-        general_attribute_value_length_limit: texts.next().flatten(),
-        attribute_count_limit: texts.next().flatten(),
-        ..ConfigStrings::default()
-    }
+fn attribute_strings(alloc: Global, row: &Row) -> Result<Box<ConfigStrings>, AllocError> {
+    let mut strings = Box::new(alloc, ConfigStrings::default())?;
+    strings.general_attribute_count_limit = row.owned(alloc, 0)?;
+    strings.event_attribute_count_limit = row.owned(alloc, 1)?;
+    strings.link_attribute_count_limit = row.owned(alloc, 2)?;
+    strings.attribute_value_length_limit = row.owned(alloc, 3)?;
+    strings.general_attribute_value_length_limit = row.owned(alloc, 4)?;
+    strings.attribute_count_limit = row.owned(alloc, 5)?;
+    Ok(strings)
 }
 
 fn limits_by(alloc: Global, strings: &ConfigStrings) -> Result<SpanLimits, AllocError> {
@@ -60,7 +48,7 @@ fn limits_by(alloc: Global, strings: &ConfigStrings) -> Result<SpanLimits, Alloc
 
 /// How much a span keeps: attributes, events and links, then attributes of an event and of a link.
 fn push_limits(alloc: Global, row: &Row, out: &mut String) -> Result<(), AllocError> {
-    let limits = limits_by(alloc, &limit_strings(texts_of(alloc, row, 3)?))?;
+    let limits = limits_by(alloc, &*limit_strings(alloc, row)?)?;
     let attributes = limits.max_attributes_per_span;
     let events = limits.max_events_per_span;
     let links = limits.max_links_per_span;
@@ -71,7 +59,7 @@ fn push_limits(alloc: Global, row: &Row, out: &mut String) -> Result<(), AllocEr
 
 /// How many attributes a span, an event and a link keep, and how long their values are.
 fn push_attribute_limits(alloc: Global, row: &Row, out: &mut String) -> Result<(), AllocError> {
-    let limits = limits_by(alloc, &attribute_strings(texts_of(alloc, row, 6)?))?;
+    let limits = limits_by(alloc, &*attribute_strings(alloc, row)?)?;
     let attributes = limits.max_attributes_per_span;
     let of_event = limits.max_attributes_per_event;
     let of_link = limits.max_attributes_per_link;
@@ -84,11 +72,8 @@ fn push_attribute_limits(alloc: Global, row: &Row, out: &mut String) -> Result<(
 
 /// Whether a string disables the SDK.
 fn push_disabled(alloc: Global, row: &Row, out: &mut String) -> Result<(), AllocError> {
-    let sdk_disabled = row.owned(alloc, 0)?;
-    let strings = ConfigStrings {
-        sdk_disabled,
-        ..ConfigStrings::default()
-    };
+    let mut strings = Box::new(alloc, ConfigStrings::default())?;
+    strings.sdk_disabled = row.owned(alloc, 0)?;
     out.push_str(if strings.is_sdk_disabled() {
         "disabled"
     } else {
@@ -96,15 +81,12 @@ fn push_disabled(alloc: Global, row: &Row, out: &mut String) -> Result<(), Alloc
     })
 }
 
-/// The strings of a row whose first fields are a sampler's name and its argument.
-pub fn sampler_strings(alloc: Global, row: &Row) -> Result<ConfigStrings, AllocError> {
-    let sampler = row.owned(alloc, 0)?;
-    let sampler_arg = row.owned(alloc, 1)?;
-    Ok(ConfigStrings {
-        sampler,
-        sampler_arg,
-        ..ConfigStrings::default()
-    })
+/// The strings of a sampler's name and its argument, which are the first fields of a row.
+pub fn sampler_strings(alloc: Global, row: &Row) -> Result<Box<ConfigStrings>, AllocError> {
+    let mut strings = Box::new(alloc, ConfigStrings::default())?;
+    strings.sampler = row.owned(alloc, 0)?;
+    strings.sampler_arg = row.owned(alloc, 1)?;
+    Ok(strings)
 }
 
 fn push_configured_sampler(alloc: Global, row: &Row, out: &mut String) -> Result<(), AllocError> {
@@ -135,10 +117,7 @@ fn push_leaf(sampler: &Sampler, out: &mut String) -> Result<(), AllocError> {
 }
 
 fn push_configured_resource(alloc: Global, row: &Row, out: &mut String) -> Result<(), AllocError> {
-    let resource = strings_of(alloc, row)?;
-    let strings = ConfigStrings {
-        resource,
-        ..ConfigStrings::default()
-    };
+    let mut strings = Box::new(alloc, ConfigStrings::default())?;
+    strings.resource = strings_of(alloc, row)?;
     push_resource(&Config::from_strings(alloc, &strings, 0)?.resource, out)
 }

@@ -1,6 +1,6 @@
 //! The texts of errors.
 
-use crate::fields::{Row, RowError};
+use otel_case_rows::fields::{Row, RowError};
 use otel_export::error::OTelSdkError;
 use otel_sampling::trace::RatioError;
 use std::alloc::{AllocError, Global};

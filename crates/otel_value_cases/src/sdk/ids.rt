@@ -1,6 +1,6 @@
 //! The ids that the SDK's generator draws.
 
-use crate::fields::{Row, RowError};
+use otel_case_rows::fields::{Row, RowError};
 use otel_sampling::trace::{IdGenerator, IdSource, RandomIdGenerator};
 
 /// Answers a row whose word is one of these; false where it is none.

@@ -2,9 +2,9 @@
 //! then its schema. A value is a text; `bool:true`, `i64:7` and `i64s:1,2` are values of other kinds. Pairs are written
 //! as `key=value;key=value;`.
 
-use crate::fields::{Row, RowError, pair_of};
-use crate::values::{integer_of, integers_of, truth_of};
 use opentelemetry::{Array, Key, KeyValue, Value};
+use otel_case_rows::fields::{Row, RowError, pair_of};
+use otel_case_rows::values::{integer_of, integers_of, truth_of};
 use otel_resource::resource::{
     EnvResourceDetector, Resource, ResourceBuilder, ResourceDetector, ResourceStrings,
     SdkProvidedResourceDetector, TelemetryResourceDetector,
@@ -20,7 +20,6 @@ pub fn answer(alloc: Global, row: &Row, out: &mut String) -> Result<bool, RowErr
         "telemetry-detector" => push_detected(&TelemetryResourceDetector::new(alloc), out)?,
         "resource-steps" => push_stepped(alloc, row, out)?,
         "resource-get" => push_got(alloc, row, out)?,
-        "resources-equal" => push_equal(alloc, row, out)?,
         _ => return Ok(false),
     }
     Ok(true)
@@ -250,17 +249,5 @@ fn push_got(alloc: Global, row: &Row, out: &mut String) -> Result<(), RowError> 
         Some(value) => push_value(&value, out)?,
         None => out.push_str("none")?,
     }
-    Ok(())
-}
-
-/// Whether what the steps make is the same as what they set aside.
-fn push_equal(alloc: Global, row: &Row, out: &mut String) -> Result<(), RowError> {
-    let Builders { current, mut aside } = builders_of(alloc, row, 0)?;
-    let other = aside.pop().ok_or(RowError::Field)?;
-    out.push_str(if other.build() == current.build() {
-        "same"
-    } else {
-        "different"
-    })?;
     Ok(())
 }

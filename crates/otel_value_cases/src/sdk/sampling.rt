@@ -1,9 +1,9 @@
 //! Ratios, and what samplers decide.
 
 use super::config::sampler_strings;
-use crate::fields::{Row, RowError, number_of};
 use opentelemetry::trace::{SpanContext, SpanKind, TraceState};
 use opentelemetry::{Context, SpanId, TraceFlags, TraceId};
+use otel_case_rows::fields::{Row, RowError, number_of};
 use otel_sampling::trace::{
     Config, Ratio, RatioError, Sampler, SamplingDecision, SamplingResult, ShouldSample,
 };
@@ -48,10 +48,13 @@ pub fn push_ratio(ratio: &Ratio, out: &mut String) -> Result<(), AllocError> {
 /// What a ratio decides on a trace.
 fn push_samples(row: &Row, out: &mut String) -> Result<(), RowError> {
     let ratio = Ratio::new(row.number(0)?, row.number(1)?).or(Err(RowError::Field))?;
-    let sampler = Sampler::TraceIdRatioBased(ratio);
-    let answer = ask(&sampler, None, trace_of(row.field(2))?)?;
-    out.push_str(decision_name(answer.decision))?;
+    out.push_str(decided(ratio, trace_of(row.field(2))?)?)?;
     Ok(())
+}
+
+fn decided(ratio: Ratio, trace_id: TraceId) -> Result<&'static str, AllocError> {
+    let answer = ask(&Sampler::TraceIdRatioBased(ratio), None, trace_id)?;
+    Ok(decision_name(answer.decision))
 }
 
 /// The trace id of a text.
@@ -84,13 +87,33 @@ fn push_sampled(
     out: &mut String,
 ) -> Result<(), RowError> {
     let strings = sampler_strings(alloc, row)?;
-    let mut sampler = Config::from_strings(alloc, &strings, 0)?.sampler;
+    let Config { sampler, .. } = Config::from_strings(alloc, &strings, 0)?;
+    push_below(alloc, Box::new(alloc, sampler)?, row, is_copied, out)
+}
+
+fn push_below(
+    alloc: Global,
+    mut sampler: Box<Sampler>,
+    row: &Row,
+    is_copied: bool,
+    out: &mut String,
+) -> Result<(), RowError> {
     for _ in 0..depth_of(row)? {
-        sampler = Sampler::ParentBased(Box::new(alloc, sampler)?);
+        sampler = Box::new(alloc, Sampler::ParentBased(sampler))?;
     }
-    if !is_copied {
-        return push_answer(alloc, &sampler, row, out);
+    if is_copied {
+        return push_copy(alloc, &sampler, row, out);
     }
+    push_answer(alloc, &sampler, row, out)
+}
+
+/// What a copy of a sampler answers.
+fn push_copy(
+    alloc: Global,
+    sampler: &Sampler,
+    row: &Row,
+    out: &mut String,
+) -> Result<(), RowError> {
     match sampler.try_clone()? {
         Some(copy) => push_answer(alloc, &copy, row, out),
         None => Ok(out.push_str("no copy")?),
@@ -113,9 +136,24 @@ fn push_answer(
     out: &mut String,
 ) -> Result<(), RowError> {
     let parent = parent_of(alloc, row.field(2))?;
-    let answer = ask(sampler, parent.as_ref(), trace_of(row.field(3))?)?;
-    push_result(alloc, &answer, out)?;
+    push_asked(
+        alloc,
+        sampler,
+        parent.as_deref(),
+        trace_of(row.field(3))?,
+        out,
+    )?;
     Ok(())
+}
+
+fn push_asked(
+    alloc: Global,
+    sampler: &Sampler,
+    parent_context: Option<&Context>,
+    trace_id: TraceId,
+    out: &mut String,
+) -> Result<(), AllocError> {
+    push_result(alloc, &ask(sampler, parent_context, trace_id)?, out)
 }
 
 fn push_result(alloc: Global, answer: &SamplingResult, out: &mut String) -> Result<(), AllocError> {
@@ -134,19 +172,20 @@ fn push_result(alloc: Global, answer: &SamplingResult, out: &mut String) -> Resu
 }
 
 /// The context that a span starts in.
-fn parent_of(alloc: Global, name: &str) -> Result<Option<Context>, RowError> {
+fn parent_of(alloc: Global, name: &str) -> Result<Option<Box<Context>>, RowError> {
     match name {
         "root" => Ok(None),
-        "no-span" => Ok(Some(Context::new())),
-        "empty" => Ok(under(SpanContext::empty_context())?),
-        "sampled" => Ok(under(remote_span(alloc, TraceFlags::SAMPLED)?)?),
-        "unsampled" => Ok(under(remote_span(alloc, TraceFlags::new(0xfe))?)?),
+        "no-span" => Ok(Some(Box::new(alloc, Context::new())?)),
+        "empty" => Ok(under(alloc, SpanContext::empty_context())?),
+        "sampled" => Ok(under(alloc, remote_span(alloc, TraceFlags::SAMPLED)?)?),
+        "unsampled" => Ok(under(alloc, remote_span(alloc, TraceFlags::new(0xfe))?)?),
         _ => Err(RowError::Field),
     }
 }
 
-fn under(span_context: SpanContext) -> Result<Option<Context>, AllocError> {
-    Ok(Some(Context::new().with_span_context(span_context)?))
+fn under(alloc: Global, span_context: SpanContext) -> Result<Option<Box<Context>>, AllocError> {
+    let cx = Context::new().with_span_context(span_context)?;
+    Ok(Some(Box::new(alloc, cx)?))
 }
 
 /// A span of another process, whose trace state is `foo=bar`.

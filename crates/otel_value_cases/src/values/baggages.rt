@@ -1,7 +1,7 @@
 //! Baggages. Their entries are written as a list, `name=value|` or `name=value;metadata|` each.
 
-use crate::fields::{Row, RowError, pair_of, put_short};
 use opentelemetry::baggage::{Baggage, BaggageError, BaggageMetadata};
+use otel_case_rows::fields::{Row, RowError, pair_of, put_short};
 use std::alloc::{AllocError, Global};
 
 /// Answers a row whose word is one of these; false where it is none.
@@ -9,7 +9,6 @@ pub fn answer(alloc: Global, row: &Row, out: &mut String) -> Result<bool, RowErr
     match row.word.as_str() {
         "baggage-insert" => put_inserted(alloc, row, out)?,
         "baggage-get" => put_found(alloc, row, out)?,
-        "baggage-remove" => put_removed(alloc, row, out)?,
         "baggage-error" => put_error(row.field(0), out)?,
         _ => return Ok(false),
     }
@@ -130,28 +129,6 @@ fn put_metadata(baggage: &Baggage, name: &str, out: &mut String) -> Result<(), A
         Ok(())
     } else {
         write!(out, ";{metadata}")
-    }
-}
-
-/// Puts out the value of each name that is taken out in turn, and what is left.
-fn put_removed(alloc: Global, row: &Row, out: &mut String) -> Result<(), RowError> {
-    let mut baggage = baggage_of(alloc, row.field(0))?;
-    for (i, name) in row.fields.iter().enumerate() {
-        if i > 0 {
-            put_value(baggage.remove(name.as_str()), out)?;
-        }
-    }
-    put_counted(alloc, &baggage, out)?;
-    Ok(())
-}
-
-fn put_value(
-    removed: Option<(String, BaggageMetadata)>,
-    out: &mut String,
-) -> Result<(), AllocError> {
-    match removed {
-        Some((value, _metadata)) => write!(out, "{value} "),
-        None => out.push_str("none "),
     }
 }
 

@@ -1,7 +1,7 @@
 //! The carrier in memory. Its texts are written as a list, `name=text|` each.
 
-use crate::fields::{Row, RowError, pair_of};
 use opentelemetry::propagation::{Extractor, Injector, MapCarrier};
+use otel_case_rows::fields::{Row, RowError, pair_of};
 use std::alloc::{AllocError, Global};
 
 /// Answers a row whose word is one of these; false where it is none.

@@ -2,10 +2,10 @@
 
 use super::baggages::{baggage_of, insert_allowed, put_entries};
 use super::spans::put_span;
-use super::states::state_of;
-use crate::fields::{Row, RowError, number_of, pair_of};
 use opentelemetry::trace::SpanContext;
 use opentelemetry::{Context, SpanId, TraceFlags, TraceId};
+use otel_case_rows::fields::{Row, RowError, number_of, pair_of};
+use otel_case_rows::values::state_of;
 use std::alloc::{AllocError, Global};
 
 /// Answers a row whose word is one of these; false where it is none.
@@ -40,7 +40,7 @@ fn with_step(alloc: Global, cx: &Context, step: &str) -> Result<Context, RowErro
     }
 }
 
-/// The sampled remote span context of a span's id and a trace state behind a colon; the empty one of an empty text.
+/// The sampled remote span context of a span's id and a trace state after a colon; the empty one of an empty text.
 fn span_of(alloc: Global, text: &str) -> Result<SpanContext, RowError> {
     if text.is_empty() {
         return Ok(SpanContext::empty_context());

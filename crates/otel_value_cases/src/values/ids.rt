@@ -1,7 +1,8 @@
 //! Ids and flags.
 
-use crate::fields::{Row, RowError};
 use opentelemetry::{SpanId, TraceFlags, TraceId};
+use otel_case_rows::fields::{Row, RowError};
+use otel_case_rows::values::flags_of;
 use std::alloc::AllocError;
 
 /// Answers a row whose word is one of these; false where it is none.
@@ -12,7 +13,7 @@ pub fn answer(row: &Row, out: &mut String) -> Result<bool, RowError> {
         "span-id" => put_span_id(text, out)?,
         "trace-number" => put_trace_number(text, out)?,
         "span-number" => put_span_number(row.number(0)?, out)?,
-        "flags" => put_flags(flags_of(text)?, out)?,
+        "flags" => put_flags(named_flags_of(text)?, out)?,
         _ => return Ok(false),
     }
     Ok(true)
@@ -42,7 +43,7 @@ fn put_span_id(text: &str, out: &mut String) -> Result<(), AllocError> {
     }
 }
 
-/// What stands behind an id that may be invalid.
+/// What stands after an id that may be invalid.
 fn mark_of(is_invalid: bool) -> &'static str {
     if is_invalid { " invalid" } else { "" }
 }
@@ -70,18 +71,12 @@ fn put_span_number(number: u64, out: &mut String) -> Result<(), AllocError> {
 }
 
 /// The flags that a text names or whose number it writes.
-fn flags_of(text: &str) -> Result<TraceFlags, RowError> {
+fn named_flags_of(text: &str) -> Result<TraceFlags, RowError> {
     match text {
         "sampled" => Ok(TraceFlags::SAMPLED),
         "default" => Ok(TraceFlags::default()),
-        number => numbered_flags_of(number),
+        number => flags_of(number),
     }
-}
-
-/// The flags whose number a text writes.
-pub fn numbered_flags_of(text: &str) -> Result<TraceFlags, RowError> {
-    let number = text.parse::<u8>().or(Err(RowError::Field))?;
-    Ok(TraceFlags::new(number))
 }
 
 /// Puts out flags: their number, their text, whether they say sampled, their numbers with that bit set and then

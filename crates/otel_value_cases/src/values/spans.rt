@@ -1,13 +1,11 @@
 //! What a span is made of: its context, its status, its builder and its scope.
 
-use super::attributes::{key_of, order_of};
-use super::states::state_of;
-use crate::fields::{Row, RowError, number_of};
-use opentelemetry::trace::{Event, Link, SpanBuilder, SpanContext, SpanKind, Status, TraceState};
-use opentelemetry::{
-    InstrumentationScope, InstrumentationScopeBuilder, KeyValue, Moment, SpanId, TraceFlags,
-    TraceId, Value,
-};
+use super::attributes::order_of;
+use opentelemetry::trace::{SpanBuilder, SpanContext};
+use opentelemetry::{InstrumentationScope, KeyValue, Moment, SpanId, TraceFlags, TraceId};
+use otel_case_rows::fields::{Row, RowError, number_of};
+use otel_case_rows::spans::{events_of, links_of, scope_of};
+use otel_case_rows::values::{attributes_of, kind_of, state_of, status_of};
 use std::alloc::{AllocError, Global};
 
 /// Answers a row whose word is one of these; false where it is none.
@@ -16,7 +14,7 @@ pub fn answer(alloc: Global, row: &Row, out: &mut String) -> Result<bool, RowErr
         "span-context" => put_validity(alloc, &span_context_of(alloc, row)?, out)?,
         "statuses" => put_statuses(alloc, row, out)?,
         "builder" => put_builder(&builder_of(alloc, row)?, out)?,
-        "scope" => put_scope(&scope_of(alloc, row)?, out)?,
+        "scope" => put_scope(&scope_of(alloc, row.field(0))?.clone()?, out)?,
         _ => return Ok(false),
     }
     Ok(true)
@@ -67,69 +65,12 @@ pub fn put_span(
     Ok(())
 }
 
-/// The status that a text names, or an error whose description stands behind `error:`.
-pub fn status_of(alloc: Global, text: &str) -> Result<Status, RowError> {
-    if let Some(description) = text.strip_prefix("error:") {
-        return Ok(Status::Error {
-            description: String::from_str(alloc, description)?,
-        });
-    }
-    match text {
-        "unset" => Ok(Status::Unset),
-        "ok" => Ok(Status::Ok),
-        "default" => Ok(Status::default()),
-        _ => Err(RowError::Field),
-    }
-}
-
 /// Puts out how a copy of one status stands to another.
 fn put_statuses(alloc: Global, row: &Row, out: &mut String) -> Result<(), RowError> {
     let first = status_of(alloc, row.field(0))?.clone()?;
     let second = status_of(alloc, row.field(1))?;
     out.push_str(order_of(first < second, first == second))?;
     Ok(())
-}
-
-/// The attributes of a list of keys, with a bar behind each; each value is 7.
-pub fn attributes_of(alloc: Global, list: &str) -> Result<Vec<KeyValue>, RowError> {
-    let mut attributes = Vec::new(alloc);
-    for text in list.split('|') {
-        if !text.is_empty() {
-            attributes.push(KeyValue::new(key_of(alloc, text)?, Value::I64(7)))?;
-        }
-    }
-    Ok(attributes)
-}
-
-/// The events of a list of names, with a bar behind each; each happens at 8.
-pub fn events_of(alloc: Global, list: &str) -> Result<Vec<Event>, AllocError> {
-    let mut events = Vec::new(alloc);
-    for name in list.split('|') {
-        if !name.is_empty() {
-            let name = String::from_str(alloc, name)?;
-            events.push(Event::new(name, Moment(8), Vec::new(alloc), 0))?;
-        }
-    }
-    Ok(events)
-}
-
-/// The links to spans of trace 1, of a list of their numbers, with a bar behind each.
-pub fn links_of(alloc: Global, list: &str) -> Result<Vec<Link>, RowError> {
-    let mut links = Vec::new(alloc);
-    for number in list.split('|') {
-        if !number.is_empty() {
-            let span_context = numbered_context_of(number)?;
-            links.push(Link::new(span_context, Vec::new(alloc), 0))?;
-        }
-    }
-    Ok(links)
-}
-
-/// The sampled local span context of trace 1 and the span of a number.
-pub fn numbered_context_of(number: &str) -> Result<SpanContext, RowError> {
-    let span_id = SpanId::from(number_of(number)?);
-    let flags = TraceFlags::SAMPLED;
-    Ok(SpanContext::new(TraceId::from(1), span_id, flags, false, TraceState::new()))
 }
 
 /// A copy of a builder for which a name, a kind, a start, attributes, events and links were set.
@@ -170,7 +111,7 @@ fn with_events(
     alloc: Global,
     builder: SpanBuilder,
     list: Option<&str>,
-) -> Result<SpanBuilder, AllocError> {
+) -> Result<SpanBuilder, RowError> {
     match list {
         Some(list) => Ok(builder.with_events(events_of(alloc, list)?)),
         None => Ok(builder),
@@ -185,18 +126,6 @@ fn with_links(
     match list {
         Some(list) => Ok(builder.with_links(links_of(alloc, list)?)),
         None => Ok(builder),
-    }
-}
-
-pub fn kind_of(name: &str) -> Result<SpanKind, RowError> {
-    match name {
-        "Client" => Ok(SpanKind::Client),
-        "Server" => Ok(SpanKind::Server),
-        "Producer" => Ok(SpanKind::Producer),
-        "Consumer" => Ok(SpanKind::Consumer),
-        "Internal" => Ok(SpanKind::Internal),
-        "default" => Ok(SpanKind::default()),
-        _ => Err(RowError::Field),
     }
 }
 
@@ -228,38 +157,6 @@ fn put_start(builder: &SpanBuilder, out: &mut String) -> Result<(), AllocError> 
 fn put_count(attributes: &[KeyValue], out: &mut String) -> Result<(), AllocError> {
     let count = attributes.len();
     write!(out, " {count}")
-}
-
-/// A copy of a scope for which a name, a version, a schema's address and attributes were set.
-pub fn scope_of(alloc: Global, row: &Row) -> Result<InstrumentationScope, RowError> {
-    let name = String::from_str(alloc, row.field(0))?;
-    let builder = InstrumentationScope::builder(alloc, name);
-    let builder = with_url(
-        with_version(builder, row.owned(alloc, 1)?),
-        row.owned(alloc, 2)?,
-    );
-    let attributes = attributes_of(alloc, row.given(3).unwrap_or(""))?;
-    Ok(builder.with_attributes(attributes).build()?.clone()?)
-}
-
-fn with_version(
-    builder: InstrumentationScopeBuilder,
-    version: Option<String>,
-) -> InstrumentationScopeBuilder {
-    match version {
-        Some(version) => builder.with_version(version),
-        None => builder,
-    }
-}
-
-fn with_url(
-    builder: InstrumentationScopeBuilder,
-    url: Option<String>,
-) -> InstrumentationScopeBuilder {
-    match url {
-        Some(url) => builder.with_schema_url(url),
-        None => builder,
-    }
 }
 
 /// Puts out what was set for a scope, and how many attributes.

@@ -1,7 +1,8 @@
 //! Trace states.
 
-use crate::fields::{Row, RowError, pair_of};
 use opentelemetry::trace::{TraceState, TraceStateError};
+use otel_case_rows::fields::{Row, RowError, pair_of};
+use otel_case_rows::values::state_of;
 use std::alloc::{AllocError, Global};
 
 /// Answers a row whose word is one of these; false where it is none.
@@ -11,23 +12,10 @@ pub fn answer(alloc: Global, row: &Row, out: &mut String) -> Result<bool, RowErr
         "tracestate-pairs" => put_paired(alloc, row.field(0), out)?,
         "tracestate-insert" => put_inserted(alloc, row, out)?,
         "tracestate-delete" => put_deleted(alloc, row, out)?,
-        "tracestate-get" => put_found(alloc, row, out)?,
         "tracestate-error" => put_error(row.field(0), out)?,
         _ => return Ok(false),
     }
     Ok(true)
-}
-
-/// The trace state of a text; the empty one where there is no text.
-pub fn state_of(alloc: Global, text: Option<&str>) -> Result<TraceState, RowError> {
-    let Some(text) = text else {
-        return Ok(TraceState::new());
-    };
-    match TraceState::from_str(alloc, text) {
-        Ok(state) => Ok(state),
-        Err(TraceStateError::Memory) => Err(RowError::Memory),
-        Err(_) => Err(RowError::Field),
-    }
 }
 
 /// Puts out the header of a copy of a trace state, or the name of an error.
@@ -76,12 +64,6 @@ fn put_inserted(alloc: Global, row: &Row, out: &mut String) -> Result<(), RowErr
 fn put_deleted(alloc: Global, row: &Row, out: &mut String) -> Result<(), RowError> {
     let state = state_of(alloc, row.given(0))?;
     put_state(alloc, state.delete(alloc, row.field(1)), out)?;
-    Ok(())
-}
-
-fn put_found(alloc: Global, row: &Row, out: &mut String) -> Result<(), RowError> {
-    let state = state_of(alloc, row.given(0))?;
-    out.push_str(state.get(row.field(1)).unwrap_or("none"))?;
     Ok(())
 }
 

@@ -1,8 +1,9 @@
 //! Thresholds, and trace states that are read and written.
 
-use crate::fields::{RowError, field, number};
 use opentelemetry::TraceId;
 use opentelemetry::trace::TraceState;
+use otel_case_rows::fields::{Row, RowError};
+use otel_case_rows::values::state_of;
 use otel_probability::Threshold;
 use otel_probability::trace_state::{
     randomness_in, threshold_in, with_threshold, without_threshold,
@@ -10,14 +11,14 @@ use otel_probability::trace_state::{
 use otel_sampling::trace::Ratio;
 use std::alloc::{AllocError, Global};
 
-pub fn push_share(row: &str, out: &mut String) -> Result<(), RowError> {
-    let share = Ratio::new(number(row, 1)?, number(row, 2)?).or(Err(RowError::Field))?;
+pub fn push_share(row: &Row, out: &mut String) -> Result<(), RowError> {
+    let share = Ratio::new(row.number(0)?, row.number(1)?).or(Err(RowError::Field))?;
     push_number(Threshold::of_share(share).to_u64(), out)?;
     Ok(())
 }
 
-pub fn push_threshold_in(alloc: Global, row: &str, out: &mut String) -> Result<(), RowError> {
-    let state = state_of(alloc, field(row, 1))?;
+pub fn push_threshold_in(alloc: Global, row: &Row, out: &mut String) -> Result<(), RowError> {
+    let state = state_of(alloc, row.given(0))?;
     match threshold_in(&state) {
         Some(threshold) => push_number(threshold.to_u64(), out)?,
         None => out.push_str("none")?,
@@ -25,33 +26,26 @@ pub fn push_threshold_in(alloc: Global, row: &str, out: &mut String) -> Result<(
     Ok(())
 }
 
-pub fn push_randomness_in(alloc: Global, row: &str, out: &mut String) -> Result<(), RowError> {
-    let state = state_of(alloc, field(row, 1))?;
-    let randomness = randomness_in(&state, trace_of(field(row, 2))?);
+pub fn push_randomness_in(alloc: Global, row: &Row, out: &mut String) -> Result<(), RowError> {
+    let state = state_of(alloc, row.given(0))?;
+    let randomness = randomness_in(&state, trace_of(row.field(1))?);
     push_number(randomness.to_u64(), out)?;
     Ok(())
 }
 
-pub fn push_with(alloc: Global, row: &str, out: &mut String) -> Result<(), RowError> {
-    let threshold = threshold_of(field(row, 1))?;
-    let state = state_of(alloc, field(row, 2))?;
+pub fn push_with(alloc: Global, row: &Row, out: &mut String) -> Result<(), RowError> {
+    let threshold = threshold_of(row.field(0))?;
+    let state = state_of(alloc, row.given(1))?;
     let new = with_threshold(&state, alloc, threshold)?;
     push_state(alloc, &new, out)?;
     Ok(())
 }
 
-pub fn push_without(alloc: Global, row: &str, out: &mut String) -> Result<(), RowError> {
-    let state = state_of(alloc, field(row, 1))?;
+pub fn push_without(alloc: Global, row: &Row, out: &mut String) -> Result<(), RowError> {
+    let state = state_of(alloc, row.given(0))?;
     let new = without_threshold(&state, alloc)?;
     push_state(alloc, &new, out)?;
     Ok(())
-}
-
-pub fn state_of(alloc: Global, text: &str) -> Result<TraceState, RowError> {
-    match text {
-        "-" => Ok(TraceState::new()),
-        _ => TraceState::from_str(alloc, text).or(Err(RowError::Field)),
-    }
 }
 
 pub fn threshold_of(text: &str) -> Result<Threshold, RowError> {

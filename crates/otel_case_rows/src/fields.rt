@@ -24,11 +24,12 @@ impl<T: Drop> From<AllocFailed<T>> for RowError {
     }
 }
 
-/// A line: its word and the fields behind it.
+/// A line, its word and the fields after it, and the bytes that the lines of its input write.
 #[derive(Drop)]
 pub struct Row {
     pub word: String,
     pub fields: Vec<String>,
+    pub input: Vec<u8>,
 }
 
 impl Row {
@@ -90,17 +91,30 @@ pub fn row_of(alloc: Global, line: &str) -> Result<Row, RowError> {
             fields.push(text_of(alloc, part)?)?;
         }
     }
-    Ok(Row { word, fields })
+    let input = Vec::new(alloc);
+    Ok(Row {
+        word,
+        fields,
+        input,
+    })
 }
 
 /// The parts of a text, between slashes, as the fields of a row without a word.
 pub fn parts_of(alloc: Global, text: &str) -> Result<Row, AllocError> {
+    parts_between(alloc, text, '/')
+}
+
+/// The same between other marks.
+pub fn parts_between(alloc: Global, text: &str, mark: char) -> Result<Row, AllocError> {
     let mut fields = Vec::new(alloc);
-    for part in text.split('/') {
+    for part in text.split(mark) {
         fields.push(String::from_str(alloc, part)?)?;
     }
-    let word = String::new(alloc);
-    Ok(Row { word, fields })
+    Ok(Row {
+        word: String::new(alloc),
+        fields,
+        input: Vec::new(alloc),
+    })
 }
 
 /// Puts a text out; of one of more than 4,000 bytes only how many it has.
@@ -120,8 +134,8 @@ fn text_of(alloc: Global, field: &str) -> Result<String, RowError> {
     String::from_utf8(bytes).or(Err(RowError::Field))
 }
 
-/// Puts the bytes that a field writes behind others.
-pub fn push_bytes(alloc: Global, bytes: &mut Vec<u8>, field: &str) -> Result<(), RowError> {
+/// Appends the bytes that a field writes.
+fn push_bytes(alloc: Global, bytes: &mut Vec<u8>, field: &str) -> Result<(), RowError> {
     for (i, part) in field.split('\\').enumerate() {
         if i == 0 {
             bytes.extend_from_slice(part.as_bytes())?;
@@ -132,68 +146,106 @@ pub fn push_bytes(alloc: Global, bytes: &mut Vec<u8>, field: &str) -> Result<(),
     Ok(())
 }
 
-/// Puts what stands behind a backslash behind other bytes.
+/// Appends what stands after a backslash.
 fn push_escaped(alloc: Global, bytes: &mut Vec<u8>, part: &str) -> Result<(), RowError> {
-    let rest = if let Some(rest) = part.strip_prefix('s') {
-        bytes.push(b' ')?;
-        rest
-    } else if let Some(rest) = part.strip_prefix('t') {
-        bytes.push(b'\t')?;
-        rest
-    } else if let Some(rest) = part.strip_prefix('n') {
-        bytes.push(b'\n')?;
-        rest
-    } else if let Some(rest) = part.strip_prefix('r') {
-        bytes.push(b'\r')?;
-        rest
-    } else if let Some(rest) = part.strip_prefix('b') {
-        bytes.push(b'\\')?;
-        rest
-    } else if let Some(rest) = part.strip_prefix('e') {
-        rest
-    } else if let Some(rest) = part.strip_prefix('{') {
-        push_repeated(alloc, bytes, rest)?
-    } else {
-        push_numbered(bytes, part)?
-    };
-    bytes.extend_from_slice(rest.as_bytes())?;
-    Ok(())
+    if let Some(repeated) = part.strip_prefix('{') {
+        return push_repeated(alloc, bytes, repeated);
+    }
+    match byte_of(part) {
+        Some(byte) => push_byte(bytes, byte, part.get(1..).unwrap_or("")),
+        None if part.starts_with('e') => push_text(bytes, part.get(1..).unwrap_or("")),
+        None => push_numbered(bytes, part),
+    }
 }
 
-/// Puts the byte of a number that ends in a point behind other bytes, and gives the rest.
-fn push_numbered<'a>(bytes: &mut Vec<u8>, part: &'a str) -> Result<&'a str, RowError> {
+/// The byte that the letter at the head of a text writes.
+fn byte_of(part: &str) -> Option<u8> {
+    match part.as_bytes().first()? {
+        b's' => Some(b' '),
+        b't' => Some(b'\t'),
+        b'n' => Some(b'\n'),
+        b'r' => Some(b'\r'),
+        b'b' => Some(b'\\'),
+        _ => None,
+    }
+}
+
+/// Appends a byte and a text.
+fn push_byte(bytes: &mut Vec<u8>, byte: u8, rest: &str) -> Result<(), RowError> {
+    bytes.push(byte)?;
+    push_text(bytes, rest)
+}
+
+fn push_text(bytes: &mut Vec<u8>, text: &str) -> Result<(), RowError> {
+    Ok(bytes.extend_from_slice(text.as_bytes())?)
+}
+
+/// Appends the byte of a number that ends in a point, and the rest.
+fn push_numbered(bytes: &mut Vec<u8>, part: &str) -> Result<(), RowError> {
     let (number, rest) = part.split_once('.').ok_or(RowError::Field)?;
-    bytes.push(number.parse::<u8>().or(Err(RowError::Field))?)?;
-    Ok(rest)
+    push_byte(bytes, number.parse::<u8>().or(Err(RowError::Field))?, rest)
 }
 
-/// Puts a text behind other bytes as often as the number in front of it says, and gives the rest.
-fn push_repeated<'a>(
-    alloc: Global,
-    bytes: &mut Vec<u8>,
-    part: &'a str,
-) -> Result<&'a str, RowError> {
+/// Appends a text as often as the number before it says, and the rest.
+fn push_repeated(alloc: Global, bytes: &mut Vec<u8>, part: &str) -> Result<(), RowError> {
     let (repeated, rest) = part.split_once('}').ok_or(RowError::Field)?;
     let (times, text) = repeated.split_once('*').ok_or(RowError::Field)?;
-    for time in 0..small_number_of(times)? {
-        push_time(alloc, bytes, text, time)?;
-    }
-    Ok(rest)
+    push_times(alloc, bytes, text, small_number_of(times)?)?;
+    push_text(bytes, rest)
 }
 
-/// Puts a text once behind other bytes, with the number of the time for `#`.
-pub fn push_time(
+/// Appends a text so many times.
+fn push_times(
     alloc: Global,
     bytes: &mut Vec<u8>,
     text: &str,
-    time: u32,
+    times: u32,
 ) -> Result<(), AllocError> {
+    for time in 0..times {
+        push_time(alloc, bytes, text, time)?;
+    }
+    Ok(())
+}
+
+/// Appends a text once, with the number of the time for `#`.
+fn push_time(alloc: Global, bytes: &mut Vec<u8>, text: &str, time: u32) -> Result<(), AllocError> {
     let number = format!(in alloc; "{time:03}")?;
     for (i, part) in text.split('#').enumerate() {
         if i > 0 {
             bytes.extend_from_slice(number.as_bytes())?;
         }
         bytes.extend_from_slice(part.as_bytes())?;
+    }
+    Ok(())
+}
+
+/// Appends what a line of input writes, without its `>`: a space and a line, which is written as a field is, `> ` and
+/// bytes that no line feed follows, or `N ` and a line that comes N times.
+pub fn push_input(alloc: Global, input: &mut Vec<u8>, written: &str) -> Result<(), RowError> {
+    let (how, line) = written.split_once(' ').unwrap_or((written, ""));
+    match how {
+        ">" => push_bytes(alloc, input, line),
+        "" => push_line(alloc, input, line),
+        times => Ok(push_lines(alloc, input, small_number_of(times)?, line)?),
+    }
+}
+
+/// Appends the bytes that a line writes, and a line feed.
+fn push_line(alloc: Global, input: &mut Vec<u8>, line: &str) -> Result<(), RowError> {
+    push_bytes(alloc, input, line)?;
+    Ok(input.push(b'\n')?)
+}
+
+/// Appends a line so many times, with the number of the time for `#`.
+fn push_lines(
+    alloc: Global,
+    input: &mut Vec<u8>,
+    times: u32,
+    line: &str,
+) -> Result<(), AllocError> {
+    for time in 0..times {
+        push_time(alloc, input, line, time)?;
+        input.push(b'\n')?;
     }
     Ok(())
 }

@@ -1,11 +1,11 @@
 //! The configuration of a batch processor: the sizes of its queue and of a batch, then the delay of its timer and the
 //! time of an export in nanoseconds.
 
-use crate::fields::{Row, RowError, number_of};
 use otel_batch::trace::batch_config::{
     BatchConfig, BatchConfigBuilder, OTEL_BSP_EXPORT_TIMEOUT, OTEL_BSP_MAX_EXPORT_BATCH_SIZE,
     OTEL_BSP_MAX_QUEUE_SIZE, OTEL_BSP_SCHEDULE_DELAY,
 };
+use otel_case_rows::fields::{Row, RowError, number_of};
 use otel_sampling::trace::BatchStrings;
 use std::alloc::{AllocError, Global};
 use std::time::Duration;
