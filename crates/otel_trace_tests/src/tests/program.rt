@@ -85,15 +85,20 @@ fn status_of_fault(rt: &impl Abort, alloc: Global, words: &[&str], takes: bool) 
     status_over(rt, alloc, words, &mut input, streams)
 }
 
+/// The same of words that are enough, and of words that are not.
+fn statuses_of_faults(rt: &impl Abort, alloc: Global, takes: bool) -> (u8, u8) {
+    let of_line = status_of_fault(rt, alloc, SIMPLE, takes);
+    (of_line, status_of_fault(rt, alloc, &["trace"], takes))
+}
+
 #[test]
 fn a_stream_that_fails_is_status_1(rt: HostRuntime) {
     for text in ["", "start s a 1"] {
-        assert_eq!(rt; status_of_input(&rt, rt.alloc(), text), (1, 0), "{text}");
+        assert_eq!(rt; status_of_input(&rt, rt.alloc(), text), (1, 0));
     }
     for takes in [false, true] {
         assert_eq!(rt; status_of_output(&rt, rt.alloc(), takes), (1, 0));
-        assert_eq!(rt; status_of_fault(&rt, rt.alloc(), SIMPLE, takes), 1);
-        assert_eq!(rt; status_of_fault(&rt, rt.alloc(), &["trace"], takes), 1);
+        assert_eq!(rt; statuses_of_faults(&rt, rt.alloc(), takes), (1, 1));
     }
 }
 
