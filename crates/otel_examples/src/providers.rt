@@ -111,8 +111,8 @@ fn show<P: SpanProcessor + Shows, S: Drop>(
     Ok(())
 }
 
-/// Traces spans, and shuts down behind a flush. The answer is the attributes of each span, and what the processor shows
-/// before the flush and behind the shutdown.
+/// Traces spans, and shuts down after a flush. The answer is the attributes of each span, and what the processor shows
+/// before the flush and after the shutdown.
 fn trace_all<P: SpanProcessor + Shows, S: ShouldSample + Drop>(
     alloc: Global,
     provider: &mut Provider<P, S>,

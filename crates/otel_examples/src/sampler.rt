@@ -100,7 +100,7 @@ mod tests {
         }
     }
 
-    /// The sampler's attribute stands behind the builder's.
+    /// The sampler's attribute stands after the builder's.
     #[test]
     fn a_span_that_serves_a_request_is_marked_and_others_are_dropped(
         rt: HostRuntime,

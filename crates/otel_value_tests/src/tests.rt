@@ -1,4 +1,4 @@
-//! Tests of objects of one's own behind each interface, and of calls that are made again where they found no memory:
+//! Tests of objects of one's own at each interface, and of calls that are made again where they found no memory:
 //! `tools/sweep` refuses each request in turn. What text can show of values, headers, resources, samplers and exporters
 //! is asked by the rows of `otel_cases`.
 

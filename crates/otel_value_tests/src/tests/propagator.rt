@@ -81,7 +81,7 @@ fn span_in<P: TextMapPropagator>(
 }
 
 /// What a propagator injects that refuses by itself or not, and the span that it then extracts. Another refusal, or one
-/// before the greeting was set, is want of memory.
+/// before the greeting was set, means that there was no memory.
 fn shown<P: TextMapPropagator>(
     alloc: Global,
     propagator: &P,
