@@ -22,9 +22,9 @@ pub use otel_pipeline::trace::{
     SdkTracer, SimpleSpanProcessor, Span, SpanEdit, SpanProcessor,
 };
 pub use otel_sampling::trace::{
-    BatchStrings, Config, ConfigOf, ConfigStrings, IdGenerator, IdSource, IdSourceOf, ParentBased,
-    RandomIdGenerator, Ratio, RatioError, Sampler, SamplerOf, SamplingDecision, SamplingResult,
-    ShouldSample, SpanLimits, XrayIdGenerator,
+    BatchStrings, Config, ConfigOf, ConfigStrings, GivesIds, IdGenerator, IdSource, IdSourceOf,
+    ParentBased, RandomIdGenerator, Ratio, RatioError, Sampler, SamplerOf, SamplingDecision,
+    SamplingResult, ShouldSample, SpanLimits, XrayIdGenerator,
 };
 pub use processor::{Processor, ProcessorOf};
 

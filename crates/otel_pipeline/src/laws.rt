@@ -25,7 +25,7 @@ ghost use Rattle.otel_sampling.specs.declared.trace.sampler.SamplerOf.{SamplerOf
 use crate::trace::{Span, SpanProcessor};
 use opentelemetry::laws::span_contexts_fit;
 use opentelemetry::trace::SpanContext;
-use otel_sampling::trace::{IdGenerator, ParentBased, SamplerOf, ShouldSample};
+use otel_sampling::trace::{GivesIds, ParentBased, SamplerOf, ShouldSample};
 
 /// Each span, wherever it comes from, has a history: a start and edits that made what it records, or it is over.
 pub fn spans_have_histories(span: &Span)
@@ -36,12 +36,12 @@ pub fn spans_have_histories(span: &Span)
 
 /// A start, whatever it answers, changes the processors and the generator of a provider alone, and each processor tells
 /// what it told.
-pub fn starts_tell_nothing<P: SpanProcessor, S: ShouldSample, G: IdGenerator>()
+pub fn starts_tell_nothing<P: SpanProcessor, S: ShouldSample, G: GivesIds>()
     ensures told { (old new : ProviderState P S G) (request : StartRequest) (result : Result PlainSpan AllocError)
-        → AnswersStart P.SpanProcessor S.ShouldSample G.IdGenerator old request result new
+        → AnswersStart P.SpanProcessor S.ShouldSample G.GivesIds old request result new
         → map P.told new.processors ≡ map P.told old.processors }
     ensures rest { (old new : ProviderState P S G) (request : StartRequest) (result : Result PlainSpan AllocError)
-        → AnswersStart P.SpanProcessor S.ShouldSample G.IdGenerator old request result new
+        → AnswersStart P.SpanProcessor S.ShouldSample G.GivesIds old request result new
         → new ≡ record old { processors = new.processors; id_generator = new.id_generator } }
 {}
 
@@ -91,22 +91,22 @@ pub fn parent_based_goes_by_parents<C: ShouldSample>()
 
 /// A span that starts at an open provider under a sampler that goes by parents, in a context that is not suppressed and
 /// has an active span, is a child of that span.
-pub fn starts_under_parents_make_children<P: SpanProcessor, S: ShouldSample, G: IdGenerator>()
+pub fn starts_under_parents_make_children<P: SpanProcessor, S: ShouldSample, G: GivesIds>()
     ensures { (old new : ProviderState P S G) (request : StartRequest) (history : SpanHistory)
         (parent : PlainSpanContext)
         → GoesByParents S.ShouldSample old.sampler → old.is_shut ≡ false
         → request.cx.telemetry_suppressed ≡ false → request.cx.span_context ≡ Some parent
-        → Starts P.SpanProcessor S.ShouldSample G.IdGenerator old request history new
+        → Starts P.SpanProcessor S.ShouldSample G.GivesIds old request history new
         → IsChild parent (span_of history).span_context }
 {}
 
 /// Such a start is a hop of the trace, where the span id that it drew is not zero.
-pub fn starts_under_parents_make_hops<P: SpanProcessor, S: ShouldSample, G: IdGenerator>()
+pub fn starts_under_parents_make_hops<P: SpanProcessor, S: ShouldSample, G: GivesIds>()
     ensures { (old new : ProviderState P S G) (request : StartRequest) (history : SpanHistory)
         (parent : PlainSpanContext)
         → GoesByParents S.ShouldSample old.sampler → old.is_shut ≡ false
         → request.cx.telemetry_suppressed ≡ false → request.cx.span_context ≡ Some parent
-        → Starts P.SpanProcessor S.ShouldSample G.IdGenerator old request history new
+        → Starts P.SpanProcessor S.ShouldSample G.GivesIds old request history new
         → 0 < (span_of history).span_context.span_id
         → IsDrawnChild parent (span_of history).span_context }
 {}
@@ -120,18 +120,18 @@ pub fn parent_based_with_delegates_goes_by_parents<S: ShouldSample>()
 
 /// Under a sampler that goes by valid parents, such a start below a valid span makes a child, and a hop where the span
 /// id that it drew is not zero.
-pub fn starts_under_valid_parents_make_hops<P: SpanProcessor, S: ShouldSample, G: IdGenerator>()
+pub fn starts_under_valid_parents_make_hops<P: SpanProcessor, S: ShouldSample, G: GivesIds>()
     ensures child { (old new : ProviderState P S G) (request : StartRequest) (history : SpanHistory)
         (parent : PlainSpanContext)
         → GoesByValidParents S.ShouldSample old.sampler → IsValid parent → old.is_shut ≡ false
         → request.cx.telemetry_suppressed ≡ false → request.cx.span_context ≡ Some parent
-        → Starts P.SpanProcessor S.ShouldSample G.IdGenerator old request history new
+        → Starts P.SpanProcessor S.ShouldSample G.GivesIds old request history new
         → IsChild parent (span_of history).span_context }
     ensures hop { (old new : ProviderState P S G) (request : StartRequest) (history : SpanHistory)
         (parent : PlainSpanContext)
         → GoesByValidParents S.ShouldSample old.sampler → IsValid parent → old.is_shut ≡ false
         → request.cx.telemetry_suppressed ≡ false → request.cx.span_context ≡ Some parent
-        → Starts P.SpanProcessor S.ShouldSample G.IdGenerator old request history new
+        → Starts P.SpanProcessor S.ShouldSample G.GivesIds old request history new
         → 0 < (span_of history).span_context.span_id
         → IsDrawnChild parent (span_of history).span_context }
 {}

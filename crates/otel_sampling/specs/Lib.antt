@@ -1,7 +1,6 @@
 pub mod Agreement
 pub mod Config
 pub mod ConfigStrings
-pub mod GivesAt
 pub mod IdSource
 pub mod Ids
 pub mod Limits

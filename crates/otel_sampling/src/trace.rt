@@ -9,7 +9,7 @@ pub mod span_limit;
 pub mod xray_id_generator;
 
 pub use config::{BatchStrings, Config, ConfigOf, ConfigStrings};
-pub use id_generator::{IdGenerator, IdSource, IdSourceOf, RandomIdGenerator};
+pub use id_generator::{GivesIds, IdGenerator, IdSource, IdSourceOf, RandomIdGenerator};
 pub use parent_based::ParentBased;
 pub use ratio::{Ratio, RatioError};
 pub use sampler::{Sampler, SamplerOf, SamplingDecision, SamplingResult, ShouldSample};

@@ -258,14 +258,21 @@ impl<P, S: Drop, G> ProviderBuilderOf<P, S, G> {
 }
 
 impl<P, S, C: Drop> ProviderBuilderOf<P, S, IdSourceOf<C>> {
-    /// A generator of one's own, in the place of the SDK's under the seed.
+    /// A generator that an application wrote, in the place of the SDK's under the seed.
     pub fn with_id_generator(self, id_generator: C) -> Self
         ensures { result
             ≡ record self { config = record self.config { id_generator = IdSourceOf.Custom id_generator } } }
     {
+        self.with_id_source(IdSourceOf::Custom(id_generator))
+    }
+
+    /// This source of ids, as `IdSourceOf::Xray` over the generator of AWS X-Ray.
+    pub fn with_id_source(self, id_source: IdSourceOf<C>) -> Self
+        ensures { result ≡ record self { config = record self.config { id_generator = id_source } } }
+    {
         let config = self.config;
         let config = ConfigOf {
-            id_generator: IdSourceOf::Custom(id_generator),
+            id_generator: id_source,
             ..config
         };
         ProviderBuilderOf { config, ..self }

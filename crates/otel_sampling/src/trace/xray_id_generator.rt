@@ -2,16 +2,16 @@
 //! began.
 
 ghost use Rattle.std.specs.Prelude.{◌≡◌};
-ghost use Rattle.otel_sampling.specs.XrayIds.{next_xray_trace_id, xray_seconds, xray_trace_id};
+ghost use Rattle.otel_sampling.specs.XrayIds.{xray_seconds, xray_trace_id};
 ghost use Rattle.rand_xoshiro.specs.SplitMix64.{splitmix_seed};
 ghost use Rattle.rand_xoshiro.specs.Xoshiro256.{of_seed};
 
-use crate::trace::{IdGenerator, RandomIdGenerator};
+use crate::trace::{GivesIds, RandomIdGenerator};
 use opentelemetry::{Moment, SpanId, TraceId};
 use std::marker::Model;
 
 /// Draws ids as the generator of the SDK does under the same seed, and puts the seconds since 1970 at which the span
-/// starts in the place of a trace id's first 32 bits. Without a moment the id stays random.
+/// starts in the place of a trace id's first 32 bits. A provider takes it as `IdSourceOf::Xray`.
 #[derive(Debug, Drop)]
 pub struct XrayIdGenerator {
     random: RandomIdGenerator,
@@ -36,30 +36,22 @@ impl XrayIdGenerator {
     }
 }
 
-impl IdGenerator for XrayIdGenerator {
+impl GivesIds for XrayIdGenerator {
     ghost use Rattle.std.specs.Prelude.{◌≡◌};
-    ghost use Rattle.otel_sampling.specs.Ids.{next_span_id, next_trace_id};
+    ghost use Rattle.otel_sampling.specs.Ids.{next_span_id};
     ghost use Rattle.otel_sampling.specs.XrayIds.{next_xray_trace_id};
 
-    ghost trace_id_gives = { λ old id new. (id, new) ≡ next_trace_id old };
+    ghost gives_trace_id = { λ old start id new. (id, new) ≡ next_xray_trace_id start old };
 
-    ghost trace_id_at_gives = { λ old start id new. (id, new) ≡ next_xray_trace_id start old };
+    ghost gives_span_id = { λ old id new. (id, new) ≡ next_span_id old };
 
-    ghost span_id_gives = { λ old id new. (id, new) ≡ next_span_id old };
-
-    fn new_trace_id(&mut self) -> TraceId {
-        self.random.new_trace_id()
-    }
-
-    fn new_trace_id_at(&mut self, start: Moment) -> TraceId
-        ensures { (result, self.new) ≡ next_xray_trace_id start.0 self.old }
-    {
+    fn trace_id_at(&mut self, start: Moment) -> TraceId {
         let random = self.random.next_trace_number();
         TraceId::from(begun_in(seconds_of(start), random))
     }
 
-    fn new_span_id(&mut self) -> SpanId {
-        self.random.new_span_id()
+    fn next_span_id(&mut self) -> SpanId {
+        self.random.next_span_id()
     }
 }
 

@@ -1,7 +1,7 @@
 //! Ids from a generator of one's own.
 
-use opentelemetry::{SpanId, TraceId};
-use otel_sampling::trace::{IdGenerator, IdSource};
+use opentelemetry::{Moment, SpanId, TraceId};
+use otel_sampling::trace::{GivesIds, IdGenerator, IdSource};
 use std::alloc::{AllocError, Global};
 use std::test::Fail;
 
@@ -25,9 +25,9 @@ impl IdGenerator for Counting {
 }
 
 /// Whether the next ids are these.
-fn are_next<G: IdGenerator>(source: &mut G, span_id: u64, trace_id: u128) -> bool {
-    source.new_span_id() == SpanId::from(span_id)
-        && source.new_trace_id() == TraceId::from(trace_id)
+fn are_next<G: GivesIds>(source: &mut G, span_id: u64, trace_id: u128) -> bool {
+    source.next_span_id() == SpanId::from(span_id)
+        && source.trace_id_at(Moment(0)) == TraceId::from(trace_id)
 }
 
 fn counts_on(alloc: Global) -> Result<bool, AllocError> {

@@ -3,6 +3,6 @@ use Rattle.otel_pipeline.proofs.laws.starts_tell_nothing.Goals as goal
 
 pub returns : goal.returns
 returns g c = record {
-  told = answers_told g.P.SpanProcessor g.S.ShouldSample g.G.IdGenerator;
-  rest = answers_rest g.P.SpanProcessor g.S.ShouldSample g.G.IdGenerator;
+  told = answers_told g.P.SpanProcessor g.S.ShouldSample g.G.GivesIds;
+  rest = answers_rest g.P.SpanProcessor g.S.ShouldSample g.G.GivesIds;
 }

@@ -2,4 +2,4 @@ use Rattle.otel_pipeline.proofs.AgreementLemmas.{hop_of_start}
 use Rattle.otel_pipeline.proofs.laws.starts_under_parents_make_hops.Goals as goal
 
 pub returns : goal.returns
-returns g c = hop_of_start g.P.SpanProcessor g.S.ShouldSample g.G.IdGenerator
+returns g c = hop_of_start g.P.SpanProcessor g.S.ShouldSample g.G.GivesIds
