@@ -6,7 +6,7 @@ pub mod EndLemmas
 pub mod FirstChars
 pub mod SpanLaws
 pub mod SettingMany
-pub mod Unrecorded
+pub mod Uncounted
 pub mod Starting
 pub mod Unlimited
 pub mod Following

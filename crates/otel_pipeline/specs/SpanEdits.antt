@@ -1,5 +1,5 @@
 -- Edits of a span, as its history has them, and what each does to what the span has recorded.
-use Rattle.std.specs.Prelude.{ℕ, ◌+◌, ◌-◌, ◌^◌, ◌≤◌, List, [], ◌∷◌, ◌++◌, Option, Some, None, nat_lt, if◌then◌else◌}
+use Rattle.std.specs.Prelude.{ℕ, ◌+◌, ◌-◌, ◌^◌, ◌≤◌, List, [], ◌∷◌, ◌++◌, Option, Some, None, nat_lt, nat_le, Bool, true, if◌then◌else◌}
 use Rattle.std.specs.Prelude.{length, map, min, string_bytes}
 use Rattle.std.specs.List.{flat_map}
 use Rattle.opentelemetry.specs.Plain.{PlainKeyValue, PlainSpanContext, PlainEvent, PlainLink, PlainStatus}
@@ -129,6 +129,11 @@ KeepsNoMore limits (add_event _) recorded = limits.max_events_per_span ≤ lengt
 KeepsNoMore limits (add_link _) recorded = limits.max_links_per_span ≤ length recorded.links.links
 KeepsNoMore limits (set_status _) recorded = Unit {0}
 KeepsNoMore limits (update_name _) recorded = Unit {0}
+
+-- whether an event would not be kept, but counted at most: nothing is recorded, or as many events as the limit allows
+abbrev pub keeps_no_event : SpanLimits → Option PlainSpanData → Bool
+keeps_no_event limits None = true
+keeps_no_event limits (Some recorded) = nat_le limits.max_events_per_span (length recorded.events.events)
 
 -- nothing happens where nothing is recorded
 abbrev pub edited_if : SpanLimits → Edit → Option PlainSpanData → Option PlainSpanData

@@ -12,7 +12,7 @@ pub use Rattle.otel_pipeline.specs.SpanEdits.{attribute_in, event_in, link_in, n
 pub use Rattle.otel_pipeline.specs.SpanEdits.{attributes_within, event_within, grown_by, grown_within, left_out_by}
 pub use Rattle.otel_pipeline.specs.SpanEdits.{left_out_with, link_within}
 pub use Rattle.otel_pipeline.specs.ValueLength.{attribute_within, value_within}
-pub use Rattle.otel_pipeline.specs.SpanEdits.{KeepsNoMore, edited_data, edited_each, edited_if, set_each}
+pub use Rattle.otel_pipeline.specs.SpanEdits.{KeepsNoMore, edited_data, edited_each, edited_if, keeps_no_event, set_each}
 
 -- how a span started; attributes, events and links are those that it was given at once
 pub record SpanStart : Type 0 where

@@ -1,7 +1,8 @@
 //! Errors as events of a span (OpenTelemetry semantic conventions, "Exceptions in spans").
 
-ghost use Rattle.std.specs.Prelude.{◌≡◌, ◌++◌, IfOk, IsNone, IsOk, OnErr, OnOk, Some, string_bytes};
+ghost use Rattle.std.specs.Prelude.{◌≡◌, ◌≤◌, ◌++◌, IfOk, IfSome, IsNone, IsOk, OnErr, OnOk, Some, length, string_bytes, true};
 ghost use Rattle.std.specs.Option.{option_map};
+ghost use Rattle.opentelemetry.specs.Plain.{PlainEvent};
 ghost use Rattle.otel_pipeline.specs.Exceptions.{RecordsError, exception_event, exception_of, text_attribute};
 ghost use Rattle.otel_pipeline.specs.SpanHistory as history;
 
@@ -25,6 +26,7 @@ pub struct Exception {
 impl Model for Exception {
     ghost use Rattle.std.specs.Prelude.{string_bytes};
     ghost use Rattle.std.specs.Option.{option_map};
+    ghost use Rattle.opentelemetry.specs.Plain.{PlainEvent};
     ghost use Rattle.otel_pipeline.specs.Exceptions.{PlainException};
 
     ghost Value = { PlainException };
@@ -97,7 +99,7 @@ fn push_text(
 impl Span {
     /// Records an error that was met at this moment: an event of the name `exception`, whose attribute
     /// `exception.message` is the error's text. All else is as with `record_exception`.
-    #[tactic(auto, using(crate::proofs::Unrecorded::unrecorded))]
+    #[tactic(auto, using(crate::proofs::Uncounted::error_by_any_event))]
     pub fn record_error<E: Error>(
         &mut self,
         alloc: Global,
@@ -108,9 +110,11 @@ impl Span {
         ensures err { OnErr result (self.new ≡ self.old) }
         ensures edits { history.IsEdited self.old self.new }
         ensures free { IsNone self.old.recorded → IsOk result }
+        ensures full { IfSome self.old.recorded
+            (λ recorded. self.old.limits.max_events_per_span ≤ length recorded.events.events → IsOk result) }
     {
-        if !self.is_recording() {
-            return Ok(());
+        if self.keeps_no_event() {
+            return self.count_event(alloc, timestamp);
         }
         let message = error.to_string(alloc)?;
         self.record_exception(alloc, Exception::new(message), timestamp)
@@ -118,8 +122,8 @@ impl Span {
 
     /// Records an error that was met at this moment: an event of the name `exception` with the attributes
     /// `exception.message`, `exception.type` and `exception.stacktrace`, as far as they are known. The event takes
-    /// memory, and is counted and cut as every other. The span's status stays as it is. Nothing happens where the span
-    /// is not recording.
+    /// memory, and is cut as every other; over the limit of events it is only counted, which takes none. The span's
+    /// status stays as it is. Nothing happens where the span is not recording.
     pub fn record_exception(
         &mut self,
         alloc: Global,
@@ -131,11 +135,23 @@ impl Span {
         ensures err { OnErr result (self.new ≡ self.old) }
         ensures edits { history.IsEdited self.old self.new }
         ensures free { IsNone self.old.recorded → IsOk result }
+        ensures full { IfSome self.old.recorded
+            (λ recorded. self.old.limits.max_events_per_span ≤ length recorded.events.events → IsOk result) }
     {
-        if !self.is_recording() {
-            return Ok(());
+        if self.keeps_no_event() {
+            return self.count_event(alloc, timestamp);
         }
         let event = exception.into_event(alloc, timestamp)?;
         self.edit(SpanEdit::AddEvent(event))
+    }
+
+    /// Counts an event that is not kept, where the span records: what an empty event does is what any does.
+    fn count_event(&mut self, alloc: Global, timestamp: Moment) -> Result<(), AllocError>
+        requires { history.keeps_no_event self.old.limits self.old.recorded ≡ true }
+        ensures counts { (event : PlainEvent) → self.new ≡ history.edited (history.add_event event) self.old }
+        ensures edits { history.IsEdited self.old self.new }
+        ensures ok { IsOk result }
+    {
+        self.add_event_with_timestamp(String::new(alloc), timestamp, Vec::new(alloc))
     }
 }
