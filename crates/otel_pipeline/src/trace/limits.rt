@@ -61,6 +61,7 @@ pub(crate) fn append_within(
         ≡ history.left_out_by limits.now.max_attributes_per_span attributes.old.items added.items dropped.old) }
     ensures err { OnErr result ((attributes.new.items ≡ attributes.old.items) × (dropped.new ≡ dropped.old)) }
     ensures full { limits.now.max_attributes_per_span ≤ length attributes.old.items → IsOk result }
+    ensures none { added.items ≡ [] → IsOk result }
 {
     let room = room_behind(attributes, limits.max_attributes_per_span);
     let left_out = cut(&mut added, room);

@@ -1,7 +1,7 @@
 //! A span: one operation within a trace. It records until its end; its end delivers what it recorded to the processors
 //! of its provider. A span must be spent, so that none is forgotten.
 
-ghost use Rattle.std.specs.Prelude.{◌≡◌, ◌≤◌, [], length, map, List, OnOk, OnErr, IfErr, IfOk, IfSome, IsOk, IsNone, Some, is_some, string_bytes};
+ghost use Rattle.std.specs.Prelude.{◌≡◌, ◌≤◌, ◌⊎◌, [], length, map, List, OnOk, OnErr, IfErr, IfOk, IfSome, IsOk, IsNone, Some, is_some, string_bytes};
 ghost use Rattle.std.specs.List.Sorted.{IsPermutation};
 ghost use Rattle.opentelemetry.specs.Order.{greatest_status};
 ghost use Rattle.opentelemetry.specs.Plain.{PlainStatus, unset};
@@ -87,6 +87,18 @@ impl Span {
         self.recorded.is_some()
     }
 
+    /// Whether an event would not be kept, but counted at most.
+    pub(crate) fn keeps_no_event(&self) -> bool
+        ensures { result ≡ history.keeps_no_event self.now.limits self.now.recorded }
+    {
+        match self.recorded.get() {
+            Some(recorded) => {
+                self.span_limits.max_events_per_span as usize <= recorded.events.events.len()
+            }
+            None => true,
+        }
+    }
+
     /// Wherever a span comes from, it is what a start and edits made, or over. It does nothing.
     pub(crate) fn has_history(&self)
         ensures { history.HasHistory self.now }
@@ -125,13 +137,14 @@ impl Span {
         span_edit::set_attribute(&mut self.recorded, &self.span_limits, attribute)
     }
 
-    /// Sets attributes in their order, each as `set_attribute` does. Where there is no memory none is set.
+    /// Sets attributes in their order, each as `set_attribute` does. Where there is no memory none is set; an empty list
+    /// needs none.
     pub fn set_attributes(&mut self, attributes: Vec<KeyValue>) -> Result<(), AllocError>
         ensures ok { OnOk result
             (self.new ≡ history.after (map history.set_attribute attributes.items) self.old) }
         ensures err { OnErr result (self.new ≡ self.old) }
         ensures edits { history.IsEdited self.old self.new }
-        ensures free { IsNone self.old.recorded → IsOk result }
+        ensures free { IsNone self.old.recorded ⊎ (attributes.items ≡ []) → IsOk result }
         ensures full { IfSome self.old.recorded
             (λ recorded. self.old.limits.max_attributes_per_span ≤ length recorded.attributes → IsOk result) }
     {

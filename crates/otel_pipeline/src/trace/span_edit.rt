@@ -1,7 +1,7 @@
 //! Edits of a span: as functions over what it has recorded, which a span's calls share, and as values, for a program
 //! that takes edits from elsewhere.
 
-ghost use Rattle.std.specs.Prelude.{◌≡◌, ◌≤◌, length, IsNone, IsOk, IfSome, OnErr, OnOk};
+ghost use Rattle.std.specs.Prelude.{◌≡◌, ◌≤◌, ◌⊎◌, [], length, IsNone, IsOk, IfSome, OnErr, OnOk};
 ghost use Rattle.opentelemetry.specs.Order.{greater_status};
 ghost use Rattle.opentelemetry.specs.PlainValues.{plain_status};
 ghost use Rattle.otel_pipeline.specs.SpanEdits.{plain_edit};
@@ -92,7 +92,7 @@ pub(crate) fn set_attributes(
 ) -> Result<(), AllocError>
     ensures ok { OnOk result (recorded.new ≡ history.set_each limits.now added.items recorded.old) }
     ensures err { OnErr result (recorded.new ≡ recorded.old) }
-    ensures free { IsNone recorded.old → IsOk result }
+    ensures free { IsNone recorded.old ⊎ (added.items ≡ []) → IsOk result }
     ensures full { IfSome recorded.old
         (λ recorded. limits.now.max_attributes_per_span ≤ length recorded.attributes → IsOk result) }
 {
