@@ -61,6 +61,7 @@ module _ {E : Type 0} (calls : Ghosts E) {keeps : E → List (List PlainSpanData
           answer = h.answer;
           gives = g.2;
           told = exporter_tells_behind recalls bs p.exporter e q.exporter g.0 behind g.1 ((span ∷ []) ∷ []) h.told;
+          counted = h.counted;
           rest = ap (λ (r : SimpleProcessor E). simple_before r g.0) h.rest;
         },
       )

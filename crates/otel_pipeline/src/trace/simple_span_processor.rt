@@ -1,7 +1,8 @@
 //! The processor that exports each sampled span as soon as it ends, in a batch of its own (OpenTelemetry specification,
 //! "Simple processor").
 
-ghost use Rattle.std.specs.Prelude.{◌≡◌, ◌∷◌, [], false, IfOk};
+ghost use Rattle.std.specs.Prelude.{◌≡◌, ◌∷◌, [], IfOk};
+ghost use Rattle.otel_pipeline.specs.SimpleProcessor.{first_simple};
 
 use crate::trace::{LeavesSpans, Span, SpanProcessor};
 use opentelemetry::Context;
@@ -17,6 +18,8 @@ use std::time::Duration;
 pub struct SimpleSpanProcessor<E> {
     exporter: E,
     is_shut: bool,
+    // It stops at the greatest number.
+    failed_exports: u64,
     alloc: Global,
 }
 
@@ -25,16 +28,21 @@ impl<E> Model for SimpleSpanProcessor<E> {
 
     ghost Value = { SimpleProcessor E };
 
-    ghost view = { λ a. record { exporter = a.exporter; is_shut = a.is_shut } };
+    ghost view = { λ a. record {
+      exporter = a.exporter;
+      is_shut = a.is_shut;
+      failed_exports = a.failed_exports;
+    } };
 }
 
 impl<E> SimpleSpanProcessor<E> {
     pub fn new(alloc: Global, exporter: E) -> SimpleSpanProcessor<E>
-        ensures { result ≡ record { exporter = exporter; is_shut = false } }
+        ensures { result ≡ first_simple exporter }
     {
         SimpleSpanProcessor {
             exporter,
             is_shut: false,
+            failed_exports: 0,
             alloc,
         }
     }
@@ -43,6 +51,14 @@ impl<E> SimpleSpanProcessor<E> {
         ensures { result.now ≡ self.now.exporter }
     {
         &self.exporter
+    }
+
+    /// How many exports the exporter answered with an error, which no end of a span tells. It stops at the greatest
+    /// `u64`.
+    pub fn failed_exports(&self) -> u64
+        ensures { result ≡ self.now.failed_exports }
+    {
+        self.failed_exports
     }
 }
 
@@ -81,7 +97,9 @@ impl<E: SpanExporter> SpanProcessor for SimpleSpanProcessor<E> {
             return Ok(());
         }
         let batch = batch_of(self.alloc, span)?;
-        let _ = self.exporter.export(batch);
+        if self.exporter.export(batch).is_err() {
+            self.failed_exports = self.failed_exports.saturating_add(1);
+        }
         Ok(())
     }
 
