@@ -335,6 +335,7 @@ module _ {E : Type 0} (calls : Ghosts E) where
     no_fewer = omega (arith, fits);
     no_more = omega arith;
     exact = λ below. omega (arith, below);
+    stops = λ small. omega (arith, small);
   }
 
   -- an ended span is heard, counted, or not due

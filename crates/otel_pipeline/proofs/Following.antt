@@ -17,7 +17,7 @@ use Rattle.otel_pipeline.specs.SpanHistory.{ended_at}
 
 -- a count that stays counts up by nothing
 counts_nothing : (before after : ℕ) → after ≡ before → CountsUp before 0 after
-counts_nothing before after e = record { no_fewer = omega arith; no_more = omega arith; exact = λ _. omega arith }
+counts_nothing before after e = record { no_fewer = omega arith; no_more = omega arith; exact = λ _. omega arith; stops = λ small. omega (arith, small) }
 
 -- one count after another
 counts_both : (a n b m c : ℕ) → CountsUp a n b → CountsUp b m c → CountsUp a (n + m) c
@@ -33,6 +33,7 @@ counts_both a n b m c h k =
           let late : c ≡ b + m = k.exact below in
           let early : b ≡ a + n = h.exact (omega arith) in
           omega arith;
+      stops = λ small. k.stops (h.stops small);
     }
 
 -- one delivery in front of others that are one list after another

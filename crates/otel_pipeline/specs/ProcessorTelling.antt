@@ -29,6 +29,7 @@ pub record CountsUp (before more after : ℕ) : Type 0 where
   pub no_fewer : before ≤ after
   pub no_more : after ≤ before + more
   pub exact : after < 2 ^ 64 - 1 → after ≡ before + more
+  pub stops : before < 2 ^ 64 → after < 2 ^ 64
 
 -- no span was heard, and none was dropped
 pub record HearsNothing (before after : ProcessorTelling) : Type 0 where
