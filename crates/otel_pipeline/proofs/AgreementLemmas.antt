@@ -8,7 +8,7 @@ use Rattle.opentelemetry.specs.PlainContexts.{current_span_context, empty_span_c
 use Rattle.otel_sampling.specs.Agreement.{Agrees}
 use Rattle.otel_sampling.specs.Sampler.{SamplerPlan, active_in, built_in, by_parent, parent_based, parent_decision, sampler_answer}
 use Rattle.otel_sampling.specs.Sampling.{SamplingQuestion, PlainSamplingResult}
-use Rattle.otel_sampling.specs.declared.trace.id_generator.IdGenerator as drawing
+use Rattle.otel_sampling.specs.declared.trace.id_generator.GivesIds as drawing
 use Rattle.otel_sampling.specs.declared.trace.sampler.SamplingDecision.{SamplingDecision}
 use Rattle.otel_sampling.specs.declared.trace.sampler.SamplingDecision.TheVariants as decisions
 use Rattle.otel_sampling.specs.declared.trace.sampler.ShouldSample as sampling
@@ -16,7 +16,7 @@ use Rattle.opentelemetry.specs.Tracestate.{ArePairs}
 use Rattle.otel_propagation.specs.Traceparent.{IsSpanContext, IsValid, remote_copy}
 use Rattle.otel_propagation.proofs.TraceparentLemmas.{injected_carries}
 use Rattle.otel_pipeline.specs.Hops.{AreDrawnHops, AreHops, GoesByParent, GoesByParents, IsChild, IsDrawnChild, IsPassedOn, IsReceived}
-use Rattle.otel_pipeline.specs.Provider.{ProviderState}
+use Rattle.otel_pipeline.specs.Provider.{unstarted_context, ProviderState}
 use Rattle.otel_pipeline.specs.SpanHistory.{SpanHistory, SpanStart, over, span_of}
 use Rattle.otel_pipeline.specs.StartRequest.{StartRequest, start_flags, start_moment, start_question, start_span_context}
 use Rattle.otel_pipeline.specs.Starting.{DecidesStart, DrawsTraceId, Starts, StartsOpen}
@@ -123,7 +123,7 @@ module _ {P S G : Type 0} (calls : Ghosts P) (sampler : sampling.Ghosts S) (ids 
       → Starts calls sampler ids old request history new → StartsOpen calls sampler ids old request history new
   opens old new request history is_open unsuppressed starts =
       let runs : (old.is_shut || request.cx.telemetry_suppressed) ≡ false = λ k. is_open k || unsuppressed k in
-      subst (λ (b : Bool). MatchBool b ((history ≡ over empty_span_context old.span_limits) × (new ≡ old)) (StartsOpen calls sampler ids old request history new)) runs starts
+      subst (λ (b : Bool). MatchBool b ((history ≡ over (unstarted_context old request.cx) old.span_limits) × (new ≡ old)) (StartsOpen calls sampler ids old request history new)) runs starts
 
   -- a start under a sampler that goes by the active span makes a child of that one
   pub child_under : (old new : ProviderState P S G) (request : StartRequest) (history : SpanHistory) (parent : PlainSpanContext)

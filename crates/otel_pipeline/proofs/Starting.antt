@@ -1,19 +1,24 @@
 -- What a start makes.
-use Rattle.std.proofs.Common.{◌≡◌, ◌≢◌, ℕ, Bool, true, false, ◌||◌, List, [], ◌∷◌, map, MatchBool, Result, Ok, Err, refl, sym, subst, ap, ◌∙◌}
+use Rattle.std.proofs.Common.{◌≡◌, ◌≢◌, ◌⊎◌, inl, inr, ℕ, Bool, true, false, ◌||◌, List, [], ◌∷◌, map, MatchBool, Result, Ok, Err, refl, sym, subst, ap, ◌∙◌}
 use Rattle.std.specs.declared.alloc.AllocError.{AllocError}
 use Rattle.opentelemetry.specs.Plain.{PlainContext}
-use Rattle.opentelemetry.specs.PlainContexts.{current_span_context, empty_span_context}
+use Rattle.opentelemetry.specs.PlainContexts.{current_span_context}
 use Rattle.otel_sampling.specs.declared.trace.sampler.SamplingDecision.{SamplingDecision}
 use Rattle.otel_sampling.specs.declared.trace.sampler.SamplingDecision.TheVariants as decisions
 use Rattle.otel_sampling.specs.declared.trace.sampler.ShouldSample as sampling
-use Rattle.otel_sampling.specs.declared.trace.id_generator.IdGenerator as drawing
+use Rattle.otel_sampling.specs.declared.trace.id_generator.GivesIds as drawing
 use Rattle.otel_sampling.specs.Sampling.{PlainSamplingResult}
-use Rattle.otel_pipeline.specs.Provider.{ProviderState}
+use Rattle.otel_pipeline.specs.Provider.{unstarted_context, ProviderState}
 use Rattle.otel_pipeline.specs.StartRequest.{StartRequest, start_as, start_moment, start_question, start_span_context}
-use Rattle.otel_pipeline.specs.Starting.{AnswersStart, DrawsIds, PassesThrough, Records, DecidesStart, Starts, StartsOpen}
+use Rattle.otel_pipeline.specs.Starting.{AnswersStart, OnlyDraws, RefusesStart, DrawsIds, PassesThrough, Records, DecidesStart, Starts, StartsOpen}
 use Rattle.otel_pipeline.specs.SpanHistory.{PlainSpan, SpanStart, SpanHistory, begun, over, span_of, IsEdited, after, recording, not_recording}
 use Rattle.otel_pipeline.specs.declared.trace.span_processor.SpanProcessor.{Ghosts}
 use Rattle.otel_pipeline.proofs.SpanLaws.{after-recording}
+
+-- what holds in the case of true
+pub taken : (A B : Type 0) (b : Bool) → b ≡ true → MatchBool b A B → A
+taken A B true e h = h
+taken A B false e h = let no : ⊥ = cc in absurd no
 
 module _ {P : Type 0} (calls : Ghosts P) where
   -- a span that records passed through the processors
@@ -75,7 +80,7 @@ module _ {P S G : Type 0} (calls : Ghosts P) (sampler : sampling.Ghosts S) (ids 
         rest = rest ∙ ap (λ (p : ProviderState P S G). record p { processors = new.processors }) d
             ∙ ap (λ (g : G). record old { processors = new.processors; id_generator = g }) (sym generator);
       } in
-      subst (λ (b : Bool). MatchBool b ((history ≡ over empty_span_context old.span_limits) × (new ≡ old)) (StartsOpen calls sampler ids old request history new)) (sym h) result
+      subst (λ (b : Bool). MatchBool b ((history ≡ over (unstarted_context old request.cx) old.span_limits) × (new ≡ old)) (StartsOpen calls sampler ids old request history new)) (sym h) result
 
   -- a span that is dropped
   pub starts_dropped : (old drawn : ProviderState P S G) (request : StartRequest) (trace_id span_id : ℕ) (answer : PlainSamplingResult) (span : PlainSpan)
@@ -112,12 +117,12 @@ module _ {P S G : Type 0} (calls : Ghosts P) (sampler : sampling.Ghosts S) (ids 
 
   -- no span
   pub starts_none : (old : ProviderState P S G) (request : StartRequest) (span : PlainSpan)
-      → (old.is_shut || request.cx.telemetry_suppressed) ≡ true → span ≡ not_recording empty_span_context old.span_limits → (history : SpanHistory) × (span ≡ span_of history) × Starts calls sampler ids old request history old
+      → (old.is_shut || request.cx.telemetry_suppressed) ≡ true → span ≡ not_recording (unstarted_context old request.cx) old.span_limits → (history : SpanHistory) × (span ≡ span_of history) × Starts calls sampler ids old request history old
   starts_none old request span h e =
-      let history : SpanHistory = over empty_span_context old.span_limits in (
+      let history : SpanHistory = over (unstarted_context old request.cx) old.span_limits in (
         history,
         e,
-        subst (λ (b : Bool). MatchBool b ((history ≡ over empty_span_context old.span_limits) × (old ≡ old)) (StartsOpen calls sampler ids old request history old)) (sym h) (refl, refl),
+        subst (λ (b : Bool). MatchBool b ((history ≡ over (unstarted_context old request.cx) old.span_limits) × (old ≡ old)) (StartsOpen calls sampler ids old request history old)) (sym h) (refl, refl),
       )
 
   -- all that a start may change of a provider
@@ -126,7 +131,7 @@ module _ {P S G : Type 0} (calls : Ghosts P) (sampler : sampling.Ghosts S) (ids 
 
   -- a start changes the processors and the generator alone, and each processor tells what it told
   starts_keep : (starts_nothing : Bool) (old new : ProviderState P S G) (request : StartRequest) (history : SpanHistory)
-      → MatchBool starts_nothing ((history ≡ over empty_span_context old.span_limits) × (new ≡ old)) (StartsOpen calls sampler ids old request history new)
+      → MatchBool starts_nothing ((history ≡ over (unstarted_context old request.cx) old.span_limits) × (new ≡ old)) (StartsOpen calls sampler ids old request history new)
       → (map calls.told new.processors ≡ map calls.told old.processors) × ChangesOnly old new
   starts_keep true old new request history h = (
     ap (λ (p : ProviderState P S G). map calls.told p.processors) h.1,
@@ -134,13 +139,23 @@ module _ {P S G : Type 0} (calls : Ghosts P) (sampler : sampling.Ghosts S) (ids 
   )
   starts_keep false old new request history h = (decided_told calls h.answer.decision request.cx _ old.processors new.processors history h.decided, h.rest)
 
-  answers_keep : (old new : ProviderState P S G) (request : StartRequest) (result : Result PlainSpan AllocError) → AnswersStart calls sampler ids old request result new
+  -- and so does one that found no memory
+  refused_keeps : (starts_nothing : Bool) (old new : ProviderState P S G) (request : StartRequest)
+      → MatchBool starts_nothing ((old.is_disabled ≡ true) × (new ≡ old)) (OnlyDraws sampler ids old request.builder request.cx request.now new)
       → (map calls.told new.processors ≡ map calls.told old.processors) × ChangesOnly old new
-  answers_keep old new request (Ok span) h = starts_keep (old.is_shut || request.cx.telemetry_suppressed) old new request h.0 h.2
-  answers_keep old new request (Err e) h = (
+  refused_keeps true old new request h = (
+    ap (λ (p : ProviderState P S G). map calls.told p.processors) h.1,
+    h.1 ∙ ap (λ (p : ProviderState P S G). record old { processors = p.processors; id_generator = p.id_generator }) (sym h.1),
+  )
+  refused_keeps false old new request h = (
     ap (λ (p : ProviderState P S G). map calls.told p.processors) h.rest,
     h.rest ∙ ap (λ (p : ProviderState P S G). record old { processors = p.processors; id_generator = new.id_generator }) (sym h.rest),
   )
+
+  answers_keep : (old new : ProviderState P S G) (request : StartRequest) (result : Result PlainSpan AllocError) → AnswersStart calls sampler ids old request result new
+      → (map calls.told new.processors ≡ map calls.told old.processors) × ChangesOnly old new
+  answers_keep old new request (Ok span) h = starts_keep (old.is_shut || request.cx.telemetry_suppressed) old new request h.0 h.2
+  answers_keep old new request (Err e) h = refused_keeps (old.is_shut || request.cx.telemetry_suppressed) old new request h
 
   -- whatever it answers
   pub answers_told : (old new : ProviderState P S G) (request : StartRequest) (result : Result PlainSpan AllocError) → AnswersStart calls sampler ids old request result new
@@ -149,3 +164,13 @@ module _ {P S G : Type 0} (calls : Ghosts P) (sampler : sampling.Ghosts S) (ids 
 
   pub answers_rest : (old new : ProviderState P S G) (request : StartRequest) (result : Result PlainSpan AllocError) → AnswersStart calls sampler ids old request result new → ChangesOnly old new
   answers_rest old new request result h = (answers_keep old new request result h).1
+
+  -- a start that found no memory did nothing, or drew ids
+  pub refused_draws : (old new : ProviderState P S G) (request : StartRequest) → RefusesStart sampler ids old request new
+      → (new ≡ old) ⊎ OnlyDraws sampler ids old request.builder request.cx request.now new
+  refused_draws old new request h = by (old.is_shut || request.cx.telemetry_suppressed) h
+    where
+      by : (b : Bool) → MatchBool b ((old.is_disabled ≡ true) × (new ≡ old)) (OnlyDraws sampler ids old request.builder request.cx request.now new)
+          → (new ≡ old) ⊎ OnlyDraws sampler ids old request.builder request.cx request.now new
+      by true k = inl k.1
+      by false k = inr k

@@ -1,5 +1,8 @@
 -- What contracts see of a provider, what a flush and a shutdown do to it, and what its close reports.
 use Rattle.std.specs.Prelude.{◌≡◌, ℕ, ◌↔◌, Bool, true, List, [], Result, Ok, Err, IsOk, IfErr, OnOk, sum_by, unwrap_or}
+use Rattle.std.specs.Prelude.{if◌then◌else◌}
+use Rattle.opentelemetry.specs.Plain.{PlainContext, PlainSpanContext}
+use Rattle.opentelemetry.specs.PlainContexts.{current_span_context, empty_span_context}
 use Rattle.otel_export.specs.declared.error.OTelSdkError.{OTelSdkError}
 use Rattle.otel_export.specs.declared.error.OTelSdkError.TheVariants as errors
 use Rattle.otel_sampling.specs.declared.trace.span_limit.SpanLimits.{SpanLimits}
@@ -18,6 +21,11 @@ pub record ProviderState (P S G : Type 0) : Type 0 where
   pub span_limits : SpanLimits
   pub is_shut : Bool
   pub is_disabled : Bool
+
+-- the span context of a span that does not start: a disabled provider hands that of the parent on, so that a trace goes
+-- on through its service; else the empty one
+abbrev pub unstarted_context : {P S G : Type 0} → ProviderState P S G → PlainContext → PlainSpanContext
+unstarted_context provider cx = if provider.is_disabled then current_span_context cx else empty_span_context
 
 -- what a shutdown answers where the provider is shut: an error, but Ok where it was disabled, and so has no processors
 abbrev pub shut_answer : {P : Type 0} → Bool → List P → Result (Unit {0}) OTelSdkError

@@ -1,33 +1,31 @@
 -- What the start of a span makes, and what it does to its provider (OpenTelemetry specification, "Span Creation").
-use Rattle.std.specs.Prelude.{◌≡◌, ◌≢◌, ℕ, ◌^◌, ◌<◌, ◌||◌, ◌⊎◌, List, [], ◌∷◌, Option, Some, None, Result}
-use Rattle.std.specs.Prelude.{IsTrue, MatchBool, MatchResult}
+use Rattle.std.specs.Prelude.{◌≡◌, ◌≢◌, ℕ, ◌^◌, ◌<◌, ◌||◌, List, [], ◌∷◌, Option, Some, None, Result, true}
+use Rattle.std.specs.Prelude.{MatchBool, MatchResult}
 use Rattle.std.specs.declared.alloc.AllocError.{AllocError}
 use Rattle.opentelemetry.specs.Plain.{PlainSpanContext, PlainContext}
-use Rattle.opentelemetry.specs.PlainContexts.{empty_span_context}
 use Rattle.opentelemetry.specs.PlainSpanBuilder.{PlainSpanBuilder}
 use Rattle.otel_sampling.specs.declared.trace.sampler.SamplingDecision.{SamplingDecision}
 use Rattle.otel_sampling.specs.declared.trace.sampler.SamplingDecision.TheVariants as decisions
 use Rattle.otel_sampling.specs.declared.trace.sampler.ShouldSample as sampling
-use Rattle.otel_sampling.specs.declared.trace.id_generator.IdGenerator as drawing
-use Rattle.otel_sampling.specs.GivesAt.{GivesAt}
+use Rattle.otel_sampling.specs.declared.trace.id_generator.GivesIds as drawing
 use Rattle.otel_sampling.specs.Sampling.{PlainSamplingResult}
 use Rattle.otel_pipeline.specs.SpanHistory.{PlainSpan, SpanStart, SpanHistory, IsEdited, begun, over, Edit, recording}
 use Rattle.otel_pipeline.specs.SpanHistory.{span_of}
 use Rattle.otel_pipeline.specs.StartRequest.{StartRequest, start_as, start_moment, start_question}
-use Rattle.otel_pipeline.specs.Provider.{ProviderState}
+use Rattle.otel_pipeline.specs.Provider.{ProviderState, unstarted_context}
 use Rattle.otel_pipeline.specs.declared.trace.span_processor.SpanProcessor.{Ghosts}
 
 module _ {G : Type 0} (ids : drawing.Ghosts G) where
   -- the trace id of a span that starts at a moment: that of the active one, or one that is drawn
   abbrev pub DrawsTraceId : Option PlainSpanContext → ℕ → G → ℕ → G → Type 0
-  DrawsTraceId None start old trace_id new = GivesAt ids.trace_id_gives ids.trace_id_at_gives old start trace_id new
+  DrawsTraceId None start old trace_id new = ids.gives_trace_id old start trace_id new
   DrawsTraceId (Some active) start old trace_id new = (trace_id ≡ active.trace_id) × (new ≡ old)
 
   -- the ids of a span that starts at a moment: the span id, of 64 bits, is drawn first
   pub record DrawsIds (active : Option PlainSpanContext) (start : ℕ) (old : G) (trace_id span_id : ℕ) (new : G)
       : Type 0 where
     pub between : G
-    pub draws_span_id : ids.span_id_gives old span_id between
+    pub draws_span_id : ids.gives_span_id old span_id between
     pub draws_trace_id : DrawsTraceId active start between trace_id new
     pub fits : span_id < 2 ^ 64
 
@@ -43,6 +41,13 @@ module _ {P S G : Type 0} (sampler : sampling.Ghosts S) (ids : drawing.Ghosts G)
         → (sampler.answer old.sampler (start_question cx trace_id builder)).decision ≢ decisions.Drop
     pub rest : new ≡ record old { id_generator = new.id_generator }
 
+  -- a start found no memory: where nothing starts, for the trace state that a disabled provider hands on, and nothing
+  -- happened; else ids were drawn at most
+  abbrev pub RefusesStart : ProviderState P S G → StartRequest → ProviderState P S G → Type 0
+  RefusesStart old request new = MatchBool (old.is_shut || request.cx.telemetry_suppressed)
+      ((old.is_disabled ≡ true) × (new ≡ old))
+      (OnlyDraws old request.builder request.cx request.now new)
+
 module _ {P S G : Type 0} (sampler : sampling.Ghosts S) where
   -- a span that is dropped for sure: whatever its trace id, the sampler needs no memory and drops it
   pub record Drops (old : ProviderState P S G) (builder : PlainSpanBuilder) (cx : PlainContext) : Type 0 where
@@ -50,10 +55,12 @@ module _ {P S G : Type 0} (sampler : sampling.Ghosts S) where
     pub drops : (trace_id : ℕ)
         → (sampler.answer old.sampler (start_question cx trace_id builder)).decision ≡ decisions.Drop
 
-  -- a start that needs no memory: at a shut provider, in a suppressed context, or of a span that is dropped for sure
+  -- a start that needs no memory: where nothing starts, as at a shut provider or in a suppressed context, one that hands
+  -- no trace state on; else of a span that is dropped for sure
   abbrev pub StartIsInfallible : ProviderState P S G → StartRequest → Type 0
-  StartIsInfallible old request =
-      IsTrue (old.is_shut || request.cx.telemetry_suppressed) ⊎ Drops old request.builder request.cx
+  StartIsInfallible old request = MatchBool (old.is_shut || request.cx.telemetry_suppressed)
+      ((unstarted_context old request.cx).trace_state ≡ [])
+      (Drops old request.builder request.cx)
 
 module _ {P : Type 0} (calls : Ghosts P) where
   -- a processor takes part in a start, as its call does: it edits the span and tells nothing of it
@@ -98,15 +105,15 @@ module _ {P S G : Type 0} (calls : Ghosts P) (sampler : sampling.Ghosts S) (ids 
     pub rest : new ≡ record old { processors = new.processors; id_generator = new.id_generator }
 
   -- what a start makes, by the history of the span: where the provider is shut or the context suppressed no span, and
-  -- nothing is drawn
+  -- nothing is drawn or asked
   abbrev pub Starts : ProviderState P S G → StartRequest → SpanHistory → ProviderState P S G → Type 0
   Starts old request history new = MatchBool (old.is_shut || request.cx.telemetry_suppressed)
-      ((history ≡ over empty_span_context old.span_limits) × (new ≡ old))
+      ((history ≡ over (unstarted_context old request.cx) old.span_limits) × (new ≡ old))
       (StartsOpen old request history new)
 
-  -- what a start answers: a span of such a history, or that there is no memory, and then ids were drawn at most
+  -- what a start answers: a span of such a history, or that there is no memory
   abbrev pub AnswersStart : ProviderState P S G → StartRequest → Result PlainSpan AllocError → ProviderState P S G
       → Type 0
   AnswersStart old request result new = MatchResult result
       (λ span. (history : SpanHistory) × (span ≡ span_of history) × Starts old request history new)
-      (λ _. OnlyDraws sampler ids old request.builder request.cx request.now new)
+      (λ _. RefusesStart sampler ids old request new)

@@ -22,7 +22,7 @@ use opentelemetry::trace::SpanBuilder;
 use opentelemetry::{Context, InstrumentationScope, Moment, SpanId, TraceId};
 use otel_export::error::{OTelSdkError, OTelSdkResult};
 use otel_export::trace::SpanData;
-use otel_sampling::trace::{ConfigOf, IdGenerator, SpanLimits};
+use otel_sampling::trace::{ConfigOf, GivesIds, SpanLimits};
 use std::alloc::{AllocError, Global};
 use std::marker::Model;
 use std::time::Duration;
@@ -86,6 +86,12 @@ impl<P, S, G> ProviderOf<P, S, G> {
         self.is_shut
     }
 
+    pub(crate) fn is_disabled(&self) -> bool
+        ensures { result ≡ self.now.is_disabled }
+    {
+        self.is_disabled
+    }
+
     pub(crate) fn sampler(&self) -> &S
         ensures { result.now ≡ self.now.sampler }
     {
@@ -132,25 +138,25 @@ impl<P, S, G> ProviderOf<P, S, G> {
     }
 }
 
-impl<P, S, G: IdGenerator> ProviderOf<P, S, G> {
+impl<P, S, G: GivesIds> ProviderOf<P, S, G> {
     /// The ids of a span that is to start in a context. The span id is drawn first; a trace id is drawn only where no
-    /// span is active, and the generator is told the moment at which the span starts.
+    /// span is active, and the source is told the moment at which the span starts.
     pub(crate) fn draw_ids(
         &mut self,
         cx: &Context,
         builder: &SpanBuilder,
         now: Moment,
     ) -> (TraceId, SpanId)
-        ensures draws { DrawsIds G.IdGenerator cx.now.span_context (start_moment builder.now now.0)
+        ensures draws { DrawsIds G.GivesIds cx.now.span_context (start_moment builder.now now.0)
             self.old.id_generator result.0 result.1 self.new.id_generator }
         ensures rest { self.new ≡ record self.old { id_generator = self.new.id_generator } }
     {
-        let span_id = self.id_generator.new_span_id();
+        let span_id = self.id_generator.next_span_id();
         let trace_id = if cx.has_active_span() {
             cx.span_context().trace_id()
         } else {
             let start = builder.start_time.unwrap_or(now);
-            self.id_generator.new_trace_id_at(start)
+            self.id_generator.trace_id_at(start)
         };
         (trace_id, span_id)
     }

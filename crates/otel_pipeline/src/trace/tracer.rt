@@ -1,10 +1,11 @@
 //! The tracer of a library: it starts spans under the library's scope (OpenTelemetry specification, "Tracer").
 
-ghost use Rattle.std.specs.Prelude.{◌≡◌, ◌||◌, [], IfOk, IsOk, string_bytes, unwrap_or};
+ghost use Rattle.std.specs.Prelude.{◌≡◌, ◌||◌, [], IfOk, IsOk, OnErr, string_bytes, true, unwrap_or};
 ghost use Rattle.std.specs.Option.{option_map};
 ghost use Rattle.opentelemetry.specs.PlainContexts.{root_cx};
 ghost use Rattle.opentelemetry.specs.PlainSpanBuilder.{named_builder};
 ghost use Rattle.otel_sampling.specs.Sampling.{added_attributes};
+ghost use Rattle.otel_pipeline.specs.Provider.{unstarted_context};
 ghost use Rattle.otel_pipeline.specs.StartRequest.{start_flags, start_of, start_question, start_request};
 ghost use Rattle.otel_pipeline.specs.Starting.{AnswersStart, StartIsInfallible};
 ghost use Rattle.otel_pipeline.specs.SpanHistory.{recording};
@@ -14,9 +15,7 @@ use crate::trace::{ProviderOf, Recorded, Span, SpanProcessor};
 use opentelemetry::trace::{SpanBuilder, SpanContext, SpanKind, Status};
 use opentelemetry::{Context, InstrumentationScope, KeyValue, Moment, TraceFlags, TraceId};
 use otel_export::trace::SpanData;
-use otel_sampling::trace::{
-    IdGenerator, SamplingDecision, SamplingResult, ShouldSample, SpanLimits,
-};
+use otel_sampling::trace::{GivesIds, SamplingDecision, SamplingResult, ShouldSample, SpanLimits};
 use std::alloc::{AllocError, Global};
 use std::marker::Model;
 
@@ -59,13 +58,13 @@ impl SdkTracer {
 
     /// Starts a root span at this moment: in a context where no span is active and nothing is suppressed. All else is
     /// as with `build_with_context`.
-    pub fn start<P: SpanProcessor, S: ShouldSample, G: IdGenerator>(
+    pub fn start<P: SpanProcessor, S: ShouldSample, G: GivesIds>(
         &self,
         name: String,
         provider: &mut ProviderOf<P, S, G>,
         now: Moment,
     ) -> Result<Span, AllocError>
-        ensures answers { AnswersStart P.SpanProcessor S.ShouldSample G.IdGenerator provider.old
+        ensures answers { AnswersStart P.SpanProcessor S.ShouldSample G.GivesIds provider.old
             (start_request self.now (named_builder (string_bytes name)) root_cx now.0) result provider.new }
         ensures free { StartIsInfallible S.ShouldSample provider.old
             (start_request self.now (named_builder (string_bytes name)) root_cx now.0) → IsOk result }
@@ -74,14 +73,14 @@ impl SdkTracer {
     }
 
     /// Starts a span of this name in a context, as `build_with_context` does.
-    pub fn start_with_context<P: SpanProcessor, S: ShouldSample, G: IdGenerator>(
+    pub fn start_with_context<P: SpanProcessor, S: ShouldSample, G: GivesIds>(
         &self,
         name: String,
         cx: &Context,
         provider: &mut ProviderOf<P, S, G>,
         now: Moment,
     ) -> Result<Span, AllocError>
-        ensures answers { AnswersStart P.SpanProcessor S.ShouldSample G.IdGenerator provider.old
+        ensures answers { AnswersStart P.SpanProcessor S.ShouldSample G.GivesIds provider.old
             (start_request self.now (named_builder (string_bytes name)) cx.now now.0) result provider.new }
         ensures free { StartIsInfallible S.ShouldSample provider.old
             (start_request self.now (named_builder (string_bytes name)) cx.now now.0) → IsOk result }
@@ -90,19 +89,20 @@ impl SdkTracer {
     }
 
     /// Starts a span in a context, as a child of the one that is active there. The provider decides alone: where it is
-    /// shut, or telemetry is suppressed in the context, the span does not record and has the empty span context. Else
-    /// its sampler is asked, and each processor is told of a span that records. What the builder leaves open the tracer
+    /// shut, or telemetry is suppressed in the context, the span does not record and has the empty span context, or at
+    /// a provider that was disabled the span context of its parent, which so goes on to the next service. Else its
+    /// sampler is asked, and each processor is told of a span that records. What the builder leaves open the tracer
     /// fills in: the kind is internal, and the span starts now (nanoseconds since 1970). Lists and values are cut
     /// at the provider's limits. On an error no processor was asked, but ids may have been drawn (OpenTelemetry
     /// specification, "Span Creation").
-    pub fn build_with_context<P: SpanProcessor, S: ShouldSample, G: IdGenerator>(
+    pub fn build_with_context<P: SpanProcessor, S: ShouldSample, G: GivesIds>(
         &self,
         builder: SpanBuilder,
         cx: &Context,
         provider: &mut ProviderOf<P, S, G>,
         now: Moment,
     ) -> Result<Span, AllocError>
-        ensures answers { AnswersStart P.SpanProcessor S.ShouldSample G.IdGenerator provider.old
+        ensures answers { AnswersStart P.SpanProcessor S.ShouldSample G.GivesIds provider.old
             (start_request self.now builder cx.now now.0) result provider.new }
         ensures free { StartIsInfallible S.ShouldSample provider.old
             (start_request self.now builder cx.now now.0) → IsOk result }
@@ -110,7 +110,7 @@ impl SdkTracer {
         let span_limits = provider.span_limits();
         if starts_nothing(provider, cx) {
             let alloc = provider.allocator();
-            let context = SpanContext::empty_context();
+            let context = unstarted_context(provider, cx)?;
             return Ok(Span::not_recording(alloc, context, span_limits));
         }
         let (trace_id, span_id) = provider.draw_ids(cx, &builder, now);
@@ -160,6 +160,22 @@ fn starts_nothing<P, S, G>(provider: &ProviderOf<P, S, G>, cx: &Context) -> bool
     ensures { result ≡ (provider.now.is_shut || cx.now.telemetry_suppressed) }
 {
     provider.is_shut() || cx.is_telemetry_suppressed()
+}
+
+/// The span context of a span that does not start: a disabled provider hands that of the parent on.
+fn unstarted_context<P, S, G>(
+    provider: &ProviderOf<P, S, G>,
+    cx: &Context,
+) -> Result<SpanContext, AllocError>
+    ensures context { IfOk result (λ context. context ≡ unstarted_context provider.now cx.now) }
+    ensures disabled { OnErr result (provider.now.is_disabled ≡ true) }
+    ensures free { (unstarted_context provider.now cx.now).trace_state ≡ [] → IsOk result }
+{
+    if provider.is_disabled() {
+        cx.span_context().clone()
+    } else {
+        Ok(SpanContext::empty_context())
+    }
 }
 
 /// What the sampler answers to a span that is to start in a context.
