@@ -7,6 +7,12 @@ pub mod BaggageTextLemmas
 pub mod CompositeLemmas
 pub mod CompositeListLemmas
 pub mod ConfiguredLemmas
+pub mod StrictBounds
+pub mod StrictBytes
+pub mod StrictHeaders
+pub mod StrictPairs
+pub mod StrictReads
+pub mod StrictWrites
 pub mod TextPieces
 pub mod TraceparentLemmas
 pub mod TrimLemmas

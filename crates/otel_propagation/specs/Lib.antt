@@ -4,4 +4,7 @@ pub mod Composite
 pub mod CompositeList
 pub mod ConfiguredPropagators
 pub mod PropagatorKinds
+pub mod StrictBaggage
+pub mod StrictGrammar
+pub mod StrictLaws
 pub mod Traceparent

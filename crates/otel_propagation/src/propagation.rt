@@ -5,6 +5,7 @@ pub mod composite;
 pub mod composite_list;
 pub mod configured;
 pub mod propagator_kinds;
+pub mod strict_baggage;
 pub mod trace_context;
 
 pub use baggage::BaggagePropagator;
@@ -12,4 +13,5 @@ pub use composite::{CompositePropagator, FieldsError};
 pub use composite_list::{ListFieldsError, TextMapCompositePropagator};
 pub use configured::{ConfiguredPropagators, configured_propagators};
 pub use propagator_kinds::PropagatorOf;
+pub use strict_baggage::StrictBaggagePropagator;
 pub use trace_context::TraceContextPropagator;
