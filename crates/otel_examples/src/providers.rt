@@ -37,7 +37,7 @@ fn provider_of<P: SpanProcessor, S: Drop>(
         span_limits: SpanLimits::default(),
         resource: Resource::builder_empty(alloc).build(),
     };
-    let builder = ProviderOf::builder_with_config(alloc, config, BatchStrings::default());
+    let builder = ProviderOf::builder_with_config(alloc, config, BatchStrings::default(), false);
     Ok(builder.with_span_processor(processor)?.build()?)
 }
 

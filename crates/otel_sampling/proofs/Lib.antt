@@ -1,2 +1,3 @@
 pub mod ConfigLemmas
+pub mod FaultLemmas
 pub mod RatioLemmas

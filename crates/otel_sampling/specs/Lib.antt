@@ -1,5 +1,6 @@
 pub mod Agreement
 pub mod Config
+pub mod ConfigFaults
 pub mod ConfigStrings
 pub mod IdSource
 pub mod Ids

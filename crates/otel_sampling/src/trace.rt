@@ -8,7 +8,9 @@ pub mod sampler;
 pub mod span_limit;
 pub mod xray_id_generator;
 
-pub use config::{BatchStrings, Config, ConfigOf, ConfigStrings};
+pub use config::{
+    BatchStrings, Config, ConfigOf, ConfigStrings, Replacement, Setting, SettingFault,
+};
 pub use id_generator::{GivesIds, IdGenerator, IdSource, IdSourceOf, RandomIdGenerator};
 pub use parent_based::ParentBased;
 pub use ratio::{Ratio, RatioError};

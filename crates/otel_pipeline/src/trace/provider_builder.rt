@@ -66,28 +66,27 @@ impl<P> ProviderOf<P, Sampler, IdSource> {
         };
         config.set_from_strings(alloc, strings, seed)?;
         let batch_strings = strings.batch.clone()?;
-        let builder = ProviderOf::builder_with_config(alloc, config, batch_strings);
-        Ok(ProviderBuilderOf {
-            is_disabled: strings.is_sdk_disabled(),
-            ..builder
-        })
+        let is_disabled = strings.is_sdk_disabled();
+        Ok(ProviderOf::builder_with_config(alloc, config, batch_strings, is_disabled))
     }
 }
 
 impl<P, S, G> ProviderOf<P, S, G> {
     /// Begins with no processor and with this configuration, over a sampler and a generator of any one kind each. The
-    /// strings configure the batch processors that are added later.
+    /// strings configure the batch processors that are added later. A disabled provider records nothing: whether it is
+    /// to be is what `ConfigStrings::is_sdk_disabled` answers, where strings say it.
     pub fn builder_with_config(
         alloc: Global,
         config: ConfigOf<S, G>,
         batch_strings: BatchStrings,
+        is_disabled: bool,
     ) -> ProviderBuilderOf<P, S, G>
         ensures { result ≡ record {
           processors = [];
           config = config;
           batch_strings = batch_strings;
           has_given_resource = false;
-          is_disabled = false;
+          is_disabled = is_disabled;
         } }
     {
         ProviderBuilderOf {
@@ -95,7 +94,7 @@ impl<P, S, G> ProviderOf<P, S, G> {
             config,
             batch_strings,
             has_given_resource: false,
-            is_disabled: false,
+            is_disabled,
         }
     }
 }
@@ -297,8 +296,8 @@ impl<P, S, C: Drop> ProviderBuilderOf<P, S, IdSourceOf<C>> {
 impl<P: SpanProcessor, S, G> ProviderBuilderOf<P, S, G> {
     /// An open provider. Each processor is told the resource before, in its turn and also after one refused it.
     /// Where any of them had no memory to keep it, the builder that comes back has the processors as they are
-    /// then, and its next `build` tells all of them again. Where the strings disabled the SDK the processors are
-    /// dropped, and the provider records nothing.
+    /// then, and its next `build` tells all of them again. Where the SDK is disabled the processors are dropped, and
+    /// the provider records nothing.
     pub fn build(self) -> Result<ProviderOf<P, S, G>, AllocFailed<Self>>
         ensures { MatchResult result
             (Builds P.SpanProcessor self)

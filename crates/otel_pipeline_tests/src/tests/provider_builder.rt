@@ -30,7 +30,7 @@ fn empty_builder(rt: &impl Abort, alloc: Global) -> TestBuilder {
         span_limits: SpanLimits::default(),
         resource: resource_of_three(rt, alloc),
     };
-    ProviderOf::builder_with_config(alloc, config, BatchStrings::default())
+    ProviderOf::builder_with_config(alloc, config, BatchStrings::default(), false)
 }
 
 /// The builder with two writers, of which the first refuses once.

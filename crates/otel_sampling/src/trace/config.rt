@@ -15,6 +15,10 @@ use otel_resource::resource::{Resource, ResourceStrings};
 use std::alloc::{AllocError, Global};
 use std::marker::Model;
 
+mod faults;
+
+pub use faults::{Replacement, Setting, SettingFault};
+
 /// The strings of a batch processor. Each is a decimal number, with a `+` in front or not; another text counts as
 /// absent.
 #[derive(Clone, Debug, Default, Drop)]
