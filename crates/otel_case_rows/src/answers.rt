@@ -1,27 +1,25 @@
 //! The loop over the lines of an input. A line is a row; the lines after it that begin with `>` are its input. An empty
 //! line and a comment, which begins with `#`, are answered by themselves.
 
+use crate::answer_text::AnswerText;
 use crate::fields::{Row, RowError, push_input, row_of};
 use std::alloc::{AllocError, Global};
 
 /// Answers the rows of some words.
 pub trait Cases {
-    /// Appends the answer to a row; false where its word is none of these.
-    fn answer(&self, alloc: Global, row: &Row, out: &mut Vec<u8>) -> Result<bool, RowError>;
+    /// Puts out the answer to a row; false where its word is none of these.
+    fn answer(&self, alloc: Global, row: &Row, out: &mut AnswerText) -> bool;
 }
 
-/// Appends the answer to each row of a text. One that says none of what it may say is a `bad row`.
-pub fn answer_rows<C: Cases>(
-    alloc: Global,
-    text: &str,
-    cases: &C,
-    out: &mut Vec<u8>,
-) -> Result<(), AllocError> {
+/// The answers to the rows of a text, a line each. A row that says none of what it may say is a `bad row`.
+pub fn answer_rows<C: Cases>(alloc: Global, text: &str, cases: &C) -> Result<String, AllocError> {
+    let mut out = AnswerText::new(alloc);
     let mut row = None;
     for line in text.lines() {
-        row = read_line(alloc, cases, row, line, out)?;
+        row = read_line(alloc, cases, row, line, &mut out);
     }
-    finish(alloc, cases, row, out)
+    finish(alloc, cases, row, &mut out);
+    out.finish().or(Err(AllocError))
 }
 
 /// Reads a line, and gives the row whose input may still come.
@@ -30,80 +28,74 @@ fn read_line<C: Cases>(
     cases: &C,
     row: Option<Box<Row>>,
     line: &str,
-    out: &mut Vec<u8>,
-) -> Result<Option<Box<Row>>, AllocError> {
+    out: &mut AnswerText,
+) -> Option<Box<Row>> {
     if let Some(written) = line.strip_prefix('>') {
-        return with_input(alloc, row, written, out);
+        return with_input(alloc, row?, written, out);
     }
-    finish(alloc, cases, row, out)?;
+    finish(alloc, cases, row, out);
     if line.is_empty() || line.starts_with('#') {
-        put_line(out, line.as_bytes())?;
-        return Ok(None);
+        push_line(line, out);
+        return None;
     }
-    match row_of(alloc, line) {
-        Ok(row) => Ok(Some(Box::new(alloc, row)?)),
-        Err(error) => refused(error, out),
-    }
+    read_or_refused(boxed_row_of(alloc, line), out)
+}
+
+fn boxed_row_of(alloc: Global, line: &str) -> Result<Box<Row>, RowError> {
+    Ok(Box::new(alloc, row_of(alloc, line)?)?)
 }
 
 /// A row with the input of a line more; a line of input after no row is left out.
 fn with_input(
     alloc: Global,
-    row: Option<Box<Row>>,
+    mut row: Box<Row>,
     written: &str,
-    out: &mut Vec<u8>,
-) -> Result<Option<Box<Row>>, AllocError> {
-    let Some(mut row) = row else {
-        return Ok(None);
-    };
+    out: &mut AnswerText,
+) -> Option<Box<Row>> {
     match push_input(alloc, &mut row.input, written) {
-        Ok(()) => Ok(Some(row)),
-        Err(error) => refused(error, out),
+        Ok(()) => Some(row),
+        Err(error) => read_or_refused(Err(error), out),
     }
 }
 
-/// Answers that a row is a bad one, so that none is left.
-fn refused(error: RowError, out: &mut Vec<u8>) -> Result<Option<Box<Row>>, AllocError> {
-    match error {
-        RowError::Memory => Err(AllocError),
-        RowError::Field => {
-            put_line(out, b"bad row")?;
-            Ok(None)
+/// The row that was read; where it is a bad one, that is answered, and none is left.
+fn read_or_refused(read: Result<Box<Row>, RowError>, out: &mut AnswerText) -> Option<Box<Row>> {
+    match read {
+        Ok(row) => Some(row),
+        Err(error) => {
+            refuse(error, out);
+            None
         }
     }
 }
 
+/// Answers that a row is a bad one, where it is not memory that was refused.
+fn refuse(error: RowError, out: &mut AnswerText) {
+    match error {
+        RowError::Memory => out.note(error),
+        RowError::Field => push_line("bad row", out),
+    }
+}
+
 /// Answers the row whose input has ended, where there is one.
-fn finish<C: Cases>(
-    alloc: Global,
-    cases: &C,
-    row: Option<Box<Row>>,
-    out: &mut Vec<u8>,
-) -> Result<(), AllocError> {
-    match row {
-        Some(row) => answer(alloc, cases, &row, out),
-        None => Ok(()),
+fn finish<C: Cases>(alloc: Global, cases: &C, row: Option<Box<Row>>, out: &mut AnswerText) {
+    if let Some(row) = row {
+        answer(alloc, cases, &row, out);
     }
 }
 
-fn answer<C: Cases>(
-    alloc: Global,
-    cases: &C,
-    row: &Row,
-    out: &mut Vec<u8>,
-) -> Result<(), AllocError> {
-    let mut answer = Vec::new(alloc);
-    match cases.answer(alloc, row, &mut answer) {
-        Ok(true) => put_line(out, &answer),
-        Ok(false) => put_line(out, b"no such word"),
-        Err(RowError::Field) => put_line(out, b"bad row"),
-        Err(RowError::Memory) => Err(AllocError),
+fn answer<C: Cases>(alloc: Global, cases: &C, row: &Row, out: &mut AnswerText) {
+    let mut text = AnswerText::new(alloc);
+    if !cases.answer(alloc, row, &mut text) {
+        return push_line("no such word", out);
+    }
+    match text.finish() {
+        Ok(text) => push_line(text.as_str(), out),
+        Err(error) => refuse(error, out),
     }
 }
 
-/// Appends a line.
-fn put_line(out: &mut Vec<u8>, line: &[u8]) -> Result<(), AllocError> {
-    out.extend_from_slice(line)?;
-    out.push(b'\n')?;
-    Ok(())
+fn push_line(line: &str, out: &mut AnswerText) {
+    out.push_str(line);
+    out.push('\n');
 }

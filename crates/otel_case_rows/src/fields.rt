@@ -5,7 +5,7 @@
 use std::alloc::{AllocError, AllocFailed, Global};
 
 /// Why a row has no answer.
-#[derive(Drop)]
+#[derive(Clone, Copy)]
 pub enum RowError {
     /// A field says none of what it may say.
     Field,
@@ -115,16 +115,6 @@ pub fn parts_between(alloc: Global, text: &str, mark: char) -> Result<Row, Alloc
         fields,
         input: Vec::new(alloc),
     })
-}
-
-/// Puts a text out; of one of more than 4,000 bytes only how many it has.
-pub fn put_short(out: &mut String, text: &str) -> Result<(), AllocError> {
-    let count = text.len();
-    if count > 4000 {
-        write!(out, "{count} bytes")
-    } else {
-        out.push_str(text)
-    }
 }
 
 /// The text that a field writes.

@@ -5,28 +5,26 @@ use otel_batch::trace::batch_config::{
     BatchConfig, BatchConfigBuilder, OTEL_BSP_EXPORT_TIMEOUT, OTEL_BSP_MAX_EXPORT_BATCH_SIZE,
     OTEL_BSP_MAX_QUEUE_SIZE, OTEL_BSP_SCHEDULE_DELAY,
 };
+use otel_case_rows::answer_text::AnswerText;
 use otel_case_rows::fields::{Row, RowError, number_of};
 use otel_sampling::trace::BatchStrings;
-use std::alloc::{AllocError, Global};
+use std::alloc::Global;
 use std::time::Duration;
 
 /// Answers a row whose word is one of these; false where it is none.
-pub fn answer(alloc: Global, row: &Row, out: &mut String) -> Result<bool, RowError> {
+pub fn answer(alloc: Global, row: &Row, out: &mut AnswerText) -> bool {
     match row.word.as_str() {
-        "batch-config" => push_configured(alloc, row, out)?,
-        "batch-builder" => {
-            let builder = BatchConfigBuilder::default();
-            push_config(&stepped(builder, row, 0)?.build(), out)?;
-        }
-        "batch-default" => push_config(&BatchConfig::default(), out)?,
-        "batch-names" => push_names(out)?,
-        _ => return Ok(false),
+        "batch-config" => out.put_by(configured(alloc, row), push_config),
+        "batch-builder" => out.put_by(built(row), push_config),
+        "batch-default" => push_config(&BatchConfig::default(), out),
+        "batch-names" => push_names(out),
+        _ => return false,
     }
-    Ok(true)
+    true
 }
 
 /// What the strings of the queue, a batch, the delay and an export configure, and the steps behind them.
-fn push_configured(alloc: Global, row: &Row, out: &mut String) -> Result<(), RowError> {
+fn configured(alloc: Global, row: &Row) -> Result<BatchConfig, RowError> {
     let strings = BatchStrings {
         max_queue_size: row.owned(alloc, 0)?,
         max_export_batch_size: row.owned(alloc, 1)?,
@@ -34,8 +32,12 @@ fn push_configured(alloc: Global, row: &Row, out: &mut String) -> Result<(), Row
         export_timeout: row.owned(alloc, 3)?,
     };
     let builder = BatchConfigBuilder::from_strings(&strings);
-    push_config(&stepped(builder, row, 4)?.build(), out)?;
-    Ok(())
+    Ok(stepped(builder, row, 4)?.build())
+}
+
+/// The same without strings.
+fn built(row: &Row) -> Result<BatchConfig, RowError> {
+    Ok(stepped(BatchConfigBuilder::default(), row, 0)?.build())
 }
 
 /// A builder behind the steps of a row's fields, from this field on.
@@ -63,19 +65,17 @@ fn changed(builder: BatchConfigBuilder, step: &str) -> Result<BatchConfigBuilder
     }
 }
 
-fn push_config(config: &BatchConfig, out: &mut String) -> Result<(), AllocError> {
+fn push_config(config: &BatchConfig, out: &mut AnswerText) {
     let queue = config.max_queue_size();
     let batch = config.max_export_batch_size();
     let delay = config.scheduled_delay().as_nanos();
     let timeout = config.max_export_timeout().as_nanos();
-    write!(out, "{queue} {batch} {delay} {timeout}")?;
-    Ok(())
+    write!(out, "{queue} {batch} {delay} {timeout}");
 }
 
-fn push_names(out: &mut String) -> Result<(), AllocError> {
+fn push_names(out: &mut AnswerText) {
     write!(
         out,
         "{OTEL_BSP_SCHEDULE_DELAY} {OTEL_BSP_MAX_QUEUE_SIZE} {OTEL_BSP_MAX_EXPORT_BATCH_SIZE} {OTEL_BSP_EXPORT_TIMEOUT}"
-    )?;
-    Ok(())
+    );
 }

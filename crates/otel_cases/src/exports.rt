@@ -1,5 +1,6 @@
 //! What is written of exported spans: lines of OTLP JSON, and pictures.
 
+use otel_case_rows::answer_text::AnswerText;
 use otel_case_rows::fields::{Row, RowError, parts_of, small_number_of};
 use otel_case_rows::spans::{short_span_of, short_spans_of, spans_of};
 use otel_case_rows::values::{attributes_of, given_text};
@@ -8,26 +9,32 @@ use otel_otlp::write_request;
 use otel_picture::svg::write_svg;
 use otel_picture::text::{COLUMNS, write_text};
 use otel_resource::resource::Resource;
-use std::alloc::{AllocError, Global};
+use std::alloc::Global;
 
 /// Answers a row whose word is one of these; false where it is none.
-pub fn answer(alloc: Global, row: &Row, out: &mut Vec<u8>) -> Result<bool, RowError> {
+pub fn answer(alloc: Global, row: &Row, out: &mut AnswerText) -> bool {
     match row.word.as_str() {
-        "otlp" => put_request(alloc, row, out)?,
-        "picture" => put_picture(alloc, row, out)?,
-        "picture-chain" => put_chain(alloc, row, out)?,
-        "svg" => write_svg(alloc, out, &short_spans_of(alloc, row, 0)?)?,
-        _ => return Ok(false),
+        "otlp" => out.put_by(request_of(alloc, row), put_written),
+        "picture" => out.put_by(picture_of(alloc, row), put_written),
+        "picture-chain" => out.put_by(picture_of_chain(alloc, row), put_ends),
+        "svg" => out.put_by(svg_of(alloc, row), put_written),
+        _ => return false,
     }
-    Ok(true)
+    true
 }
 
-/// Puts out the request of a resource and spans, without its line feed.
-fn put_request(alloc: Global, row: &Row, out: &mut Vec<u8>) -> Result<(), RowError> {
+/// Puts out what was written.
+fn put_written(written: &Vec<u8>, out: &mut AnswerText) {
+    out.push_bytes(written);
+}
+
+/// The request of a resource and spans, without its line feed.
+fn request_of(alloc: Global, row: &Row) -> Result<Vec<u8>, RowError> {
+    let mut written = Vec::new(alloc);
     let resource = resource_of(alloc, row.field(0))?;
-    write_request(alloc, out, &resource, &spans_of(alloc, row, 1)?)?;
-    let _line_feed = out.pop();
-    Ok(())
+    write_request(alloc, &mut written, &resource, &spans_of(alloc, row, 1)?)?;
+    let _line_feed = written.pop();
+    Ok(written)
 }
 
 /// The resource of `ATTRIBUTES/SCHEMA`.
@@ -39,37 +46,40 @@ fn resource_of(alloc: Global, text: &str) -> Result<Resource, RowError> {
     Ok(builder.build())
 }
 
-/// Puts out the picture of spans in so many columns.
-fn put_picture(alloc: Global, row: &Row, out: &mut Vec<u8>) -> Result<(), RowError> {
+/// The picture of spans in so many columns.
+fn picture_of(alloc: Global, row: &Row) -> Result<Vec<u8>, RowError> {
     let columns = small_number_of(row.field(0))?;
-    write_text(alloc, out, &short_spans_of(alloc, row, 1)?, columns)?;
-    Ok(())
-}
-
-/// Puts out the first line and the last one of the picture of so many spans, each under the one before it, and how many
-/// lines there are.
-fn put_chain(alloc: Global, row: &Row, out: &mut Vec<u8>) -> Result<(), RowError> {
-    let mut picture = Vec::new(alloc);
+    let mut written = Vec::new(alloc);
     write_text(
         alloc,
-        &mut picture,
-        &chain_of(alloc, small_number_of(row.field(0))?)?,
-        COLUMNS,
+        &mut written,
+        &short_spans_of(alloc, row, 1)?,
+        columns,
     )?;
-    put_ends(
-        alloc,
-        str::from_utf8(&picture).or(Err(RowError::Field))?,
-        out,
-    )?;
-    Ok(())
+    Ok(written)
 }
 
-fn put_ends(alloc: Global, text: &str, out: &mut Vec<u8>) -> Result<(), AllocError> {
+fn svg_of(alloc: Global, row: &Row) -> Result<Vec<u8>, RowError> {
+    let mut written = Vec::new(alloc);
+    write_svg(alloc, &mut written, &short_spans_of(alloc, row, 0)?)?;
+    Ok(written)
+}
+
+/// The picture of so many spans, each under the one before it.
+fn picture_of_chain(alloc: Global, row: &Row) -> Result<Vec<u8>, RowError> {
+    let mut written = Vec::new(alloc);
+    let chain = chain_of(alloc, small_number_of(row.field(0))?)?;
+    write_text(alloc, &mut written, &chain, COLUMNS)?;
+    Ok(written)
+}
+
+/// Puts out the first line and the last one of a picture, and how many lines there are.
+fn put_ends(picture: &Vec<u8>, out: &mut AnswerText) {
+    let text = str::from_utf8(picture).unwrap_or("");
     let lines = text.lines().count();
     let first = text.lines().next().unwrap_or("");
     let last = text.lines().last().unwrap_or("");
-    let answer = format!(in alloc; "{first}\n{last}\n{lines} lines\n")?;
-    out.extend_from_slice(answer.as_bytes())
+    write!(out, "{first}\n{last}\n{lines} lines\n");
 }
 
 /// So many spans, each under the one before it: span `k` starts at `k`, and ends at twice the count.

@@ -8,8 +8,9 @@ mod processors;
 mod programs;
 mod spans;
 
+use otel_case_rows::answer_text::AnswerText;
 use otel_case_rows::answers::{Cases, answer_rows};
-use otel_case_rows::fields::{Row, RowError};
+use otel_case_rows::fields::Row;
 use std::alloc::Global;
 use std::io;
 use std::io::{Read, Write};
@@ -18,31 +19,24 @@ fn main(rt: HostRuntime) -> io::Result<()> {
     let alloc = rt.alloc();
     let mut text = String::new(alloc);
     rt.stdin().read_to_string(&mut text)?;
-    let mut out = Vec::new(alloc);
-    answer_rows(alloc, text.as_str(), &AllCases, &mut out)?;
-    rt.stdout().write_all(&out)
+    let answers = answer_rows(alloc, text.as_str(), &AllCases)?;
+    rt.stdout().write_all(answers.as_bytes())
 }
 
 /// The cases of all words.
 struct AllCases;
 
 impl Cases for AllCases {
-    fn answer(&self, alloc: Global, row: &Row, out: &mut Vec<u8>) -> Result<bool, RowError> {
-        Ok(
-            programs::answer(alloc, row, out)?
-                || exports::answer(alloc, row, out)?
-                || answer_by_text(alloc, row, out)?,
-        )
+    fn answer(&self, alloc: Global, row: &Row, out: &mut AnswerText) -> bool {
+        otel_value_cases::answer(alloc, row, out)
+            || batch::answer(alloc, row, out)
+            || spans::answer(alloc, row, out)
+            || processors::answer(alloc, row, out)
+            || answer_whole(alloc, row, out)
     }
 }
 
-/// Answers a row of a word whose answer is a text.
-fn answer_by_text(alloc: Global, row: &Row, out: &mut Vec<u8>) -> Result<bool, RowError> {
-    let mut text = String::new(alloc);
-    let is_known = otel_value_cases::answer(alloc, row, &mut text)?
-        || batch::answer(alloc, row, &mut text)?
-        || spans::answer(alloc, row, &mut text)?
-        || processors::answer(alloc, row, &mut text)?;
-    out.extend_from_slice(text.as_bytes())?;
-    Ok(is_known)
+/// Answers a row that asks of what the program writes.
+fn answer_whole(alloc: Global, row: &Row, out: &mut AnswerText) -> bool {
+    programs::answer(alloc, row, out) || exports::answer(alloc, row, out)
 }

@@ -10,6 +10,7 @@ use opentelemetry_sdk::trace::{
     BatchConfig, BatchConfigBuilder, BatchSpanProcessor, DrainDue, SimpleSpanProcessor, SpanData,
     SpanExporter, SpanProcessor,
 };
+use otel_case_rows::answer_text::AnswerText;
 use otel_case_rows::fields::{Row, RowError, number_of};
 use otel_case_rows::spans::bare_span;
 use std::alloc::{AllocError, Global};
@@ -74,40 +75,61 @@ impl SpanExporter for Writing {
 }
 
 /// Answers a row whose word is one of these; false where it is none.
-pub fn answer(alloc: Global, row: &Row, out: &mut String) -> Result<bool, RowError> {
+pub fn answer(alloc: Global, row: &Row, out: &mut AnswerText) -> bool {
     match row.word.as_str() {
-        "batch-processor" => answer_batch(alloc, row, out)?,
-        "simple-processor" => answer_simple(alloc, row, out)?,
-        _ => return Ok(false),
+        "batch-processor" => answer_batch(alloc, row, out),
+        "simple-processor" => answer_simple(alloc, row, out),
+        _ => return false,
     }
-    Ok(true)
+    true
 }
 
 /// `batch-processor EXPORTER QUEUE BATCH CALL ..`: each call's answer, how many spans were dropped, and what the
 /// exporter was told.
-fn answer_batch(alloc: Global, row: &Row, out: &mut String) -> Result<(), RowError> {
+fn answer_batch(alloc: Global, row: &Row, out: &mut AnswerText) {
+    match batch_processor(alloc, row) {
+        Ok(mut processor) => put_batch(&mut processor, row, out),
+        Err(error) => out.note(error),
+    }
+}
+
+fn batch_processor(alloc: Global, row: &Row) -> Result<Box<BatchSpanProcessor<Writing>>, RowError> {
     let config = config_of(row)?;
     let exporter = exporter_named(alloc, row.field(0))?;
-    let mut processor = Box::new(alloc, BatchSpanProcessor::new(alloc, exporter, config)?)?;
+    Ok(Box::new(alloc, BatchSpanProcessor::new(alloc, exporter, config)?)?)
+}
+
+fn put_batch(processor: &mut BatchSpanProcessor<Writing>, row: &Row, out: &mut AnswerText) {
     for call in row.fields.iter().skip(3) {
-        answer_batch_call(alloc, &mut *processor, call.as_str(), out)?;
+        answer_batch_call(processor, call.as_str(), out);
     }
     let dropped = processor.dropped_count();
-    write!(out, "dropped {dropped} told{}", processor.exporter().told)?;
-    Ok(())
+    write!(out, "dropped {dropped} told{}", processor.exporter().told);
 }
 
 /// `simple-processor EXPORTER CALL ..`: each call's answer, and what the exporter was told.
-fn answer_simple(alloc: Global, row: &Row, out: &mut String) -> Result<(), RowError> {
+fn answer_simple(alloc: Global, row: &Row, out: &mut AnswerText) {
+    match simple_processor(alloc, row) {
+        Ok(mut processor) => put_simple(&mut processor, row, out),
+        Err(error) => out.note(error),
+    }
+}
+
+fn simple_processor(
+    alloc: Global,
+    row: &Row,
+) -> Result<Box<SimpleSpanProcessor<Writing>>, RowError> {
     let exporter = exporter_named(alloc, row.field(0))?;
-    let mut processor = Box::new(alloc, SimpleSpanProcessor::new(alloc, exporter))?;
+    Ok(Box::new(alloc, SimpleSpanProcessor::new(alloc, exporter))?)
+}
+
+fn put_simple(processor: &mut SimpleSpanProcessor<Writing>, row: &Row, out: &mut AnswerText) {
     for call in row.fields.iter().skip(1) {
-        if !answer_call(alloc, &mut *processor, call.as_str(), out)? {
-            return Err(RowError::Field);
+        if !answer_call(processor, call.as_str(), out) {
+            out.note(RowError::Field);
         }
     }
-    write!(out, "told{}", processor.exporter().told)?;
-    Ok(())
+    write!(out, "told{}", processor.exporter().told);
 }
 
 /// The exporter of a name: `memory`, `slow`, `slow-once`, or `failing:N`, which fails at its call of this number.
@@ -146,42 +168,59 @@ fn config_of(row: &Row) -> Result<BatchConfig, RowError> {
 
 /// Makes a call of a batch processor and puts out what it answers.
 fn answer_batch_call(
-    alloc: Global,
     processor: &mut BatchSpanProcessor<Writing>,
     call: &str,
-    out: &mut String,
-) -> Result<(), RowError> {
-    if answer_call(alloc, processor, call, out)? {
-        return Ok(());
+    out: &mut AnswerText,
+) {
+    if answer_call(processor, call, out) {
+        return;
     }
     let (word, rest) = call.split_once(':').unwrap_or((call, ""));
     match word {
-        "worker" => put_said(processor.run_worker(), out)?,
-        "stranded" => put_stranded(processor.stranded(), out)?,
-        "due" => put_said(processor.drain_due(Moment(number_of(rest)?)), out)?,
-        _ => return Err(RowError::Field),
+        "worker" => put_said(processor.run_worker(), out),
+        "stranded" => put_stranded(processor.stranded(), out),
+        "due" => put_due(processor, number_of(rest), out),
+        _ => out.note(RowError::Field),
     }
-    Ok(())
+}
+
+fn put_due(
+    processor: &mut BatchSpanProcessor<Writing>,
+    moment: Result<u64, RowError>,
+    out: &mut AnswerText,
+) {
+    match moment {
+        Ok(moment) => put_said(processor.drain_due(Moment(moment)), out),
+        Err(error) => out.note(error),
+    }
 }
 
 /// Makes a call of a processor of any kind, and puts out what it answers; false where it is none.
-fn answer_call<P: SpanProcessor>(
-    alloc: Global,
-    processor: &mut P,
-    call: &str,
-    out: &mut String,
-) -> Result<bool, RowError> {
+fn answer_call<P: SpanProcessor>(processor: &mut P, call: &str, out: &mut AnswerText) -> bool {
+    let alloc = out.alloc();
     let (word, rest) = call.split_once(':').unwrap_or((call, ""));
     match word {
-        "end" => put_taken(processor.on_end(span_named(alloc, rest, 1)?), out)?,
-        "unsampled" => put_taken(processor.on_end(span_named(alloc, rest, 0)?), out)?,
-        "resource" => put_taken(set_resource(alloc, processor, rest), out)?,
-        "resources" => put_taken(set_resources(alloc, processor, number_of(rest)?), out)?,
-        "flush" => put_said(processor.force_flush(), out)?,
-        "shutdown" => put_said(processor.shutdown(), out)?,
-        _ => return Ok(false),
+        "end" => put_end(processor, span_named(alloc, rest, 1), out),
+        "unsampled" => put_end(processor, span_named(alloc, rest, 0), out),
+        "resource" => put_taken(set_resource(alloc, processor, rest), out),
+        "resources" => put_resources(processor, number_of(rest), out),
+        "flush" => put_said(processor.force_flush(), out),
+        "shutdown" => put_said(processor.shutdown(), out),
+        _ => return false,
     }
-    Ok(true)
+    true
+}
+
+/// Ends a span.
+fn put_end<P: SpanProcessor>(
+    processor: &mut P,
+    span: Result<SpanData, AllocError>,
+    out: &mut AnswerText,
+) {
+    match span {
+        Ok(span) => put_taken(processor.on_end(span), out),
+        Err(error) => out.note(RowError::from(error)),
+    }
 }
 
 /// Sets a resource of one attribute.
@@ -208,18 +247,29 @@ fn set_resources<P: SpanProcessor>(
     Ok(())
 }
 
-fn put_taken(taken: Result<(), AllocError>, out: &mut String) -> Result<(), AllocError> {
-    out.push_str(if taken.is_ok() { "ok, " } else { "no memory, " })
+fn put_resources<P: SpanProcessor>(
+    processor: &mut P,
+    count: Result<u64, RowError>,
+    out: &mut AnswerText,
+) {
+    match count {
+        Ok(count) => put_taken(set_resources(out.alloc(), processor, count), out),
+        Err(error) => out.note(error),
+    }
 }
 
-fn put_stranded(stranded: Option<usize>, out: &mut String) -> Result<(), AllocError> {
+fn put_taken(taken: Result<(), AllocError>, out: &mut AnswerText) {
+    out.push_str(if taken.is_ok() { "ok, " } else { "no memory, " });
+}
+
+fn put_stranded(stranded: Option<usize>, out: &mut AnswerText) {
     match stranded {
         Some(count) => write!(out, "stranded {count}, "),
         None => out.push_str("open, "),
     }
 }
 
-fn put_said(said: OTelSdkResult, out: &mut String) -> Result<(), AllocError> {
+fn put_said(said: OTelSdkResult, out: &mut AnswerText) {
     match said {
         Ok(()) => out.push_str("ok, "),
         Err(error) => write!(out, "{error}, "),

@@ -3,7 +3,8 @@
 
 use opentelemetry::propagation::{Extractor, Injector, MapCarrier, TextMapPropagator};
 use opentelemetry::trace::{Event, Link, SpanBuilder, SpanContext};
-use opentelemetry::{Array, Context, Key, KeyValue, Moment, Value};
+use opentelemetry::{Array, Context, Key, KeyValue, Moment, SpanId, Value};
+use otel_case_rows::answer_text::AnswerText;
 use otel_case_rows::fields::{Row, RowError, pair_of, small_number_of};
 use otel_case_rows::values::{status_of, texts_of};
 use otel_export::error::OTelSdkError;
@@ -16,7 +17,6 @@ use otel_sampling::trace::{ConfigOf, RandomIdGenerator, SamplerOf, SpanLimits};
 use otel_trace_lines::reply_text::write_batches;
 use otel_trace_run::program::{NoSampler, TraceSampler};
 use std::alloc::{AllocError, Global};
-use std::fmt::Write;
 
 type RowProvider = ProviderOf<
     SimpleSpanProcessor<InMemorySpanExporter>,
@@ -25,22 +25,32 @@ type RowProvider = ProviderOf<
 >;
 
 /// Answers a row whose word is one of these; false where it is none.
-pub fn answer(alloc: Global, row: &Row, out: &mut String) -> Result<bool, RowError> {
+pub fn answer(alloc: Global, row: &Row, out: &mut AnswerText) -> bool {
     match row.word.as_str() {
-        "span" => answer_span(alloc, row, out)?,
-        "start" => answer_start(alloc, row, out)?,
-        _ => return Ok(false),
+        "span" => answer_span(alloc, row, out),
+        "start" => out.put_by(starts_of(alloc, row), show_started),
+        _ => return false,
     }
-    Ok(true)
+    true
 }
 
 /// `span LIMITS GIVEN .. start EDIT ..`: starts a span with what is given in front of `start`, makes the edits behind
 /// it, and shows what it would export; where an edit is `end`, what was exported and how many processors refused.
-fn answer_span(alloc: Global, row: &Row, out: &mut String) -> Result<(), RowError> {
-    let mut provider = provider_of(alloc, limits_of(row.field(0))?, SamplerOf::AlwaysOn)?;
-    let shown = show_span(alloc, row, &mut provider, out);
+fn answer_span(alloc: Global, row: &Row, out: &mut AnswerText) {
+    match provider_by(alloc, row) {
+        Ok(provider) => show_in(provider, row, out),
+        Err(error) => out.note(error),
+    }
+}
+
+/// The provider of a row's limits.
+fn provider_by(alloc: Global, row: &Row) -> Result<RowProvider, RowError> {
+    Ok(provider_of(alloc, limits_of(row.field(0))?, SamplerOf::AlwaysOn)?)
+}
+
+fn show_in(mut provider: RowProvider, row: &Row, out: &mut AnswerText) {
+    show_span(&mut provider, row, out);
     let _ = provider.close();
-    shown
 }
 
 /// A provider over one exporter in memory, with the ids of seed 0.
@@ -88,21 +98,22 @@ fn limit_of(text: &str) -> Result<u32, RowError> {
 }
 
 /// Starts the span of a row, edits it, and shows it.
-fn show_span(
-    alloc: Global,
-    row: &Row,
-    provider: &mut RowProvider,
-    out: &mut String,
-) -> Result<(), RowError> {
-    let mut span = start_given(alloc, row, provider)?;
-    let edited = edit_all(alloc, row, &mut span, provider);
+fn show_span(provider: &mut RowProvider, row: &Row, out: &mut AnswerText) {
+    match start_given(out.alloc(), row, provider) {
+        Ok(span) => show_edited(span, provider, row, out),
+        Err(error) => out.note(error),
+    }
+}
+
+fn show_edited(mut span: Span, provider: &mut RowProvider, row: &Row, out: &mut AnswerText) {
+    let edited = edit_all(out.alloc(), row, &mut span, provider);
     let recorded = recorded_of(&span);
     span.abandon();
-    match edited? {
-        Some(refused) => show_exported(alloc, provider, refused, out)?,
-        None => show_recorded(alloc, recorded?, out)?,
+    match edited {
+        Ok(Some(refused)) => show_exported(provider, refused, out),
+        Ok(None) => show_recorded(recorded, out),
+        Err(error) => out.note(error),
     }
-    Ok(())
 }
 
 fn recorded_of(span: &Span) -> Result<Option<SpanData>, AllocError> {
@@ -330,90 +341,98 @@ fn add_link(span: &mut Span, link: Link) -> Result<(), AllocError> {
 }
 
 /// Shows what was exported, and how many processors refused the span.
-fn show_exported(
-    alloc: Global,
-    provider: &RowProvider,
-    refused: usize,
-    out: &mut String,
-) -> Result<(), AllocError> {
+fn show_exported(provider: &RowProvider, refused: usize, out: &mut AnswerText) {
     for processor in provider.processors() {
-        show_batches(alloc, processor.exporter().batches(), out)?;
+        show_batches(processor.exporter().batches(), out);
     }
-    write!(out, " / refused {refused}")
+    write!(out, " / refused {refused}");
 }
 
 /// Shows what a span would export.
-fn show_recorded(
+fn show_recorded(recorded: Result<Option<SpanData>, AllocError>, out: &mut AnswerText) {
+    out.put_by(batches_of(out.alloc(), recorded), show_or_none);
+}
+
+/// A batch of a span's data, where there is some.
+fn batches_of(
     alloc: Global,
-    recorded: Option<SpanData>,
-    out: &mut String,
-) -> Result<(), AllocError> {
-    match recorded {
-        Some(data) => {
-            let batch = vec![in alloc; data]?;
-            show_batches(alloc, &[batch], out)
-        }
-        None => out.push_str("none"),
+    recorded: Result<Option<SpanData>, AllocError>,
+) -> Result<Vec<Vec<SpanData>>, AllocError> {
+    let mut batches = Vec::new(alloc);
+    if let Some(data) = recorded? {
+        batches.push(vec![in alloc; data]?)?;
+    }
+    Ok(batches)
+}
+
+fn show_or_none(batches: &Vec<Vec<SpanData>>, out: &mut AnswerText) {
+    if batches.is_empty() {
+        out.push_str("none");
+    } else {
+        show_batches(batches, out);
     }
 }
 
 /// Shows each span in the form of the program's line, and behind it its events and links one by one.
-fn show_batches(
-    alloc: Global,
-    batches: &[Vec<SpanData>],
-    out: &mut String,
-) -> Result<(), AllocError> {
-    let mut bytes = Vec::new(alloc);
-    write_batches(&mut String::new(alloc), &mut bytes, batches)?;
-    if let Ok(text) = str::from_utf8(&bytes) {
-        out.push_str(text.strip_suffix('\n').unwrap_or(text))?;
-    }
+fn show_batches(batches: &[Vec<SpanData>], out: &mut AnswerText) {
+    out.put_by(lines_of(out.alloc(), batches), show_lines);
     for batch in batches {
         for span in batch {
-            show_parts(span, out)?;
+            show_parts(span, out);
         }
     }
-    Ok(())
+}
+
+fn lines_of(alloc: Global, batches: &[Vec<SpanData>]) -> Result<Vec<u8>, AllocError> {
+    let mut bytes = Vec::new(alloc);
+    write_batches(&mut String::new(alloc), &mut bytes, batches)?;
+    Ok(bytes)
+}
+
+fn show_lines(lines: &Vec<u8>, out: &mut AnswerText) {
+    out.push_bytes(lines.strip_suffix(b"\n").unwrap_or(lines));
 }
 
 /// Shows the events and the links of a span: the attributes of each, and how many were not kept.
-fn show_parts(span: &SpanData, out: &mut String) -> Result<(), AllocError> {
+fn show_parts(span: &SpanData, out: &mut AnswerText) {
     for event in span.events.as_slice() {
-        out.push_str(" / event ")?;
-        show_attributes(&event.attributes, event.dropped_attributes_count, out)?;
+        out.push_str(" / event ");
+        show_attributes(&event.attributes, event.dropped_attributes_count, out);
     }
     for link in span.links.as_slice() {
-        out.push_str(" / link ")?;
-        show_attributes(&link.attributes, link.dropped_attributes_count, out)?;
+        out.push_str(" / link ");
+        show_attributes(&link.attributes, link.dropped_attributes_count, out);
     }
-    Ok(())
 }
 
-fn show_attributes(
-    attributes: &[KeyValue],
-    dropped: u32,
-    out: &mut String,
-) -> Result<(), AllocError> {
-    out.push('[')?;
+fn show_attributes(attributes: &[KeyValue], dropped: u32, out: &mut AnswerText) {
+    out.push('[');
     for (i, attribute) in attributes.iter().enumerate() {
         if i > 0 {
-            out.push(',')?;
+            out.push(',');
         }
         let (key, value) = (attribute.key.as_str(), &attribute.value);
-        write!(out, "{key}={value}")?;
+        write!(out, "{key}={value}");
     }
-    write!(out, "] {dropped}")
+    write!(out, "] {dropped}");
 }
 
-/// `start SAMPLER CONTEXT TRACESTATE`: starts a span in a context and another one as a root, and shows who the first
-/// one is, whether it records, the trace state that goes on from it, and the span id of the second one.
-fn answer_start(alloc: Global, row: &Row, out: &mut String) -> Result<(), RowError> {
+/// What `start SAMPLER CONTEXT TRACESTATE` shows: it starts a span in a context and another one as a root. Who the
+/// first one is, whether it records, and the span id of the second one.
+#[derive(Drop)]
+struct Started {
+    is_recording: bool,
+    context: SpanContext,
+    next_id: SpanId,
+}
+
+fn starts_of(alloc: Global, row: &Row) -> Result<Started, RowError> {
     let cx = context_of(alloc, row)?;
     let sampler = sampler_of(alloc, row.field(0))?;
     let mut provider = provider_of(alloc, SpanLimits::default(), sampler)?;
-    let shown = show_starts(alloc, &cx, &mut provider, out);
+    let started = start_both(alloc, &cx, &mut provider);
     let _ = provider.close();
-    Ok(shown?)
+    Ok(started?)
 }
 
 /// The sampler of this name.
@@ -463,20 +482,24 @@ fn received(alloc: Global, row: &Row) -> Result<Context, AllocError> {
     TraceContextPropagator::new().extract_with_context(alloc, &Context::new(), &carrier)
 }
 
-fn show_starts(
+fn start_both(
     alloc: Global,
     cx: &Context,
     provider: &mut RowProvider,
-    out: &mut String,
-) -> Result<(), AllocError> {
+) -> Result<Started, AllocError> {
     let span = start_in(alloc, cx, provider)?;
-    let shown = show_start(alloc, &span, out);
+    let is_recording = span.is_recording();
+    let context: Result<SpanContext, AllocError> = span.span_context().clone();
     span.abandon();
     let next = start_in(alloc, &Context::new(), provider)?;
     let next_id = next.span_context().span_id();
     next.abandon();
-    shown?;
-    write!(out, " next {next_id}")
+    let context = context?;
+    Ok(Started {
+        is_recording,
+        context,
+        next_id,
+    })
 }
 
 /// Starts a span without a name in a context.
@@ -485,25 +508,34 @@ fn start_in(alloc: Global, cx: &Context, provider: &mut RowProvider) -> Result<S
     tracer.start_with_context(String::new(alloc), cx, provider, Moment(7))
 }
 
-/// Shows who a span is, whether it records, and the trace state that goes on from it.
-fn show_start(alloc: Global, span: &Span, out: &mut String) -> Result<(), AllocError> {
-    out.push_str(if span.is_recording() {
+/// Shows who a span is, whether it records, the trace state that goes on from it, and the id of the next span.
+fn show_started(started: &Started, out: &mut AnswerText) {
+    out.push_str(if started.is_recording {
         "started"
     } else {
         "dropped"
-    })?;
-    let context = span.span_context();
-    let (trace_id, span_id) = (context.trace_id(), context.span_id());
-    let flags = context.trace_flags();
-    write!(out, " 00-{trace_id}-{span_id}-{flags} state ")?;
-    show_state(alloc, context, out)
+    });
+    show_identity(&started.context, out);
+    out.put_by(carrier_of(out.alloc(), &started.context), show_state);
+    write!(out, " next {}", started.next_id);
 }
 
-/// Shows the trace state that goes on from a span; `-` where it is empty.
-fn show_state(alloc: Global, context: &SpanContext, out: &mut String) -> Result<(), AllocError> {
+fn show_identity(context: &SpanContext, out: &mut AnswerText) {
+    let (trace_id, span_id) = (context.trace_id(), context.span_id());
+    let flags = context.trace_flags();
+    write!(out, " 00-{trace_id}-{span_id}-{flags} state ");
+}
+
+/// What goes on from a span.
+fn carrier_of(alloc: Global, context: &SpanContext) -> Result<MapCarrier, AllocError> {
     let cx = Context::new().with_span_context(context.clone()?)?;
     let mut carrier = MapCarrier::new(alloc);
     TraceContextPropagator::new().inject_context(alloc, &cx, &mut carrier)?;
+    Ok(carrier)
+}
+
+/// Shows the trace state of a carrier; `-` where it is empty.
+fn show_state(carrier: &MapCarrier, out: &mut AnswerText) {
     match carrier.get("tracestate") {
         Some(state) if !state.is_empty() => out.push_str(state),
         _ => out.push('-'),

@@ -5,19 +5,17 @@ mod both;
 mod trace;
 mod vendors;
 
-use opentelemetry::Context;
 use opentelemetry::propagation::{Extractor, Injector, MapCarrier};
-use otel_case_rows::fields::{Row, RowError};
+use otel_case_rows::answer_text::AnswerText;
+use otel_case_rows::fields::Row;
 use std::alloc::{AllocError, Global};
 
 /// Answers a row whose word is one of these; false where it is none.
-pub fn answer(alloc: Global, row: &Row, out: &mut String) -> Result<bool, RowError> {
-    Ok(
-        trace::answer(alloc, row, out)?
-            || baggage::answer(alloc, row, out)?
-            || both::answer(alloc, row, out)?
-            || vendors::answer(alloc, row, out)?,
-    )
+pub fn answer(alloc: Global, row: &Row, out: &mut AnswerText) -> bool {
+    trace::answer(alloc, row, out)
+        || baggage::answer(alloc, row, out)
+        || both::answer(alloc, row, out)
+        || vendors::answer(alloc, row, out)
 }
 
 /// Sets a header in a carrier where it is given.
@@ -36,13 +34,4 @@ fn set_given(
 /// The text of a header; `none` where the carrier has none.
 fn text_at<'a>(carrier: &'a MapCarrier, name: &str) -> &'a str {
     carrier.get(name).unwrap_or("none")
-}
-
-/// Puts out the span of a context; `none` where it has none.
-fn put_active(alloc: Global, cx: &Context, out: &mut String) -> Result<(), AllocError> {
-    if cx.has_active_span() {
-        crate::values::put_span(alloc, cx.span_context(), out)
-    } else {
-        out.push_str("none")
-    }
 }

@@ -6,15 +6,14 @@ mod probability;
 mod sdk;
 mod values;
 
-use otel_case_rows::fields::{Row, RowError};
+use otel_case_rows::answer_text::AnswerText;
+use otel_case_rows::fields::Row;
 use std::alloc::Global;
 
 /// Puts out the answer to a row whose word is one of these; false where it is none.
-pub fn answer(alloc: Global, row: &Row, out: &mut String) -> Result<bool, RowError> {
-    Ok(
-        values::answer(alloc, row, out)?
-            || headers::answer(alloc, row, out)?
-            || sdk::answer(alloc, row, out)?
-            || probability::answer(alloc, row, out)?,
-    )
+pub fn answer(alloc: Global, row: &Row, out: &mut AnswerText) -> bool {
+    values::answer(alloc, row, out)
+        || headers::answer(alloc, row, out)
+        || sdk::answer(alloc, row, out)
+        || probability::answer(alloc, row, out)
 }

@@ -2,33 +2,34 @@
 //! that a text configures.
 
 use super::trace::{carrier_of, context_of};
-use super::{put_active, set_given, text_at};
-use crate::values::{baggage_of, put_entries};
+use super::{set_given, text_at};
+use crate::values::{baggage_of, put_active, put_entries};
 use opentelemetry::Context;
 use opentelemetry::propagation::{FieldIter, MapCarrier, TextMapPropagator};
+use otel_case_rows::answer_text::AnswerText;
 use otel_case_rows::fields::{Row, RowError};
 use otel_propagation::propagation::{
-    BaggagePropagator, CompositePropagator, FieldsError, ListFieldsError, TraceContextPropagator,
-    configured_propagators,
+    BaggagePropagator, CompositePropagator, ConfiguredPropagators, FieldsError, ListFieldsError,
+    TraceContextPropagator, configured_propagators,
 };
-use std::alloc::{AllocError, Global};
+use std::alloc::Global;
 
 /// The pair that is the default.
 type BuiltIn = CompositePropagator<TraceContextPropagator, BaggagePropagator>;
 
 /// Answers a row whose word is one of these; false where it is none.
-pub fn answer(alloc: Global, row: &Row, out: &mut String) -> Result<bool, RowError> {
+pub fn answer(alloc: Global, row: &Row, out: &mut AnswerText) -> bool {
     match row.word.as_str() {
-        "inject-all" => put_injected(&*injected(alloc, row)?, out)?,
-        "cross-all" => put_crossed(alloc, row, out)?,
-        "extract-all" => put_extracted(alloc, row, out)?,
-        "header-names" => put_names(fields_of(row.field(0))?, out)?,
-        "header-names-error" => put_error(FieldsError, out)?,
-        "list-names-error" => put_list_error(ListFieldsError, out)?,
-        "propagators" => put_configured(alloc, row.given(0), out)?,
-        _ => return Ok(false),
+        "inject-all" => out.put_by(injected(alloc, row), put_headers),
+        "cross-all" => out.put_by(crossed(alloc, row), put_found),
+        "extract-all" => out.put_by(extracted(alloc, row), put_found),
+        "header-names" => put_names_of(row.field(0), out),
+        "header-names-error" => write!(out, "{}", FieldsError),
+        "list-names-error" => write!(out, "{}", ListFieldsError),
+        "propagators" => out.put_by(configured_propagators(alloc, row.given(0)), put_configured),
+        _ => return false,
     }
-    Ok(true)
+    true
 }
 
 /// A context with a span of four fields and the baggage of a fifth.
@@ -47,42 +48,32 @@ fn injected(alloc: Global, row: &Row) -> Result<Box<MapCarrier>, RowError> {
 }
 
 /// Puts out the three headers, each with a bar behind it.
-fn put_injected(carrier: &MapCarrier, out: &mut String) -> Result<(), AllocError> {
+fn put_headers(carrier: &Box<MapCarrier>, out: &mut AnswerText) {
     let parent = text_at(carrier, "traceparent");
     let state = text_at(carrier, "tracestate");
     let baggage = text_at(carrier, "baggage");
-    write!(out, "{parent}|{state}|{baggage}|")
+    write!(out, "{parent}|{state}|{baggage}|");
 }
 
-/// Puts out the entries and the span that a context has once a carrier was read over it.
-fn put_read(
-    alloc: Global,
-    cx: &Context,
-    carrier: &MapCarrier,
-    out: &mut String,
-) -> Result<(), AllocError> {
-    let found = Box::new(
-        alloc,
-        BuiltIn::default().extract_with_context(alloc, cx, carrier)?,
-    )?;
-    put_entries(alloc, found.baggage(), out)?;
-    out.push(' ')?;
-    put_active(alloc, &found, out)
+/// Puts out the entries and the span of a context.
+fn put_found(found: &Context, out: &mut AnswerText) {
+    put_entries(found.baggage(), out);
+    out.push(' ');
+    put_active(found, out);
 }
 
-/// Puts out the entries and the span that the other side has.
-fn put_crossed(alloc: Global, row: &Row, out: &mut String) -> Result<(), RowError> {
+/// What the other side has.
+fn crossed(alloc: Global, row: &Row) -> Result<Context, RowError> {
     let carrier = injected(alloc, row)?;
-    put_read(alloc, &Context::new(), &carrier, out)?;
-    Ok(())
+    Ok(BuiltIn::default().extract_with_context(alloc, &Context::new(), &*carrier)?)
 }
 
-/// Puts out what a context with both has once the headers of three further fields were read over it.
-fn put_extracted(alloc: Global, row: &Row, out: &mut String) -> Result<(), RowError> {
+/// What a context with both has once the headers of three further fields were read over it.
+fn extracted(alloc: Global, row: &Row) -> Result<Context, RowError> {
     let mut carrier = carrier_of(alloc, row.given(5), row.given(6))?;
     set_given(alloc, &mut carrier, "baggage", row.given(7))?;
-    put_read(alloc, &*context_of_both(alloc, row)?, &carrier, out)?;
-    Ok(())
+    let cx = context_of_both(alloc, row)?;
+    Ok(BuiltIn::default().extract_with_context(alloc, &cx, &*carrier)?)
 }
 
 /// The names of the headers of the propagator of a name.
@@ -95,31 +86,25 @@ fn fields_of(name: &str) -> Result<FieldIter, RowError> {
     }
 }
 
-/// Puts out names, each with a bar behind it.
-fn put_names(fields: FieldIter, out: &mut String) -> Result<(), AllocError> {
-    for name in fields {
-        write!(out, "{name}|")?;
+fn put_names_of(name: &str, out: &mut AnswerText) {
+    match fields_of(name) {
+        Ok(fields) => put_names(fields, out),
+        Err(error) => out.note(error),
     }
-    Ok(())
 }
 
-/// Puts out what an error says.
-fn put_error(error: FieldsError, out: &mut String) -> Result<(), AllocError> {
-    write!(out, "{error}")
-}
-
-/// Puts out what the error of a list says.
-fn put_list_error(error: ListFieldsError, out: &mut String) -> Result<(), AllocError> {
-    write!(out, "{error}")
+/// Puts out names, each with a bar behind it.
+fn put_names(fields: FieldIter, out: &mut AnswerText) {
+    for name in fields {
+        write!(out, "{name}|");
+    }
 }
 
 /// Puts out the names of the headers of the propagators that a text configures, and behind question marks the names in
 /// it that are unknown, each with a bar behind it.
-fn put_configured(alloc: Global, text: Option<&str>, out: &mut String) -> Result<(), AllocError> {
-    let configured = configured_propagators::<BuiltIn>(alloc, text)?;
-    put_names(configured.propagator.fields(), out)?;
+fn put_configured(configured: &ConfiguredPropagators<BuiltIn>, out: &mut AnswerText) {
+    put_names(configured.propagator.fields(), out);
     for name in &configured.unknown {
-        write!(out, "?{name}|")?;
+        write!(out, "?{name}|");
     }
-    Ok(())
 }

@@ -1,24 +1,26 @@
 //! The headers `traceparent` and `tracestate`.
 
-use super::{put_active, set_given, text_at};
+use super::{set_given, text_at};
+use crate::values::put_active;
 use opentelemetry::propagation::{MapCarrier, TextMapPropagator};
 use opentelemetry::trace::{SpanContext, TraceState};
 use opentelemetry::{Context, SpanId, TraceId};
+use otel_case_rows::answer_text::AnswerText;
 use otel_case_rows::fields::{Row, RowError};
 use otel_case_rows::values::{flags_of, state_of};
 use otel_propagation::propagation::TraceContextPropagator;
 use std::alloc::{AllocError, Global};
 
 /// Answers a row whose word is one of these; false where it is none.
-pub fn answer(alloc: Global, row: &Row, out: &mut String) -> Result<bool, RowError> {
+pub fn answer(alloc: Global, row: &Row, out: &mut AnswerText) -> bool {
     match row.word.as_str() {
-        "extract" => put_extracted(alloc, row, out)?,
-        "extract-over" => put_extracted_over(alloc, row, out)?,
-        "inject" => put_injected(alloc, row, out)?,
-        "cross" => put_crossed(alloc, row, out)?,
-        _ => return Ok(false),
+        "extract" => out.put_by(extracted(alloc, row), put_active),
+        "extract-over" => out.put_by(extracted_over(alloc, row), put_active),
+        "inject" => out.put_by(injected(alloc, row, Some("old=1")), put_headers),
+        "cross" => out.put_by(crossed(alloc, row), put_active),
+        _ => return false,
     }
-    Ok(true)
+    true
 }
 
 /// The context of a local span, of whose ids, flags and trace state each is a field; the empty one where the first is
@@ -56,49 +58,38 @@ pub fn carrier_of(
     Ok(carrier)
 }
 
-/// Puts out the span that is active once a carrier was read.
-fn put_read(
-    alloc: Global,
-    cx: &Context,
-    carrier: &MapCarrier,
-    out: &mut String,
-) -> Result<(), AllocError> {
-    let found = TraceContextPropagator::new().extract_with_context(alloc, cx, carrier)?;
-    put_active(alloc, &found, out)
+/// What is read of a carrier over a context.
+fn read(alloc: Global, cx: &Context, carrier: &MapCarrier) -> Result<Context, AllocError> {
+    TraceContextPropagator::new().extract_with_context(alloc, cx, carrier)
 }
 
-fn put_extracted(alloc: Global, row: &Row, out: &mut String) -> Result<(), AllocError> {
+fn extracted(alloc: Global, row: &Row) -> Result<Context, AllocError> {
     let carrier = carrier_of(alloc, row.given(0), row.given(1))?;
-    put_read(alloc, &Context::new(), &carrier, out)
+    read(alloc, &Context::new(), &carrier)
 }
 
-fn put_extracted_over(alloc: Global, row: &Row, out: &mut String) -> Result<(), RowError> {
+fn extracted_over(alloc: Global, row: &Row) -> Result<Context, RowError> {
     let carrier = carrier_of(alloc, row.given(4), row.given(5))?;
-    put_read(alloc, &*context_of(alloc, row)?, &carrier, out)?;
-    Ok(())
+    Ok(read(alloc, &*context_of(alloc, row)?, &carrier)?)
 }
 
-/// What a context's span puts into a carrier.
-fn inject(alloc: Global, row: &Row, carrier: &mut MapCarrier) -> Result<(), RowError> {
+/// What a context's span puts into a carrier that has a trace state.
+fn injected(alloc: Global, row: &Row, state: Option<&str>) -> Result<Box<MapCarrier>, RowError> {
+    let mut carrier = carrier_of(alloc, None, state)?;
     let cx = context_of(alloc, row)?;
-    TraceContextPropagator::new().inject_context(alloc, &cx, carrier)?;
-    Ok(())
+    TraceContextPropagator::new().inject_context(alloc, &cx, &mut *carrier)?;
+    Ok(carrier)
 }
 
-/// Puts out both headers of a carrier that had an older trace state, each with a bar behind it.
-fn put_injected(alloc: Global, row: &Row, out: &mut String) -> Result<(), RowError> {
-    let mut carrier = carrier_of(alloc, None, Some("old=1"))?;
-    inject(alloc, row, &mut carrier)?;
-    let parent = text_at(&carrier, "traceparent");
-    let state = text_at(&carrier, "tracestate");
-    write!(out, "{parent}|{state}|")?;
-    Ok(())
+/// Puts out both headers of a carrier, each with a bar behind it.
+fn put_headers(carrier: &Box<MapCarrier>, out: &mut AnswerText) {
+    let parent = text_at(carrier, "traceparent");
+    let state = text_at(carrier, "tracestate");
+    write!(out, "{parent}|{state}|");
 }
 
-/// Puts out the span that the other side has.
-fn put_crossed(alloc: Global, row: &Row, out: &mut String) -> Result<(), RowError> {
-    let mut carrier = carrier_of(alloc, None, None)?;
-    inject(alloc, row, &mut carrier)?;
-    put_read(alloc, &Context::new(), &carrier, out)?;
-    Ok(())
+/// What the other side has.
+fn crossed(alloc: Global, row: &Row) -> Result<Context, RowError> {
+    let carrier = injected(alloc, row, None)?;
+    Ok(read(alloc, &Context::new(), &carrier)?)
 }

@@ -4,6 +4,7 @@ use super::trace::in_span;
 use opentelemetry::propagation::{Extractor, FieldIter, Injector, MapCarrier, TextMapPropagator};
 use opentelemetry::trace::{SpanContext, TraceState};
 use opentelemetry::{Context, SpanId, TraceId};
+use otel_case_rows::answer_text::AnswerText;
 use otel_case_rows::fields::{Row, RowError};
 use otel_case_rows::values::flags_of;
 use otel_propagator_b3::{B3Encoding, B3Propagator};
@@ -11,51 +12,40 @@ use otel_propagator_jaeger::JaegerPropagator;
 use std::alloc::{AllocError, Global};
 
 /// Answers a row whose word is one of these; false where it is none.
-pub fn answer(alloc: Global, row: &Row, out: &mut String) -> Result<bool, RowError> {
+pub fn answer(alloc: Global, row: &Row, out: &mut AnswerText) -> bool {
     match row.word.as_str() {
-        "extract-b3" => put_b3(alloc, row, out)?,
-        "extract-jaeger" => put_jaeger(alloc, row.field(0), out)?,
-        "inject-as" => put_written(alloc, row, out)?,
-        _ => return Ok(false),
+        "extract-b3" => out.put_by(extracted_b3(alloc, row), put_found),
+        "extract-jaeger" => out.put_by(extracted_jaeger(alloc, row.field(0)), put_found),
+        "inject-as" => out.put_for(context_of(alloc, row), row, put_written),
+        _ => return false,
     }
-    Ok(true)
+    true
 }
 
-fn put_b3(alloc: Global, row: &Row, out: &mut String) -> Result<(), AllocError> {
+fn extracted_b3(alloc: Global, row: &Row) -> Result<Context, AllocError> {
     let mut carrier = Box::new(alloc, MapCarrier::new(alloc))?;
     for header in &row.fields {
         if let Some((name, text)) = header.as_str().split_once('=') {
             carrier.set(name, String::from_str(alloc, text)?)?;
         }
     }
-    put_read(alloc, &B3Propagator::new(), &carrier, out)
+    B3Propagator::new().extract_with_context(alloc, &Context::new(), &*carrier)
 }
 
-fn put_jaeger(alloc: Global, text: &str, out: &mut String) -> Result<(), AllocError> {
-    let mut carrier = MapCarrier::new(alloc);
+fn extracted_jaeger(alloc: Global, text: &str) -> Result<Context, AllocError> {
+    let mut carrier = Box::new(alloc, MapCarrier::new(alloc))?;
     carrier.set("uber-trace-id", String::from_str(alloc, text)?)?;
-    put_read(alloc, &JaegerPropagator::new(), &carrier, out)
+    JaegerPropagator::new().extract_with_context(alloc, &Context::new(), &*carrier)
 }
 
-/// Puts out the span context that a propagator extracts.
-fn put_read<P: TextMapPropagator>(
-    alloc: Global,
-    propagator: &P,
-    carrier: &MapCarrier,
-    out: &mut String,
-) -> Result<(), AllocError> {
-    let found = propagator.extract_with_context(alloc, &Context::new(), carrier)?;
-    put_found(&found, out)
-}
-
-fn put_found(found: &Context, out: &mut String) -> Result<(), AllocError> {
+fn put_found(found: &Context, out: &mut AnswerText) {
     if !found.has_active_span() {
         return out.push_str("none");
     }
-    put_span(found.span_context(), out)
+    put_span(found.span_context(), out);
 }
 
-fn put_span(span_context: &SpanContext, out: &mut String) -> Result<(), AllocError> {
+fn put_span(span_context: &SpanContext, out: &mut AnswerText) {
     let trace_id = span_context.trace_id();
     let span_id = span_context.span_id();
     let flags = span_context.trace_flags();
@@ -69,59 +59,54 @@ fn put_span(span_context: &SpanContext, out: &mut String) -> Result<(), AllocErr
     } else {
         "local"
     };
-    write!(out, "{trace_id} {span_id} {flags} {sampled} {origin}")?;
-    Ok(())
+    write!(out, "{trace_id} {span_id} {flags} {sampled} {origin}");
 }
 
-/// Puts out the headers of the span context that a row gives.
-fn put_written(alloc: Global, row: &Row, out: &mut String) -> Result<(), RowError> {
-    let span_context = span_of(row)?;
+/// Puts out the headers of a span context as the propagator of a row writes them.
+fn put_written(cx: &Box<Context>, row: &Row, out: &mut AnswerText) {
     match row.field(0) {
-        "b3" => put_headers(alloc, &B3Propagator::new(), span_context, out)?,
-        "b3multi" => put_many(alloc, B3Encoding::MultipleHeader, span_context, out)?,
-        "b3both" => put_many(alloc, B3Encoding::SingleAndMultiHeader, span_context, out)?,
-        "jaeger" => put_headers(alloc, &JaegerPropagator::new(), span_context, out)?,
-        _ => return Err(RowError::Field),
+        "b3" => put_headers(cx, &B3Propagator::new(), out),
+        "b3multi" => put_many(cx, B3Encoding::MultipleHeader, out),
+        "b3both" => put_many(cx, B3Encoding::SingleAndMultiHeader, out),
+        "jaeger" => put_headers(cx, &JaegerPropagator::new(), out),
+        _ => out.note(RowError::Field),
     }
-    Ok(())
 }
 
-fn put_many(
-    alloc: Global,
-    encoding: B3Encoding,
-    span_context: SpanContext,
-    out: &mut String,
-) -> Result<(), RowError> {
-    put_headers(
-        alloc,
-        &B3Propagator::with_encoding(encoding),
-        span_context,
-        out,
-    )
+fn put_many(cx: &Context, encoding: B3Encoding, out: &mut AnswerText) {
+    put_headers(cx, &B3Propagator::with_encoding(encoding), out);
 }
 
 /// Puts out the headers that a propagator sets, in the order of its fields.
-fn put_headers<P: TextMapPropagator>(
-    alloc: Global,
-    propagator: &P,
-    span_context: SpanContext,
-    out: &mut String,
-) -> Result<(), RowError> {
-    let cx = in_span(alloc, span_context)?;
-    let mut carrier = Box::new(alloc, MapCarrier::new(alloc))?;
-    propagator.inject_context(alloc, &cx, &mut *carrier)?;
-    put_fields(propagator.fields(), &carrier, out)?;
-    Ok(())
+fn put_headers<P: TextMapPropagator>(cx: &Context, propagator: &P, out: &mut AnswerText) {
+    match written(out.alloc(), cx, propagator) {
+        Ok(carrier) => put_fields(propagator.fields(), &carrier, out),
+        Err(error) => out.note(RowError::from(error)),
+    }
 }
 
-fn put_fields(fields: FieldIter, carrier: &MapCarrier, out: &mut String) -> Result<(), AllocError> {
-    out.push_str("headers")?;
+fn written<P: TextMapPropagator>(
+    alloc: Global,
+    cx: &Context,
+    propagator: &P,
+) -> Result<Box<MapCarrier>, AllocError> {
+    let mut carrier = Box::new(alloc, MapCarrier::new(alloc))?;
+    propagator.inject_context(alloc, cx, &mut *carrier)?;
+    Ok(carrier)
+}
+
+fn put_fields(fields: FieldIter, carrier: &MapCarrier, out: &mut AnswerText) {
+    out.push_str("headers");
     for name in fields {
         if let Some(text) = carrier.get(name) {
-            write!(out, " {name}={text}")?;
+            write!(out, " {name}={text}");
         }
     }
-    Ok(())
+}
+
+/// The context of the local span of the ids and the flags of a row.
+fn context_of(alloc: Global, row: &Row) -> Result<Box<Context>, RowError> {
+    in_span(alloc, span_of(row)?)
 }
 
 /// The local span context of the ids and the flags of a row.

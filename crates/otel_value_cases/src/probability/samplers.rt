@@ -3,19 +3,23 @@
 use super::states::{push_state, threshold_of, trace_of};
 use opentelemetry::trace::{SpanContext, SpanKind};
 use opentelemetry::{Context, SpanId, TraceId};
+use otel_case_rows::answer_text::AnswerText;
 use otel_case_rows::fields::{Row, RowError};
 use otel_case_rows::values::{flags_of, state_of};
 use otel_probability::{ConsistentParentBased, ConsistentProbabilityBased};
 use otel_sampling::trace::{SamplingDecision, SamplingResult, ShouldSample};
 use std::alloc::{AllocError, Global};
 
-pub fn push_probability(alloc: Global, row: &Row, out: &mut String) -> Result<(), RowError> {
-    push_asked(alloc, &sampler_of(alloc, row)?, row, out)
+pub fn by_threshold(alloc: Global, row: &Row) -> Result<SamplingResult, RowError> {
+    asked(alloc, &sampler_of(alloc, row)?, row)
 }
 
-pub fn push_parent(alloc: Global, row: &Row, out: &mut String) -> Result<(), RowError> {
-    let sampler = ConsistentParentBased::new(sampler_of(alloc, row)?);
-    push_asked(alloc, &sampler, row, out)
+pub fn by_parents(alloc: Global, row: &Row) -> Result<SamplingResult, RowError> {
+    asked(
+        alloc,
+        &ConsistentParentBased::new(sampler_of(alloc, row)?),
+        row,
+    )
 }
 
 /// The sampler by the threshold of a row.
@@ -25,21 +29,17 @@ fn sampler_of(alloc: Global, row: &Row) -> Result<ConsistentProbabilityBased, Ro
 }
 
 /// What a sampler answers to the question of a row.
-fn push_asked<S: ShouldSample>(
+fn asked<S: ShouldSample>(
     alloc: Global,
     sampler: &S,
     row: &Row,
-    out: &mut String,
-) -> Result<(), RowError> {
+) -> Result<SamplingResult, RowError> {
     let trace_id = trace_of(row.field(2))?;
-    match row.given(1) {
-        None => push_answer(alloc, sampler, None, trace_id, out)?,
-        Some(parent) => {
-            let context = context_of(alloc, parent, trace_id)?;
-            push_answer(alloc, sampler, Some(&*context), trace_id, out)?
-        }
-    }
-    Ok(())
+    let Some(parent) = row.given(1) else {
+        return Ok(ask(sampler, None, trace_id)?);
+    };
+    let context = context_of(alloc, parent, trace_id)?;
+    Ok(ask(sampler, Some(&*context), trace_id)?)
 }
 
 /// The context in which a span of `FLAGS/STATE` is active.
@@ -52,28 +52,21 @@ fn context_of(alloc: Global, parent: &str, trace_id: TraceId) -> Result<Box<Cont
     Ok(Box::new(alloc, cx)?)
 }
 
-/// Puts out what a sampler decides, and the trace state of its answer.
-fn push_answer<S: ShouldSample>(
-    alloc: Global,
+fn ask<S: ShouldSample>(
     sampler: &S,
     parent_context: Option<&Context>,
     trace_id: TraceId,
-    out: &mut String,
-) -> Result<(), AllocError> {
+) -> Result<SamplingResult, AllocError> {
     let kind = SpanKind::Internal;
-    push_result(
-        alloc,
-        &sampler.should_sample(parent_context, trace_id, "", &kind, &[], &[])?,
-        out,
-    )
+    sampler.should_sample(parent_context, trace_id, "", &kind, &[], &[])
 }
 
-fn push_result(alloc: Global, answer: &SamplingResult, out: &mut String) -> Result<(), AllocError> {
-    let name = match answer.decision {
+/// Puts out what a sampler decides, and the trace state of its answer.
+pub fn push_result(answer: &SamplingResult, out: &mut AnswerText) {
+    out.push_str(match answer.decision {
         SamplingDecision::Drop => "Drop ",
         SamplingDecision::RecordOnly => "RecordOnly ",
         SamplingDecision::RecordAndSample => "RecordAndSample ",
-    };
-    out.push_str(name)?;
-    push_state(alloc, &answer.trace_state, out)
+    });
+    push_state(&answer.trace_state, out);
 }

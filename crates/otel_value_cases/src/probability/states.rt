@@ -2,6 +2,7 @@
 
 use opentelemetry::TraceId;
 use opentelemetry::trace::TraceState;
+use otel_case_rows::answer_text::AnswerText;
 use otel_case_rows::fields::{Row, RowError};
 use otel_case_rows::values::state_of;
 use otel_probability::Threshold;
@@ -9,43 +10,39 @@ use otel_probability::trace_state::{
     randomness_in, threshold_in, with_threshold, without_threshold,
 };
 use otel_sampling::trace::Ratio;
-use std::alloc::{AllocError, Global};
+use std::alloc::Global;
 
-pub fn push_share(row: &Row, out: &mut String) -> Result<(), RowError> {
+pub fn of_share(row: &Row) -> Result<u64, RowError> {
     let share = Ratio::new(row.number(0)?, row.number(1)?).or(Err(RowError::Field))?;
-    push_number(Threshold::of_share(share).to_u64(), out)?;
-    Ok(())
+    Ok(Threshold::of_share(share).to_u64())
 }
 
-pub fn push_threshold_in(alloc: Global, row: &Row, out: &mut String) -> Result<(), RowError> {
+pub fn threshold_in_state(alloc: Global, row: &Row) -> Result<Option<u64>, RowError> {
     let state = state_of(alloc, row.given(0))?;
-    match threshold_in(&state) {
-        Some(threshold) => push_number(threshold.to_u64(), out)?,
-        None => out.push_str("none")?,
+    Ok(threshold_in(&state).map(|threshold| threshold.to_u64()))
+}
+
+pub fn push_threshold(threshold: &Option<u64>, out: &mut AnswerText) {
+    match threshold {
+        Some(number) => push_number(number, out),
+        None => out.push_str("none"),
     }
-    Ok(())
 }
 
-pub fn push_randomness_in(alloc: Global, row: &Row, out: &mut String) -> Result<(), RowError> {
+pub fn randomness_in_state(alloc: Global, row: &Row) -> Result<u64, RowError> {
     let state = state_of(alloc, row.given(0))?;
-    let randomness = randomness_in(&state, trace_of(row.field(1))?);
-    push_number(randomness.to_u64(), out)?;
-    Ok(())
+    Ok(randomness_in(&state, trace_of(row.field(1))?).to_u64())
 }
 
-pub fn push_with(alloc: Global, row: &Row, out: &mut String) -> Result<(), RowError> {
+pub fn with(alloc: Global, row: &Row) -> Result<TraceState, RowError> {
     let threshold = threshold_of(row.field(0))?;
     let state = state_of(alloc, row.given(1))?;
-    let new = with_threshold(&state, alloc, threshold)?;
-    push_state(alloc, &new, out)?;
-    Ok(())
+    Ok(with_threshold(&state, alloc, threshold)?)
 }
 
-pub fn push_without(alloc: Global, row: &Row, out: &mut String) -> Result<(), RowError> {
+pub fn without(alloc: Global, row: &Row) -> Result<TraceState, RowError> {
     let state = state_of(alloc, row.given(0))?;
-    let new = without_threshold(&state, alloc)?;
-    push_state(alloc, &new, out)?;
-    Ok(())
+    Ok(without_threshold(&state, alloc)?)
 }
 
 pub fn threshold_of(text: &str) -> Result<Threshold, RowError> {
@@ -59,15 +56,19 @@ pub fn trace_of(text: &str) -> Result<TraceId, RowError> {
     TraceId::from_hex(text).or(Err(RowError::Field))
 }
 
-/// The header of a trace state, `-` for the empty one.
-pub fn push_state(alloc: Global, state: &TraceState, out: &mut String) -> Result<(), AllocError> {
-    let header = state.header(alloc)?;
-    if header.is_empty() {
-        return out.push_str("-");
-    }
-    out.push_str(header.as_str())
+/// Puts out the header of a trace state, `-` for the empty one.
+pub fn push_state(state: &TraceState, out: &mut AnswerText) {
+    out.put_by(state.header(out.alloc()), push_header);
 }
 
-fn push_number(number: u64, out: &mut String) -> Result<(), AllocError> {
-    write!(out, "{number:014x}")
+fn push_header(header: &String, out: &mut AnswerText) {
+    if header.is_empty() {
+        out.push('-');
+    } else {
+        out.push_str(header.as_str());
+    }
+}
+
+pub fn push_number(number: &u64, out: &mut AnswerText) {
+    write!(out, "{number:014x}");
 }

@@ -2,21 +2,25 @@
 
 use super::resource::{push_resource, strings_of};
 use super::sampling::push_ratio;
-use otel_case_rows::fields::{Row, RowError};
+use otel_case_rows::answer_text::AnswerText;
+use otel_case_rows::fields::Row;
+use otel_resource::resource::Resource;
 use otel_sampling::trace::{Config, ConfigStrings, Sampler, SpanLimits};
 use std::alloc::{AllocError, Global};
 
 /// Answers a row whose word is one of these; false where it is none.
-pub fn answer(alloc: Global, row: &Row, out: &mut String) -> Result<bool, RowError> {
+pub fn answer(alloc: Global, row: &Row, out: &mut AnswerText) -> bool {
     match row.word.as_str() {
-        "config-limits" => push_limits(alloc, row, out)?,
-        "config-attribute-limits" => push_attribute_limits(alloc, row, out)?,
-        "config-disabled" => push_disabled(alloc, row, out)?,
-        "config-sampler" => push_configured_sampler(alloc, row, out)?,
-        "config-resource" => push_configured_resource(alloc, row, out)?,
-        _ => return Ok(false),
+        "config-limits" => out.put_by(limits_of(alloc, row), push_limits),
+        "config-attribute-limits" => {
+            out.put_by(attribute_limits_of(alloc, row), push_attribute_limits)
+        }
+        "config-disabled" => out.put(disabled_by(alloc, row)),
+        "config-sampler" => out.put_by(configured_sampler(alloc, row), push_sampler),
+        "config-resource" => out.put_by(configured_resource(alloc, row), push_resource),
+        _ => return false,
     }
-    Ok(true)
+    true
 }
 
 /// The strings of a span's attributes, events and links, a field each. They stand in a box, since a function that may
@@ -46,24 +50,30 @@ fn limits_by(alloc: Global, strings: &ConfigStrings) -> Result<SpanLimits, Alloc
     Ok(Config::from_strings(alloc, strings, 0)?.span_limits)
 }
 
+fn limits_of(alloc: Global, row: &Row) -> Result<SpanLimits, AllocError> {
+    limits_by(alloc, &*limit_strings(alloc, row)?)
+}
+
+fn attribute_limits_of(alloc: Global, row: &Row) -> Result<SpanLimits, AllocError> {
+    limits_by(alloc, &*attribute_strings(alloc, row)?)
+}
+
 /// How much a span keeps: attributes, events and links, then attributes of an event and of a link.
-fn push_limits(alloc: Global, row: &Row, out: &mut String) -> Result<(), AllocError> {
-    let limits = limits_by(alloc, &*limit_strings(alloc, row)?)?;
+fn push_limits(limits: &SpanLimits, out: &mut AnswerText) {
     let attributes = limits.max_attributes_per_span;
     let events = limits.max_events_per_span;
     let links = limits.max_links_per_span;
     let of_event = limits.max_attributes_per_event;
     let of_link = limits.max_attributes_per_link;
-    write!(out, "{attributes} {events} {links} {of_event} {of_link}")
+    write!(out, "{attributes} {events} {links} {of_event} {of_link}");
 }
 
 /// How many attributes a span, an event and a link keep, and how long their values are.
-fn push_attribute_limits(alloc: Global, row: &Row, out: &mut String) -> Result<(), AllocError> {
-    let limits = limits_by(alloc, &*attribute_strings(alloc, row)?)?;
+fn push_attribute_limits(limits: &SpanLimits, out: &mut AnswerText) {
     let attributes = limits.max_attributes_per_span;
     let of_event = limits.max_attributes_per_event;
     let of_link = limits.max_attributes_per_link;
-    write!(out, "{attributes} {of_event} {of_link}")?;
+    write!(out, "{attributes} {of_event} {of_link}");
     match limits.max_attribute_value_length {
         Some(length) => write!(out, " {length}"),
         None => out.push_str(" -"),
@@ -71,10 +81,10 @@ fn push_attribute_limits(alloc: Global, row: &Row, out: &mut String) -> Result<(
 }
 
 /// Whether a string disables the SDK.
-fn push_disabled(alloc: Global, row: &Row, out: &mut String) -> Result<(), AllocError> {
+fn disabled_by(alloc: Global, row: &Row) -> Result<&'static str, AllocError> {
     let mut strings = Box::new(alloc, ConfigStrings::default())?;
     strings.sdk_disabled = row.owned(alloc, 0)?;
-    out.push_str(if strings.is_sdk_disabled() {
+    Ok(if strings.is_sdk_disabled() {
         "disabled"
     } else {
         "enabled"
@@ -82,42 +92,44 @@ fn push_disabled(alloc: Global, row: &Row, out: &mut String) -> Result<(), Alloc
 }
 
 /// The strings of a sampler's name and its argument, which are the first fields of a row.
-pub fn sampler_strings(alloc: Global, row: &Row) -> Result<Box<ConfigStrings>, AllocError> {
+fn sampler_strings(alloc: Global, row: &Row) -> Result<Box<ConfigStrings>, AllocError> {
     let mut strings = Box::new(alloc, ConfigStrings::default())?;
     strings.sampler = row.owned(alloc, 0)?;
     strings.sampler_arg = row.owned(alloc, 1)?;
     Ok(strings)
 }
 
-fn push_configured_sampler(alloc: Global, row: &Row, out: &mut String) -> Result<(), AllocError> {
+/// The sampler that they configure.
+pub fn configured_sampler(alloc: Global, row: &Row) -> Result<Box<Sampler>, AllocError> {
     let strings = sampler_strings(alloc, row)?;
-    push_sampler(&Config::from_strings(alloc, &strings, 0)?.sampler, out)
+    let Config { sampler, .. } = Config::from_strings(alloc, &strings, 0)?;
+    Ok(Box::new(alloc, sampler)?)
 }
 
-fn push_sampler(sampler: &Sampler, out: &mut String) -> Result<(), AllocError> {
-    if let Sampler::ParentBased(delegate) = sampler {
-        out.push_str("ParentBased ")?;
-        push_leaf(delegate, out)
+fn push_sampler(sampler: &Box<Sampler>, out: &mut AnswerText) {
+    if let Sampler::ParentBased(delegate) = &**sampler {
+        out.push_str("ParentBased ");
+        push_leaf(delegate, out);
     } else {
-        push_leaf(sampler, out)
+        push_leaf(sampler, out);
     }
 }
 
-fn push_leaf(sampler: &Sampler, out: &mut String) -> Result<(), AllocError> {
+fn push_leaf(sampler: &Sampler, out: &mut AnswerText) {
     match sampler {
         Sampler::AlwaysOn => out.push_str("AlwaysOn"),
         Sampler::AlwaysOff => out.push_str("AlwaysOff"),
         Sampler::TraceIdRatioBased(ratio) => {
-            out.push_str("TraceIdRatioBased ")?;
-            push_ratio(ratio, out)
+            out.push_str("TraceIdRatioBased ");
+            push_ratio(ratio, out);
         }
         Sampler::ParentBased(_) => out.push_str("ParentBased"),
         Sampler::Custom(_) => out.push_str("Custom"),
     }
 }
 
-fn push_configured_resource(alloc: Global, row: &Row, out: &mut String) -> Result<(), AllocError> {
+fn configured_resource(alloc: Global, row: &Row) -> Result<Resource, AllocError> {
     let mut strings = Box::new(alloc, ConfigStrings::default())?;
     strings.resource = strings_of(alloc, row)?;
-    push_resource(&Config::from_strings(alloc, &strings, 0)?.resource, out)
+    Ok(Config::from_strings(alloc, &strings, 0)?.resource)
 }

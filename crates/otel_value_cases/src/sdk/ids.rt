@@ -1,35 +1,41 @@
 //! The ids that the SDK's generator draws.
 
+use otel_case_rows::answer_text::AnswerText;
 use otel_case_rows::fields::{Row, RowError};
 use otel_sampling::trace::{IdGenerator, IdSource, RandomIdGenerator};
 
 /// Answers a row whose word is one of these; false where it is none.
-pub fn answer(row: &Row, out: &mut String) -> Result<bool, RowError> {
-    if row.word.as_str() != "ids" {
-        return Ok(false);
+pub fn answer(row: &Row, out: &mut AnswerText) -> bool {
+    match row.word.as_str() {
+        "ids" => push_ids(row, out),
+        _ => return false,
     }
-    let mut source = IdSource::Random(RandomIdGenerator::new(row.number(0)?));
+    true
+}
+
+fn push_ids(row: &Row, out: &mut AnswerText) {
+    match row.number(0) {
+        Ok(seed) => push_drawn(seed, row, out),
+        Err(error) => out.note(error),
+    }
+}
+
+/// The ids that are drawn from a seed.
+fn push_drawn(seed: u64, row: &Row, out: &mut AnswerText) {
+    let mut source = IdSource::Random(RandomIdGenerator::new(seed));
     for (i, kind) in row.fields.iter().skip(1).enumerate() {
         if i > 0 {
-            out.push(' ')?;
+            out.push(' ');
         }
-        push_next(&mut source, kind.as_str(), out)?;
+        push_next(&mut source, kind.as_str(), out);
     }
-    Ok(true)
 }
 
 /// The next id of a kind, `trace` or `span`.
-fn push_next(source: &mut IdSource, kind: &str, out: &mut String) -> Result<(), RowError> {
+fn push_next(source: &mut IdSource, kind: &str, out: &mut AnswerText) {
     match kind {
-        "trace" => {
-            let trace_id = source.new_trace_id();
-            write!(out, "{trace_id}")?;
-        }
-        "span" => {
-            let span_id = source.new_span_id();
-            write!(out, "{span_id}")?;
-        }
-        _ => return Err(RowError::Field),
+        "trace" => write!(out, "{}", source.new_trace_id()),
+        "span" => write!(out, "{}", source.new_span_id()),
+        _ => out.note(RowError::Field),
     }
-    Ok(())
 }

@@ -3,6 +3,7 @@
 //! as `key=value;key=value;`.
 
 use opentelemetry::{Array, Key, KeyValue, Value};
+use otel_case_rows::answer_text::AnswerText;
 use otel_case_rows::fields::{Row, RowError, pair_of};
 use otel_case_rows::values::{integer_of, integers_of, truth_of};
 use otel_resource::resource::{
@@ -12,17 +13,22 @@ use otel_resource::resource::{
 use std::alloc::{AllocError, Global};
 
 /// Answers a row whose word is one of these; false where it is none.
-pub fn answer(alloc: Global, row: &Row, out: &mut String) -> Result<bool, RowError> {
+pub fn answer(alloc: Global, row: &Row, out: &mut AnswerText) -> bool {
     match row.word.as_str() {
-        "resource" => push_built(alloc, row, out)?,
-        "sdk-detector" => push_sdk(alloc, row, out)?,
-        "env-detector" => push_env(alloc, row, out)?,
-        "telemetry-detector" => push_detected(&TelemetryResourceDetector::new(alloc), out)?,
-        "resource-steps" => push_stepped(alloc, row, out)?,
-        "resource-get" => push_got(alloc, row, out)?,
-        _ => return Ok(false),
+        "resource" => out.put_by(built(alloc, row), push_resource),
+        "sdk-detector" => out.put_by(seen_by_sdk(alloc, row), push_resource),
+        "env-detector" => out.put_by(seen_by_env(alloc, row), push_resource),
+        "telemetry-detector" => {
+            out.put_by(
+                TelemetryResourceDetector::new(alloc).detect(),
+                push_resource,
+            )
+        }
+        "resource-steps" => out.put_by(stepped_from(alloc, row, 0), push_resource),
+        "resource-get" => out.put_by(got(alloc, row), push_got),
+        _ => return false,
     }
-    Ok(true)
+    true
 }
 
 /// The strings of a row whose fields are the attributes string, the service's name and the program's.
@@ -34,50 +40,45 @@ pub fn strings_of(alloc: Global, row: &Row) -> Result<ResourceStrings, AllocErro
     })
 }
 
-fn push_built(alloc: Global, row: &Row, out: &mut String) -> Result<(), AllocError> {
+fn built(alloc: Global, row: &Row) -> Result<Resource, AllocError> {
     let strings = strings_of(alloc, row)?;
-    push_resource(&Resource::builder(alloc, &strings)?.build(), out)
+    Ok(Resource::builder(alloc, &strings)?.build())
 }
 
-fn push_sdk(alloc: Global, row: &Row, out: &mut String) -> Result<(), AllocError> {
+fn seen_by_sdk(alloc: Global, row: &Row) -> Result<Resource, AllocError> {
     let strings = strings_of(alloc, row)?;
-    push_detected(&SdkProvidedResourceDetector::new(alloc, &strings)?, out)
+    SdkProvidedResourceDetector::new(alloc, &strings)?.detect()
 }
 
 /// Without a field, the detector of no string.
-fn push_env(alloc: Global, row: &Row, out: &mut String) -> Result<(), AllocError> {
+fn seen_by_env(alloc: Global, row: &Row) -> Result<Resource, AllocError> {
     if row.fields.is_empty() {
-        return push_detected(&EnvResourceDetector::default(), out);
+        return EnvResourceDetector::default().detect();
     }
     let strings = strings_of(alloc, row)?;
-    push_detected(&EnvResourceDetector::new(&strings)?, out)
-}
-
-fn push_detected<D: ResourceDetector>(detector: &D, out: &mut String) -> Result<(), AllocError> {
-    push_resource(&detector.detect()?, out)
+    EnvResourceDetector::new(&strings)?.detect()
 }
 
 /// Shows a resource.
-pub fn push_resource(resource: &Resource, out: &mut String) -> Result<(), AllocError> {
+pub fn push_resource(resource: &Resource, out: &mut AnswerText) {
     let count = resource.len();
-    write!(out, "{count};")?;
+    write!(out, "{count};");
     for (key, value) in resource {
-        push_pair(key, value, out)?;
+        push_pair(key, value, out);
     }
-    out.push_str(resource.schema_url().unwrap_or(""))
+    out.push_str(resource.schema_url().unwrap_or(""));
 }
 
-fn push_pair(key: &Key, value: &Value, out: &mut String) -> Result<(), AllocError> {
-    out.push_str(key.as_str())?;
-    out.push('=')?;
-    push_value(value, out)?;
-    out.push(';')
+fn push_pair(key: &Key, value: &Value, out: &mut AnswerText) {
+    out.push_str(key.as_str());
+    out.push('=');
+    push_value(value, out);
+    out.push(';');
 }
 
-fn push_value(value: &Value, out: &mut String) -> Result<(), AllocError> {
-    out.push_str(kind_of(value))?;
-    write!(out, "{value}")?;
-    Ok(())
+fn push_value(value: &Value, out: &mut AnswerText) {
+    out.push_str(kind_of(value));
+    write!(out, "{value}");
 }
 
 /// What stands in front of a value of a kind.
@@ -235,19 +236,20 @@ fn value_of(alloc: Global, text: &str) -> Result<Value, RowError> {
     }
 }
 
-fn push_stepped(alloc: Global, row: &Row, out: &mut String) -> Result<(), RowError> {
-    let built = builders_of(alloc, row, 0)?;
-    push_resource(&built.current.build(), out)?;
-    Ok(())
+/// The resource that the steps of a row's fields make, from this field on.
+fn stepped_from(alloc: Global, row: &Row, first: usize) -> Result<Resource, RowError> {
+    Ok(builders_of(alloc, row, first)?.current.build())
 }
 
 /// The value of the key in front of the steps.
-fn push_got(alloc: Global, row: &Row, out: &mut String) -> Result<(), RowError> {
+fn got(alloc: Global, row: &Row) -> Result<Option<Value>, RowError> {
     let key = Key::new(String::from_str(alloc, row.field(0))?);
-    let resource = builders_of(alloc, row, 1)?.current.build();
-    match resource.get(&key)? {
-        Some(value) => push_value(&value, out)?,
-        None => out.push_str("none")?,
+    Ok(stepped_from(alloc, row, 1)?.get(&key)?)
+}
+
+fn push_got(got: &Option<Value>, out: &mut AnswerText) {
+    match got {
+        Some(value) => push_value(value, out),
+        None => out.push_str("none"),
     }
-    Ok(())
 }

@@ -1,55 +1,58 @@
 //! Ratios, and what samplers decide.
 
-use super::config::sampler_strings;
+use super::config::configured_sampler;
+use crate::probability::push_state;
 use opentelemetry::trace::{SpanContext, SpanKind, TraceState};
 use opentelemetry::{Context, SpanId, TraceFlags, TraceId};
+use otel_case_rows::answer_text::AnswerText;
 use otel_case_rows::fields::{Row, RowError, number_of};
 use otel_sampling::trace::{
-    Config, Ratio, RatioError, Sampler, SamplingDecision, SamplingResult, ShouldSample,
+    Ratio, RatioError, Sampler, SamplingDecision, SamplingResult, ShouldSample,
 };
 use std::alloc::{AllocError, Global};
 
 /// Answers a row whose word is one of these; false where it is none.
-pub fn answer(alloc: Global, row: &Row, out: &mut String) -> Result<bool, RowError> {
+pub fn answer(alloc: Global, row: &Row, out: &mut AnswerText) -> bool {
     match row.word.as_str() {
-        "ratio" => push_read_ratio(row, out)?,
-        "ratio-of" => push_made_ratio(row, out)?,
-        "samples" => push_samples(row, out)?,
-        "sampler" => push_sampled(alloc, row, false, out)?,
-        "sampler-copy" => push_sampled(alloc, row, true, out)?,
-        _ => return Ok(false),
+        "ratio" => push_read_ratio(row.field(0), out),
+        "ratio-of" => out.put_by(made_ratio(row), push_made_ratio),
+        "samples" => out.put(decided_by_ratio(row)),
+        "sampler" => out.put_for(sampler_of(alloc, row), row, push_sampled),
+        "sampler-copy" => out.put_for(sampler_of(alloc, row), row, push_copy),
+        _ => return false,
     }
-    Ok(true)
+    true
 }
 
-fn push_read_ratio(row: &Row, out: &mut String) -> Result<(), AllocError> {
-    match Ratio::from_text(row.field(0)) {
+fn push_read_ratio(text: &str, out: &mut AnswerText) {
+    match Ratio::from_text(text) {
         Some(ratio) => push_ratio(&ratio, out),
         None => out.push_str("none"),
     }
 }
 
-fn push_made_ratio(row: &Row, out: &mut String) -> Result<(), RowError> {
-    match Ratio::new(row.number(0)?, row.number(1)?) {
-        Ok(ratio) => push_ratio(&ratio, out)?,
-        Err(RatioError::ZeroDenominator) => out.push_str("ZeroDenominator")?,
+fn made_ratio(row: &Row) -> Result<Result<Ratio, RatioError>, RowError> {
+    Ok(Ratio::new(row.number(0)?, row.number(1)?))
+}
+
+fn push_made_ratio(made: &Result<Ratio, RatioError>, out: &mut AnswerText) {
+    match made {
+        Ok(ratio) => push_ratio(ratio, out),
+        Err(RatioError::ZeroDenominator) => out.push_str("ZeroDenominator"),
     }
-    Ok(())
 }
 
 /// Shows a ratio.
-pub fn push_ratio(ratio: &Ratio, out: &mut String) -> Result<(), AllocError> {
+pub fn push_ratio(ratio: &Ratio, out: &mut AnswerText) {
     let numerator = ratio.numerator();
     let denominator = ratio.denominator();
-    write!(out, "{numerator}/{denominator}")?;
-    Ok(())
+    write!(out, "{numerator}/{denominator}");
 }
 
 /// What a ratio decides on a trace.
-fn push_samples(row: &Row, out: &mut String) -> Result<(), RowError> {
-    let ratio = Ratio::new(row.number(0)?, row.number(1)?).or(Err(RowError::Field))?;
-    out.push_str(decided(ratio, trace_of(row.field(2))?)?)?;
-    Ok(())
+fn decided_by_ratio(row: &Row) -> Result<&'static str, RowError> {
+    let ratio = made_ratio(row)?.or(Err(RowError::Field))?;
+    Ok(decided(ratio, trace_of(row.field(2))?)?)
 }
 
 fn decided(ratio: Ratio, trace_id: TraceId) -> Result<&'static str, AllocError> {
@@ -78,46 +81,30 @@ fn decision_name(decision: SamplingDecision) -> &'static str {
     }
 }
 
-/// What the configured sampler, or a copy of it, answers below as many samplers that decide by the parent as the last
-/// field says.
-fn push_sampled(
-    alloc: Global,
-    row: &Row,
-    is_copied: bool,
-    out: &mut String,
-) -> Result<(), RowError> {
-    let strings = sampler_strings(alloc, row)?;
-    let Config { sampler, .. } = Config::from_strings(alloc, &strings, 0)?;
-    push_below(alloc, Box::new(alloc, sampler)?, row, is_copied, out)
-}
-
-fn push_below(
-    alloc: Global,
-    mut sampler: Box<Sampler>,
-    row: &Row,
-    is_copied: bool,
-    out: &mut String,
-) -> Result<(), RowError> {
+/// The configured sampler below as many samplers that decide by the parent as the last field says.
+fn sampler_of(alloc: Global, row: &Row) -> Result<Box<Sampler>, RowError> {
+    let mut sampler = configured_sampler(alloc, row)?;
     for _ in 0..depth_of(row)? {
         sampler = Box::new(alloc, Sampler::ParentBased(sampler))?;
     }
-    if is_copied {
-        return push_copy(alloc, &sampler, row, out);
-    }
-    push_answer(alloc, &sampler, row, out)
+    Ok(sampler)
 }
 
-/// What a copy of a sampler answers.
-fn push_copy(
-    alloc: Global,
-    sampler: &Sampler,
-    row: &Row,
-    out: &mut String,
-) -> Result<(), RowError> {
-    match sampler.try_clone()? {
-        Some(copy) => push_answer(alloc, &copy, row, out),
-        None => Ok(out.push_str("no copy")?),
+/// Puts out what a copy of a sampler answers.
+fn push_copy(sampler: &Box<Sampler>, row: &Row, out: &mut AnswerText) {
+    out.put_for(sampler.try_clone(), row, push_copied);
+}
+
+fn push_copied(copy: &Option<Sampler>, row: &Row, out: &mut AnswerText) {
+    match copy {
+        Some(copy) => push_asked(copy, row, out),
+        None => out.push_str("no copy"),
     }
+}
+
+/// Puts out what a sampler answers.
+fn push_sampled(sampler: &Box<Sampler>, row: &Row, out: &mut AnswerText) {
+    push_asked(sampler, row, out);
 }
 
 /// How many samplers that go by parents stand above the configured one; none where no field says it.
@@ -128,47 +115,25 @@ fn depth_of(row: &Row) -> Result<u64, RowError> {
     }
 }
 
-/// What a sampler answers: its decision, how many attributes it adds, and the trace state, `-` where that is empty.
-fn push_answer(
-    alloc: Global,
-    sampler: &Sampler,
-    row: &Row,
-    out: &mut String,
-) -> Result<(), RowError> {
+/// What a sampler answers to the question of a row.
+fn push_asked(sampler: &Sampler, row: &Row, out: &mut AnswerText) {
+    out.put_by(asked(out.alloc(), sampler, row), push_result);
+}
+
+fn asked(alloc: Global, sampler: &Sampler, row: &Row) -> Result<SamplingResult, RowError> {
     let parent = parent_of(alloc, row.field(2))?;
-    push_asked(
-        alloc,
-        sampler,
-        parent.as_deref(),
-        trace_of(row.field(3))?,
-        out,
-    )?;
-    Ok(())
+    Ok(ask(sampler, parent.as_deref(), trace_of(row.field(3))?)?)
 }
 
-fn push_asked(
-    alloc: Global,
-    sampler: &Sampler,
-    parent_context: Option<&Context>,
-    trace_id: TraceId,
-    out: &mut String,
-) -> Result<(), AllocError> {
-    push_result(alloc, &ask(sampler, parent_context, trace_id)?, out)
-}
-
-fn push_result(alloc: Global, answer: &SamplingResult, out: &mut String) -> Result<(), AllocError> {
-    out.push_str(decision_name(answer.decision))?;
+/// Puts out a decision, how many attributes there are with it, and the trace state, `-` where that is empty.
+fn push_result(answer: &SamplingResult, out: &mut AnswerText) {
+    out.push_str(decision_name(answer.decision));
     let count = match &answer.attributes {
         Some(attributes) => attributes.len(),
         None => 0,
     };
-    write!(out, " {count} ")?;
-    let header = answer.trace_state.header(alloc)?;
-    if header.is_empty() {
-        out.push('-')
-    } else {
-        out.push_str(header.as_str())
-    }
+    write!(out, " {count} ");
+    push_state(&answer.trace_state, out);
 }
 
 /// The context that a span starts in.

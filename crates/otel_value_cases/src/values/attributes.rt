@@ -1,18 +1,19 @@
 //! Keys and values of attributes.
 
 use opentelemetry::{Key, Value};
+use otel_case_rows::answer_text::AnswerText;
 use otel_case_rows::fields::{Row, RowError};
 use otel_case_rows::values::value_of;
-use std::alloc::{AllocError, Global};
+use std::alloc::Global;
 
 /// Answers a row whose word is one of these; false where it is none.
-pub fn answer(alloc: Global, row: &Row, out: &mut String) -> Result<bool, RowError> {
+pub fn answer(alloc: Global, row: &Row, out: &mut AnswerText) -> bool {
     match row.word.as_str() {
-        "key" => put_key(&key_of(alloc, row.field(0))?, out)?,
-        "value" => put_value(&value_of(alloc, row.field(0))?, out)?,
-        _ => return Ok(false),
+        "key" => out.put_by(key_of(alloc, row.field(0)), put_key),
+        "value" => out.put_by(value_of(alloc, row.field(0)), put_value),
+        _ => return false,
     }
-    Ok(true)
+    true
 }
 
 /// The key of a text. After a star stands the text of a constant.
@@ -25,9 +26,12 @@ fn key_of(alloc: Global, text: &str) -> Result<Key, RowError> {
 }
 
 /// Puts out a copy of a key as it shows itself to those who look for a bug.
-fn put_key(key: &Key, out: &mut String) -> Result<(), AllocError> {
-    let key = key.clone()?;
-    write!(out, "{key:?}")
+fn put_key(key: &Key, out: &mut AnswerText) {
+    out.put_by(key.clone(), show_key);
+}
+
+fn show_key(key: &Key, out: &mut AnswerText) {
+    write!(out, "{key:?}");
 }
 
 /// The name of how one value stands to another.
@@ -41,7 +45,6 @@ pub fn order_of(is_less: bool, is_same: bool) -> &'static str {
 }
 
 /// Puts out a copy of a value.
-fn put_value(value: &Value, out: &mut String) -> Result<(), AllocError> {
-    let value = value.clone()?;
-    write!(out, "{value}")
+fn put_value(value: &Value, out: &mut AnswerText) {
+    out.put(value.clone());
 }

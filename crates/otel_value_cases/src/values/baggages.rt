@@ -1,18 +1,19 @@
 //! Baggages. Their entries are written as a list, `name=value|` or `name=value;metadata|` each.
 
 use opentelemetry::baggage::{Baggage, BaggageError, BaggageMetadata};
-use otel_case_rows::fields::{Row, RowError, pair_of, put_short};
+use otel_case_rows::answer_text::AnswerText;
+use otel_case_rows::fields::{Row, RowError, pair_of};
 use std::alloc::{AllocError, Global};
 
 /// Answers a row whose word is one of these; false where it is none.
-pub fn answer(alloc: Global, row: &Row, out: &mut String) -> Result<bool, RowError> {
+pub fn answer(alloc: Global, row: &Row, out: &mut AnswerText) -> bool {
     match row.word.as_str() {
-        "baggage-insert" => put_inserted(alloc, row, out)?,
-        "baggage-get" => put_found(alloc, row, out)?,
-        "baggage-error" => put_error(row.field(0), out)?,
-        _ => return Ok(false),
+        "baggage-insert" => out.put_by(insertion_of(alloc, row), put_insertion),
+        "baggage-get" => out.put_for(copied(alloc, row.field(0)), row, put_found),
+        "baggage-error" => out.put(error_of(row.field(0))),
+        _ => return false,
     }
-    Ok(true)
+    true
 }
 
 /// The baggage of a list. What its limits do not allow is left out.
@@ -71,74 +72,75 @@ fn metadata_of(alloc: Global, text: &str) -> Result<BaggageMetadata, AllocError>
 }
 
 /// Puts out the entries of a baggage in their order; `empty` where there are none.
-pub fn put_entries(alloc: Global, baggage: &Baggage, out: &mut String) -> Result<(), AllocError> {
+pub fn put_entries(baggage: &Baggage, out: &mut AnswerText) {
     if baggage.is_empty() {
         return out.push_str("empty");
     }
-    let mut text = String::new(alloc);
+    let mut text = AnswerText::new(out.alloc());
     for (name, (value, metadata)) in baggage.iter() {
         let metadata = metadata.as_str();
         let mark = if metadata.is_empty() { "" } else { ";" };
-        write!(text, "{name}={value}{mark}{metadata}|")?;
+        write!(text, "{name}={value}{mark}{metadata}|");
     }
-    put_short(out, text.as_str())
+    out.put_by(text.finish(), put_text);
 }
 
-/// Puts out how many entries a baggage has, and these.
-fn put_counted(alloc: Global, baggage: &Baggage, out: &mut String) -> Result<(), AllocError> {
-    let count = baggage.len();
-    write!(out, ": {count} ")?;
-    put_entries(alloc, baggage, out)
+fn put_text(text: &String, out: &mut AnswerText) {
+    out.push_short(text.as_str());
 }
 
-fn put_inserted(alloc: Global, row: &Row, out: &mut String) -> Result<(), RowError> {
+/// A baggage, and what came of an entry that it was to take.
+#[derive(Drop)]
+struct Insertion {
+    outcome: Result<Option<(String, BaggageMetadata)>, BaggageError>,
+    baggage: Baggage,
+}
+
+/// The insertion of the entry of three fields into the baggage of a list.
+fn insertion_of(alloc: Global, row: &Row) -> Result<Insertion, RowError> {
     let mut baggage = baggage_of(alloc, row.field(0))?;
     let name = row.field(1);
     let outcome = inserted(alloc, &mut baggage, name, row.field(2), row.given(3));
-    put_outcome(outcome, out)?;
-    put_counted(alloc, &baggage, out)?;
-    Ok(())
+    Ok(Insertion { outcome, baggage })
 }
 
-fn put_outcome(
-    outcome: Result<Option<(String, BaggageMetadata)>, BaggageError>,
-    out: &mut String,
-) -> Result<(), AllocError> {
-    match outcome {
+/// Puts out what came of an entry, how many entries there are, and these.
+fn put_insertion(insertion: &Insertion, out: &mut AnswerText) {
+    match &insertion.outcome {
         Ok(None) => out.push_str("new"),
         Ok(Some((value, _metadata))) => write!(out, "replaced {value}"),
         Err(error) => write!(out, "{error:?}"),
     }
+    let count = insertion.baggage.len();
+    write!(out, ": {count} ");
+    put_entries(&insertion.baggage, out);
 }
 
-/// Puts out what a copy of a baggage has under a name.
-fn put_found(alloc: Global, row: &Row, out: &mut String) -> Result<(), RowError> {
-    let baggage = baggage_of(alloc, row.field(0))?.clone()?;
-    out.push_str(baggage.get(row.field(1)).unwrap_or("none"))?;
-    put_metadata(&baggage, row.field(1), out)?;
-    Ok(())
+/// A copy of the baggage of a list.
+fn copied(alloc: Global, list: &str) -> Result<Baggage, RowError> {
+    Ok(baggage_of(alloc, list)?.clone()?)
 }
 
-/// Puts out the metadata under a name where there is some.
-fn put_metadata(baggage: &Baggage, name: &str, out: &mut String) -> Result<(), AllocError> {
-    let Some((_value, metadata)) = baggage.get_with_metadata(name) else {
-        return Ok(());
-    };
-    let metadata = metadata.as_str();
-    if metadata.is_empty() {
-        Ok(())
-    } else {
-        write!(out, ";{metadata}")
+/// Puts out what a baggage has under a name, and the metadata where there is some.
+fn put_found(baggage: &Baggage, row: &Row, out: &mut AnswerText) {
+    let name = row.field(1);
+    out.push_str(baggage.get(name).unwrap_or("none"));
+    if let Some((_value, metadata)) = baggage.get_with_metadata(name) {
+        put_metadata(metadata.as_str(), out);
     }
 }
 
-/// Puts out what an error says.
-fn put_error(name: &str, out: &mut String) -> Result<(), RowError> {
-    let error = match name {
-        "Limit" => BaggageError::Limit,
-        "Memory" => BaggageError::Memory,
-        _ => return Err(RowError::Field),
-    };
-    write!(out, "{error}")?;
-    Ok(())
+fn put_metadata(metadata: &str, out: &mut AnswerText) {
+    if !metadata.is_empty() {
+        write!(out, ";{metadata}");
+    }
+}
+
+/// The error of a name.
+fn error_of(name: &str) -> Result<BaggageError, RowError> {
+    match name {
+        "Limit" => Ok(BaggageError::Limit),
+        "Memory" => Ok(BaggageError::Memory),
+        _ => Err(RowError::Field),
+    }
 }

@@ -4,17 +4,18 @@ use super::baggages::{baggage_of, insert_allowed, put_entries};
 use super::spans::put_span;
 use opentelemetry::trace::SpanContext;
 use opentelemetry::{Context, SpanId, TraceFlags, TraceId};
+use otel_case_rows::answer_text::AnswerText;
 use otel_case_rows::fields::{Row, RowError, number_of, pair_of};
 use otel_case_rows::values::state_of;
-use std::alloc::{AllocError, Global};
+use std::alloc::Global;
 
 /// Answers a row whose word is one of these; false where it is none.
-pub fn answer(alloc: Global, row: &Row, out: &mut String) -> Result<bool, RowError> {
+pub fn answer(alloc: Global, row: &Row, out: &mut AnswerText) -> bool {
     match row.word.as_str() {
-        "context" => put_context(alloc, &context_of(alloc, row)?, out)?,
-        _ => return Ok(false),
+        "context" => out.put_by(context_of(alloc, row), put_context),
+        _ => return false,
     }
-    Ok(true)
+    true
 }
 
 /// The context that the steps of a row make of the empty one.
@@ -62,16 +63,21 @@ fn with_entry(alloc: Global, cx: &Context, entry: &str) -> Result<Context, RowEr
 }
 
 /// Puts out a context: its entries, whether telemetry is suppressed, and its span.
-fn put_context(alloc: Global, cx: &Context, out: &mut String) -> Result<(), AllocError> {
-    put_entries(alloc, cx.baggage(), out)?;
+fn put_context(cx: &Context, out: &mut AnswerText) {
+    put_entries(cx.baggage(), out);
     out.push_str(if cx.is_telemetry_suppressed() {
         " suppressed "
     } else {
         " told "
-    })?;
+    });
+    put_active(cx, out);
+}
+
+/// Puts out the span of a context; `none` where it has none.
+pub fn put_active(cx: &Context, out: &mut AnswerText) {
     if cx.has_active_span() {
-        put_span(alloc, cx.span_context(), out)
+        put_span(cx.span_context(), out);
     } else {
-        out.push_str("none")
+        out.push_str("none");
     }
 }

@@ -3,21 +3,22 @@
 use super::attributes::order_of;
 use opentelemetry::trace::{SpanBuilder, SpanContext};
 use opentelemetry::{InstrumentationScope, KeyValue, Moment, SpanId, TraceFlags, TraceId};
+use otel_case_rows::answer_text::AnswerText;
 use otel_case_rows::fields::{Row, RowError, number_of};
 use otel_case_rows::spans::{events_of, links_of, scope_of};
 use otel_case_rows::values::{attributes_of, kind_of, state_of, status_of};
-use std::alloc::{AllocError, Global};
+use std::alloc::Global;
 
 /// Answers a row whose word is one of these; false where it is none.
-pub fn answer(alloc: Global, row: &Row, out: &mut String) -> Result<bool, RowError> {
+pub fn answer(alloc: Global, row: &Row, out: &mut AnswerText) -> bool {
     match row.word.as_str() {
-        "span-context" => put_validity(alloc, &span_context_of(alloc, row)?, out)?,
-        "statuses" => put_statuses(alloc, row, out)?,
-        "builder" => put_builder(&builder_of(alloc, row)?, out)?,
-        "scope" => put_scope(&scope_of(alloc, row.field(0))?.clone()?, out)?,
-        _ => return Ok(false),
+        "span-context" => out.put_by(span_context_of(alloc, row), put_validity),
+        "statuses" => out.put(order_of_statuses(alloc, row)),
+        "builder" => out.put_by(builder_of(alloc, row), put_builder),
+        "scope" => out.put_by(scope_of(alloc, row.field(0)), put_copy),
+        _ => return false,
     }
-    Ok(true)
+    true
 }
 
 /// A copy of a sampled remote span context of two ids and a trace state.
@@ -30,25 +31,17 @@ fn span_context_of(alloc: Global, row: &Row) -> Result<SpanContext, RowError> {
 }
 
 /// Puts out whether a span context is valid, sampled, remote, and another than the empty one; then itself.
-fn put_validity(
-    alloc: Global,
-    span_context: &SpanContext,
-    out: &mut String,
-) -> Result<(), AllocError> {
+fn put_validity(span_context: &SpanContext, out: &mut AnswerText) {
     let is_valid = span_context.is_valid();
     let is_sampled = span_context.is_sampled();
     let is_remote = span_context.is_remote();
     let is_other = *span_context != SpanContext::empty_context();
-    write!(out, "{is_valid} {is_sampled} {is_remote} {is_other} ")?;
-    put_span(alloc, span_context, out)
+    write!(out, "{is_valid} {is_sampled} {is_remote} {is_other} ");
+    put_span(span_context, out);
 }
 
 /// Puts out a span context: its ids, its flags, whether it is remote, and its trace state where that has members.
-pub fn put_span(
-    alloc: Global,
-    span_context: &SpanContext,
-    out: &mut String,
-) -> Result<(), AllocError> {
+pub fn put_span(span_context: &SpanContext, out: &mut AnswerText) {
     let trace_id = span_context.trace_id();
     let span_id = span_context.span_id();
     let flags = span_context.trace_flags();
@@ -57,20 +50,22 @@ pub fn put_span(
     } else {
         "local"
     };
-    write!(out, "{trace_id}-{span_id} {flags} {origin}")?;
-    let state = span_context.trace_state().header(alloc)?;
-    if !state.is_empty() {
-        write!(out, " {state}")?;
-    }
-    Ok(())
+    write!(out, "{trace_id}-{span_id} {flags} {origin}");
+    out.put_by(span_context.trace_state().header(out.alloc()), put_header);
 }
 
-/// Puts out how a copy of one status stands to another.
-fn put_statuses(alloc: Global, row: &Row, out: &mut String) -> Result<(), RowError> {
+/// Puts out the header of a trace state where it has members.
+fn put_header(header: &String, out: &mut AnswerText) {
+    if !header.is_empty() {
+        write!(out, " {header}");
+    }
+}
+
+/// How a copy of one status stands to another.
+fn order_of_statuses(alloc: Global, row: &Row) -> Result<&'static str, RowError> {
     let first = status_of(alloc, row.field(0))?.clone()?;
     let second = status_of(alloc, row.field(1))?;
-    out.push_str(order_of(first < second, first == second))?;
-    Ok(())
+    Ok(order_of(first < second, first == second))
 }
 
 /// A copy of a builder for which a name, a kind, a start, attributes, events and links were set.
@@ -130,40 +125,45 @@ fn with_links(
 }
 
 /// Puts out what was set for a builder, and how many attributes.
-fn put_builder(builder: &SpanBuilder, out: &mut String) -> Result<(), AllocError> {
-    out.push_str(builder.name.as_str())?;
-    put_kind(builder, out)?;
-    put_start(builder, out)?;
+fn put_builder(builder: &SpanBuilder, out: &mut AnswerText) {
+    out.push_str(builder.name.as_str());
+    put_kind(builder, out);
+    put_start(builder, out);
     match &builder.attributes {
         Some(attributes) => put_count(attributes, out),
         None => out.push_str(" -"),
     }
 }
 
-fn put_kind(builder: &SpanBuilder, out: &mut String) -> Result<(), AllocError> {
+fn put_kind(builder: &SpanBuilder, out: &mut AnswerText) {
     match &builder.span_kind {
         Some(kind) => write!(out, " {kind:?}"),
         None => out.push_str(" -"),
     }
 }
 
-fn put_start(builder: &SpanBuilder, out: &mut String) -> Result<(), AllocError> {
+fn put_start(builder: &SpanBuilder, out: &mut AnswerText) {
     match &builder.start_time {
         Some(Moment(start)) => write!(out, " {start}"),
         None => out.push_str(" -"),
     }
 }
 
-fn put_count(attributes: &[KeyValue], out: &mut String) -> Result<(), AllocError> {
+fn put_count(attributes: &[KeyValue], out: &mut AnswerText) {
     let count = attributes.len();
-    write!(out, " {count}")
+    write!(out, " {count}");
+}
+
+/// Puts out a copy of a scope.
+fn put_copy(scope: &InstrumentationScope, out: &mut AnswerText) {
+    out.put_by(scope.clone(), put_scope);
 }
 
 /// Puts out what was set for a scope, and how many attributes.
-fn put_scope(scope: &InstrumentationScope, out: &mut String) -> Result<(), AllocError> {
+fn put_scope(scope: &InstrumentationScope, out: &mut AnswerText) {
     let name = scope.name();
     let version = scope.version().unwrap_or("-");
     let url = scope.schema_url().unwrap_or("-");
-    write!(out, "{name} {version} {url}")?;
-    put_count(scope.attributes(), out)
+    write!(out, "{name} {version} {url}");
+    put_count(scope.attributes(), out);
 }

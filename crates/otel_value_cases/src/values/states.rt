@@ -1,37 +1,34 @@
 //! Trace states.
 
 use opentelemetry::trace::{TraceState, TraceStateError};
+use otel_case_rows::answer_text::AnswerText;
 use otel_case_rows::fields::{Row, RowError, pair_of};
 use otel_case_rows::values::state_of;
-use std::alloc::{AllocError, Global};
+use std::alloc::Global;
 
 /// Answers a row whose word is one of these; false where it is none.
-pub fn answer(alloc: Global, row: &Row, out: &mut String) -> Result<bool, RowError> {
+pub fn answer(alloc: Global, row: &Row, out: &mut AnswerText) -> bool {
     match row.word.as_str() {
-        "tracestate" => put_read(alloc, row.field(0), out)?,
-        "tracestate-pairs" => put_paired(alloc, row.field(0), out)?,
-        "tracestate-insert" => put_inserted(alloc, row, out)?,
-        "tracestate-delete" => put_deleted(alloc, row, out)?,
-        "tracestate-error" => put_error(row.field(0), out)?,
-        _ => return Ok(false),
+        "tracestate" => put_state(&TraceState::from_str(alloc, row.field(0)), out),
+        "tracestate-pairs" => out.put_by(paired(alloc, row.field(0)), put_state),
+        "tracestate-insert" => out.put_by(inserted(alloc, row), put_state),
+        "tracestate-delete" => out.put_by(deleted(alloc, row), put_state),
+        "tracestate-error" => out.put(error_of(row.field(0))),
+        _ => return false,
     }
-    Ok(true)
+    true
 }
 
 /// Puts out the header of a copy of a trace state, or the name of an error.
-fn put_state(
-    alloc: Global,
-    state: Result<TraceState, TraceStateError>,
-    out: &mut String,
-) -> Result<(), AllocError> {
+fn put_state(state: &Result<TraceState, TraceStateError>, out: &mut AnswerText) {
     match state {
-        Ok(state) => out.push_str(state.clone()?.header(alloc)?.as_str()),
+        Ok(state) => out.put_by(state.clone(), put_header),
         Err(error) => write!(out, "{error:?}"),
     }
 }
 
-fn put_read(alloc: Global, text: &str, out: &mut String) -> Result<(), AllocError> {
-    put_state(alloc, TraceState::from_str(alloc, text), out)
+fn put_header(state: &TraceState, out: &mut AnswerText) {
+    out.put(state.header(out.alloc()));
 }
 
 /// The pairs of a list, `key=value|` each.
@@ -47,35 +44,30 @@ fn pairs_of(alloc: Global, list: &str) -> Result<Vec<(String, String)>, RowError
     Ok(pairs)
 }
 
-fn put_paired(alloc: Global, list: &str, out: &mut String) -> Result<(), RowError> {
+fn paired(alloc: Global, list: &str) -> Result<Result<TraceState, TraceStateError>, RowError> {
     let pairs = pairs_of(alloc, list)?;
-    put_state(alloc, TraceState::from_key_value(alloc, pairs), out)?;
-    Ok(())
+    Ok(TraceState::from_key_value(alloc, pairs))
 }
 
-fn put_inserted(alloc: Global, row: &Row, out: &mut String) -> Result<(), RowError> {
+fn inserted(alloc: Global, row: &Row) -> Result<Result<TraceState, TraceStateError>, RowError> {
     let state = state_of(alloc, row.given(0))?;
     let key = String::from_str(alloc, row.field(1))?;
     let value = String::from_str(alloc, row.field(2))?;
-    put_state(alloc, state.insert(alloc, key, value), out)?;
-    Ok(())
+    Ok(state.insert(alloc, key, value))
 }
 
-fn put_deleted(alloc: Global, row: &Row, out: &mut String) -> Result<(), RowError> {
+fn deleted(alloc: Global, row: &Row) -> Result<Result<TraceState, TraceStateError>, RowError> {
     let state = state_of(alloc, row.given(0))?;
-    put_state(alloc, state.delete(alloc, row.field(1)), out)?;
-    Ok(())
+    Ok(state.delete(alloc, row.field(1)))
 }
 
-/// Puts out what an error says.
-fn put_error(name: &str, out: &mut String) -> Result<(), RowError> {
-    let error = match name {
-        "Key" => TraceStateError::Key,
-        "Value" => TraceStateError::Value,
-        "List" => TraceStateError::List,
-        "Memory" => TraceStateError::Memory,
-        _ => return Err(RowError::Field),
-    };
-    write!(out, "{error}")?;
-    Ok(())
+/// The error of a name.
+fn error_of(name: &str) -> Result<TraceStateError, RowError> {
+    match name {
+        "Key" => Ok(TraceStateError::Key),
+        "Value" => Ok(TraceStateError::Value),
+        "List" => Ok(TraceStateError::List),
+        "Memory" => Ok(TraceStateError::Memory),
+        _ => Err(RowError::Field),
+    }
 }
