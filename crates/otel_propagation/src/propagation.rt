@@ -4,12 +4,16 @@ pub mod baggage;
 pub mod composite;
 pub mod composite_list;
 pub mod configured;
+pub mod custom;
+pub mod named;
 pub mod propagator_kinds;
 pub mod trace_context;
 
 pub use baggage::BaggagePropagator;
 pub use composite::{CompositePropagator, FieldsError};
-pub use composite_list::{ListFieldsError, TextMapCompositePropagator};
+pub use composite_list::TextMapCompositePropagator;
 pub use configured::{ConfiguredPropagators, configured_propagators};
+pub use custom::{CustomPropagators, NoCustomPropagators, NoPropagator};
+pub use named::{NamedPropagator, named_propagators};
 pub use propagator_kinds::PropagatorOf;
 pub use trace_context::TraceContextPropagator;

@@ -8,8 +8,8 @@ use opentelemetry::Context;
 use opentelemetry::propagation::{FieldIter, MapCarrier, TextMapPropagator};
 use otel_case_rows::fields::{Row, RowError};
 use otel_propagation::propagation::{
-    BaggagePropagator, CompositePropagator, FieldsError, ListFieldsError, TraceContextPropagator,
-    configured_propagators,
+    BaggagePropagator, CompositePropagator, FieldsError, NoCustomPropagators,
+    TraceContextPropagator, configured_propagators,
 };
 use std::alloc::{AllocError, Global};
 
@@ -22,9 +22,8 @@ pub fn answer(alloc: Global, row: &Row, out: &mut String) -> Result<bool, RowErr
         "inject-all" => put_injected(&*injected(alloc, row)?, out)?,
         "cross-all" => put_crossed(alloc, row, out)?,
         "extract-all" => put_extracted(alloc, row, out)?,
-        "header-names" => put_names(fields_of(row.field(0))?, out)?,
+        "header-names" => put_names_of(row.field(0), out)?,
         "header-names-error" => put_error(FieldsError, out)?,
-        "list-names-error" => put_list_error(ListFieldsError, out)?,
         "propagators" => put_configured(alloc, row.given(0), out)?,
         _ => return Ok(false),
     }
@@ -85,18 +84,19 @@ fn put_extracted(alloc: Global, row: &Row, out: &mut String) -> Result<(), RowEr
     Ok(())
 }
 
-/// The names of the headers of the propagator of a name.
-fn fields_of(name: &str) -> Result<FieldIter, RowError> {
+/// Puts out the names of the headers of the propagator of a name.
+fn put_names_of(name: &str, out: &mut String) -> Result<(), RowError> {
     match name {
-        "trace-context" => Ok(TraceContextPropagator::new().fields()),
-        "baggage" => Ok(BaggagePropagator::new().fields()),
-        "built-in" => Ok(BuiltIn::default().fields()),
-        _ => Err(RowError::Field),
+        "trace-context" => put_names(TraceContextPropagator::new().fields(), out)?,
+        "baggage" => put_names(BaggagePropagator::new().fields(), out)?,
+        "built-in" => put_names(BuiltIn::default().fields(), out)?,
+        _ => return Err(RowError::Field),
     }
+    Ok(())
 }
 
 /// Puts out names, each with a bar behind it.
-fn put_names(fields: FieldIter, out: &mut String) -> Result<(), AllocError> {
+fn put_names(fields: FieldIter<'_>, out: &mut String) -> Result<(), AllocError> {
     for name in fields {
         write!(out, "{name}|")?;
     }
@@ -108,15 +108,10 @@ fn put_error(error: FieldsError, out: &mut String) -> Result<(), AllocError> {
     write!(out, "{error}")
 }
 
-/// Puts out what the error of a list says.
-fn put_list_error(error: ListFieldsError, out: &mut String) -> Result<(), AllocError> {
-    write!(out, "{error}")
-}
-
 /// Puts out the names of the headers of the propagators that a text configures, and behind question marks the names in
 /// it that are unknown, each with a bar behind it.
 fn put_configured(alloc: Global, text: Option<&str>, out: &mut String) -> Result<(), AllocError> {
-    let configured = configured_propagators::<BuiltIn>(alloc, text)?;
+    let configured = configured_propagators(alloc, text, &NoCustomPropagators)?;
     put_names(configured.propagator.fields(), out)?;
     for name in &configured.unknown {
         write!(out, "?{name}|")?;

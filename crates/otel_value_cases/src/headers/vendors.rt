@@ -114,7 +114,11 @@ fn put_headers<P: TextMapPropagator>(
     Ok(())
 }
 
-fn put_fields(fields: FieldIter, carrier: &MapCarrier, out: &mut String) -> Result<(), AllocError> {
+fn put_fields(
+    fields: FieldIter<'_>,
+    carrier: &MapCarrier,
+    out: &mut String,
+) -> Result<(), AllocError> {
     out.push_str("headers")?;
     for name in fields {
         if let Some(text) = carrier.get(name) {
