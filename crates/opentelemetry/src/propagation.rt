@@ -78,18 +78,18 @@ pub trait TextMapPropagator {
         ensures infallible { extract_is_infallible self.now cx.now (X.reads extractor.now) → IsOk result };
 
     /// The names under which the propagator sets and reads texts.
-    fn fields(&self) -> FieldIter
+    fn fields(&self) -> FieldIter<'_>
         ensures { result ≡ field_names self.now };
 }
 
 /// The names of a propagator's fields, in turn.
 #[derive(Clone, Debug, Drop)]
-pub struct FieldIter {
-    names: &'static [&'static str],
+pub struct FieldIter<'a> {
+    names: &'a [&'static str],
     given: usize,
 }
 
-impl Model for FieldIter {
+impl<'a> Model for FieldIter<'a> {
     ghost use Rattle.std.specs.Prelude.{ℕ, List, map, drop, length, ◌≤◌};
 
     ghost Value = { List (List ℕ) };
@@ -99,15 +99,15 @@ impl Model for FieldIter {
     ghost invariant = { λ a. a.given ≤ length a.names.now };
 }
 
-impl FieldIter {
-    pub fn new(names: &'static [&'static str]) -> FieldIter
+impl<'a> FieldIter<'a> {
+    pub fn new(names: &'a [&'static str]) -> FieldIter<'a>
         ensures { result ≡ map (λ name. name.now) names.now }
     {
         FieldIter { names, given: 0 }
     }
 }
 
-impl Iterator for FieldIter {
+impl<'a> Iterator for FieldIter<'a> {
     type Item = &'static str;
 
     ghost next_gives = { YieldsFirstBy (λ name. name.now) (λ names. names) };

@@ -1,6 +1,7 @@
 //! What carries span contexts and baggages in headers.
 
 pub use otel_propagation::propagation::{
-    BaggagePropagator, CompositePropagator, ConfiguredPropagators, FieldsError, ListFieldsError,
-    PropagatorOf, TextMapCompositePropagator, TraceContextPropagator, configured_propagators,
+    BaggagePropagator, CompositePropagator, ConfiguredPropagators, CustomPropagators, FieldsError,
+    NamedPropagator, NoCustomPropagators, NoPropagator, PropagatorOf, TextMapCompositePropagator,
+    TraceContextPropagator, configured_propagators, named_propagators,
 };

@@ -1,17 +1,17 @@
 -- What names add to a list: where they stand in it already, and where the next one is theirs.
-use Rattle.std.proofs.Common.{◌≡◌, ◌≢◌, ℕ, ◌+◌, ◌<◌, true, false, ◌||◌, List, [], ◌∷◌, ◌++◌, length, get_or, take, drop, refl, sym, ap, ◌∙◌, arith, ⊎_elim, add-one, append_assoc, append-nil, length-drop}
-use Rattle.std.specs.Borrow.{Bor}
+use Rattle.std.proofs.Common.{◌≡◌, ◌≢◌, ℕ, ◌+◌, ◌<◌, true, false, ◌||◌, List, [], ◌∷◌, ◌++◌, length, get_or, map, take, drop, refl, sym, ap, ◌∙◌, arith, ⊎_elim, add-one, append_assoc, append-nil, length-drop}
 use Rattle.std.specs.List.{list_any}
 use Rattle.std.specs.Str.{bytes_eq}
 use Rattle.std.proofs.Math.Seq.{drop-cons, take-suc}
 use Rattle.std.proofs.lemmas.Bool.{cases_Bool, cond-true, cond-false}
-use Rattle.std.proofs.lemmas.List.{append_cancel_left, take-append-drop}
-use Rattle.otel_propagation.specs.Composite.{joined_onto, names_of, with_name}
+use Rattle.std.proofs.lemmas.List.{append_cancel_left, map_push, take-append-drop}
+use Rattle.otel_propagation.specs.Composite.{joined_onto, with_name}
 
--- whether a name is one of these, by their texts
-pub any_names : (name : List ℕ) (others : List (Bor (List ℕ))) → list_any (λ other. bytes_eq other name) (names_of others) ≡ list_any (λ other. bytes_eq other.now name) others
-any_names name [] = refl
-any_names name (other ∷ others) = ap (λ b. bytes_eq other.now name || b) (any_names name others)
+-- whether a name is one of those of a list
+pub any_named : {X : Type 0} (name_of : X → List ℕ) (name : List ℕ) (others : List X)
+    → list_any (λ other. bytes_eq other name) (map name_of others) ≡ list_any (λ other. bytes_eq (name_of other) name) others
+any_named name_of name [] = refl
+any_named name_of name (other ∷ others) = ap (λ b. bytes_eq (name_of other) name || b) (any_named name_of name others)
 
 -- a name that is there adds nothing
 pub known : (given : List (List ℕ)) (name : List ℕ) → list_any (λ other. bytes_eq other name) given ≡ true → with_name given name ≡ given
@@ -20,6 +20,16 @@ known given name is = cond-true _ _ _ is
 -- a new name stands behind the others
 pub new : (given : List (List ℕ)) (name : List ℕ) → list_any (λ other. bytes_eq other name) given ≡ false → with_name given name ≡ given ++ name ∷ []
 new given name is = cond-false _ _ _ is
+
+-- a list that has a name stays as it is, and one that has not gets it at its end
+pub known_of : {X : Type 0} (name_of : X → List ℕ) (others : List X) (name : List ℕ) → list_any (λ other. bytes_eq (name_of other) name) others ≡ true
+    → map name_of others ≡ with_name (map name_of others) name
+known_of name_of others name is = sym (known (map name_of others) name (any_named name_of name others ∙ is))
+
+pub new_of : {X : Type 0} (name_of : X → List ℕ) (others : List X) (name : List ℕ) (other : X) → list_any (λ other. bytes_eq (name_of other) name) others ≡ false
+    → name_of other ≡ name → map name_of (others ++ other ∷ []) ≡ with_name (map name_of others) name
+new_of name_of others name other absent is =
+    map_push name_of others other ∙ ap (λ n. map name_of others ++ n ∷ []) is ∙ sym (new (map name_of others) name (any_named name_of name others ∙ absent))
 
 -- where the next name is the new one, one more stands before the rest
 pub next_is_new : (list : List (List ℕ)) (given : ℕ) (name : List ℕ) → list_any (λ other. bytes_eq other name) (take given list) ≡ false

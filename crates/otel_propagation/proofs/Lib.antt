@@ -5,8 +5,8 @@ pub mod BaggagePieceLemmas
 pub mod BaggageRoundTrip
 pub mod BaggageTextLemmas
 pub mod CompositeLemmas
-pub mod CompositeListLemmas
 pub mod ConfiguredLemmas
+pub mod NamedLemmas
 pub mod StrictBounds
 pub mod StrictBytes
 pub mod StrictHeaders

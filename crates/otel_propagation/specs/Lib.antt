@@ -3,6 +3,7 @@ pub mod BaggagePieces
 pub mod Composite
 pub mod CompositeList
 pub mod ConfiguredPropagators
+pub mod NamedPropagators
 pub mod PropagatorKinds
 pub mod StrictBaggage
 pub mod StrictGrammar

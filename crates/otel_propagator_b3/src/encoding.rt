@@ -19,7 +19,7 @@ pub enum B3Encoding {
 
 impl B3Encoding {
     /// The names of the headers.
-    pub fn fields(self) -> FieldIter
+    pub fn fields(self) -> FieldIter<'static>
         ensures { result ≡ fields_of self }
     {
         match self {

@@ -76,7 +76,7 @@ impl TextMapPropagator for B3Propagator {
         }
     }
 
-    fn fields(&self) -> FieldIter {
+    fn fields(&self) -> FieldIter<'_> {
         self.encoding.fields()
     }
 }

@@ -70,7 +70,7 @@ impl TextMapPropagator for JaegerPropagator {
         }
     }
 
-    fn fields(&self) -> FieldIter {
+    fn fields(&self) -> FieldIter<'_> {
         FieldIter::new(&[UBER_TRACE_ID_HEADER])
     }
 }

@@ -104,19 +104,19 @@ impl<A: TextMapPropagator, B: TextMapPropagator> TextMapPropagator for Composite
         self.second.extract_with_context(alloc, &cx, extractor)
     }
 
-    fn fields(&self) -> FieldIter {
+    fn fields(&self) -> FieldIter<'_> {
         FieldIter::new(self.fields)
     }
 }
 
 // How many names of a list stand before what further ones add to its first `given` ones. None where they add what does
 // not stand there.
-pub(super) fn names_added(list: &[&str], given: usize, names: FieldIter) -> Option<usize>
+fn names_added(list: &[&str], given: usize, names: FieldIter<'_>) -> Option<usize>
     requires { given ≤ length list.now }
     ensures { MatchOption result
-        ((more : List (List ℕ)) → names_of list.now ≢ joined_onto (take given (names_of list.now)) names ++ more)
+        ((more : List (List ℕ)) → names_of list.now ≢ joined_onto (take given (names_of list.now)) names.entry ++ more)
         (λ count. (count ≤ length list.now)
-        × (take count (names_of list.now) ≡ joined_onto (take given (names_of list.now)) names)) }
+        × (take count (names_of list.now) ≡ joined_onto (take given (names_of list.now)) names.entry)) }
 {
     let mut count = given;
     for added in names {

@@ -1,42 +1,33 @@
 //! Any number of propagators as one, asked in their order (OpenTelemetry specification, "Composite Propagator"). They
 //! are of one type; `PropagatorOf` is one that holds the built-in ones and others.
 
-ghost use Rattle.std.specs.Prelude.{◌≡◌, ◌≢◌, ◌↔◌, [], IfOk, IsOk, IsTrue, OnErr};
-ghost use Rattle.otel_propagation.specs.Composite.{names_of};
+ghost use Rattle.std.specs.Prelude.{◌≡◌, [], IfOk, IsOk, OnOk};
+ghost use Rattle.otel_propagation.specs.Composite.{joined_onto, names_of, with_name};
 ghost use Rattle.otel_propagation.specs.CompositeList.{InjectsEach, ExtractsEach, EachIsInfallible, fields_onto};
 
-use super::composite::names_added;
 use opentelemetry::Context;
 use opentelemetry::propagation::{Extractor, FieldIter, Injector, TextMapPropagator};
 use std::alloc::{AllocError, Global};
-use thiserror::Error;
-
-/// Why propagators do not make one.
-#[derive(Clone, Copy, Debug, PartialEq, Eq, Error)]
-#[error("the fields are not those of the propagators in turn, each once")]
-pub struct ListFieldsError;
 
 /// Injects by each propagator in turn until one is refused, and extracts in the same order.
 #[derive(Debug, Drop)]
 pub struct TextMapCompositePropagator<P> {
-    pub(super) propagators: Vec<P>,
-    pub(super) fields: &'static [&'static str],
+    propagators: Vec<P>,
+    fields: Vec<&'static str>,
 }
 
 impl<P: TextMapPropagator + Drop> TextMapCompositePropagator<P> {
-    /// All as one, with these fields: those of each in turn, each name once, at its first place. Other fields are
-    /// refused.
+    /// All as one. Its fields are those of each in turn, each name once, at its first place; `AllocError` where there
+    /// is no memory for the list of them.
     pub fn new(
+        alloc: Global,
         propagators: Vec<P>,
-        fields: &'static [&'static str],
-    ) -> Result<TextMapCompositePropagator<P>, ListFieldsError>
-        ensures ok { IfOk result (λ all. (all.propagators ≡ propagators)
-            × (names_of all.fields.now ≡ fields_onto P.field_names [] propagators.items)) }
-        ensures err { OnErr result (names_of fields.now ≢ fields_onto P.field_names [] propagators.items) }
+    ) -> Result<TextMapCompositePropagator<P>, AllocError>
+        ensures propagators { IfOk result (λ all. all.propagators ≡ propagators) }
+        ensures fields { IfOk result (λ all. names_of all.fields.items
+            ≡ fields_onto P.field_names [] propagators.items) }
     {
-        if !are_fields_of(fields, &propagators) {
-            return Err(ListFieldsError);
-        }
+        let fields = fields_of(alloc, &propagators)?;
         Ok(TextMapCompositePropagator {
             propagators,
             fields,
@@ -55,7 +46,7 @@ impl<P: TextMapPropagator> TextMapPropagator for TextMapCompositePropagator<P> {
     ghost extract_is_infallible = { λ all.
         ListIsInfallible P.extract_gives P.extract_is_infallible all.propagators.items };
 
-    ghost field_names = { λ all. names_of all.fields.now };
+    ghost field_names = { λ all. names_of all.fields.items };
 
     /// Where one finds no memory, all texts of those before it stand in the carrier.
     fn inject_context<I: Injector>(
@@ -81,8 +72,8 @@ impl<P: TextMapPropagator> TextMapPropagator for TextMapCompositePropagator<P> {
         extract_each(more, alloc, found, extractor)
     }
 
-    fn fields(&self) -> FieldIter {
-        FieldIter::new(self.fields)
+    fn fields(&self) -> FieldIter<'_> {
+        FieldIter::new(&self.fields)
     }
 }
 
@@ -116,16 +107,37 @@ fn extract_each<P: TextMapPropagator, X: Extractor>(
     Ok(cx)
 }
 
-/// Whether these names are the fields of each, each once, at its first place.
-fn are_fields_of<P: TextMapPropagator>(fields: &[&str], propagators: &[P]) -> bool
-    ensures { IsTrue result ↔ (names_of fields.now ≡ fields_onto P.field_names [] propagators.now) }
+/// The fields of each, each once, at its first place.
+fn fields_of<P: TextMapPropagator>(
+    alloc: Global,
+    propagators: &[P],
+) -> Result<Vec<&'static str>, AllocError>
+    ensures { IfOk result (λ fields. names_of fields.items ≡ fields_onto P.field_names [] propagators.now) }
 {
-    let mut given = 0;
+    let mut fields = Vec::new(alloc);
     for propagator in propagators {
-        let Some(more) = names_added(fields, given, propagator.fields()) else {
-            return false;
-        };
-        given = more;
+        put_fields(&mut fields, propagator.fields())?;
     }
-    given == fields.len()
+    Ok(fields)
+}
+
+/// Puts names after those of a list, each once.
+fn put_fields(fields: &mut Vec<&'static str>, names: FieldIter<'_>) -> Result<(), AllocError>
+    ensures { OnOk result (names_of fields.new.items ≡ joined_onto (names_of fields.old.items) names.entry) }
+{
+    for name in names {
+        put_field(fields, name)?;
+    }
+    Ok(())
+}
+
+/// The same for one name.
+fn put_field(fields: &mut Vec<&'static str>, name: &'static str) -> Result<(), AllocError>
+    ensures { OnOk result (names_of fields.new.items ≡ with_name (names_of fields.old.items) name.now) }
+{
+    if fields.contains(&name) {
+        return Ok(());
+    }
+    fields.push(name)?;
+    Ok(())
 }

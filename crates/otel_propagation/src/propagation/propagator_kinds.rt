@@ -53,7 +53,7 @@ impl<C: TextMapPropagator> TextMapPropagator for PropagatorOf<C> {
         }
     }
 
-    fn fields(&self) -> FieldIter {
+    fn fields(&self) -> FieldIter<'_> {
         match self {
             PropagatorOf::TraceContext(built_in) => built_in.fields(),
             PropagatorOf::Baggage(built_in) => built_in.fields(),

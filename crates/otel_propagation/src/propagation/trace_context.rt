@@ -95,7 +95,7 @@ impl TextMapPropagator for TraceContextPropagator {
         ))
     }
 
-    fn fields(&self) -> FieldIter {
+    fn fields(&self) -> FieldIter<'_> {
         FieldIter::new(&[TRACEPARENT_HEADER, TRACESTATE_HEADER])
     }
 }

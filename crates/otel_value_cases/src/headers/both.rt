@@ -9,7 +9,7 @@ use opentelemetry::propagation::{FieldIter, MapCarrier, TextMapPropagator};
 use otel_case_rows::answer_text::AnswerText;
 use otel_case_rows::fields::{Row, RowError};
 use otel_propagation::propagation::{
-    BaggagePropagator, CompositePropagator, ConfiguredPropagators, FieldsError, ListFieldsError,
+    BaggagePropagator, CompositePropagator, ConfiguredPropagators, FieldsError, NoCustomPropagators,
     TraceContextPropagator, configured_propagators,
 };
 use std::alloc::Global;
@@ -25,8 +25,10 @@ pub fn answer(alloc: Global, row: &Row, out: &mut AnswerText) -> bool {
         "extract-all" => out.put_by(extracted(alloc, row), put_found),
         "header-names" => put_names_of(row.field(0), out),
         "header-names-error" => write!(out, "{}", FieldsError),
-        "list-names-error" => write!(out, "{}", ListFieldsError),
-        "propagators" => out.put_by(configured_propagators(alloc, row.given(0)), put_configured),
+        "propagators" => out.put_by(
+            configured_propagators(alloc, row.given(0), &NoCustomPropagators),
+            put_configured,
+        ),
         _ => return false,
     }
     true
@@ -76,25 +78,18 @@ fn extracted(alloc: Global, row: &Row) -> Result<Context, RowError> {
     Ok(BuiltIn::default().extract_with_context(alloc, &cx, &*carrier)?)
 }
 
-/// The names of the headers of the propagator of a name.
-fn fields_of(name: &str) -> Result<FieldIter, RowError> {
-    match name {
-        "trace-context" => Ok(TraceContextPropagator::new().fields()),
-        "baggage" => Ok(BaggagePropagator::new().fields()),
-        "built-in" => Ok(BuiltIn::default().fields()),
-        _ => Err(RowError::Field),
-    }
-}
-
+/// Puts out the names of the headers of the propagator of a name.
 fn put_names_of(name: &str, out: &mut AnswerText) {
-    match fields_of(name) {
-        Ok(fields) => put_names(fields, out),
-        Err(error) => out.note(error),
+    match name {
+        "trace-context" => put_names(TraceContextPropagator::new().fields(), out),
+        "baggage" => put_names(BaggagePropagator::new().fields(), out),
+        "built-in" => put_names(BuiltIn::default().fields(), out),
+        _ => out.note(RowError::Field),
     }
 }
 
 /// Puts out names, each with a bar behind it.
-fn put_names(fields: FieldIter, out: &mut AnswerText) {
+fn put_names(fields: FieldIter<'_>, out: &mut AnswerText) {
     for name in fields {
         write!(out, "{name}|");
     }
@@ -102,7 +97,10 @@ fn put_names(fields: FieldIter, out: &mut AnswerText) {
 
 /// Puts out the names of the headers of the propagators that a text configures, and behind question marks the names in
 /// it that are unknown, each with a bar behind it.
-fn put_configured(configured: &ConfiguredPropagators<BuiltIn>, out: &mut AnswerText) {
+fn put_configured<C: TextMapPropagator>(
+    configured: &ConfiguredPropagators<C>,
+    out: &mut AnswerText,
+) {
     put_names(configured.propagator.fields(), out);
     for name in &configured.unknown {
         write!(out, "?{name}|");

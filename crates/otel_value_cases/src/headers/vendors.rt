@@ -95,7 +95,7 @@ fn written<P: TextMapPropagator>(
     Ok(carrier)
 }
 
-fn put_fields(fields: FieldIter, carrier: &MapCarrier, out: &mut AnswerText) {
+fn put_fields(fields: FieldIter<'_>, carrier: &MapCarrier, out: &mut AnswerText) {
     out.push_str("headers");
     for name in fields {
         if let Some(text) = carrier.get(name) {

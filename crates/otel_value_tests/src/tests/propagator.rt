@@ -47,7 +47,7 @@ impl TextMapPropagator for Greeting {
         cx.clone()
     }
 
-    fn fields(&self) -> FieldIter {
+    fn fields(&self) -> FieldIter<'_> {
         FieldIter::new(&["Greeting"])
     }
 }
@@ -64,10 +64,9 @@ fn propagators(alloc: Global, refuses: bool) -> Result<Vec<PropagatorOf<Greeting
     Ok(propagators)
 }
 
-/// The four as one, each of their names once.
-pub fn listed(alloc: Global, refuses: bool) -> Result<Listed, Fail> {
-    let fields = &["Greeting", "traceparent", "tracestate", "baggage"];
-    Ok(Listed::new(propagators(alloc, refuses)?, fields)?)
+/// The four as one.
+pub fn listed(alloc: Global, refuses: bool) -> Result<Listed, AllocError> {
+    Listed::new(alloc, propagators(alloc, refuses)?)
 }
 
 /// The span that a propagator reads from a carrier.

@@ -6,14 +6,14 @@ use Rattle.std.proofs.lemmas.Bool.{both_ways}
 use Rattle.std.proofs.lemmas.List.{take-map, get_or-map, length-map}
 use Rattle.std.proofs.lemmas.Slice.Eq.{bytes_eq-Decides}
 use Rattle.otel_propagation.specs.Composite.{names_of}
-use Rattle.otel_propagation.proofs.CompositeLemmas.{any_names, known, next_is_new, next_is_another}
+use Rattle.otel_propagation.proofs.CompositeLemmas.{any_named, known, next_is_new, next_is_another}
 use Rattle.otel_propagation.proofs.propagation.composite.name_added.Goals as goal
 
 -- whether the name is among the first ones, as the slice answers it
 among : (list : List (Bor (List ℕ))) (given : ℕ) (name : List ℕ) (is : Bool) → list_any (λ other. bytes_eq other.now name) (take given list) ≡ is
     → list_any (λ other. bytes_eq other name) (take given (names_of list)) ≡ is
 among list given name is found =
-    ap (list_any (λ other. bytes_eq other name)) (take-map (λ other. other.now) given list) ∙ any_names name (take given list) ∙ found
+    ap (list_any (λ other. bytes_eq other name)) (take-map (λ other. other.now) given list) ∙ any_named (λ other. other.now) name (take given list) ∙ found
 
 -- the next name, as the slice answers it
 next_name : (list : List (Bor (List ℕ))) (given : ℕ) (next : Bor (List ℕ)) → given < length list → ((d : Bor (List ℕ)) → next ≡ get_or list given d)
