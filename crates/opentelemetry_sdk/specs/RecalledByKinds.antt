@@ -9,8 +9,8 @@ use Rattle.otel_pipeline.specs.ProcessorTelling.{ProcessorTelling}
 use Rattle.otel_pipeline.specs.SimpleProcessor.{SimpleProcessor}
 use Rattle.otel_kept.specs.RecalledBatches.{heard_behind}
 use Rattle.otel_kept.specs.RecalledBySimple.{simple_before}
-use Rattle.opentelemetry_sdk.specs.BatchProcessor.{BatchProcessor}
-use Rattle.opentelemetry_sdk.specs.ProcessorKinds.{ProcessorGives}
+use Rattle.opentelemetry_sdk.specs.BatchProcessor.{BatchProcessor, batch_open_over}
+use Rattle.opentelemetry_sdk.specs.ProcessorKinds.{ProcessorGives, dropped_over_by_kind, open_over_by_kind}
 use Rattle.opentelemetry_sdk.specs.RecalledByBatch.{batch_before}
 use Rattle.opentelemetry_sdk.specs.declared.trace.processor.ProcessorOf.{ProcessorOf}
 use Rattle.opentelemetry_sdk.specs.declared.trace.processor.ProcessorOf.TheVariants as kinds
@@ -72,6 +72,23 @@ pub custom_heard : (bs : List (List PlainSpanData)) (told : ProcessorTelling) �
     → told ≡ heard_behind (spans_in bs) told
 custom_heard bs told none = ap (λ x. record told { heard = x }) (told_behind_none told.heard)
     ∙ ap (λ (l : List (List PlainSpanData)). heard_behind (spans_in l) told) (sym none)
+
+-- a processor of any kind where batches are recalled leaves and dropped as many spans
+pub processor_leaves : {E C : Type 0} (recalled : List (List PlainSpanData) → E → E → Type 0)
+    (bs : List (List PlainSpanData)) (p r : ProcessorOf E C) → processor_recalled recalled bs p r
+    → (open_over_by_kind r ≡ open_over_by_kind p) × (dropped_over_by_kind r ≡ dropped_over_by_kind p)
+processor_leaves recalled bs (kinds.Simple a) (kinds.Simple r) h = (refl, refl)
+processor_leaves recalled bs (kinds.Simple a) (kinds.Batch r) h = absurd h
+processor_leaves recalled bs (kinds.Simple a) (kinds.Custom r) h = absurd h
+processor_leaves recalled bs (kinds.Batch a) (kinds.Simple r) h = absurd h
+processor_leaves {E} recalled bs (kinds.Batch a) (kinds.Batch r) h = (
+  ap (λ (b : BatchProcessor E). batch_open_over b) h.0,
+  ap (λ (b : BatchProcessor E). b.machine.control.dropped) h.0,
+)
+processor_leaves recalled bs (kinds.Batch a) (kinds.Custom r) h = absurd h
+processor_leaves recalled bs (kinds.Custom a) (kinds.Simple r) h = absurd h
+processor_leaves recalled bs (kinds.Custom a) (kinds.Batch r) h = absurd h
+processor_leaves recalled bs (kinds.Custom a) (kinds.Custom r) h = (refl, refl)
 
 -- batches of a processor of any kind are recalled in one way, where those of its exporter are
 pub processor_once : {E C : Type 0} (recalled : List (List PlainSpanData) → E → E → Type 0)

@@ -9,7 +9,7 @@ use Rattle.opentelemetry.specs.PlainSpanBuilder.{PlainSpanBuilder}
 use Rattle.otel_sampling.specs.declared.trace.sampler.ShouldSample as sampling
 use Rattle.otel_sampling.specs.declared.trace.sampler.SamplingDecision.{SamplingDecision}
 use Rattle.otel_sampling.specs.declared.trace.sampler.SamplingDecision.TheVariants as decisions
-use Rattle.otel_sampling.specs.declared.trace.id_generator.IdGenerator as drawing
+use Rattle.otel_sampling.specs.declared.trace.id_generator.GivesIds as drawing
 use Rattle.otel_export.specs.declared.error.OTelSdkError.{OTelSdkError}
 use Rattle.otel_export.specs.PlainSpanData.{PlainSpanData, is_sampled, spans_in}
 use Rattle.otel_export.specs.Telling.{Tells}
@@ -18,7 +18,7 @@ use Rattle.otel_pipeline.specs.SpanHistory.{PlainSpan, SpanHistory, SpanStart, o
 use Rattle.otel_pipeline.specs.Deliveries.{Delivery, Follows, Hears, EachFollows}
 use Rattle.otel_pipeline.specs.Each.{Each, AsksAll}
 use Rattle.otel_pipeline.specs.Ending.{TakesAndTells, Delivers}
-use Rattle.otel_pipeline.specs.Provider.{ProviderState, Flushes, FlushesProcessor, ShutsDown, ShutsProcessor, RunsDue, RunsProcessor}
+use Rattle.otel_pipeline.specs.Provider.{unstarted_context, ProviderState, Flushes, FlushesProcessor, ShutsDown, ShutsProcessor, RunsDue, RunsProcessor}
 use Rattle.otel_pipeline.specs.StartRequest.{StartRequest}
 use Rattle.otel_pipeline.specs.Starting.{TakesPart, PassesThrough, Records, DecidesStart, Starts, StartsOpen}
 use Rattle.otel_pipeline.specs.declared.trace.span_processor.SpanProcessor.{Ghosts}
@@ -242,9 +242,9 @@ module _ {P : Type 0} (calls : Ghosts P) (timer : timing.Ghosts P) (kept : P →
         → (ss : List P) × FirstRecalled recalled bs new.processors ss × Starts calls sampler ids (with_processors old rs) request history (with_processors new ss)
     starts_again sampler ids old rs request history new h = by (old.is_shut || request.cx.telemetry_suppressed)
       where
-        by : (b : Bool) → MatchBool b ((history ≡ over empty_span_context old.span_limits) × (new ≡ old)) (StartsOpen calls sampler ids old request history new)
+        by : (b : Bool) → MatchBool b ((history ≡ over (unstarted_context old request.cx) old.span_limits) × (new ≡ old)) (StartsOpen calls sampler ids old request history new)
             → (ss : List P) × FirstRecalled recalled bs new.processors ss
-            × MatchBool b ((history ≡ over empty_span_context old.span_limits) × (with_processors new ss ≡ with_processors old rs)) (StartsOpen calls sampler ids (with_processors old rs) request history (with_processors new ss))
+            × MatchBool b ((history ≡ over (unstarted_context old request.cx) old.span_limits) × (with_processors new ss ≡ with_processors old rs)) (StartsOpen calls sampler ids (with_processors old rs) request history (with_processors new ss))
         by true k = (rs, subst (λ (p : ProviderState P S G). FirstRecalled recalled bs p.processors rs) (sym k.1) h, (k.0, ap (λ (p : ProviderState P S G). with_processors p rs) k.1))
         by false k =
             let decided = decided_again k.answer.decision request.cx _ old.processors rs new.processors history h k.decided in (

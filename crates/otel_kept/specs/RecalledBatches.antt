@@ -8,6 +8,7 @@ use Rattle.otel_export.specs.RecalledBatches.{GivesBehind, told_behind}
 use Rattle.otel_pipeline.specs.ProcessorTelling.{ProcessorTelling}
 use Rattle.otel_pipeline.specs.SpanHistory.{PlainSpan}
 use Rattle.otel_pipeline.specs.declared.trace.drain_due.DrainDue as timing
+use Rattle.otel_pipeline.specs.declared.trace.leaves_spans.LeavesSpans as leaving
 use Rattle.otel_pipeline.specs.declared.trace.span_processor.SpanProcessor.{Ghosts}
 
 -- what a processor tells where its exporter heard these spans first
@@ -35,6 +36,11 @@ pub record Recalls {P : Type 0} (calls : Ghosts P) (timer : timing.Ghosts P) (ke
   pub none : (p : P) → recalled [] p p
   pub more : (bs cs : List (List PlainSpanData)) (p r s : P) → recalled bs p r → recalled cs r s
       → recalled (cs ++ bs) p s
+
+-- a processor that has batches recalled leaves and dropped as many spans
+abbrev pub LeavesAsMany : {P : Type 0} → leaving.Ghosts P → (List (List PlainSpanData) → P → P → Type 0) → Type 0
+LeavesAsMany {P} queues recalled = (bs : List (List PlainSpanData)) (p r : P) → recalled bs p r
+    → (queues.open_over r ≡ queues.open_over p) × (queues.dropped_over r ≡ queues.dropped_over p)
 
 -- the first of these processors has batches recalled, and the others are the same; where there is none, no batch is
 abbrev pub FirstRecalled : {P : Type 0} → (List (List PlainSpanData) → P → P → Type 0) → List (List PlainSpanData)

@@ -3,7 +3,7 @@
 ghost use Rattle.std.specs.Prelude.{◌≡◌, ℕ, List, [], map};
 ghost use Rattle.otel_export.specs.PlainSpanData.{PlainSpanData};
 ghost use Rattle.otel_kept.specs.ProcessorKeeps.{OnlyAppends};
-ghost use Rattle.otel_kept.specs.RecalledBatches.{Recalls};
+ghost use Rattle.otel_kept.specs.RecalledBatches.{LeavesAsMany, Recalls};
 
 use otel_export::trace::SpanData;
 use otel_pipeline::trace::{DrainDue, LeavesSpans};
@@ -36,4 +36,7 @@ pub trait KeepsBatches: DrainDue + LeavesSpans {
 
     /// To forget batches changes nothing that a later call does, but for what is kept and heard.
     ghost recalls: { Recalls Self.SpanProcessor Self.DrainDue.own kept lost recalled };
+
+    /// Nor how many spans it leaves and dropped.
+    ghost leaves: { LeavesAsMany Self.LeavesSpans.own recalled };
 }

@@ -37,6 +37,10 @@ pub trait ReplyForm {
         ensures err { OnErr result (output.new.items ≡ output.old.items) }
         ensures free { (form self.old).rest (map (λ batch. batch.items) batches.now) ≡ [] → IsOk result }
         ensures form { form self.new ≡ form self.old };
+
+    /// Whether a run in this form fails where a queue was full and dropped a span.
+    fn minds_drops(&self) -> bool
+        ensures { result ≡ (form self.now).minds_drops };
 }
 
 /// Replies as lines: a line for each span that was exported, and then the answer's.
@@ -72,5 +76,9 @@ impl ReplyForm for ReplyLines {
         batches: &[Vec<SpanData>],
     ) -> Result<(), AllocError> {
         write_batches(&mut self.text, output, batches)
+    }
+
+    fn minds_drops(&self) -> bool {
+        false
     }
 }

@@ -1,7 +1,7 @@
 -- A session that carries out commands and then a shutdown closes as in the mode `trace`, and its replies show all spans
 -- that it exported.
 use Rattle.std.proofs.Common.{◌≡◌, ◌++◌, ◌∙◌, ◌==◌, ℕ, Bool, true, false, List, [], ◌∷◌, Option, None, Result, Ok, Err, IsTrue, MatchBool, ◌||◌}
-use Rattle.std.proofs.Common.{All, inl, inr, ap, append-nil, append_assoc, arith, drop, map, refl, subst, sym, not, if◌then◌else◌}
+use Rattle.std.proofs.Common.{All, sum_by, inl, inr, ap, append-nil, append_assoc, arith, drop, map, refl, subst, sym, not, if◌then◌else◌}
 use Rattle.std.proofs.lemmas.Bool.{eq-eqb}
 use Rattle.std.proofs.lemmas.List.{map-append}
 use Rattle.std.proofs.lemmas.List.Concat.{flat_map-append}
@@ -30,13 +30,14 @@ use Rattle.otel_trace_run.specs.declared.picture.PictureForm.{PictureForm}
 use Rattle.otel_trace_run.specs.declared.run_end.RunEnd.{RunEnd}
 use Rattle.otel_trace_run.specs.declared.run_end.RunEnd.TheVariants as ends
 use Rattle.otel_trace_session.specs.Calls.{Calls, batches_of_first, losses_of_first}
-use Rattle.otel_trace_session.specs.Closing.{Closes, or_no_memory}
+use Rattle.otel_trace_session.specs.Closing.{Closes, ClosesAs, LostNothing, or_no_memory}
+use Rattle.otel_trace_session.specs.declared.session.ClosedSession.{ClosedSession}
 use Rattle.otel_trace_session.specs.OpenSpans.{Histories}
 use Rattle.otel_trace_session.specs.ProviderTurns.{ShutsIfOpen, call_answer}
 use Rattle.otel_trace_session.specs.Shown.{exported_in}
 use Rattle.otel_trace_session.specs.Turn.{Course, Turn}
 use Rattle.otel_trace_session.specs.Turns.{AreTurns, Runs, SessionState, course_of, replied, reply_of, session_under}
-use Rattle.otel_trace_session.proofs.CloseLemmas.{none_lost}
+use Rattle.otel_trace_session.proofs.CloseLemmas.{ends_well, none_lost}
 use Rattle.otel_trace_session.proofs.ShownLemmas.{closes_rest}
 
 -- an answer without an error
@@ -107,9 +108,11 @@ module _ {P S G : Type 0} (calls : Calls P S G)
   pub draws : (Paints : Painting) (provider : ProviderState P S G) (after : SessionState P S G)
       (input input_after : Option (List ℕ)) (bad_line : Option ℕ) (picture left : List ℕ)
       → (lines : DrawsLines calls Paints (session_under calls.keeps provider) input input_after bad_line picture after)
-      → Closes calls reply_lines after [] (Ok tt) left
+      → (closed : Closes calls reply_lines after [] (Ok tt) left)
+      → sum_by calls.queues.open_over closed.provider.processors ≡ 0
+      → sum_by calls.queues.dropped_over closed.provider.processors ≡ 0
       → Draws calls Paints provider lines.reads.bytes bad_line picture
-  draws Paints provider after input input_after bad_line picture left lines closed =
+  draws Paints provider after input input_after bad_line picture left lines closed left_open dropped =
       let begun = session_under calls.keeps provider in
       let ran = lines.ran in
       let middle = ran.middle in
@@ -123,6 +126,10 @@ module _ {P S G : Type 0} (calls : Calls P S G)
       let kept : losses_of_first calls.keeps after.provider.processors ≡ middle.lost_before =
       ap (λ (p : ProviderState P S G). losses_of_first calls.keeps p.processors) (sym same)
       ∙ none_lost calls reply_lines after [] left closed ∙ ran.shut.ran.lost_before in
+      let none_open : sum_by calls.queues.open_over after.provider.processors ≡ 0 =
+      ap (λ (p : ProviderState P S G). sum_by calls.queues.open_over p.processors) (sym same) ∙ left_open in
+      let none_dropped : sum_by calls.queues.dropped_over after.provider.processors ≡ 0 =
+      ap (λ (p : ProviderState P S G). sum_by calls.queues.dropped_over p.processors) (sym same) ∙ dropped in
       let replied = texts reply_lines ran.replies in
       let all : exported_in (ran.replies ++ ran.last) ≡ exported_since calls provider after.provider =
       flat_map-append (λ (reply : PlainReply). reply.exported) ran.replies ran.last
@@ -150,7 +157,10 @@ module _ {P S G : Type 0} (calls : Calls P S G)
             });
           };
           loses_none = kept ∙ ran.ran.lost_before;
+          leaves_none = none_open;
+          drops_none = λ _. none_dropped;
         };
+        drops_none = none_dropped;
         drawn = subst (λ (spans : List PlainSpanData). Paints spans picture) (ran.shown ∙ ap spans_in all) lines.drawn;
       }
 
@@ -245,15 +255,13 @@ module _ {P S G : Type 0} (calls : Calls P S G)
   -- what was drawn of an input by a new session that then closed well
   pub draws_from : (Paints : Painting) (provider : ProviderState P S G) (session after : SessionState P S G)
       (input input_after : Option (List ℕ)) (bad_line bad : Option ℕ) (picture before left : List ℕ)
-      (answer : Result (Unit {0}) OTelSdkError) → session ≡ session_under calls.keeps provider
+      (closed : ClosedSession) → session ≡ session_under calls.keeps provider
       → DrawsLines calls Paints session input input_after bad_line picture after → bad_line ≡ bad → before ≡ []
-      → answer ≡ well → Closes calls reply_lines after before answer left
+      → LostNothing closed true → ClosesAs calls reply_lines after before closed left
       → (bytes : List ℕ) × AreAll input bytes × IsAtEnd input_after × Draws calls Paints provider bytes bad picture
-  draws_from Paints provider session after input input_after bad_line bad picture before left answer new lines is none ok closed =
+  draws_from Paints provider session after input input_after bad_line bad picture before left ended new lines is none lost closed =
       let these =
       subst (λ (s : SessionState P S G). DrawsLines calls Paints s input input_after bad picture after) new
       (subst (λ (b : Option ℕ). DrawsLines calls Paints session input input_after b picture after) is lines) in
-      let closes =
-      subst (λ (bs : List ℕ). Closes calls reply_lines after bs well left) none
-      (subst (λ (said : Result (Unit {0}) OTelSdkError). Closes calls reply_lines after before said left) ok closed) in
-      (these.reads.bytes, these.reads.all, these.reads.at_end, draws calls law Paints provider after input input_after bad picture left these closes)
+      let ends = ends_well calls reply_lines after before left ended true none lost closed in
+      (these.reads.bytes, these.reads.all, these.reads.at_end, draws calls law Paints provider after input input_after bad picture left these ends.closes ends.leaves_none (ends.drops_none refl))

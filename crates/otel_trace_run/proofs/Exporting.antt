@@ -75,7 +75,7 @@ module _ {P S G : Type 0} (calls : Calls P S G)
       closing_lines f.after f.written h.text f.closes
       ∙ ap (λ bs. bs ++ otlp_lines resource left) (f.feeds.written ∙ texts_are_lines resource f.feeds.replies)
       ∙ sym (lines_joined resource (exported_in f.feeds.replies) left) ∙ ap (otlp_lines resource) all in
-      record { traces = h; lines = subst (Appends s.output s.output_after) text h.written }
+      record { traces = h; lines = subst (Appends s.output s.output_after) text h.written; drops_none = f.drops_none refl }
 
   pub exports_as : (provider : ProviderState P S G) (s : Streams) (end : RunEnd)
       → EndsAs (TracesWhole calls (otlp_form resource) provider s) (TracesBegun calls (otlp_form resource) provider s) s end

@@ -10,7 +10,7 @@ use Rattle.otel_export.specs.StoredBatches.{StoredBatches}
 use Rattle.otel_trace_lines.proofs.JoinedLines.{lines_joined}
 use Rattle.otel_otlp.specs.Streams.{AppendsBeginning}
 use Rattle.otel_trace_run.specs.Pieces.{GivesLines, KeepsAll, PlainPieces}
-use Rattle.otel_trace_run.specs.StepRuns.{StepsSome, StepsAll}
+use Rattle.otel_trace_run.specs.StepRuns.{Steps, StepsAll, StepsOn, StepsSome, StepsTo}
 use Rattle.otel_trace_run.specs.Streams.{EndsAs, Streams, streams}
 use Rattle.otel_trace_run.specs.declared.run_end.RunEnd.{RunEnd}
 use Rattle.otel_trace_run.specs.declared.run_end.RunEnd.TheVariants as ends
@@ -117,13 +117,12 @@ stepped_more start now next input here after output reached output_after rest nu
 -- the last piece is answered
 pub stepped_all : (start : Machine StoredBatches) (now next : Machine StoredBatches) (input here after output reached output_after : Option (List ℕ)) (rest : List ℕ) (number : ℕ) (goes_on : Bool) (piece : PlainPieces) (more : List ℕ)
     → HasStepped start now (streams input here output reached) rest number → GivesLines here after rest goes_on piece → goes_on ≡ false → AnswersLines now piece.lines None more next
-    → Appends reached output_after more → StepsAll start (streams input after output output_after) None × IsAtEnd after
+    → Appends reached output_after more → StepsTo start next (streams input after output output_after) None × IsAtEnd after
 stepped_all start now next input here after output reached output_after rest number goes_on piece more h g is k written =
     let last = cut_last input here after h.given rest goes_on piece is h.read g in (
       record {
         bytes = h.given ++ piece.lines;
         answers = h.answers ++ more;
-        after = next;
         all = last.0;
         answered = answers_joined start now next h.given piece.lines None h.answers more h.ends h.answered k;
         written = Appends-trans output reached output_after h.answers more h.written written;
@@ -134,7 +133,7 @@ stepped_all start now next input here after output reached output_after rest num
 -- a line of a piece is bad
 pub stepped_bad : (start : Machine StoredBatches) (now next : Machine StoredBatches) (input here after output reached output_after : Option (List ℕ)) (rest : List ℕ) (number line : ℕ) (goes_on : Bool) (piece : PlainPieces) (more : List ℕ)
     → HasStepped start now (streams input here output reached) rest number → GivesLines here after rest goes_on piece → AnswersLines now piece.lines (Some line) more next
-    → Appends reached output_after more → StepsAll start (streams input after output output_after) (Some (number + line))
+    → Appends reached output_after more → StepsTo start next (streams input after output output_after) (Some (number + line))
 stepped_bad start now next input here after output reached output_after rest number line goes_on piece more h g k written =
     let cut = cut_piece input here after h.given rest goes_on piece h.read h.ends g in
     let text = h.given ++ piece.lines in
@@ -144,7 +143,6 @@ stepped_bad start now next input here after output reached output_after rest num
     record {
       bytes = text ++ cut.behind;
       answers = all;
-      after = next;
       all = cut.all;
       answered = holds_of_all (λ bs. AnswersLines start bs (Some (number + line)) all next) input text cut (λ behind ends h. bad_answers_joined start next text behind (number + line) all ends h) bad;
       written = Appends-trans output reached output_after h.answers more h.written written;
@@ -165,11 +163,26 @@ ends_bad Whole Begun s line end (inl failed) h k = subst (EndsAs Whole Begun s) 
 ends_bad Whole Begun s line end (inr bad) h k = subst (EndsAs Whole Begun s) (sym bad) h
 
 -- all answers are a beginning of them
-pub all_begun : (start : Machine StoredBatches) (s : Streams) (bad_line : Option ℕ) → StepsAll start s bad_line → StepsSome start s
-all_begun start s bad_line h = record {
+to_begun : (start after : Machine StoredBatches) (s : Streams) (bad_line : Option ℕ) → StepsTo start after s bad_line → StepsSome start s
+to_begun start after s bad_line h = record {
   bytes = h.bytes;
   answers = h.answers;
   all = h.all;
-  begun = answers_begin start h.after h.bytes bad_line h.answers h.answered;
+  begun = answers_begin start after h.bytes bad_line h.answers h.answered;
   written = appends_all s.output s.output_after h.answers h.written;
 }
+
+pub all_begun : (start : Machine StoredBatches) (s : Streams) (bad_line : Option ℕ) → StepsAll start s bad_line → StepsSome start s
+all_begun start s bad_line h = to_begun start h.after s bad_line h.steps
+
+-- however it ended
+pub ended_begun : (start after : Machine StoredBatches) (s : Streams) (end : RunEnd) → StepsOn start after s end → StepsSome start s
+ended_begun start after s ends.Done h = to_begun start after s None h.0
+ended_begun start after s (ends.BadLine line) h = to_begun start after s (Some line) h
+ended_begun start after s ends.Failed h = h
+
+-- where the exporter lost no batch
+pub ended_whole : (start after : Machine StoredBatches) (s : Streams) (end : RunEnd) → after.exporter.lost ≡ 0 → StepsOn start after s end → Steps start s end
+ended_whole start after s ends.Done none h = (record { after = after; steps = h.0; loses_none = none }, h.1)
+ended_whole start after s (ends.BadLine line) none h = record { after = after; steps = h; loses_none = none }
+ended_whole start after s ends.Failed none h = h

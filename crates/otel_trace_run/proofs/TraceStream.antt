@@ -26,6 +26,8 @@ use Rattle.otel_trace_session.specs.declared.session.FeedError.{FeedError}
 use Rattle.otel_trace_session.specs.declared.session.FeedError.TheVariants as feeds
 use Rattle.otel_trace_session.proofs.Forgetting.{RecallsNothingElse}
 use Rattle.otel_trace_session.proofs.RunLemmas.{runs_join}
+use Rattle.otel_kept.specs.RecalledBatches.{LeavesAsMany}
+use Rattle.otel_trace_session.proofs.CloseLemmas.{EndsWell}
 use Rattle.otel_trace_session.proofs.Streaming.{runs_whole, streams_finish, streams_forget, streams_more, streams_nothing}
 use Rattle.otel_otlp.specs.Streams.{AppendsBeginning}
 use Rattle.otel_trace_run.specs.Pieces.{GivesLines, KeepsAll, PlainPieces}
@@ -373,12 +375,13 @@ module _ {P S G : Type 0} (calls : Calls P S G) (form : Form) (law : RecallsNoth
 
   -- what was fed and closed well, all of it written
   pub all_closed : (now : SessionState P S G) (input after output reached output_after : Option (List ℕ)) (bad_line : Option ℕ) (closing : List ℕ) → FeedsPieces calls form begun now (streams input after output reached) bad_line
-      → Closes calls form now [] (Ok tt) closing → Appends reached output_after closing → TracesAll calls form begun (streams input after output output_after) bad_line
-  all_closed now input after output reached output_after bad_line closing h k written = record {
+      → LeavesAsMany calls.queues calls.keeps.recalled → EndsWell calls form now form.minds_drops closing → Appends reached output_after closing → TracesAll calls form begun (streams input after output output_after) bad_line
+  unfolding closes_behind
+  all_closed now input after output reached output_after bad_line closing h leaves k written = record {
     bytes = h.bytes;
     text = texts form h.replies ++ closing;
     all = h.all;
-    finishes = streams_finish calls law form begun now h.bytes bad_line h.replies (texts form h.replies ++ closing) h.follows h.none_refused (closes_behind now (Ok tt) (texts form h.replies) closing k);
+    finishes = streams_finish calls law form begun now h.bytes bad_line h.replies (texts form h.replies ++ closing) leaves h.follows h.none_refused (closes_behind now (Ok tt) (texts form h.replies) closing k.closes) k.leaves_none k.drops_none;
     written = Appends-trans output reached output_after (texts form h.replies) closing h.written written;
   }
 
@@ -391,11 +394,11 @@ module _ {P S G : Type 0} (calls : Calls P S G) (form : Form) (law : RecallsNoth
 
   -- a session was fed and closed well, and all was written
   pub closed_as : (now : SessionState P S G) (input after output reached output_after : Option (List ℕ)) (end : RunEnd) (closing : List ℕ) → FedAs calls form begun now (streams input after output reached) end
-      → Closes calls form now [] (Ok tt) closing → Appends reached output_after closing
+      → LeavesAsMany calls.queues calls.keeps.recalled → EndsWell calls form now form.minds_drops closing → Appends reached output_after closing
       → EndsAs (TracesAll calls form begun (streams input after output output_after)) (TracesSome calls form begun (streams input after output output_after)) (streams input after output output_after) end
-  closed_as now input after output reached output_after ends.Done closing h k written = (all_closed now input after output reached output_after None closing h.0 k written, h.1)
-  closed_as now input after output reached output_after (ends.BadLine line) closing h k written = all_closed now input after output reached output_after (Some line) closing h k written
-  closed_as now input after output reached output_after ends.Failed closing h k written = some_closed input output reached output_after now (Ok tt) closing h k (appends_all reached output_after closing written) after
+  closed_as now input after output reached output_after ends.Done closing h leaves k written = (all_closed now input after output reached output_after None closing h.0 leaves k written, h.1)
+  closed_as now input after output reached output_after (ends.BadLine line) closing h leaves k written = all_closed now input after output reached output_after (Some line) closing h leaves k written
+  closed_as now input after output reached output_after ends.Failed closing h leaves k written = some_closed input output reached output_after now (Ok tt) closing h k.closes (appends_all reached output_after closing written) after
 
   -- how feeding ends at a bad line
   pub fed_bad : (now : SessionState P S G) (s : Streams) (line : ℕ) (end : RunEnd) → (end ≡ ends.Failed) ⊎ (end ≡ ends.BadLine line) → FeedsPieces calls form begun now s (Some line) → CarriesOutSome calls form begun s.input (Appends s.output s.output_after)

@@ -1,5 +1,5 @@
 -- What the modes `picture` and `svg` do with their streams: all spans that a session exports are drawn.
-use Rattle.std.specs.Prelude.{◌≡◌, ◌⊎◌, ℕ, Bool, true, false, List, [], ◌∷◌, ◌++◌, Option, All, IsTrue}
+use Rattle.std.specs.Prelude.{◌≡◌, ◌⊎◌, ℕ, Bool, true, false, List, [], ◌∷◌, ◌++◌, Option, All, IsTrue, sum_by}
 use Rattle.std.specs.Io.KnownBytes.{Appends, IsAtEnd}
 use Rattle.otel_export.specs.PlainSpanData.{PlainSpanData, spans_in}
 use Rattle.otel_export.specs.declared.error.OTelSdkError.TheVariants as errors
@@ -70,10 +70,11 @@ module _ {P S G : Type 0} (calls : Calls P S G) where
 module _ {P S G : Type 0} (calls : Calls P S G) (Paints : Painting)
     (provider : ProviderState P S G) where
   -- one session carried out a text, up to its first bad line, and closed as in the mode `trace`, and this is what was
-  -- painted of all spans that it exported, in order
+  -- painted of all spans that it exported, in order; none was dropped at a full queue
   pub record Draws (bytes : List ℕ) (bad_line : Option ℕ) (picture : List ℕ) : Type 0 where
     pub replied : List ℕ
     pub finishes : Finishes calls reply_lines (session_under calls.keeps provider) bytes bad_line replied
+    pub drops_none : sum_by calls.queues.dropped_over finishes.closes.provider.processors ≡ 0
     pub drawn : Paints (spans_in (exported_since calls provider finishes.closes.provider)) picture
 
   -- the output was given the picture of the whole input

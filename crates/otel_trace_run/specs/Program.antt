@@ -10,7 +10,7 @@ use Rattle.otel_resource.specs.Resource.{PlainResource}
 use Rattle.otel_sampling.specs.Sampler.{plan, always_on, parent_based}
 use Rattle.otel_sampling.specs.declared.trace.sampler.SamplerOf.{SamplerOf}
 use Rattle.otel_sampling.specs.declared.trace.sampler.ShouldSample as sampling
-use Rattle.otel_sampling.specs.declared.trace.id_generator.IdGenerator as drawing
+use Rattle.otel_sampling.specs.declared.trace.id_generator.GivesIds as drawing
 use Rattle.otel_batch.specs.PlainBatchConfig.{PlainBatchConfig, cut_to_queue, default_batch_config}
 use Rattle.otel_export.specs.RecalledBatches.{exporter_recalled}
 use Rattle.otel_export.specs.StoredBatches.{StoredBatches}
@@ -49,7 +49,7 @@ new_memory = exporters.Memory (record { batches = []; lost = 0 })
 -- the processor that is asked for, over such an exporter: an open simple one, or a batch processor of these sizes in
 -- whose queue nothing waits. A batch has no more spans than may wait
 abbrev pub processor_of : {C D : Type 0} → AskedProcessor → MemoryProcessor C D
-processor_of asks.Simple = kinds.Simple (record { exporter = new_memory; is_shut = false })
+processor_of asks.Simple = kinds.Simple (first_simple new_memory)
 processor_of (asks.Batch queue batch) =
     let config : PlainBatchConfig =
     record default_batch_config { max_queue_size = queue; max_export_batch_size = batch } in

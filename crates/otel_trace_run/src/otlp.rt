@@ -18,7 +18,7 @@ use otel_kept::KeepsBatches;
 use otel_otlp::write_request;
 use otel_pipeline::trace::ProviderOf;
 use otel_resource::resource::{Resource, ResourceStrings};
-use otel_sampling::trace::{IdGenerator, ShouldSample};
+use otel_sampling::trace::{GivesIds, ShouldSample};
 use otel_trace_lines::lines::number_of;
 use otel_trace_lines::{Answer, ReplyForm};
 use std::alloc::{AllocError, Global};
@@ -99,6 +99,10 @@ impl ReplyForm for OtlpLines {
     ) -> Result<(), AllocError> {
         self.write_lines(output, batches)
     }
+
+    fn minds_drops(&self) -> bool {
+        true
+    }
 }
 
 /// What the words of the mode `otlp` ask for, and the attributes string behind them, if one is given; none where the
@@ -160,14 +164,15 @@ pub(crate) fn resource_of(alloc: Global, given: &[String]) -> Result<Resource, A
 }
 
 /// Carries out the lines of an input by one session under a provider, and writes the batches that it exports.
-pub(crate) fn export_input<P: KeepsBatches, S: ShouldSample, G: IdGenerator, R: Read, W: Write>(
+pub(crate) fn export_input<P: KeepsBatches, S: ShouldSample, G: GivesIds, R: Read, W: Write>(
     alloc: Global,
     provider: ProviderOf<P, S, G>,
     resource: Resource,
     input: &mut R,
     output: &mut W,
 ) -> RunEnd
-    ensures { ExportsUnder (calls_of P.SpanProcessor P.DrainDue.own P.KeepsBatches.own S.ShouldSample G.IdGenerator)
+    ensures { ExportsUnder
+        (calls_of P.SpanProcessor P.DrainDue.own P.LeavesSpans.own P.KeepsBatches.own S.ShouldSample G.GivesIds)
         resource provider
         (streams (R.remaining input.old) (R.remaining input.new) (W.contents output.old) (W.contents output.new))
         result }

@@ -21,9 +21,9 @@ use otel_otlp::stream::write_whole;
 use otel_picture::svg::write_svg;
 use otel_picture::text::{COLUMNS, write_text};
 use otel_pipeline::trace::ProviderOf;
-use otel_sampling::trace::{IdGenerator, ShouldSample};
+use otel_sampling::trace::{GivesIds, ShouldSample};
 use otel_trace_lines::lines::number_of;
-use otel_trace_lines::{Answer, Command, Reply, Script, parse};
+use otel_trace_lines::{Answer, Command, Reply, ReplyLines, Script, parse};
 use otel_trace_session::Session;
 use std::alloc::{AllocError, Global};
 use std::io;
@@ -132,7 +132,7 @@ fn columns_in(given: &[String]) -> Option<u32>
 pub(crate) fn draw_input<
     P: KeepsBatches,
     S: ShouldSample,
-    G: IdGenerator,
+    G: GivesIds,
     D: SpanPainter,
     R: Read,
     W: Write,
@@ -143,7 +143,8 @@ pub(crate) fn draw_input<
     input: &mut R,
     output: &mut W,
 ) -> RunEnd
-    ensures { DrawsUnder (calls_of P.SpanProcessor P.DrainDue.own P.KeepsBatches.own S.ShouldSample G.IdGenerator)
+    ensures { DrawsUnder
+        (calls_of P.SpanProcessor P.DrainDue.own P.LeavesSpans.own P.KeepsBatches.own S.ShouldSample G.GivesIds)
         (D.paints painter.now) provider
         (streams (R.remaining input.old) (R.remaining input.new) (W.contents output.old) (W.contents output.new))
         result }
@@ -157,13 +158,14 @@ pub(crate) fn draw_input<
     };
     let drawn = draw_lines(alloc, &mut session, painter, input);
     let mut left = Vec::new(alloc);
-    let closed = session.close(&mut left);
+    let mut lines = ReplyLines::new(alloc);
+    let closed = session.close_in(&mut lines, &mut left);
     let Some(drawn) = drawn else {
         return RunEnd::Failed;
     };
-    let Ok(()) = closed else {
+    if !closed.lost_nothing(true) {
         return RunEnd::Failed;
-    };
+    }
     let Ok(()) = write_whole(output, &drawn.picture) else {
         return RunEnd::Failed;
     };
@@ -175,14 +177,14 @@ pub(crate) fn draw_input<
 
 /// Carries out the lines of an input, up to the first bad one, and a shutdown behind them, and draws the spans that
 /// were exported. None where reading, memory or the shutdown failed, or a batch was lost.
-fn draw_lines<P: KeepsBatches, S: ShouldSample, G: IdGenerator, D: SpanPainter, R: Read>(
+fn draw_lines<P: KeepsBatches, S: ShouldSample, G: GivesIds, D: SpanPainter, R: Read>(
     alloc: Global,
     session: &mut Session<P, S, G>,
     painter: &D,
     input: &mut R,
 ) -> Option<Drawn>
     ensures { IfSome result (λ drawn. DrawsLines
-        (calls_of P.SpanProcessor P.DrainDue.own P.KeepsBatches.own S.ShouldSample G.IdGenerator)
+        (calls_of P.SpanProcessor P.DrainDue.own P.LeavesSpans.own P.KeepsBatches.own S.ShouldSample G.GivesIds)
         (D.paints painter.now) session.old (R.remaining input.old) (R.remaining input.new)
         drawn.bad_line drawn.picture.items session.new) }
 {
@@ -208,13 +210,13 @@ fn read_script<R: Read>(alloc: Global, input: &mut R) -> io::Result<Script>
 
 /// Carries out commands and a shutdown behind them, and gives the spans that were exported. None where memory ran out,
 /// a processor refused a span, a batch was lost or the shutdown failed.
-fn exported_by<P: KeepsBatches, S: ShouldSample, G: IdGenerator>(
+fn exported_by<P: KeepsBatches, S: ShouldSample, G: GivesIds>(
     alloc: Global,
     session: &mut Session<P, S, G>,
     commands: Vec<Command>,
 ) -> Option<Vec<SpanData>>
     ensures { IfSome result (λ spans. RunsOut
-        (calls_of P.SpanProcessor P.DrainDue.own P.KeepsBatches.own S.ShouldSample G.IdGenerator)
+        (calls_of P.SpanProcessor P.DrainDue.own P.LeavesSpans.own P.KeepsBatches.own S.ShouldSample G.GivesIds)
         session.old commands.items spans.items session.new) }
 {
     let mut replies = Vec::new(alloc);
@@ -235,12 +237,12 @@ fn exported_by<P: KeepsBatches, S: ShouldSample, G: IdGenerator>(
 }
 
 /// Shuts the provider of a session down where it is open.
-fn shut_down<P: KeepsBatches, S: ShouldSample, G: IdGenerator>(
+fn shut_down<P: KeepsBatches, S: ShouldSample, G: GivesIds>(
     alloc: Global,
     session: &mut Session<P, S, G>,
 ) -> Option<Vec<Reply>>
     ensures { IfSome result (λ replies. RunsShutdown
-        (calls_of P.SpanProcessor P.DrainDue.own P.KeepsBatches.own S.ShouldSample G.IdGenerator)
+        (calls_of P.SpanProcessor P.DrainDue.own P.LeavesSpans.own P.KeepsBatches.own S.ShouldSample G.GivesIds)
         session.old replies.items session.new) }
 {
     let mut commands = Vec::new(alloc);

@@ -46,7 +46,7 @@ use otel_pipeline::trace::provider::provider_over;
 use otel_pipeline::trace::{DrainDue, ProviderOf, SimpleSpanProcessor, SpanProcessor};
 use otel_resource::resource::Resource;
 use otel_sampling::trace::{
-    ConfigOf, IdGenerator, RandomIdGenerator, SamplerOf, SamplingDecision, SamplingResult,
+    ConfigOf, GivesIds, RandomIdGenerator, SamplerOf, SamplingDecision, SamplingResult,
     ShouldSample, SpanLimits,
 };
 use otel_trace_lines::ReplyLines;
@@ -165,7 +165,7 @@ pub fn run_program<R: Read, W: Write, F: Write>(
     ensures trace { (asked : Asked) → AsksFor (map string_bytes words.now) asked → EndsTracing
         (memory_calls ⟦<TraceProcessor as SpanProcessor>⟧
         (record { due_gives = ⟦<TraceProcessor as DrainDue>⟧.due_gives })
-        ⟦<TraceSampler as ShouldSample>⟧ ⟦<RandomIdGenerator as IdGenerator>⟧) asked
+        ⟦<TraceSampler as ShouldSample>⟧ ⟦<RandomIdGenerator as GivesIds>⟧) asked
         (streams (R.remaining input.old) (R.remaining input.new) (W.contents output.old) (W.contents output.new))
         (faults.new ≡ faults.old) (Appends (F.contents faults.old) (F.contents faults.new)) result }
 
@@ -174,7 +174,7 @@ pub fn run_program<R: Read, W: Write, F: Write>(
         EndsExporting
         (memory_calls ⟦<TraceProcessor as SpanProcessor>⟧
         (record { due_gives = ⟦<TraceProcessor as DrainDue>⟧.due_gives })
-        ⟦<TraceSampler as ShouldSample>⟧ ⟦<RandomIdGenerator as IdGenerator>⟧) asked given
+        ⟦<TraceSampler as ShouldSample>⟧ ⟦<RandomIdGenerator as GivesIds>⟧) asked given
         (streams (R.remaining input.old) (R.remaining input.new) (W.contents output.old) (W.contents output.new))
         (faults.new ≡ faults.old) (Appends (F.contents faults.old) (F.contents faults.new)) result }
 
@@ -183,7 +183,7 @@ pub fn run_program<R: Read, W: Write, F: Write>(
         EndsDrawing
         (memory_calls ⟦<TraceProcessor as SpanProcessor>⟧
         (record { due_gives = ⟦<TraceProcessor as DrainDue>⟧.due_gives })
-        ⟦<TraceSampler as ShouldSample>⟧ ⟦<RandomIdGenerator as IdGenerator>⟧) asked
+        ⟦<TraceSampler as ShouldSample>⟧ ⟦<RandomIdGenerator as GivesIds>⟧) asked
         (⟦<PictureForm as SpanPainter>⟧.paints form)
         (streams (R.remaining input.old) (R.remaining input.new) (W.contents output.old) (W.contents output.new))
         (faults.new ≡ faults.old) (Appends (F.contents faults.old) (F.contents faults.new)) result }
@@ -228,7 +228,7 @@ fn run_otlp<R: Read, W: Write>(
     ensures { Exports
         (memory_calls ⟦<TraceProcessor as SpanProcessor>⟧
         (record { due_gives = ⟦<TraceProcessor as DrainDue>⟧.due_gives })
-        ⟦<TraceSampler as ShouldSample>⟧ ⟦<RandomIdGenerator as IdGenerator>⟧)
+        ⟦<TraceSampler as ShouldSample>⟧ ⟦<RandomIdGenerator as GivesIds>⟧)
         asked (map string_bytes given.now)
         (streams (R.remaining input.old) (R.remaining input.new) (W.contents output.old) (W.contents output.new))
         result }
@@ -267,7 +267,7 @@ fn run_picture<R: Read, W: Write>(
     ensures { DrawsTo
         (memory_calls ⟦<TraceProcessor as SpanProcessor>⟧
         (record { due_gives = ⟦<TraceProcessor as DrainDue>⟧.due_gives })
-        ⟦<TraceSampler as ShouldSample>⟧ ⟦<RandomIdGenerator as IdGenerator>⟧)
+        ⟦<TraceSampler as ShouldSample>⟧ ⟦<RandomIdGenerator as GivesIds>⟧)
         asked (⟦<PictureForm as SpanPainter>⟧.paints form)
         (streams (R.remaining input.old) (R.remaining input.new) (W.contents output.old) (W.contents output.new))
         result }

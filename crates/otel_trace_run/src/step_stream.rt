@@ -4,7 +4,7 @@
 ghost use Rattle.std.specs.Prelude.{◌≡◌, ◌++◌, ◌+◌, ◌⊎◌, List, ℕ, IfOk, IfSome, OnErr, length};
 ghost use Rattle.std.specs.Io.KnownBytes.{Appends};
 ghost use Rattle.otel_otlp.specs.Streams.{AppendsBeginning};
-ghost use Rattle.otel_trace_run.specs.StepRuns.{Steps};
+ghost use Rattle.otel_trace_run.specs.StepRuns.{Steps, StepsOn};
 ghost use Rattle.otel_trace_run.specs.Streams.{streams};
 ghost use Rattle.otel_trace_steps.specs.StepAnswers.{AnswersLines, BeginsAnswers, machine_of};
 
@@ -19,7 +19,7 @@ use std::alloc::Global;
 use std::io;
 use std::io::{Read, Write};
 
-/// Answers an input by the steps of a new batch queue.
+/// Answers an input by the steps of a new batch queue. It fails where the exporter lost a batch, which a reply told.
 pub fn step_input<R: Read, W: Write>(
     alloc: Global,
     sizes: Sizes,
@@ -31,7 +31,13 @@ pub fn step_input<R: Read, W: Write>(
         result }
 {
     match machine_sized(alloc, sizes) {
-        Ok(mut machine) => step_stream(alloc, &mut machine, input, output),
+        Ok(mut machine) => {
+            let end = step_stream(alloc, &mut machine, input, output);
+            if machine.exporter().lost_batches() > 0 {
+                return RunEnd::Failed;
+            }
+            end
+        }
         Err(_) => RunEnd::Failed,
     }
 }
@@ -43,7 +49,7 @@ fn step_stream<R: Read, W: Write>(
     input: &mut R,
     output: &mut W,
 ) -> RunEnd
-    ensures { Steps machine.old
+    ensures { StepsOn machine.old machine.new
         (streams (R.remaining input.old) (R.remaining input.new) (W.contents output.old) (W.contents output.new))
         result }
 {

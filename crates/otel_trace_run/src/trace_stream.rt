@@ -21,7 +21,7 @@ use crate::run_end::RunEnd;
 use otel_kept::KeepsBatches;
 use otel_otlp::stream::write_whole;
 use otel_pipeline::trace::ProviderOf;
-use otel_sampling::trace::{IdGenerator, ShouldSample};
+use otel_sampling::trace::{GivesIds, ShouldSample};
 use otel_trace_lines::ReplyForm;
 use otel_trace_session::{FeedError, Session};
 use std::alloc::Global;
@@ -29,21 +29,15 @@ use std::io;
 use std::io::{Read, Write};
 
 /// Carries out the lines of an input by one session under a provider.
-pub fn trace_input<
-    P: KeepsBatches,
-    S: ShouldSample,
-    G: IdGenerator,
-    F: ReplyForm,
-    R: Read,
-    W: Write,
->(
+pub fn trace_input<P: KeepsBatches, S: ShouldSample, G: GivesIds, F: ReplyForm, R: Read, W: Write>(
     alloc: Global,
     provider: ProviderOf<P, S, G>,
     form: &mut F,
     input: &mut R,
     output: &mut W,
 ) -> RunEnd
-    ensures { TracesUnder (calls_of P.SpanProcessor P.DrainDue.own P.KeepsBatches.own S.ShouldSample G.IdGenerator)
+    ensures { TracesUnder
+        (calls_of P.SpanProcessor P.DrainDue.own P.LeavesSpans.own P.KeepsBatches.own S.ShouldSample G.GivesIds)
         (F.form form.old) provider
         (streams (R.remaining input.old) (R.remaining input.new) (W.contents output.old) (W.contents output.new))
         result }
@@ -58,15 +52,17 @@ pub fn trace_input<
 }
 
 /// Carries out the lines of an input by a session, and closes that. Where reading or writing failed, what the closing
-/// exports is not written, so that the output is a beginning.
-fn trace_session<P: KeepsBatches, S: ShouldSample, G: IdGenerator, F: ReplyForm, R: Read, W: Write>(
+/// exports is not written, so that the output is a beginning. It fails too where spans are left waiting in a processor
+/// whose shutdown was refused, and where a queue dropped a span and the form minds that.
+fn trace_session<P: KeepsBatches, S: ShouldSample, G: GivesIds, F: ReplyForm, R: Read, W: Write>(
     alloc: Global,
     mut session: Session<P, S, G>,
     form: &mut F,
     input: &mut R,
     output: &mut W,
 ) -> RunEnd
-    ensures { Traces (calls_of P.SpanProcessor P.DrainDue.own P.KeepsBatches.own S.ShouldSample G.IdGenerator)
+    ensures { Traces
+        (calls_of P.SpanProcessor P.DrainDue.own P.LeavesSpans.own P.KeepsBatches.own S.ShouldSample G.GivesIds)
         (F.form form.old) session
         (streams (R.remaining input.old) (R.remaining input.new) (W.contents output.old) (W.contents output.new))
         result }
@@ -81,15 +77,15 @@ fn trace_session<P: KeepsBatches, S: ShouldSample, G: IdGenerator, F: ReplyForm,
     let Ok(()) = write_whole(output, &text) else {
         return RunEnd::Failed;
     };
-    match closed {
-        Ok(()) => end,
-        Err(_) => RunEnd::Failed,
+    if !closed.lost_nothing(form.minds_drops()) {
+        return RunEnd::Failed;
     }
+    end
 }
 
 /// Feeds an input to a session, piece by piece, and writes its replies. Fails where reading or writing does. `text` is
 /// room for them.
-fn feed_pieces<P: KeepsBatches, S: ShouldSample, G: IdGenerator, F: ReplyForm, R: Read, W: Write>(
+fn feed_pieces<P: KeepsBatches, S: ShouldSample, G: GivesIds, F: ReplyForm, R: Read, W: Write>(
     alloc: Global,
     session: &mut Session<P, S, G>,
     form: &mut F,
@@ -98,12 +94,12 @@ fn feed_pieces<P: KeepsBatches, S: ShouldSample, G: IdGenerator, F: ReplyForm, R
     output: &mut W,
 ) -> io::Result<RunEnd>
     ensures ok { IfOk result (λ end. FedAs
-        (calls_of P.SpanProcessor P.DrainDue.own P.KeepsBatches.own S.ShouldSample G.IdGenerator)
+        (calls_of P.SpanProcessor P.DrainDue.own P.LeavesSpans.own P.KeepsBatches.own S.ShouldSample G.GivesIds)
         (F.form form.old) session.old session.new
         (streams (R.remaining input.old) (R.remaining input.new) (W.contents output.old) (W.contents output.new))
         end) }
     ensures err { OnErr result (CarriesOutSome
-        (calls_of P.SpanProcessor P.DrainDue.own P.KeepsBatches.own S.ShouldSample G.IdGenerator)
+        (calls_of P.SpanProcessor P.DrainDue.own P.LeavesSpans.own P.KeepsBatches.own S.ShouldSample G.GivesIds)
         (F.form form.old) session.old (R.remaining input.old)
         (AppendsBeginning (W.contents output.old) (W.contents output.new))) }
     ensures form { F.form form.new ≡ F.form form.old }
@@ -133,7 +129,7 @@ fn feed_pieces<P: KeepsBatches, S: ShouldSample, G: IdGenerator, F: ReplyForm, R
 
 /// Feeds lines to a session, writes and sends on its replies, and has it forget what they show. `text` is room for
 /// them.
-fn feed_piece<P: KeepsBatches, S: ShouldSample, G: IdGenerator, F: ReplyForm, W: Write>(
+fn feed_piece<P: KeepsBatches, S: ShouldSample, G: GivesIds, F: ReplyForm, W: Write>(
     session: &mut Session<P, S, G>,
     form: &mut F,
     lines: &[u8],
@@ -141,11 +137,11 @@ fn feed_piece<P: KeepsBatches, S: ShouldSample, G: IdGenerator, F: ReplyForm, W:
     output: &mut W,
 ) -> io::Result<Result<(), FeedError>>
     ensures ok { IfOk result (λ fed. FeedsPiece
-        (calls_of P.SpanProcessor P.DrainDue.own P.KeepsBatches.own S.ShouldSample G.IdGenerator)
+        (calls_of P.SpanProcessor P.DrainDue.own P.LeavesSpans.own P.KeepsBatches.own S.ShouldSample G.GivesIds)
         (F.form form.old) session.old lines.now fed (Appends (W.contents output.old) (W.contents output.new))
         session.new) }
     ensures err { OnErr result ((fed : Result (Unit {0}) FeedError) × FeedsPiece
-        (calls_of P.SpanProcessor P.DrainDue.own P.KeepsBatches.own S.ShouldSample G.IdGenerator)
+        (calls_of P.SpanProcessor P.DrainDue.own P.LeavesSpans.own P.KeepsBatches.own S.ShouldSample G.GivesIds)
         (F.form form.old) session.old lines.now fed
         (AppendsBeginning (W.contents output.old) (W.contents output.new)) session.new) }
     ensures form { F.form form.new ≡ F.form form.old }

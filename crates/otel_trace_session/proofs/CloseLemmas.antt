@@ -7,7 +7,9 @@ use Rattle.otel_export.specs.declared.error.OTelSdkError.{OTelSdkError}
 use Rattle.otel_trace_lines.specs.ReplyForm.{Form}
 use Rattle.otel_pipeline.specs.Provider.{ProviderState}
 use Rattle.otel_trace_session.specs.Calls.{Calls, batches_of_first, losses_of_first}
-use Rattle.otel_trace_session.specs.Closing.{Closes, WritesLast, WritesNone, or_no_memory}
+use Rattle.std.specs.Prelude.{IsTrue, sum_by}
+use Rattle.otel_trace_session.specs.declared.session.ClosedSession.{ClosedSession}
+use Rattle.otel_trace_session.specs.Closing.{Closes, ClosesAs, LostNothing, WritesLast, WritesNone, or_no_memory}
 use Rattle.otel_trace_session.specs.ProviderTurns.{ShutsIfOpen}
 use Rattle.otel_trace_session.specs.Shown.{has_lost}
 use Rattle.otel_trace_session.specs.Turns.{SessionState}
@@ -31,22 +33,22 @@ as_many : (lost before : ℕ) → not (lost == before) ≡ false → lost ≡ be
 as_many lost before e = grind (arith, nat_tests)
 
 -- by whether a batch was lost, and whether the text was written
-pub closes : {P S G : Type 0} (calls : Calls P S G) (form : Form) (session : SessionState P S G) (provider : ProviderState P S G)
+pub writes_rest : {P S G : Type 0} (calls : Calls P S G) (form : Form) (session : SessionState P S G) (provider : ProviderState P S G)
     (shutdown : Result (Unit {0}) OTelSdkError) (written : Result (Unit {0}) AllocError) (lost : Bool) (answer : Result (Unit {0}) OTelSdkError) (before now : List ℕ)
-    → ShutsIfOpen calls.processor session.provider shutdown provider
     → lost ≡ has_lost calls.keeps (record session { provider = provider })
     → OnOk written (now ≡ before ++ form.rest (drop session.shown (batches_of_first calls.keeps provider.processors))) → OnErr written (now ≡ before)
     → (form.rest (drop session.shown (batches_of_first calls.keeps provider.processors)) ≡ [] → IsOk written)
     → answer ≡ (if lost || is_err written then or_no_memory shutdown else shutdown)
-    → Closes calls form session before answer now
-closes calls form session provider shutdown (Ok done) true answer before now shuts counted ok err free answers =
-    record { provider = provider; shutdown = shutdown; shuts = shuts; writes = inl (record { answers = answers ∙ ap (answer_of shutdown) counted; written = ok }) }
-closes calls form session provider shutdown (Ok done) false answer before now shuts counted ok err free answers =
-    record { provider = provider; shutdown = shutdown; shuts = shuts; writes = inl (record { answers = answers ∙ ap (answer_of shutdown) counted; written = ok }) }
-closes calls form session provider shutdown (Err error) true answer before now shuts counted ok err free answers =
-    record { provider = provider; shutdown = shutdown; shuts = shuts; writes = inr (record { answers = answers; written = err; is_some = fails_on_err free }) }
-closes calls form session provider shutdown (Err error) false answer before now shuts counted ok err free answers =
-    record { provider = provider; shutdown = shutdown; shuts = shuts; writes = inr (record { answers = answers; written = err; is_some = fails_on_err free }) }
+    → WritesLast calls.keeps form (record session { provider = provider }) shutdown before answer now
+    ⊎ WritesNone calls.keeps form (record session { provider = provider }) shutdown before answer now
+writes_rest calls form session provider shutdown (Ok done) true answer before now counted ok err free answers =
+    inl (record { answers = answers ∙ ap (answer_of shutdown) counted; written = ok })
+writes_rest calls form session provider shutdown (Ok done) false answer before now counted ok err free answers =
+    inl (record { answers = answers ∙ ap (answer_of shutdown) counted; written = ok })
+writes_rest calls form session provider shutdown (Err error) true answer before now counted ok err free answers =
+    inr (record { answers = answers; written = err; is_some = fails_on_err free })
+writes_rest calls form session provider shutdown (Err error) false answer before now counted ok err free answers =
+    inr (record { answers = answers; written = err; is_some = fails_on_err free })
 
 -- a session that closed well lost no batch since it began
 pub none_lost : {P S G : Type 0} (calls : Calls P S G) (form : Form) (session : SessionState P S G) (before now : List ℕ)
@@ -57,3 +59,30 @@ none_lost {P} {S} {G} calls form session before now closed = by closed.writes
         → losses_of_first calls.keeps closed.provider.processors ≡ session.lost_before
     by (inl h) = as_many (losses_of_first calls.keeps closed.provider.processors) session.lost_before (well (not (losses_of_first calls.keeps closed.provider.processors == session.lost_before)) closed.shutdown h.answers)
     by (inr h) = absurd (never_well closed.shutdown h.answers)
+
+-- a session closed after a text with an answer, and left and where that is minded dropped no span
+record EndsAfter {P S G : Type 0} (calls : Calls P S G) (form : Form) (session : SessionState P S G) (minds_drops : Bool)
+    (before : List ℕ) (said : Result (Unit {0}) OTelSdkError) (now : List ℕ) : Type 0 where
+  pub closes : Closes calls form session before said now
+  pub leaves_none : sum_by calls.queues.open_over closes.provider.processors ≡ 0
+  pub drops_none : IsTrue minds_drops → sum_by calls.queues.dropped_over closes.provider.processors ≡ 0
+
+-- a session that closed well on a new text, and left and where that is minded dropped no span
+pub record EndsWell {P S G : Type 0} (calls : Calls P S G) (form : Form) (session : SessionState P S G) (minds_drops : Bool)
+    (now : List ℕ) : Type 0 where
+  pub closes : Closes calls form session [] (Ok tt) now
+  pub leaves_none : sum_by calls.queues.open_over closes.provider.processors ≡ 0
+  pub drops_none : IsTrue minds_drops → sum_by calls.queues.dropped_over closes.provider.processors ≡ 0
+
+pub ends_well : {P S G : Type 0} (calls : Calls P S G) (form : Form) (session : SessionState P S G) (before now : List ℕ)
+    (closed : ClosedSession) (minds_drops : Bool) → before ≡ [] → LostNothing closed minds_drops
+    → ClosesAs calls form session before closed now → EndsWell calls form session minds_drops now
+ends_well calls form session before now closed minds_drops none lost closes =
+    let ends : EndsAfter calls form session minds_drops before closed.answer now = record {
+      closes = closes.closes;
+      leaves_none = sym closes.left_open ∙ lost.left_open;
+      drops_none = λ minds. sym closes.dropped ∙ lost.dropped minds;
+    } in
+    let anew = subst (λ (b : List ℕ). EndsAfter calls form session minds_drops b closed.answer now) none ends in
+    let well = subst (λ (said : Result (Unit {0}) OTelSdkError). EndsAfter calls form session minds_drops [] said now) lost.answer anew in
+    record { closes = well.closes; leaves_none = well.leaves_none; drops_none = well.drops_none }

@@ -44,11 +44,15 @@ fed_some calls feeds.BatchLost old new bytes replies h = h
 pub finishes : {P S G : Type 0} (calls : Calls P S G) (form : Form) (session after : SessionState P S G)
     (bytes : List ℕ) (bad_line : Option ℕ) (written now : List ℕ)
     → Writes form [] written (λ replies. FeedsUpTo calls session bytes bad_line replies after)
-    → Closes calls form after written (Ok tt) now → Finishes calls form session bytes bad_line now
-finishes calls form session after bytes bad_line written now fed closes = record {
+    → (closes : Closes calls form after written (Ok tt) now) → sum_by calls.queues.open_over closes.provider.processors ≡ 0
+    → (IsTrue form.minds_drops → sum_by calls.queues.dropped_over closes.provider.processors ≡ 0)
+    → Finishes calls form session bytes bad_line now
+finishes calls form session after bytes bad_line written now fed closes left dropped = record {
   written = written;
   after = after;
   feeds = fed;
   closes = closes;
   loses_none = none_lost calls form after written now closes ∙ fed.these.ran.lost_before;
+  leaves_none = left;
+  drops_none = dropped;
 }

@@ -11,7 +11,7 @@ use Rattle.otel_pipeline.specs.Each.{Each}
 use Rattle.otel_pipeline.specs.Ending.{Delivers, TakesAndTells}
 use Rattle.otel_export.specs.KeptBatches.{Grows, appends_none}
 use Rattle.otel_kept.specs.ProcessorKeeps.{OnlyAppends}
-use Rattle.otel_pipeline.specs.Provider.{FlushesProcessor, ProviderState, RunsProcessor, ShutsDown, ShutsProcessor, shut_answer}
+use Rattle.otel_pipeline.specs.Provider.{unstarted_context, FlushesProcessor, ProviderState, RunsProcessor, ShutsDown, ShutsProcessor, shut_answer}
 use Rattle.otel_pipeline.specs.SpanHistory.{PlainSpan, SpanStart, SpanHistory, begun, over, span_of}
 use Rattle.otel_pipeline.specs.StartRequest.{StartRequest}
 use Rattle.otel_pipeline.specs.Starting.{PassesThrough, DecidesStart, StartsOpen}
@@ -93,7 +93,7 @@ module _ {P S G : Type 0} (calls : Calls P S G) (law : OnlyAppends calls.process
   nobody_loses said histories turn h = loses_nothing calls.keeps turn.before.provider.processors turn.behind.provider.processors (ap (λ (c : Course P S G). c.provider.processors) h.rest)
 
   started_loses : (starts_nothing : Bool) (old new : ProviderState P S G) (request : StartRequest) (history : SpanHistory)
-      → MatchBool starts_nothing ((history ≡ over empty_span_context old.span_limits) × (new ≡ old)) (StartsOpen calls.processor calls.sampler calls.ids old request history new)
+      → MatchBool starts_nothing ((history ≡ over (unstarted_context old request.cx) old.span_limits) × (new ≡ old)) (StartsOpen calls.processor calls.sampler calls.ids old request history new)
       → LosesNothing calls.keeps old.processors new.processors
   started_loses true old new request history h = loses_nothing calls.keeps old.processors new.processors (ap (λ (r : ProviderState P S G). r.processors) h.1)
   started_loses false old new request history h = decided_keeps calls.processor calls.timer calls.keeps law h.answer.decision request.cx _ old.processors new.processors history h.decided

@@ -1,12 +1,14 @@
 -- What texts do that are fed one after another, with batches forgotten between them.
-use Rattle.std.proofs.Common.{◌≡◌, ◌==◌, ◌++◌, ◌+◌, ◌⊎◌, inl, inr, ℕ, Bool, not, if◌then◌else◌, List, [], ◌∷◌, Option, None, Result, Ok, length, refl, sym, ◌∙◌, ap, subst, arith}
+use Rattle.std.proofs.Common.{◌≡◌, ◌==◌, ◌++◌, ◌+◌, ◌⊎◌, inl, inr, ℕ, Bool, not, if◌then◌else◌, List, [], ◌∷◌, Option, None, Result, Ok, length, refl, sym, ◌∙◌, ap, subst, arith, sum_by}
+use Rattle.std.specs.Prelude.{IsTrue}
+use Rattle.std.proofs.lemmas.List.Sums.{sum_by-cons}
 use Rattle.std.specs.Prelude.{option_map}
 use Rattle.std.specs.Io.{IsEmptyOrEndsWith}
 use Rattle.std.specs.Str.Lines.{lines}
 use Rattle.std.proofs.lemmas.List.{length-append, map-append}
 use Rattle.otel_export.specs.declared.error.OTelSdkError.{OTelSdkError}
 use Rattle.otel_export.specs.PlainSpanData.{PlainSpanData}
-use Rattle.otel_kept.specs.RecalledBatches.{FirstRecalled}
+use Rattle.otel_kept.specs.RecalledBatches.{FirstRecalled, LeavesAsMany}
 use Rattle.otel_trace_lines.specs.Commands.{PlainCommand, plain_command, plain_commands}
 use Rattle.otel_trace_lines.specs.Lines.{TextSpells}
 use Rattle.otel_trace_lines.specs.PlainReply.{PlainReply, NoneRefused}
@@ -114,10 +116,26 @@ module _ {P S G : Type 0} (calls : Calls P S G) (law : RecallsNothingElse calls)
       → Streams calls begun bytes bad_line replies now → HasForgotten calls.keeps now after → Streams calls begun bytes bad_line replies after
   streams_forget begun now after bytes bad_line replies h k = record { whole = h.whole; feeds = h.feeds; forgot = forgot_more h.whole now after h.forgot k }
 
+  -- as many are counted in processors of which the first has batches recalled
+  first_counts : (count : P → ℕ) → ((bs : Batches) (p r : P) → calls.keeps.recalled bs p r → count r ≡ count p)
+      → (bs : Batches) (ps rs : List P) → FirstRecalled calls.keeps.recalled bs ps rs → sum_by count rs ≡ sum_by count ps
+  first_counts count same bs [] [] h = refl
+  first_counts count same bs [] (r ∷ rs) h = absurd h
+  first_counts count same bs (p ∷ ps) [] h = absurd h
+  first_counts count same bs (p ∷ ps) (r ∷ rs) h =
+      let one = same bs p r h.0 in
+      rw (sum_by-cons count r rs, sum_by-cons count p ps, one, h.1) refl
+
+  -- how a session closes that has forgotten nothing, beside these processors of one that has forgotten batches
+  record ClosesWhole (form : Form) (whole : SessionState P S G) (before : List ℕ) (answer : Result (Unit {0}) OTelSdkError) (after : List ℕ) (bs : Batches) (ps : List P) : Type 0 where
+    pub closes : Closes calls form whole before answer after
+    pub first : FirstRecalled calls.keeps.recalled bs ps closes.provider.processors
+
   -- a session that has forgotten batches closes as it would, had it never forgotten any
-  pub closes_whole : (form : Form) (whole now : SessionState P S G) (before after : List ℕ) (answer : Result (Unit {0}) OTelSdkError)
-      → HasForgotten calls.keeps whole now → Closes calls form now before answer after → Closes calls form whole before answer after
-  closes_whole form whole now before after answer h k =
+  closed_whole : (form : Form) (whole now : SessionState P S G) (before after : List ℕ) (answer : Result (Unit {0}) OTelSdkError)
+      → (h : HasForgotten calls.keeps whole now) (k : Closes calls form now before answer after)
+      → ClosesWhole form whole before answer after h.batches k.provider.processors
+  closed_whole form whole now before after answer h k =
       let again = shuts_or_again calls law h.batches (Ok tt) now.provider h.processors k.shutdown k.provider h.first k.shuts in
       let lost = lost_again calls law h.batches k.provider.processors again.0 again.1 in
       let shown = shown_again calls law h.batches now.shown k.provider.processors again.0 again.1 in
@@ -125,11 +143,14 @@ module _ {P S G : Type 0} (calls : Calls P S G) (law : RecallsNothingElse calls)
       = ap (λ (n : ℕ). not (n == now.lost_before)) (sym lost) in
       let same_shown : unshown calls.keeps (record now { provider = k.provider }) ≡ unshown calls.keeps (record now { provider = record k.provider { processors = again.0 }; shown = length h.batches + now.shown })
       = sym shown in
-      subst (λ (s : SessionState P S G). Closes calls form s before answer after) (sym h.rest) (record {
-        provider = record k.provider { processors = again.0 };
-        shutdown = k.shutdown;
-        shuts = again.2;
-        writes = by k.writes same_lost same_shown;
+      subst (λ (s : SessionState P S G). ClosesWhole form s before answer after h.batches k.provider.processors) (sym h.rest) (record {
+        closes = record {
+          provider = record k.provider { processors = again.0 };
+          shutdown = k.shutdown;
+          shuts = again.2;
+          writes = by k.writes same_lost same_shown;
+        };
+        first = again.1;
       })
     where
       by : {closed whole : SessionState P S G} {shutdown : Result (Unit {0}) OTelSdkError}
@@ -146,12 +167,24 @@ module _ {P S G : Type 0} (calls : Calls P S G) (law : RecallsNothingElse calls)
         is_some = λ none. w.is_some (ap form.rest f ∙ none);
       })
 
+  pub closes_whole : (form : Form) (whole now : SessionState P S G) (before after : List ℕ) (answer : Result (Unit {0}) OTelSdkError)
+      → HasForgotten calls.keeps whole now → Closes calls form now before answer after → Closes calls form whole before answer after
+  closes_whole form whole now before after answer h k = (closed_whole form whole now before after answer h k).closes
+
   -- a session that was fed pieces, and closed well
   pub streams_finish : (form : Form) (begun now : SessionState P S G) (bytes : List ℕ) (bad_line : Option ℕ)
       (replies : List PlainReply) (text : List ℕ)
-      → Streams calls begun bytes bad_line replies now → NoneRefused replies
-      → Closes calls form now (texts form replies) (Ok tt) text → Finishes calls form begun bytes bad_line text
-  streams_finish form begun now bytes bad_line replies text h none closed =
+      → LeavesAsMany calls.queues calls.keeps.recalled → Streams calls begun bytes bad_line replies now → NoneRefused replies
+      → (closed : Closes calls form now (texts form replies) (Ok tt) text)
+      → sum_by calls.queues.open_over closed.provider.processors ≡ 0
+      → (IsTrue form.minds_drops → sum_by calls.queues.dropped_over closed.provider.processors ≡ 0)
+      → Finishes calls form begun bytes bad_line text
+  streams_finish form begun now bytes bad_line replies text leaves h none closed left dropped =
+      let whole = closed_whole form h.whole now (texts form replies) text (Ok tt) h.forgot closed in
+      let ps = closed.provider.processors in
+      let rs = whole.closes.provider.processors in
       finishes calls form begun h.whole bytes bad_line (texts form replies) text
       (record { replies = replies; written = refl; none_refused = none; these = h.feeds })
-      (closes_whole form h.whole now (texts form replies) text (Ok tt) h.forgot closed)
+      whole.closes
+      (first_counts calls.queues.open_over (λ bs p r same. (leaves bs p r same).0) h.forgot.batches ps rs whole.first ∙ left)
+      (λ minds. first_counts calls.queues.dropped_over (λ bs p r same. (leaves bs p r same).1) h.forgot.batches ps rs whole.first ∙ dropped minds)

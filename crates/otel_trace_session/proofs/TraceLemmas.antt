@@ -6,7 +6,7 @@ use Rattle.opentelemetry.specs.Plain.{PlainScope, PlainSpanContext}
 use Rattle.opentelemetry.specs.PlainContexts.{empty_span_context, root_cx}
 use Rattle.otel_sampling.specs.Agreement.{Agrees}
 use Rattle.otel_pipeline.specs.Hops.{GoesByParents}
-use Rattle.otel_pipeline.specs.Provider.{ProviderState}
+use Rattle.otel_pipeline.specs.Provider.{unstarted_context, ProviderState}
 use Rattle.otel_pipeline.specs.SpanHistory.{PlainSpan, SpanHistory, Edit, begun, over, span_of}
 use Rattle.otel_pipeline.specs.StartRequest.{StartRequest}
 use Rattle.otel_pipeline.specs.Starting.{StartsOpen}
@@ -170,7 +170,7 @@ module _ {P S G : Type 0} (calls : Calls P S G) where
   nobody_stays said histories turn h = stays turn.before.provider turn.behind.provider turn.before.provider (ap (λ (c : Course P S G). c.provider) h.rest) (refl, refl)
 
   open_stays : (b : Bool) (old new : ProviderState P S G) (request : StartRequest) (history : SpanHistory)
-      → MatchBool b ((history ≡ over empty_span_context old.span_limits) × (new ≡ old)) (StartsOpen calls.processor calls.sampler calls.ids old request history new) → Stays old new
+      → MatchBool b ((history ≡ over (unstarted_context old request.cx) old.span_limits) × (new ≡ old)) (StartsOpen calls.processor calls.sampler calls.ids old request history new) → Stays old new
   open_stays true old new request history h = stays old new old h.1 (refl, refl)
   open_stays false old new request history h = stays old new (record old { processors = new.processors; id_generator = new.id_generator }) h.rest (refl, refl)
 

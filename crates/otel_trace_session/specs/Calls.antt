@@ -2,25 +2,27 @@
 use Rattle.std.specs.Prelude.{ℕ, List, [], slice_get}
 use Rattle.std.specs.Option.{option_map_or}
 use Rattle.otel_sampling.specs.declared.trace.sampler.ShouldSample as sampling
-use Rattle.otel_sampling.specs.declared.trace.id_generator.IdGenerator as drawing
+use Rattle.otel_sampling.specs.declared.trace.id_generator.GivesIds as drawing
 use Rattle.otel_export.specs.PlainSpanData.{PlainSpanData}
 use Rattle.otel_pipeline.specs.declared.trace.span_processor.SpanProcessor.{Ghosts}
 use Rattle.otel_pipeline.specs.declared.trace.drain_due.DrainDue as timing
+use Rattle.otel_pipeline.specs.declared.trace.leaves_spans.LeavesSpans as leaving
 use Rattle.otel_kept.specs.declared.keeps_batches.KeepsBatches as keeping
 
 -- what is said of the calls of a session's processors, of its sampler and of its source of ids
 pub record Calls (P S G : Type 0) : Type 1 where
   pub processor : Ghosts P
   pub timer : timing.Ghosts P
+  pub queues : leaving.Ghosts P
   pub keeps : keeping.Ghosts P
   pub sampler : sampling.Ghosts S
   pub ids : drawing.Ghosts G
 
 -- the same, from each of the traits
-abbrev pub calls_of : {P S G : Type 0} → Ghosts P → timing.Ghosts P → keeping.Ghosts P → sampling.Ghosts S
-    → drawing.Ghosts G → Calls P S G
-calls_of processor timer keeps sampler ids =
-    record { processor = processor; timer = timer; keeps = keeps; sampler = sampler; ids = ids }
+abbrev pub calls_of : {P S G : Type 0} → Ghosts P → timing.Ghosts P → leaving.Ghosts P → keeping.Ghosts P
+    → sampling.Ghosts S → drawing.Ghosts G → Calls P S G
+calls_of processor timer queues keeps sampler ids =
+    record { processor = processor; timer = timer; queues = queues; keeps = keeps; sampler = sampler; ids = ids }
 
 -- the batches that the first of these processors keeps
 abbrev pub batches_of_first : {P : Type 0} → keeping.Ghosts P → List P → List (List PlainSpanData)

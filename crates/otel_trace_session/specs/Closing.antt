@@ -1,5 +1,6 @@
 -- What closing a session does, and what of it is written, in a form.
 use Rattle.std.specs.Prelude.{◌≡◌, ◌≢◌, ◌⊎◌, ◌++◌, ℕ, List, [], Option, Result, Ok, Err, if◌then◌else◌}
+use Rattle.std.specs.Prelude.{Bool, IsTrue, sum_by}
 use Rattle.otel_export.specs.declared.error.OTelSdkError.{OTelSdkError}
 use Rattle.otel_export.specs.declared.error.OTelSdkError.TheVariants as errors
 use Rattle.otel_pipeline.specs.Provider.{ProviderState}
@@ -10,11 +11,18 @@ use Rattle.otel_trace_session.specs.Fed.{FeedsUpTo, Writes}
 use Rattle.otel_trace_session.specs.ProviderTurns.{ShutsIfOpen}
 use Rattle.otel_trace_session.specs.Shown.{has_lost, unshown}
 use Rattle.otel_trace_session.specs.Turns.{SessionState}
+use Rattle.otel_trace_session.specs.declared.session.ClosedSession.{ClosedSession}
 
 -- want of memory, unless there is an error already
 abbrev pub or_no_memory : Result (Unit {0}) OTelSdkError → Result (Unit {0}) OTelSdkError
 or_no_memory (Ok _) = Err errors.OutOfMemory
 or_no_memory (Err error) = Err error
+
+-- a session closed well, left no span waiting, and where that is minded none found a full queue
+pub record LostNothing (closed : ClosedSession) (minds_drops : Bool) : Type 0 where
+  pub answer : closed.answer ≡ Ok tt
+  pub left_open : closed.left_open ≡ 0
+  pub dropped : IsTrue minds_drops → closed.dropped ≡ 0
 
 module _ {P S G : Type 0} (keeps : keeping.Ghosts P) (form : Form) (closed : SessionState P S G)
     (shutdown : Result (Unit {0}) OTelSdkError) (before : List ℕ) where
@@ -41,7 +49,15 @@ module _ {P S G : Type 0} (calls : Calls P S G) (form : Form) where
     pub writes : WritesLast calls.keeps form (record session { provider = provider }) shutdown before answer now
         ⊎ WritesNone calls.keeps form (record session { provider = provider }) shutdown before answer now
 
-  -- a text was fed to a session, whole or up to its first bad line, and the session closed well: no batch was lost
+  -- how a session closed: as its answer says, and with what its processors leave behind
+  pub record ClosesAs (session : SessionState P S G) (before : List ℕ) (closed : ClosedSession) (now : List ℕ)
+      : Type 0 where
+    pub closes : Closes session before closed.answer now
+    pub left_open : closed.left_open ≡ sum_by calls.queues.open_over closes.provider.processors
+    pub dropped : closed.dropped ≡ sum_by calls.queues.dropped_over closes.provider.processors
+
+  -- a text was fed to a session, whole or up to its first bad line, and the session closed well: no batch was lost, no
+  -- span waits in a processor that is open, and where the form minds that, none found a full queue
   pub record Finishes (session : SessionState P S G) (bytes : List ℕ) (bad_line : Option ℕ)
       (now : List ℕ) : Type 0 where
     pub written : List ℕ
@@ -49,3 +65,5 @@ module _ {P S G : Type 0} (calls : Calls P S G) (form : Form) where
     pub feeds : Writes form [] written (λ replies. FeedsUpTo calls session bytes bad_line replies after)
     pub closes : Closes after written (Ok tt) now
     pub loses_none : losses_of_first calls.keeps closes.provider.processors ≡ session.lost_before
+    pub leaves_none : sum_by calls.queues.open_over closes.provider.processors ≡ 0
+    pub drops_none : IsTrue form.minds_drops → sum_by calls.queues.dropped_over closes.provider.processors ≡ 0

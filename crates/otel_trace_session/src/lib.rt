@@ -7,4 +7,4 @@ pub mod laws;
 mod open_spans;
 pub mod session;
 
-pub use session::{FeedError, RunError, Session};
+pub use session::{ClosedSession, FeedError, RunError, Session};

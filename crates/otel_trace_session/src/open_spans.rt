@@ -28,7 +28,7 @@ use crate::headers::answer_with_headers;
 use opentelemetry::{Context, Moment};
 use otel_kept::KeepsBatches;
 use otel_pipeline::trace::{ProviderOf, SdkTracer, Span, SpanEdit, SpanProcessor};
-use otel_sampling::trace::{IdGenerator, ShouldSample};
+use otel_sampling::trace::{GivesIds, ShouldSample};
 use otel_trace_lines::{Answer, SpanIdentity};
 use std::alloc::{AllocError, Global};
 use std::collections::BTreeMap;
@@ -68,7 +68,7 @@ impl OpenSpans {
 
     /// Starts a span under a name in a context. The name's place in the map comes first, so that a start that is
     /// refused asked no processor.
-    pub(crate) fn start_in<P: KeepsBatches, S: ShouldSample, G: IdGenerator>(
+    pub(crate) fn start_in<P: KeepsBatches, S: ShouldSample, G: GivesIds>(
         &mut self,
         span: String,
         cx: &Context,
@@ -78,10 +78,10 @@ impl OpenSpans {
         now: Moment,
     ) -> Result<Answer, AllocError>
         ensures ok { IfOk result (λ answer. TakesTurn (StartTurn (calls_of P.SpanProcessor P.DrainDue.own
-            P.KeepsBatches.own S.ShouldSample G.IdGenerator) (start_in tracer.now cx.now (string_bytes span)
+            P.LeavesSpans.own P.KeepsBatches.own S.ShouldSample G.GivesIds) (start_in tracer.now cx.now (string_bytes span)
             (string_bytes name) now.0)) provider.old self.old answer provider.new self.new) }
         ensures asks { OnErr result (MayStart
-            (calls_of P.SpanProcessor P.DrainDue.own P.KeepsBatches.own S.ShouldSample G.IdGenerator)
+            (calls_of P.SpanProcessor P.DrainDue.own P.LeavesSpans.own P.KeepsBatches.own S.ShouldSample G.GivesIds)
             provider.old cx.now (string_bytes name) now.0 (named self.old (string_bytes span)) provider.new) }
         ensures err { OnErr result (SameSpans self.old self.new) }
     {
@@ -89,7 +89,7 @@ impl OpenSpans {
     }
 
     /// Starts a span under a name, as a child of the span of another name.
-    pub(crate) fn start_child<P: KeepsBatches, S: ShouldSample, G: IdGenerator>(
+    pub(crate) fn start_child<P: KeepsBatches, S: ShouldSample, G: GivesIds>(
         &mut self,
         span: String,
         parent: &str,
@@ -99,11 +99,11 @@ impl OpenSpans {
         now: Moment,
     ) -> Result<Answer, AllocError>
         ensures ok { IfOk result (λ answer. TakesTurn (λ turn. ChildTurn (calls_of P.SpanProcessor P.DrainDue.own
-            P.KeepsBatches.own S.ShouldSample G.IdGenerator)
+            P.LeavesSpans.own P.KeepsBatches.own S.ShouldSample G.GivesIds)
             (start_in tracer.now root_cx (string_bytes span) (string_bytes name) now.0)
             (turn.before.histories parent.now) turn) provider.old self.old answer provider.new self.new) }
-        ensures asks { OnErr result (ChildMayStart (calls_of P.SpanProcessor P.DrainDue.own P.KeepsBatches.own
-            S.ShouldSample G.IdGenerator) provider.old (named self.old parent.now) (string_bytes name) now.0
+        ensures asks { OnErr result (ChildMayStart (calls_of P.SpanProcessor P.DrainDue.own P.LeavesSpans.own P.KeepsBatches.own
+            S.ShouldSample G.GivesIds) provider.old (named self.old parent.now) (string_bytes name) now.0
             (named self.old (string_bytes span)) provider.new) }
         ensures err { OnErr result (SameSpans self.old self.new) }
     {
@@ -178,7 +178,7 @@ impl OpenSpans {
 }
 
 /// Starts a span under a name of a map, in a context. The name's place comes first.
-fn start_under<P: KeepsBatches, S: ShouldSample, G: IdGenerator>(
+fn start_under<P: KeepsBatches, S: ShouldSample, G: GivesIds>(
     spans: &mut BTreeMap<String, Span>,
     span: String,
     cx: &Context,
@@ -187,11 +187,11 @@ fn start_under<P: KeepsBatches, S: ShouldSample, G: IdGenerator>(
     name: String,
     now: Moment,
 ) -> Result<Answer, AllocError>
-    ensures ok { IfOk result (λ answer. TakesTurn (StartTurn (calls_of P.SpanProcessor P.DrainDue.own P.KeepsBatches.own
-        S.ShouldSample G.IdGenerator) (start_in tracer.now cx.now (string_bytes span) (string_bytes name) now.0))
+    ensures ok { IfOk result (λ answer. TakesTurn (StartTurn (calls_of P.SpanProcessor P.DrainDue.own P.LeavesSpans.own P.KeepsBatches.own
+        S.ShouldSample G.GivesIds) (start_in tracer.now cx.now (string_bytes span) (string_bytes name) now.0))
         provider.old (by_name spans.old.entries) answer provider.new (by_name spans.new.entries)) }
     ensures asks { OnErr result (MayStart
-        (calls_of P.SpanProcessor P.DrainDue.own P.KeepsBatches.own S.ShouldSample G.IdGenerator)
+        (calls_of P.SpanProcessor P.DrainDue.own P.LeavesSpans.own P.KeepsBatches.own S.ShouldSample G.GivesIds)
         provider.old cx.now (string_bytes name) now.0 (named (by_name spans.old.entries) (string_bytes span))
         provider.new) }
     ensures err { OnErr result (SameSpans (by_name spans.old.entries) (by_name spans.new.entries)) }

@@ -2,7 +2,7 @@
 //! the histories of its spans, apart from the code that fills them.
 
 ghost use Rattle.std.specs.Prelude.{◌≡◌, ◌++◌, ◌∷◌, [], drop, length, map, is_err, ◌||◌, if◌then◌else◌, IfErr, IfOk};
-ghost use Rattle.std.specs.Prelude.{OnOk, OnErr, codes, string_bytes};
+ghost use Rattle.std.specs.Prelude.{◌↔◌, IsTrue, OnOk, OnErr, codes, string_bytes, true};
 ghost use Rattle.opentelemetry.specs.Plain.{scope_named, text};
 ghost use Rattle.opentelemetry.specs.PlainContexts.{root_cx};
 ghost use Rattle.otel_export.specs.KeptBatches.{Grows};
@@ -11,7 +11,7 @@ ghost use Rattle.otel_pipeline.specs.SpanHistory.{set_attribute};
 ghost use Rattle.otel_trace_lines.specs.Commands.{plain_command};
 ghost use Rattle.otel_trace_lines.specs.ReplyForm.{reply_lines};
 ghost use Rattle.otel_trace_session.specs.Calls.{batches_of_first, calls_of, losses_of_first};
-ghost use Rattle.otel_trace_session.specs.Closing.{Closes, or_no_memory};
+ghost use Rattle.otel_trace_session.specs.Closing.{Closes, ClosesAs, LostNothing, or_no_memory};
 ghost use Rattle.otel_kept.specs.RecalledBatches.{FirstRecalled};
 ghost use Rattle.otel_trace_session.specs.Forgotten.{HasForgotten};
 ghost use Rattle.otel_trace_session.specs.Fed.{FeedStops, Feeds, Writes};
@@ -32,7 +32,7 @@ use otel_export::error::{OTelSdkError, OTelSdkResult};
 use otel_export::trace::SpanData;
 use otel_kept::KeepsBatches;
 use otel_pipeline::trace::{DrainDue, ProviderOf, SdkTracer, SpanEdit, SpanProcessor};
-use otel_sampling::trace::{IdGenerator, ShouldSample};
+use otel_sampling::trace::{GivesIds, ShouldSample};
 use otel_trace_lines::{Answer, Command, Reply, ReplyForm, ReplyLines, parse};
 use std::alloc::{AllocError, AllocFailed, Global};
 use std::collections::VecDeque;
@@ -103,6 +103,27 @@ impl From<RunError> for FeedError {
     }
 }
 
+/// How a session closed, and what its processors leave behind.
+#[derive(Debug, Drop)]
+pub struct ClosedSession {
+    /// What `Session::close` answers.
+    pub answer: OTelSdkResult,
+    /// How many spans wait in the processors that are still open, because their shutdown was refused.
+    pub left_open: u128,
+    /// How many spans found a queue full.
+    pub dropped: u128,
+}
+
+impl ClosedSession {
+    /// Whether no span is lost: the session closed well, none is left waiting, and where drops are minded no queue was
+    /// full.
+    pub fn lost_nothing(&self, minds_drops: bool) -> bool
+        ensures { IsTrue result ↔ LostNothing self.now minds_drops }
+    {
+        self.answer.is_ok() && self.left_open == 0 && (!minds_drops || self.dropped == 0)
+    }
+}
+
 /// The name of the library whose spans a session makes.
 const SCOPE_NAME: &str = "otel_trace";
 
@@ -146,7 +167,7 @@ fn tracer_of<P, S, G>(
     provider.tracer(String::from_str(alloc, SCOPE_NAME)?)
 }
 
-impl<P: KeepsBatches, S: ShouldSample, G: IdGenerator> Session<P, S, G> {
+impl<P: KeepsBatches, S: ShouldSample, G: GivesIds> Session<P, S, G> {
     /// A session with no spans. It shows no batch that is kept already, and counts none that was lost already. Where
     /// there is no memory for its scope, the provider comes back.
     pub fn new(
@@ -185,10 +206,10 @@ impl<P: KeepsBatches, S: ShouldSample, G: IdGenerator> Session<P, S, G> {
     /// counted in the reply.
     pub fn run(&mut self, commands: Vec<Command>, replies: &mut Vec<Reply>) -> Result<(), RunError>
         ensures ok { OnOk result (Gains replies.old.items replies.new.items (λ added. Runs
-            (calls_of P.SpanProcessor P.DrainDue.own P.KeepsBatches.own S.ShouldSample G.IdGenerator)
+            (calls_of P.SpanProcessor P.DrainDue.own P.LeavesSpans.own P.KeepsBatches.own S.ShouldSample G.GivesIds)
             self.old commands.items added self.new)) }
         ensures err { IfErr result (λ error. Gains replies.old.items replies.new.items (λ added. RunStops
-            (calls_of P.SpanProcessor P.DrainDue.own P.KeepsBatches.own S.ShouldSample G.IdGenerator)
+            (calls_of P.SpanProcessor P.DrainDue.own P.LeavesSpans.own P.KeepsBatches.own S.ShouldSample G.GivesIds)
             error self.old commands.items added self.new)) }
     {
         let mut queue = VecDeque::from_vec(commands);
@@ -217,7 +238,7 @@ impl<P: KeepsBatches, S: ShouldSample, G: IdGenerator> Session<P, S, G> {
     /// was carried out, and behind `Memory` at most one. What that one exported is left for the next reply.
     pub fn feed(&mut self, text: &[u8], output: &mut Vec<u8>) -> Result<(), FeedError>
         ensures { Writes reply_lines output.old.items output.new.items (λ replies. Feeds
-            (calls_of P.SpanProcessor P.DrainDue.own P.KeepsBatches.own S.ShouldSample G.IdGenerator)
+            (calls_of P.SpanProcessor P.DrainDue.own P.LeavesSpans.own P.KeepsBatches.own S.ShouldSample G.GivesIds)
             self.old text.now result replies self.new) }
     {
         let mut lines = ReplyLines::new(self.alloc);
@@ -232,7 +253,7 @@ impl<P: KeepsBatches, S: ShouldSample, G: IdGenerator> Session<P, S, G> {
         output: &mut Vec<u8>,
     ) -> Result<(), FeedError>
         ensures writes { Writes (F.form form.old) output.old.items output.new.items (λ replies. Feeds
-            (calls_of P.SpanProcessor P.DrainDue.own P.KeepsBatches.own S.ShouldSample G.IdGenerator)
+            (calls_of P.SpanProcessor P.DrainDue.own P.LeavesSpans.own P.KeepsBatches.own S.ShouldSample G.GivesIds)
             self.old text.now result replies self.new) }
         ensures form { F.form form.new ≡ F.form form.old }
     {
@@ -249,17 +270,17 @@ impl<P: KeepsBatches, S: ShouldSample, G: IdGenerator> Session<P, S, G> {
     /// Ok and the lines found no memory or the first processor's exporter has lost a batch since the session began.
     pub fn close(self, output: &mut Vec<u8>) -> OTelSdkResult
         ensures { Closes
-            (calls_of P.SpanProcessor P.DrainDue.own P.KeepsBatches.own S.ShouldSample G.IdGenerator)
+            (calls_of P.SpanProcessor P.DrainDue.own P.LeavesSpans.own P.KeepsBatches.own S.ShouldSample G.GivesIds)
             reply_lines self output.old.items result output.new.items }
     {
         let mut lines = ReplyLines::new(self.alloc);
-        self.close_in(&mut lines, output)
+        self.close_in(&mut lines, output).answer
     }
 
-    /// The same, with the batches that no reply has shown in a form.
-    pub fn close_in<F: ReplyForm>(self, form: &mut F, output: &mut Vec<u8>) -> OTelSdkResult
-        ensures closes { Closes
-            (calls_of P.SpanProcessor P.DrainDue.own P.KeepsBatches.own S.ShouldSample G.IdGenerator)
+    /// The same, with the batches that no reply has shown in a form, and with what the processors leave behind.
+    pub fn close_in<F: ReplyForm>(self, form: &mut F, output: &mut Vec<u8>) -> ClosedSession
+        ensures closes { ClosesAs
+            (calls_of P.SpanProcessor P.DrainDue.own P.LeavesSpans.own P.KeepsBatches.own S.ShouldSample G.GivesIds)
             (F.form form.old) self output.old.items result output.new.items }
         ensures form { F.form form.new ≡ F.form form.old }
     {
@@ -277,8 +298,12 @@ impl<P: KeepsBatches, S: ShouldSample, G: IdGenerator> Session<P, S, G> {
         let has_lost = lost_by_first(provider.processors()) != lost_before;
         let unshown = unshown_by_first(provider.processors(), shown);
         let written = form.write_rest(output, unshown);
-        let _ = provider.close();
-        close_answer(shutdown, has_lost, written)
+        let dropped = provider.dropped_count();
+        ClosedSession {
+            answer: close_answer(shutdown, has_lost, written),
+            left_open: provider.close().left_open,
+            dropped,
+        }
     }
 
     /// Carries commands out in order, and appends each reply before the next command. It stops behind a command whose
@@ -290,11 +315,11 @@ impl<P: KeepsBatches, S: ShouldSample, G: IdGenerator> Session<P, S, G> {
         output: &mut Vec<u8>,
     ) -> Result<(), FeedError>
         ensures ok { OnOk result (Writes (F.form form.old) output.old.items output.new.items (λ replies. Runs
-            (calls_of P.SpanProcessor P.DrainDue.own P.KeepsBatches.own S.ShouldSample G.IdGenerator)
+            (calls_of P.SpanProcessor P.DrainDue.own P.LeavesSpans.own P.KeepsBatches.own S.ShouldSample G.GivesIds)
             self.old commands.items replies self.new)) }
         ensures err { IfErr result (λ error. Writes (F.form form.old) output.old.items output.new.items
             (λ replies. FeedStops
-            (calls_of P.SpanProcessor P.DrainDue.own P.KeepsBatches.own S.ShouldSample G.IdGenerator)
+            (calls_of P.SpanProcessor P.DrainDue.own P.LeavesSpans.own P.KeepsBatches.own S.ShouldSample G.GivesIds)
             error self.old commands.items replies self.new)) }
         ensures form { F.form form.new ≡ F.form form.old }
     {
@@ -329,10 +354,10 @@ impl<P: KeepsBatches, S: ShouldSample, G: IdGenerator> Session<P, S, G> {
     /// carried out, and that is the answer. Where there was no memory, it was refused.
     fn answer(&mut self, command: Command) -> Result<Answer, RunError>
         ensures ok { IfOk result (λ answer. Answers
-            (calls_of P.SpanProcessor P.DrainDue.own P.KeepsBatches.own S.ShouldSample G.IdGenerator)
+            (calls_of P.SpanProcessor P.DrainDue.own P.LeavesSpans.own P.KeepsBatches.own S.ShouldSample G.GivesIds)
             self.old command answer self.new) }
         ensures err { IfErr result (λ error. AnswerStops
-            (calls_of P.SpanProcessor P.DrainDue.own P.KeepsBatches.own S.ShouldSample G.IdGenerator)
+            (calls_of P.SpanProcessor P.DrainDue.own P.LeavesSpans.own P.KeepsBatches.own S.ShouldSample G.GivesIds)
             error self.old command self.new) }
         ensures rest { self.new ≡ record self.old { provider = self.new.provider; spans = self.new.spans } }
         ensures keeps { Grows (session_batches P.KeepsBatches.own self.old)
@@ -394,7 +419,8 @@ impl<P: KeepsBatches, S: ShouldSample, G: IdGenerator> Session<P, S, G> {
 fn shut_down<P: SpanProcessor, S: Drop, G: Drop>(
     provider: &mut ProviderOf<P, S, G>,
 ) -> OTelSdkResult
-    ensures { ShutsIfOpen P.SpanProcessor provider.old result provider.new }
+    ensures shuts { ShutsIfOpen P.SpanProcessor provider.old result provider.new }
+    ensures is_shut { provider.new.is_shut ≡ true }
 {
     match provider.shutdown() {
         Err(OTelSdkError::AlreadyShutdown) => Ok(()),
@@ -458,7 +484,7 @@ fn forget_first<P: KeepsBatches, S, G>(provider: &mut ProviderOf<P, S, G>)
 }
 
 /// Carries one command out on the parts of a session; a lost batch is no error.
-fn carry_out<P: KeepsBatches, S: ShouldSample, G: IdGenerator>(
+fn carry_out<P: KeepsBatches, S: ShouldSample, G: GivesIds>(
     alloc: Global,
     tracer: &SdkTracer,
     root: &Context,
@@ -468,10 +494,10 @@ fn carry_out<P: KeepsBatches, S: ShouldSample, G: IdGenerator>(
 ) -> Result<Answer, AllocError>
     requires { root.now ≡ root_cx }
     ensures ok { IfOk result (λ answer. TakesTurn (IsCarriedOut
-        (calls_of P.SpanProcessor P.DrainDue.own P.KeepsBatches.own S.ShouldSample G.IdGenerator)
+        (calls_of P.SpanProcessor P.DrainDue.own P.LeavesSpans.own P.KeepsBatches.own S.ShouldSample G.GivesIds)
         tracer.now (plain_command command)) provider.old spans.old answer provider.new spans.new) }
     ensures err { OnErr result (RefusesOne
-        (calls_of P.SpanProcessor P.DrainDue.own P.KeepsBatches.own S.ShouldSample G.IdGenerator)
+        (calls_of P.SpanProcessor P.DrainDue.own P.LeavesSpans.own P.KeepsBatches.own S.ShouldSample G.GivesIds)
         provider.old spans.old (plain_command command) provider.new spans.new) }
 {
     match command {

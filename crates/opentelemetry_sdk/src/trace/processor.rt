@@ -163,7 +163,8 @@ impl<E: StoresBatches, C: SpanProcessor> KeepsBatches for ProcessorOf<E, C> {
     ghost use Rattle.otel_kept.specs.RecalledBySimple.{simple_ends_over, simple_same, simple_shuts_over};
     ghost use Rattle.opentelemetry_sdk.specs.RecalledCalls.{asks_over, batch_same, ends_over};
     ghost use Rattle.opentelemetry_sdk.specs.RecalledDue.{due_over};
-    ghost use Rattle.opentelemetry_sdk.specs.RecalledByKinds.{processor_once, processor_recalled, processor_recalls};
+    ghost use Rattle.opentelemetry_sdk.specs.RecalledByKinds.{processor_leaves, processor_once, processor_recalled};
+    ghost use Rattle.opentelemetry_sdk.specs.RecalledByKinds.{processor_recalls};
     ghost use Rattle.opentelemetry_sdk.specs.RecalledLaws.{processor_heard, processor_kept, processor_lost};
     ghost use Rattle.opentelemetry_sdk.specs.RecalledLaws.{processor_more, processor_none};
     ghost use Rattle.otel_batch.specs.declared.machine.state.Request.TheVariants as request;
@@ -217,6 +218,8 @@ impl<E: StoresBatches, C: SpanProcessor> KeepsBatches for ProcessorOf<E, C> {
       more = λ bs cs p r s h g. processor_more E.SpanExporter E.recalls bs cs p r s h g;
     } };
 
+    ghost leaves = { λ bs p r h. processor_leaves E.recalled bs p r h };
+
     fn batches(&self) -> &[Vec<SpanData>] {
         match self {
             ProcessorOf::Simple(simple) => simple.exporter().batches(),
@@ -244,14 +247,15 @@ impl<E: StoresBatches, C: SpanProcessor> KeepsBatches for ProcessorOf<E, C> {
 }
 
 impl<E: SpanExporter, C: SpanProcessor> OverExporter for ProcessorOf<E, C> {
-    ghost use Rattle.std.specs.Prelude.{◌≡◌, false};
+    ghost use Rattle.std.specs.Prelude.{◌≡◌};
     ghost use Rattle.otel_batch.specs.PlainBatchConfig.{PlainBatchConfig, IsBatchConfigOf};
+    ghost use Rattle.otel_pipeline.specs.SimpleProcessor.{first_simple};
     ghost use Rattle.opentelemetry_sdk.specs.BatchProcessor.{first_processor};
     ghost use Rattle.opentelemetry_sdk.specs.declared.trace.processor.ProcessorOf.TheVariants as kinds;
 
     type Exporter = E;
 
-    ghost simple_of = { λ exporter. kinds.Simple (record { exporter = exporter; is_shut = false }) };
+    ghost simple_of = { λ exporter. kinds.Simple (first_simple exporter) };
 
     ghost batch_of = { λ exporter strings made. (config : PlainBatchConfig) × IsBatchConfigOf strings config
         × (made ≡ kinds.Batch (first_processor exporter config)) };

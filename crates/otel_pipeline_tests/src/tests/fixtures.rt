@@ -8,7 +8,7 @@ use otel_pipeline::trace::provider::provider_over;
 use otel_pipeline::trace::{DrainDue, LeavesSpans, ProviderOf, SdkTracer, Span, SpanProcessor};
 use otel_resource::resource::Resource;
 use otel_sampling::trace::{
-    ConfigOf, IdGenerator, RandomIdGenerator, SamplingDecision, SamplingResult, ShouldSample,
+    ConfigOf, GivesIds, RandomIdGenerator, SamplingDecision, SamplingResult, ShouldSample,
     SpanLimits,
 };
 use std::alloc::{AllocError, Global};
@@ -264,7 +264,7 @@ fn tracer_of<P, S, G>(rt: &impl Abort, alloc: Global, provider: &ProviderOf<P, S
 }
 
 /// Starts a span in a context at moment 7, whose builder has so many attributes.
-pub(super) fn start_in<P: SpanProcessor, S: ShouldSample, G: IdGenerator>(
+pub(super) fn start_in<P: SpanProcessor, S: ShouldSample, G: GivesIds>(
     rt: &impl Abort,
     alloc: Global,
     cx: &Context,
@@ -277,7 +277,7 @@ pub(super) fn start_in<P: SpanProcessor, S: ShouldSample, G: IdGenerator>(
 }
 
 /// Starts a root of so many attributes; where that finds no memory, the test stops with this message.
-pub(super) fn start_root<P: SpanProcessor, S: ShouldSample, G: IdGenerator>(
+pub(super) fn start_root<P: SpanProcessor, S: ShouldSample, G: GivesIds>(
     rt: &impl Abort,
     alloc: Global,
     given: usize,
@@ -288,7 +288,7 @@ pub(super) fn start_root<P: SpanProcessor, S: ShouldSample, G: IdGenerator>(
 }
 
 /// Starts a root of so many attributes, again where that finds no memory.
-pub(super) fn start_again<P: SpanProcessor, S: ShouldSample, G: IdGenerator>(
+pub(super) fn start_again<P: SpanProcessor, S: ShouldSample, G: GivesIds>(
     rt: &impl Abort,
     alloc: Global,
     given: usize,

@@ -6,7 +6,7 @@ use super::fixtures::{
 use opentelemetry::Moment;
 use otel_export::error::OTelSdkResult;
 use otel_pipeline::trace::{DrainDue, ProviderOf, Span, SpanProcessor};
-use otel_sampling::trace::{IdGenerator, SamplingDecision, ShouldSample};
+use otel_sampling::trace::{GivesIds, SamplingDecision, ShouldSample};
 use std::alloc::Global;
 use std::process::Abort;
 
@@ -21,7 +21,7 @@ fn end<P: SpanProcessor, S: Drop, G: Drop>(
 }
 
 /// Starts a span with an attribute and ends it twice. The answer is how many processors refused it at each end.
-fn start_and_end_twice<P: SpanProcessor, S: ShouldSample, G: IdGenerator>(
+fn start_and_end_twice<P: SpanProcessor, S: ShouldSample, G: GivesIds>(
     rt: &impl Abort,
     alloc: Global,
     provider: &mut ProviderOf<P, S, G>,
@@ -59,7 +59,7 @@ fn requested<P: DrainDue, S: Drop, G: Drop>(
 }
 
 /// What the processors of a provider refused and answered.
-fn asked_of<P: DrainDue, S: ShouldSample, G: IdGenerator>(
+fn asked_of<P: DrainDue, S: ShouldSample, G: GivesIds>(
     rt: &impl Abort,
     alloc: Global,
     provider: &mut ProviderOf<P, S, G>,

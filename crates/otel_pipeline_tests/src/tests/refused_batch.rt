@@ -8,7 +8,7 @@ use otel_export::trace::{ExporterBox, InMemorySpanExporter};
 use otel_kept::KeepsBatches;
 use otel_pipeline::trace::{DrainDue, OverExporter, ProviderBuilderOf, ProviderOf, SpanProcessor};
 use otel_resource::resource::Resource;
-use otel_sampling::trace::{ConfigStrings, IdGenerator, IdSource, Sampler, ShouldSample};
+use otel_sampling::trace::{ConfigStrings, GivesIds, IdSource, Sampler, ShouldSample};
 use std::alloc::Global;
 use std::process::Abort;
 
@@ -99,7 +99,7 @@ fn build_again<P: SpanProcessor, S: Drop, G: Drop>(
 }
 
 /// Exports a span. The answer is what it recorded and how many processors refused it.
-fn export<P: SpanProcessor, S: ShouldSample, G: IdGenerator>(
+fn export<P: SpanProcessor, S: ShouldSample, G: GivesIds>(
     rt: &impl Abort,
     alloc: Global,
     provider: &mut ProviderOf<P, S, G>,
@@ -136,7 +136,7 @@ fn handed_on<P: KeepsBatches, S, G>(provider: &ProviderOf<P, S, G>) -> u64 {
 
 /// Exports a span and closes the provider: what the span recorded, how many processors refused it, whether a flush was
 /// well, how many batches were handed on, whether the close was well, and how many spans it left in queues.
-fn exported<P: KeepsBatches, S: ShouldSample, G: IdGenerator>(
+fn exported<P: KeepsBatches, S: ShouldSample, G: GivesIds>(
     rt: &impl Abort,
     alloc: Global,
     mut provider: ProviderOf<P, S, G>,
@@ -153,7 +153,7 @@ fn exported<P: KeepsBatches, S: ShouldSample, G: IdGenerator>(
 }
 
 /// What comes of a span at a provider with a batch processor, whose builder is handed two resources.
-fn exported_in_a_batch<P: OverExporter + KeepsBatches, S: ShouldSample, G: IdGenerator>(
+fn exported_in_a_batch<P: OverExporter + KeepsBatches, S: ShouldSample, G: GivesIds>(
     rt: &impl Abort,
     alloc: Global,
     builder: ProviderBuilderOf<P, S, G>,
@@ -166,7 +166,7 @@ fn exported_in_a_batch<P: OverExporter + KeepsBatches, S: ShouldSample, G: IdGen
 }
 
 /// The same with a processor that exports at once, and no resource.
-fn exported_at_once<P: OverExporter + KeepsBatches, S: ShouldSample, G: IdGenerator>(
+fn exported_at_once<P: OverExporter + KeepsBatches, S: ShouldSample, G: GivesIds>(
     rt: &impl Abort,
     alloc: Global,
     builder: ProviderBuilderOf<P, S, G>,

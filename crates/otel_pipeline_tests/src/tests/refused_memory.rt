@@ -9,7 +9,7 @@ use super::fixtures::{
 use opentelemetry::Moment;
 use opentelemetry::trace::SpanContext;
 use otel_pipeline::trace::{ProviderOf, Span, SpanProcessor};
-use otel_sampling::trace::{IdGenerator, RandomIdGenerator, SamplingDecision, ShouldSample};
+use otel_sampling::trace::{GivesIds, RandomIdGenerator, SamplingDecision, ShouldSample};
 use std::alloc::{AllocError, Global};
 use std::process::Abort;
 
@@ -27,7 +27,7 @@ fn provider_with(
 }
 
 /// The text of a span that is started, again where that finds no memory, and abandoned.
-fn started_again<P: SpanProcessor, S: ShouldSample, G: IdGenerator>(
+fn started_again<P: SpanProcessor, S: ShouldSample, G: GivesIds>(
     rt: &impl Abort,
     alloc: Global,
     provider: &mut ProviderOf<P, S, G>,
@@ -131,7 +131,7 @@ fn end_again<P: SpanProcessor, S: Drop, G: Drop>(
 }
 
 /// A span that is started and edited in each way.
-fn edited<P: SpanProcessor, S: ShouldSample, G: IdGenerator>(
+fn edited<P: SpanProcessor, S: ShouldSample, G: GivesIds>(
     rt: &impl Abort,
     alloc: Global,
     provider: &mut ProviderOf<P, S, G>,
@@ -144,7 +144,7 @@ fn edited<P: SpanProcessor, S: ShouldSample, G: IdGenerator>(
 }
 
 /// Ends two such spans, one by each call. The answer is how many processors refused them.
-fn end_both<P: SpanProcessor, S: ShouldSample, G: IdGenerator>(
+fn end_both<P: SpanProcessor, S: ShouldSample, G: GivesIds>(
     rt: &impl Abort,
     alloc: Global,
     provider: &mut ProviderOf<P, S, G>,

@@ -5,13 +5,13 @@ use opentelemetry::trace::{SpanContext, TraceState};
 use opentelemetry::{Context, SpanId, TraceFlags, TraceId};
 use otel_pipeline::trace::{ProviderOf, SpanProcessor};
 use otel_sampling::trace::{
-    IdGenerator, RandomIdGenerator, SamplerOf, SamplingDecision, ShouldSample,
+    GivesIds, RandomIdGenerator, SamplerOf, SamplingDecision, ShouldSample,
 };
 use std::alloc::Global;
 use std::process::Abort;
 
 /// Starts a span in a context.
-fn start<P: SpanProcessor, S: ShouldSample, G: IdGenerator>(
+fn start<P: SpanProcessor, S: ShouldSample, G: GivesIds>(
     rt: &impl Abort,
     alloc: Global,
     cx: Context,
@@ -33,7 +33,7 @@ fn suppressed(rt: &impl Abort) -> Context {
 }
 
 /// Starts a span under a sampled one, under one that is not sampled, and where the empty span context is active.
-fn start_children<P: SpanProcessor, S: ShouldSample, G: IdGenerator>(
+fn start_children<P: SpanProcessor, S: ShouldSample, G: GivesIds>(
     rt: &impl Abort,
     alloc: Global,
     provider: &mut ProviderOf<P, S, G>,
@@ -44,7 +44,7 @@ fn start_children<P: SpanProcessor, S: ShouldSample, G: IdGenerator>(
 }
 
 /// Starts a span where telemetry is suppressed, and one at the provider that is shut down.
-fn start_in_vain<P: SpanProcessor, S: ShouldSample, G: IdGenerator>(
+fn start_in_vain<P: SpanProcessor, S: ShouldSample, G: GivesIds>(
     rt: &impl Abort,
     alloc: Global,
     provider: &mut ProviderOf<P, S, G>,
@@ -63,7 +63,7 @@ fn span_with(flags: u8) -> SpanContext {
 
 /// How often the sampler was asked once spans were started under others, once one was started at a root, and once two
 /// were where telemetry is suppressed and at a provider that was shut down.
-fn asked_by_starts<P: SpanProcessor, S: ShouldSample, G: IdGenerator>(
+fn asked_by_starts<P: SpanProcessor, S: ShouldSample, G: GivesIds>(
     rt: &impl Abort,
     alloc: Global,
     provider: &mut ProviderOf<P, S, G>,

@@ -9,7 +9,7 @@ use otel_pipeline::trace::provider::provider_over;
 use otel_pipeline::trace::{SimpleSpanProcessor, Span, SpanProcessor};
 use otel_resource::resource::Resource;
 use otel_sampling::trace::{
-    ConfigOf, IdGenerator, RandomIdGenerator, Sampler, ShouldSample, SpanLimits,
+    ConfigOf, GivesIds, RandomIdGenerator, Sampler, ShouldSample, SpanLimits,
 };
 use otel_trace_session::Session;
 use std::alloc::{AllocError, Global};
@@ -96,7 +96,7 @@ fn session_of<P: KeepsBatches, S: ShouldSample>(
 }
 
 /// Feeds a session a text, and appends a line of what stopped it.
-pub fn feed<P: KeepsBatches, S: ShouldSample, G: IdGenerator>(
+pub fn feed<P: KeepsBatches, S: ShouldSample, G: GivesIds>(
     rt: &impl Abort,
     alloc: Global,
     session: &mut Session<P, S, G>,
@@ -110,7 +110,7 @@ pub fn feed<P: KeepsBatches, S: ShouldSample, G: IdGenerator>(
 }
 
 /// Closes a session, and appends what its closing answers.
-pub fn close<P: KeepsBatches, S: ShouldSample, G: IdGenerator>(
+pub fn close<P: KeepsBatches, S: ShouldSample, G: GivesIds>(
     rt: &impl Abort,
     alloc: Global,
     session: Session<P, S, G>,

@@ -4,7 +4,7 @@ use super::fixtures::{AGAIN, SETUP, close, exporting, feed, refusing, session_ov
 use otel_export::error::OTelSdkError;
 use otel_export::trace::SpanData;
 use otel_kept::KeepsBatches;
-use otel_sampling::trace::{IdGenerator, ShouldSample};
+use otel_sampling::trace::{GivesIds, ShouldSample};
 use otel_trace_lines::{Answer, Reply, parse};
 use otel_trace_session::Session;
 use std::alloc::Global;
@@ -27,7 +27,7 @@ const LIVES: [&[u8]; 12] = [
 ];
 
 /// Runs the command of a line. The answer is whether it found memory.
-fn run<P: KeepsBatches, S: ShouldSample, G: IdGenerator>(
+fn run<P: KeepsBatches, S: ShouldSample, G: GivesIds>(
     alloc: Global,
     session: &mut Session<P, S, G>,
     line: &[u8],
@@ -40,7 +40,7 @@ fn run<P: KeepsBatches, S: ShouldSample, G: IdGenerator>(
 }
 
 /// Runs each line, again where it found no memory.
-fn run_each<P: KeepsBatches, S: ShouldSample, G: IdGenerator>(
+fn run_each<P: KeepsBatches, S: ShouldSample, G: GivesIds>(
     rt: &impl Abort,
     alloc: Global,
     session: &mut Session<P, S, G>,
@@ -101,7 +101,7 @@ fn fitting(replies: &[Reply]) -> usize {
 
 /// How many replies the runs come to, how many of them fit their lines, and how many spans they show or count as
 /// refused.
-fn came_of_runs<P: KeepsBatches, S: ShouldSample, G: IdGenerator>(
+fn came_of_runs<P: KeepsBatches, S: ShouldSample, G: GivesIds>(
     rt: &impl Abort,
     alloc: Global,
     session: &mut Session<P, S, G>,
@@ -129,7 +129,7 @@ fn a_run_that_found_no_memory_succeeds_again(rt: HostRuntime) {
 }
 
 /// Feeds a line, and feeds it again where it found no memory, which must put nothing out. The answer is whether it did.
-fn feed_again<P: KeepsBatches, S: ShouldSample, G: IdGenerator>(
+fn feed_again<P: KeepsBatches, S: ShouldSample, G: GivesIds>(
     rt: &impl Abort,
     session: &mut Session<P, S, G>,
     line: &[u8],
@@ -145,7 +145,7 @@ fn feed_again<P: KeepsBatches, S: ShouldSample, G: IdGenerator>(
 }
 
 /// Feeds each line so. The answer is how many ends were fed twice.
-fn feed_each<P: KeepsBatches, S: ShouldSample, G: IdGenerator>(
+fn feed_each<P: KeepsBatches, S: ShouldSample, G: GivesIds>(
     rt: &impl Abort,
     session: &mut Session<P, S, G>,
     output: &mut Vec<u8>,

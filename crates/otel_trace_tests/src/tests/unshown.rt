@@ -2,7 +2,7 @@
 
 use super::fixtures::{SETUP, close, exporting, feed, refusing, session_over, text_of};
 use otel_kept::KeepsBatches;
-use otel_sampling::trace::{IdGenerator, ShouldSample};
+use otel_sampling::trace::{GivesIds, ShouldSample};
 use otel_trace_session::Session;
 use std::alloc::{AllocError, Global};
 use std::fmt::Write as _;
@@ -18,7 +18,7 @@ fn start_lines(alloc: Global, count: usize) -> Result<String, AllocError> {
 }
 
 /// Feeds the end of each of so many spans by itself.
-fn feed_ends<P: KeepsBatches, S: ShouldSample, G: IdGenerator>(
+fn feed_ends<P: KeepsBatches, S: ShouldSample, G: GivesIds>(
     rt: &impl Abort,
     alloc: Global,
     session: &mut Session<P, S, G>,
@@ -32,7 +32,7 @@ fn feed_ends<P: KeepsBatches, S: ShouldSample, G: IdGenerator>(
 }
 
 /// Starts so many spans at once, ends each by itself, has the session forget what was shown, and feeds a last text.
-fn feed_all<P: KeepsBatches, S: ShouldSample, G: IdGenerator>(
+fn feed_all<P: KeepsBatches, S: ShouldSample, G: GivesIds>(
     rt: &impl Abort,
     alloc: Global,
     session: &mut Session<P, S, G>,

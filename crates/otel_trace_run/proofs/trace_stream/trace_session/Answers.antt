@@ -18,38 +18,26 @@ closed_anew calls form now session before text answer same none h =
 
 pub returns-in_default : goal.returns-in_default
 returns-in_default g c =
-    let calls = calls_of g.P.SpanProcessor g.P.DrainDue g.P.KeepsBatches g.S.ShouldSample g.G.IdGenerator in
+    let calls = calls_of g.P.SpanProcessor g.P.DrainDue g.P.LeavesSpans g.P.KeepsBatches g.S.ShouldSample g.G.GivesIds in
     let form = g.F.ReplyForm.form c.args.form.now in
     some_broken calls form g.met.P.KeepsBatches.recalls (c.args.session) _ _ _ c.in_default.ensures.err (g.R.Read.remaining c.feed_pieces-fed.new.input)
 
 pub returns-in_default-write_whole : goal.returns-in_default-write_whole
 returns-in_default-write_whole g c =
-    let calls = calls_of g.P.SpanProcessor g.P.DrainDue g.P.KeepsBatches g.S.ShouldSample g.G.IdGenerator in
+    let calls = calls_of g.P.SpanProcessor g.P.DrainDue g.P.LeavesSpans g.P.KeepsBatches g.S.ShouldSample g.G.GivesIds in
     let form = g.F.ReplyForm.form c.args.form.now in
     let now = c.feed_pieces-fed.new.session in
     let closing = c.close_in-closed.new.output.items in
-    closed_some calls form g.met.P.KeepsBatches.recalls (c.args.session) now _ _ _ _ _ c.in-Ok.end c.close_in-closed.result closing c.in-Ok.ensures.ok
-    (closed_anew calls form _ now _ closing c.close_in-closed.result c.feed_pieces-fed.ensures.form c.clear.ensures.items c.close_in-closed.ensures.closes)
+    closed_some calls form g.met.P.KeepsBatches.recalls (c.args.session) now _ _ _ _ _ c.in-Ok.end c.close_in-closed.result.answer closing c.in-Ok.ensures.ok
+    (closed_anew calls form _ now _ closing c.close_in-closed.result.answer c.feed_pieces-fed.ensures.form c.clear.ensures.items c.close_in-closed.ensures.closes.closes)
     (subst (AppendsBeginning _ _) c.deref.ensures.value c.in_default-write_whole.ensures.err)
-
-pub returns-in-Ok-closed : goal.returns-in-Ok-closed
-returns-in-Ok-closed g c =
-    let calls = calls_of g.P.SpanProcessor g.P.DrainDue g.P.KeepsBatches g.S.ShouldSample g.G.IdGenerator in
-    let form = g.F.ReplyForm.form c.args.form.now in
-    let now = c.feed_pieces-fed.new.session in
-    let closing = c.close_in-closed.new.output.items in
-    let well : c.close_in-closed.result ≡ Ok tt = search rules in
-    let closes = closed_anew calls form _ now _ closing c.close_in-closed.result c.feed_pieces-fed.ensures.form c.clear.ensures.items c.close_in-closed.ensures.closes in
-    closed_as calls form g.met.P.KeepsBatches.recalls (c.args.session) now _ _ _ _ _ c.in-Ok.end closing c.in-Ok.ensures.ok
-    (subst (λ (answer : Result (Unit {0}) OTelSdkError). Closes calls form now [] answer closing) well closes)
-    (subst (Appends _ _) c.deref.ensures.value c.in-Ok-write_whole.ensures.ok)
 
 pub returns : goal.returns
 returns g c =
-    let calls = calls_of g.P.SpanProcessor g.P.DrainDue g.P.KeepsBatches g.S.ShouldSample g.G.IdGenerator in
+    let calls = calls_of g.P.SpanProcessor g.P.DrainDue g.P.LeavesSpans g.P.KeepsBatches g.S.ShouldSample g.G.GivesIds in
     let form = g.F.ReplyForm.form c.args.form.now in
     let now = c.feed_pieces-fed.new.session in
     let closing = c.close_in-closed.new.output.items in
-    closed_some calls form g.met.P.KeepsBatches.recalls (c.args.session) now _ _ _ _ _ c.in-Ok.end c.close_in-closed.result closing c.in-Ok.ensures.ok
-    (closed_anew calls form _ now _ closing c.close_in-closed.result c.feed_pieces-fed.ensures.form c.clear.ensures.items c.close_in-closed.ensures.closes)
+    closed_some calls form g.met.P.KeepsBatches.recalls (c.args.session) now _ _ _ _ _ c.in-Ok.end c.close_in-closed.result.answer closing c.in-Ok.ensures.ok
+    (closed_anew calls form _ now _ closing c.close_in-closed.result.answer c.feed_pieces-fed.ensures.form c.clear.ensures.items c.close_in-closed.ensures.closes.closes)
     (appends_all _ _ closing (subst (Appends _ _) c.deref.ensures.value c.in-Ok-write_whole.ensures.ok))

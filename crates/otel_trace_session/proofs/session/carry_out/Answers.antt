@@ -23,7 +23,7 @@ use Rattle.otel_trace_session.proofs.session.carry_out.Goals as goal
 
 pub returns-in-Start-clause-ok : goal.returns-in-Start-clause-ok
 returns-in-Start-clause-ok g c =
-    let calls = calls_of g.P.SpanProcessor g.P.DrainDue g.P.KeepsBatches g.S.ShouldSample g.G.IdGenerator in
+    let calls = calls_of g.P.SpanProcessor g.P.DrainDue g.P.LeavesSpans g.P.KeepsBatches g.S.ShouldSample g.G.GivesIds in
     let span = string_bytes c.in-Start.span in
     let name = string_bytes c.in-Start.name in
     if_ok_map c.start_in.result (λ answer h.
@@ -33,7 +33,7 @@ returns-in-Start-clause-ok g c =
 
 pub returns-in-Child-clause-ok : goal.returns-in-Child-clause-ok
 returns-in-Child-clause-ok g c =
-    let calls = calls_of g.P.SpanProcessor g.P.DrainDue g.P.KeepsBatches g.S.ShouldSample g.G.IdGenerator in
+    let calls = calls_of g.P.SpanProcessor g.P.DrainDue g.P.LeavesSpans g.P.KeepsBatches g.S.ShouldSample g.G.GivesIds in
     let start = start_in c.args.tracer.now root_cx (string_bytes c.in-Child.span) (string_bytes c.in-Child.name) c.in-Child.moment.0 in
     if_ok_map c.start_child.result (λ answer h.
     subst (λ (command : Command). TakesTurn (IsCarriedOut calls c.args.tracer.now (plain_command command)) c.args.provider.now c.args.spans.now answer c.start_child.new.provider c.start_child.new.self) (sym c.in-Child.is)
@@ -42,7 +42,7 @@ returns-in-Child-clause-ok g c =
 
 pub returns-in_ok-cx-in-Remote-clause-ok : goal.returns-in_ok-cx-in-Remote-clause-ok
 returns-in_ok-cx-in-Remote-clause-ok g c =
-    let calls = calls_of g.P.SpanProcessor g.P.DrainDue g.P.KeepsBatches g.S.ShouldSample g.G.IdGenerator in
+    let calls = calls_of g.P.SpanProcessor g.P.DrainDue g.P.LeavesSpans g.P.KeepsBatches g.S.ShouldSample g.G.GivesIds in
     if_ok_map c.start_in-in-Remote.result (λ answer h.
     subst (λ (command : Command). TakesTurn (IsCarriedOut calls c.args.tracer.now (plain_command command)) c.args.provider.now c.args.spans.now answer c.start_in-in-Remote.new.provider c.start_in-in-Remote.new.self) (sym c.in-Remote.is)
     (carries_remote calls g.met.P.KeepsBatches.appends c.args.tracer.now c.args.provider.now c.start_in-in-Remote.new.provider c.args.spans.now c.start_in-in-Remote.new.self (string_bytes c.in-Remote.span) (string_bytes c.in-Remote.traceparent) (string_bytes c.in-Remote.name) c.in-Remote.moment.0
@@ -50,7 +50,7 @@ returns-in_ok-cx-in-Remote-clause-ok g c =
 
 pub returns-in-Attr-clause-ok : goal.returns-in-Attr-clause-ok
 returns-in-Attr-clause-ok g c =
-    let calls = calls_of g.P.SpanProcessor g.P.DrainDue g.P.KeepsBatches g.S.ShouldSample g.G.IdGenerator in
+    let calls = calls_of g.P.SpanProcessor g.P.DrainDue g.P.LeavesSpans g.P.KeepsBatches g.S.ShouldSample g.G.GivesIds in
     let span = string_bytes c.in-Attr.span in
     if_ok_map c.edit.result (λ answer h.
     subst (λ (command : Command). TakesTurn (IsCarriedOut calls c.args.tracer.now (plain_command command)) c.args.provider.now c.args.spans.now answer c.args.provider.now c.edit.new.self) (sym c.in-Attr.is)
@@ -60,7 +60,7 @@ returns-in-Attr-clause-ok g c =
 
 pub returns-in-Event-clause-ok : goal.returns-in-Event-clause-ok
 returns-in-Event-clause-ok g c =
-    let calls = calls_of g.P.SpanProcessor g.P.DrainDue g.P.KeepsBatches g.S.ShouldSample g.G.IdGenerator in
+    let calls = calls_of g.P.SpanProcessor g.P.DrainDue g.P.LeavesSpans g.P.KeepsBatches g.S.ShouldSample g.G.GivesIds in
     let span = string_bytes c.in-Event.span in
     if_ok_map c.edit-in-Event.result (λ answer h.
     subst (λ (command : Command). TakesTurn (IsCarriedOut calls c.args.tracer.now (plain_command command)) c.args.provider.now c.args.spans.now answer c.args.provider.now c.edit-in-Event.new.self) (sym c.in-Event.is)
@@ -70,7 +70,7 @@ returns-in-Event-clause-ok g c =
 
 pub returns-in-Status-clause-ok : goal.returns-in-Status-clause-ok
 returns-in-Status-clause-ok g c =
-    let calls = calls_of g.P.SpanProcessor g.P.DrainDue g.P.KeepsBatches g.S.ShouldSample g.G.IdGenerator in
+    let calls = calls_of g.P.SpanProcessor g.P.DrainDue g.P.LeavesSpans g.P.KeepsBatches g.S.ShouldSample g.G.GivesIds in
     let span = string_bytes c.in-Status.span in
     if_ok_map c.edit-in-Status.result (λ answer h.
     subst (λ (command : Command). TakesTurn (IsCarriedOut calls c.args.tracer.now (plain_command command)) c.args.provider.now c.args.spans.now answer c.args.provider.now c.edit-in-Status.new.self) (sym c.in-Status.is)
@@ -79,7 +79,7 @@ returns-in-Status-clause-ok g c =
 
 pub returns-in-Inject-clause-ok : goal.returns-in-Inject-clause-ok
 returns-in-Inject-clause-ok g c =
-    let calls = calls_of g.P.SpanProcessor g.P.DrainDue g.P.KeepsBatches g.S.ShouldSample g.G.IdGenerator in
+    let calls = calls_of g.P.SpanProcessor g.P.DrainDue g.P.LeavesSpans g.P.KeepsBatches g.S.ShouldSample g.G.GivesIds in
     if_ok_map c.inject.result (λ answer h.
     subst (λ (command : Command). TakesTurn (IsCarriedOut calls c.args.tracer.now (plain_command command)) c.args.provider.now c.args.spans.now answer c.args.provider.now c.args.spans.now) (sym c.in-Inject.is)
     (carries_inject calls g.met.P.KeepsBatches.appends c.args.tracer.now c.args.provider.now c.args.spans.now (string_bytes c.in-Inject.span) answer
@@ -87,7 +87,7 @@ returns-in-Inject-clause-ok g c =
 
 pub returns-in-End-clause-ok : goal.returns-in-End-clause-ok
 returns-in-End-clause-ok g c =
-    let calls = calls_of g.P.SpanProcessor g.P.DrainDue g.P.KeepsBatches g.S.ShouldSample g.G.IdGenerator in
+    let calls = calls_of g.P.SpanProcessor g.P.DrainDue g.P.LeavesSpans g.P.KeepsBatches g.S.ShouldSample g.G.GivesIds in
     if_ok_map c.end.result (λ answer h.
     subst (λ (command : Command). TakesTurn (IsCarriedOut calls c.args.tracer.now (plain_command command)) c.args.provider.now c.args.spans.now answer c.end.new.provider c.end.new.self) (sym c.in-End.is)
     (carries_end calls g.met.P.KeepsBatches.appends c.args.tracer.now c.args.provider.now c.end.new.provider c.args.spans.now c.end.new.self (string_bytes c.in-End.span) c.in-End.moment.0 answer
@@ -95,14 +95,14 @@ returns-in-End-clause-ok g c =
 
 pub returns-in-Flush-clause-ok : goal.returns-in-Flush-clause-ok
 returns-in-Flush-clause-ok g c =
-    let calls = calls_of g.P.SpanProcessor g.P.DrainDue g.P.KeepsBatches g.S.ShouldSample g.G.IdGenerator in
+    let calls = calls_of g.P.SpanProcessor g.P.DrainDue g.P.LeavesSpans g.P.KeepsBatches g.S.ShouldSample g.G.GivesIds in
     subst (λ (answer : Answer). TakesTurn (IsCarriedOut calls c.args.tracer.now (plain_command c.args.command)) c.args.provider.now c.args.spans.now answer c.force_flush.new.self c.args.spans.now) (sym c.answer_to_call.ensures)
     (subst (λ (command : Command). TakesTurn (IsCarriedOut calls c.args.tracer.now (plain_command command)) c.args.provider.now c.args.spans.now (call_answer c.force_flush.result) c.force_flush.new.self c.args.spans.now) (sym c.in-Flush.is)
     (carries_call calls g.met.P.KeepsBatches.appends c.args.tracer.now flush (Flushes g.P.SpanProcessor) c.args.provider.now c.force_flush.new.self c.args.spans.now c.force_flush.result (λ turn is. is) c.force_flush.ensures.flushes c.force_flush.ensures.told))
 
 pub returns-in-Run-clause-ok : goal.returns-in-Run-clause-ok
 returns-in-Run-clause-ok g c =
-    let calls = calls_of g.P.SpanProcessor g.P.DrainDue g.P.KeepsBatches g.S.ShouldSample g.G.IdGenerator in
+    let calls = calls_of g.P.SpanProcessor g.P.DrainDue g.P.LeavesSpans g.P.KeepsBatches g.S.ShouldSample g.G.GivesIds in
     subst (λ (answer : Answer). TakesTurn (IsCarriedOut calls c.args.tracer.now (plain_command c.args.command)) c.args.provider.now c.args.spans.now answer c.run_processors.new.self c.args.spans.now) (sym c.answer_to_call-in-Run.ensures)
     (subst (λ (command : Command). TakesTurn (IsCarriedOut calls c.args.tracer.now (plain_command command)) c.args.provider.now c.args.spans.now (call_answer c.run_processors.result) c.run_processors.new.self c.args.spans.now) (sym c.in-Run.is)
     (carries_call calls g.met.P.KeepsBatches.appends c.args.tracer.now (run c.in-Run.moment.0) (RunsDue g.P.SpanProcessor g.P.DrainDue c.in-Run.moment.0) c.args.provider.now c.run_processors.new.self c.args.spans.now c.run_processors.result (λ turn is. is)
@@ -110,7 +110,7 @@ returns-in-Run-clause-ok g c =
 
 pub returns-in-Shutdown-clause-ok : goal.returns-in-Shutdown-clause-ok
 returns-in-Shutdown-clause-ok g c =
-    let calls = calls_of g.P.SpanProcessor g.P.DrainDue g.P.KeepsBatches g.S.ShouldSample g.G.IdGenerator in
+    let calls = calls_of g.P.SpanProcessor g.P.DrainDue g.P.LeavesSpans g.P.KeepsBatches g.S.ShouldSample g.G.GivesIds in
     subst (λ (answer : Answer). TakesTurn (IsCarriedOut calls c.args.tracer.now (plain_command c.args.command)) c.args.provider.now c.args.spans.now answer c.shutdown.new.self c.args.spans.now) (sym c.answer_to_call-in-Shutdown.ensures)
     (subst (λ (command : Command). TakesTurn (IsCarriedOut calls c.args.tracer.now (plain_command command)) c.args.provider.now c.args.spans.now (call_answer c.shutdown.result) c.shutdown.new.self c.args.spans.now) (sym c.in-Shutdown.is)
     (carries_call calls g.met.P.KeepsBatches.appends c.args.tracer.now shutdown (Shuts g.P.SpanProcessor) c.args.provider.now c.shutdown.new.self c.args.spans.now c.shutdown.result (λ turn is. is)
@@ -118,7 +118,7 @@ returns-in-Shutdown-clause-ok g c =
 
 pub returns-in-Start-clause-err : goal.returns-in-Start-clause-err
 returns-in-Start-clause-err g c =
-    let calls = calls_of g.P.SpanProcessor g.P.DrainDue g.P.KeepsBatches g.S.ShouldSample g.G.IdGenerator in
+    let calls = calls_of g.P.SpanProcessor g.P.DrainDue g.P.LeavesSpans g.P.KeepsBatches g.S.ShouldSample g.G.GivesIds in
     on_err_both c.start_in.result (λ same h.
     subst (λ (command : Command). RefusesOne calls c.args.provider.now c.args.spans.now (plain_command command) c.start_in.new.provider c.start_in.new.self) (sym c.in-Start.is)
     (record {
@@ -129,7 +129,7 @@ returns-in-Start-clause-err g c =
 
 pub returns-in-Child-clause-err : goal.returns-in-Child-clause-err
 returns-in-Child-clause-err g c =
-    let calls = calls_of g.P.SpanProcessor g.P.DrainDue g.P.KeepsBatches g.S.ShouldSample g.G.IdGenerator in
+    let calls = calls_of g.P.SpanProcessor g.P.DrainDue g.P.LeavesSpans g.P.KeepsBatches g.S.ShouldSample g.G.GivesIds in
     on_err_both c.start_child.result (λ same h.
     subst (λ (command : Command). RefusesOne calls c.args.provider.now c.args.spans.now (plain_command command) c.start_child.new.provider c.start_child.new.self) (sym c.in-Child.is)
     (record {
@@ -140,7 +140,7 @@ returns-in-Child-clause-err g c =
 
 pub returns-in_ok-cx-in-Remote-clause-err : goal.returns-in_ok-cx-in-Remote-clause-err
 returns-in_ok-cx-in-Remote-clause-err g c =
-    let calls = calls_of g.P.SpanProcessor g.P.DrainDue g.P.KeepsBatches g.S.ShouldSample g.G.IdGenerator in
+    let calls = calls_of g.P.SpanProcessor g.P.DrainDue g.P.LeavesSpans g.P.KeepsBatches g.S.ShouldSample g.G.GivesIds in
     on_err_both c.start_in-in-Remote.result (λ same h.
     subst (λ (command : Command). RefusesOne calls c.args.provider.now c.args.spans.now (plain_command command) c.start_in-in-Remote.new.provider c.start_in-in-Remote.new.self) (sym c.in-Remote.is)
     (record {
