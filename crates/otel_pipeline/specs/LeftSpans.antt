@@ -1,4 +1,4 @@
--- Whether what a processor leaves in its queue is what it tells. The two proofs at the end stand here and not in proofs/,
+-- Whether what a processor leaves in its queue, and how many spans it dropped, is what it tells. The two proofs at the end stand here and not in proofs/,
 -- since an `impl` cites them, which may cite specs/ alone.
 use Rattle.std.specs.Prelude.{◌≡◌, ℕ, Bool, true, false, not, if◌then◌else◌, refl}
 
@@ -7,6 +7,11 @@ abbrev pub LeavesTold : (leaves_told is_open : Bool) (left waiting : ℕ) → Ty
 LeavesTold true true left waiting = left ≡ waiting
 LeavesTold true false left waiting = Unit {0}
 LeavesTold false is_open left waiting = Unit {0}
+
+-- where a processor leaves what its telling says: it dropped as many as its telling says
+abbrev pub DroppedTold : (leaves_told : Bool) (dropped told : ℕ) → Type 0
+DroppedTold true dropped told = dropped ≡ told
+DroppedTold false dropped told = Unit {0}
 
 -- a processor without a queue
 pub none_left : (is_open : Bool) → LeavesTold true is_open 0 0

@@ -268,6 +268,15 @@ impl<P: LeavesSpans, S: Drop, G: Drop> ProviderOf<P, S, G> {
     }
 }
 
+impl<P: LeavesSpans, S, G> ProviderOf<P, S, G> {
+    /// How many spans the processors dropped because their queues were full, those of all processors together.
+    pub fn dropped_count(&self) -> u128
+        ensures { result ≡ sum_by P.LeavesSpans.dropped_over self.now.processors }
+    {
+        dropped_by(&self.processors)
+    }
+}
+
 impl<P: DrainDue, S: Drop, G: Drop> ProviderOf<P, S, G> {
     /// Tells every processor the time, also after one failed, and also where the provider is shut, so that each does what
     /// is due: a batch processor drains its queue, and no other kind does anything. Failures are an `InternalFailure`
@@ -447,6 +456,17 @@ fn left_open_by<P: LeavesSpans>(processors: &[P]) -> u128
     let mut count = 0;
     for processor in processors {
         count += processor.left_open() as u128;
+    }
+    count
+}
+
+/// How many spans these processors dropped.
+fn dropped_by<P: LeavesSpans>(processors: &[P]) -> u128
+    ensures { result ≡ sum_by P.LeavesSpans.dropped_over processors.now }
+{
+    let mut count = 0;
+    for processor in processors {
+        count += processor.dropped_count() as u128;
     }
     count
 }

@@ -101,12 +101,14 @@ impl<E: SpanExporter> SpanProcessor for SimpleSpanProcessor<E> {
 }
 
 impl<E: SpanExporter> LeavesSpans for SimpleSpanProcessor<E> {
-    ghost use Rattle.std.specs.Prelude.{true, not};
+    ghost use Rattle.std.specs.Prelude.{true, not, refl};
     ghost use Rattle.otel_pipeline.specs.LeftSpans.{none_left};
 
     ghost leaves_told = { λ _. true };
 
     ghost tells_left = { λ p. none_left (not p.is_shut) };
+
+    ghost tells_dropped = { λ _. refl };
 
     /// It has no queue.
     fn stranded(&self) -> Option<usize> {
@@ -114,6 +116,10 @@ impl<E: SpanExporter> LeavesSpans for SimpleSpanProcessor<E> {
     }
 
     fn left_open(&self) -> usize {
+        0
+    }
+
+    fn dropped_count(&self) -> u64 {
         0
     }
 }
