@@ -18,6 +18,9 @@ pub trait OverExporter: SpanProcessor {
     /// Which processor with a queue is made: the exporter, the strings, and the processor.
     ghost batch_of: { Self.Exporter → PlainBatchStrings → Self → Type 0 };
 
+    /// Which processor with a queue is made that exports a full batch where the span ends that fills it.
+    ghost eager_batch_of: { Self.Exporter → PlainBatchStrings → Self → Type 0 };
+
     fn simple(alloc: Global, exporter: Self::Exporter) -> Self
         ensures { result ≡ simple_of exporter };
 
@@ -28,4 +31,12 @@ pub trait OverExporter: SpanProcessor {
         strings: &BatchStrings,
     ) -> Result<Self, AllocError>
         ensures { IfOk result (λ made. batch_of exporter strings.now made) };
+
+    /// The one for a service that calls nothing but the ends of its spans. `AllocError` as with `batch`.
+    fn eager_batch(
+        alloc: Global,
+        exporter: Self::Exporter,
+        strings: &BatchStrings,
+    ) -> Result<Self, AllocError>
+        ensures { IfOk result (λ made. eager_batch_of exporter strings.now made) };
 }

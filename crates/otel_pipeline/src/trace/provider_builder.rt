@@ -111,7 +111,8 @@ impl<P: OverExporter, S, G> ProviderBuilderOf<P, S, G> {
         self.with_span_processor(simple)
     }
 
-    /// Adds a batch processor over this exporter, which the builder's strings configure.
+    /// Adds a batch processor over this exporter, which the builder's strings configure. Its queue has no thread: a
+    /// service that calls neither `force_flush` nor `run_processors` in time loses spans once it is full.
     pub fn with_batch_exporter(self, exporter: P::Exporter) -> Result<Self, AllocFailed<Self>>
         ensures { MatchResult result
             (λ built. (batch : _) × P.batch_of exporter self.batch_strings batch
@@ -119,6 +120,20 @@ impl<P: OverExporter, S, G> ProviderBuilderOf<P, S, G> {
             (λ failed. failed.value ≡ self) }
     {
         match P::batch(self.allocator(), exporter, &self.batch_strings) {
+            Ok(batch) => self.with_span_processor(batch),
+            Err(_) => Err(AllocFailed { value: self }),
+        }
+    }
+
+    /// Adds a batch processor that exports a full batch where the span ends that fills it: the one for a service that
+    /// calls nothing but the ends of its spans. The builder's strings configure it.
+    pub fn with_eager_batch_exporter(self, exporter: P::Exporter) -> Result<Self, AllocFailed<Self>>
+        ensures { MatchResult result
+            (λ built. (batch : _) × P.eager_batch_of exporter self.batch_strings batch
+            × (built ≡ record self { processors = self.processors ++ batch ∷ [] }))
+            (λ failed. failed.value ≡ self) }
+    {
+        match P::eager_batch(self.allocator(), exporter, &self.batch_strings) {
             Ok(batch) => self.with_span_processor(batch),
             Err(_) => Err(AllocFailed { value: self }),
         }
