@@ -8,3 +8,6 @@ pub mod Resting
 pub mod Telling
 pub mod Closing
 pub mod Calls
+pub mod Fewer
+pub mod Emptying
+pub mod Eager

@@ -1,27 +1,34 @@
 -- The batch processor: a batch queue with one producer and a worker that works where it is called. Each of its calls is
 -- a run of that queue.
-use Rattle.std.specs.Prelude.{◌≡◌, ◌+◌, ℕ, true, nat_le, Option, Some, None, Result, Ok, Err, MatchBool, MatchOption}
-use Rattle.std.specs.Prelude.{MatchResult, length, if◌then◌else◌}
+use Rattle.std.specs.Prelude.{◌≡◌, ◌+◌, ◌<◌, ◌&&◌, ℕ, Bool, true, false, not, nat_le, List, [], ◌∷◌, length}
+use Rattle.std.specs.Prelude.{Option, Some, None, Result, Ok, Err, MatchBool, MatchOption, MatchResult}
+use Rattle.std.specs.Prelude.{if◌then◌else◌}
 use Rattle.std.specs.declared.alloc.AllocError.{AllocError}
 use Rattle.otel_resource.specs.Resource.{PlainResource}
 use Rattle.otel_export.specs.declared.error.OTelSdkError.{OTelSdkError}
 use Rattle.otel_export.specs.declared.error.OTelSdkError.TheVariants.{AlreadyShutdown}
-use Rattle.otel_export.specs.PlainSpanData.{PlainSpanData}
+use Rattle.otel_export.specs.PlainSpanData.{PlainSpanData, is_sampled}
 use Rattle.otel_pipeline.specs.ProcessorTelling.{ProcessorTelling}
 use Rattle.otel_batch.specs.PlainBatchConfig.{PlainBatchConfig}
 use Rattle.otel_batch.specs.MachineState.{Machine, first_machine, stranded_in}
+use Rattle.otel_batch.specs.MachineRun.{counted_up}
+use Rattle.otel_batch.specs.Drains.{has_full_batch, largest_batch}
 use Rattle.otel_batch.specs.WorkedOff.{OffersSpan, TicksAndWorks, WorkerWorks}
 use Rattle.otel_batch.specs.declared.machine.state.Request.{Request}
 use Rattle.otel_batch.specs.declared.machine.state.Request.TheVariants as request
 use Rattle.otel_export.specs.declared.trace.export.SpanExporter.{Ghosts}
+use Rattle.opentelemetry_sdk.specs.EagerExports.{OffersEagerly}
 use Rattle.opentelemetry_sdk.specs.QueueRequests.{ClosesIfOk, PostsResource, Requests, queue_telling}
 
--- a batch processor: its queue, the time between two drains by the timer in nanoseconds, and when the timer was started
--- last, if it was
+-- a batch processor: its queue, the time between two drains by the timer in nanoseconds, when the timer was started
+-- last, if it was, whether it exports a full batch where the span ends that fills it, and how many of those exports
+-- failed
 pub record BatchProcessor (E : Type 0) : Type 0 where
   pub machine : Machine E
   pub delay : ℕ
   pub last : Option ℕ
+  pub is_eager : Bool
+  pub failed_exports : ℕ
 
 -- a new batch processor: nothing waits, and the timer was not started
 abbrev pub first_processor : {E : Type 0} → E → PlainBatchConfig → BatchProcessor E
@@ -29,28 +36,75 @@ first_processor exporter config = record {
   machine = first_machine exporter config 1;
   delay = config.scheduled_delay;
   last = None;
+  is_eager = false;
+  failed_exports = 0;
 }
+
+-- a new one that exports a full batch where the span ends that fills it
+abbrev pub eager_processor : {E : Type 0} → E → PlainBatchConfig → BatchProcessor E
+eager_processor exporter config = record (first_processor exporter config) { is_eager = true }
 
 -- how many spans wait in a batch processor while it is open
 abbrev pub batch_open_over : {E : Type 0} → BatchProcessor E → ℕ
 batch_open_over p = if p.machine.control.closed then 0 else length p.machine.waiting
 
+-- the end of this span may export a batch: the processor is eager and open, and the span sampled
+abbrev pub ends_eagerly : {E : Type 0} → BatchProcessor E → PlainSpanData → Bool
+ends_eagerly p span = p.is_eager && (not p.machine.control.closed && is_sampled span)
+
 -- what a builder makes a batch processor of
 pub record BatchProcessorBuilder (E : Type 0) : Type 0 where
   pub exporter : E
   pub config : PlainBatchConfig
+  pub is_eager : Bool
+
+-- the processor that a builder makes
+abbrev pub built_processor : {E : Type 0} → BatchProcessorBuilder E → BatchProcessor E
+built_processor builder =
+    record (first_processor builder.exporter builder.config) { is_eager = builder.is_eager }
 
 module _ {E : Type 0} (calls : Ghosts E) where
   -- what a batch processor tells is what its queue tells
   abbrev pub batch_telling : BatchProcessor E → ProcessorTelling
   batch_telling p = queue_telling calls p.machine
 
-  -- an end
+  -- an end that only queues the span
+  pub record EndsByQueue (old : BatchProcessor E) (span : PlainSpanData) (refused : Bool) (new : BatchProcessor E)
+      : Type 0 where
+    pub offers : OffersSpan calls old.machine span new.machine
+    pub refusal : refused ≡ false
+    pub rest : new ≡ record old { machine = new.machine }
+
+  -- an end that exports the batch that the span fills; exports that failed are counted
+  pub record EndsEagerly (old : BatchProcessor E) (span : PlainSpanData) (refused : Bool) (new : BatchProcessor E)
+      : Type 0 where
+    pub failed : ℕ
+    pub offers : OffersEagerly calls old.machine span refused failed new.machine
+    pub rest : new ≡ record old {
+      machine = new.machine;
+      failed_exports = counted_up old.failed_exports failed;
+    }
+
+  -- an end, and whether a drain in it found no memory for a batch
   pub record BatchEnds (old : BatchProcessor E) (span : PlainSpanData) (answer : Result (Unit {0}) AllocError)
       (new : BatchProcessor E) : Type 0 where
-    pub offers : OffersSpan calls old.machine span new.machine
+    pub refused : Bool
+    pub ends : MatchBool (ends_eagerly old span) (EndsEagerly old span refused new) (EndsByQueue old span refused new)
     pub ok : answer ≡ Ok tt
-    pub rest : new ≡ record old { machine = new.machine }
+    pub is_eager : new.is_eager ≡ old.is_eager
+    pub largest : largest_batch new.machine.control ≡ largest_batch old.machine.control
+    -- an eager processor with a place in its queue drops no span, unless a drain of this end found no memory
+    pub loses_none : old.is_eager ≡ true → 0 < largest_batch old.machine.control → refused ≡ false
+        → new.machine.control.dropped ≡ old.machine.control.dropped
+    -- then fewer spans wait afterwards than a batch has
+    pub below : ends_eagerly old span ≡ true → 0 < largest_batch old.machine.control → refused ≡ false
+        → has_full_batch new.machine ≡ false
+
+  -- ends at a batch processor, one after another, in none of which a drain found no memory for a batch
+  abbrev pub EndInMemory : BatchProcessor E → List PlainSpanData → BatchProcessor E → Type 0
+  EndInMemory old [] new = new ≡ old
+  EndInMemory old (span ∷ spans) new = (answer : Result (Unit {0}) AllocError) × (next : BatchProcessor E)
+      × (ends : BatchEnds old span answer next) × (ends.refused ≡ false) × EndInMemory next spans new
 
   -- a flush or a shutdown. Where the queue is closed behind it, no span was left behind
   pub record BatchRequests (asked : Request) (old : BatchProcessor E) (answer : Result (Unit {0}) OTelSdkError)

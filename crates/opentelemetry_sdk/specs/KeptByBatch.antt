@@ -1,12 +1,14 @@
 -- A batch processor takes back no batch that its exporter keeps: no step of its queue does.
 use Rattle.std.specs.Prelude.{◌≡◌, ◌+◌, ℕ, nat_le, Bool, true, false, List, [], ◌∷◌, Option, Some, None, Result}
-use Rattle.std.specs.Prelude.{MatchBool, MatchOption}
+use Rattle.std.specs.Prelude.{Ok, MatchBool, MatchOption}
+use Rattle.std.specs.declared.alloc.AllocError.{AllocError}
 use Rattle.std.proofs.Common.{ap}
 use Rattle.otel_export.specs.declared.error.OTelSdkError.{OTelSdkError}
 use Rattle.otel_export.specs.PlainSpanData.{PlainSpanData}
 use Rattle.otel_export.specs.declared.trace.export.SpanExporter.{Ghosts}
 use Rattle.otel_export.specs.KeptBatches.{ExporterAppends, Grows, appends_more, nothing_more}
 use Rattle.otel_batch.specs.MachineState.{Control, Machine, counts, is_crowded}
+use Rattle.otel_batch.specs.Drains.{has_full_batch}
 use Rattle.otel_batch.specs.MachineRun.{Run}
 use Rattle.otel_batch.specs.MovedSpans.{MovesSpans}
 use Rattle.otel_batch.specs.KnownRequests.{step_of}
@@ -16,14 +18,15 @@ use Rattle.otel_batch.specs.declared.machine.step.Outcome.TheVariants as outcome
 use Rattle.otel_batch.specs.declared.machine.step.Step.{Step}
 use Rattle.otel_batch.specs.declared.machine.step.Step.TheVariants as step
 use Rattle.otel_batch.specs.WorkedOff.{GoesBy, TicksAndWorks, WorkerWorks}
-use Rattle.opentelemetry_sdk.specs.BatchProcessor.{BatchDue, BatchProcessor}
+use Rattle.opentelemetry_sdk.specs.BatchProcessor.{BatchDue, BatchEnds, BatchProcessor, EndsByQueue, EndsEagerly}
 use Rattle.opentelemetry_sdk.specs.QueueRequests.{AnswersRequest}
-use Rattle.opentelemetry_sdk.specs.BatchProcessor.{DrainsByTimer, TellsTime, WorksAndTellsTime}
+use Rattle.opentelemetry_sdk.specs.BatchProcessor.{DrainsByTimer, TellsTime, WorksAndTellsTime, ends_eagerly}
+use Rattle.opentelemetry_sdk.specs.EagerExports.{Drains, DrainsIfFull, ExportsFullBatch, OffersEagerly, WorksIfFull}
 use Rattle.opentelemetry_sdk.specs.QueueRequests.{Requests}
 
 module _ {E : Type 0} (calls : Ghosts E) (keeps : E → List (List PlainSpanData))
     (appends : ExporterAppends calls keeps) where
-  pub stays : (s t : Machine E) → t.exporter ≡ s.exporter → Grows (keeps s.exporter) (keeps t.exporter)
+  stays : (s t : Machine E) → t.exporter ≡ s.exporter → Grows (keeps s.exporter) (keeps t.exporter)
   stays s t e = nothing_more keeps s.exporter t.exporter e
 
   -- one step of the queue
@@ -121,3 +124,53 @@ module _ {E : Type 0} (calls : Ghosts E) (keeps : E → List (List PlainSpanData
       by_state A false h = appends_more (keeps p.machine.exporter) (keeps h.idle.machine.exporter)
           (keeps q.machine.exporter) (works_appends p.machine h.worked h.idle.machine h.works.works)
           (tells_appends now h.idle h.worked answer q h.tells)
+
+  full_works_append : (s : Machine E) (answer : Result (Unit {0}) OTelSdkError) (t : Machine E)
+      → WorksIfFull calls s answer t → Grows (keeps s.exporter) (keeps t.exporter)
+  full_works_append s answer t = by_full (has_full_batch s)
+    where
+      by_full : (full : Bool) → MatchBool full (WorkerWorks calls s answer t) ((answer ≡ Ok tt) × (t ≡ s))
+          → Grows (keeps s.exporter) (keeps t.exporter)
+      by_full true h = works_appends s answer t h
+      by_full false h = stays s t (ap (λ m. m.exporter) h.1)
+
+  full_drains_append : (s : Machine E) (refused : Bool) (answer : Result (Unit {0}) OTelSdkError) (t : Machine E)
+      → DrainsIfFull calls s refused answer t → Grows (keeps s.exporter) (keeps t.exporter)
+  full_drains_append s refused answer t = by_full (has_full_batch s)
+    where
+      by_full : (full : Bool) → MatchBool full (Drains calls s refused answer t)
+          ((refused ≡ false) × (answer ≡ Ok tt) × (t ≡ s)) → Grows (keeps s.exporter) (keeps t.exporter)
+      by_full true h = ticks_appends s answer t h.drain
+      by_full false h = stays s t (ap (λ m. m.exporter) h.2)
+
+  exports_append : (s : Machine E) (refused : Bool) (failed : ℕ) (t : Machine E)
+      → ExportsFullBatch calls s refused failed t → Grows (keeps s.exporter) (keeps t.exporter)
+  exports_append s refused failed t h = appends_more (keeps s.exporter) (keeps h.idle.exporter) (keeps t.exporter)
+      (full_works_append s h.worked h.idle h.works) (full_drains_append h.idle refused h.drained t h.drains)
+
+  eagerly_appends : (s : Machine E) (span : PlainSpanData) (refused : Bool) (failed : ℕ) (t : Machine E)
+      → OffersEagerly calls s span refused failed t → Grows (keeps s.exporter) (keeps t.exporter)
+  eagerly_appends s span refused failed t h =
+      appends_more (keeps s.exporter) (keeps h.queued.exporter) (keeps t.exporter)
+      (appends_more (keeps s.exporter) (keeps h.roomy.exporter) (keeps h.queued.exporter)
+      (exports_append s h.refused_before h.failed_before h.roomy h.makes_room)
+      (stays h.roomy h.queued h.offers.exporter))
+      (by_full (has_full_batch h.roomy) h.exports)
+    where
+      by_full : (full : Bool) → MatchBool full
+          ((h.refused_after ≡ false) × (h.failed_after ≡ 0) × (t ≡ h.queued))
+          (ExportsFullBatch calls h.queued h.refused_after h.failed_after t)
+          → Grows (keeps h.queued.exporter) (keeps t.exporter)
+      by_full true given = stays h.queued t (ap (λ m. m.exporter) given.2)
+      by_full false given = exports_append h.queued h.refused_after h.failed_after t given
+
+  pub ends_appends : (p : BatchProcessor E) (span : PlainSpanData) (answer : Result (Unit {0}) AllocError)
+      (q : BatchProcessor E) → BatchEnds calls p span answer q
+      → Grows (keeps p.machine.exporter) (keeps q.machine.exporter)
+  ends_appends p span answer q h = by_kind (ends_eagerly p span) h.ends
+    where
+      by_kind : (eagerly : Bool)
+          → MatchBool eagerly (EndsEagerly calls p span h.refused q) (EndsByQueue calls p span h.refused q)
+          → Grows (keeps p.machine.exporter) (keeps q.machine.exporter)
+      by_kind true ends = eagerly_appends p.machine span h.refused ends.failed q.machine ends.offers
+      by_kind false ends = stays p.machine q.machine ends.offers.exporter

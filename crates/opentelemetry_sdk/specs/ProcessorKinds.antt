@@ -1,6 +1,6 @@
-use Rattle.std.specs.Prelude.{◌≡◌, ℕ, Bool, true, false, not, length, Result, Ok}
+use Rattle.std.specs.Prelude.{◌≡◌, ℕ, Bool, true, false, not, length, Result, Ok, refl}
 use Rattle.otel_export.specs.declared.trace.export.SpanExporter.{Ghosts}
-use Rattle.otel_pipeline.specs.LeftSpans.{LeavesTold, left_unless_shut, none_left}
+use Rattle.otel_pipeline.specs.LeftSpans.{DroppedTold, LeavesTold, left_unless_shut, none_left}
 use Rattle.otel_pipeline.specs.ProcessorTelling.{ProcessorTelling}
 use Rattle.otel_pipeline.specs.SimpleProcessor.{SimpleProcessor, simple_telling}
 use Rattle.opentelemetry_sdk.specs.BatchProcessor.{BatchProcessor, batch_open_over, batch_telling}
@@ -28,6 +28,12 @@ open_over_by_kind (kinds.Simple _) = 0
 open_over_by_kind (kinds.Batch batch) = batch_open_over batch
 open_over_by_kind (kinds.Custom _) = 0
 
+-- how many spans a processor of any kind dropped
+abbrev pub dropped_over_by_kind : {E C : Type 0} → ProcessorOf E C → ℕ
+dropped_over_by_kind (kinds.Simple _) = 0
+dropped_over_by_kind (kinds.Batch batch) = batch.machine.control.dropped
+dropped_over_by_kind (kinds.Custom _) = 0
+
 -- whether it leaves what its telling says
 abbrev pub leaves_told_by_kind : {E C : Type 0} → ProcessorOf E C → Bool
 leaves_told_by_kind (kinds.Simple _) = true
@@ -46,3 +52,9 @@ module _ {E C : Type 0} (calls : Ghosts E) (told : C → ProcessorTelling) where
   tells_left_by_kind (kinds.Simple simple) = none_left (not simple.is_shut)
   tells_left_by_kind (kinds.Batch batch) = left_unless_shut batch.machine.control.closed (length batch.machine.waiting)
   tells_left_by_kind (kinds.Custom custom) = tt
+
+  pub tells_dropped_by_kind : (p : ProcessorOf E C) → DroppedTold (leaves_told_by_kind p) (dropped_over_by_kind p)
+      (telling_by_kind p).dropped
+  tells_dropped_by_kind (kinds.Simple simple) = refl
+  tells_dropped_by_kind (kinds.Batch batch) = refl
+  tells_dropped_by_kind (kinds.Custom custom) = tt

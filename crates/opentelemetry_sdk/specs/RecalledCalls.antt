@@ -1,15 +1,13 @@
--- An end, a flush or a shutdown of a batch processor over an exporter whose batches are recalled: it does the same.
+-- A flush or a shutdown of a batch processor over an exporter whose batches are recalled: it does the same.
 use Rattle.std.specs.Prelude.{◌≡◌, ℕ, List, Result}
-use Rattle.std.specs.declared.alloc.AllocError.{AllocError}
 use Rattle.std.proofs.Common.{ap, sym, subst}
 use Rattle.otel_export.specs.declared.error.OTelSdkError.{OTelSdkError}
 use Rattle.otel_export.specs.PlainSpanData.{PlainSpanData}
 use Rattle.otel_export.specs.RecalledBatches.{ExporterRecalls}
 use Rattle.otel_export.specs.declared.trace.export.SpanExporter.{Ghosts}
 use Rattle.otel_batch.specs.declared.machine.state.Request.{Request}
-use Rattle.opentelemetry_sdk.specs.BatchProcessor.{BatchEnds, BatchProcessor, BatchRequests}
+use Rattle.opentelemetry_sdk.specs.BatchProcessor.{BatchProcessor, BatchRequests}
 use Rattle.opentelemetry_sdk.specs.RecalledByBatch.{BatchOver, batch_before, requests_over}
-use Rattle.opentelemetry_sdk.specs.RecalledOffers.{offers_before}
 
 module _ {E : Type 0} (calls : Ghosts E) {keeps : E → List (List PlainSpanData)} {loses : E → ℕ}
     {recalled : List (List PlainSpanData) → E → E → Type 0} (recalls : ExporterRecalls calls keeps loses recalled)
@@ -21,20 +19,6 @@ module _ {E : Type 0} (calls : Ghosts E) {keeps : E → List (List PlainSpanData
     e,
     subst (λ (r : BatchProcessor E). recalled bs r.machine.exporter e) (sym h) behind,
     ap (λ (r : BatchProcessor E). batch_before r e) h,
-  )
-
-  -- an end
-  pub ends_over : (span : PlainSpanData) (answer : Result (Unit {0}) AllocError) (p q : BatchProcessor E) (e : E)
-      → recalled bs p.machine.exporter e → BatchEnds calls p span answer q
-      → BatchOver calls recalls bs (λ a b. BatchEnds calls a span answer b) p e q
-  ends_over span answer p q e behind h = (
-    e,
-    subst (λ x. recalled bs x e) (sym h.offers.exporter) behind,
-    record {
-      offers = offers_before calls p.machine span q.machine e h.offers;
-      ok = h.ok;
-      rest = ap (λ (r : BatchProcessor E). batch_before r e) h.rest;
-    },
   )
 
   -- a flush or a shutdown

@@ -124,12 +124,14 @@ impl<K: KeyFilter> SpanProcessor for BaggageSpanProcessor<K> {
 }
 
 impl<K: KeyFilter> LeavesSpans for BaggageSpanProcessor<K> {
-    ghost use Rattle.std.specs.Prelude.{false, true};
+    ghost use Rattle.std.specs.Prelude.{false, true, refl};
     ghost use Rattle.otel_pipeline.specs.LeftSpans.{none_left};
 
     ghost leaves_told = { λ _. true };
 
     ghost tells_left = { λ _. none_left false };
+
+    ghost tells_dropped = { λ _. refl };
 
     /// It has no queue.
     fn stranded(&self) -> Option<usize> {
@@ -137,6 +139,10 @@ impl<K: KeyFilter> LeavesSpans for BaggageSpanProcessor<K> {
     }
 
     fn left_open(&self) -> usize {
+        0
+    }
+
+    fn dropped_count(&self) -> u64 {
         0
     }
 }

@@ -1,7 +1,7 @@
 -- Drains of the batch queue, from the step that loaded one to the next that finished: what a flush needs in order to
 -- return, and to be right.
 use Rattle.std.specs.Prelude.{◌≡◌, ℕ, suc, ◌+◌, ◌*◌, ◌<◌, ◌≤◌, ◌==◌, ◌&&◌, Bool, true, false, take, drop, sum, length}
-use Rattle.std.specs.Prelude.{map, List, [], ◌∷◌, ◌++◌, Some, slice_get, if◌then◌else◌}
+use Rattle.std.specs.Prelude.{map, List, [], ◌∷◌, ◌++◌, Some, slice_get, nat_le, if◌then◌else◌}
 use Rattle.otel_export.specs.PlainSpanData.{PlainSpanData, spans_in}
 use Rattle.otel_export.specs.Telling.{Tells}
 use Rattle.otel_batch.specs.MachineState.{Machine, Control}
@@ -59,6 +59,10 @@ FitBatches most (k ∷ ks) = (0 < k) × (k ≤ most) × FitBatches most ks
 -- the most spans that a batch may have: the size of a batch, or all that the queue can hold where that is zero
 abbrev pub largest_batch : Control → ℕ
 largest_batch c = if c.batch_size == 0 then c.queue_size else c.batch_size
+
+-- as many spans wait as a batch may have
+abbrev pub has_full_batch : {E : Type 0} → Machine E → Bool
+has_full_batch m = nat_le (largest_batch m.control) (length m.waiting)
 
 -- how many more steps than four a span a drain may take: none, or one for each place of the queue where a batch takes all
 -- that waits

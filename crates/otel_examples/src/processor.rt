@@ -67,6 +67,8 @@ impl<P: LeavesSpans> LeavesSpans for FilteringProcessor<P> {
 
     ghost open_over = { λ p. P.open_over p.inner };
 
+    ghost dropped_over = { λ p. P.dropped_over p.inner };
+
     // It tells nothing, so there is nothing that what it leaves could agree with.
     ghost use Rattle.std.specs.Prelude.{false};
 
@@ -74,12 +76,18 @@ impl<P: LeavesSpans> LeavesSpans for FilteringProcessor<P> {
 
     ghost tells_left = { λ _. tt };
 
+    ghost tells_dropped = { λ _. tt };
+
     fn stranded(&self) -> Option<usize> {
         self.inner.stranded()
     }
 
     fn left_open(&self) -> usize {
         self.inner.left_open()
+    }
+
+    fn dropped_count(&self) -> u64 {
+        self.inner.dropped_count()
     }
 }
 

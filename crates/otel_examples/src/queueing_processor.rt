@@ -104,7 +104,7 @@ impl<E: SpanExporter> SpanProcessor for QueueingProcessor<E> {
 }
 
 impl<E: SpanExporter> LeavesSpans for QueueingProcessor<E> {
-    ghost use Rattle.std.specs.Prelude.{None, Some, true, if◌then◌else◌, length};
+    ghost use Rattle.std.specs.Prelude.{None, Some, true, if◌then◌else◌, length, refl};
     ghost use Rattle.otel_pipeline.specs.LeftSpans.{left_unless_shut};
 
     ghost closed_over = { λ p. if p.is_shut then Some (length p.waiting.items) else None };
@@ -116,6 +116,10 @@ impl<E: SpanExporter> LeavesSpans for QueueingProcessor<E> {
 
     ghost tells_left = { λ p. left_unless_shut p.is_shut (length p.waiting.items) };
 
+    ghost dropped_over = { λ p. p.dropped };
+
+    ghost tells_dropped = { λ _. refl };
+
     fn stranded(&self) -> Option<usize> {
         if self.is_shut {
             Some(self.waiting.len())
@@ -126,6 +130,10 @@ impl<E: SpanExporter> LeavesSpans for QueueingProcessor<E> {
 
     fn left_open(&self) -> usize {
         if self.is_shut { 0 } else { self.waiting.len() }
+    }
+
+    fn dropped_count(&self) -> u64 {
+        self.dropped
     }
 }
 

@@ -1,6 +1,8 @@
 //! The processor that exports sampled spans in batches (OpenTelemetry specification, "Batching processor"). A span waits
 //! in a queue of bounded length; whoever holds the processor has its worker hand batches to the exporter, by
-//! `force_flush`, `run_worker`, or `drain_due` with the time. There is no thread and no clock.
+//! `force_flush`, `run_worker`, or `drain_due` with the time. There is no thread and no clock: where nobody calls one of
+//! them in time, spans that find the queue full are dropped. An eager processor exports a full batch where the span ends
+//! that fills it, and is the one for a service that calls nothing.
 
 ghost use Rattle.std.specs.Prelude.{◌≡◌, ◌+◌, false, IfOk, IfSome, nat_le};
 ghost use Rattle.std.specs.Duration.{as_nanos};
@@ -8,11 +10,11 @@ ghost use Rattle.otel_pipeline.specs.ProcessorTelling.{TakesNothing};
 ghost use Rattle.otel_batch.specs.SoundMachine.{IsSound};
 ghost use Rattle.otel_batch.specs.MachineState.{counts, stranded_in};
 ghost use Rattle.otel_batch.specs.PlainBatchConfig.{default_batch_config};
-ghost use Rattle.opentelemetry_sdk.specs.BatchProcessor.{batch_open_over, batch_telling};
+ghost use Rattle.opentelemetry_sdk.specs.BatchProcessor.{batch_open_over, batch_telling, ends_eagerly};
 ghost use Rattle.opentelemetry_sdk.specs.QueueRequests.{IsAtRest};
 
 use crate::trace::batch_worker::{
-    drain_by_tick, make_request, offer_span, post_resource, run_worker,
+    drain_by_tick, make_request, offer_eagerly, offer_span, post_resource, run_worker,
 };
 use opentelemetry::{Context, Moment};
 use otel_batch::machine::{BatchMachine, Request};
@@ -33,6 +35,8 @@ pub struct BatchSpanProcessor<E> {
     scheduled_delay: Duration,
     // When the timer was started last.
     last_tick: Option<Moment>,
+    is_eager: bool,
+    failed_exports: u64,
     alloc: Global,
 }
 
@@ -52,6 +56,8 @@ impl<E> Model for BatchSpanProcessor<E> {
       machine = p.machine;
       delay = as_nanos p.scheduled_delay;
       last = option_map (λ moment. moment.0) p.last_tick;
+      is_eager = p.is_eager;
+      failed_exports = p.failed_exports;
     } };
 
     ghost invariant = { λ p. IsAtRest p.machine };
@@ -65,12 +71,26 @@ impl<E> BatchSpanProcessor<E> {
         self.machine.dropped_count()
     }
 
+    /// How many exports of full batches, by ends at an eager processor, answered an error. It stops at the greatest `u64`.
+    pub fn failed_exports(&self) -> u64
+        ensures { result ≡ self.now.failed_exports }
+    {
+        self.failed_exports
+    }
+
     /// How many spans a completed shutdown left waiting, which is none. None before.
     pub fn stranded(&self) -> Option<usize>
         ensures value { result ≡ stranded_in self.now.machine }
         ensures none_left { IfSome result (λ count. count ≡ 0) }
     {
         self.machine.stranded()
+    }
+
+    /// Whether the end of this span may export a batch.
+    fn ends_eagerly(&self, span: &SpanData) -> bool
+        ensures { result ≡ ends_eagerly self.now span.now }
+    {
+        self.is_eager && !self.machine.is_closed() && span.span_context.is_sampled()
     }
 
     pub fn exporter(&self) -> &E
@@ -101,7 +121,7 @@ impl<E> BatchSpanProcessor<E> {
 }
 
 impl<E: SpanExporter> BatchSpanProcessor<E> {
-    ghost use Rattle.opentelemetry_sdk.specs.BatchProcessor.{RunsWorker, WorksAndTellsTime, first_processor};
+    ghost use Rattle.opentelemetry_sdk.specs.BatchProcessor.{RunsWorker, WorksAndTellsTime, eager_processor, first_processor};
 
     /// An open processor in whose queue nothing waits. It takes the memory of the queue, and fails where there is none.
     /// The configuration's timeout of exports is not used: an export is over when the exporter's call is.
@@ -117,18 +137,37 @@ impl<E: SpanExporter> BatchSpanProcessor<E> {
             machine: BatchMachine::new(alloc, exporter, config, 1)?,
             scheduled_delay,
             last_tick: None,
+            is_eager: false,
+            failed_exports: 0,
             alloc,
+        })
+    }
+
+    /// The same, but eager: the end that fills a batch exports it, so that no span finds the queue full while there is
+    /// memory for a batch. Its caller waits for the exporter at each such end.
+    pub fn new_eager(
+        alloc: Global,
+        exporter: E,
+        config: BatchConfig,
+    ) -> Result<BatchSpanProcessor<E>, AllocError>
+        ensures { IfOk result (λ processor. processor ≡ eager_processor exporter config) }
+    {
+        let processor = BatchSpanProcessor::new(alloc, exporter, config)?;
+        Ok(BatchSpanProcessor {
+            is_eager: true,
+            ..processor
         })
     }
 
     /// A builder with the default configuration.
     pub fn builder(alloc: Global, exporter: E) -> BatchSpanProcessorBuilder<E>
-        ensures { (result.exporter ≡ exporter) × (result.config ≡ default_batch_config) }
+        ensures { result ≡ record { exporter = exporter; config = default_batch_config; is_eager = false } }
     {
         BatchSpanProcessorBuilder {
             alloc,
             exporter,
             config: BatchConfig::default(),
+            is_eager: false,
         }
     }
 
@@ -210,6 +249,11 @@ impl<E: SpanExporter> SpanProcessor for BatchSpanProcessor<E> {
 
     #[inline(always)]
     fn on_end(&mut self, span: SpanData) -> Result<(), AllocError> {
+        if self.ends_eagerly(&span) {
+            let failed = offer_eagerly(&mut self.machine, span);
+            self.failed_exports = self.failed_exports.saturating_add(failed);
+            return Ok(());
+        }
         offer_span(&mut self.machine, span);
         Ok(())
     }
@@ -242,7 +286,7 @@ impl<E: SpanExporter> DrainDue for BatchSpanProcessor<E> {
 }
 
 impl<E: SpanExporter> LeavesSpans for BatchSpanProcessor<E> {
-    ghost use Rattle.std.specs.Prelude.{true, length};
+    ghost use Rattle.std.specs.Prelude.{true, length, refl};
     ghost use Rattle.otel_pipeline.specs.LeftSpans.{left_unless_shut};
 
     ghost closed_over = { λ p. stranded_in p.machine };
@@ -253,12 +297,20 @@ impl<E: SpanExporter> LeavesSpans for BatchSpanProcessor<E> {
 
     ghost tells_left = { λ p. left_unless_shut p.machine.control.closed (length p.machine.waiting) };
 
+    ghost dropped_over = { λ p. p.machine.control.dropped };
+
+    ghost tells_dropped = { λ _. refl };
+
     fn stranded(&self) -> Option<usize> {
         self.stranded()
     }
 
     fn left_open(&self) -> usize {
         self.left_open()
+    }
+
+    fn dropped_count(&self) -> u64 {
+        self.dropped_count()
     }
 }
 
@@ -268,6 +320,7 @@ pub struct BatchSpanProcessorBuilder<E> {
     alloc: Global,
     exporter: E,
     config: BatchConfig,
+    is_eager: bool,
 }
 
 impl<E> Model for BatchSpanProcessorBuilder<E> {
@@ -275,11 +328,12 @@ impl<E> Model for BatchSpanProcessorBuilder<E> {
 
     ghost Value = { BatchProcessorBuilder E };
 
-    ghost view = { λ b. record { exporter = b.exporter; config = b.config } };
+    ghost view = { λ b. record { exporter = b.exporter; config = b.config; is_eager = b.is_eager } };
 }
 
 impl<E: SpanExporter> BatchSpanProcessorBuilder<E> {
-    ghost use Rattle.opentelemetry_sdk.specs.BatchProcessor.{first_processor};
+    ghost use Rattle.std.specs.Prelude.{true};
+    ghost use Rattle.opentelemetry_sdk.specs.BatchProcessor.{built_processor};
 
     pub fn with_batch_config(self, config: BatchConfig) -> BatchSpanProcessorBuilder<E>
         ensures { result ≡ record self { config = config } }
@@ -287,10 +341,23 @@ impl<E: SpanExporter> BatchSpanProcessorBuilder<E> {
         BatchSpanProcessorBuilder { config, ..self }
     }
 
+    /// An eager processor: the end that fills a batch exports it.
+    pub fn with_eager_exports(self) -> BatchSpanProcessorBuilder<E>
+        ensures { result ≡ record self { is_eager = true } }
+    {
+        BatchSpanProcessorBuilder {
+            is_eager: true,
+            ..self
+        }
+    }
+
     /// The processor, which takes the memory of its queue here.
     pub fn build(self) -> Result<BatchSpanProcessor<E>, AllocError>
-        ensures { IfOk result (λ processor. processor ≡ first_processor self.exporter self.config) }
+        ensures { IfOk result (λ processor. processor ≡ built_processor self) }
     {
+        if self.is_eager {
+            return BatchSpanProcessor::new_eager(self.alloc, self.exporter, self.config);
+        }
         BatchSpanProcessor::new(self.alloc, self.exporter, self.config)
     }
 }

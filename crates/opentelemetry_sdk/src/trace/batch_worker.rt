@@ -1,9 +1,10 @@
 //! What a batch processor does with its queue, which has one producer: a span is offered and goes as far as it goes, a
 //! request is carried out, and the worker works until it has nothing to do. Between two calls the queue is at rest.
 
-ghost use Rattle.std.specs.Prelude.{◌≡◌, true, false, List, [], ◌∷◌, Some, Ok, OnOk, slice_get};
+ghost use Rattle.std.specs.Prelude.{◌≡◌, ◌≤◌, true, false, List, [], ◌∷◌, Some, Ok, OnOk, slice_get};
 ghost use Rattle.std.specs.Result.{result_err};
 ghost use Rattle.std.specs.declared.alloc.AllocError.{AllocError};
+ghost use Rattle.otel_export.specs.PlainSpanData.{is_sampled};
 ghost use Rattle.otel_pipeline.specs.ProcessorTelling.{TakesNothing, TakesSpan};
 ghost use Rattle.otel_pipeline.specs.Provider.{IsInternalFailure};
 ghost use Rattle.otel_batch.specs.Slots.{slot_waits};
@@ -14,6 +15,7 @@ ghost use Rattle.otel_batch.specs.declared.machine.state.Request.TheVariants as 
 ghost use Rattle.otel_batch.specs.declared.machine.step.Outcome as outcomes;
 ghost use Rattle.otel_batch.specs.declared.machine.step.Step as steps;
 ghost use Rattle.otel_batch.specs.WorkedOff.{CollectsAnswer, GoesBy, OffersSpan, TicksAndWorks, WorkerWorks, last_error, next_of_worker};
+ghost use Rattle.opentelemetry_sdk.specs.EagerExports.{DrainsBatch, EndsBatch, ExportsBatch, LeavesAtRest, WorksIfFull, failures_in};
 ghost use Rattle.opentelemetry_sdk.specs.QueueRequests.{IsAtRest, MakesRequest, PostsResource, queue_telling};
 
 use otel_batch::machine::{BatchMachine, Outcome, Request, Slot, Step, Worker};
@@ -98,6 +100,78 @@ pub(crate) fn drain_by_tick<E: SpanExporter>(machine: &mut BatchMachine<E>) -> O
     let answer = work_off_messages(machine);
     machine.is_sound();
     answer
+}
+
+/// A sampled span ends at an open queue whose processor is eager: a batch that is full already is exported, the span is
+/// offered, and where there was room so is the batch that it fills. A drain that found no memory is not tried again behind
+/// the offer. The answer is how many exports failed.
+pub(crate) fn offer_eagerly<E: SpanExporter>(machine: &mut BatchMachine<E>, span: SpanData) -> u64
+    requires rest { IsAtRest machine.old }
+    requires runs { machine.old.control.closed ≡ false }
+    requires sampled { is_sampled span ≡ true }
+    ensures ends { EndsBatch E.SpanExporter machine.old span result machine.new }
+    ensures told { TakesSpan {T = Unit {0}} {E = AllocError} (queue_telling E.SpanExporter machine.old) span
+        (Ok (tt {0})) (queue_telling E.SpanExporter machine.new) }
+    ensures rest { IsAtRest machine.new }
+{
+    machine.is_sound();
+    let failed = export_full_batch(machine);
+    machine.is_sound();
+    let is_full = machine.has_full_batch();
+    offer_span(machine, span);
+    if is_full {
+        return failed;
+    }
+    failed + export_full_batch(machine)
+}
+
+/// Where as many spans wait as a batch has they are exported. The answer is how many of the worker's two answers were
+/// errors.
+fn export_full_batch<E: SpanExporter>(machine: &mut BatchMachine<E>) -> u64
+    requires { IsAtRest machine.old × (machine.old.control.closed ≡ false) }
+    ensures exports { ExportsBatch E.SpanExporter machine.old result machine.new }
+    ensures leaves { LeavesAtRest E.SpanExporter machine.old machine.new }
+    ensures few { result ≤ 2 }
+{
+    let worked = work_if_full(machine);
+    let drained = drain_if_full(machine);
+    failures_in(&worked) + failures_in(&drained)
+}
+
+/// Where as many spans wait as a batch has, the worker works until it has nothing to do.
+fn work_if_full<E: SpanExporter>(machine: &mut BatchMachine<E>) -> OTelSdkResult
+    requires { IsAtRest machine.old × (machine.old.control.closed ≡ false) }
+    ensures works { WorksIfFull E.SpanExporter machine.old result machine.new }
+    ensures leaves { LeavesAtRest E.SpanExporter machine.old machine.new }
+{
+    if !machine.has_full_batch() {
+        return Ok(());
+    }
+    machine.is_sound();
+    run_worker(machine)
+}
+
+/// Where as many spans wait as a batch has, the timer's drain is carried out.
+fn drain_if_full<E: SpanExporter>(machine: &mut BatchMachine<E>) -> OTelSdkResult
+    requires { IsAtRest machine.old × (machine.old.control.closed ≡ false) }
+    ensures drains { DrainsBatch E.SpanExporter machine.old result machine.new }
+    ensures leaves { LeavesAtRest E.SpanExporter machine.old machine.new }
+{
+    if !machine.has_full_batch() {
+        return Ok(());
+    }
+    machine.is_sound();
+    drain_by_tick(machine)
+}
+
+/// How many errors an answer is.
+fn failures_in(answer: &OTelSdkResult) -> u64
+    ensures { result ≡ failures_in answer.now }
+{
+    match answer {
+        Ok(()) => 0,
+        Err(_) => 1,
+    }
 }
 
 /// The worker works until the producer has an answer to collect or there is nothing to do. The answer is that of its

@@ -118,11 +118,12 @@ impl<E: SpanExporter, C: SpanProcessor> DrainDue for ProcessorOf<E, C> {
     }
 }
 
-/// Nothing is asked of a processor of the caller's own: it counts as one that leaves none.
+/// Nothing is asked of a processor of the caller's own: it counts as one that leaves and drops none.
 impl<E: SpanExporter, C: SpanProcessor> LeavesSpans for ProcessorOf<E, C> {
     ghost use Rattle.std.specs.Prelude.{None};
     ghost use Rattle.otel_batch.specs.MachineState.{stranded_in};
-    ghost use Rattle.opentelemetry_sdk.specs.ProcessorKinds.{leaves_told_by_kind, open_over_by_kind, tells_left_by_kind};
+    ghost use Rattle.opentelemetry_sdk.specs.ProcessorKinds.{dropped_over_by_kind, leaves_told_by_kind};
+    ghost use Rattle.opentelemetry_sdk.specs.ProcessorKinds.{open_over_by_kind, tells_dropped_by_kind, tells_left_by_kind};
     ghost use Rattle.opentelemetry_sdk.specs.declared.trace.processor.ProcessorOf.TheVariants as kinds;
 
     ghost closed_over = { λ p. elim p [
@@ -136,6 +137,10 @@ impl<E: SpanExporter, C: SpanProcessor> LeavesSpans for ProcessorOf<E, C> {
     ghost leaves_told = { leaves_told_by_kind };
 
     ghost tells_left = { tells_left_by_kind E.SpanExporter C.told };
+
+    ghost dropped_over = { dropped_over_by_kind };
+
+    ghost tells_dropped = { tells_dropped_by_kind E.SpanExporter C.told };
 
     /// Only a batch processor has a queue.
     fn stranded(&self) -> Option<usize> {
@@ -153,16 +158,25 @@ impl<E: SpanExporter, C: SpanProcessor> LeavesSpans for ProcessorOf<E, C> {
             ProcessorOf::Custom(_) => 0,
         }
     }
+
+    fn dropped_count(&self) -> u64 {
+        match self {
+            ProcessorOf::Simple(_) => 0,
+            ProcessorOf::Batch(batch) => batch.dropped_count(),
+            ProcessorOf::Custom(_) => 0,
+        }
+    }
 }
 
 impl<E: StoresBatches, C: SpanProcessor> KeepsBatches for ProcessorOf<E, C> {
     ghost use Rattle.otel_kept.specs.ProcessorKeeps.{simple_appends, simple_rests, simple_stays};
-    ghost use Rattle.opentelemetry_sdk.specs.KeptByBatch.{batch_stays, due_appends, requests_appends, stays};
+    ghost use Rattle.opentelemetry_sdk.specs.KeptByBatch.{batch_stays, due_appends, ends_appends, requests_appends};
     ghost use Rattle.opentelemetry_sdk.specs.KeptByKinds.{processor_appends, processor_keeps, processor_loses};
     ghost use Rattle.opentelemetry_sdk.specs.KeptByKinds.{processor_stays};
     ghost use Rattle.otel_kept.specs.RecalledBySimple.{simple_ends_over, simple_same, simple_shuts_over};
-    ghost use Rattle.opentelemetry_sdk.specs.RecalledCalls.{asks_over, batch_same, ends_over};
+    ghost use Rattle.opentelemetry_sdk.specs.RecalledCalls.{asks_over, batch_same};
     ghost use Rattle.opentelemetry_sdk.specs.RecalledDue.{due_over};
+    ghost use Rattle.opentelemetry_sdk.specs.RecalledEnds.{ends_over};
     ghost use Rattle.opentelemetry_sdk.specs.RecalledByKinds.{processor_leaves, processor_once, processor_recalled};
     ghost use Rattle.opentelemetry_sdk.specs.RecalledByKinds.{processor_recalls};
     ghost use Rattle.opentelemetry_sdk.specs.RecalledLaws.{processor_heard, processor_kept, processor_lost};
@@ -181,7 +195,7 @@ impl<E: StoresBatches, C: SpanProcessor> KeepsBatches for ProcessorOf<E, C> {
           (λ a b h. batch_stays E.SpanExporter E.kept E.appends E.lost a b h) p q given;
       ends = λ p span answer q given. processor_appends E.kept _ _ _
           (λ a b h. simple_appends E.kept E.SpanExporter E.appends.exports a span answer b h)
-          (λ a b h. stays E.SpanExporter E.kept E.appends a.machine b.machine h.offers.exporter) p q given;
+          (λ a b h. ends_appends E.SpanExporter E.kept E.appends a span answer b h) p q given;
       flushes = λ p answer q given. processor_appends E.kept _ _ _ (λ a b h. simple_rests E.kept a b h.1)
           (λ a b h. requests_appends E.SpanExporter E.kept E.appends request.Flush a.machine answer b.machine
           h.requests) p q given;
@@ -250,7 +264,7 @@ impl<E: SpanExporter, C: SpanProcessor> OverExporter for ProcessorOf<E, C> {
     ghost use Rattle.std.specs.Prelude.{◌≡◌};
     ghost use Rattle.otel_batch.specs.PlainBatchConfig.{PlainBatchConfig, IsBatchConfigOf};
     ghost use Rattle.otel_pipeline.specs.SimpleProcessor.{first_simple};
-    ghost use Rattle.opentelemetry_sdk.specs.BatchProcessor.{first_processor};
+    ghost use Rattle.opentelemetry_sdk.specs.BatchProcessor.{eager_processor, first_processor};
     ghost use Rattle.opentelemetry_sdk.specs.declared.trace.processor.ProcessorOf.TheVariants as kinds;
 
     type Exporter = E;
@@ -260,6 +274,9 @@ impl<E: SpanExporter, C: SpanProcessor> OverExporter for ProcessorOf<E, C> {
     ghost batch_of = { λ exporter strings made. (config : PlainBatchConfig) × IsBatchConfigOf strings config
         × (made ≡ kinds.Batch (first_processor exporter config)) };
 
+    ghost eager_batch_of = { λ exporter strings made. (config : PlainBatchConfig) × IsBatchConfigOf strings config
+        × (made ≡ kinds.Batch (eager_processor exporter config)) };
+
     fn simple(alloc: Global, exporter: E) -> Self {
         ProcessorOf::Simple(SimpleSpanProcessor::new(alloc, exporter))
     }
@@ -267,5 +284,15 @@ impl<E: SpanExporter, C: SpanProcessor> OverExporter for ProcessorOf<E, C> {
     fn batch(alloc: Global, exporter: E, strings: &BatchStrings) -> Result<Self, AllocError> {
         let config = BatchConfigBuilder::from_strings(strings).build();
         Ok(ProcessorOf::Batch(BatchSpanProcessor::new(alloc, exporter, config)?))
+    }
+
+    fn eager_batch(
+        alloc: Global,
+        exporter: E,
+        strings: &BatchStrings,
+    ) -> Result<Self, AllocError> {
+        let config = BatchConfigBuilder::from_strings(strings).build();
+        let batch = BatchSpanProcessor::new_eager(alloc, exporter, config)?;
+        Ok(ProcessorOf::Batch(batch))
     }
 }

@@ -57,12 +57,25 @@ impl<E> BatchMachine<E> {
     ghost use Rattle.std.specs.Prelude.{option_copied};
     ghost use Rattle.otel_batch.specs.MachineState.{counts, stranded_in};
     ghost use Rattle.otel_batch.specs.SoundMachine.{IsSound};
+    ghost use Rattle.otel_batch.specs.Drains.{has_full_batch};
 
     /// How many spans wait.
     pub fn waiting_len(&self) -> usize
         ensures { result ≡ length self.now.waiting }
     {
         self.waiting.len()
+    }
+
+    /// Whether as many spans wait as a batch has: as many as the size of a batch, or where that is zero as many as may
+    /// wait.
+    pub fn has_full_batch(&self) -> bool
+        ensures { result ≡ has_full_batch self.now }
+    {
+        if self.batch_size == 0 {
+            self.waiting.is_full()
+        } else {
+            self.batch_size <= self.waiting.len()
+        }
     }
 
     /// A span that waits, the oldest first.

@@ -111,11 +111,17 @@ impl LeavesSpans for Writer {
 
     ghost tells_left = { λ _. tt };
 
+    ghost tells_dropped = { λ _. tt };
+
     fn stranded(&self) -> Option<usize> {
         None
     }
 
     fn left_open(&self) -> usize {
+        0
+    }
+
+    fn dropped_count(&self) -> u64 {
         0
     }
 }
