@@ -7,6 +7,7 @@ mod exports;
 mod processors;
 mod programs;
 mod spans;
+mod xray;
 
 use otel_case_rows::answer_text::AnswerText;
 use otel_case_rows::answers::{Cases, answer_rows};
@@ -31,6 +32,7 @@ impl Cases for AllCases {
         otel_value_cases::answer(alloc, row, out)
             || batch::answer(alloc, row, out)
             || spans::answer(alloc, row, out)
+            || xray::answer(alloc, row, out)
             || processors::answer(alloc, row, out)
             || answer_whole(alloc, row, out)
     }

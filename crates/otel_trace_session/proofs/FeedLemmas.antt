@@ -1,4 +1,5 @@
 -- What stands in the output behind replies, and behind a whole text.
+use Rattle.std.proofs.Common.{IsTrue, sum_by}
 use Rattle.std.proofs.Common.{Ok, Err, Option, ◌≡◌, ℕ, List, [], ◌∷◌, ◌++◌, false, sym, ◌∙◌, ap, append-nil, append_assoc, inr}
 use Rattle.std.proofs.lemmas.List.Concat.{flat_map-append}
 use Rattle.otel_trace_lines.specs.PlainReply.{PlainReply, counts_refusals, NoneRefused}

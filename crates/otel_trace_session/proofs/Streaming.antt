@@ -1,6 +1,6 @@
 -- What texts do that are fed one after another, with batches forgotten between them.
 use Rattle.std.proofs.Common.{◌≡◌, ◌==◌, ◌++◌, ◌+◌, ◌⊎◌, inl, inr, ℕ, Bool, not, if◌then◌else◌, List, [], ◌∷◌, Option, None, Result, Ok, length, refl, sym, ◌∙◌, ap, subst, arith, sum_by}
-use Rattle.std.specs.Prelude.{IsTrue}
+use Rattle.std.proofs.Common.{IsTrue}
 use Rattle.std.proofs.lemmas.List.Sums.{sum_by-cons}
 use Rattle.std.specs.Prelude.{option_map}
 use Rattle.std.specs.Io.{IsEmptyOrEndsWith}

@@ -1,8 +1,9 @@
 //! The ids that the SDK's generator draws.
 
+use opentelemetry::Moment;
 use otel_case_rows::answer_text::AnswerText;
 use otel_case_rows::fields::{Row, RowError};
-use otel_sampling::trace::{IdGenerator, IdSource, RandomIdGenerator};
+use otel_sampling::trace::{GivesIds, IdSource, RandomIdGenerator};
 
 /// Answers a row whose word is one of these; false where it is none.
 pub fn answer(row: &Row, out: &mut AnswerText) -> bool {
@@ -34,8 +35,8 @@ fn push_drawn(seed: u64, row: &Row, out: &mut AnswerText) {
 /// The next id of a kind, `trace` or `span`.
 fn push_next(source: &mut IdSource, kind: &str, out: &mut AnswerText) {
     match kind {
-        "trace" => write!(out, "{}", source.new_trace_id()),
-        "span" => write!(out, "{}", source.new_span_id()),
+        "trace" => write!(out, "{}", source.trace_id_at(Moment(0))),
+        "span" => write!(out, "{}", source.next_span_id()),
         _ => out.note(RowError::Field),
     }
 }
