@@ -286,11 +286,7 @@ impl<E: SpanExporter, C: SpanProcessor> OverExporter for ProcessorOf<E, C> {
         Ok(ProcessorOf::Batch(BatchSpanProcessor::new(alloc, exporter, config)?))
     }
 
-    fn eager_batch(
-        alloc: Global,
-        exporter: E,
-        strings: &BatchStrings,
-    ) -> Result<Self, AllocError> {
+    fn eager_batch(alloc: Global, exporter: E, strings: &BatchStrings) -> Result<Self, AllocError> {
         let config = BatchConfigBuilder::from_strings(strings).build();
         let batch = BatchSpanProcessor::new_eager(alloc, exporter, config)?;
         Ok(ProcessorOf::Batch(batch))

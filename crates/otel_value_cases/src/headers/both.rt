@@ -9,8 +9,8 @@ use opentelemetry::propagation::{FieldIter, MapCarrier, TextMapPropagator};
 use otel_case_rows::answer_text::AnswerText;
 use otel_case_rows::fields::{Row, RowError};
 use otel_propagation::propagation::{
-    BaggagePropagator, CompositePropagator, ConfiguredPropagators, FieldsError, NoCustomPropagators,
-    TraceContextPropagator, configured_propagators,
+    BaggagePropagator, CompositePropagator, ConfiguredPropagators, FieldsError,
+    NoCustomPropagators, TraceContextPropagator, configured_propagators,
 };
 use std::alloc::Global;
 
