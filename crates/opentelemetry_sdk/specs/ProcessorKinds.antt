@@ -1,5 +1,6 @@
-use Rattle.std.specs.Prelude.{◌≡◌, ℕ, Bool, true, false, not, length, Result, Ok, refl}
+use Rattle.std.specs.Prelude.{◌≡◌, ℕ, Bool, true, false, not, length, Option, None, Result, Ok, refl}
 use Rattle.otel_export.specs.declared.trace.export.SpanExporter.{Ghosts}
+use Rattle.otel_batch.specs.MachineState.{stranded_in}
 use Rattle.otel_pipeline.specs.LeftSpans.{DroppedTold, LeavesTold, left_unless_shut, none_left}
 use Rattle.otel_pipeline.specs.ProcessorTelling.{ProcessorTelling}
 use Rattle.otel_pipeline.specs.SimpleProcessor.{SimpleProcessor, simple_telling}
@@ -21,6 +22,12 @@ ProcessorGives simple batch custom old new = elim old [
 pub record NothingDue {P E : Type 0} (old : P) (answer : Result (Unit {0}) E) (new : P) : Type 0 where
   pub ok : answer ≡ Ok tt
   pub rest : new ≡ old
+
+-- how many spans a processor of any kind closed over
+abbrev pub closed_over_by_kind : {E C : Type 0} → ProcessorOf E C → Option ℕ
+closed_over_by_kind (kinds.Simple _) = None
+closed_over_by_kind (kinds.Batch batch) = stranded_in batch.machine
+closed_over_by_kind (kinds.Custom _) = None
 
 -- how many spans wait in a processor of any kind while it is open; of one of the caller's own nothing is asked
 abbrev pub open_over_by_kind : {E C : Type 0} → ProcessorOf E C → ℕ

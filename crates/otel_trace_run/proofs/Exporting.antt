@@ -98,7 +98,7 @@ module _ {C D E : Type 0} (calls : Calls (MemoryProcessor C D) (SamplerOf E) (Li
     (given : List (List ℕ)) (resource : PlainResource) where
   -- what is exported of this resource under the provider that is asked for
   pub exports_asked : (provider : ProviderState (MemoryProcessor C D) (SamplerOf E) (List ℕ)) (s : Streams) (end : RunEnd)
-      → IsDetected (strings_given given) resource → IsProviderOf asked provider
+      → IsDetected (strings_given given) resource → IsProviderOf true asked provider
       → EndsAs (ExportsAll calls resource provider s) (TracesBegun calls (otlp_form resource) provider s) s end
       → EndsAs (ExportsAsked calls asked given s) (BeginsExporting calls asked given s) s end
   exports_asked provider s ends.Done is of h = ((resource, is, provider, of, h.0), h.1)

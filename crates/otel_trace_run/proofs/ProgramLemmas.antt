@@ -184,9 +184,9 @@ module _ {C D E : Type 0} (calls : Calls (MemoryProcessor C D) (SamplerOf E) (Li
   -- what is traced under the provider that words ask for, is under any that they ask for
   pub traces_asked : (words : List (List ℕ)) (asked other : Asked) (provider : ProviderState (MemoryProcessor C D) (SamplerOf E) (List ℕ)) (s : Streams) (end : RunEnd) → AsksFor words asked → AsksFor words other → IsProviderOf other provider
       → EndsAs (TracesWhole calls reply_lines provider s) (TracesBegun calls reply_lines provider s) s end → EndsAs (TracesAsked calls asked s) (BeginsAsked calls asked s) s end
-  traces_asked words asked other provider s end h k is traces = by end (subst (λ (a : Asked). IsProviderOf a provider) (asks_once words other asked k h) is) traces
+  traces_asked words asked other provider s end h k is traces = by end (subst (λ (a : Asked). IsProviderOf false a provider) (asks_once words other asked k h) is) traces
     where
-      by : (end : RunEnd) → IsProviderOf asked provider → EndsAs (TracesWhole calls reply_lines provider s) (TracesBegun calls reply_lines provider s) s end → EndsAs (TracesAsked calls asked s) (BeginsAsked calls asked s) s end
+      by : (end : RunEnd) → IsProviderOf false asked provider → EndsAs (TracesWhole calls reply_lines provider s) (TracesBegun calls reply_lines provider s) s end → EndsAs (TracesAsked calls asked s) (BeginsAsked calls asked s) s end
       by ends.Done is traces = ((provider, is, traces.0), traces.1)
       by (ends.BadLine line) is traces = (provider, is, traces)
       by ends.Failed is traces = inr (provider, is, traces)

@@ -1,6 +1,6 @@
 -- The provider that the modes of traces are asked for, and what a session under it does with the streams. Of the bytes
 -- of a stream it speaks where the stream tells them.
-use Rattle.std.specs.Prelude.{◌≡◌, ◌⊎◌, ℕ, false, List, [], ◌∷◌, Option, None, slice_get}
+use Rattle.std.specs.Prelude.{◌≡◌, ◌⊎◌, ℕ, Bool, true, false, List, [], ◌∷◌, Option, None, slice_get}
 use Rattle.std.specs.Io.KnownBytes.{Appends}
 use Rattle.rand_xoshiro.specs.SplitMix64.{splitmix_seed}
 use Rattle.rand_xoshiro.specs.Xoshiro256.{of_seed}
@@ -18,11 +18,14 @@ use Rattle.otel_export.specs.declared.trace.exporter_box.ExporterOf.{ExporterOf}
 use Rattle.otel_export.specs.declared.trace.exporter_box.ExporterOf.TheVariants as exporters
 use Rattle.otel_export.specs.KeptBatches.{exporter_keeps, exporter_loses}
 use Rattle.otel_pipeline.specs.Provider.{ProviderState}
+use Rattle.otel_pipeline.specs.SimpleProcessor.{first_simple}
 use Rattle.otel_pipeline.specs.declared.trace.drain_due.DrainDue as timing
+use Rattle.otel_pipeline.specs.declared.trace.leaves_spans.LeavesSpans as leaving
 use Rattle.otel_kept.specs.declared.keeps_batches.KeepsBatches as keeping
 use Rattle.otel_pipeline.specs.declared.trace.span_processor.SpanProcessor.{Ghosts}
 use Rattle.opentelemetry_sdk.specs.BatchProcessor.{first_processor}
 use Rattle.opentelemetry_sdk.specs.KeptByKinds.{processor_keeps, processor_loses}
+use Rattle.opentelemetry_sdk.specs.ProcessorKinds.{closed_over_by_kind, dropped_over_by_kind, open_over_by_kind}
 use Rattle.opentelemetry_sdk.specs.RecalledByKinds.{processor_recalled}
 use Rattle.opentelemetry_sdk.specs.declared.trace.processor.ProcessorOf.{ProcessorOf}
 use Rattle.opentelemetry_sdk.specs.declared.trace.processor.ProcessorOf.TheVariants as kinds
@@ -47,13 +50,13 @@ abbrev pub new_memory : {C : Type 0} → ExporterOf StoredBatches C
 new_memory = exporters.Memory (record { batches = []; lost = 0 })
 
 -- the processor that is asked for, over such an exporter: an open simple one, or a batch processor of these sizes in
--- whose queue nothing waits. A batch has no more spans than may wait
-abbrev pub processor_of : {C D : Type 0} → AskedProcessor → MemoryProcessor C D
-processor_of asks.Simple = kinds.Simple (first_simple new_memory)
-processor_of (asks.Batch queue batch) =
+-- whose queue nothing waits, eager or not. A batch has no more spans than may wait
+abbrev pub processor_of : {C D : Type 0} → (is_eager : Bool) → AskedProcessor → MemoryProcessor C D
+processor_of is_eager asks.Simple = kinds.Simple (first_simple new_memory)
+processor_of is_eager (asks.Batch queue batch) =
     let config : PlainBatchConfig =
     record default_batch_config { max_queue_size = queue; max_export_batch_size = batch } in
-    kinds.Batch (first_processor new_memory (cut_to_queue config))
+    kinds.Batch (record (first_processor new_memory (cut_to_queue config)) { is_eager = is_eager })
 
 -- a provider of one processor, whose ids come from a seed: a root is sampled, and a child as its parent is, and each
 -- span is kept within the limits that nobody chose
@@ -65,9 +68,10 @@ pub record SamplesRoots {P E : Type 0} (seed : ℕ) (processor : P) (provider : 
   pub span_limits : provider.span_limits ≡ default_limits
   pub is_open : provider.is_shut ≡ false
 
--- the provider that is asked for
-abbrev pub IsProviderOf : {C D E : Type 0} → Asked → ProviderState (MemoryProcessor C D) (SamplerOf E) (List ℕ) → Type 0
-IsProviderOf asked provider = SamplesRoots asked.seed (processor_of asked.processor) provider
+-- the provider that is asked for, over an eager batch processor or another
+abbrev pub IsProviderOf : {C D E : Type 0} → (is_eager : Bool) → Asked
+    → ProviderState (MemoryProcessor C D) (SamplerOf E) (List ℕ) → Type 0
+IsProviderOf is_eager asked provider = SamplesRoots asked.seed (processor_of is_eager asked.processor) provider
 
 -- what a processor in the place of that one keeps: the batches of its exporter in memory
 abbrev pub memory_batches : {C D : Type 0} → keeping.Ghosts (MemoryProcessor C D)
@@ -77,10 +81,18 @@ memory_batches = record {
   recalled = processor_recalled exporter_recalled;
 }
 
+-- how many spans it leaves and dropped
+abbrev pub memory_queues : {C D : Type 0} → leaving.Ghosts (MemoryProcessor C D)
+memory_queues = record {
+  closed_over = closed_over_by_kind;
+  open_over = open_over_by_kind;
+  dropped_over = dropped_over_by_kind;
+}
+
 -- what is said of the calls of such a processor, and of the sampler and the source of ids beside it
 abbrev pub memory_calls : {C D E : Type 0} → Ghosts (MemoryProcessor C D) → timing.Ghosts (MemoryProcessor C D)
     → sampling.Ghosts (SamplerOf E) → drawing.Ghosts (List ℕ) → Calls (MemoryProcessor C D) (SamplerOf E) (List ℕ)
-memory_calls processor timer sampler ids = calls_of processor timer memory_batches sampler ids
+memory_calls processor timer sampler ids = calls_of processor timer memory_queues memory_batches sampler ids
 
 -- the strings that describe the resource: an attributes string, if one is given
 abbrev pub strings_given : List (List ℕ) → PlainResourceStrings
@@ -90,21 +102,21 @@ module _ {C D E : Type 0} (calls : Calls (MemoryProcessor C D) (SamplerOf E) (Li
   -- the output was given what a session writes for the whole input, under the provider that is asked for
   abbrev pub TracesAsked : Streams → Option ℕ → Type 0
   TracesAsked s bad_line = (provider : ProviderState (MemoryProcessor C D) (SamplerOf E) (List ℕ))
-      × IsProviderOf asked provider × TracesWhole calls reply_lines provider s bad_line
+      × IsProviderOf false asked provider × TracesWhole calls reply_lines provider s bad_line
 
   -- the output was given a beginning of what such a session writes for a beginning of the input; or nothing, where
   -- there was no memory for the provider
   abbrev pub BeginsAsked : Streams → Type 0
   BeginsAsked s = Appends s.output s.output_after []
       ⊎ ((provider : ProviderState (MemoryProcessor C D) (SamplerOf E) (List ℕ))
-      × IsProviderOf asked provider × TracesBegun calls reply_lines provider s)
+      × IsProviderOf false asked provider × TracesBegun calls reply_lines provider s)
 
   -- the output was given the lines of the batches that a session exported over the whole input, under the provider that
   -- is asked for, of the resource that the strings describe
   abbrev pub ExportsAsked : List (List ℕ) → Streams → Option ℕ → Type 0
   ExportsAsked given s bad_line = (resource : PlainResource) × IsDetected (strings_given given) resource
       × (provider : ProviderState (MemoryProcessor C D) (SamplerOf E) (List ℕ))
-      × IsProviderOf asked provider × ExportsAll calls resource provider s bad_line
+      × IsProviderOf true asked provider × ExportsAll calls resource provider s bad_line
 
   -- the output was given a beginning of such lines for a beginning of the input; or nothing, where there was no memory
   -- for the resource or the provider
@@ -112,19 +124,19 @@ module _ {C D E : Type 0} (calls : Calls (MemoryProcessor C D) (SamplerOf E) (Li
   BeginsExporting given s = Appends s.output s.output_after []
       ⊎ ((resource : PlainResource) × IsDetected (strings_given given) resource
       × (provider : ProviderState (MemoryProcessor C D) (SamplerOf E) (List ℕ))
-      × IsProviderOf asked provider × TracesBegun calls (otlp_form resource) provider s)
+      × IsProviderOf true asked provider × TracesBegun calls (otlp_form resource) provider s)
 
   -- the output was given the picture of the spans that a session exported over the whole input, under the provider that
   -- is asked for
   abbrev pub DrawsAsked : Painting → Streams → Option ℕ → Type 0
   DrawsAsked Paints s bad_line = (provider : ProviderState (MemoryProcessor C D) (SamplerOf E) (List ℕ))
-      × IsProviderOf asked provider × DrawsAll calls Paints provider s bad_line
+      × IsProviderOf true asked provider × DrawsAll calls Paints provider s bad_line
 
   -- the output was given a beginning of such a picture, or nothing
   abbrev pub BeginsDrawing : Painting → Streams → Type 0
   BeginsDrawing Paints s = Appends s.output s.output_after []
       ⊎ ((provider : ProviderState (MemoryProcessor C D) (SamplerOf E) (List ℕ))
-      × IsProviderOf asked provider × DrawsSome calls Paints provider s)
+      × IsProviderOf true asked provider × DrawsSome calls Paints provider s)
 
   -- a run of the mode `trace`, by its status, and by what is said of the faults where it has none and where it has one
   abbrev pub EndsTracing : Streams → Type 0 → (List ℕ → Type 0) → ℕ → Type 0

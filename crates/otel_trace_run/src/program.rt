@@ -236,7 +236,7 @@ fn run_otlp<R: Read, W: Write>(
     let Ok(resource) = resource_of(alloc, given) else {
         return RunEnd::Failed;
     };
-    match provider_of(alloc, asked) {
+    match provider_of(alloc, asked, true) {
         Ok(provider) => export_input(alloc, provider, resource, input, output),
         Err(_) => RunEnd::Failed,
     }
@@ -272,7 +272,7 @@ fn run_picture<R: Read, W: Write>(
         (streams (R.remaining input.old) (R.remaining input.new) (W.contents output.old) (W.contents output.new))
         result }
 {
-    match provider_of(alloc, asked) {
+    match provider_of(alloc, asked, true) {
         Ok(provider) => draw_input(alloc, provider, &form, input, output),
         Err(_) => RunEnd::Failed,
     }
@@ -283,10 +283,10 @@ fn provider_for(alloc: Global, words: &[String]) -> Option<Result<TraceProvider,
     ensures { MatchOption result
         (AsksForNoTrace (map string_bytes words.now))
         (λ made. (asked : Asked) × AsksFor (map string_bytes words.now) asked
-        × IfOk made (IsProviderOf asked)) }
+        × IfOk made (IsProviderOf false asked)) }
 {
     let asked = asked_of(words)?;
-    Some(provider_of(alloc, asked))
+    Some(provider_of(alloc, asked, false))
 }
 
 /// What the words of the mode `trace` ask for; none where the words are others.
@@ -380,11 +380,15 @@ fn name_bad_line<F: Write>(alloc: Global, line: u64, faults: &mut F) -> u8
     }
 }
 
-/// The provider that is asked for.
-fn provider_of(alloc: Global, asked: Asked) -> Result<TraceProvider, AllocError>
-    ensures { IfOk result (IsProviderOf asked) }
+/// The provider that is asked for. Where nobody reads how many spans a queue drops, its batch processor is eager.
+fn provider_of(
+    alloc: Global,
+    asked: Asked,
+    is_eager: bool,
+) -> Result<TraceProvider, AllocError>
+    ensures { IfOk result (IsProviderOf is_eager asked) }
 {
-    let processor = processor_asked(alloc, asked.processor)?;
+    let processor = processor_asked(alloc, asked.processor, is_eager)?;
     provider_with(alloc, asked.seed, processor)
 }
 
@@ -408,8 +412,12 @@ fn provider_with<P: SpanProcessor>(
 }
 
 /// The processor that is asked for, over a new exporter in memory.
-fn processor_asked(alloc: Global, asked: AskedProcessor) -> Result<TraceProcessor, AllocError>
-    ensures { IfOk result (λ processor. processor ≡ processor_of asked) }
+fn processor_asked(
+    alloc: Global,
+    asked: AskedProcessor,
+    is_eager: bool,
+) -> Result<TraceProcessor, AllocError>
+    ensures { IfOk result (λ processor. processor ≡ processor_of is_eager asked) }
 {
     let exporter = ExporterOf::Memory(InMemorySpanExporter::new(alloc));
     match asked {
@@ -421,7 +429,11 @@ fn processor_asked(alloc: Global, asked: AskedProcessor) -> Result<TraceProcesso
                 .with_max_queue_size(queue)
                 .with_max_export_batch_size(batch)
                 .build();
-            let processor = BatchSpanProcessor::new(alloc, exporter, config)?;
+            let processor = if is_eager {
+                BatchSpanProcessor::new_eager(alloc, exporter, config)?
+            } else {
+                BatchSpanProcessor::new(alloc, exporter, config)?
+            };
             Ok(ProcessorOf::Batch(processor))
         }
     }

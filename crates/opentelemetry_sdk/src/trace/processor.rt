@@ -126,11 +126,7 @@ impl<E: SpanExporter, C: SpanProcessor> LeavesSpans for ProcessorOf<E, C> {
     ghost use Rattle.opentelemetry_sdk.specs.ProcessorKinds.{open_over_by_kind, tells_dropped_by_kind, tells_left_by_kind};
     ghost use Rattle.opentelemetry_sdk.specs.declared.trace.processor.ProcessorOf.TheVariants as kinds;
 
-    ghost closed_over = { λ p. elim p [
-      | kinds.Simple _ ↦ None
-      | kinds.Batch batch ↦ stranded_in batch.machine
-      | kinds.Custom _ ↦ None
-    ] };
+    ghost closed_over = { closed_over_by_kind };
 
     ghost open_over = { open_over_by_kind };
 

@@ -1,6 +1,7 @@
-//! A filter of one's own in front of an exporter.
+//! A filter in front of an exporter.
 
 use super::span_data::{moments_of, spans_from};
+use otel_export::error::{OTelSdkError, OTelSdkResult};
 use otel_export::trace::{
     ExporterBox, InMemorySpanExporter, SpanData, SpanExporter, StoresBatches,
 };
@@ -8,6 +9,7 @@ use otel_filter::{FilteringExporter, SpanFilter};
 use otel_resource::resource::Resource;
 use std::alloc::{AllocError, Global};
 use std::test::Fail;
+use std::time::Duration;
 
 /// Keeps the spans that started at this moment or later.
 #[derive(Drop)]
@@ -65,6 +67,46 @@ fn exported(alloc: Global) -> Result<String, AllocError> {
         filter: StartedFrom { moment: 5 },
     };
     kept_of_three(alloc, &mut exporter)
+}
+
+/// Counts its flushes, and refuses the second one.
+#[derive(Drop)]
+struct CountsFlushes {
+    flushes: u8,
+}
+
+impl SpanExporter for CountsFlushes {
+    ghost told = { λ _. None };
+
+    fn export(&mut self, _batch: Vec<SpanData>) -> OTelSdkResult {
+        Ok(())
+    }
+
+    fn force_flush(&mut self) -> OTelSdkResult {
+        self.flushes = self.flushes.saturating_add(1);
+        if self.flushes == 2 {
+            return Err(OTelSdkError::AlreadyShutdown);
+        }
+        Ok(())
+    }
+
+    fn shutdown_with_timeout(&mut self, _timeout: Duration) -> OTelSdkResult {
+        Ok(())
+    }
+
+    fn set_resource(&mut self, _resource: &Resource) {}
+}
+
+#[test]
+fn a_flush_of_a_filter_reaches_the_exporter_inside(rt: HostRuntime) -> Result<(), Fail> {
+    let mut filtering = FilteringExporter {
+        exporter: CountsFlushes { flushes: 0 },
+        filter: StartedFrom { moment: 5 },
+    };
+    assert!(rt; filtering.force_flush().is_ok());
+    assert_eq!(rt; filtering.exporter.flushes, 1);
+    assert_eq!(rt; filtering.force_flush(), Err(OTelSdkError::AlreadyShutdown));
+    Ok(())
 }
 
 #[test]

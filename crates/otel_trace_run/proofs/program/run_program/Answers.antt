@@ -38,7 +38,7 @@ returns-in-Some-Ok-clause-trace g c = λ asked asks.
     let s = streams (g.R.Read.remaining c.args.input.now) (g.R.Read.remaining c.trace_input-end.new.input) (g.W.Write.contents c.args.output.now) (g.W.Write.contents c.trace_input-end.new.output) in
     ends_with _ _ _ _ s c.trace_input-end.result c.status_of-in-Some-Ok.result (λ bad_line h. asked_begun _ asked s bad_line h)
     (traces_asked _ _ asked c.in-Some-Ok.ensures.0 c.in-Some-Ok.provider s c.trace_input-end.result asks c.in-Some-Ok.ensures.1
-    (found (IsProviderOf c.in-Some-Ok.ensures.0) c.in-Some-Ok.field-0 c.in-Some-Ok.provider (search rules) c.in-Some-Ok.ensures.2) c.trace_input-end.ensures) c.status_of-in-Some-Ok.ensures
+    (found (IsProviderOf false c.in-Some-Ok.ensures.0) c.in-Some-Ok.field-0 c.in-Some-Ok.provider (search rules) c.in-Some-Ok.ensures.2) c.trace_input-end.ensures) c.status_of-in-Some-Ok.ensures
 
 pub returns-in-None-clause-otlp : goal.returns-in-None-clause-otlp
 returns-in-None-clause-otlp g c = λ asked given asks. absurd (c.in_default-otlp_of.ensures asked given asks)
