@@ -9,8 +9,10 @@ pub mod CompositeListLemmas
 pub mod ConfiguredLemmas
 pub mod StrictBounds
 pub mod StrictBytes
+pub mod StrictGraphic
 pub mod StrictHeaders
 pub mod StrictPairs
+pub mod StrictPassing
 pub mod StrictReads
 pub mod StrictWrites
 pub mod TextPieces

@@ -1,8 +1,8 @@
 -- The laws of strict baggage headers: what is written is of the grammar, and what is read from it is written back.
-use Rattle.std.proofs.Common.{◌≡◌, ◌≢◌, ℕ, ◌+◌, ◌≤◌, Bool, true, false, ◌&&◌, eqb, map, List, [], ◌∷◌, ◌++◌, length, All, Option, Some, None, refl, sym, ap, ◌∙◌, subst, arith, append-nil, ⊎_elim, eq-eqb}
+use Rattle.std.proofs.Common.{◌≡◌, ◌≢◌, ℕ, ◌+◌, ◌≤◌, Bool, true, false, ◌&&◌, eqb, map, List, [], ◌∷◌, ◌++◌, length, All, Option, Some, None, refl, sym, ap, ◌∙◌, subst, arith, append-nil, ⊎_elim, inl, inr, eq-eqb}
 use Rattle.std.specs.List.{AllByRecursion, cons_option, filter, filter_map, flat_map, join_with_byte, list_all}
 use Rattle.std.proofs.lemmas.Bool.{cases_Bool, cond-true, cond-false}
-use Rattle.std.proofs.lemmas.List.{length-map}
+use Rattle.std.proofs.lemmas.Bool.Decides.{nat_tests}
 use Rattle.std.proofs.lemmas.List.Elements.{All-nil, All-head, All-tail, All-cons, All-append, All-weaker, filter-append}
 use Rattle.std.proofs.lemmas.List.Splits.{slice_split_none, slice_split_at}
 use Rattle.percent_encoding.specs.Percent.{percent_encode_byte}
@@ -32,9 +32,11 @@ pub record IsTight (e : PlainBaggageEntry) : Type 0 where
 -- each byte of a value is an octet when it is written
 escape_octet : (b : ℕ) → IsEscapeByte b → is_octet b ≡ true
 unfolding is_octet
-escape_octet b is = ?
+escape_octet b (inl is) = ap is_octet is
+escape_octet b (inr (inl digit)) = grind (arith, nat_tests)
+escape_octet b (inr (inr letter)) = grind (arith, nat_tests)
 
-escape_octets : (bytes : List ℕ) → All IsEscapeByte bytes → are_octets bytes ≡ true
+pub escape_octets : (bytes : List ℕ) → All IsEscapeByte bytes → are_octets bytes ≡ true
 escape_octets [] all = refl
 escape_octets (b ∷ bs) all = λ i. escape_octet b (All-head IsEscapeByte b bs all) i && escape_octets bs (All-tail IsEscapeByte b bs all) i
 
@@ -82,6 +84,11 @@ properties_spelled : (say : List (List ℕ)) → AllByRecursion IsTightProperty 
 properties_spelled [] tight = no_property
 properties_spelled (p ∷ ps) tight = next_property [] [] p p (properties_onto false ps) ps refl refl tight.0 (properties_spelled ps tight.1)
 
+pub member_parts : (e : PlainBaggageEntry) (tight : IsTight e) → spelled_member e ≡ e.key ++ equals_sign ∷ (e.value ++ properties_onto false tight.say)
+member_parts e tight =
+    ap (λ m. e.key ++ equals_sign ∷ (e.value ++ behind_semicolon m)) tight.metadata
+    ∙ ap (λ t. e.key ++ equals_sign ∷ (e.value ++ t)) (sym (onto_behind tight.say tight.properties))
+
 member_spelled : (e : PlainBaggageEntry) → IsTight e → IsMember (spelled_member e) e
 member_spelled e tight = record {
   before = [];
@@ -94,12 +101,10 @@ member_spelled e tight = record {
   value = tight.value;
   properties_are = properties_spelled tight.say tight.properties;
   metadata = tight.metadata;
-  spelled =
-      ap (λ m. e.key ++ equals_sign ∷ (e.value ++ behind_semicolon m)) tight.metadata
-      ∙ ap (λ t. e.key ++ equals_sign ∷ (e.value ++ t)) (sym (onto_behind tight.say tight.properties));
+  spelled = member_parts e tight;
 }
 
-members_spelled : (e : PlainBaggageEntry) (es : PlainBaggage) → AllByRecursion IsTight (e ∷ es) → AreMembers (spelled_header (e ∷ es)) (e ∷ es)
+pub members_spelled : (e : PlainBaggageEntry) (es : PlainBaggage) → AllByRecursion IsTight (e ∷ es) → AreMembers (spelled_header (e ∷ es)) (e ∷ es)
 members_spelled e [] tight = last_member (spelled_member e) e (member_spelled e tight.0)
 members_spelled e (f ∷ es) tight = next_member (spelled_member e) [] [] (spelled_header (f ∷ es)) e (f ∷ es) (member_spelled e tight.0) refl refl (members_spelled f es tight.1)
 
