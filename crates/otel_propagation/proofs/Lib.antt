@@ -14,6 +14,7 @@ pub mod StrictHeaders
 pub mod StrictPairs
 pub mod StrictPassing
 pub mod StrictReads
+pub mod StrictSound
 pub mod StrictWrites
 pub mod TextPieces
 pub mod TraceparentLemmas

@@ -48,10 +48,10 @@ valued_within bound key None properties e keyed short is = absurd (cc)
 valued_within bound key (Some value) properties e keyed short is =
     cond_both (are_properties properties) (Some (strict_metadata_of properties)) None (λ metadata. option_map (entry_of key value) metadata ≡ Some e → IsNamedWithin bound e)
     (λ _ said.
-      let same : entry_of key value (strict_metadata_of properties) ≡ e = cc in
-      let metadata = metadata_within properties in
-      let all = length-append key (61 ∷ value) in
-      subst (IsNamedWithin bound) same (record { named = key_some key keyed.0; short = omega arith }))
+    let same : entry_of key value (strict_metadata_of properties) ≡ e = cc in
+    let metadata = metadata_within properties in
+    let all = length-append key (61 ∷ value) in
+    subst (IsNamedWithin bound) same (record { named = key_some key keyed.0; short = omega arith }))
     (λ _ said. absurd (cc)) is
 
 paired_within : (bound : ℕ) (pair : Option StrictPair) (properties : List (List ℕ)) (e : PlainBaggageEntry) → IsKeyedPair pair

@@ -164,9 +164,13 @@ filtered_stay (e ∷ es) tight =
     ap (map written_entry) (cond-true _ (e ∷ filter has_token_name es) (filter has_token_name es) tight.0.key)
     ∙ (λ i. entry_stays e tight.0 i ∷ filtered_stay es tight.1 i)
 
+pub entries_stay : (es : PlainBaggage) → AllByRecursion IsTight es → written_entries es ≡ es
+unfolding written_entries
+entries_stay es tight = filtered_stay es tight
+
 pub header_stays : (es : PlainBaggage) → AllByRecursion IsTight es → strict_header_of es ≡ spelled_header es
-unfolding strict_header_of written_entries
-header_stays es tight = ap spelled_header (filtered_stay es tight)
+unfolding strict_header_of
+header_stays es tight = ap spelled_header (entries_stay es tight)
 
 -- the entries that a header spells are such
 property_tight : (text says : List ℕ) → IsProperty text says → IsTightProperty says
@@ -217,10 +221,10 @@ member_bare text e is =
     ∙ filter-append is_dark e.key (is.before ++ equals_sign ∷ (is.after ++ (e.value ++ is.properties)))
     ∙ (λ i. dark_kept e.key (dark_key e.key is.key) i ++ gone_between is.before is.after (e.value ++ is.properties) equals_sign is.before_is is.after_is refl i)
     ∙ ap (λ t. e.key ++ equals_sign ∷ t) (filter-append is_dark e.value is.properties
-      ∙ (λ i. dark_kept e.value (dark_octets e.value is.value) i ++ properties_bare is.properties is.say is.properties_are i)
-      ∙ ap (λ t. e.value ++ t) (onto_behind is.say (said_tight is.properties is.say is.properties_are) ∙ ap behind_semicolon (sym is.metadata)))
+    ∙ (λ i. dark_kept e.value (dark_octets e.value is.value) i ++ properties_bare is.properties is.say is.properties_are i)
+    ∙ ap (λ t. e.value ++ t) (onto_behind is.say (said_tight is.properties is.say is.properties_are) ∙ ap behind_semicolon (sym is.metadata)))
 
-some_entries : (text : List ℕ) (es : PlainBaggage) → AreMembers text es → es ≢ []
+pub some_entries : (text : List ℕ) (es : PlainBaggage) → AreMembers text es → es ≢ []
 some_entries _ _ (last_member text e is) none = absurd (cc)
 some_entries _ _ (next_member text before after rest e es is blank more next) none = absurd (cc)
 
@@ -228,7 +232,7 @@ join_more : (e : PlainBaggageEntry) (es : PlainBaggage) → es ≢ [] → spelle
 join_more e [] some = absurd (some refl)
 join_more e (f ∷ es) some = refl
 
-members_bare : (text : List ℕ) (es : PlainBaggage) → AreMembers text es → without_blanks text ≡ spelled_header es
+pub members_bare : (text : List ℕ) (es : PlainBaggage) → AreMembers text es → without_blanks text ≡ spelled_header es
 members_bare _ _ (last_member text e is) = member_bare text e is
 members_bare _ _ (next_member text before after rest e es is before_is after_is next) =
     filter-append is_dark text (before ++ comma ∷ (after ++ rest))

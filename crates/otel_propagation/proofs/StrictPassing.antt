@@ -64,8 +64,8 @@ unfolding is_octet
 kept_octet b kept other =
     ⊎_elim
     (λ low.
-      let rest : (needs_escape b || (eqb b backslash || is_octet b)) ≡ is_octet b = λ i. kept i || (ne_eqb b backslash other i || is_octet b) in
-      sym rest ∙ agree_below_at (λ c. needs_escape c || (eqb c backslash || is_octet c)) (λ c. true) 128 b refl low)
+    let rest : (needs_escape b || (eqb b backslash || is_octet b)) ≡ is_octet b = λ i. kept i || (ne_eqb b backslash other i || is_octet b) in
+    sym rest ∙ agree_below_at (λ c. needs_escape c || (eqb c backslash || is_octet c)) (λ c. true) 128 b refl low)
     (λ high. grind (arith, nat_tests)) (cases_lt b 128)
 
 value_escaped : (bytes : List ℕ) → HasNo backslash bytes → are_octets (flat_map escaped_byte bytes) ≡ true
@@ -146,7 +146,7 @@ passed_on (e ∷ es) is unchanged plain =
     let count = length-map (e ∷ es) encoded in
     let few = is.within.few in
     let read = header_reads (spelled_header (map encoded (e ∷ es))) (map encoded (e ∷ es)) (record { members = members_spelled (encoded e) (map encoded es) all; few = omega arith })
-      (distinct (e ∷ es) is.texts unchanged is.distinct) (omega arith) in
+    (distinct (e ∷ es) is.texts unchanged is.distinct) (omega arith) in
     ap (λ t. strict_header_of (strict_entries_of t)) same ∙ ap strict_header_of read ∙ header_stays (map encoded (e ∷ es)) all ∙ sym same
 
 -- so the plain one reads it back

@@ -30,6 +30,6 @@ returns-in_err-push_entry-clause-free c none =
     absurd cc
 
 pub returns-clause-header : goal.returns-clause-header
-returns-clause-header c = 
+returns-clause-header c =
     let entries = YieldsList-at c.into_iter-name-iterator.ensures.into_iter_gives (YieldsList-from_first plain_item (λ entries. entries) c.args.baggage.now c.iter-name-items.ensures) in
     c.entries.invariant ∙ ap strict_header_of (YieldsList-end entries c.entries.yielded _ c.entries.yielded_by _ _ c.in-None.is c.next.ensures.steps).0
