@@ -1,11 +1,11 @@
 -- Each byte of a strict baggage header is a graphic character of ASCII.
-use Rattle.std.proofs.Common.{◌≡◌, ℕ, ◌<◌, Bool, true, false, ◌&&◌, List, [], ◌∷◌, ◌++◌, All, refl, sym, ap, ◌∙◌, ⊎_elim, arith}
+use Rattle.std.proofs.Common.{◌≡◌, ℕ, true, false, ◌&&◌, List, [], ◌∷◌, ◌++◌, All, refl, ap, ◌∙◌, ⊎_elim, arith}
 use Rattle.std.specs.List.{AllByRecursion, list_all}
 use Rattle.std.proofs.lemmas.Bool.{agree_below_at, cases_lt}
 use Rattle.std.proofs.lemmas.Bool.Decides.{nat_tests}
 use Rattle.std.proofs.lemmas.List.Elements.{All-nil, All-cons}
 use Rattle.opentelemetry.specs.Baggage.{PlainBaggage, PlainBaggageEntry}
-use Rattle.opentelemetry.specs.Members.{comma, equals_sign, semicolon}
+use Rattle.opentelemetry.specs.Members.{comma, equals_sign}
 use Rattle.opentelemetry.proofs.Tracestates.{both_true}
 use Rattle.otel_propagation.specs.StrictGrammar.{are_octets, is_octet, is_token, is_token_byte, IsProperty}
 use Rattle.otel_propagation.specs.StrictGrammar.IsProperty.{key_alone, key_and_value}

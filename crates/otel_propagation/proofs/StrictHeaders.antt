@@ -1,9 +1,9 @@
 -- The laws of strict baggage headers: what is written is of the grammar, and what is read from it is written back.
-use Rattle.std.proofs.Common.{◌≡◌, ◌≢◌, ℕ, ◌+◌, ◌≤◌, Bool, true, false, ◌&&◌, eqb, map, List, [], ◌∷◌, ◌++◌, length, All, Option, Some, None, refl, sym, ap, ◌∙◌, subst, arith, append-nil, ⊎_elim, inl, inr, eq-eqb}
-use Rattle.std.specs.List.{AllByRecursion, cons_option, filter, filter_map, flat_map, join_with_byte, list_all}
+use Rattle.std.proofs.Common.{◌≡◌, ◌≢◌, ℕ, ◌≤◌, true, false, ◌&&◌, eqb, map, List, [], ◌∷◌, ◌++◌, length, All, refl, sym, ap, ◌∙◌, subst, arith, append-nil, ⊎_elim, inl, inr, eq-eqb}
+use Rattle.std.specs.List.{AllByRecursion, cons_option, filter, filter_map, flat_map, join_with_byte}
 use Rattle.std.proofs.lemmas.Bool.{cases_Bool, cond-true, cond-false}
 use Rattle.std.proofs.lemmas.Bool.Decides.{nat_tests}
-use Rattle.std.proofs.lemmas.List.Elements.{All-nil, All-head, All-tail, All-cons, All-append, All-weaker, filter-append}
+use Rattle.std.proofs.lemmas.List.Elements.{All-head, All-tail, filter-append}
 use Rattle.std.proofs.lemmas.List.Splits.{slice_split_none, slice_split_at}
 use Rattle.percent_encoding.specs.Percent.{percent_encode_byte}
 use Rattle.percent_encoding.proofs.PercentLemmas.{All-percent_encode_byte, IsEscapeByte}
@@ -18,7 +18,7 @@ use Rattle.otel_propagation.specs.StrictGrammar.AreMembers.{last_member, next_me
 use Rattle.otel_propagation.specs.StrictBaggage.{has_token_name, properties_onto, spelled_header, spelled_member, strict_entries_of, strict_header_of, strict_metadata_of, strict_pair, strict_property, written_entries, written_entry, written_octet, written_value}
 use Rattle.otel_propagation.proofs.BaggagePieceLemmas.{Lacks}
 use Rattle.otel_propagation.proofs.StrictBytes.{all_append, blanks_gone, dark_kept, dark_key, dark_octets, is_dark, semicolon_is}
-use Rattle.otel_propagation.proofs.StrictPairs.{key_tight, onto_behind, properties_tight, says_some, IsTightProperty}
+use Rattle.otel_propagation.proofs.StrictPairs.{key_tight, onto_behind, properties_tight, IsTightProperty}
 use Rattle.otel_propagation.proofs.StrictReads.{header_reads, property_lacks, tight_reads}
 
 -- an entry as a member spells it: its name, its value and its properties are of the grammar

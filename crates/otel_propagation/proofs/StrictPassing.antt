@@ -1,5 +1,5 @@
 -- What a plain propagator writes of names that are tokens, without properties, a strict one passes on unchanged.
-use Rattle.std.proofs.Common.{◌≡◌, ◌≢◌, ℕ, ◌<◌, ◌≤◌, Bool, true, false, not, ◌&&◌, ◌||◌, eqb, map, List, [], ◌∷◌, ◌++◌, length, All, refl, sym, ap, ◌∙◌, ⊎_elim, arith, inl, inr, ne_eqb}
+use Rattle.std.proofs.Common.{◌≡◌, ◌≢◌, ℕ, true, false, ◌&&◌, ◌||◌, eqb, map, List, [], ◌∷◌, ◌++◌, All, refl, sym, ap, ◌∙◌, ⊎_elim, arith, inl, inr, ne_eqb}
 use Rattle.std.specs.List.{AllByRecursion, flat_map, join_with_byte, list_all}
 use Rattle.std.specs.Str.{IsUtf8, chars, trim, trim_end, trim_start}
 use Rattle.std.proofs.lemmas.Bool.{agree_below_at, cases_Bool, cases_lt, cond-true, cond-false}

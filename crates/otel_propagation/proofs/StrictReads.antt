@@ -1,6 +1,6 @@
 -- What the strict reader makes of a header of the grammar: the entries that it spells, each in its place.
-use Rattle.std.proofs.Common.{◌≡◌, ◌≢◌, ℕ, ◌+◌, ◌≤◌, Bool, true, false, ◌&&◌, eqb, is_some, suc, List, [], ◌∷◌, ◌++◌, length, take, Option, Some, None, refl, sym, ap, ◌∙◌, subst, arith, append-nil, append_assoc, eq-eqb}
-use Rattle.std.specs.List.{cons_option, filter_map, join_with_byte, list_all}
+use Rattle.std.proofs.Common.{◌≡◌, ℕ, ◌≤◌, true, false, ◌&&◌, eqb, is_some, suc, List, [], ◌∷◌, ◌++◌, length, take, Option, Some, None, refl, sym, ap, ◌∙◌, subst, arith, append-nil, append_assoc}
+use Rattle.std.specs.List.{cons_option, filter_map, join_with_byte}
 use Rattle.std.specs.Option.{option_map}
 use Rattle.std.proofs.lemmas.Bool.{cond-true}
 use Rattle.std.proofs.lemmas.List.{take_all}
@@ -13,7 +13,7 @@ use Rattle.otel_propagation.specs.StrictGrammar.{are_octets, is_token, AreMember
 use Rattle.otel_propagation.specs.StrictGrammar.IsProperty.{key_alone, key_and_value}
 use Rattle.otel_propagation.specs.StrictGrammar.AreProperties.{no_property, next_property}
 use Rattle.otel_propagation.specs.StrictGrammar.AreMembers.{last_member, next_member}
-use Rattle.otel_propagation.specs.StrictBaggage.{are_properties, checked_key, checked_metadata, checked_pair, pair_of_cut, spelled_pair, strict_entries_of, strict_entry_of_member, strict_entry_of_parts, strict_metadata_of, strict_pair, strict_paired_entry, strict_property, valued_entry, StrictPair}
+use Rattle.otel_propagation.specs.StrictBaggage.{are_properties, checked_key, checked_pair, pair_of_cut, spelled_pair, strict_entries_of, strict_entry_of_member, strict_entry_of_parts, strict_metadata_of, strict_pair, strict_paired_entry, strict_property, StrictPair}
 use Rattle.otel_propagation.proofs.BaggageNames.{one_a_name_distinct}
 use Rattle.otel_propagation.proofs.BaggagePieceLemmas.{Lacks}
 use Rattle.otel_propagation.proofs.StrictBytes.{all_append, both_lack, comma_is, cons_lacks, cut_found, cut_none, dark_key, dark_octets, key_lacks, key_lacks_equals, octets_lack, semicolon_is, space_lacks, trim_between, IsBreak}

@@ -1,5 +1,5 @@
 -- What is read of any header is of the grammar, so it is written as it was read; and a header crosses a service.
-use Rattle.std.proofs.Common.{◌≡◌, ◌≢◌, ℕ, ◌<◌, ◌≤◌, Bool, true, false, not, map, List, [], ◌∷◌, length, take, Option, Some, None, Ok, unwrap_or, refl, sym, ap, ◌∙◌, subst, arith}
+use Rattle.std.proofs.Common.{◌≡◌, ◌≢◌, ℕ, ◌≤◌, not, List, [], ◌∷◌, length, take, Option, Some, None, Ok, unwrap_or, refl, sym, ap, ◌∙◌, arith}
 use Rattle.std.specs.List.{AllByRecursion, cons_option, filter_map}
 use Rattle.std.specs.Option.{option_map}
 use Rattle.std.specs.Str.{bytes_eq}
@@ -89,8 +89,8 @@ pub crosses : (header : List ℕ) (es : PlainBaggage) (cx found : PlainContext) 
     → ExtractsStrictBaggage cx texts found → InjectsStrictBaggage found old (Ok tt) new → new baggage_field ≡ Some (without_blanks header)
 crosses header es cx found texts old new is distinct few short set extracts injects =
     let read : found.baggage ≡ strict_entries_of header =
-      ap (λ (c : PlainContext). c.baggage) extracts ∙ ap (λ text. unwrap_or (read_strict text) cx.baggage) set
-      ∙ ap (λ r. unwrap_or r cx.baggage) (cond-true _ _ _ (le-leb (length header) 8192 short)) in
+    ap (λ (c : PlainContext). c.baggage) extracts ∙ ap (λ text. unwrap_or (read_strict text) cx.baggage) set
+    ∙ ap (λ r. unwrap_or r cx.baggage) (cond-true _ _ _ (le-leb (length header) 8192 short)) in
     let same : strict_header_of found.baggage ≡ without_blanks header = ap strict_header_of read ∙ header_passed_on header es is distinct few in
     let some : strict_header_of found.baggage ≢ [] = λ none. no_header es (some_entries header es is.members) (sym (members_bare header es is.members) ∙ sym same ∙ none) in
     (injects.set some).set ∙ ap Some same

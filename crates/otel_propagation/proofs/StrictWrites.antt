@@ -1,7 +1,7 @@
 -- What the strict writer writes: the members of the entries whose names are tokens, in order.
-use Rattle.std.proofs.Common.{◌≡◌, ◌≢◌, ℕ, ◌+◌, ◌<◌, ◌==◌, Bool, true, false, not, cond, ◌&&◌, map, List, [], ◌∷◌, ◌++◌, length, All, Option, Some, None, refl, sym, ap, ◌∙◌, ⊎_elim, arith, append-nil, append_assoc, length-append, ne_eqb}
-use Rattle.std.specs.List.{AllByRecursion, filter, filter_map, flat_map, join_with_byte, list_all}
-use Rattle.std.proofs.lemmas.Bool.{agree_below_at, both_ways, cases_Bool, cases_lt, cond-true, cond-false}
+use Rattle.std.proofs.Common.{◌≡◌, ℕ, ◌<◌, ◌==◌, Bool, true, false, not, cond, map, List, [], ◌∷◌, ◌++◌, length, All, refl, sym, ap, ◌∙◌, ⊎_elim, arith, append-nil, append_assoc, length-append, ne_eqb}
+use Rattle.std.specs.List.{filter, filter_map, flat_map, join_with_byte}
+use Rattle.std.proofs.lemmas.Bool.{agree_below_at, cases_Bool, cases_lt, cond-true, cond-false}
 use Rattle.std.proofs.lemmas.Bool.Decides.{nat_tests}
 use Rattle.std.proofs.lemmas.List.{map_push}
 use Rattle.std.proofs.lemmas.List.Elements.{All-nil, All-cons, filter-append}
