@@ -1,5 +1,5 @@
 -- What is read from a strict header is no longer than the header: no limit of a baggage forbids it.
-use Rattle.std.proofs.Common.{◌≡◌, ℕ, ◌+◌, ◌-◌, ◌<◌, ◌≤◌, Bool, true, false, List, [], ◌∷◌, ◌++◌, length, take, get_or, sum_by, is_some, Option, Some, None, refl, sym, ap, subst, ◌∙◌, inl, inr, arith, append-nil, length-append}
+use Rattle.std.proofs.Common.{◌≡◌, ℕ, ◌+◌, ◌-◌, ◌<◌, ◌≤◌, List, [], ◌∷◌, ◌++◌, length, take, get_or, is_some, Option, Some, None, refl, sym, ap, subst, ◌∙◌, inl, inr, arith, append-nil, length-append}
 use Rattle.std.specs.List.{cons_option, filter_map, join_with_byte}
 use Rattle.std.specs.Option.{option_map, option_map_or}
 use Rattle.std.proofs.lemmas.Bool.{cond_both}
@@ -10,7 +10,7 @@ use Rattle.opentelemetry.specs.Baggage.{PlainBaggage, PlainBaggageEntry, entry_a
 use Rattle.opentelemetry.proofs.BaggageLemmas.{baggage_bytes-with_entry, length-with_entry}
 use Rattle.opentelemetry.specs.Members.{comma, pieces_at, semicolon}
 use Rattle.otel_propagation.specs.BaggageHeader.{one_a_name}
-use Rattle.otel_propagation.specs.StrictBaggage.{are_properties, checked_metadata, spelled_pair, strict_entry_of_member, strict_entry_of_parts, strict_metadata_of, strict_pair, strict_paired_entry, strict_property, valued_entry, StrictPair}
+use Rattle.otel_propagation.specs.StrictBaggage.{are_properties, spelled_pair, strict_entry_of_member, strict_entry_of_parts, strict_metadata_of, strict_pair, strict_paired_entry, strict_property, valued_entry, StrictPair}
 use Rattle.otel_propagation.proofs.BaggageBounds.{length-pieces_at, pieces_bytes, HasRoomForMember, IsNamedWithin}
 use Rattle.otel_propagation.proofs.BaggageNames.{one_a_name_push}
 use Rattle.otel_propagation.proofs.StrictPairs.{key_some, pair_keyed, pair_within, IsKeyed, IsKeyedPair}
@@ -48,10 +48,10 @@ valued_within bound key None properties e keyed short is = absurd (cc)
 valued_within bound key (Some value) properties e keyed short is =
     cond_both (are_properties properties) (Some (strict_metadata_of properties)) None (λ metadata. option_map (entry_of key value) metadata ≡ Some e → IsNamedWithin bound e)
     (λ _ said.
-      let same : entry_of key value (strict_metadata_of properties) ≡ e = cc in
-      let metadata = metadata_within properties in
-      let all = length-append key (61 ∷ value) in
-      subst (IsNamedWithin bound) same (record { named = key_some key keyed.0; short = omega arith }))
+    let same : entry_of key value (strict_metadata_of properties) ≡ e = cc in
+    let metadata = metadata_within properties in
+    let all = length-append key (61 ∷ value) in
+    subst (IsNamedWithin bound) same (record { named = key_some key keyed.0; short = omega arith }))
     (λ _ said. absurd (cc)) is
 
 paired_within : (bound : ℕ) (pair : Option StrictPair) (properties : List (List ℕ)) (e : PlainBaggageEntry) → IsKeyedPair pair

@@ -1,9 +1,9 @@
 -- The laws of strict baggage headers: what is written is of the grammar, and what is read from it is written back.
-use Rattle.std.proofs.Common.{◌≡◌, ◌≢◌, ℕ, ◌+◌, ◌≤◌, Bool, true, false, ◌&&◌, eqb, map, List, [], ◌∷◌, ◌++◌, length, All, Option, Some, None, refl, sym, ap, ◌∙◌, subst, arith, append-nil, ⊎_elim, eq-eqb}
-use Rattle.std.specs.List.{AllByRecursion, cons_option, filter, filter_map, flat_map, join_with_byte, list_all}
+use Rattle.std.proofs.Common.{◌≡◌, ◌≢◌, ℕ, ◌≤◌, true, false, ◌&&◌, eqb, map, List, [], ◌∷◌, ◌++◌, length, All, refl, sym, ap, ◌∙◌, subst, arith, append-nil, ⊎_elim, inl, inr, eq-eqb}
+use Rattle.std.specs.List.{AllByRecursion, cons_option, filter, filter_map, flat_map, join_with_byte}
 use Rattle.std.proofs.lemmas.Bool.{cases_Bool, cond-true, cond-false}
-use Rattle.std.proofs.lemmas.List.{length-map}
-use Rattle.std.proofs.lemmas.List.Elements.{All-nil, All-head, All-tail, All-cons, All-append, All-weaker, filter-append}
+use Rattle.std.proofs.lemmas.Bool.Decides.{nat_tests}
+use Rattle.std.proofs.lemmas.List.Elements.{All-head, All-tail, filter-append}
 use Rattle.std.proofs.lemmas.List.Splits.{slice_split_none, slice_split_at}
 use Rattle.percent_encoding.specs.Percent.{percent_encode_byte}
 use Rattle.percent_encoding.proofs.PercentLemmas.{All-percent_encode_byte, IsEscapeByte}
@@ -18,7 +18,7 @@ use Rattle.otel_propagation.specs.StrictGrammar.AreMembers.{last_member, next_me
 use Rattle.otel_propagation.specs.StrictBaggage.{has_token_name, properties_onto, spelled_header, spelled_member, strict_entries_of, strict_header_of, strict_metadata_of, strict_pair, strict_property, written_entries, written_entry, written_octet, written_value}
 use Rattle.otel_propagation.proofs.BaggagePieceLemmas.{Lacks}
 use Rattle.otel_propagation.proofs.StrictBytes.{all_append, blanks_gone, dark_kept, dark_key, dark_octets, is_dark, semicolon_is}
-use Rattle.otel_propagation.proofs.StrictPairs.{key_tight, onto_behind, properties_tight, says_some, IsTightProperty}
+use Rattle.otel_propagation.proofs.StrictPairs.{key_tight, onto_behind, properties_tight, IsTightProperty}
 use Rattle.otel_propagation.proofs.StrictReads.{header_reads, property_lacks, tight_reads}
 
 -- an entry as a member spells it: its name, its value and its properties are of the grammar
@@ -32,9 +32,11 @@ pub record IsTight (e : PlainBaggageEntry) : Type 0 where
 -- each byte of a value is an octet when it is written
 escape_octet : (b : ℕ) → IsEscapeByte b → is_octet b ≡ true
 unfolding is_octet
-escape_octet b is = ?
+escape_octet b (inl is) = ap is_octet is
+escape_octet b (inr (inl digit)) = grind (arith, nat_tests)
+escape_octet b (inr (inr letter)) = grind (arith, nat_tests)
 
-escape_octets : (bytes : List ℕ) → All IsEscapeByte bytes → are_octets bytes ≡ true
+pub escape_octets : (bytes : List ℕ) → All IsEscapeByte bytes → are_octets bytes ≡ true
 escape_octets [] all = refl
 escape_octets (b ∷ bs) all = λ i. escape_octet b (All-head IsEscapeByte b bs all) i && escape_octets bs (All-tail IsEscapeByte b bs all) i
 
@@ -82,6 +84,11 @@ properties_spelled : (say : List (List ℕ)) → AllByRecursion IsTightProperty 
 properties_spelled [] tight = no_property
 properties_spelled (p ∷ ps) tight = next_property [] [] p p (properties_onto false ps) ps refl refl tight.0 (properties_spelled ps tight.1)
 
+pub member_parts : (e : PlainBaggageEntry) (tight : IsTight e) → spelled_member e ≡ e.key ++ equals_sign ∷ (e.value ++ properties_onto false tight.say)
+member_parts e tight =
+    ap (λ m. e.key ++ equals_sign ∷ (e.value ++ behind_semicolon m)) tight.metadata
+    ∙ ap (λ t. e.key ++ equals_sign ∷ (e.value ++ t)) (sym (onto_behind tight.say tight.properties))
+
 member_spelled : (e : PlainBaggageEntry) → IsTight e → IsMember (spelled_member e) e
 member_spelled e tight = record {
   before = [];
@@ -94,12 +101,10 @@ member_spelled e tight = record {
   value = tight.value;
   properties_are = properties_spelled tight.say tight.properties;
   metadata = tight.metadata;
-  spelled =
-      ap (λ m. e.key ++ equals_sign ∷ (e.value ++ behind_semicolon m)) tight.metadata
-      ∙ ap (λ t. e.key ++ equals_sign ∷ (e.value ++ t)) (sym (onto_behind tight.say tight.properties));
+  spelled = member_parts e tight;
 }
 
-members_spelled : (e : PlainBaggageEntry) (es : PlainBaggage) → AllByRecursion IsTight (e ∷ es) → AreMembers (spelled_header (e ∷ es)) (e ∷ es)
+pub members_spelled : (e : PlainBaggageEntry) (es : PlainBaggage) → AllByRecursion IsTight (e ∷ es) → AreMembers (spelled_header (e ∷ es)) (e ∷ es)
 members_spelled e [] tight = last_member (spelled_member e) e (member_spelled e tight.0)
 members_spelled e (f ∷ es) tight = next_member (spelled_member e) [] [] (spelled_header (f ∷ es)) e (f ∷ es) (member_spelled e tight.0) refl refl (members_spelled f es tight.1)
 
@@ -159,9 +164,13 @@ filtered_stay (e ∷ es) tight =
     ap (map written_entry) (cond-true _ (e ∷ filter has_token_name es) (filter has_token_name es) tight.0.key)
     ∙ (λ i. entry_stays e tight.0 i ∷ filtered_stay es tight.1 i)
 
+pub entries_stay : (es : PlainBaggage) → AllByRecursion IsTight es → written_entries es ≡ es
+unfolding written_entries
+entries_stay es tight = filtered_stay es tight
+
 pub header_stays : (es : PlainBaggage) → AllByRecursion IsTight es → strict_header_of es ≡ spelled_header es
-unfolding strict_header_of written_entries
-header_stays es tight = ap spelled_header (filtered_stay es tight)
+unfolding strict_header_of
+header_stays es tight = ap spelled_header (entries_stay es tight)
 
 -- the entries that a header spells are such
 property_tight : (text says : List ℕ) → IsProperty text says → IsTightProperty says
@@ -212,10 +221,10 @@ member_bare text e is =
     ∙ filter-append is_dark e.key (is.before ++ equals_sign ∷ (is.after ++ (e.value ++ is.properties)))
     ∙ (λ i. dark_kept e.key (dark_key e.key is.key) i ++ gone_between is.before is.after (e.value ++ is.properties) equals_sign is.before_is is.after_is refl i)
     ∙ ap (λ t. e.key ++ equals_sign ∷ t) (filter-append is_dark e.value is.properties
-      ∙ (λ i. dark_kept e.value (dark_octets e.value is.value) i ++ properties_bare is.properties is.say is.properties_are i)
-      ∙ ap (λ t. e.value ++ t) (onto_behind is.say (said_tight is.properties is.say is.properties_are) ∙ ap behind_semicolon (sym is.metadata)))
+    ∙ (λ i. dark_kept e.value (dark_octets e.value is.value) i ++ properties_bare is.properties is.say is.properties_are i)
+    ∙ ap (λ t. e.value ++ t) (onto_behind is.say (said_tight is.properties is.say is.properties_are) ∙ ap behind_semicolon (sym is.metadata)))
 
-some_entries : (text : List ℕ) (es : PlainBaggage) → AreMembers text es → es ≢ []
+pub some_entries : (text : List ℕ) (es : PlainBaggage) → AreMembers text es → es ≢ []
 some_entries _ _ (last_member text e is) none = absurd (cc)
 some_entries _ _ (next_member text before after rest e es is blank more next) none = absurd (cc)
 
@@ -223,7 +232,7 @@ join_more : (e : PlainBaggageEntry) (es : PlainBaggage) → es ≢ [] → spelle
 join_more e [] some = absurd (some refl)
 join_more e (f ∷ es) some = refl
 
-members_bare : (text : List ℕ) (es : PlainBaggage) → AreMembers text es → without_blanks text ≡ spelled_header es
+pub members_bare : (text : List ℕ) (es : PlainBaggage) → AreMembers text es → without_blanks text ≡ spelled_header es
 members_bare _ _ (last_member text e is) = member_bare text e is
 members_bare _ _ (next_member text before after rest e es is before_is after_is next) =
     filter-append is_dark text (before ++ comma ∷ (after ++ rest))

@@ -1,6 +1,6 @@
 -- What the strict reader makes of a header of the grammar: the entries that it spells, each in its place.
-use Rattle.std.proofs.Common.{◌≡◌, ◌≢◌, ℕ, ◌+◌, ◌≤◌, Bool, true, false, ◌&&◌, eqb, is_some, map, List, [], ◌∷◌, ◌++◌, length, take, Option, Some, None, refl, sym, ap, ◌∙◌, subst, arith, append-nil, append_assoc, eq-eqb}
-use Rattle.std.specs.List.{cons_option, filter_map, join_with_byte, list_all}
+use Rattle.std.proofs.Common.{◌≡◌, ℕ, ◌≤◌, true, false, ◌&&◌, eqb, is_some, suc, List, [], ◌∷◌, ◌++◌, length, take, Option, Some, None, refl, sym, ap, ◌∙◌, subst, arith, append-nil, append_assoc}
+use Rattle.std.specs.List.{cons_option, filter_map, join_with_byte}
 use Rattle.std.specs.Option.{option_map}
 use Rattle.std.proofs.lemmas.Bool.{cond-true}
 use Rattle.std.proofs.lemmas.List.{take_all}
@@ -13,7 +13,7 @@ use Rattle.otel_propagation.specs.StrictGrammar.{are_octets, is_token, AreMember
 use Rattle.otel_propagation.specs.StrictGrammar.IsProperty.{key_alone, key_and_value}
 use Rattle.otel_propagation.specs.StrictGrammar.AreProperties.{no_property, next_property}
 use Rattle.otel_propagation.specs.StrictGrammar.AreMembers.{last_member, next_member}
-use Rattle.otel_propagation.specs.StrictBaggage.{are_properties, checked_key, checked_metadata, checked_pair, pair_of_cut, spelled_pair, strict_entries_of, strict_entry_of_member, strict_entry_of_parts, strict_metadata_of, strict_pair, strict_paired_entry, strict_property, valued_entry, StrictPair}
+use Rattle.otel_propagation.specs.StrictBaggage.{are_properties, checked_key, checked_pair, pair_of_cut, spelled_pair, strict_entries_of, strict_entry_of_member, strict_entry_of_parts, strict_metadata_of, strict_pair, strict_paired_entry, strict_property, StrictPair}
 use Rattle.otel_propagation.proofs.BaggageNames.{one_a_name_distinct}
 use Rattle.otel_propagation.proofs.BaggagePieceLemmas.{Lacks}
 use Rattle.otel_propagation.proofs.StrictBytes.{all_append, both_lack, comma_is, cons_lacks, cut_found, cut_none, dark_key, dark_octets, key_lacks, key_lacks_equals, octets_lack, semicolon_is, space_lacks, trim_between, IsBreak}
@@ -94,9 +94,9 @@ properties_cut front trail _ _ lacks trail_is (next_property before after proper
     let text = before ++ semicolon ∷ (after ++ (property ++ rest)) in
     let same : front ++ (text ++ trail) ≡ (front ++ before) ++ semicolon ∷ ((after ++ property) ++ (rest ++ trail)) = simp append_assoc in
     let next = properties_cut (after ++ property) trail rest others
-      (both_lack semicolon after property (space_lacks semicolon refl after after_is) (property_lacks semicolon semicolon_is property says is)) trail_is more in
+    (both_lack semicolon after property (space_lacks semicolon refl after after_is) (property_lacks semicolon semicolon_is property says is)) trail_is more in
     let here : strict_property ((after ++ property) ++ next.space) ≡ Some says =
-      ap strict_property (append_assoc after property next.space) ∙ property_reads after property next.space says after_is next.space_is is in
+    ap strict_property (append_assoc after property next.space) ∙ property_reads after property next.space says after_is next.space_is is in
     record {
       space = before;
       pieces = ((after ++ property) ++ next.space) ∷ next.pieces;
@@ -109,18 +109,25 @@ properties_cut front trail _ _ lacks trail_is (next_property before after proper
       all = λ i. some_pair (strict_pair ((after ++ property) ++ next.space)) says here i && next.all i;
     }
 
+-- how the parts of a member are put together
+member_parts : (lead key before after value properties trail : List ℕ) → lead ++ ((key ++ (before ++ equals_sign ∷ (after ++ (value ++ properties)))) ++ trail) ≡ ((lead ++ (key ++ before)) ++ equals_sign ∷ (after ++ value)) ++ (properties ++ trail)
+member_parts lead key before after value properties trail = simp append_assoc
+
+pair_parts : (lead key before after value space : List ℕ) → ((lead ++ (key ++ before)) ++ equals_sign ∷ (after ++ value)) ++ space ≡ (lead ++ (key ++ before)) ++ equals_sign ∷ (after ++ (value ++ space))
+pair_parts lead key before after value space = simp append_assoc
+
 -- a member of the grammar
 member_reads : (lead text trail : List ℕ) (e : PlainBaggageEntry) → IsOptionalSpace lead → IsOptionalSpace trail → IsMember text e → strict_entry_of_member (lead ++ (text ++ trail)) ≡ Some e
 unfolding strict_entry_of_member strict_metadata_of
 member_reads lead text trail e lead_is trail_is is =
     let front = (lead ++ (e.key ++ is.before)) ++ equals_sign ∷ (is.after ++ e.value) in
-    let whole : lead ++ ((e.key ++ (is.before ++ equals_sign ∷ (is.after ++ (e.value ++ is.properties)))) ++ trail) ≡ front ++ (is.properties ++ trail) = simp append_assoc in
+    let whole : lead ++ ((e.key ++ (is.before ++ equals_sign ∷ (is.after ++ (e.value ++ is.properties)))) ++ trail) ≡ front ++ (is.properties ++ trail) = member_parts lead e.key is.before is.after e.value is.properties trail in
     let lacks : Lacks semicolon front =
-      both_lack semicolon (lead ++ (e.key ++ is.before)) (equals_sign ∷ (is.after ++ e.value))
-      (both_lack semicolon lead (e.key ++ is.before) (space_lacks semicolon refl lead lead_is) (both_lack semicolon e.key is.before (key_lacks semicolon semicolon_is e.key is.key) (space_lacks semicolon refl is.before is.before_is)))
-      (cons_lacks semicolon equals_sign (is.after ++ e.value) refl (both_lack semicolon is.after e.value (space_lacks semicolon refl is.after is.after_is) (octets_lack semicolon semicolon_is e.value is.value))) in
+    both_lack semicolon (lead ++ (e.key ++ is.before)) (equals_sign ∷ (is.after ++ e.value))
+    (both_lack semicolon lead (e.key ++ is.before) (space_lacks semicolon refl lead lead_is) (both_lack semicolon e.key is.before (key_lacks semicolon semicolon_is e.key is.key) (space_lacks semicolon refl is.before is.before_is)))
+    (cons_lacks semicolon equals_sign (is.after ++ e.value) refl (both_lack semicolon is.after e.value (space_lacks semicolon refl is.after is.after_is) (octets_lack semicolon semicolon_is e.value is.value))) in
     let parts = properties_cut front trail is.properties is.say lacks trail_is is.properties_are in
-    let pair : front ++ parts.space ≡ (lead ++ (e.key ++ is.before)) ++ equals_sign ∷ (is.after ++ (e.value ++ parts.space)) = simp append_assoc in
+    let pair : front ++ parts.space ≡ (lead ++ (e.key ++ is.before)) ++ equals_sign ∷ (is.after ++ (e.value ++ parts.space)) = pair_parts lead e.key is.before is.after e.value parts.space in
     ap (λ t. strict_entry_of_parts (pieces_at semicolon (lead ++ (t ++ trail)))) is.spelled
     ∙ ap (λ t. strict_entry_of_parts (pieces_at semicolon t)) whole
     ∙ ap strict_entry_of_parts parts.cut
@@ -153,7 +160,7 @@ members_read lead _ _ lead_is (last_member text e is) =
 members_read lead _ _ lead_is (next_member text before after rest e es is before_is after_is more) =
     let same : lead ++ (text ++ (before ++ comma ∷ (after ++ rest))) ≡ (lead ++ (text ++ before)) ++ comma ∷ (after ++ rest) = simp append_assoc in
     let lacks : Lacks comma (lead ++ (text ++ before)) =
-      both_lack comma lead (text ++ before) (space_lacks comma refl lead lead_is) (both_lack comma text before (member_lacks_comma text e is) (space_lacks comma refl before before_is)) in
+    both_lack comma lead (text ++ before) (space_lacks comma refl lead lead_is) (both_lack comma text before (member_lacks_comma text e is) (space_lacks comma refl before before_is)) in
     let cut = ap (pieces_at comma) same ∙ slice_split_at (λ b. eqb b comma) (lead ++ (text ++ before)) comma (after ++ rest) lacks refl in
     let next = members_read after rest es after_is more in
     subst (λ (members : List (List ℕ)). MembersRead members (e ∷ es)) (sym cut)

@@ -1,7 +1,7 @@
 -- What the strict writer writes: the members of the entries whose names are tokens, in order.
-use Rattle.std.proofs.Common.{◌≡◌, ◌≢◌, ℕ, ◌+◌, ◌<◌, ◌==◌, Bool, true, false, not, cond, ◌&&◌, map, List, [], ◌∷◌, ◌++◌, length, All, Option, Some, None, refl, sym, ap, ◌∙◌, ⊎_elim, arith, append-nil, append_assoc, length-append, ne_eqb}
-use Rattle.std.specs.List.{AllByRecursion, filter, filter_map, flat_map, join_with_byte, list_all}
-use Rattle.std.proofs.lemmas.Bool.{agree_below_at, both_ways, cases_Bool, cases_lt, cond-true, cond-false}
+use Rattle.std.proofs.Common.{◌≡◌, ℕ, ◌<◌, ◌==◌, Bool, true, false, not, cond, map, List, [], ◌∷◌, ◌++◌, length, All, refl, sym, ap, ◌∙◌, ⊎_elim, arith, append-nil, append_assoc, length-append, ne_eqb}
+use Rattle.std.specs.List.{filter, filter_map, flat_map, join_with_byte}
+use Rattle.std.proofs.lemmas.Bool.{agree_below_at, cases_Bool, cases_lt, cond-true, cond-false}
 use Rattle.std.proofs.lemmas.Bool.Decides.{nat_tests}
 use Rattle.std.proofs.lemmas.List.{map_push}
 use Rattle.std.proofs.lemmas.List.Elements.{All-nil, All-cons, filter-append}
@@ -54,7 +54,7 @@ member_written e old name equals value new named parted valued all =
 member_some : (e : PlainBaggageEntry) → 0 < length (spelled_member e)
 member_some e = let all = length-append e.key (equals_sign ∷ (e.value ++ behind_semicolon e.metadata)) in omega arith
 
-header_some : (e : PlainBaggageEntry) (es : PlainBaggage) → 0 < length (spelled_header (e ∷ es))
+pub header_some : (e : PlainBaggageEntry) (es : PlainBaggage) → 0 < length (spelled_header (e ∷ es))
 header_some e [] = member_some e
 header_some e (f ∷ es) =
     let own = member_some e in
@@ -75,16 +75,16 @@ unfolding strict_header_of written_entries
 header_more es e =
     ⊎_elim
     (λ token.
-      ap (λ l. spelled_header (map written_entry l)) (filter-append has_token_name es (e ∷ []) ∙ ap (λ l. filter has_token_name es ++ l) (cond-true _ _ _ token))
-      ∙ ap spelled_header (map_push written_entry (filter has_token_name es) e)
-      ∙ ap (join_with_byte comma) (map_push spelled_member (written_entries es) (written_entry e))
-      ∙ join_last comma (map spelled_member (written_entries es)) (spelled_member (written_entry e))
-      ∙ ap (λ (b : Bool). strict_header_of es ++ (unless_first b (comma ∷ []) ++ spelled_member (written_entry e))) (sym (header_begun (written_entries es)))
-      ∙ ap (λ l. strict_header_of es ++ l) (sym (cond-true _ _ _ token)))
+    ap (λ l. spelled_header (map written_entry l)) (filter-append has_token_name es (e ∷ []) ∙ ap (λ l. filter has_token_name es ++ l) (cond-true _ _ _ token))
+    ∙ ap spelled_header (map_push written_entry (filter has_token_name es) e)
+    ∙ ap (join_with_byte comma) (map_push spelled_member (written_entries es) (written_entry e))
+    ∙ join_last comma (map spelled_member (written_entries es)) (spelled_member (written_entry e))
+    ∙ ap (λ (b : Bool). strict_header_of es ++ (unless_first b (comma ∷ []) ++ spelled_member (written_entry e))) (sym (header_begun (written_entries es)))
+    ∙ ap (λ l. strict_header_of es ++ l) (sym (cond-true _ _ _ token)))
     (λ none.
-      ap (λ l. spelled_header (map written_entry l)) (filter-append has_token_name es (e ∷ []) ∙ ap (λ l. filter has_token_name es ++ l) (cond-false _ _ _ none) ∙ append-nil (filter has_token_name es))
-      ∙ sym (append-nil (strict_header_of es))
-      ∙ ap (λ l. strict_header_of es ++ l) (sym (cond-false _ _ _ none)))
+    ap (λ l. spelled_header (map written_entry l)) (filter-append has_token_name es (e ∷ []) ∙ ap (λ l. filter has_token_name es ++ l) (cond-false _ _ _ none) ∙ append-nil (filter has_token_name es))
+    ∙ sym (append-nil (strict_header_of es))
+    ∙ ap (λ l. strict_header_of es ++ l) (sym (cond-false _ _ _ none)))
     (cases_Bool (is_token e.key))
 
 -- where nothing is left to write, no name is a token
@@ -94,9 +94,9 @@ no_token_names [] none = All-nil (λ (e : PlainBaggageEntry). is_token e.key ≡
 no_token_names (e ∷ es) none =
     ⊎_elim
     (λ token.
-      let some = header_some (written_entry e) (written_entries es) in
-      let written : spelled_header (map written_entry (e ∷ filter has_token_name es)) ≡ [] = ap (λ l. spelled_header (map written_entry l)) (sym (cond-true _ _ _ token)) ∙ none in
-      let empty : length (spelled_header (written_entry e ∷ written_entries es)) ≡ 0 = ap length written in absurd (omega arith))
+    let some = header_some (written_entry e) (written_entries es) in
+    let written : spelled_header (map written_entry (e ∷ filter has_token_name es)) ≡ [] = ap (λ l. spelled_header (map written_entry l)) (sym (cond-true _ _ _ token)) ∙ none in
+    let empty : length (spelled_header (written_entry e ∷ written_entries es)) ≡ 0 = ap length written in absurd (omega arith))
     (λ other.
-      All-cons (λ (x : PlainBaggageEntry). is_token x.key ≡ false) e es other (no_token_names es (ap (λ l. spelled_header (map written_entry l)) (sym (cond-false _ _ _ other)) ∙ none)))
+    All-cons (λ (x : PlainBaggageEntry). is_token x.key ≡ false) e es other (no_token_names es (ap (λ l. spelled_header (map written_entry l)) (sym (cond-false _ _ _ other)) ∙ none)))
     (cases_Bool (is_token e.key))

@@ -1,6 +1,6 @@
 -- What the strict baggage propagator reads and writes: the grammar of the header (W3C Baggage, section 3.3.1) and no
 -- more. A text is kept as it came, without the optional white space; nothing is percent-decoded.
-use Rattle.std.specs.Prelude.{◌≡◌, ◌≢◌, ℕ, Bool, true, false, ◌&&◌, ◌==◌, nat_le, List, [], ◌∷◌, ◌++◌, if◌then◌else◌}
+use Rattle.std.specs.Prelude.{◌≡◌, ◌≢◌, ℕ, Bool, false, ◌&&◌, ◌==◌, nat_le, List, [], ◌∷◌, ◌++◌, if◌then◌else◌}
 use Rattle.std.specs.Prelude.{Option, None, Some, Result, OnOk, OnErr, IsOk, is_some, length, take, map, unwrap_or}
 use Rattle.std.specs.List.{filter, filter_map, flat_map, join_with_byte, list_all}
 use Rattle.std.specs.Option.{option_map}

@@ -1,5 +1,5 @@
 -- What the laws of strict baggage headers speak of.
-use Rattle.std.specs.Prelude.{◌≡◌, ℕ, Bool, true, List, []}
+use Rattle.std.specs.Prelude.{◌≡◌, ℕ, Bool, true, []}
 use Rattle.opentelemetry.specs.Baggage.{PlainBaggageEntry}
 use Rattle.opentelemetry.specs.Members.{HasNo}
 use Rattle.otel_propagation.specs.StrictGrammar.{is_token, is_within}

@@ -103,7 +103,11 @@ fn trim_blanks(text: &str) -> &str
 fn checked_key(key: &str) -> Option<(&str, Option<&str>)>
     ensures { option_map plain_pair result ≡ checked_key key.now }
 {
-    if is_token(key) { Some((key, None)) } else { None }
+    if is_token(key) {
+        Some((key, None))
+    } else {
+        None
+    }
 }
 
 /// A key with a value, where the one is a token and the other of octets.
@@ -141,7 +145,11 @@ pub fn are_properties(properties: &str) -> bool
 }
 
 /// Writes those of the properties that are of the grammar, each behind a semicolon; not so the first of all.
-pub fn push_properties(text: &mut String, properties: &str, is_first: bool) -> Result<(), AllocError>
+pub fn push_properties(
+    text: &mut String,
+    properties: &str,
+    is_first: bool,
+) -> Result<(), AllocError>
     ensures { OnOk result (TextGrows text.old
         (properties_onto is_first (filter_map strict_property (pieces_at semicolon properties.now))) text.new) }
 {
@@ -178,7 +186,11 @@ fn push_pair(text: &mut String, key: &str, value: Option<&str>) -> Result<(), Al
 }
 
 /// Writes what parts a text from those before it. The first has none there.
-pub fn push_unless_first(text: &mut String, is_first: bool, separator: &str) -> Result<(), AllocError>
+pub fn push_unless_first(
+    text: &mut String,
+    is_first: bool,
+    separator: &str,
+) -> Result<(), AllocError>
     ensures { OnOk result (TextGrows text.old (unless_first is_first separator.now) text.new) }
 {
     if is_first {

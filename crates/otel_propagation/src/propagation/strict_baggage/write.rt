@@ -13,12 +13,7 @@ use std::alloc::{AllocError, Global};
 
 /// What a value has percent-encoded, beside all that is not ASCII: what is no baggage octet.
 pub const NO_OCTETS: AsciiSet = ascii_set!(
-    CONTROLS
-        .add(b' ')
-        .add(b'"')
-        .add(b',')
-        .add(b';')
-        .add(b'\\')
+    CONTROLS.add(b' ').add(b'"').add(b',').add(b';').add(b'\\')
 );
 
 /// The header of a baggage. Where nothing is left to write it is empty, and takes no memory.
@@ -34,7 +29,12 @@ pub fn header_of(alloc: Global, baggage: &Baggage) -> Result<String, AllocError>
 }
 
 /// Writes the member of an entry whose name is a token, after a comma unless it is the first.
-fn push_entry(header: &mut String, name: &str, value: &str, metadata: &str) -> Result<(), AllocError>
+fn push_entry(
+    header: &mut String,
+    name: &str,
+    value: &str,
+    metadata: &str,
+) -> Result<(), AllocError>
     ensures text { OnOk result (TextGrows header.old
         (next_written (length (string_bytes header.old) == 0) (entry_of name.now value.now metadata.now)) header.new) }
     ensures free { is_token name.now ≡ false → IsOk result }
@@ -48,7 +48,12 @@ fn push_entry(header: &mut String, name: &str, value: &str, metadata: &str) -> R
 }
 
 /// Writes the member of an entry.
-fn push_member(header: &mut String, name: &str, value: &str, metadata: &str) -> Result<(), AllocError>
+fn push_member(
+    header: &mut String,
+    name: &str,
+    value: &str,
+    metadata: &str,
+) -> Result<(), AllocError>
     ensures { OnOk result (TextGrows header.old
         (spelled_member (written_entry (entry_of name.now value.now metadata.now))) header.new) }
 {

@@ -20,4 +20,4 @@ returns c =
     (YieldsList-from_str_split 59 c.args.properties.now (lit< tt) c.split-property-items.ensures.text c.split-property-items.ensures.has_more c.split-property-items.ensures.pattern) in
     c.properties.invariant.text
     ∙ ap (λ (ps : List (List ℕ)). string_bytes c.args.text.now ++ properties_onto c.args.is_first (filter_map strict_property ps))
-      (YieldsList-end pieces c.properties.yielded _ c.properties.yielded_by _ _ c.in-None.is c.next.ensures.steps).0
+    (YieldsList-end pieces c.properties.yielded _ c.properties.yielded_by _ _ c.in-None.is c.next.ensures.steps).0

@@ -3,7 +3,7 @@ use Rattle.std.proofs.lemmas.Bool.{cond-true}
 use Rattle.std.specs.List.{filter_map}
 use Rattle.opentelemetry.specs.Members.{pieces_at, semicolon}
 use Rattle.otel_propagation.specs.BaggagePieces.{properties_behind}
-use Rattle.otel_propagation.specs.StrictBaggage.{checked_metadata, properties_onto, strict_metadata_of, strict_property}
+use Rattle.otel_propagation.specs.StrictBaggage.{checked_metadata, strict_metadata_of, strict_property}
 use Rattle.otel_propagation.proofs.StrictPairs.{onto_join}
 use Rattle.otel_propagation.proofs.propagation.strict_baggage.read.read_properties.Goals as goal
 

@@ -1,8 +1,8 @@
-use Rattle.std.proofs.Common.{◌≡◌, ℕ, List, ◌++◌, ◌∷◌, [], ◌==◌, false, length, map, string_bytes, sym, ap, subst, ◌∙◌}
+use Rattle.std.proofs.Common.{◌≡◌, ℕ, List, ◌++◌, ◌==◌, false, length, map, string_bytes, sym, ap, subst, ◌∙◌}
 use Rattle.std.proofs.lemmas.List.{map_push}
 use Rattle.std.proofs.lemmas.List.Elements.{All-get_or}
 use Rattle.std.proofs.lemmas.Iterator.Consumers.{YieldsList-at, YieldsList-end, YieldsList-from_first, YieldsList-turn}
-use Rattle.opentelemetry.specs.Baggage.{PlainBaggage, PlainBaggageEntry, plain_item, entry_of}
+use Rattle.opentelemetry.specs.Baggage.{PlainBaggageEntry, plain_item, entry_of}
 use Rattle.otel_propagation.specs.StrictGrammar.{is_token}
 use Rattle.otel_propagation.specs.StrictBaggage.{next_written, strict_header_of}
 use Rattle.otel_propagation.proofs.StrictWrites.{header_more, header_none, no_token_names}
@@ -30,6 +30,6 @@ returns-in_err-push_entry-clause-free c none =
     absurd cc
 
 pub returns-clause-header : goal.returns-clause-header
-returns-clause-header c = 
+returns-clause-header c =
     let entries = YieldsList-at c.into_iter-name-iterator.ensures.into_iter_gives (YieldsList-from_first plain_item (λ entries. entries) c.args.baggage.now c.iter-name-items.ensures) in
     c.entries.invariant ∙ ap strict_header_of (YieldsList-end entries c.entries.yielded _ c.entries.yielded_by _ _ c.in-None.is c.next.ensures.steps).0
