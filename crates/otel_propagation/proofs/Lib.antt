@@ -8,6 +8,15 @@ pub mod BothLemmas
 pub mod CompositeLemmas
 pub mod ConfiguredLemmas
 pub mod NamedLemmas
+pub mod StrictBounds
+pub mod StrictBytes
+pub mod StrictGraphic
+pub mod StrictHeaders
+pub mod StrictPairs
+pub mod StrictPassing
+pub mod StrictReads
+pub mod StrictSound
+pub mod StrictWrites
 pub mod TextPieces
 pub mod TraceparentLemmas
 pub mod TrimLemmas

@@ -5,4 +5,7 @@ pub mod CompositeList
 pub mod ConfiguredPropagators
 pub mod NamedPropagators
 pub mod PropagatorKinds
+pub mod StrictBaggage
+pub mod StrictGrammar
+pub mod StrictLaws
 pub mod Traceparent

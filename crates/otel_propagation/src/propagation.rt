@@ -7,6 +7,7 @@ pub mod configured;
 pub mod custom;
 pub mod named;
 pub mod propagator_kinds;
+pub mod strict_baggage;
 pub mod trace_context;
 
 pub use baggage::BaggagePropagator;
@@ -16,4 +17,5 @@ pub use configured::{ConfiguredPropagators, configured_propagators};
 pub use custom::{CustomPropagators, NoCustomPropagators, NoPropagator};
 pub use named::{NamedPropagator, named_propagators};
 pub use propagator_kinds::PropagatorOf;
+pub use strict_baggage::StrictBaggagePropagator;
 pub use trace_context::TraceContextPropagator;
