@@ -4,13 +4,17 @@
 ghost use Rattle.std.specs.Prelude.{◌≡◌, ◌<◌, ◌≤◌, ◌++◌, ℕ, IsNone, Some, List, [], All, Result, false, length, map};
 ghost use Rattle.std.specs.Str.{IsUtf8, chars};
 ghost use Rattle.std.specs.declared.alloc.AllocError.{AllocError};
-ghost use Rattle.opentelemetry.specs.Plain.{PlainSpanContext};
+ghost use Rattle.opentelemetry.specs.Carrier.{Texts};
+ghost use Rattle.opentelemetry.specs.Plain.{PlainContext, PlainSpanContext};
 ghost use Rattle.otel_sampling.specs.Agreement.{Agrees};
 ghost use Rattle.otel_sampling.specs.ParentBased.{FollowParents, delegates_of};
 ghost use Rattle.otel_sampling.specs.Sampler.{SamplerPlan, parent_based, plan};
+ghost use Rattle.otel_propagation.specs.CompositeList.{ExtractsEach, InjectsEach};
+ghost use Rattle.otel_propagation.specs.PropagatorKinds.{AreBoth, ExtractsByKind, InjectsByKind};
 ghost use Rattle.otel_propagation.specs.Traceparent.{IsSpanContext, IsValid};
+ghost use Rattle.otel_propagation.specs.declared.propagation.propagator_kinds.PropagatorOf.{PropagatorOf};
 ghost use Rattle.otel_pipeline.specs.Hops.{AreDrawnHops, AreHops, GoesByParents, GoesByValidParents, IsChild};
-ghost use Rattle.otel_pipeline.specs.Hops.{IsDrawnChild};
+ghost use Rattle.otel_pipeline.specs.Hops.{IsDrawnChild, IsReceived};
 ghost use Rattle.otel_pipeline.specs.Provider.{ProviderState};
 ghost use Rattle.otel_pipeline.specs.Deliveries.{EachFollows};
 ghost use Rattle.otel_pipeline.specs.Ending.{Delivers, Ends, deliveries};
@@ -24,6 +28,7 @@ ghost use Rattle.otel_sampling.specs.declared.trace.sampler.SamplerOf.{SamplerOf
 
 use crate::trace::{Span, SpanProcessor};
 use opentelemetry::laws::span_contexts_fit;
+use opentelemetry::propagation::TextMapPropagator;
 use opentelemetry::trace::SpanContext;
 use otel_sampling::trace::{GivesIds, ParentBased, SamplerOf, ShouldSample};
 
@@ -134,6 +139,17 @@ pub fn starts_under_valid_parents_make_hops<P: SpanProcessor, S: ShouldSample, G
         → Starts P.SpanProcessor S.ShouldSample G.GivesIds old request history new
         → 0 < (span_of history).span_context.span_id
         → IsDrawnChild parent (span_of history).span_context }
+{}
+
+/// What a list of W3C's two propagators sends, in either order, and another such list receives, is received through
+/// headers: a hop of the trace. The configured propagators of the default text are such a list.
+pub fn lists_of_propagators_pass_on<C: TextMapPropagator>()
+    ensures { (sending receiving : List (PropagatorOf C)) (sender receiver found : PlainContext)
+        (before headers : Texts) (sent received : PlainSpanContext)
+        → AreBoth sending → AreBoth receiving → sender.span_context ≡ Some sent
+        → InjectsEach (InjectsByKind C.inject_gives) sending sender before (Ok tt) headers
+        → ExtractsEach (ExtractsByKind C.extract_gives) receiving receiver headers found
+        → found.span_context ≡ Some received → IsReceived sent received }
 {}
 
 /// What a root hands down: where a span context agrees with it, so does each of a list of hops from there, be that one

@@ -4,6 +4,7 @@ pub mod BaggageNoEntries
 pub mod BaggagePieceLemmas
 pub mod BaggageRoundTrip
 pub mod BaggageTextLemmas
+pub mod BothLemmas
 pub mod CompositeLemmas
 pub mod ConfiguredLemmas
 pub mod NamedLemmas

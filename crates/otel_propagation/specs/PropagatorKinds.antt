@@ -1,5 +1,5 @@
 -- A propagator of one of the kinds that a list may have: what it says is what the one that it holds says.
-use Rattle.std.specs.Prelude.{ℕ, List, [], ◌∷◌}
+use Rattle.std.specs.Prelude.{◌≡◌, ◌⊎◌, ℕ, List, [], ◌∷◌}
 use Rattle.opentelemetry.specs.Carrier.{Injection}
 use Rattle.otel_propagation.specs.BaggageHeader.{baggage_field, InjectsBaggage, ExtractsBaggage, BaggageIsInfallible}
 use Rattle.otel_propagation.specs.Composite.{Extraction, Infallible}
@@ -31,3 +31,9 @@ abbrev pub fields_by_kind : {C : Type 0} → (C → List (List ℕ)) → Propaga
 fields_by_kind custom (kinds.TraceContext _) = traceparent_field ∷ tracestate_field ∷ []
 fields_by_kind custom (kinds.Baggage _) = baggage_field ∷ []
 fields_by_kind custom (kinds.Custom c) = custom c
+
+-- a list has W3C's two propagators, in either order
+abbrev pub AreBoth : {C : Type 0} → List (PropagatorOf C) → Type 0
+AreBoth list =
+    (list ≡ kinds.TraceContext (record {}) ∷ kinds.Baggage (record {}) ∷ [])
+    ⊎ (list ≡ kinds.Baggage (record {}) ∷ kinds.TraceContext (record {}) ∷ [])

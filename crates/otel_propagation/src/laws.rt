@@ -1,6 +1,6 @@
 //! The laws of headers, over the definitions alone. Each function does nothing; its contract is the law, for all values.
 
-ghost use Rattle.std.specs.Prelude.{◌≡◌, ◌↔◌, ℕ, List, [], ◌∷◌, All, Result};
+ghost use Rattle.std.specs.Prelude.{◌≡◌, ◌↔◌, ℕ, List, [], ◌∷◌, All, Result, Some};
 ghost use Rattle.std.specs.declared.alloc.AllocError.{AllocError};
 ghost use Rattle.opentelemetry.specs.PlainContexts.{current_span_context};
 ghost use Rattle.opentelemetry.specs.Plain.{PlainContext, PlainSpanContext};
@@ -10,8 +10,10 @@ ghost use Rattle.otel_propagation.specs.BaggageHeader.{entries_of, header_of, Ca
 ghost use Rattle.otel_propagation.specs.BaggageHeader.{IsCarriedUnchanged, IsSaidUnchanged};
 ghost use Rattle.otel_propagation.specs.Composite.{BothAreInfallible, ExtractsBoth, InjectsBoth, joined};
 ghost use Rattle.otel_propagation.specs.CompositeList.{ExtractsEach, InjectsEach, ListIsInfallible, fields_onto};
+ghost use Rattle.otel_propagation.specs.PropagatorKinds.{AreBoth, ExtractsByKind, InjectsByKind};
 ghost use Rattle.otel_propagation.specs.Traceparent.{CarriesSpan, InjectsTraceContext, IsSpanContext};
-ghost use Rattle.otel_propagation.specs.Traceparent.{IsTraceparent, IsValid};
+ghost use Rattle.otel_propagation.specs.Traceparent.{IsTraceparent, IsValid, remote_copy};
+ghost use Rattle.otel_propagation.specs.declared.propagation.propagator_kinds.PropagatorOf.{PropagatorOf};
 
 use opentelemetry::propagation::TextMapPropagator;
 
@@ -39,6 +41,26 @@ pub fn injected_span_context_is_carried()
     ensures { (cx : PlainContext) (old new : Texts) → IsSpanContext (current_span_context cx)
         → IsValid (current_span_context cx)
         → InjectsTraceContext cx old (Ok tt) new → CarriesSpan new (current_span_context cx) }
+{}
+
+/// What W3C's two propagators, as a list in either order, inject, another such list extracts: the span context, whatever
+/// the baggage is, and both where both are carried.
+pub fn injected_lists_are_carried<C: TextMapPropagator>()
+    ensures span { (writing reading : List (PropagatorOf C)) (cx receiver found : PlainContext) (old new : Texts)
+        → AreBoth writing → AreBoth reading → IsSpanContext (current_span_context cx)
+        → IsValid (current_span_context cx)
+        → InjectsEach (InjectsByKind C.inject_gives) writing cx old (Ok tt) new
+        → ExtractsEach (ExtractsByKind C.extract_gives) reading receiver new found
+        → found.span_context ≡ Some (remote_copy (current_span_context cx)) }
+    ensures both { (writing reading : List (PropagatorOf C)) (cx receiver found : PlainContext) (old new : Texts)
+        → AreBoth writing → AreBoth reading → IsSpanContext (current_span_context cx)
+        → IsValid (current_span_context cx) → IsBaggage cx.baggage → IsCarriedUnchanged cx.baggage
+        → InjectsEach (InjectsByKind C.inject_gives) writing cx old (Ok tt) new
+        → ExtractsEach (ExtractsByKind C.extract_gives) reading receiver new found
+        → found ≡ record receiver {
+          span_context = Some (remote_copy (current_span_context cx));
+          baggage = cx.baggage;
+        } }
 {}
 
 /// A list of two propagators says what the pair of them says.

@@ -75,7 +75,7 @@ impl TextMapPropagator for StrictBaggagePropagator {
         }
     }
 
-    fn fields(&self) -> FieldIter {
+    fn fields(&self) -> FieldIter<'_> {
         FieldIter::new(&[BAGGAGE_HEADER])
     }
 }
