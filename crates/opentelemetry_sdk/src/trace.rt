@@ -23,8 +23,9 @@ pub use otel_pipeline::trace::{
 };
 pub use otel_sampling::trace::{
     BatchStrings, Config, ConfigOf, ConfigStrings, GivesIds, IdGenerator, IdSource, IdSourceOf,
-    ParentBased, RandomIdGenerator, Ratio, RatioError, Sampler, SamplerOf, SamplingDecision,
-    SamplingResult, ShouldSample, SpanLimits, XrayIdGenerator,
+    ParentBased, RandomIdGenerator, Ratio, RatioError, Replacement, Sampler, SamplerOf,
+    SamplingDecision, SamplingResult, Setting, SettingFault, ShouldSample, SpanLimits,
+    XrayIdGenerator,
 };
 pub use processor::{Processor, ProcessorOf};
 

@@ -15,7 +15,7 @@ use Rattle.otel_sampling.specs.declared.trace.sampler.ShouldSample as sampling
 use Rattle.opentelemetry.specs.Tracestate.{ArePairs}
 use Rattle.otel_propagation.specs.Traceparent.{IsSpanContext, IsValid, remote_copy}
 use Rattle.otel_propagation.proofs.TraceparentLemmas.{injected_carries}
-use Rattle.otel_pipeline.specs.Hops.{AreDrawnHops, AreHops, GoesByParent, GoesByParents, IsChild, IsDrawnChild, IsPassedOn, IsReceived}
+use Rattle.otel_pipeline.specs.Hops.{AreDrawnHops, AreHops, GoesByParent, GoesByParents, IsAnsweredChild, IsChild, IsDrawnChild, IsPassedOn, IsReceived}
 use Rattle.otel_pipeline.specs.Provider.{unstarted_context, ProviderState}
 use Rattle.otel_pipeline.specs.SpanHistory.{SpanHistory, SpanStart, over, span_of}
 use Rattle.otel_pipeline.specs.StartRequest.{StartRequest, start_flags, start_moment, start_question, start_span_context}
@@ -125,20 +125,31 @@ module _ {P S G : Type 0} (calls : Ghosts P) (sampler : sampling.Ghosts S) (ids 
       let runs : (old.is_shut || request.cx.telemetry_suppressed) ≡ false = λ k. is_open k || unsuppressed k in
       subst (λ (b : Bool). MatchBool b ((history ≡ over (unstarted_context old request.cx) old.span_limits) × (new ≡ old)) (StartsOpen calls sampler ids old request history new)) runs starts
 
+  -- a start below the active span goes by what the sampler answers
+  pub answered_under : (old new : ProviderState P S G) (request : StartRequest) (history : SpanHistory) (parent : PlainSpanContext)
+      → old.is_shut ≡ false → request.cx.telemetry_suppressed ≡ false → request.cx.span_context ≡ Some parent
+      → Starts calls sampler ids old request history new
+      → IsAnsweredChild parent (sampler.answer old.sampler (start_question request.cx parent.trace_id request.builder)) (span_of history).span_context
+  answered_under old new request history parent is_open unsuppressed active starts =
+      let started = opens old new request history is_open unsuppressed starts in
+      let is_parent : current_span_context request.cx ≡ parent = ap (λ (a : Option PlainSpanContext). unwrap_or a empty_span_context) active in
+      let drawn : DrawsTraceId ids (Some parent) (start_moment request.builder request.now) started.draws.between started.trace_id new.id_generator =
+      subst (λ (a : Option PlainSpanContext). DrawsTraceId ids a (start_moment request.builder request.now) started.draws.between started.trace_id new.id_generator) active started.draws.draws_trace_id in
+      let answered : started.answer ≡ sampler.answer old.sampler (start_question request.cx parent.trace_id request.builder) =
+      started.asks ∙ ap (λ (id : ℕ). sampler.answer old.sampler (start_question request.cx id request.builder)) drawn.0 in (
+        started.span_id,
+        decided_context calls started.answer.decision request.cx _ old.processors new.processors history started.decided
+            ∙ (λ k. start_span_context (is_parent k) (drawn.0 k) started.span_id (answered k)),
+      )
+
   -- a start under a sampler that goes by the active span makes a child of that one
   pub child_under : (old new : ProviderState P S G) (request : StartRequest) (history : SpanHistory) (parent : PlainSpanContext)
       → GoesByParent sampler old.sampler parent → old.is_shut ≡ false → request.cx.telemetry_suppressed ≡ false → request.cx.span_context ≡ Some parent
       → Starts calls sampler ids old request history new → IsChild parent (span_of history).span_context
   child_under old new request history parent by_parent is_open unsuppressed active starts =
-      let started = opens old new request history is_open unsuppressed starts in
-      let is_parent : current_span_context request.cx ≡ parent = ap (λ (a : Option PlainSpanContext). unwrap_or a empty_span_context) active in
-      let drawn : DrawsTraceId ids (Some parent) (start_moment request.builder request.now) started.draws.between started.trace_id new.id_generator =
-      subst (λ (a : Option PlainSpanContext). DrawsTraceId ids a (start_moment request.builder request.now) started.draws.between started.trace_id new.id_generator) active started.draws.draws_trace_id in
-      let answered = started.asks ∙ by_parent (start_question request.cx started.trace_id request.builder) active in (
-        started.span_id,
-        decided_context calls started.answer.decision request.cx _ old.processors new.processors history started.decided
-            ∙ (λ k. start_span_context (is_parent k) (drawn.0 k) started.span_id (answered k)),
-      )
+      subst (λ (answer : PlainSamplingResult). IsAnsweredChild parent answer (span_of history).span_context)
+      (by_parent (start_question request.cx parent.trace_id request.builder) active)
+      (answered_under old new request history parent is_open unsuppressed active starts)
 
   -- and a hop, where the span id that it drew is not zero
   pub hop_under : (old new : ProviderState P S G) (request : StartRequest) (history : SpanHistory) (parent : PlainSpanContext)

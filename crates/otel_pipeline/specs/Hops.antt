@@ -3,17 +3,21 @@ use Rattle.std.specs.Prelude.{◌≡◌, ◌⊎◌, ℕ, ◌<◌, ◌^◌, List,
 use Rattle.opentelemetry.specs.Carrier.{Texts}
 use Rattle.opentelemetry.specs.Plain.{PlainContext, PlainSpanContext}
 use Rattle.otel_sampling.specs.Sampler.{active_in, built_in, parent_decision}
-use Rattle.otel_sampling.specs.Sampling.{SamplingQuestion}
+use Rattle.otel_sampling.specs.Sampling.{PlainSamplingResult, SamplingQuestion}
 use Rattle.otel_sampling.specs.declared.trace.sampler.ShouldSample as sampling
 use Rattle.otel_propagation.specs.Traceparent.{ExtractsTraceContext, InjectsTraceContext, IsSpanContext, IsValid}
 use Rattle.otel_pipeline.specs.StartRequest.{start_span_context}
 
+-- a span context is that of a span that starts below a parent, as a sampler answered: its trace id is the parent's, its
+-- span id a new one
+abbrev pub IsAnsweredChild : PlainSpanContext → PlainSamplingResult → PlainSpanContext → Type 0
+IsAnsweredChild parent answer child =
+    (span_id : ℕ) × (child ≡ start_span_context parent parent.trace_id span_id answer)
+
 -- a span context is that of a child under a sampler by parents: its trace id is the parent's, its span id a new one, and
 -- the parent alone decided
 abbrev pub IsChild : PlainSpanContext → PlainSpanContext → Type 0
-IsChild parent child =
-    (span_id : ℕ)
-    × (child ≡ start_span_context parent parent.trace_id span_id (built_in (parent_decision parent) (Some parent)))
+IsChild parent child = IsAnsweredChild parent (built_in (parent_decision parent) (Some parent)) child
 
 -- a sampler goes by parents: where a span is active, that one's decision is the answer
 abbrev pub GoesByParents : {S : Type 0} → sampling.Ghosts S → S → Type 0

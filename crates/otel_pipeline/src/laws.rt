@@ -14,13 +14,13 @@ ghost use Rattle.otel_propagation.specs.PropagatorKinds.{AreBoth, ExtractsByKind
 ghost use Rattle.otel_propagation.specs.Traceparent.{IsSpanContext, IsValid};
 ghost use Rattle.otel_propagation.specs.declared.propagation.propagator_kinds.PropagatorOf.{PropagatorOf};
 ghost use Rattle.otel_pipeline.specs.Hops.{AreDrawnHops, AreHops, GoesByParents, GoesByValidParents, IsChild};
-ghost use Rattle.otel_pipeline.specs.Hops.{IsDrawnChild, IsReceived};
+ghost use Rattle.otel_pipeline.specs.Hops.{IsAnsweredChild, IsDrawnChild, IsReceived};
 ghost use Rattle.otel_pipeline.specs.Provider.{ProviderState};
 ghost use Rattle.otel_pipeline.specs.Deliveries.{EachFollows};
 ghost use Rattle.otel_pipeline.specs.Ending.{Delivers, Ends, deliveries};
 ghost use Rattle.otel_pipeline.specs.SpanHistory.{Edit, HasHistory, PlainSpan, SpanHistory, SpanStart};
 ghost use Rattle.otel_pipeline.specs.SpanHistory.{after, data_of, ended, recording, span_of};
-ghost use Rattle.otel_pipeline.specs.StartRequest.{StartRequest};
+ghost use Rattle.otel_pipeline.specs.StartRequest.{StartRequest, start_question};
 ghost use Rattle.otel_pipeline.specs.Starting.{AnswersStart, Starts};
 ghost use Rattle.otel_pipeline.specs.ValueLength.{first_chars};
 ghost use Rattle.otel_sampling.specs.declared.trace.parent_based.ParentBased.{ParentBased};
@@ -92,6 +92,18 @@ pub fn ended_spans_stay()
 pub fn parent_based_goes_by_parents<C: ShouldSample>()
     ensures { (sampler : SamplerOf C) (delegate : SamplerPlan C) → plan sampler ≡ parent_based delegate
         → GoesByParents ⟦<SamplerOf<C> as ShouldSample>⟧ sampler }
+{}
+
+/// A span that starts at an open provider, in a context that is not suppressed and has an active span, goes on that
+/// one's trace as the sampler answers.
+pub fn starts_below_spans_go_by_the_answer<P: SpanProcessor, S: ShouldSample, G: IdGenerator>()
+    ensures { (old new : ProviderState P S G) (request : StartRequest) (history : SpanHistory)
+        (parent : PlainSpanContext)
+        → old.is_shut ≡ false → request.cx.telemetry_suppressed ≡ false → request.cx.span_context ≡ Some parent
+        → Starts P.SpanProcessor S.ShouldSample G.IdGenerator old request history new
+        → IsAnsweredChild parent
+        (S.answer old.sampler (start_question request.cx parent.trace_id request.builder))
+        (span_of history).span_context }
 {}
 
 /// A span that starts at an open provider under a sampler that goes by parents, in a context that is not suppressed and

@@ -6,7 +6,7 @@ use Rattle.opentelemetry.specs.Hex.{hex_text, IsHexDigit, IsHexText}
 use Rattle.opentelemetry.specs.Plain.{PlainSpanContext}
 use Rattle.opentelemetry.specs.Carrier.{Texts}
 use Rattle.opentelemetry.proofs.HexRead.{hex_text_injective, hex_text_IsHexText}
-use Rattle.otel_propagator_b3.specs.B3.{flags_of, hyphen, joined, optional, state_mark, IsMany, IsParent, IsSingle, IsSpanId, IsTraceId, SaysMany, SaysState}
+use Rattle.otel_propagator_b3.specs.B3.{flags_of, hyphen, joined, optional, state_mark, IsLone, IsMany, IsParent, IsSingle, IsSpanId, IsTraceId, SaysDecision, SaysMany, SaysState}
 use Rattle.std.specs.Borrow.{Bor}
 use Rattle.std.specs.Option.{option_copied, unwrap_or}
 use Rattle.opentelemetry.specs.Plain.{PlainContext}
@@ -192,6 +192,18 @@ many_once flags sampled Defer Accept this that = absurd (none_and_one sampled (c
 many_once flags sampled Deny Defer this that = absurd (none_and_one sampled (codes "0") (codes "false") that.1 this.1)
 many_once flags sampled Defer Deny this that = absurd (none_and_one sampled (codes "0") (codes "false") this.1 that.1)
 
+-- a single header says one state alone at most
+lone_once : (single : Option (List ℕ)) (s t : SamplingState) → IsLone single s → IsLone single t → s ≡ t
+lone_once None s t this that = absurd this
+lone_once (Some text) s t this that = mark_once s t (this ∙ sym that)
+
+-- and so there is one decision at most
+decision_once : (single flags sampled : Option (List ℕ)) (s t : SamplingState) → SaysDecision single flags sampled s → SaysDecision single flags sampled t → s ≡ t
+decision_once single flags sampled s t (inl this) (inl that) = lone_once single s t this that
+decision_once single flags sampled s t (inl this) (inr that) = absurd (that.0 s this)
+decision_once single flags sampled s t (inr this) (inl that) = absurd (this.0 t that)
+decision_once single flags sampled s t (inr this) (inr that) = many_once flags sampled s t this.1 that.1
+
 -- ---- span contexts
 
 same_context : (a b : PlainSpanContext) (s t : SamplingState) → a.trace_id ≡ b.trace_id → a.span_id ≡ b.span_id → a.trace_flags ≡ flags_of s → b.trace_flags ≡ flags_of t → s ≡ t
@@ -229,7 +241,7 @@ many_read_once texts a b this that =
     same_context a b this.state that.state
     (trace_id_once that.trace_text a.trace_id b.trace_id (subst (λ t. IsTraceId t a.trace_id) traces this.is_trace_id) that.is_trace_id)
     (span_id_once that.span_text a.span_id b.span_id (subst (λ t. IsSpanId t a.span_id) spans this.is_span_id) that.is_span_id)
-    this.flags that.flags (many_once _ _ this.state that.state this.says that.says) (this.remote ∙ sym that.remote) (this.stateless ∙ sym that.stateless)
+    this.flags that.flags (decision_once _ _ _ this.state that.state this.says that.says) (this.remote ∙ sym that.remote) (this.stateless ∙ sym that.stateless)
 
 -- and all that a carrier has
 pub span_once : (texts : Texts) (a b : PlainSpanContext) → SaysSpan texts a → SaysSpan texts b → a ≡ b

@@ -4,7 +4,7 @@ use Rattle.opentelemetry.specs.Carrier.{IsOtherName, Texts}
 use Rattle.opentelemetry.specs.Hex.{hex_text}
 use Rattle.opentelemetry.specs.Plain.{PlainContext, PlainSpanContext}
 use Rattle.opentelemetry.specs.PlainContexts.{current_span_context}
-use Rattle.otel_propagator_b3.specs.B3.{single_field, trace_id_field, span_id_field, sampled_field, flags_field, hyphen, joined, optional, state_of, state_mark, IsMany, IsSingle, SaysMany}
+use Rattle.otel_propagator_b3.specs.B3.{single_field, trace_id_field, span_id_field, sampled_field, flags_field, hyphen, joined, optional, state_of, state_mark, IsLone, IsMany, IsSingle, SaysMany}
 use Rattle.otel_propagator_b3.specs.B3Headers.{header_text, headers_of, many_headers, remote_copy, single_text, state_headers, CarriesSpan, InjectsB3, IsValid, LeavesRoom, SaysSpan, SetsInTurn}
 use Rattle.otel_propagator_b3.specs.declared.encoding.B3Encoding.{B3Encoding}
 use Rattle.otel_propagator_b3.specs.declared.encoding.B3Encoding.TheVariants.{MultipleHeader, SingleHeader, SingleAndMultiHeader}
@@ -35,10 +35,15 @@ single_says c valid trace_id span_id = record {
   stateless = refl;
 }
 
+-- a header that is not there says no state alone
+not_lone : (single : Option (List ℕ)) → single ≡ None → (state : SamplingState) → ¬ (IsLone single state)
+not_lone None none state lone = lone
+not_lone (Some text) none state lone = absurd cc
+
 -- headers that give ids and the state say it too
 pub many_say : (c : PlainSpanContext) (texts : Texts) → IsValid c → c.trace_id < 2 ^ 128 → c.span_id < 2 ^ 64 → texts trace_id_field ≡ Some (hex_text 32 c.trace_id)
-    → texts span_id_field ≡ Some (hex_text 16 c.span_id) → SaysMany (texts flags_field) (texts sampled_field) (state_of c.trace_flags) → IsMany texts (remote_copy c)
-many_say c texts valid trace_id span_id trace_given span_given says = record {
+    → texts span_id_field ≡ Some (hex_text 16 c.span_id) → texts single_field ≡ None → SaysMany (texts flags_field) (texts sampled_field) (state_of c.trace_flags) → IsMany texts (remote_copy c)
+many_say c texts valid trace_id span_id trace_given span_given no_single says = record {
   trace_text = hex_text 32 c.trace_id;
   span_text = hex_text 16 c.span_id;
   state = state_of c.trace_flags;
@@ -46,7 +51,7 @@ many_say c texts valid trace_id span_id trace_given span_given says = record {
   span_given = span_given;
   is_trace_id = (valid.0, inl (omega (arith, trace_id), refl));
   is_span_id = (valid.1, omega (arith, span_id), refl);
-  says = says;
+  says = inr (not_lone (texts single_field) no_single, says);
   flags = refl;
   remote = refl;
   stateless = refl;
@@ -115,13 +120,14 @@ many_keep c old new (first, trace, (second, span, state)) =
     state_keeps (state_of c.trace_flags) second new single_field state single_sampled single_flags
     ∙ span.others single_field single_span ∙ trace.others single_field single_trace
 
-many_said : (c : PlainSpanContext) (old new : Texts) → IsValid c → c.trace_id < 2 ^ 128 → c.span_id < 2 ^ 64 → old flags_field ≡ None → old sampled_field ≡ None → SetsInTurn old (many_headers c) new
+many_said : (c : PlainSpanContext) (old new : Texts) → IsValid c → c.trace_id < 2 ^ 128 → c.span_id < 2 ^ 64 → old single_field ≡ None → old flags_field ≡ None → old sampled_field ≡ None → SetsInTurn old (many_headers c) new
     → IsMany new (remote_copy c)
-many_said c old new valid trace_id span_id flags sampled (first, trace, (second, span, state)) =
+many_said c old new valid trace_id span_id single flags sampled (first, trace, (second, span, state)) =
     let s : SamplingState = state_of c.trace_flags in
     many_say c new valid trace_id span_id
     (state_keeps s second new trace_id_field state trace_sampled trace_flags ∙ span.others trace_id_field trace_span ∙ trace.set)
     (state_keeps s second new span_id_field state span_sampled span_flags ∙ span.set)
+    (many_keep c old new (first, trace, (second, span, state)) ∙ single)
     (state_said s second new state
     (span.others flags_field (turned span_id_field flags_field span_flags) ∙ trace.others flags_field (turned trace_id_field flags_field trace_flags) ∙ flags)
     (span.others sampled_field (turned span_id_field sampled_field span_sampled) ∙ trace.others sampled_field (turned trace_id_field sampled_field trace_sampled) ∙ sampled))
@@ -135,7 +141,7 @@ headers_say : (encoding : B3Encoding) (c : PlainSpanContext) (old new : Texts) �
     → SetsInTurn old (headers_of encoding c) new → SaysSpan new (remote_copy c)
 headers_say MultipleHeader c old new valid trace_id span_id room sets =
     let none : header_text (new single_field) ≡ [] = ap header_text (many_keep c old new sets ∙ room.0) in
-    inr (λ other. no_single (header_text (new single_field)) other none, many_said c old new valid trace_id span_id room.1 room.2 sets)
+    inr (λ other. no_single (header_text (new single_field)) other none, many_said c old new valid trace_id span_id room.0 room.1 room.2 sets)
 headers_say SingleHeader c old new valid trace_id span_id room (between, sets, same) =
     inl (subst (λ (given : Option (List ℕ)). IsSingle (header_text given) (remote_copy c)) (sym (same single_field ∙ sets.set)) (single_says c valid trace_id span_id))
 headers_say SingleAndMultiHeader c old new valid trace_id span_id room (between, sets, many) =

@@ -103,6 +103,17 @@ SaysMany flags sampled Deny =
     (flags ≢ Some (codes "1")) × ((sampled ≡ Some (codes "0")) ⊎ (sampled ≡ Some (codes "false")))
 SaysMany flags sampled Defer = (flags ≢ Some (codes "1")) × (sampled ≡ None)
 
+-- the single header says this sampling state alone, without ids
+abbrev pub IsLone : Option (List ℕ) → SamplingState → Type 0
+IsLone None state = ⊥
+IsLone (Some text) state = state_mark state ≡ Some text
+
+-- the sampling state beside the ids of the many headers: that of a single header which says one alone stands in front
+-- of theirs
+abbrev pub SaysDecision : Option (List ℕ) → Option (List ℕ) → Option (List ℕ) → SamplingState → Type 0
+SaysDecision single flags sampled state =
+    IsLone single state ⊎ (((other : SamplingState) → ¬ (IsLone single other)) × SaysMany flags sampled state)
+
 -- the many headers say a span context that came from another process. That of the parent's id is read over
 pub record IsMany (texts : Texts) (c : PlainSpanContext) : Type 0 where
   pub trace_text : List ℕ
@@ -112,7 +123,7 @@ pub record IsMany (texts : Texts) (c : PlainSpanContext) : Type 0 where
   pub span_given : texts span_id_field ≡ Some span_text
   pub is_trace_id : IsTraceId trace_text c.trace_id
   pub is_span_id : IsSpanId span_text c.span_id
-  pub says : SaysMany (texts flags_field) (texts sampled_field) state
+  pub says : SaysDecision (texts single_field) (texts flags_field) (texts sampled_field) state
   pub flags : c.trace_flags ≡ flags_of state
   pub remote : c.is_remote ≡ true
   pub stateless : c.trace_state ≡ []

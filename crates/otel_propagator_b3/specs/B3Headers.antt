@@ -91,7 +91,8 @@ pub record InjectsB3 (encoding : B3Encoding) (cx : PlainContext) (old : Texts) (
 abbrev pub header_text : Option (List ℕ) → List ℕ
 header_text header = unwrap_or header []
 
--- texts say the span context of the single header; where that says none, that of the many
+-- texts say the span context of the single header; where that says none, that of the many, whose decision a single
+-- header without ids may say
 abbrev pub SaysSpan : Texts → PlainSpanContext → Type 0
 SaysSpan texts c =
     IsSingle (header_text (texts single_field)) c

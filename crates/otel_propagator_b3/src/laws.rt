@@ -1,13 +1,21 @@
 //! The laws of B3 headers, over the definitions alone. Each function does nothing; its contract is the law, for all
 //! values.
 
-ghost use Rattle.std.specs.Prelude.{◌≡◌, ◌<◌, ◌%◌, ◌/◌, ◌^◌, ℕ, List};
+ghost use Rattle.std.specs.Prelude.{◌≡◌, ◌<◌, ◌%◌, ◌/◌, ◌^◌, ℕ, List, None};
 ghost use Rattle.opentelemetry.specs.Carrier.{Texts};
 ghost use Rattle.opentelemetry.specs.Plain.{PlainContext, PlainSpanContext};
 ghost use Rattle.opentelemetry.specs.PlainContexts.{current_span_context};
 ghost use Rattle.otel_propagator_b3.specs.B3.{flags_of, state_of, IsMany, IsSingle};
 ghost use Rattle.otel_propagator_b3.specs.B3Headers.{CarriesSpan, InjectsB3, IsValid, LeavesRoom, SaysSpan};
+ghost use Rattle.otel_propagator_b3.specs.Deferred.{HasDeferredParent};
+ghost use Rattle.otel_propagator_b3.specs.declared.deferred.B3Deferred.{B3Deferred};
 ghost use Rattle.otel_propagator_b3.specs.declared.encoding.B3Encoding.{B3Encoding};
+ghost use Rattle.otel_sampling.specs.ParentBased.{delegates_of};
+ghost use Rattle.otel_sampling.specs.Sampling.{SamplingQuestion};
+ghost use Rattle.otel_sampling.specs.declared.trace.parent_based.ParentBased.{ParentBased};
+
+use crate::B3Deferred;
+use otel_sampling::trace::{ParentBased, ShouldSample};
 
 /// A text of the single header, the many headers, and all of them together say one span context at most.
 pub fn b3_headers_read_once()
@@ -35,4 +43,17 @@ pub fn flags_keep_sampling_states()
     ensures kept { (flags : ℕ) → state_of (flags_of (state_of flags)) ≡ state_of flags }
     ensures sampled { (flags : ℕ) → flags / 4 % 2 ≡ 0 → flags_of (state_of flags) % 2 ≡ flags % 2 }
     ensures debug { (flags : ℕ) → flags / 4 % 2 ≡ 1 → flags_of (state_of flags) % 2 ≡ 1 }
+{}
+
+/// Under a `B3Deferred` over a `ParentBased` the sampler of roots decides on the child of a parent in another process
+/// that left the decision open, and on every other span the `ParentBased` does.
+pub fn deferred_decisions_are_those_of_roots<S: ShouldSample>()
+    ensures deferred { (deferred : B3Deferred (ParentBased S)) (question : SamplingQuestion)
+        → HasDeferredParent question.parent_context
+        → ⟦<B3Deferred<ParentBased<S>> as ShouldSample>⟧.answer deferred question
+        ≡ S.answer (delegates_of deferred.sampler).root (record question { parent_context = None }) }
+    ensures others { (deferred : B3Deferred (ParentBased S)) (question : SamplingQuestion)
+        → ¬ (HasDeferredParent question.parent_context)
+        → ⟦<B3Deferred<ParentBased<S>> as ShouldSample>⟧.answer deferred question
+        ≡ ⟦<ParentBased<S> as ShouldSample>⟧.answer deferred.sampler question }
 {}

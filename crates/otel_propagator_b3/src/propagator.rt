@@ -2,9 +2,9 @@
 //! call, as to any propagator: the spans of both sides are of one trace.
 //!
 //! The names are in lower case, as those of the Rust crates are: carriers of HTTP take names in either case, and others
-//! have lower case alone. Both kinds of headers are read, and the single one first. A header that says a sampling
-//! state alone says no span context, so nothing is extracted. The span id of a parent is read over and not written,
-//! since no span here has the id of its caller's.
+//! have lower case alone. Both kinds of headers are read, and the single one first. Where that one says a sampling state
+//! alone, it says it of the ids in the many; without those there is no span context, so nothing is extracted. The span
+//! id of a parent is read over and not written, since no span here has the id of its caller's.
 
 ghost use Rattle.std.specs.Prelude.{◌≡◌};
 ghost use Rattle.otel_propagator_b3.specs.declared.encoding.B3Encoding.TheVariants.{SingleHeader};

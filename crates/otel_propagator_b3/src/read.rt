@@ -4,7 +4,8 @@ ghost use Rattle.std.specs.Prelude.{◌≡◌, ◌≢◌, ◌↔◌, ℕ, Some, 
 ghost use Rattle.std.specs.Option.{option_copied};
 ghost use Rattle.opentelemetry.specs.Plain.{PlainSpanContext};
 ghost use Rattle.otel_propagator_b3.specs.B3.{flags_of, hyphen, joined, state_mark};
-ghost use Rattle.otel_propagator_b3.specs.B3.{IsMany, IsParent, IsSingle, IsSpanId, IsTraceId, SaysMany, SaysState};
+ghost use Rattle.otel_propagator_b3.specs.B3.{IsLone, IsMany, IsParent, IsSingle, IsSpanId, IsTraceId, SaysDecision};
+ghost use Rattle.otel_propagator_b3.specs.B3.{SaysMany, SaysState};
 ghost use Rattle.otel_propagator_b3.specs.B3Headers.{SaysSpan};
 ghost use Rattle.otel_propagator_b3.specs.declared.sampling_state.SamplingState.{SamplingState};
 
@@ -50,7 +51,8 @@ fn read_many<X: Extractor>(extractor: &X) -> Option<SpanContext>
     let span_text = extractor.get(Field::SpanId.name())?;
     let trace_id = read_trace_id(trace_text)?;
     let span_id = read_span_id(span_text)?;
-    let state = read_flags(
+    let state = read_decision(
+        extractor.get(Field::Single.name()),
         extractor.get(Field::Flags.name()),
         extractor.get(Field::Sampled.name()),
     )?;
@@ -133,6 +135,36 @@ fn read_mark(text: &str) -> Option<SamplingState>
         "0" => Some(SamplingState::Deny),
         "d" => Some(SamplingState::Debug),
         _ => None,
+    }
+}
+
+/// The sampling state beside the ids of the many headers: that of a single header which says one alone, and else theirs.
+fn read_decision(
+    single: Option<&str>,
+    flags: Option<&str>,
+    sampled: Option<&str>,
+) -> Option<SamplingState>
+    ensures { MatchOption result
+        ((state : SamplingState) → ¬ (SaysDecision (option_copied single.entry) (option_copied flags.entry)
+        (option_copied sampled.entry) state))
+        (λ state. SaysDecision (option_copied single.entry) (option_copied flags.entry)
+        (option_copied sampled.entry) state) }
+{
+    match read_lone(single) {
+        Some(state) => Some(state),
+        None => read_flags(flags, sampled),
+    }
+}
+
+/// The sampling state that the single header says alone.
+fn read_lone(single: Option<&str>) -> Option<SamplingState>
+    ensures { MatchOption result
+        ((state : SamplingState) → ¬ (IsLone (option_copied single.entry) state))
+        (λ state. IsLone (option_copied single.entry) state) }
+{
+    match single {
+        Some(text) => read_mark(text),
+        None => None,
     }
 }
 
