@@ -83,7 +83,7 @@ impl AnswerText {
     }
 
     /// The same by this function.
-    pub fn put_by<T: Drop, E: Drop, F: Fn(&T, &mut AnswerText) + Drop>(
+    pub fn put_by<T: Drop, E: Drop, F: FnOnce(&T, &mut AnswerText) + Drop>(
         &mut self,
         made: Result<T, E>,
         put: F,
@@ -99,7 +99,7 @@ impl AnswerText {
     }
 
     /// The same with the row that asks for it.
-    pub fn put_for<T: Drop, E: Drop, F: Fn(&T, &Row, &mut AnswerText) + Drop>(
+    pub fn put_for<T: Drop, E: Drop, F: FnOnce(&T, &Row, &mut AnswerText) + Drop>(
         &mut self,
         made: Result<T, E>,
         row: &Row,

@@ -17,14 +17,14 @@ pub fn of_share(row: &Row) -> Result<u64, RowError> {
     Ok(Threshold::of_share(share).to_u64())
 }
 
-pub fn threshold_in_state(alloc: Global, row: &Row) -> Result<Option<u64>, RowError> {
+pub fn threshold_in_state(alloc: Global, row: &Row) -> Result<Option<Threshold>, RowError> {
     let state = state_of(alloc, row.given(0))?;
-    Ok(threshold_in(&state).map(|threshold| threshold.to_u64()))
+    Ok(threshold_in(&state))
 }
 
-pub fn push_threshold(threshold: &Option<u64>, out: &mut AnswerText) {
+pub fn push_threshold(threshold: &Option<Threshold>, out: &mut AnswerText) {
     match threshold {
-        Some(number) => push_number(number, out),
+        Some(threshold) => push_number(&threshold.to_u64(), out),
         None => out.push_str("none"),
     }
 }

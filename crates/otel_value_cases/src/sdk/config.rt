@@ -3,7 +3,7 @@
 use super::resource::{push_resource, strings_of};
 use super::sampling::push_ratio;
 use otel_case_rows::answer_text::AnswerText;
-use otel_case_rows::fields::Row;
+use otel_case_rows::fields::{Row, RowError};
 use otel_resource::resource::Resource;
 use otel_sampling::trace::{Config, ConfigStrings, Sampler, SpanLimits};
 use std::alloc::{AllocError, Global};
@@ -16,7 +16,7 @@ pub fn answer(alloc: Global, row: &Row, out: &mut AnswerText) -> bool {
             out.put_by(attribute_limits_of(alloc, row), push_attribute_limits)
         }
         "config-disabled" => out.put(disabled_by(alloc, row)),
-        "config-sampler" => out.put_by(configured_sampler(alloc, row), push_sampler),
+        "config-sampler" => push_configured(alloc, row, out),
         "config-resource" => out.put_by(configured_resource(alloc, row), push_resource),
         _ => return false,
     }
@@ -106,8 +106,16 @@ pub fn configured_sampler(alloc: Global, row: &Row) -> Result<Box<Sampler>, Allo
     Ok(Box::new(alloc, sampler)?)
 }
 
-fn push_sampler(sampler: &Box<Sampler>, out: &mut AnswerText) {
-    if let Sampler::ParentBased(delegate) = &**sampler {
+/// A function that takes a sampler cannot be passed to another one.
+fn push_configured(alloc: Global, row: &Row, out: &mut AnswerText) {
+    match configured_sampler(alloc, row) {
+        Ok(sampler) => push_sampler(&sampler, out),
+        Err(error) => out.note(RowError::from(error)),
+    }
+}
+
+fn push_sampler(sampler: &Sampler, out: &mut AnswerText) {
+    if let Sampler::ParentBased(delegate) = sampler {
         out.push_str("ParentBased ");
         push_leaf(delegate, out);
     } else {

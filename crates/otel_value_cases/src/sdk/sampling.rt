@@ -17,8 +17,8 @@ pub fn answer(alloc: Global, row: &Row, out: &mut AnswerText) -> bool {
         "ratio" => push_read_ratio(row.field(0), out),
         "ratio-of" => out.put_by(made_ratio(row), push_made_ratio),
         "samples" => out.put(decided_by_ratio(row)),
-        "sampler" => out.put_for(sampler_of(alloc, row), row, push_sampled),
-        "sampler-copy" => out.put_for(sampler_of(alloc, row), row, push_copy),
+        "sampler" => push_sampled(alloc, row, out),
+        "sampler-copy" => push_copy(alloc, row, out),
         _ => return false,
     }
     true
@@ -90,21 +90,26 @@ fn sampler_of(alloc: Global, row: &Row) -> Result<Box<Sampler>, RowError> {
     Ok(sampler)
 }
 
-/// Puts out what a copy of a sampler answers.
-fn push_copy(sampler: &Box<Sampler>, row: &Row, out: &mut AnswerText) {
-    out.put_for(sampler.try_clone(), row, push_copied);
-}
-
-fn push_copied(copy: &Option<Sampler>, row: &Row, out: &mut AnswerText) {
-    match copy {
-        Some(copy) => push_asked(copy, row, out),
-        None => out.push_str("no copy"),
+/// Puts out what a sampler answers.
+fn push_sampled(alloc: Global, row: &Row, out: &mut AnswerText) {
+    match sampler_of(alloc, row) {
+        Ok(sampler) => push_asked(&sampler, row, out),
+        Err(error) => out.note(error),
     }
 }
 
-/// Puts out what a sampler answers.
-fn push_sampled(sampler: &Box<Sampler>, row: &Row, out: &mut AnswerText) {
-    push_asked(sampler, row, out);
+/// Puts out what a copy of it answers.
+fn push_copy(alloc: Global, row: &Row, out: &mut AnswerText) {
+    match copy_of(alloc, row) {
+        Ok(Some(copy)) => push_asked(&copy, row, out),
+        Ok(None) => out.push_str("no copy"),
+        Err(error) => out.note(error),
+    }
+}
+
+fn copy_of(alloc: Global, row: &Row) -> Result<Option<Sampler>, RowError> {
+    let sampler = sampler_of(alloc, row)?;
+    Ok(sampler.try_clone()?)
 }
 
 /// How many samplers that go by parents stand above the configured one; none where no field says it.

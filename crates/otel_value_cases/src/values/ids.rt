@@ -12,7 +12,7 @@ pub fn answer(row: &Row, out: &mut AnswerText) -> bool {
         "trace-id" => put_trace_id(text, out),
         "span-id" => put_span_id(text, out),
         "trace-number" => out.put(numbered_trace(text)),
-        "span-number" => out.put(row.number(0).map(SpanId::from)),
+        "span-number" => out.put(numbered_span(row)),
         "flags" => out.put_by(named_flags_of(text), put_flags),
         _ => return false,
     }
@@ -59,6 +59,11 @@ fn put_bytes(bytes: &[u8], out: &mut AnswerText) {
 fn numbered_trace(text: &str) -> Result<TraceId, RowError> {
     let number = text.parse::<u128>().or(Err(RowError::Field))?;
     Ok(TraceId::from(number))
+}
+
+/// The same of a span's id.
+fn numbered_span(row: &Row) -> Result<SpanId, RowError> {
+    Ok(SpanId::from(row.number(0)?))
 }
 
 /// The flags that a text names or whose number it writes.

@@ -1,7 +1,7 @@
 //! What a span is made of: its context, its status, its builder and its scope.
 
 use super::attributes::order_of;
-use opentelemetry::trace::{SpanBuilder, SpanContext};
+use opentelemetry::trace::{SpanBuilder, SpanContext, SpanKind};
 use opentelemetry::{InstrumentationScope, KeyValue, Moment, SpanId, TraceFlags, TraceId};
 use otel_case_rows::answer_text::AnswerText;
 use otel_case_rows::fields::{Row, RowError, number_of};
@@ -14,7 +14,7 @@ pub fn answer(alloc: Global, row: &Row, out: &mut AnswerText) -> bool {
     match row.word.as_str() {
         "span-context" => out.put_by(span_context_of(alloc, row), put_validity),
         "statuses" => out.put(order_of_statuses(alloc, row)),
-        "builder" => out.put_by(builder_of(alloc, row), put_builder),
+        "builder" => out.put_by(builder_of(alloc, row), put_copied),
         "scope" => out.put_by(scope_of(alloc, row.field(0)), put_copy),
         _ => return false,
     }
@@ -68,60 +68,68 @@ fn order_of_statuses(alloc: Global, row: &Row) -> Result<&'static str, RowError>
     Ok(order_of(first < second, first == second))
 }
 
-/// A copy of a builder for which a name, a kind, a start, attributes, events and links were set.
-pub fn builder_of(alloc: Global, row: &Row) -> Result<SpanBuilder, RowError> {
-    let builder = SpanBuilder::from_name(String::from_str(alloc, row.field(0))?);
-    let builder = with_start(with_kind(builder, row.given(1))?, row.given(2))?;
-    let builder = with_attributes(alloc, builder, row.given(3))?;
-    let builder = with_events(alloc, builder, row.given(4))?;
-    Ok(with_links(alloc, builder, row.given(5))?.clone()?)
+/// A builder for which a name, a kind, a start, attributes, events and links were set.
+fn builder_of(alloc: Global, row: &Row) -> Result<SpanBuilder, RowError> {
+    let builder = named_builder(alloc, row.field(0));
+    let builder = with_part(builder, kind_given(row), SpanBuilder::with_kind);
+    let builder = with_part(builder, start_given(row), SpanBuilder::with_start_time);
+    let attributes = list_given(alloc, row.given(3), attributes_of);
+    let builder = with_part(builder, attributes, SpanBuilder::with_attributes);
+    let events = list_given(alloc, row.given(4), events_of);
+    let builder = with_part(builder, events, SpanBuilder::with_events);
+    let links = list_given(alloc, row.given(5), links_of);
+    with_part(builder, links, SpanBuilder::with_links)
 }
 
-fn with_kind(builder: SpanBuilder, name: Option<&str>) -> Result<SpanBuilder, RowError> {
-    match name {
-        Some(name) => Ok(builder.with_kind(kind_of(name)?)),
-        None => Ok(builder),
+fn named_builder(alloc: Global, name: &str) -> Result<SpanBuilder, RowError> {
+    Ok(SpanBuilder::from_name(String::from_str(alloc, name)?))
+}
+
+/// A builder with a part where that is given. It is generic, since what a builder has is slow to prove at each exit.
+fn with_part<B: Drop, T: Drop, F: FnOnce(B, T) -> B + Drop>(
+    builder: Result<B, RowError>,
+    part: Result<Option<T>, RowError>,
+    with: F,
+) -> Result<B, RowError>
+    requires { F.IsAlwaysCallable with }
+{
+    match part? {
+        Some(part) => Ok(with(builder?, part)),
+        None => builder,
     }
 }
 
-fn with_start(builder: SpanBuilder, start: Option<&str>) -> Result<SpanBuilder, RowError> {
-    match start {
-        Some(start) => Ok(builder.with_start_time(Moment(number_of(start)?))),
-        None => Ok(builder),
+fn kind_given(row: &Row) -> Result<Option<SpanKind>, RowError> {
+    match row.given(1) {
+        Some(name) => Ok(Some(kind_of(name)?)),
+        None => Ok(None),
     }
 }
 
-fn with_attributes(
+fn start_given(row: &Row) -> Result<Option<Moment>, RowError> {
+    match row.given(2) {
+        Some(start) => Ok(Some(Moment(number_of(start)?))),
+        None => Ok(None),
+    }
+}
+
+/// The list that a text writes, where there is one.
+fn list_given<T: Drop, F: FnOnce(Global, &str) -> Result<T, RowError> + Drop>(
     alloc: Global,
-    builder: SpanBuilder,
-    list: Option<&str>,
-) -> Result<SpanBuilder, RowError> {
-    match list {
-        Some(list) => Ok(builder.with_attributes(attributes_of(alloc, list)?)),
-        None => Ok(builder),
+    text: Option<&str>,
+    read: F,
+) -> Result<Option<T>, RowError>
+    requires { F.IsAlwaysCallable read }
+{
+    match text {
+        Some(text) => Ok(Some(read(alloc, text)?)),
+        None => Ok(None),
     }
 }
 
-fn with_events(
-    alloc: Global,
-    builder: SpanBuilder,
-    list: Option<&str>,
-) -> Result<SpanBuilder, RowError> {
-    match list {
-        Some(list) => Ok(builder.with_events(events_of(alloc, list)?)),
-        None => Ok(builder),
-    }
-}
-
-fn with_links(
-    alloc: Global,
-    builder: SpanBuilder,
-    list: Option<&str>,
-) -> Result<SpanBuilder, RowError> {
-    match list {
-        Some(list) => Ok(builder.with_links(links_of(alloc, list)?)),
-        None => Ok(builder),
-    }
+/// Puts out a copy of a builder.
+fn put_copied(builder: &SpanBuilder, out: &mut AnswerText) {
+    out.put_by(builder.clone(), put_builder);
 }
 
 /// Puts out what was set for a builder, and how many attributes.
