@@ -325,12 +325,12 @@ module _ {E : Type 0} (calls : Ghosts E) where
       record { spans = refl; heard = again.heard; dropped = again.dropped; takes_all = refl; never_reopens = reopens }
 
   -- one span more is heard where it waits last
-  heard_last : (told : Option (List PlainSpanData)) (waiting : List PlainSpanData) (span : PlainSpanData) →
+  pub heard_last : (told : Option (List PlainSpanData)) (waiting : List PlainSpanData) (span : PlainSpanData) →
       Tells (and_then_told told waiting) (span ∷ []) (and_then_told told (waiting ++ span ∷ []))
   heard_last None waiting span = tt
   heard_last (Some told) waiting span = ap (λ l. Some l) (append_assoc told waiting (span ∷ []))
 
-  counts_one : (dropped : ℕ) → dropped < 2 ^ 64 → CountsUp dropped 1 (one_more dropped)
+  pub counts_one : (dropped : ℕ) → dropped < 2 ^ 64 → CountsUp dropped 1 (one_more dropped)
   counts_one dropped fits = record {
     no_fewer = omega (arith, fits);
     no_more = omega arith;

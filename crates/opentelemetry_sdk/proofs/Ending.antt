@@ -38,6 +38,7 @@ pub record QueuesLast {E : Type 0} (s : Machine E) (span : PlainSpanData) (t : M
 
 -- the span found the queue full, which is counted
 pub record CountsDrop {E : Type 0} (s t : Machine E) : Type 0 where
+  pub full : length s.waiting ≡ s.control.queue_size
   pub waiting : t.waiting ≡ s.waiting
   pub dropped : t.control.dropped ≡ one_more s.control.dropped
 
@@ -103,6 +104,7 @@ module _ {E : Type 0} (calls : Ghosts E) where
       )
   behind_send s m t outcome.Full span n at row moved rest none = (
     rw row.1 (inr (record {
+      full = row.2;
       waiting = none.waiting ∙ moved.waiting;
       dropped = none.dropped ∙ ap (λ c. c.control.dropped) row.3;
     })),
@@ -176,6 +178,7 @@ idle_at_end s t one leaves over = one_slot t.control.slots slot.Idle (leaves.slo
 pub record Offers {E : Type 0} (s : Machine E) (span : PlainSpanData) (m : Machine E) : Type 0 where
   pub leaves : LeavesRest s m
   pub none : QueuesNone s m
+  pub queue_size : m.control.queue_size ≡ s.control.queue_size
   pub holds : is_sampled span ≡ true → (n : ℕ) × (slot_at (counts m) 0 ≡ Some (slot.Holding span n))
   pub skips : is_sampled span ≡ false → is_holding (slot_at (counts m) 0) ≡ false
 
@@ -193,6 +196,7 @@ offer_leaves calls s span outcome.Skipped m idle row moved =
         at_work = rw slots refl;
       };
       none = record { waiting = moved.waiting; dropped = ap (λ c. c.control.dropped) row.2 };
+      queue_size = ap (λ c. c.control.queue_size) row.2;
       holds = λ sampled. absurd (let no = row.1 in cc);
       skips = λ unsampled. rw slots refl;
     }
@@ -209,6 +213,7 @@ offer_leaves calls s span (outcome.Counted n) m idle row moved =
         at_work = rw slots refl;
       };
       none = record { waiting = moved.waiting; dropped = ap (λ c. c.control.dropped) row.3 };
+      queue_size = ap (λ c. c.control.queue_size) row.3;
       holds = λ sampled. (n, rw slots refl);
       skips = λ unsampled. absurd (let yes = row.1 in cc);
     }
@@ -220,6 +225,7 @@ offer_leaves calls s span _ m idle row moved = absurd row
 pub record EndsIdle {E : Type 0} (s : Machine E) (span : PlainSpanData) (t : Machine E) : Type 0 where
   pub leaves : LeavesRest s t
   pub goes : is_sampled span ≡ true → SpanGoes s.control.closed s span t
+  pub goes_open : s.control.closed ≡ false → is_sampled span ≡ true → QueuesLast s span t ⊎ CountsDrop s t
   pub skips : is_sampled span ≡ false → QueuesNone s t
   pub idle : t.control.slots ≡ slot.Idle ∷ []
 
@@ -233,15 +239,22 @@ both_leave s m t first second = record {
   at_work = second.at_work;
 }
 
+-- into an open queue it goes, or finds that full
+goes_in : {E : Type 0} (s : Machine E) (span : PlainSpanData) (t : Machine E) (b : Bool) → b ≡ false →
+    SpanGoes b s span t → QueuesLast s span t ⊎ CountsDrop s t
+goes_in s span t false e goes = goes
+goes_in s span t true e goes = absurd (cc)
+
 none_then : {E : Type 0} (s m t : Machine E) (span : PlainSpanData) (b : Bool) → QueuesNone s m →
-    SpanGoes b m span t → SpanGoes b s span t
-none_then s m t span true none goes =
+    m.control.queue_size ≡ s.control.queue_size → SpanGoes b m span t → SpanGoes b s span t
+none_then s m t span true none size goes =
     record { waiting = goes.waiting ∙ none.waiting; dropped = goes.dropped ∙ none.dropped }
-none_then s m t span false none (inl last) = inl (record {
+none_then s m t span false none size (inl last) = inl (record {
   waiting = last.waiting ∙ ap (λ l. l ++ span ∷ []) none.waiting;
   dropped = last.dropped ∙ none.dropped;
 })
-none_then s m t span false none (inr full) = inr (record {
+none_then s m t span false none size (inr full) = inr (record {
+  full = ap length (sym none.waiting) ∙ (full.full ∙ size);
   waiting = full.waiting ∙ none.waiting;
   dropped = full.dropped ∙ ap one_more none.dropped;
 })
@@ -261,9 +274,12 @@ module _ {E : Type 0} (calls : Ghosts E) where
           let holds = offers.holds is in
           let went = span_goes calls m xs os t span holds.0 holds.1 goes over in
           let leaves = both_leave s m t offers.leaves went.0 in
+          let goes_on = none_then s m t span s.control.closed offers.none offers.queue_size
+          (subst (λ (b : Bool). SpanGoes b m span t) offers.leaves.closed went.1) in
           record {
             leaves = leaves;
-            goes = λ _. none_then s m t span s.control.closed offers.none (subst (λ (b : Bool). SpanGoes b m span t) offers.leaves.closed went.1);
+            goes = λ _. goes_on;
+            goes_open = λ runs _. goes_in s span t s.control.closed runs goes_on;
             skips = λ no. absurd (cc);
             idle = idle_at_end s t one leaves over;
           }
@@ -273,6 +289,7 @@ module _ {E : Type 0} (calls : Ghosts E) where
           record {
             leaves = leaves;
             goes = λ yes. absurd (cc);
+            goes_open = λ runs yes. absurd (cc);
             skips = λ _. record {
               waiting = went.1.waiting ∙ offers.none.waiting;
               dropped = went.1.dropped ∙ offers.none.dropped;

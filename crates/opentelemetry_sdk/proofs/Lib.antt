@@ -11,3 +11,8 @@ pub mod Calls
 pub mod Fewer
 pub mod Emptying
 pub mod Eager
+pub mod DroppingNone
+pub mod Fewer
+pub mod Emptying
+pub mod Eager
+pub mod DroppingNone

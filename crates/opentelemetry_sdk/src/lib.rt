@@ -3,6 +3,7 @@
 #![tactic(auto)]
 
 pub mod error;
+pub mod laws;
 pub mod propagation;
 pub mod resource;
 pub mod trace;
