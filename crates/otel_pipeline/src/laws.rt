@@ -96,11 +96,11 @@ pub fn parent_based_goes_by_parents<C: ShouldSample>()
 
 /// A span that starts at an open provider, in a context that is not suppressed and has an active span, goes on that
 /// one's trace as the sampler answers.
-pub fn starts_below_spans_go_by_the_answer<P: SpanProcessor, S: ShouldSample, G: IdGenerator>()
+pub fn starts_below_spans_go_by_the_answer<P: SpanProcessor, S: ShouldSample, G: GivesIds>()
     ensures { (old new : ProviderState P S G) (request : StartRequest) (history : SpanHistory)
         (parent : PlainSpanContext)
         → old.is_shut ≡ false → request.cx.telemetry_suppressed ≡ false → request.cx.span_context ≡ Some parent
-        → Starts P.SpanProcessor S.ShouldSample G.IdGenerator old request history new
+        → Starts P.SpanProcessor S.ShouldSample G.GivesIds old request history new
         → IsAnsweredChild parent
         (S.answer old.sampler (start_question request.cx parent.trace_id request.builder))
         (span_of history).span_context }

@@ -12,16 +12,16 @@ ghost use Rattle.otel_probability.specs.Hops.{IsHop};
 use otel_pipeline::laws::starts_below_spans_go_by_the_answer;
 use otel_pipeline::trace::SpanProcessor;
 use otel_probability::ConsistentParentBased;
-use otel_sampling::trace::{IdGenerator, ShouldSample};
+use otel_sampling::trace::{GivesIds, ShouldSample};
 
 /// A span that starts at an open provider under the consistent sampler by parents, in a context that is not suppressed
 /// and has an active span, is a hop from that one. So over any number of such starts `children_keep_the_threshold`
 /// says that decision and threshold stay those of the root.
-pub fn starts_under_consistent_parents_make_hops<P: SpanProcessor, G: IdGenerator>()
+pub fn starts_under_consistent_parents_make_hops<P: SpanProcessor, G: GivesIds>()
     ensures { (old new : ProviderState P ℕ G) (request : StartRequest) (history : SpanHistory)
         (parent : PlainSpanContext)
         → old.is_shut ≡ false → request.cx.telemetry_suppressed ≡ false → request.cx.span_context ≡ Some parent
-        → Starts P.SpanProcessor ⟦<ConsistentParentBased as ShouldSample>⟧ G.IdGenerator old request history new
+        → Starts P.SpanProcessor ⟦<ConsistentParentBased as ShouldSample>⟧ G.GivesIds old request history new
         → IsHop parent (span_of history).span_context }
 {
     starts_below_spans_go_by_the_answer::<P, ConsistentParentBased, G>();

@@ -381,11 +381,7 @@ fn name_bad_line<F: Write>(alloc: Global, line: u64, faults: &mut F) -> u8
 }
 
 /// The provider that is asked for. Where nobody reads how many spans a queue drops, its batch processor is eager.
-fn provider_of(
-    alloc: Global,
-    asked: Asked,
-    is_eager: bool,
-) -> Result<TraceProvider, AllocError>
+fn provider_of(alloc: Global, asked: Asked, is_eager: bool) -> Result<TraceProvider, AllocError>
     ensures { IfOk result (IsProviderOf is_eager asked) }
 {
     let processor = processor_asked(alloc, asked.processor, is_eager)?;

@@ -75,7 +75,7 @@ returns-clause-ends g c =
       loses_none = λ some found. c.export_full_batch.ensures.leaves.told.dropped
           ∙ (room_drops_none g.E.SpanExporter m q c.args.span c.requires.sampled (leaves.closed ∙ c.requires.runs)
           (offer_ends g.E.SpanExporter c.export_full_batch-failed.new.machine c.args.span c.offer_span.new.machine
-    c.export_full_batch-failed.ensures.leaves.rest c.offer_span.ensures.offers) (has_room m c.is_sound-2.ensures room) ∙ leaves.told.dropped);
+          c.export_full_batch-failed.ensures.leaves.rest c.offer_span.ensures.offers) (has_room m c.is_sound-2.ensures room) ∙ leaves.told.dropped);
       below = λ some found. again.below
           (rw (same_largest m.control q.control sizes) (largest_left g.E.SpanExporter p m leaves some))
           (neither export.refused again.refused found).1;
