@@ -11,6 +11,14 @@ use std::process::Abort;
 
 pub const SIMPLE: &[&str] = &["trace", "0", "simple"];
 
+/// The modes that run a session.
+const SESSIONS: [&[&str]; 4] = [
+    SIMPLE,
+    &["otlp", "0", "simple"],
+    &["picture", "0", "simple"],
+    &["svg", "0", "simple"],
+];
+
 /// Takes no byte, or takes each byte and loses all of them.
 #[derive(Drop)]
 struct FailingWriter {
@@ -62,18 +70,23 @@ pub fn ran<R: Read>(rt: &impl Abort, alloc: Global, words: &[&str], input: &mut 
 }
 
 /// The status where the input fails after these bytes, and how many bytes were written.
-fn status_of_input(rt: &impl Abort, alloc: Global, text: &'static str) -> (u8, usize) {
+fn status_of_input(
+    rt: &impl Abort,
+    alloc: Global,
+    words: &[&str],
+    text: &'static str,
+) -> (u8, usize) {
     let mut input = PiecesReader::new(text, 1, true);
-    let (status, output, faults) = ran(rt, alloc, SIMPLE, &mut input);
+    let (status, output, faults) = ran(rt, alloc, words, &mut input);
     (status, output.len().saturating_add(faults.len()))
 }
 
-/// The status where a bad line follows a good one and the output fails, and how many bytes name the line.
-fn status_of_output(rt: &impl Abort, alloc: Global, takes: bool) -> (u8, usize) {
-    let mut input: &[u8] = b"end x 5\nstop\n";
+/// The status where a bad line follows a span and the output fails, and how many bytes name the line.
+fn status_of_output(rt: &impl Abort, alloc: Global, words: &[&str], takes: bool) -> (u8, usize) {
+    let mut input: &[u8] = b"start s a 1\nend s 2\nstop\n";
     let mut faults = Vec::new(alloc);
     let streams = (&mut FailingWriter { takes }, &mut faults);
-    let status = status_over(rt, alloc, SIMPLE, &mut input, streams);
+    let status = status_over(rt, alloc, words, &mut input, streams);
     (status, faults.len())
 }
 
@@ -93,11 +106,15 @@ fn statuses_of_faults(rt: &impl Abort, alloc: Global, takes: bool) -> (u8, u8) {
 
 #[test]
 fn a_stream_that_fails_is_status_1(rt: HostRuntime) {
-    for text in ["", "start s a 1"] {
-        assert_eq!(rt; status_of_input(&rt, rt.alloc(), text), (1, 0));
+    for words in SESSIONS {
+        for text in ["", "start s a 1"] {
+            assert_eq!(rt; status_of_input(&rt, rt.alloc(), words, text), (1, 0));
+        }
+        for takes in [false, true] {
+            assert_eq!(rt; status_of_output(&rt, rt.alloc(), words, takes), (1, 0));
+        }
     }
     for takes in [false, true] {
-        assert_eq!(rt; status_of_output(&rt, rt.alloc(), takes), (1, 0));
         assert_eq!(rt; statuses_of_faults(&rt, rt.alloc(), takes), (1, 1));
     }
 }

@@ -56,6 +56,37 @@ fn traced(rt: &impl Abort, alloc: Global, lines: &str) -> (u8, usize) {
     (status, span_lines(&output))
 }
 
+/// A span that waits when a shutdown comes, which takes room for its batch.
+const SHUTDOWN: &str =
+    "start s a 1\nend s 2\nend x 5\nend x 5\nend x 5\nend x 5\nend x 5\nend x 5\n\
+    end x 5\nend x 5\nend x 5\nend x 5\nend x 5\nend x 5\nend x 5\nend x 5\nend x 5\nend x 5\n\
+    end x 5\nend x 5\nend x 5\nend x 5\nend x 5\nend x 5\nshutdown\n";
+
+/// Modes with a batch processor, and what each writes of a span.
+const QUEUES: [(&[&str], &str); 3] = [
+    (&["trace", "0", "batch", "5", "5"], "span "),
+    (&["otlp", "0", "batch", "5", "5"], "\"spanId\":"),
+    (&["picture", "0", "batch", "5", "5"], "spans: 1"),
+];
+
+/// The status of a run over it, and whether the span was written.
+fn shut_down(rt: &impl Abort, alloc: Global, words: &[&str], mark: &str) -> (u8, bool) {
+    let (status, output, _) = run(rt, alloc, words, SHUTDOWN);
+    (status, text_of(&output).contains(mark))
+}
+
+/// A span that a shutdown left waiting shows in the status. One request is refused, so one of two runs is whole.
+#[test]
+fn a_span_that_a_shutdown_leaves_waiting_is_status_1(rt: HostRuntime) {
+    for (words, mark) in QUEUES {
+        let (status, is_written) = shut_down(&rt, rt.alloc(), words, mark);
+        assert!(rt; status == 1 || (status, is_written) == (0, true));
+        let (again, is_written_again) = shut_down(&rt, rt.alloc(), words, mark);
+        assert!(rt; again == 1 || (again, is_written_again) == (0, true));
+        assert!(rt; status == 0 || again == 0);
+    }
+}
+
 /// A run that wrote fewer spans than ended says so by its status. One request is refused, so one of two runs is whole.
 #[test]
 fn a_program_that_lost_a_batch_is_status_1(rt: HostRuntime) {

@@ -90,13 +90,13 @@ fn is_same_in_pieces(rt: &impl Abort, alloc: Global, words: &[&str], text: &'sta
     is_well
 }
 
-/// Whether the lines of a text are answered where reading fails after them.
+/// Whether both lines of a text are answered, each by a line, where reading fails after them.
 fn is_answered(rt: &impl Abort, alloc: Global, words: &[&str], text: &'static str) -> bool {
     let whole = ran_whole(rt, alloc, words, text);
     let failed = ran_in_pieces(rt, alloc, words, text, (3, true));
     whole.0 == 0
         && failed.0 == 1
-        && !failed.1.is_empty()
+        && failed.1.iter().filter(|byte| **byte == b'\n').count() == 2
         && whole.1.as_slice().starts_with(failed.1.as_slice())
 }
 
