@@ -7,7 +7,7 @@ use Rattle.otel_export.specs.declared.error.OTelSdkError.{OTelSdkError}
 use Rattle.otel_trace_lines.specs.ReplyForm.{Form}
 use Rattle.otel_pipeline.specs.Provider.{ProviderState}
 use Rattle.otel_trace_session.specs.Calls.{Calls, batches_of_first, losses_of_first}
-use Rattle.std.proofs.Common.{IsTrue, sum_by, sym}
+use Rattle.std.proofs.Common.{IsTrue, subst, sum_by, sym}
 use Rattle.otel_trace_session.specs.declared.session.ClosedSession.{ClosedSession}
 use Rattle.otel_trace_session.specs.Closing.{Closes, ClosesAs, LostNothing, WritesLast, WritesNone, or_no_memory}
 use Rattle.otel_trace_session.specs.ProviderTurns.{ShutsIfOpen}
