@@ -12,7 +12,9 @@ pub mod Fewer
 pub mod Emptying
 pub mod Eager
 pub mod DroppingNone
+pub mod Queuing
 pub mod Fewer
 pub mod Emptying
 pub mod Eager
 pub mod DroppingNone
+pub mod Queuing
