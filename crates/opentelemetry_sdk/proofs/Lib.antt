@@ -13,8 +13,3 @@ pub mod Emptying
 pub mod Eager
 pub mod DroppingNone
 pub mod Queuing
-pub mod Fewer
-pub mod Emptying
-pub mod Eager
-pub mod DroppingNone
-pub mod Queuing

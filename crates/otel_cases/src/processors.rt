@@ -76,19 +76,27 @@ impl SpanExporter for Writing {
 /// Answers a row whose word is one of these; false where it is none.
 pub fn answer(alloc: Global, row: &Row, out: &mut String) -> Result<bool, RowError> {
     match row.word.as_str() {
-        "batch-processor" => answer_batch(alloc, row, out)?,
+        "batch-processor" => answer_batch(alloc, row, false, out)?,
+        "eager-processor" => answer_batch(alloc, row, true, out)?,
         "simple-processor" => answer_simple(alloc, row, out)?,
         _ => return Ok(false),
     }
     Ok(true)
 }
 
-/// `batch-processor EXPORTER QUEUE BATCH CALL ..`: each call's answer, how many spans were dropped, and what the
-/// exporter was told.
-fn answer_batch(alloc: Global, row: &Row, out: &mut String) -> Result<(), RowError> {
+/// `batch-processor EXPORTER QUEUE BATCH CALL ..`, or `eager-processor` for an eager one: each call's answer, how many
+/// spans were dropped, and what the exporter was told.
+fn answer_batch(
+    alloc: Global,
+    row: &Row,
+    is_eager: bool,
+    out: &mut String,
+) -> Result<(), RowError> {
     let config = config_of(row)?;
     let exporter = exporter_named(alloc, row.field(0))?;
-    let mut processor = Box::new(alloc, BatchSpanProcessor::new(alloc, exporter, config)?)?;
+    let builder = BatchSpanProcessor::builder(alloc, exporter).with_batch_config(config);
+    let builder = if is_eager { builder.with_eager_exports() } else { builder };
+    let mut processor = Box::new(alloc, builder.build()?)?;
     for call in row.fields.iter().skip(3) {
         answer_batch_call(alloc, &mut *processor, call.as_str(), out)?;
     }
@@ -158,6 +166,7 @@ fn answer_batch_call(
     match word {
         "worker" => put_said(processor.run_worker(), out)?,
         "stranded" => put_stranded(processor.stranded(), out)?,
+        "failed" => write!(out, "failed {}, ", processor.failed_exports())?,
         "due" => put_said(processor.drain_due(Moment(number_of(rest)?)), out)?,
         _ => return Err(RowError::Field),
     }
