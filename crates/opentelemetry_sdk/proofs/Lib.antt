@@ -12,7 +12,4 @@ pub mod Fewer
 pub mod Emptying
 pub mod Eager
 pub mod DroppingNone
-pub mod Fewer
-pub mod Emptying
-pub mod Eager
-pub mod DroppingNone
+pub mod Queuing

@@ -20,7 +20,7 @@ use Rattle.otel_batch.specs.WorkedOff.{TicksAndWorks}
 module _ {E : Type 0} (calls : Ghosts E) {keeps : E → List (List PlainSpanData)} {loses : E → ℕ}
     {recalled : List (List PlainSpanData) → E → E → Type 0} (recalls : ExporterRecalls calls keeps loses recalled)
     (bs : List (List PlainSpanData)) where
-  pub ticks_over : (s : Machine E) (answer : Result (Unit {0}) OTelSdkError) (t : Machine E) (e : E)
+  ticks_over : (s : Machine E) (answer : Result (Unit {0}) OTelSdkError) (t : Machine E) (e : E)
       → recalled bs s.exporter e → TicksAndWorks calls s answer t
       → Over calls recalls bs (λ a b. TicksAndWorks calls a answer b) s e t
   ticks_over s answer t e behind h =

@@ -1,5 +1,5 @@
 -- An end of a batch processor over an exporter whose batches are recalled: it does the same.
-use Rattle.std.specs.Prelude.{◌≡◌, ℕ, Bool, true, false, List, Result, Ok, MatchBool}
+use Rattle.std.specs.Prelude.{◌≡◌, ℕ, Bool, true, false, List, [], ◌∷◌, Result, Ok, MatchBool}
 use Rattle.std.specs.declared.alloc.AllocError.{AllocError}
 use Rattle.std.proofs.Common.{ap, sym, subst}
 use Rattle.otel_export.specs.declared.error.OTelSdkError.{OTelSdkError}
@@ -8,12 +8,14 @@ use Rattle.otel_export.specs.RecalledBatches.{ExporterRecalls}
 use Rattle.otel_export.specs.declared.trace.export.SpanExporter.{Ghosts}
 use Rattle.otel_batch.specs.Drains.{has_full_batch}
 use Rattle.otel_batch.specs.MachineState.{Machine}
-use Rattle.otel_batch.specs.WorkedOff.{OffersSpan, WorkerWorks}
+use Rattle.otel_batch.specs.WorkedOff.{OffersSpan, WorkerWorks, next_of_worker}
+use Rattle.otel_batch.specs.declared.machine.step.Outcome.TheVariants as outcome
+use Rattle.otel_batch.specs.declared.machine.step.Step.TheVariants as step
 use Rattle.opentelemetry_sdk.specs.BatchProcessor.{BatchEnds, BatchProcessor, EndsByQueue, EndsEagerly, ends_eagerly}
 use Rattle.opentelemetry_sdk.specs.EagerExports.{Drains, DrainsIfFull, ExportsFullBatch, OffersEagerly, WorksIfFull}
 use Rattle.opentelemetry_sdk.specs.RecalledByBatch.{BatchOver, batch_before, works_over}
-use Rattle.opentelemetry_sdk.specs.RecalledDue.{ticks_over}
 use Rattle.opentelemetry_sdk.specs.RecalledOffers.{offers_before}
+use Rattle.opentelemetry_sdk.specs.RecalledRuns.{goes_over, run_over}
 use Rattle.opentelemetry_sdk.specs.RecalledSteps.{Over, in_front_of}
 
 module _ {E : Type 0} (calls : Ghosts E) {keeps : E → List (List PlainSpanData)} {loses : E → ℕ}
@@ -49,8 +51,26 @@ module _ {E : Type 0} (calls : Ghosts E) {keeps : E → List (List PlainSpanData
           → Over calls recalls bs (λ a b. MatchBool full (Drains calls a refused answer b)
           ((refused ≡ false) × (answer ≡ Ok tt) × (b ≡ a))) s e t
       by_full true h =
-          let g = ticks_over calls recalls bs s answer t e behind h.drain in
-          (g.0, g.1, record { drain = g.2; refusal = h.refusal })
+          let works = h.drain.works in
+          let ticks = run_over calls recalls bs s (step.Tick ∷ []) (outcome.Ticked ∷ []) h.drain.ticked e behind
+          h.drain.ticks in
+          let goes = goes_over calls recalls bs next_of_worker h.drain.ticked works.works.steps works.outcomes t ticks.0
+          ticks.1 works.works.goes in (
+            goes.0,
+            goes.1,
+            record {
+              drain = record {
+                ticked = in_front_of h.drain.ticked ticks.0;
+                ticks = ticks.2;
+                works = record {
+                  outcomes = works.outcomes;
+                  works = record { steps = works.works.steps; goes = goes.2; over = works.works.over };
+                  answers = works.answers;
+                };
+              };
+              refusal = h.refusal;
+            },
+          )
       by_full false h = (
         e,
         subst (λ m. recalled bs m.exporter e) (sym h.2) behind,

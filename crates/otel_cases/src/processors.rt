@@ -77,26 +77,37 @@ impl SpanExporter for Writing {
 /// Answers a row whose word is one of these; false where it is none.
 pub fn answer(alloc: Global, row: &Row, out: &mut AnswerText) -> bool {
     match row.word.as_str() {
-        "batch-processor" => answer_batch(alloc, row, out),
+        "batch-processor" => answer_batch(batch_processor(alloc, row, false), row, out),
+        "eager-processor" => answer_batch(batch_processor(alloc, row, true), row, out),
         "simple-processor" => answer_simple(alloc, row, out),
         _ => return false,
     }
     true
 }
 
-/// `batch-processor EXPORTER QUEUE BATCH CALL ..`: each call's answer, how many spans were dropped, and what the
-/// exporter was told.
-fn answer_batch(alloc: Global, row: &Row, out: &mut AnswerText) {
-    match batch_processor(alloc, row) {
+/// `batch-processor EXPORTER QUEUE BATCH CALL ..`, or `eager-processor` for an eager one: each call's answer, how many
+/// spans were dropped, and what the exporter was told.
+fn answer_batch(
+    made: Result<Box<BatchSpanProcessor<Writing>>, RowError>,
+    row: &Row,
+    out: &mut AnswerText,
+) {
+    match made {
         Ok(mut processor) => put_batch(&mut processor, row, out),
         Err(error) => out.note(error),
     }
 }
 
-fn batch_processor(alloc: Global, row: &Row) -> Result<Box<BatchSpanProcessor<Writing>>, RowError> {
+fn batch_processor(
+    alloc: Global,
+    row: &Row,
+    is_eager: bool,
+) -> Result<Box<BatchSpanProcessor<Writing>>, RowError> {
     let config = config_of(row)?;
     let exporter = exporter_named(alloc, row.field(0))?;
-    Ok(Box::new(alloc, BatchSpanProcessor::new(alloc, exporter, config)?)?)
+    let builder = BatchSpanProcessor::builder(alloc, exporter).with_batch_config(config);
+    let builder = if is_eager { builder.with_eager_exports() } else { builder };
+    Ok(Box::new(alloc, builder.build()?)?)
 }
 
 fn put_batch(processor: &mut BatchSpanProcessor<Writing>, row: &Row, out: &mut AnswerText) {
@@ -179,6 +190,7 @@ fn answer_batch_call(
     match word {
         "worker" => put_said(processor.run_worker(), out),
         "stranded" => put_stranded(processor.stranded(), out),
+        "failed" => write!(out, "failed {}, ", processor.failed_exports()),
         "due" => put_due(processor, number_of(rest), out),
         _ => out.note(RowError::Field),
     }

@@ -1,6 +1,7 @@
-//! The quick start, of which the README prints lines. A provider is configured by strings and built with a batch
-//! processor, and a span is exported when the provider is flushed. Spans and providers must be spent on every way out:
-//! so what can fail while the provider is open stands in a function of its own.
+//! The quick start, of which the README prints lines. A provider is configured by strings and built with an eager batch
+//! processor: a full batch is exported where the span ends that fills it, and what is left when the provider is flushed.
+//! Spans and providers must be spent on every way out: so what can fail while the provider is open stands in a function
+//! of its own.
 
 use opentelemetry::{Key, KeyValue, Moment, Value};
 use opentelemetry_sdk::error::OTelSdkError;
@@ -38,14 +39,14 @@ fn trace_request<P: SpanProcessor>(
     }
 }
 
-/// A provider with a batch processor over this exporter, as strings configure it.
+/// A provider with an eager batch processor over this exporter, as strings configure it.
 fn provider_with<P: OverExporter>(
     alloc: Global,
     strings: &ConfigStrings,
     exporter: P::Exporter,
 ) -> Result<ProviderOf<P, Sampler, IdSource>, AllocError> {
     let provider = ProviderOf::<P, Sampler, IdSource>::builder(alloc, &strings, 0)?
-        .with_batch_exporter(exporter)?
+        .with_eager_batch_exporter(exporter)?
         .build()?;
     Ok(provider)
 }
