@@ -8,9 +8,10 @@ use opentelemetry::Context;
 use opentelemetry::propagation::{FieldIter, MapCarrier, TextMapPropagator};
 use otel_case_rows::fields::{Row, RowError};
 use otel_propagation::propagation::{
-    BaggagePropagator, CompositePropagator, FieldsError, NoCustomPropagators,
-    TraceContextPropagator, configured_propagators,
+    BaggagePropagator, CompositePropagator, CustomPropagators, FieldsError, NoCustomPropagators,
+    TraceContextPropagator, configured_propagators, named_propagators,
 };
+use otel_propagators::VendorPropagators;
 use std::alloc::{AllocError, Global};
 
 /// The pair that is the default.
@@ -24,7 +25,9 @@ pub fn answer(alloc: Global, row: &Row, out: &mut String) -> Result<bool, RowErr
         "extract-all" => put_extracted(alloc, row, out)?,
         "header-names" => put_names_of(row.field(0), out)?,
         "header-names-error" => put_error(FieldsError, out)?,
-        "propagators" => put_configured(alloc, row.given(0), out)?,
+        "propagators" => put_configured(alloc, row.given(0), &NoCustomPropagators, out)?,
+        "vendor-propagators" => put_configured(alloc, row.given(0), &VendorPropagators, out)?,
+        "propagator-names" => put_named(alloc, row.given(0), out)?,
         _ => return Ok(false),
     }
     Ok(true)
@@ -110,11 +113,26 @@ fn put_error(error: FieldsError, out: &mut String) -> Result<(), AllocError> {
 
 /// Puts out the names of the headers of the propagators that a text configures, and behind question marks the names in
 /// it that are unknown, each with a bar behind it.
-fn put_configured(alloc: Global, text: Option<&str>, out: &mut String) -> Result<(), AllocError> {
-    let configured = configured_propagators(alloc, text, &NoCustomPropagators)?;
+fn put_configured<N: CustomPropagators>(
+    alloc: Global,
+    text: Option<&str>,
+    custom: &N,
+    out: &mut String,
+) -> Result<(), AllocError> {
+    let configured = configured_propagators(alloc, text, custom)?;
     put_names(configured.propagator.fields(), out)?;
     for name in &configured.unknown {
         write!(out, "?{name}|")?;
+    }
+    Ok(())
+}
+
+/// Puts out the names of propagators in a text, each with a bar behind it.
+fn put_named(alloc: Global, text: Option<&str>, out: &mut String) -> Result<(), AllocError> {
+    let named = named_propagators(alloc, text)?;
+    for propagator in &named {
+        let name = propagator.name();
+        write!(out, "{name}|")?;
     }
     Ok(())
 }
