@@ -2,6 +2,6 @@
 
 pub use otel_propagation::propagation::{
     BaggagePropagator, CompositePropagator, ConfiguredPropagators, CustomPropagators, FieldsError,
-    NamedPropagator, NoCustomPropagators, NoPropagator, PropagatorOf, TextMapCompositePropagator,
-    TraceContextPropagator, configured_propagators, named_propagators,
+    NamedPropagator, NoCustomPropagators, NoPropagator, PropagatorOf, StrictBaggagePropagator,
+    TextMapCompositePropagator, TraceContextPropagator, configured_propagators, named_propagators,
 };

@@ -16,9 +16,13 @@ trace_context_name = codes "tracecontext"
 abbrev pub baggage_name : List ℕ
 baggage_name = codes "baggage"
 
+abbrev pub strict_baggage_name : List ℕ
+strict_baggage_name = codes "baggage-strict"
+
 -- a name of a built-in propagator
 abbrev pub is_built_in : List ℕ → Bool
-is_built_in name = bytes_eq name trace_context_name || bytes_eq name baggage_name
+is_built_in name =
+    bytes_eq name trace_context_name || (bytes_eq name baggage_name || bytes_eq name strict_baggage_name)
 
 -- what names a propagator: neither the empty name nor that of none
 abbrev pub is_name : List ℕ → Bool
@@ -50,12 +54,14 @@ text_or_default (Some text) = unless_blank (trim text) text
 abbrev pub name_of : NamedPropagator → List ℕ
 name_of named.TraceContext = trace_context_name
 name_of named.Baggage = baggage_name
+name_of named.StrictBaggage = strict_baggage_name
 name_of (named.Unknown name) = string_bytes name
 
 -- what is built in does not count as unknown
 abbrev pub HasItsKind : NamedPropagator → Type 0
 HasItsKind named.TraceContext = Unit {0}
 HasItsKind named.Baggage = Unit {0}
+HasItsKind named.StrictBaggage = Unit {0}
 HasItsKind (named.Unknown name) = IsTrue (not (is_built_in (string_bytes name)))
 
 -- a name after those that are given, where it passes a test and is not one of them

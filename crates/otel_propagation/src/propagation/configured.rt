@@ -10,7 +10,7 @@ ghost use Rattle.otel_propagation.specs.NamedPropagators.{HasItsKind, name_of, n
 ghost use Rattle.otel_propagation.specs.PropagatorKinds.{fields_by_kind};
 
 use super::{
-    BaggagePropagator, CustomPropagators, NamedPropagator, PropagatorOf,
+    BaggagePropagator, CustomPropagators, NamedPropagator, PropagatorOf, StrictBaggagePropagator,
     TextMapCompositePropagator, TraceContextPropagator, named_propagators,
 };
 use std::alloc::{AllocError, Global};
@@ -68,6 +68,7 @@ fn propagator_of<N: CustomPropagators>(
     match named {
         NamedPropagator::TraceContext => Ok(PropagatorOf::TraceContext(TraceContextPropagator)),
         NamedPropagator::Baggage => Ok(PropagatorOf::Baggage(BaggagePropagator)),
+        NamedPropagator::StrictBaggage => Ok(PropagatorOf::StrictBaggage(StrictBaggagePropagator)),
         NamedPropagator::Unknown(name) => match custom.named(name.as_str()) {
             Some(propagator) => Ok(PropagatorOf::Custom(propagator)),
             None => Err(name),

@@ -20,6 +20,8 @@ pub enum NamedPropagator {
     TraceContext,
     /// `baggage`
     Baggage,
+    /// `baggage-strict`, a name that is not the specification's.
+    StrictBaggage,
     /// A name that is not built in.
     Unknown(String),
 }
@@ -33,6 +35,7 @@ impl NamedPropagator {
         Ok(match name {
             "tracecontext" => NamedPropagator::TraceContext,
             "baggage" => NamedPropagator::Baggage,
+            "baggage-strict" => NamedPropagator::StrictBaggage,
             unknown => NamedPropagator::Unknown(String::from_str(alloc, unknown)?),
         })
     }
@@ -44,6 +47,7 @@ impl NamedPropagator {
         match self {
             NamedPropagator::TraceContext => "tracecontext",
             NamedPropagator::Baggage => "baggage",
+            NamedPropagator::StrictBaggage => "baggage-strict",
             NamedPropagator::Unknown(name) => name.as_str(),
         }
     }

@@ -1,6 +1,6 @@
 //! A propagator of any kind that a list of propagators may have: one of the built-in ones, or one of the caller's own.
 
-use super::{BaggagePropagator, TraceContextPropagator};
+use super::{BaggagePropagator, StrictBaggagePropagator, TraceContextPropagator};
 use opentelemetry::Context;
 use opentelemetry::propagation::{Extractor, FieldIter, Injector, TextMapPropagator};
 use std::alloc::{AllocError, Global};
@@ -10,6 +10,7 @@ use std::alloc::{AllocError, Global};
 pub enum PropagatorOf<C> {
     TraceContext(TraceContextPropagator),
     Baggage(BaggagePropagator),
+    StrictBaggage(StrictBaggagePropagator),
     Custom(C),
 }
 
@@ -34,6 +35,7 @@ impl<C: TextMapPropagator> TextMapPropagator for PropagatorOf<C> {
         match self {
             PropagatorOf::TraceContext(built_in) => built_in.inject_context(alloc, cx, injector),
             PropagatorOf::Baggage(built_in) => built_in.inject_context(alloc, cx, injector),
+            PropagatorOf::StrictBaggage(built_in) => built_in.inject_context(alloc, cx, injector),
             PropagatorOf::Custom(custom) => custom.inject_context(alloc, cx, injector),
         }
     }
@@ -49,6 +51,9 @@ impl<C: TextMapPropagator> TextMapPropagator for PropagatorOf<C> {
                 built_in.extract_with_context(alloc, cx, extractor)
             }
             PropagatorOf::Baggage(built_in) => built_in.extract_with_context(alloc, cx, extractor),
+            PropagatorOf::StrictBaggage(built_in) => {
+                built_in.extract_with_context(alloc, cx, extractor)
+            }
             PropagatorOf::Custom(custom) => custom.extract_with_context(alloc, cx, extractor),
         }
     }
@@ -57,6 +62,7 @@ impl<C: TextMapPropagator> TextMapPropagator for PropagatorOf<C> {
         match self {
             PropagatorOf::TraceContext(built_in) => built_in.fields(),
             PropagatorOf::Baggage(built_in) => built_in.fields(),
+            PropagatorOf::StrictBaggage(built_in) => built_in.fields(),
             PropagatorOf::Custom(custom) => custom.fields(),
         }
     }

@@ -9,9 +9,10 @@ use opentelemetry::propagation::{FieldIter, MapCarrier, TextMapPropagator};
 use otel_case_rows::answer_text::AnswerText;
 use otel_case_rows::fields::{Row, RowError};
 use otel_propagation::propagation::{
-    BaggagePropagator, CompositePropagator, ConfiguredPropagators, FieldsError,
-    NoCustomPropagators, TraceContextPropagator, configured_propagators,
+    BaggagePropagator, CompositePropagator, ConfiguredPropagators, FieldsError, NamedPropagator,
+    NoCustomPropagators, TraceContextPropagator, configured_propagators, named_propagators,
 };
+use otel_propagators::VendorPropagators;
 use std::alloc::Global;
 
 /// The pair that is the default.
@@ -29,6 +30,11 @@ pub fn answer(alloc: Global, row: &Row, out: &mut AnswerText) -> bool {
             configured_propagators(alloc, row.given(0), &NoCustomPropagators),
             put_configured,
         ),
+        "vendor-propagators" => out.put_by(
+            configured_propagators(alloc, row.given(0), &VendorPropagators),
+            put_configured,
+        ),
+        "propagator-names" => out.put_by(named_propagators(alloc, row.given(0)), put_named),
         _ => return false,
     }
     true
@@ -104,5 +110,13 @@ fn put_configured<C: TextMapPropagator>(
     put_names(configured.propagator.fields(), out);
     for name in &configured.unknown {
         write!(out, "?{name}|");
+    }
+}
+
+/// Puts out the names of propagators in a text, each with a bar behind it.
+fn put_named(named: &Vec<NamedPropagator>, out: &mut AnswerText) {
+    for propagator in named {
+        let name = propagator.name();
+        write!(out, "{name}|");
     }
 }

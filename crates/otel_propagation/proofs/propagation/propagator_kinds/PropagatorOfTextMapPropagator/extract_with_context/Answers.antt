@@ -16,3 +16,8 @@ pub returns-in-Baggage-clause-infallible : goal.returns-in-Baggage-clause-infall
 returns-in-Baggage-clause-infallible g c is =
     c.extract_with_context-in-Baggage.ensures.infallible
     (subst (λ p. InfallibleByKind g.C.TextMapPropagator.extract_is_infallible p c.args.cx.now (g.X.Extractor.reads c.args.extractor.now)) c.in-Baggage.is is)
+
+pub returns-in-StrictBaggage-clause-infallible : goal.returns-in-StrictBaggage-clause-infallible
+returns-in-StrictBaggage-clause-infallible g c is =
+    c.extract_with_context-in-StrictBaggage.ensures.infallible
+    (subst (λ p. InfallibleByKind g.C.TextMapPropagator.extract_is_infallible p c.args.cx.now (g.X.Extractor.reads c.args.extractor.now)) c.in-StrictBaggage.is is)
