@@ -131,7 +131,8 @@ strict_header_of es = spelled_header (written_entries es)
 -- what a strict baggage propagator injects: the header; where nothing is left to write nothing, which needs no memory
 pub record InjectsStrictBaggage (cx : PlainContext) (old : Texts) (result : Result (Unit {0}) AllocError)
     (new : Texts) : Type 0 where
-  pub set : strict_header_of cx.baggage ≢ [] → OnOk result (SetsText old new baggage_field (strict_header_of cx.baggage))
+  pub set : strict_header_of cx.baggage ≢ []
+      → OnOk result (SetsText old new baggage_field (strict_header_of cx.baggage))
   pub nothing : strict_header_of cx.baggage ≡ [] → IsOk result × SameTexts old new
   pub err : OnErr result (SameTexts old new)
 
@@ -140,7 +141,7 @@ abbrev pub ExtractsStrictBaggage : PlainContext → Texts → PlainContext → T
 ExtractsStrictBaggage cx texts found =
     found ≡ record cx { baggage = unwrap_or (read_strict (texts baggage_field)) cx.baggage }
 
--- reading wants no memory: no header is read, and there is neither a trace state nor a baggage to share
+-- reading needs no memory: no header is read, and there is neither a trace state nor a baggage to share
 pub record StrictBaggageIsInfallible (cx : PlainContext) (texts : Texts) : Type 0 where
   pub shares_no_state : (current_span_context cx).trace_state ≡ []
   pub shares_no_baggage : cx.baggage ≡ []
