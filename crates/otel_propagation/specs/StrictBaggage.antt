@@ -22,9 +22,9 @@ abbrev pub StrictPair : Type 0
 StrictPair = List ℕ × Option (List ℕ)
 
 -- what stands in front of the first of a byte, and what stands behind it; none where it does not stand
-abbrev pub cut_at : ℕ → List ℕ → Option (List ℕ × List ℕ)
-cut_at c [] = None
-cut_at c (b ∷ bs) = if b == c then Some ([], bs) else option_map (λ cut. (b ∷ cut.0, cut.1)) (cut_at c bs)
+abbrev pub split_once : ℕ → List ℕ → Option (List ℕ × List ℕ)
+split_once c [] = None
+split_once c (b ∷ bs) = if b == c then Some ([], bs) else option_map (λ cut. (b ∷ cut.0, cut.1)) (split_once c bs)
 
 -- a key alone, where it is a token
 abbrev pub checked_key : List ℕ → Option StrictPair
@@ -41,7 +41,7 @@ pair_of_cut text (Some cut) = checked_pair (trimmed cut.0) (trimmed cut.1)
 
 -- the pair that a text says, cut at its first equals sign; none where it breaks the grammar
 unfoldable pub strict_pair : List ℕ → Option StrictPair
-strict_pair text = pair_of_cut text (cut_at equals_sign text)
+strict_pair text = pair_of_cut text (split_once equals_sign text)
 
 -- a key and a value with an equals sign between them
 abbrev pub spelled : List ℕ → Option (List ℕ) → List ℕ
