@@ -21,6 +21,9 @@ pub trait Injector {
 
     /// Gives a name a text, in place of the one that it had. `AllocError` where there is no memory for it: then each
     /// name has the text that it had.
+    ///
+    /// A text may have any character in it. A carrier over real headers must refuse or drop control characters, CR and
+    /// LF above all, by itself; `MapCarrier` does not.
     fn set(&mut self, key: &str, value: String) -> Result<(), AllocError>
         ensures ok { OnOk result (SetsText (texts self.old) (texts self.new) key.now (string_bytes value)) }
         ensures err { OnErr result (SameTexts (texts self.old) (texts self.new)) };

@@ -11,7 +11,7 @@ use Rattle.std.proofs.lemmas.Str.Pattern.{IsSplitOnceResult, split_parts}
 use Rattle.opentelemetry.specs.Tracestate.{is_blank, trim_front, trimmed}
 use Rattle.opentelemetry.proofs.Tracestates.{both_true}
 use Rattle.otel_propagation.specs.StrictGrammar.{is_octet, is_token_byte, is_token, are_octets, without_blanks, IsOptionalSpace}
-use Rattle.otel_propagation.specs.StrictBaggage.{cut_at}
+use Rattle.otel_propagation.specs.StrictBaggage.{split_once}
 use Rattle.otel_propagation.proofs.BaggagePieceLemmas.{Lacks}
 
 -- a byte that passes a test is none that fails it
@@ -146,13 +146,13 @@ dark_kept (b ∷ bs) is =
     let parts = both_true (is_dark b) (list_all is_dark bs) is in cond-true _ _ _ parts.0 ∙ ap (λ l. b ∷ l) (dark_kept bs parts.1)
 
 -- a text is cut at the first of a byte
-pub cut_found : (c : ℕ) (before after : List ℕ) → Lacks c before → cut_at c (before ++ c ∷ after) ≡ Some (before, after)
+pub cut_found : (c : ℕ) (before after : List ℕ) → Lacks c before → split_once c (before ++ c ∷ after) ≡ Some (before, after)
 cut_found c [] after lacks = cond-true _ _ _ (eq-eqb c c refl)
 cut_found c (b ∷ bs) after lacks =
     cond-false _ _ _ (All-head (λ b. eqb b c ≡ false) b bs lacks)
     ∙ ap (option_map (λ (cut : List ℕ × List ℕ). (b ∷ cut.0, cut.1))) (cut_found c bs after (All-tail (λ b. eqb b c ≡ false) b bs lacks))
 
-pub cut_none : (c : ℕ) (text : List ℕ) → Lacks c text → cut_at c text ≡ None
+pub cut_none : (c : ℕ) (text : List ℕ) → Lacks c text → split_once c text ≡ None
 cut_none c [] lacks = refl
 cut_none c (b ∷ bs) lacks =
     cond-false _ _ _ (All-head (λ b. eqb b c ≡ false) b bs lacks)
@@ -162,22 +162,22 @@ all_others : (c : ℕ) (bs : List ℕ) → ((i : ℕ) → i < length bs → get_
 all_others c bs none = All-from_get_or (λ b. eqb b c ≡ false) bs 0 (λ i inside. ne_eqb (get_or bs i 0) c (none i inside))
 
 -- as `split_once` cuts it
-pub cut_as_split : (c : ℕ) (text : List ℕ) (before after : Bor (List ℕ)) → IsSplitOnceResult c text (Some (before, after)) → c < 128 → cut_at c text ≡ Some (before.now, after.now)
+pub cut_as_split : (c : ℕ) (text : List ℕ) (before after : Bor (List ℕ)) → IsSplitOnceResult c text (Some (before, after)) → c < 128 → split_once c text ≡ Some (before.now, after.now)
 cut_as_split c text before after h ascii =
-    let parts = split_parts c text (Some (before, after)) h ascii in ap (cut_at c) parts.0 ∙ cut_found c before.now after.now (all_others c before.now parts.1)
+    let parts = split_parts c text (Some (before, after)) h ascii in ap (split_once c) parts.0 ∙ cut_found c before.now after.now (all_others c before.now parts.1)
 
-pub uncut_as_split : (c : ℕ) (text : List ℕ) → IsSplitOnceResult c text None → c < 128 → cut_at c text ≡ None
+pub uncut_as_split : (c : ℕ) (text : List ℕ) → IsSplitOnceResult c text None → c < 128 → split_once c text ≡ None
 uncut_as_split c text h ascii = cut_none c text (all_others c text (split_parts c text None h ascii))
 
 -- how long the parts of a text that was cut are, with the byte between them
 abbrev pub cut_bytes : Option (List ℕ × List ℕ) → ℕ
 cut_bytes cut = option_map_or (λ parts. length parts.0 + length parts.1 + 1) cut 0
 
-pub length-cut_at : (c : ℕ) (text : List ℕ) → cut_bytes (cut_at c text) ≤ length text
-length-cut_at c [] = omega arith
-length-cut_at c (b ∷ bs) =
-    cond_both (eqb b c) (Some ([], bs)) (option_map (λ cut. (b ∷ cut.0, cut.1)) (cut_at c bs)) (λ cut. cut_bytes cut ≤ length (b ∷ bs))
-    (λ _. omega arith) (λ _. longer (cut_at c bs) (length-cut_at c bs))
+pub length-split_once : (c : ℕ) (text : List ℕ) → cut_bytes (split_once c text) ≤ length text
+length-split_once c [] = omega arith
+length-split_once c (b ∷ bs) =
+    cond_both (eqb b c) (Some ([], bs)) (option_map (λ cut. (b ∷ cut.0, cut.1)) (split_once c bs)) (λ cut. cut_bytes cut ≤ length (b ∷ bs))
+    (λ _. omega arith) (λ _. longer (split_once c bs) (length-split_once c bs))
   where
     longer : (cut : Option (List ℕ × List ℕ)) → cut_bytes cut ≤ length bs → cut_bytes (option_map (λ parts. (b ∷ parts.0, parts.1)) cut) ≤ length (b ∷ bs)
     longer None is = omega arith

@@ -13,7 +13,7 @@ use Rattle.otel_propagation.specs.StrictBaggage.{properties_onto, spelled_header
 use Rattle.otel_propagation.specs.StrictLaws.{is_graphic}
 use Rattle.otel_propagation.proofs.StrictBytes.{all_append, all_weaker, key_bytes}
 use Rattle.otel_propagation.proofs.StrictPairs.{IsTightProperty}
-use Rattle.otel_propagation.proofs.StrictHeaders.{entries_tight, member_parts, IsTight}
+use Rattle.otel_propagation.proofs.StrictHeaders.{entries_tight, member_parts, IsTightEntry}
 
 octet_is : (b : ℕ) → is_octet b ≡ true → is_graphic b ≡ true
 unfolding is_octet
@@ -43,13 +43,13 @@ graphic_properties : (say : List (List ℕ)) → AllByRecursion IsTightProperty 
 graphic_properties [] tight = refl
 graphic_properties (p ∷ ps) tight = all_append is_graphic p (properties_onto false ps) (graphic_property p p tight.0) (graphic_properties ps tight.1)
 
-graphic_member : (e : PlainBaggageEntry) → IsTight e → list_all is_graphic (spelled_member e) ≡ true
+graphic_member : (e : PlainBaggageEntry) → IsTightEntry e → list_all is_graphic (spelled_member e) ≡ true
 graphic_member e tight =
     ap (list_all is_graphic) (member_parts e tight)
     ∙ all_append is_graphic e.key (equals_sign ∷ (e.value ++ properties_onto false tight.say)) (graphic_key e.key tight.key)
     (all_append is_graphic e.value (properties_onto false tight.say) (graphic_value e.value tight.value) (graphic_properties tight.say tight.properties))
 
-graphic_header : (es : PlainBaggage) → AllByRecursion IsTight es → list_all is_graphic (spelled_header es) ≡ true
+graphic_header : (es : PlainBaggage) → AllByRecursion IsTightEntry es → list_all is_graphic (spelled_header es) ≡ true
 graphic_header [] tight = refl
 graphic_header (e ∷ []) tight = graphic_member e tight.0
 graphic_header (e ∷ f ∷ es) tight = all_append is_graphic (spelled_member e) (comma ∷ spelled_header (f ∷ es)) (graphic_member e tight.0) (graphic_header (f ∷ es) tight.1)

@@ -11,10 +11,10 @@ use Rattle.opentelemetry.specs.Baggage.{PlainBaggage, PlainBaggageEntry, entry_o
 use Rattle.opentelemetry.specs.Members.{comma, equals_sign, pieces_at, semicolon}
 use Rattle.opentelemetry.proofs.Tracestates.{both_true}
 use Rattle.otel_propagation.specs.BaggageHeader.{behind_semicolon}
-use Rattle.otel_propagation.specs.StrictGrammar.{are_octets, is_octet, is_token, without_blanks, AreMembers, AreProperties, IsBaggageHeader, IsMember, IsOptionalSpace, IsProperty}
+use Rattle.otel_propagation.specs.StrictGrammar.{are_octets, is_octet, is_token, without_blanks, AreListMembers, AreProperties, IsBaggageHeader, IsListMember, IsOptionalSpace, IsProperty}
 use Rattle.otel_propagation.specs.StrictGrammar.IsProperty.{key_alone, key_and_value}
 use Rattle.otel_propagation.specs.StrictGrammar.AreProperties.{no_property, next_property}
-use Rattle.otel_propagation.specs.StrictGrammar.AreMembers.{last_member, next_member}
+use Rattle.otel_propagation.specs.StrictGrammar.AreListMembers.{last_member, next_member}
 use Rattle.otel_propagation.specs.StrictBaggage.{has_token_name, properties_onto, spelled_header, spelled_member, strict_entries_of, strict_header_of, strict_metadata_of, strict_pair, strict_property, written_entries, written_entry, written_octet, written_value}
 use Rattle.otel_propagation.proofs.BaggagePieceLemmas.{Lacks}
 use Rattle.otel_propagation.proofs.StrictBytes.{all_append, blanks_gone, dark_kept, dark_key, dark_octets, is_dark, semicolon_is}
@@ -22,7 +22,7 @@ use Rattle.otel_propagation.proofs.StrictPairs.{key_tight, onto_behind, properti
 use Rattle.otel_propagation.proofs.StrictReads.{header_reads, property_lacks, tight_reads}
 
 -- an entry as a member spells it: its name, its value and its properties are of the grammar
-pub record IsTight (e : PlainBaggageEntry) : Type 0 where
+pub record IsTightEntry (e : PlainBaggageEntry) : Type 0 where
   pub say : List (List ℕ)
   pub key : is_token e.key ≡ true
   pub value : are_octets e.value ≡ true
@@ -56,7 +56,7 @@ octets_stay (b ∷ bs) are =
     let parts = both_true (is_octet b) (are_octets bs) are in (λ i. cond-true _ (b ∷ []) (percent_encode_byte b) parts.0 i ++ octets_stay bs parts.1 i)
 
 -- an entry whose name is a token is written as such
-written_tight : (e : PlainBaggageEntry) → is_token e.key ≡ true → IsTight (written_entry e)
+written_tight : (e : PlainBaggageEntry) → is_token e.key ≡ true → IsTightEntry (written_entry e)
 unfolding written_value strict_metadata_of
 written_tight e is = record {
   say = filter_map strict_property (pieces_at semicolon e.metadata);
@@ -66,16 +66,16 @@ written_tight e is = record {
   metadata = refl;
 }
 
-filtered_tight : (es : PlainBaggage) → AllByRecursion IsTight (map written_entry (filter has_token_name es))
+filtered_tight : (es : PlainBaggage) → AllByRecursion IsTightEntry (map written_entry (filter has_token_name es))
 filtered_tight [] = tt
 filtered_tight (e ∷ es) =
     let rest = filtered_tight es in
     ⊎_elim
-    (λ token. subst (λ (l : PlainBaggage). AllByRecursion IsTight (map written_entry l)) (sym (cond-true _ _ _ token)) (written_tight e token, rest))
-    (λ none. subst (λ (l : PlainBaggage). AllByRecursion IsTight (map written_entry l)) (sym (cond-false _ _ _ none)) rest)
+    (λ token. subst (λ (l : PlainBaggage). AllByRecursion IsTightEntry (map written_entry l)) (sym (cond-true _ _ _ token)) (written_tight e token, rest))
+    (λ none. subst (λ (l : PlainBaggage). AllByRecursion IsTightEntry (map written_entry l)) (sym (cond-false _ _ _ none)) rest)
     (cases_Bool (is_token e.key))
 
-pub entries_tight : (es : PlainBaggage) → AllByRecursion IsTight (written_entries es)
+pub entries_tight : (es : PlainBaggage) → AllByRecursion IsTightEntry (written_entries es)
 unfolding written_entries
 entries_tight es = filtered_tight es
 
@@ -84,12 +84,12 @@ properties_spelled : (say : List (List ℕ)) → AllByRecursion IsTightProperty 
 properties_spelled [] tight = no_property
 properties_spelled (p ∷ ps) tight = next_property [] [] p p (properties_onto false ps) ps refl refl tight.0 (properties_spelled ps tight.1)
 
-pub member_parts : (e : PlainBaggageEntry) (tight : IsTight e) → spelled_member e ≡ e.key ++ equals_sign ∷ (e.value ++ properties_onto false tight.say)
+pub member_parts : (e : PlainBaggageEntry) (tight : IsTightEntry e) → spelled_member e ≡ e.key ++ equals_sign ∷ (e.value ++ properties_onto false tight.say)
 member_parts e tight =
     ap (λ m. e.key ++ equals_sign ∷ (e.value ++ behind_semicolon m)) tight.metadata
     ∙ ap (λ t. e.key ++ equals_sign ∷ (e.value ++ t)) (sym (onto_behind tight.say tight.properties))
 
-member_spelled : (e : PlainBaggageEntry) → IsTight e → IsMember (spelled_member e) e
+member_spelled : (e : PlainBaggageEntry) → IsTightEntry e → IsListMember (spelled_member e) e
 member_spelled e tight = record {
   before = [];
   after = [];
@@ -104,11 +104,11 @@ member_spelled e tight = record {
   spelled = member_parts e tight;
 }
 
-pub members_spelled : (e : PlainBaggageEntry) (es : PlainBaggage) → AllByRecursion IsTight (e ∷ es) → AreMembers (spelled_header (e ∷ es)) (e ∷ es)
+pub members_spelled : (e : PlainBaggageEntry) (es : PlainBaggage) → AllByRecursion IsTightEntry (e ∷ es) → AreListMembers (spelled_header (e ∷ es)) (e ∷ es)
 members_spelled e [] tight = last_member (spelled_member e) e (member_spelled e tight.0)
 members_spelled e (f ∷ es) tight = next_member (spelled_member e) [] [] (spelled_header (f ∷ es)) e (f ∷ es) (member_spelled e tight.0) refl refl (members_spelled f es tight.1)
 
-pub header_spelled : (es : PlainBaggage) → AllByRecursion IsTight es → length es ≤ 180 → spelled_header es ≢ [] → IsBaggageHeader (spelled_header es) es
+pub header_spelled : (es : PlainBaggage) → AllByRecursion IsTightEntry es → length es ≤ 180 → spelled_header es ≢ [] → IsBaggageHeader (spelled_header es) es
 header_spelled [] tight few some = absurd (some refl)
 header_spelled (e ∷ es) tight few some = record { members = members_spelled e es tight; few = few }
 
@@ -152,23 +152,23 @@ metadata_stays (p ∷ ps) tight =
     ∙ ap (join_with_byte semicolon) (properties_stay (p ∷ ps) tight)
 
 -- an entry that a member spells is written as it is
-entry_stays : (e : PlainBaggageEntry) → IsTight e → written_entry e ≡ e
+entry_stays : (e : PlainBaggageEntry) → IsTightEntry e → written_entry e ≡ e
 unfolding written_value strict_metadata_of
 entry_stays e tight =
     let metadata = ap (λ m. join_with_byte semicolon (filter_map strict_property (pieces_at semicolon m))) tight.metadata ∙ metadata_stays tight.say tight.properties ∙ sym tight.metadata in
     λ i. entry_of e.key (octets_stay e.value tight.value i) (metadata i)
 
-filtered_stay : (es : PlainBaggage) → AllByRecursion IsTight es → map written_entry (filter has_token_name es) ≡ es
+filtered_stay : (es : PlainBaggage) → AllByRecursion IsTightEntry es → map written_entry (filter has_token_name es) ≡ es
 filtered_stay [] tight = refl
 filtered_stay (e ∷ es) tight =
     ap (map written_entry) (cond-true _ (e ∷ filter has_token_name es) (filter has_token_name es) tight.0.key)
     ∙ (λ i. entry_stays e tight.0 i ∷ filtered_stay es tight.1 i)
 
-pub entries_stay : (es : PlainBaggage) → AllByRecursion IsTight es → written_entries es ≡ es
+pub entries_stay : (es : PlainBaggage) → AllByRecursion IsTightEntry es → written_entries es ≡ es
 unfolding written_entries
 entries_stay es tight = filtered_stay es tight
 
-pub header_stays : (es : PlainBaggage) → AllByRecursion IsTight es → strict_header_of es ≡ spelled_header es
+pub header_stays : (es : PlainBaggage) → AllByRecursion IsTightEntry es → strict_header_of es ≡ spelled_header es
 unfolding strict_header_of
 header_stays es tight = ap spelled_header (entries_stay es tight)
 
@@ -181,7 +181,7 @@ said_tight : (text : List ℕ) (says : List (List ℕ)) → AreProperties text s
 said_tight _ _ no_property = tt
 said_tight _ _ (next_property before after property says rest others blank more is next) = (property_tight property says is, said_tight rest others next)
 
-member_tight : (text : List ℕ) (e : PlainBaggageEntry) → IsMember text e → IsTight e
+member_tight : (text : List ℕ) (e : PlainBaggageEntry) → IsListMember text e → IsTightEntry e
 member_tight text e is = record {
   say = is.say;
   key = is.key;
@@ -190,7 +190,7 @@ member_tight text e is = record {
   metadata = is.metadata;
 }
 
-pub members_tight : (text : List ℕ) (es : PlainBaggage) → AreMembers text es → AllByRecursion IsTight es
+pub members_tight : (text : List ℕ) (es : PlainBaggage) → AreListMembers text es → AllByRecursion IsTightEntry es
 members_tight _ _ (last_member text e is) = (member_tight text e is, tt)
 members_tight _ _ (next_member text before after rest e es is blank more next) = (member_tight text e is, members_tight rest es next)
 
@@ -215,7 +215,7 @@ properties_bare _ _ (next_property before after property says rest others before
     gone_between before after (property ++ rest) semicolon before_is after_is refl
     ∙ ap (λ l. semicolon ∷ l) (filter-append is_dark property rest ∙ (λ i. property_bare property says is i ++ properties_bare rest others more i))
 
-member_bare : (text : List ℕ) (e : PlainBaggageEntry) → IsMember text e → without_blanks text ≡ spelled_member e
+member_bare : (text : List ℕ) (e : PlainBaggageEntry) → IsListMember text e → without_blanks text ≡ spelled_member e
 member_bare text e is =
     ap without_blanks is.spelled
     ∙ filter-append is_dark e.key (is.before ++ equals_sign ∷ (is.after ++ (e.value ++ is.properties)))
@@ -224,7 +224,7 @@ member_bare text e is =
     ∙ (λ i. dark_kept e.value (dark_octets e.value is.value) i ++ properties_bare is.properties is.say is.properties_are i)
     ∙ ap (λ t. e.value ++ t) (onto_behind is.say (said_tight is.properties is.say is.properties_are) ∙ ap behind_semicolon (sym is.metadata)))
 
-pub some_entries : (text : List ℕ) (es : PlainBaggage) → AreMembers text es → es ≢ []
+pub some_entries : (text : List ℕ) (es : PlainBaggage) → AreListMembers text es → es ≢ []
 some_entries _ _ (last_member text e is) none = absurd (cc)
 some_entries _ _ (next_member text before after rest e es is blank more next) none = absurd (cc)
 
@@ -232,7 +232,7 @@ join_more : (e : PlainBaggageEntry) (es : PlainBaggage) → es ≢ [] → spelle
 join_more e [] some = absurd (some refl)
 join_more e (f ∷ es) some = refl
 
-pub members_bare : (text : List ℕ) (es : PlainBaggage) → AreMembers text es → without_blanks text ≡ spelled_header es
+pub members_bare : (text : List ℕ) (es : PlainBaggage) → AreListMembers text es → without_blanks text ≡ spelled_header es
 members_bare _ _ (last_member text e is) = member_bare text e is
 members_bare _ _ (next_member text before after rest e es is before_is after_is next) =
     filter-append is_dark text (before ++ comma ∷ (after ++ rest))

@@ -13,9 +13,9 @@ use Rattle.otel_propagation.specs.BaggageHeader.{behind_semicolon}
 use Rattle.otel_propagation.specs.BaggagePieces.{next_property, unless_first}
 use Rattle.otel_propagation.specs.StrictGrammar.{are_octets, is_token, IsProperty}
 use Rattle.otel_propagation.specs.StrictGrammar.IsProperty.{key_alone, key_and_value}
-use Rattle.otel_propagation.specs.StrictBaggage.{cut_at, pair_of_cut, plain_pair, properties_onto, spelled, spelled_pair, strict_entry_of_member, strict_entry_of_parts, strict_pair, strict_paired_entry, strict_property, valued_entry, StrictPair}
+use Rattle.otel_propagation.specs.StrictBaggage.{split_once, pair_of_cut, plain_pair, properties_onto, spelled, spelled_pair, strict_entry_of_member, strict_entry_of_parts, strict_pair, strict_paired_entry, strict_property, valued_entry, StrictPair}
 use Rattle.otel_propagation.proofs.BaggagePieceLemmas.{none_yet}
-use Rattle.otel_propagation.proofs.StrictBytes.{cut_bytes, length-cut_at, length-trimmed}
+use Rattle.otel_propagation.proofs.StrictBytes.{cut_bytes, length-split_once, length-trimmed}
 
 -- a key is a token, and a value behind it is of octets
 abbrev pub IsKeyed : List ℕ → Option (List ℕ) → Type 0
@@ -35,7 +35,7 @@ cut_keyed text (Some cut) =
 
 pub pair_keyed : (text : List ℕ) → IsKeyedPair (strict_pair text)
 unfolding strict_pair
-pair_keyed text = cut_keyed text (cut_at 61 text)
+pair_keyed text = cut_keyed text (split_once 61 text)
 
 -- a property without optional white space
 abbrev pub IsTightProperty : List ℕ → Type 0
@@ -148,7 +148,7 @@ cut_within text (Some cut) less =
 pub pair_within : (text : List ℕ) (pair : StrictPair) → strict_pair text ≡ Some pair → length (spelled_pair pair) ≤ length text
 unfolding strict_pair
 pair_within text pair is =
-    subst (λ (p : Option StrictPair). option_map_or (λ q. length (spelled_pair q)) p 0 ≤ length text) is (cut_within text (cut_at 61 text) (length-cut_at 61 text))
+    subst (λ (p : Option StrictPair). option_map_or (λ q. length (spelled_pair q)) p 0 ≤ length text) is (cut_within text (split_once 61 text) (length-split_once 61 text))
 
 -- what a member says is what its pair says, with its properties
 pub member_paired : (member pair : List ℕ) (properties : List (List ℕ)) (read : Option (Bor (List ℕ) × Option (Bor (List ℕ)))) → pieces_at semicolon member ≡ pair ∷ properties → option_map plain_pair read ≡ strict_pair pair

@@ -21,7 +21,7 @@ use Rattle.otel_propagation.proofs.BaggageRoundTrip.{header_back}
 use Rattle.otel_propagation.proofs.BaggageTextLemmas.{escaped_is}
 use Rattle.otel_propagation.proofs.StrictBytes.{all_append, key_bytes}
 use Rattle.otel_propagation.proofs.StrictReads.{header_reads}
-use Rattle.otel_propagation.proofs.StrictHeaders.{escape_octets, header_stays, members_spelled, IsTight}
+use Rattle.otel_propagation.proofs.StrictHeaders.{escape_octets, header_stays, members_spelled, IsTightEntry}
 use Rattle.otel_propagation.proofs.TextPieces.{text_bytes}
 
 -- an escape is of token bytes
@@ -82,7 +82,7 @@ value_escaped (b ∷ bs) none =
 abbrev encoded : PlainBaggageEntry → PlainBaggageEntry
 encoded e = entry_of (escaped e.key) (escaped e.value) []
 
-encoded_tight : (e : PlainBaggageEntry) → IsSaidUnchanged e → HasPlainToken e → IsTight (encoded e)
+encoded_tight : (e : PlainBaggageEntry) → IsSaidUnchanged e → HasPlainToken e → IsTightEntry (encoded e)
 unfolding escaped
 encoded_tight e unchanged plain = record {
   say = [];
@@ -92,7 +92,7 @@ encoded_tight e unchanged plain = record {
   metadata = refl;
 }
 
-all_tight : (es : PlainBaggage) → All IsSaidUnchanged es → All HasPlainToken es → AllByRecursion IsTight (map encoded es)
+all_tight : (es : PlainBaggage) → All IsSaidUnchanged es → All HasPlainToken es → AllByRecursion IsTightEntry (map encoded es)
 all_tight [] unchanged plain = tt
 all_tight (e ∷ es) unchanged plain =
     (encoded_tight e (All-head IsSaidUnchanged e es unchanged) (All-head HasPlainToken e es plain), all_tight es (All-tail IsSaidUnchanged e es unchanged) (All-tail HasPlainToken e es plain))

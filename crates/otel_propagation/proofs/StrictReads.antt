@@ -9,10 +9,10 @@ use Rattle.std.proofs.lemmas.List.Splits.{slice_split_none, slice_split_at}
 use Rattle.opentelemetry.specs.Baggage.{PlainBaggage, PlainBaggageEntry, entry_of, HasDistinctNames}
 use Rattle.opentelemetry.specs.Members.{comma, equals_sign, pieces_at, semicolon}
 use Rattle.otel_propagation.specs.BaggageHeader.{one_a_name}
-use Rattle.otel_propagation.specs.StrictGrammar.{are_octets, is_token, AreMembers, AreProperties, IsBaggageHeader, IsMember, IsOptionalSpace, IsProperty}
+use Rattle.otel_propagation.specs.StrictGrammar.{are_octets, is_token, AreListMembers, AreProperties, IsBaggageHeader, IsListMember, IsOptionalSpace, IsProperty}
 use Rattle.otel_propagation.specs.StrictGrammar.IsProperty.{key_alone, key_and_value}
 use Rattle.otel_propagation.specs.StrictGrammar.AreProperties.{no_property, next_property}
-use Rattle.otel_propagation.specs.StrictGrammar.AreMembers.{last_member, next_member}
+use Rattle.otel_propagation.specs.StrictGrammar.AreListMembers.{last_member, next_member}
 use Rattle.otel_propagation.specs.StrictBaggage.{are_properties, checked_key, checked_pair, pair_of_cut, spelled_pair, strict_entries_of, strict_entry_of_member, strict_entry_of_parts, strict_metadata_of, strict_pair, strict_paired_entry, strict_property, StrictPair}
 use Rattle.otel_propagation.proofs.BaggageNames.{one_a_name_distinct}
 use Rattle.otel_propagation.proofs.BaggagePieceLemmas.{Lacks}
@@ -117,7 +117,7 @@ pair_parts : (lead key before after value space : List ℕ) → ((lead ++ (key +
 pair_parts lead key before after value space = simp append_assoc
 
 -- a member of the grammar
-member_reads : (lead text trail : List ℕ) (e : PlainBaggageEntry) → IsOptionalSpace lead → IsOptionalSpace trail → IsMember text e → strict_entry_of_member (lead ++ (text ++ trail)) ≡ Some e
+member_reads : (lead text trail : List ℕ) (e : PlainBaggageEntry) → IsOptionalSpace lead → IsOptionalSpace trail → IsListMember text e → strict_entry_of_member (lead ++ (text ++ trail)) ≡ Some e
 unfolding strict_entry_of_member strict_metadata_of
 member_reads lead text trail e lead_is trail_is is =
     let front = (lead ++ (e.key ++ is.before)) ++ equals_sign ∷ (is.after ++ e.value) in
@@ -137,7 +137,7 @@ member_reads lead text trail e lead_is trail_is is =
     ∙ ap (λ ps. Some (entry_of e.key e.value (join_with_byte semicolon ps))) parts.said
     ∙ ap (λ m. Some (entry_of e.key e.value m)) (sym is.metadata)
 
-member_lacks_comma : (text : List ℕ) (e : PlainBaggageEntry) → IsMember text e → Lacks comma text
+member_lacks_comma : (text : List ℕ) (e : PlainBaggageEntry) → IsListMember text e → Lacks comma text
 member_lacks_comma text e is =
     subst (Lacks comma) (sym is.spelled)
     (both_lack comma e.key (is.before ++ equals_sign ∷ (is.after ++ (e.value ++ is.properties))) (key_lacks comma comma_is e.key is.key)
@@ -151,7 +151,7 @@ record MembersRead (members : List (List ℕ)) (es : PlainBaggage) : Type 0 wher
   said : filter_map strict_entry_of_member members ≡ es
   count : length members ≡ length es
 
-members_read : (lead text : List ℕ) (es : PlainBaggage) → IsOptionalSpace lead → AreMembers text es → MembersRead (pieces_at comma (lead ++ text)) es
+members_read : (lead text : List ℕ) (es : PlainBaggage) → IsOptionalSpace lead → AreListMembers text es → MembersRead (pieces_at comma (lead ++ text)) es
 members_read lead _ _ lead_is (last_member text e is) =
     let lacks = both_lack comma lead text (space_lacks comma refl lead lead_is) (member_lacks_comma text e is) in
     let one = slice_split_none (λ b. eqb b comma) (lead ++ text) lacks in

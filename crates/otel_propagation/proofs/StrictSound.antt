@@ -14,12 +14,12 @@ use Rattle.otel_propagation.specs.StrictGrammar.{without_blanks, IsBaggageHeader
 use Rattle.otel_propagation.specs.StrictBaggage.{are_properties, read_strict, spelled_header, strict_entries_of, strict_entry_of_member, strict_entry_of_parts, strict_header_of, strict_metadata_of, strict_pair, strict_paired_entry, strict_property, valued_entry, written_entries, ExtractsStrictBaggage, InjectsStrictBaggage, StrictPair}
 use Rattle.otel_propagation.proofs.StrictPairs.{pair_keyed, properties_tight, IsKeyed, IsKeyedPair}
 use Rattle.otel_propagation.proofs.StrictWrites.{header_some}
-use Rattle.otel_propagation.proofs.StrictHeaders.{entries_stay, header_passed_on, members_bare, some_entries, IsTight}
+use Rattle.otel_propagation.proofs.StrictHeaders.{entries_stay, header_passed_on, members_bare, some_entries, IsTightEntry}
 
 -- an entry that was read is of the grammar
 abbrev IsTightIfRead : Option PlainBaggageEntry → Type 0
 IsTightIfRead None = Unit {0}
-IsTightIfRead (Some e) = IsTight e
+IsTightIfRead (Some e) = IsTightEntry e
 
 valued_tight : (key : List ℕ) (value : Option (List ℕ)) (properties : List (List ℕ)) → IsKeyed key value → IsTightIfRead (valued_entry key value properties)
 unfolding strict_metadata_of
@@ -47,32 +47,32 @@ member_tight : (member : List ℕ) → IsTightIfRead (strict_entry_of_member mem
 unfolding strict_entry_of_member
 member_tight member = parts_tight (pieces_at semicolon member)
 
-read_onto : (e : Option PlainBaggageEntry) (es : PlainBaggage) → IsTightIfRead e → AllByRecursion IsTight es → AllByRecursion IsTight (cons_option e es)
+read_onto : (e : Option PlainBaggageEntry) (es : PlainBaggage) → IsTightIfRead e → AllByRecursion IsTightEntry es → AllByRecursion IsTightEntry (cons_option e es)
 read_onto None es tight rest = rest
 read_onto (Some e) es tight rest = (tight, rest)
 
-members_tight : (members : List (List ℕ)) → AllByRecursion IsTight (filter_map strict_entry_of_member members)
+members_tight : (members : List (List ℕ)) → AllByRecursion IsTightEntry (filter_map strict_entry_of_member members)
 members_tight [] = tt
 members_tight (member ∷ more) = read_onto (strict_entry_of_member member) (filter_map strict_entry_of_member more) (member_tight member) (members_tight more)
 
 -- one entry a name is one of them
-last_tight : (e : PlainBaggageEntry) (es : PlainBaggage) → IsTight e → AllByRecursion IsTight es → IsTight (last_of_name e es)
+last_tight : (e : PlainBaggageEntry) (es : PlainBaggage) → IsTightEntry e → AllByRecursion IsTightEntry es → IsTightEntry (last_of_name e es)
 last_tight e [] tight rest = tight
 last_tight e (l ∷ more) tight rest =
     let last = last_tight l more rest.0 rest.1 in
-    let own = last_tight e more tight rest.1 in cond_both (bytes_eq e.key l.key) (last_of_name l more) (last_of_name e more) IsTight (λ _. last) (λ _. own)
+    let own = last_tight e more tight rest.1 in cond_both (bytes_eq e.key l.key) (last_of_name l more) (last_of_name e more) IsTightEntry (λ _. last) (λ _. own)
 
-others_tight : (e : PlainBaggageEntry) (es : PlainBaggage) → AllByRecursion IsTight es → AllByRecursion IsTight (of_other_names e es)
+others_tight : (e : PlainBaggageEntry) (es : PlainBaggage) → AllByRecursion IsTightEntry es → AllByRecursion IsTightEntry (of_other_names e es)
 others_tight e [] tight = tt
 others_tight e (x ∷ es) tight =
     let rest = others_tight e es tight.1 in
-    cond_both (not (bytes_eq e.key x.key)) (x ∷ of_other_names e es) (of_other_names e es) (AllByRecursion IsTight) (λ _. (tight.0, rest)) (λ _. rest)
+    cond_both (not (bytes_eq e.key x.key)) (x ∷ of_other_names e es) (of_other_names e es) (AllByRecursion IsTightEntry) (λ _. (tight.0, rest)) (λ _. rest)
 
-one_tight : (es : PlainBaggage) → AllByRecursion IsTight es → AllByRecursion IsTight (one_a_name es)
+one_tight : (es : PlainBaggage) → AllByRecursion IsTightEntry es → AllByRecursion IsTightEntry (one_a_name es)
 one_tight [] tight = tt
 one_tight (e ∷ es) tight = (last_tight e es tight.0 tight.1, others_tight e (one_a_name es) (one_tight es tight.1))
 
-read_tight : (header : List ℕ) → AllByRecursion IsTight (strict_entries_of header)
+read_tight : (header : List ℕ) → AllByRecursion IsTightEntry (strict_entries_of header)
 unfolding strict_entries_of
 read_tight header = one_tight (filter_map strict_entry_of_member (take 64 (pieces_at comma header))) (members_tight (take 64 (pieces_at comma header)))
 

@@ -22,9 +22,9 @@ abbrev pub StrictPair : Type 0
 StrictPair = List ℕ × Option (List ℕ)
 
 -- what stands in front of the first of a byte, and what stands behind it; none where it does not stand
-abbrev pub cut_at : ℕ → List ℕ → Option (List ℕ × List ℕ)
-cut_at c [] = None
-cut_at c (b ∷ bs) = if b == c then Some ([], bs) else option_map (λ cut. (b ∷ cut.0, cut.1)) (cut_at c bs)
+abbrev pub split_once : ℕ → List ℕ → Option (List ℕ × List ℕ)
+split_once c [] = None
+split_once c (b ∷ bs) = if b == c then Some ([], bs) else option_map (λ cut. (b ∷ cut.0, cut.1)) (split_once c bs)
 
 -- a key alone, where it is a token
 abbrev pub checked_key : List ℕ → Option StrictPair
@@ -41,7 +41,7 @@ pair_of_cut text (Some cut) = checked_pair (trimmed cut.0) (trimmed cut.1)
 
 -- the pair that a text says, cut at its first equals sign; none where it breaks the grammar
 unfoldable pub strict_pair : List ℕ → Option StrictPair
-strict_pair text = pair_of_cut text (cut_at equals_sign text)
+strict_pair text = pair_of_cut text (split_once equals_sign text)
 
 -- a key and a value with an equals sign between them
 abbrev pub spelled : List ℕ → Option (List ℕ) → List ℕ
@@ -131,7 +131,8 @@ strict_header_of es = spelled_header (written_entries es)
 -- what a strict baggage propagator injects: the header; where nothing is left to write nothing, which needs no memory
 pub record InjectsStrictBaggage (cx : PlainContext) (old : Texts) (result : Result (Unit {0}) AllocError)
     (new : Texts) : Type 0 where
-  pub set : strict_header_of cx.baggage ≢ [] → OnOk result (SetsText old new baggage_field (strict_header_of cx.baggage))
+  pub set : strict_header_of cx.baggage ≢ []
+      → OnOk result (SetsText old new baggage_field (strict_header_of cx.baggage))
   pub nothing : strict_header_of cx.baggage ≡ [] → IsOk result × SameTexts old new
   pub err : OnErr result (SameTexts old new)
 
@@ -140,7 +141,7 @@ abbrev pub ExtractsStrictBaggage : PlainContext → Texts → PlainContext → T
 ExtractsStrictBaggage cx texts found =
     found ≡ record cx { baggage = unwrap_or (read_strict (texts baggage_field)) cx.baggage }
 
--- reading wants no memory: no header is read, and there is neither a trace state nor a baggage to share
+-- reading needs no memory: no header is read, and there is neither a trace state nor a baggage to share
 pub record StrictBaggageIsInfallible (cx : PlainContext) (texts : Texts) : Type 0 where
   pub shares_no_state : (current_span_context cx).trace_state ≡ []
   pub shares_no_baggage : cx.baggage ≡ []

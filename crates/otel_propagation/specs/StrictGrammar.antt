@@ -51,7 +51,7 @@ pub data AreProperties : List ℕ → List (List ℕ) → Type 0 where
       → AreProperties (before ++ semicolon ∷ (after ++ (property ++ rest))) (says ∷ others)
 
 -- list-member = key OWS "=" OWS value *( OWS ";" OWS property ), and the entry that it spells
-pub record IsMember (text : List ℕ) (e : PlainBaggageEntry) : Type 0 where
+pub record IsListMember (text : List ℕ) (e : PlainBaggageEntry) : Type 0 where
   pub before : List ℕ
   pub after : List ℕ
   pub properties : List ℕ
@@ -65,13 +65,13 @@ pub record IsMember (text : List ℕ) (e : PlainBaggageEntry) : Type 0 where
   pub spelled : text ≡ e.key ++ (before ++ equals_sign ∷ (after ++ (e.value ++ properties)))
 
 -- list-member *( OWS "," OWS list-member ), and the entries that they spell
-pub data AreMembers : List ℕ → PlainBaggage → Type 0 where
-  last_member : (text : List ℕ) (e : PlainBaggageEntry) → IsMember text e → AreMembers text (e ∷ [])
-  next_member : (text before after rest : List ℕ) (e : PlainBaggageEntry) (es : PlainBaggage) → IsMember text e
-      → IsOptionalSpace before → IsOptionalSpace after → AreMembers rest es
-      → AreMembers (text ++ (before ++ comma ∷ (after ++ rest))) (e ∷ es)
+pub data AreListMembers : List ℕ → PlainBaggage → Type 0 where
+  last_member : (text : List ℕ) (e : PlainBaggageEntry) → IsListMember text e → AreListMembers text (e ∷ [])
+  next_member : (text before after rest : List ℕ) (e : PlainBaggageEntry) (es : PlainBaggage) → IsListMember text e
+      → IsOptionalSpace before → IsOptionalSpace after → AreListMembers rest es
+      → AreListMembers (text ++ (before ++ comma ∷ (after ++ rest))) (e ∷ es)
 
 -- baggage-string = list-member 0*179( OWS "," OWS list-member ): a text is a header that spells these entries
 pub record IsBaggageHeader (text : List ℕ) (es : PlainBaggage) : Type 0 where
-  pub members : AreMembers text es
+  pub members : AreListMembers text es
   pub few : length es ≤ 180

@@ -5,7 +5,8 @@ ghost use Rattle.std.specs.Prelude.{◌≡◌, ◌≢◌, ◌≤◌, ℕ, true, 
 ghost use Rattle.opentelemetry.specs.Baggage.{PlainBaggage, HasDistinctNames, IsWithinLimits};
 ghost use Rattle.opentelemetry.specs.Carrier.{Texts};
 ghost use Rattle.opentelemetry.specs.Plain.{PlainContext};
-ghost use Rattle.otel_propagation.specs.BaggageHeader.{baggage_field, entries_of, header_of, IsBaggage, IsSaidUnchanged};
+ghost use Rattle.otel_propagation.specs.BaggageHeader.{baggage_field, entries_of, header_of};
+ghost use Rattle.otel_propagation.specs.BaggageHeader.{IsBaggage, IsSaidUnchanged};
 ghost use Rattle.otel_propagation.specs.StrictGrammar.{without_blanks, IsBaggageHeader};
 ghost use Rattle.otel_propagation.specs.StrictBaggage.{strict_entries_of, strict_header_of, written_entries};
 ghost use Rattle.otel_propagation.specs.StrictBaggage.{ExtractsStrictBaggage, InjectsStrictBaggage};
