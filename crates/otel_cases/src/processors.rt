@@ -106,7 +106,11 @@ fn batch_processor(
     let config = config_of(row)?;
     let exporter = exporter_named(alloc, row.field(0))?;
     let builder = BatchSpanProcessor::builder(alloc, exporter).with_batch_config(config);
-    let builder = if is_eager { builder.with_eager_exports() } else { builder };
+    let builder = if is_eager {
+        builder.with_eager_exports()
+    } else {
+        builder
+    };
     Ok(Box::new(alloc, builder.build()?)?)
 }
 
