@@ -122,8 +122,9 @@ impl<E: SpanExporter, C: SpanProcessor> DrainDue for ProcessorOf<E, C> {
 impl<E: SpanExporter, C: SpanProcessor> LeavesSpans for ProcessorOf<E, C> {
     ghost use Rattle.std.specs.Prelude.{None};
     ghost use Rattle.otel_batch.specs.MachineState.{stranded_in};
-    ghost use Rattle.opentelemetry_sdk.specs.ProcessorKinds.{dropped_over_by_kind, leaves_told_by_kind};
-    ghost use Rattle.opentelemetry_sdk.specs.ProcessorKinds.{open_over_by_kind, tells_dropped_by_kind, tells_left_by_kind};
+    ghost use Rattle.opentelemetry_sdk.specs.ProcessorKinds.{closed_over_by_kind, dropped_over_by_kind};
+    ghost use Rattle.opentelemetry_sdk.specs.ProcessorKinds.{leaves_told_by_kind, open_over_by_kind};
+    ghost use Rattle.opentelemetry_sdk.specs.ProcessorKinds.{tells_dropped_by_kind, tells_left_by_kind};
     ghost use Rattle.opentelemetry_sdk.specs.declared.trace.processor.ProcessorOf.TheVariants as kinds;
 
     ghost closed_over = { closed_over_by_kind };
