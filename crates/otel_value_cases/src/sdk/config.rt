@@ -14,6 +14,7 @@ pub fn answer(alloc: Global, row: &Row, out: &mut String) -> Result<bool, RowErr
         "config-disabled" => push_disabled(alloc, row, out)?,
         "config-sampler" => push_configured_sampler(alloc, row, out)?,
         "config-resource" => push_configured_resource(alloc, row, out)?,
+        "config-faults" => push_faults(alloc, row, out)?,
         _ => return Ok(false),
     }
     Ok(true)
@@ -92,6 +93,14 @@ pub fn sampler_strings(alloc: Global, row: &Row) -> Result<Box<ConfigStrings>, A
 fn push_configured_sampler(alloc: Global, row: &Row, out: &mut String) -> Result<(), AllocError> {
     let strings = sampler_strings(alloc, row)?;
     push_sampler(&Config::from_strings(alloc, &strings, 0)?.sampler, out)
+}
+
+/// What is said of the strings of a sampler's name and its argument, a bar behind each fault.
+fn push_faults(alloc: Global, row: &Row, out: &mut String) -> Result<(), AllocError> {
+    for fault in &sampler_strings(alloc, row)?.faults(alloc)? {
+        write!(out, "{fault}|")?;
+    }
+    Ok(())
 }
 
 fn push_sampler(sampler: &Sampler, out: &mut String) -> Result<(), AllocError> {
