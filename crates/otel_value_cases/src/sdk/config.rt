@@ -5,7 +5,7 @@ use super::sampling::push_ratio;
 use otel_case_rows::answer_text::AnswerText;
 use otel_case_rows::fields::{Row, RowError};
 use otel_resource::resource::Resource;
-use otel_sampling::trace::{Config, ConfigStrings, Sampler, SpanLimits};
+use otel_sampling::trace::{Config, ConfigStrings, Sampler, SettingFault, SpanLimits};
 use std::alloc::{AllocError, Global};
 
 /// Answers a row whose word is one of these; false where it is none.
@@ -18,6 +18,7 @@ pub fn answer(alloc: Global, row: &Row, out: &mut AnswerText) -> bool {
         "config-disabled" => out.put(disabled_by(alloc, row)),
         "config-sampler" => push_configured(alloc, row, out),
         "config-resource" => out.put_by(configured_resource(alloc, row), push_resource),
+        "config-faults" => out.put_by(faults_of(alloc, row), push_faults),
         _ => return false,
     }
     true
@@ -104,6 +105,18 @@ pub fn configured_sampler(alloc: Global, row: &Row) -> Result<Box<Sampler>, Allo
     let strings = sampler_strings(alloc, row)?;
     let Config { sampler, .. } = Config::from_strings(alloc, &strings, 0)?;
     Ok(Box::new(alloc, sampler)?)
+}
+
+fn faults_of(alloc: Global, row: &Row) -> Result<Vec<SettingFault>, AllocError> {
+    let strings = sampler_strings(alloc, row)?;
+    Ok(strings.faults(alloc)?)
+}
+
+/// What is said of strings that do not read, a bar after each fault.
+fn push_faults(faults: &Vec<SettingFault>, out: &mut AnswerText) {
+    for fault in faults {
+        write!(out, "{fault}|");
+    }
 }
 
 /// A function that takes a sampler cannot be passed to another one.
