@@ -1,5 +1,5 @@
 -- The lines of replies, and of what is left at a close, are those of all batches that a session exported.
-use Rattle.std.proofs.Common.{◌≡◌, ◌++◌, ◌∙◌, ℕ, List, [], ◌∷◌, Option, Some, None, Result, Ok, Err, inl, inr, ap, arith, drop, length}
+use Rattle.std.proofs.Common.{◌≡◌, ◌++◌, ◌∙◌, ℕ, List, [], ◌∷◌, Option, Some, None, Result, Ok, Err, inl, inr, ap, arith, drop, length, true}
 use Rattle.std.proofs.Common.{append_assoc, length-append, map, refl, subst, sym}
 use Rattle.std.specs.Io.KnownBytes.{Appends}
 use Rattle.otel_resource.specs.DetectedResource.{IsDetected}

@@ -1,5 +1,5 @@
 -- What the arguments of the program ask for, and what it does with its streams.
-use Rattle.std.proofs.Common.{◌≡◌, ℕ, ◌<◌, ◌≤◌, ◌-◌, List, [], ◌∷◌, drop, take, map, length, Option, Some, None, IfOk, Result, Ok, MatchOption, codes, inl, inr, refl, ◌∙◌, sym, ap, subst, arith}
+use Rattle.std.proofs.Common.{◌≡◌, ℕ, ◌<◌, ◌≤◌, ◌-◌, List, [], ◌∷◌, drop, take, map, length, Option, Some, None, IfOk, Result, Ok, MatchOption, codes, inl, inr, refl, ◌∙◌, sym, ap, subst, arith, false}
 use Rattle.std.proofs.Math.ListN.{get_or}
 use Rattle.std.proofs.lemmas.List.{take_all}
 use Rattle.std.specs.Str.Parse.{digits_value}
@@ -182,7 +182,7 @@ found P made value e h = subst (λ m. IfOk m P) e h
 
 module _ {C D E : Type 0} (calls : Calls (MemoryProcessor C D) (SamplerOf E) (List ℕ)) where
   -- what is traced under the provider that words ask for, is under any that they ask for
-  pub traces_asked : (words : List (List ℕ)) (asked other : Asked) (provider : ProviderState (MemoryProcessor C D) (SamplerOf E) (List ℕ)) (s : Streams) (end : RunEnd) → AsksFor words asked → AsksFor words other → IsProviderOf other provider
+  pub traces_asked : (words : List (List ℕ)) (asked other : Asked) (provider : ProviderState (MemoryProcessor C D) (SamplerOf E) (List ℕ)) (s : Streams) (end : RunEnd) → AsksFor words asked → AsksFor words other → IsProviderOf false other provider
       → EndsAs (TracesWhole calls reply_lines provider s) (TracesBegun calls reply_lines provider s) s end → EndsAs (TracesAsked calls asked s) (BeginsAsked calls asked s) s end
   traces_asked words asked other provider s end h k is traces = by end (subst (λ (a : Asked). IsProviderOf false a provider) (asks_once words other asked k h) is) traces
     where

@@ -1,19 +1,20 @@
 -- What was drawn of all lines, and how far it was written.
-use Rattle.std.proofs.Common.{rules, ◌≡◌, Some, None, Ok, inr, subst}
+use Rattle.std.proofs.Common.{rules, ◌≡◌, Some, None, inr, subst, true}
 use Rattle.std.specs.Io.KnownBytes.{Appends}
 use Rattle.otel_otlp.specs.Streams.{AppendsBeginning}
 use Rattle.otel_trace_session.specs.Calls.{calls_of}
+use Rattle.otel_trace_session.specs.Closing.{LostNothing}
 use Rattle.otel_trace_run.proofs.Drawing.{draws_from}
 use Rattle.otel_trace_run.proofs.picture.draw_input.Goals as goal
 
 pub returns-in_default-write_whole : goal.returns-in_default-write_whole
 returns-in_default-write_whole g c =
     let calls = calls_of g.P.SpanProcessor g.P.DrainDue g.P.LeavesSpans g.P.KeepsBatches g.S.ShouldSample g.G.GivesIds in
-    let well : c.close-closed.result ≡ Ok tt = search rules in
+    let lost : LostNothing c.close_in-closed.result true = search rules in
     let d = draws_from calls g.met.P.KeepsBatches.appends (g.D.SpanPainter.paints c.args.painter.now) c.args.provider c.in-Ok.session
     c.draw_lines-drawn.new.session _ _ c.in-Some.drawn.bad_line c.in-Some.drawn.bad_line c.in-Some.drawn.picture.items
-    c.new-left.result.items c.close-closed.new.output.items c.close-closed.result c.in-Ok.ensures.ok c.in-Some.ensures (search rules)
-    c.new-left.ensures.items well c.close-closed.ensures in
+    c.new-left.result.items c.close_in-closed.new.output.items c.close_in-closed.result c.in-Ok.ensures.ok c.in-Some.ensures (search rules)
+    c.new-left.ensures.items lost c.close_in-closed.ensures.closes in
     inr (
       d.0,
       c.in-Some.drawn.bad_line,
@@ -26,12 +27,12 @@ returns-in_default-write_whole g c =
 pub returns-in-None : goal.returns-in-None
 returns-in-None g c =
     let calls = calls_of g.P.SpanProcessor g.P.DrainDue g.P.LeavesSpans g.P.KeepsBatches g.S.ShouldSample g.G.GivesIds in
-    let well : c.close-closed.result ≡ Ok tt = search rules in
+    let lost : LostNothing c.close_in-closed.result true = search rules in
     let none : c.in-Some.drawn.bad_line ≡ None = search rules in
     let d = draws_from calls g.met.P.KeepsBatches.appends (g.D.SpanPainter.paints c.args.painter.now) c.args.provider c.in-Ok.session
     c.draw_lines-drawn.new.session _ _ c.in-Some.drawn.bad_line None c.in-Some.drawn.picture.items
-    c.new-left.result.items c.close-closed.new.output.items c.close-closed.result c.in-Ok.ensures.ok c.in-Some.ensures none
-    c.new-left.ensures.items well c.close-closed.ensures in (
+    c.new-left.result.items c.close_in-closed.new.output.items c.close_in-closed.result c.in-Ok.ensures.ok c.in-Some.ensures none
+    c.new-left.ensures.items lost c.close_in-closed.ensures.closes in (
       record {
         bytes = d.0;
         picture = c.in-Some.drawn.picture.items;
@@ -45,12 +46,12 @@ returns-in-None g c =
 pub returns : goal.returns
 returns g c =
     let calls = calls_of g.P.SpanProcessor g.P.DrainDue g.P.LeavesSpans g.P.KeepsBatches g.S.ShouldSample g.G.GivesIds in
-    let well : c.close-closed.result ≡ Ok tt = search rules in
+    let lost : LostNothing c.close_in-closed.result true = search rules in
     let bad : c.in-Some.drawn.bad_line ≡ Some c.in-Some-bad_line.line = search rules in
     let d = draws_from calls g.met.P.KeepsBatches.appends (g.D.SpanPainter.paints c.args.painter.now) c.args.provider c.in-Ok.session
     c.draw_lines-drawn.new.session _ _ c.in-Some.drawn.bad_line (Some c.in-Some-bad_line.line) c.in-Some.drawn.picture.items
-    c.new-left.result.items c.close-closed.new.output.items c.close-closed.result c.in-Ok.ensures.ok c.in-Some.ensures bad
-    c.new-left.ensures.items well c.close-closed.ensures in
+    c.new-left.result.items c.close_in-closed.new.output.items c.close_in-closed.result c.in-Ok.ensures.ok c.in-Some.ensures bad
+    c.new-left.ensures.items lost c.close_in-closed.ensures.closes in
     record {
       bytes = d.0;
       picture = c.in-Some.drawn.picture.items;

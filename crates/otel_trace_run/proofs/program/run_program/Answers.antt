@@ -1,4 +1,4 @@
-use Rattle.std.proofs.Common.{rules}
+use Rattle.std.proofs.Common.{rules, false}
 use Rattle.otel_trace_run.proofs.Drawing.{drawing_begun, draws_once}
 use Rattle.otel_trace_run.proofs.Exporting.{exporting_begun, exports_once}
 use Rattle.otel_trace_run.proofs.ProgramLemmas.{asked_begun, ends_with, found, one_mode, status_small, steps_sized, traces_asked}

@@ -1,9 +1,10 @@
 -- What was fed, and what the close appended.
-use Rattle.std.proofs.Common.{◌≡◌, List, ℕ, [], Result, Ok, subst, rules}
+use Rattle.std.proofs.Common.{◌≡◌, List, ℕ, [], Result, Ok, subst, rules, Bool, ap, ◌∙◌}
 use Rattle.otel_export.specs.declared.error.OTelSdkError.{OTelSdkError}
 use Rattle.otel_trace_lines.specs.ReplyForm.{Form}
 use Rattle.otel_trace_session.specs.Calls.{Calls, calls_of}
-use Rattle.otel_trace_session.specs.Closing.{Closes}
+use Rattle.otel_trace_session.proofs.CloseLemmas.{EndsWell, ends_well}
+use Rattle.otel_trace_session.specs.Closing.{Closes, LostNothing}
 use Rattle.otel_trace_session.specs.Turns.{SessionState}
 use Rattle.std.specs.Io.KnownBytes.{Appends}
 use Rattle.otel_otlp.specs.Streams.{AppendsBeginning}
@@ -32,8 +33,8 @@ returns-in_default-write_whole g c =
     (closed_anew calls form _ now _ closing c.close_in-closed.result.answer c.feed_pieces-fed.ensures.form c.clear.ensures.items c.close_in-closed.ensures.closes.closes)
     (subst (AppendsBeginning _ _) c.deref.ensures.value c.in_default-write_whole.ensures.err)
 
-pub returns : goal.returns
-returns g c =
+pub returns-then-not-lost_nothing : goal.returns-then-not-lost_nothing
+returns-then-not-lost_nothing g c =
     let calls = calls_of g.P.SpanProcessor g.P.DrainDue g.P.LeavesSpans g.P.KeepsBatches g.S.ShouldSample g.G.GivesIds in
     let form = g.F.ReplyForm.form c.args.form.now in
     let now = c.feed_pieces-fed.new.session in
@@ -41,3 +42,19 @@ returns g c =
     closed_some calls form g.met.P.KeepsBatches.recalls (c.args.session) now _ _ _ _ _ c.in-Ok.end c.close_in-closed.result.answer closing c.in-Ok.ensures.ok
     (closed_anew calls form _ now _ closing c.close_in-closed.result.answer c.feed_pieces-fed.ensures.form c.clear.ensures.items c.close_in-closed.ensures.closes.closes)
     (appends_all _ _ closing (subst (Appends _ _) c.deref.ensures.value c.in-Ok-write_whole.ensures.ok))
+
+pub returns : goal.returns
+returns g c =
+    let calls = calls_of g.P.SpanProcessor g.P.DrainDue g.P.LeavesSpans g.P.KeepsBatches g.S.ShouldSample g.G.GivesIds in
+    let form = g.F.ReplyForm.form c.args.form.now in
+    let now = c.feed_pieces-fed.new.session in
+    let closed = c.close_in-closed.result in
+    let closing = c.close_in-closed.new.output.items in
+    let kept : LostNothing closed c.minds_drops.result = search rules in
+    let minds = c.minds_drops.ensures ∙ ap (λ (f : Form). f.minds_drops) c.close_in-closed.ensures.form in
+    let lost = subst (λ (minds_drops : Bool). LostNothing closed minds_drops) minds kept in
+    let well = ends_well calls _ now _ closing closed _ c.clear.ensures.items lost c.close_in-closed.ensures.closes in
+    closed_as calls form g.met.P.KeepsBatches.recalls (c.args.session) now _ _ _ _ _ c.in-Ok.end closing c.in-Ok.ensures.ok
+    g.met.P.KeepsBatches.leaves
+    (subst (λ (f : Form). EndsWell calls f now f.minds_drops closing) c.feed_pieces-fed.ensures.form well)
+    (subst (Appends _ _) c.deref.ensures.value c.in-Ok-write_whole.ensures.ok)
