@@ -373,7 +373,7 @@ fn show_or_none(batches: &Vec<Vec<SpanData>>, out: &mut AnswerText) {
     }
 }
 
-/// Shows each span in the form of the program's line, and behind it its events and links one by one.
+/// Shows each span in the form of the program's line, and after it its events and links one by one.
 fn show_batches(batches: &[Vec<SpanData>], out: &mut AnswerText) {
     out.put_by(lines_of(out.alloc(), batches), show_lines);
     for batch in batches {

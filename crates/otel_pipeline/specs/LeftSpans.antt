@@ -1,5 +1,5 @@
--- Whether what a processor leaves in its queue, and how many spans it dropped, is what it tells. The two proofs at the end stand here and not in proofs/,
--- since an `impl` cites them, which may cite specs/ alone.
+-- Whether what a processor leaves in its queue, and how many spans it dropped, is what it tells. The two proofs at the
+-- end stand here and not in proofs/, since an `impl` cites them, which may cite specs/ alone.
 use Rattle.std.specs.Prelude.{◌≡◌, ℕ, Bool, true, false, not, if◌then◌else◌, refl}
 
 -- where a processor leaves what its telling says: while it is open, so many are left as its telling says wait

@@ -77,9 +77,10 @@ impl OpenSpans {
         name: String,
         now: Moment,
     ) -> Result<Answer, AllocError>
-        ensures ok { IfOk result (λ answer. TakesTurn (StartTurn (calls_of P.SpanProcessor P.DrainDue.own
-            P.LeavesSpans.own P.KeepsBatches.own S.ShouldSample G.GivesIds) (start_in tracer.now cx.now (string_bytes span)
-            (string_bytes name) now.0)) provider.old self.old answer provider.new self.new) }
+        ensures ok { IfOk result (λ answer. TakesTurn (StartTurn
+            (calls_of P.SpanProcessor P.DrainDue.own P.LeavesSpans.own P.KeepsBatches.own S.ShouldSample G.GivesIds)
+            (start_in tracer.now cx.now (string_bytes span) (string_bytes name) now.0))
+            provider.old self.old answer provider.new self.new) }
         ensures asks { OnErr result (MayStart
             (calls_of P.SpanProcessor P.DrainDue.own P.LeavesSpans.own P.KeepsBatches.own S.ShouldSample G.GivesIds)
             provider.old cx.now (string_bytes name) now.0 (named self.old (string_bytes span)) provider.new) }
@@ -102,8 +103,9 @@ impl OpenSpans {
             P.LeavesSpans.own P.KeepsBatches.own S.ShouldSample G.GivesIds)
             (start_in tracer.now root_cx (string_bytes span) (string_bytes name) now.0)
             (turn.before.histories parent.now) turn) provider.old self.old answer provider.new self.new) }
-        ensures asks { OnErr result (ChildMayStart (calls_of P.SpanProcessor P.DrainDue.own P.LeavesSpans.own P.KeepsBatches.own
-            S.ShouldSample G.GivesIds) provider.old (named self.old parent.now) (string_bytes name) now.0
+        ensures asks { OnErr result (ChildMayStart
+            (calls_of P.SpanProcessor P.DrainDue.own P.LeavesSpans.own P.KeepsBatches.own S.ShouldSample G.GivesIds)
+            provider.old (named self.old parent.now) (string_bytes name) now.0
             (named self.old (string_bytes span)) provider.new) }
         ensures err { OnErr result (SameSpans self.old self.new) }
     {
@@ -187,8 +189,9 @@ fn start_under<P: KeepsBatches, S: ShouldSample, G: GivesIds>(
     name: String,
     now: Moment,
 ) -> Result<Answer, AllocError>
-    ensures ok { IfOk result (λ answer. TakesTurn (StartTurn (calls_of P.SpanProcessor P.DrainDue.own P.LeavesSpans.own P.KeepsBatches.own
-        S.ShouldSample G.GivesIds) (start_in tracer.now cx.now (string_bytes span) (string_bytes name) now.0))
+    ensures ok { IfOk result (λ answer. TakesTurn (StartTurn
+        (calls_of P.SpanProcessor P.DrainDue.own P.LeavesSpans.own P.KeepsBatches.own S.ShouldSample G.GivesIds)
+        (start_in tracer.now cx.now (string_bytes span) (string_bytes name) now.0))
         provider.old (by_name spans.old.entries) answer provider.new (by_name spans.new.entries)) }
     ensures asks { OnErr result (MayStart
         (calls_of P.SpanProcessor P.DrainDue.own P.LeavesSpans.own P.KeepsBatches.own S.ShouldSample G.GivesIds)

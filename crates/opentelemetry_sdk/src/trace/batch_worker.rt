@@ -103,8 +103,8 @@ pub(crate) fn drain_by_tick<E: SpanExporter>(machine: &mut BatchMachine<E>) -> O
 }
 
 /// A sampled span ends at an open queue whose processor is eager: a batch that is full already is exported, the span is
-/// offered, and where there was room so is the batch that it fills. A drain that found no memory is not tried again behind
-/// the offer. The answer is how many exports failed.
+/// offered, and where there was room so is the batch that it fills. A drain that found no memory is not tried again
+/// after the offer. The answer is how many exports failed.
 pub(crate) fn offer_eagerly<E: SpanExporter>(machine: &mut BatchMachine<E>, span: SpanData) -> u64
     requires rest { IsAtRest machine.old }
     requires runs { machine.old.control.closed ≡ false }

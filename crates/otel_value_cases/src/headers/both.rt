@@ -55,7 +55,7 @@ fn injected(alloc: Global, row: &Row) -> Result<Box<MapCarrier>, RowError> {
     Ok(carrier)
 }
 
-/// Puts out the three headers, each with a bar behind it.
+/// Puts out the three headers, each with a bar after it.
 fn put_headers(carrier: &Box<MapCarrier>, out: &mut AnswerText) {
     let parent = text_at(carrier, "traceparent");
     let state = text_at(carrier, "tracestate");
@@ -94,7 +94,7 @@ fn put_names_of(name: &str, out: &mut AnswerText) {
     }
 }
 
-/// Puts out names, each with a bar behind it.
+/// Puts out names, each with a bar after it.
 fn put_names(fields: FieldIter<'_>, out: &mut AnswerText) {
     for name in fields {
         write!(out, "{name}|");
@@ -102,7 +102,7 @@ fn put_names(fields: FieldIter<'_>, out: &mut AnswerText) {
 }
 
 /// Puts out the names of the headers of the propagators that a text configures, and behind question marks the names in
-/// it that are unknown, each with a bar behind it.
+/// it that are unknown, each with a bar after it.
 fn put_configured<C: TextMapPropagator>(
     configured: &ConfiguredPropagators<C>,
     out: &mut AnswerText,
@@ -113,7 +113,7 @@ fn put_configured<C: TextMapPropagator>(
     }
 }
 
-/// Puts out the names of propagators in a text, each with a bar behind it.
+/// Puts out the names of propagators in a text, each with a bar after it.
 fn put_named(named: &Vec<NamedPropagator>, out: &mut AnswerText) {
     for propagator in named {
         let name = propagator.name();

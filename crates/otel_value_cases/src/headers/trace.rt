@@ -81,7 +81,7 @@ fn injected(alloc: Global, row: &Row, state: Option<&str>) -> Result<Box<MapCarr
     Ok(carrier)
 }
 
-/// Puts out both headers of a carrier, each with a bar behind it.
+/// Puts out both headers of a carrier, each with a bar after it.
 fn put_headers(carrier: &Box<MapCarrier>, out: &mut AnswerText) {
     let parent = text_at(carrier, "traceparent");
     let state = text_at(carrier, "tracestate");
