@@ -2,6 +2,7 @@
 
 pub use otel_propagation::propagation::{
     BaggagePropagator, CompositePropagator, ConfiguredPropagators, CustomPropagators, FieldsError,
-    NamedPropagator, NoCustomPropagators, NoPropagator, PropagatorOf, StrictBaggagePropagator,
-    TextMapCompositePropagator, TraceContextPropagator, configured_propagators, named_propagators,
+    NamedPropagator, NoCustomPropagators, NoopTextMapPropagator, PropagatorOf,
+    StrictBaggagePropagator, TextMapCompositePropagator, TraceContextPropagator,
+    configured_propagators, named_propagators,
 };

@@ -14,7 +14,7 @@ pub use baggage::BaggagePropagator;
 pub use composite::{CompositePropagator, FieldsError};
 pub use composite_list::TextMapCompositePropagator;
 pub use configured::{ConfiguredPropagators, configured_propagators};
-pub use custom::{CustomPropagators, NoCustomPropagators, NoPropagator};
+pub use custom::{CustomPropagators, NoCustomPropagators, NoopTextMapPropagator};
 pub use named::{NamedPropagator, named_propagators};
 pub use propagator_kinds::PropagatorOf;
 pub use strict_baggage::StrictBaggagePropagator;

@@ -25,21 +25,26 @@ pub struct NoCustomPropagators;
 impl CustomPropagators for NoCustomPropagators {
     ghost use Rattle.std.specs.Prelude.{None};
 
-    type Propagator = NoPropagator;
+    type Propagator = NoopTextMapPropagator;
 
     ghost custom_named = { λ _ _. None };
 
-    fn named(&self, _name: &str) -> Option<NoPropagator> {
+    fn named(&self, _name: &str) -> Option<NoopTextMapPropagator> {
         None
     }
 }
 
-/// A custom propagator where there are none.
-#[derive(Clone, Copy, Debug)]
-pub enum NoPropagator {}
+/// Writes and reads nothing.
+#[derive(Clone, Copy, Debug, Default)]
+pub struct NoopTextMapPropagator;
 
-impl TextMapPropagator for NoPropagator {
-    ghost use Rattle.std.specs.Prelude.{[]};
+impl TextMapPropagator for NoopTextMapPropagator {
+    ghost use Rattle.std.specs.Prelude.{◌≡◌, [], IsOk};
+    ghost use Rattle.opentelemetry.specs.Carrier.{SameTexts};
+
+    ghost inject_gives = { λ _ _ old result new. IsOk result × SameTexts old new };
+
+    ghost extract_gives = { λ _ cx _ found. found ≡ cx };
 
     ghost field_names = { λ _. [] };
 
@@ -49,19 +54,19 @@ impl TextMapPropagator for NoPropagator {
         _cx: &Context,
         _injector: &mut I,
     ) -> Result<(), AllocError> {
-        match *self {}
+        Ok(())
     }
 
     fn extract_with_context<X: Extractor>(
         &self,
         _alloc: Global,
-        _cx: &Context,
+        cx: &Context,
         _extractor: &X,
     ) -> Result<Context, AllocError> {
-        match *self {}
+        cx.clone()
     }
 
     fn fields(&self) -> FieldIter<'_> {
-        match *self {}
+        FieldIter::new(&[])
     }
 }
