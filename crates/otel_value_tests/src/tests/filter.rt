@@ -76,6 +76,8 @@ struct CountsFlushes {
 }
 
 impl SpanExporter for CountsFlushes {
+    ghost use Rattle.std.specs.Prelude.{None};
+
     ghost told = { λ _. None };
 
     fn export(&mut self, _batch: Vec<SpanData>) -> OTelSdkResult {
