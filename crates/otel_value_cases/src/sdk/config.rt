@@ -16,7 +16,7 @@ pub fn answer(alloc: Global, row: &Row, out: &mut AnswerText) -> bool {
             out.put_by(attribute_limits_of(alloc, row), push_attribute_limits)
         }
         "config-disabled" => out.put(disabled_by(alloc, row)),
-        "config-sampler" => push_configured(alloc, row, out),
+        "config-sampler" => push_configured_sampler(alloc, row, out),
         "config-resource" => out.put_by(configured_resource(alloc, row), push_resource),
         "config-faults" => out.put_by(faults_of(alloc, row), push_faults),
         _ => return false,
@@ -93,18 +93,11 @@ fn disabled_by(alloc: Global, row: &Row) -> Result<&'static str, AllocError> {
 }
 
 /// The strings of a sampler's name and its argument, which are the first fields of a row.
-fn sampler_strings(alloc: Global, row: &Row) -> Result<Box<ConfigStrings>, AllocError> {
+pub fn sampler_strings(alloc: Global, row: &Row) -> Result<Box<ConfigStrings>, AllocError> {
     let mut strings = Box::new(alloc, ConfigStrings::default())?;
     strings.sampler = row.owned(alloc, 0)?;
     strings.sampler_arg = row.owned(alloc, 1)?;
     Ok(strings)
-}
-
-/// The sampler that they configure.
-pub fn configured_sampler(alloc: Global, row: &Row) -> Result<Box<Sampler>, AllocError> {
-    let strings = sampler_strings(alloc, row)?;
-    let Config { sampler, .. } = Config::from_strings(alloc, &strings, 0)?;
-    Ok(Box::new(alloc, sampler)?)
 }
 
 fn faults_of(alloc: Global, row: &Row) -> Result<Vec<SettingFault>, AllocError> {
@@ -119,12 +112,22 @@ fn push_faults(faults: &Vec<SettingFault>, out: &mut AnswerText) {
     }
 }
 
-/// A function that takes a sampler cannot be passed to another one.
-fn push_configured(alloc: Global, row: &Row, out: &mut AnswerText) {
-    match configured_sampler(alloc, row) {
-        Ok(sampler) => push_sampler(&sampler, out),
-        Err(error) => out.note(RowError::from(error)),
+fn push_configured_sampler(alloc: Global, row: &Row, out: &mut AnswerText) {
+    if let Err(error) = try_configured_sampler(alloc, row, out) {
+        out.note(RowError::from(error));
     }
+}
+
+/// The same, where memory may run out before there is a sampler. No function hands one out, since what a sampler in a
+/// box of the caller's would do there is hidden.
+fn try_configured_sampler(
+    alloc: Global,
+    row: &Row,
+    out: &mut AnswerText,
+) -> Result<(), AllocError> {
+    let strings = sampler_strings(alloc, row)?;
+    push_sampler(&Config::from_strings(alloc, &strings, 0)?.sampler, out);
+    Ok(())
 }
 
 fn push_sampler(sampler: &Sampler, out: &mut AnswerText) {

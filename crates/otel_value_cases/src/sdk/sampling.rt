@@ -1,13 +1,13 @@
 //! Ratios, and what samplers decide.
 
-use super::config::configured_sampler;
+use super::config::sampler_strings;
 use crate::probability::push_state;
 use opentelemetry::trace::{SpanContext, SpanKind, TraceState};
 use opentelemetry::{Context, SpanId, TraceFlags, TraceId};
 use otel_case_rows::answer_text::AnswerText;
 use otel_case_rows::fields::{Row, RowError, number_of};
 use otel_sampling::trace::{
-    Ratio, RatioError, Sampler, SamplingDecision, SamplingResult, ShouldSample,
+    Config, Ratio, RatioError, Sampler, SamplingDecision, SamplingResult, ShouldSample,
 };
 use std::alloc::{AllocError, Global};
 
@@ -17,8 +17,8 @@ pub fn answer(alloc: Global, row: &Row, out: &mut AnswerText) -> bool {
         "ratio" => push_read_ratio(row.field(0), out),
         "ratio-of" => out.put_by(made_ratio(row), push_made_ratio),
         "samples" => out.put(decided_by_ratio(row)),
-        "sampler" => push_sampled(alloc, row, out),
-        "sampler-copy" => push_copy(alloc, row, out),
+        "sampler" => push_sampled(alloc, row, false, out),
+        "sampler-copy" => push_sampled(alloc, row, true, out),
         _ => return false,
     }
     true
@@ -81,35 +81,49 @@ fn decision_name(decision: SamplingDecision) -> &'static str {
     }
 }
 
-/// The configured sampler below as many samplers that decide by the parent as the last field says.
-fn sampler_of(alloc: Global, row: &Row) -> Result<Box<Sampler>, RowError> {
-    let mut sampler = configured_sampler(alloc, row)?;
+/// Puts out what the configured sampler, or a copy of it, answers below as many samplers that decide by the parent as
+/// the last field says.
+fn push_sampled(alloc: Global, row: &Row, is_copied: bool, out: &mut AnswerText) {
+    if let Err(error) = try_sampled(alloc, row, is_copied, out) {
+        out.note(error);
+    }
+}
+
+fn try_sampled(
+    alloc: Global,
+    row: &Row,
+    is_copied: bool,
+    out: &mut AnswerText,
+) -> Result<(), RowError> {
+    let strings = sampler_strings(alloc, row)?;
+    let Config { sampler, .. } = Config::from_strings(alloc, &strings, 0)?;
+    try_below(alloc, Box::new(alloc, sampler)?, row, is_copied, out)
+}
+
+fn try_below(
+    alloc: Global,
+    mut sampler: Box<Sampler>,
+    row: &Row,
+    is_copied: bool,
+    out: &mut AnswerText,
+) -> Result<(), RowError> {
     for _ in 0..depth_of(row)? {
         sampler = Box::new(alloc, Sampler::ParentBased(sampler))?;
     }
-    Ok(sampler)
-}
-
-/// Puts out what a sampler answers.
-fn push_sampled(alloc: Global, row: &Row, out: &mut AnswerText) {
-    match sampler_of(alloc, row) {
-        Ok(sampler) => push_asked(&sampler, row, out),
-        Err(error) => out.note(error),
+    if is_copied {
+        return try_copy(&sampler, row, out);
     }
+    push_asked(&sampler, row, out);
+    Ok(())
 }
 
-/// Puts out what a copy of it answers.
-fn push_copy(alloc: Global, row: &Row, out: &mut AnswerText) {
-    match copy_of(alloc, row) {
-        Ok(Some(copy)) => push_asked(&copy, row, out),
-        Ok(None) => out.push_str("no copy"),
-        Err(error) => out.note(error),
+/// Puts out what a copy of a sampler answers.
+fn try_copy(sampler: &Sampler, row: &Row, out: &mut AnswerText) -> Result<(), RowError> {
+    match sampler.try_clone()? {
+        Some(copy) => push_asked(&copy, row, out),
+        None => out.push_str("no copy"),
     }
-}
-
-fn copy_of(alloc: Global, row: &Row) -> Result<Option<Sampler>, RowError> {
-    let sampler = sampler_of(alloc, row)?;
-    Ok(sampler.try_clone()?)
+    Ok(())
 }
 
 /// How many samplers that go by parents stand above the configured one; none where no field says it.
