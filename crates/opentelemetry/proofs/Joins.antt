@@ -4,7 +4,7 @@ use Rattle.std.proofs.lemmas.List.{take_more, length-take-le, length-map, map-ap
 use Rattle.std.specs.List.{join_with_byte}
 use borrow.Author.Tests.{lt-ltb}
 
--- behind others a text has the byte in front
+-- after others a text has the byte in front
 abbrev pub joined_text : ℕ → ℕ → List ℕ → List ℕ
 joined_text byte before t = cond (ltb 0 before) (byte ∷ t) t
 
@@ -16,9 +16,9 @@ pub join_push : (byte : ℕ) (xs : List (List ℕ)) (x : List ℕ) → join_with
 join_push byte [] x = refl
 join_push byte (y ∷ []) x = refl
 join_push byte (y ∷ z ∷ xs) x =
-    let behind = joined_text_more byte (length (z ∷ xs)) x (omega arith) in
+    let after = joined_text_more byte (length (z ∷ xs)) x (omega arith) in
     ap (λ t. y ++ byte ∷ t) (join_push byte (z ∷ xs) x) ∙ sym (append_assoc y (byte ∷ join_with_byte byte (z ∷ xs)) (joined_text byte (length (z ∷ xs)) x))
-    ∙ ap (λ t. (y ++ byte ∷ join_with_byte byte (z ∷ xs)) ++ t) (behind ∙ sym (joined_text_more byte (length (y ∷ z ∷ xs)) x (omega arith)))
+    ∙ ap (λ t. (y ++ byte ∷ join_with_byte byte (z ∷ xs)) ++ t) (after ∙ sym (joined_text_more byte (length (y ∷ z ∷ xs)) x (omega arith)))
 
 -- the texts of the first elements, and then that of the next
 pub join_more : {X : Type 0} (byte : ℕ) (t : X → List ℕ) (xs : List X) (i : ℕ) (x : X) → i < length xs → x ≡ get_or xs i x

@@ -1,5 +1,5 @@
 pub mod BaggageLemmas
-pub mod Behind
+pub mod BoxedCalls
 pub mod Blanks
 pub mod Clauses
 pub mod Clones

@@ -17,13 +17,13 @@ module _ {X : Type 0} (t : X → List ℕ × List ℕ) (xs : List X) (i : ℕ) (
   pub value_step : (key : List ℕ) → value_of_key key (map t (drop i xs)) ≡ cond (same_text (t x).0 key) (Some (t x).1) (value_of_key key (map t (drop (i + 1) xs)))
   value_step key = ap (λ l. value_of_key key (map t l)) next_is
 
-  -- the next pair comes behind those that stayed, unless it has the key
+  -- the next pair comes after those that stayed, unless it has the key
   pub without_step : (key : List ℕ) → without_key key (map t (take i xs)) ++ without_key key (t x ∷ []) ≡ without_key key (map t (take (i + 1) xs))
   without_step key =
       sym (ap (λ l. without_key key (map t l)) (take_more xs i x inside ∙ ap (λ y. take i xs ++ y ∷ []) (sym is))
       ∙ ap (λ l. without_key key l) (map-append t (take i xs) (x ∷ [])) ∙ filter-append _ (map t (take i xs)) (t x ∷ []))
 
-  -- the pairs that stay are those before the next one, that one unless it has the key, and those behind it
+  -- the pairs that stay are those before the next one, that one unless it has the key, and those after it
   pub without_around : (key : List ℕ) → without_key key (map t xs) ≡ without_key key (map t (take i xs)) ++ (without_key key (t x ∷ []) ++ without_key key (map t (drop (i + 1) xs)))
   without_around key =
       ap (λ l. without_key key (map t l)) (sym (take-append-drop i xs) ∙ ap (λ l. take i xs ++ l) next_is)

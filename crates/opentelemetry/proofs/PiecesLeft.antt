@@ -20,10 +20,10 @@ members_left rest = filter is_some_text (map trimmed (pieces_left rest))
 abbrev pub piece_fault : List ℕ → Option TraceStateError
 piece_fault piece = first_fault (filter is_some_text (piece ∷ []))
 
--- the first piece of a text, and those that are left behind it
-pub cut_pieces : (text piece : List ℕ) (behind : Option (Bor (List ℕ)))
-    → MatchOption behind (slice_split (λ b. b == 44) text ≡ piece ∷ []) (λ rest. slice_split (λ b. b == 44) text ≡ piece ∷ slice_split (λ b. b == 44) rest.now)
-    → slice_split (λ b. b == 44) text ≡ piece ∷ pieces_left behind
+-- the first piece of a text, and those that are left after it
+pub cut_pieces : (text piece : List ℕ) (after : Option (Bor (List ℕ)))
+    → MatchOption after (slice_split (λ b. b == 44) text ≡ piece ∷ []) (λ rest. slice_split (λ b. b == 44) text ≡ piece ∷ slice_split (λ b. b == 44) rest.now)
+    → slice_split (λ b. b == 44) text ≡ piece ∷ pieces_left after
 cut_pieces text piece None h = h
 cut_pieces text piece (Some rest) h = h
 

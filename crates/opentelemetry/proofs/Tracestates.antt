@@ -80,7 +80,7 @@ turned false h = refl
 pub value_end : (v : List ℕ) → is_value v ≡ true → ends_with_space v ≡ false
 value_end v h = turned (ends_with_space v) (value_parts v h).1
 
--- the first equals sign behind a key is the one that follows it
+-- the first equals sign after a key is the one that follows it
 first_equals : (k v : List ℕ) → is_key k ≡ true → position_or_len is_equals (k ++ 61 ∷ v) ≡ length k
 first_equals k v h =
     position_or_len_is is_equals (k ++ 61 ∷ v) (length k) 0 (omega (arith, length-append k (61 ∷ v)))

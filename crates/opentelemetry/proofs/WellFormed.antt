@@ -56,48 +56,48 @@ apart : (test : ℕ → Bool) (x y : ℕ) → test x ≡ true → test y ≡ fal
 apart test x y passes fails e = false≢true (sym fails ∙ ap test (sym e) ∙ passes)
 
 passing_is_no_comma : (test : ℕ → Bool) → test 44 ≡ false → (xs rest : List ℕ) → list_all test xs ≡ true → AllByRecursion (λ x. eqb x 44 ≡ false) rest → AllByRecursion (λ x. eqb x 44 ≡ false) (xs ++ rest)
-passing_is_no_comma test fails [] rest h behind = behind
-passing_is_no_comma test fails (x ∷ xs) rest h behind =
+passing_is_no_comma test fails [] rest h after = after
+passing_is_no_comma test fails (x ∷ xs) rest h after =
     let both = both_true (test x) (list_all test xs) h in
-    (ne_eqb x 44 (apart test x 44 both.0 fails), passing_is_no_comma test fails xs rest both.1 behind)
+    (ne_eqb x 44 (apart test x 44 both.0 fails), passing_is_no_comma test fails xs rest both.1 after)
 
-nil_behind : (xs : List ℕ) → xs ++ [] ≡ xs
-nil_behind [] = refl
-nil_behind (x ∷ xs) = ap (λ t. x ∷ t) (nil_behind xs)
+nil_after : (xs : List ℕ) → xs ++ [] ≡ xs
+nil_after [] = refl
+nil_after (x ∷ xs) = ap (λ t. x ∷ t) (nil_after xs)
 
 -- a member that spells a pair has no comma
 no_comma : (k v : List ℕ) → is_key k ≡ true → is_value v ≡ true → All (λ x. eqb x 44 ≡ false) (k ++ 61 ∷ v)
 no_comma k v key value =
     let P : List ℕ → Type 0 = AllByRecursion (λ x. eqb x 44 ≡ false) in
-    let behind : P v = subst P (nil_behind v) (passing_is_no_comma is_value_byte refl v [] (value_bytes v value) tt) in
-    all_from (λ x. eqb x 44 ≡ false) (k ++ 61 ∷ v) (passing_is_no_comma is_key_byte refl k (61 ∷ v) (key_bytes k key) (refl, behind))
+    let after : P v = subst P (nil_after v) (passing_is_no_comma is_value_byte refl v [] (value_bytes v value) tt) in
+    all_from (λ x. eqb x 44 ≡ false) (k ++ 61 ∷ v) (passing_is_no_comma is_key_byte refl k (61 ∷ v) (key_bytes k key) (refl, after))
 
-last_behind : (x y : ℕ) (ys : List ℕ) → last_byte (x ∷ y ∷ ys) ≡ last_byte (y ∷ ys)
-last_behind x y ys =
+last_after : (x y : ℕ) (ys : List ℕ) → last_byte (x ∷ y ∷ ys) ≡ last_byte (y ∷ ys)
+last_after x y ys =
     let place : length (x ∷ y ∷ ys) - 1 ≡ suc (length (y ∷ ys) - 1) = omega arith in
     ap (λ n. slice_get (x ∷ y ∷ ys) n) place
 
 last_pushed : (xs : List ℕ) (b : ℕ) → last_byte (xs ++ b ∷ []) ≡ Some b
 last_pushed [] b = refl
-last_pushed (x ∷ []) b = last_behind x b []
-last_pushed (x ∷ y ∷ xs) b = last_behind x y (xs ++ b ∷ []) ∙ last_pushed (y ∷ xs) b
+last_pushed (x ∷ []) b = last_after x b []
+last_pushed (x ∷ y ∷ xs) b = last_after x y (xs ++ b ∷ []) ∙ last_pushed (y ∷ xs) b
 
-last_of_behind : (xs : List ℕ) (y : ℕ) (ys : List ℕ) → last_byte (xs ++ y ∷ ys) ≡ last_byte (y ∷ ys)
-last_of_behind [] y ys = refl
-last_of_behind (x ∷ []) y ys = last_behind x y ys
-last_of_behind (x ∷ z ∷ xs) y ys = last_behind x z (xs ++ y ∷ ys) ∙ last_of_behind (z ∷ xs) y ys
+last_of_after : (xs : List ℕ) (y : ℕ) (ys : List ℕ) → last_byte (xs ++ y ∷ ys) ≡ last_byte (y ∷ ys)
+last_of_after [] y ys = refl
+last_of_after (x ∷ []) y ys = last_after x y ys
+last_of_after (x ∷ z ∷ xs) y ys = last_after x z (xs ++ y ∷ ys) ∙ last_of_after (z ∷ xs) y ys
 
 -- the last byte passes a test that all bytes pass
 last_passes : (test : ℕ → Bool) (xs : List ℕ) (b : ℕ) → list_all test xs ≡ true → last_byte xs ≡ Some b → test b ≡ true
 last_passes test [] b h is = absurd cc
 last_passes test (x ∷ []) b h is = let same : x ≡ b = cc in ap test (sym same) ∙ (both_true (test x) true h).0
-last_passes test (x ∷ y ∷ xs) b h is = last_passes test (y ∷ xs) b (both_true (test x) (list_all test (y ∷ xs)) h).1 (sym (last_behind x y xs) ∙ is)
+last_passes test (x ∷ y ∷ xs) b h is = last_passes test (y ∷ xs) b (both_true (test x) (list_all test (y ∷ xs)) h).1 (sym (last_after x y xs) ∙ is)
 
 -- a member that spells a pair ends with no blank
 no_blank_end : (v : List ℕ) (b : ℕ) → is_value v ≡ true → is_blank b ≡ true → last_byte (61 ∷ v) ≢ Some b
 no_blank_end [] b value blank = λ e. let same : 61 ≡ b = cc in false≢true (ap is_blank same ∙ blank)
 no_blank_end (c ∷ cs) b value blank = λ e.
-    let is : last_byte (c ∷ cs) ≡ Some b = sym (last_behind 61 c cs) ∙ e in
+    let is : last_byte (c ∷ cs) ≡ Some b = sym (last_after 61 c cs) ∙ e in
     let byte : is_value_byte b ≡ true = last_passes is_value_byte (c ∷ cs) b (value_bytes (c ∷ cs) value) is in
     let no_space : eqb b 32 ≡ false = ap (λ (o : Option ℕ). option_map_or (λ x. eqb x 32) o false) (sym is) ∙ value_end (c ∷ cs) value in
     let no_tab : eqb b 9 ≡ false = ne_eqb b 9 (apart is_value_byte b 9 byte refl) in
@@ -105,7 +105,7 @@ no_blank_end (c ∷ cs) b value blank = λ e.
     false≢true (sym none ∙ blank)
 
 no_end : (k v : List ℕ) (b : ℕ) → is_value v ≡ true → is_blank b ≡ true → (front : List ℕ) → k ++ 61 ∷ v ≢ front ++ b ∷ []
-no_end k v b value blank front e = no_blank_end v b value blank (sym (last_of_behind k 61 v) ∙ ap last_byte e ∙ last_pushed front b)
+no_end k v b value blank front e = no_blank_end v b value blank (sym (last_of_after k 61 v) ∙ ap last_byte e ∙ last_pushed front b)
 
 -- a text that begins with no blank has none in front
 front_stays : (k rest : List ℕ) → is_key k ≡ true → trim_front (k ++ rest) ≡ k ++ rest

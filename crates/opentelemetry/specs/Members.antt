@@ -17,6 +17,6 @@ abbrev pub HasNo : ℕ → List ℕ → Type 0
 HasNo c [] = Unit {0}
 HasNo c (b ∷ bs) = (b ≢ c) × HasNo c bs
 
--- a text cut at each byte of a kind: what stands before, between and behind them
+-- a text cut at each byte of a kind: what stands before, between and after them
 abbrev pub pieces_at : ℕ → List ℕ → List (List ℕ)
 pieces_at c text = slice_split (λ b. b == c) text

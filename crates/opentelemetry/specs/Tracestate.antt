@@ -113,7 +113,7 @@ first_pair_fault (pair ∷ more) = first_of_two (pair_fault pair) (first_pair_fa
 abbrev pub member_text : List ℕ × List ℕ → List ℕ
 member_text pair = pair.0 ++ 61 ∷ pair.1
 
--- the member that spells a pair, behind so many others: a comma stands between two
+-- the member that spells a pair, after so many others: a comma stands between two
 abbrev pub next_member_text : ℕ → List ℕ × List ℕ → List ℕ
 next_member_text before pair = if nat_lt 0 before then 44 ∷ member_text pair else member_text pair
 

@@ -52,7 +52,7 @@ impl Context {
     }
 
     /// The context with the span of this span context active, even where that is the empty one. `AllocError` where
-    /// the baggage cannot be shared for want of memory.
+    /// the baggage cannot be shared when memory runs out.
     pub fn with_span_context(&self, span_context: SpanContext) -> Result<Context, AllocError>
         ensures ok { IfOk result (λ cx. cx ≡ record self.now { span_context = Some span_context }) }
         ensures free { self.now.baggage ≡ [] → IsOk result }

@@ -1,5 +1,5 @@
 //! Laws of the values: each function does nothing, and its contract is the law. Those without an argument speak of all
-//! values; those of a reference speak of the value behind it, so that a caller has the law of that value.
+//! values; those of a reference speak of the value that it refers to, so that a caller has the law of that value.
 
 ghost use Rattle.std.specs.Prelude.{◌≡◌, ◌<◌, ◌^◌, List, ℕ};
 ghost use Rattle.std.specs.declared.cmp.Ordering.TheVariants.{Less};

@@ -70,7 +70,7 @@ pub trait TextMapPropagator {
         ensures { inject_gives self.now cx.now (I.texts injector.old) result (I.texts injector.new) };
 
     /// The context with what the carrier's texts say in place of what it had. `alloc` says where that lies. A text that
-    /// is not valid says nothing; `AllocError` comes from want of memory alone.
+    /// is not valid says nothing; `AllocError` says that memory ran out.
     fn extract_with_context<X: Extractor>(
         &self,
         alloc: Global,

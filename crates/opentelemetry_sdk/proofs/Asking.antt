@@ -240,7 +240,7 @@ module _ (kind : Kind) where
   subtract_none s outcome.NotEnabled t n row = same_state s t n row.1
   subtract_none s _ t n row = absurd row
 
-  -- the worker is ready behind a drain that was finished
+  -- the worker is ready after a drain that was finished
   ready_none : (s t : Counts) → requests_in s ≡ 0 → t.control.messages ≡ s.control.messages →
       t.control.worker ≡ worker.Ready → t.control.closed ≡ s.control.closed → NoneAsked s t
   ready_none s t n messages is closed = drain_none s t worker.Ready messages is refl closed n

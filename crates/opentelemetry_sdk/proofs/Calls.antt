@@ -50,7 +50,7 @@ use Rattle.opentelemetry_sdk.proofs.Asking.{Kind, flushing, goes_open, no_reques
 use Rattle.opentelemetry_sdk.proofs.Closing.{TellsShutdown, goes_tells_shutdown}
 use Rattle.opentelemetry_sdk.proofs.Resting.{goes_hands_on, goes_idle, goes_on_waiting, hands_on_told, heard_in, idle_rests, rest_empty}
 
--- behind a call the queue is at rest again, no span more is heard, and no drop is counted
+-- after a call the queue is at rest again, no span more is heard, and no drop is counted
 pub record RestsAgain {E : Type 0} (calls : Ghosts E) (s t : Machine E) : Type 0 where
   pub rest : IsAtRest t
   pub heard : Tells (heard_in calls s) [] (heard_in calls t)
@@ -156,7 +156,7 @@ has_answer s sound waits idle = by_worker s.control.worker refl (sound.awaited.e
     by_worker worker.Finishing is each = absurd (let wrong : false ≡ true = rw is at idle in cc)
     by_worker (worker.Closing p) is each = absurd (let wrong : false ≡ true = rw is at idle in cc)
 
--- the machine behind a request: the producer waits, and nothing else that is seen here has changed
+-- the machine after a request: the producer waits, and nothing else that is seen here has changed
 pub record Posted {E : Type 0} (asked : Request) (s posted : Machine E) : Type 0 where
   pub waits : slot_at (counts posted) 0 ≡ Some (slot.Waiting asked)
   pub ready : posted.control.worker ≡ worker.Ready
@@ -372,7 +372,7 @@ module _ {E : Type 0} (calls : Ghosts E) where
         })
       ]
 
-  -- the queue is at rest behind an end
+  -- the queue is at rest after an end
   pub ends_rest : (s t : Machine E) (span : PlainSpanData) → IsAtRest s → EndsIdle s span t → IsAtRest t
   ends_rest s t span rest ends = record {
     slots = ends.idle;
@@ -389,7 +389,7 @@ module _ {E : Type 0} (calls : Ghosts E) where
       still true shut false is goes = (ends.skips is).waiting
       still false shut sampled is goes = absurd (cc)
 
--- a queue that is closed and at rest left no span behind
+-- a queue that is closed and at rest left no span after
 pub none_stranded : {E : Type 0} (s : Machine E) → IsAtRest s → s.control.closed ≡ true → stranded_in s ≡ Some 0
 none_stranded s rest closed = rw (closed, rest.left closed) refl
 
@@ -505,7 +505,7 @@ module _ {E : Type 0} (calls : Ghosts E) where
   closes_if_ok true s (Ok u) t was_open says = absurd (let no = says.0 in cc)
   closes_if_ok true s (Err e) t was_open says = says.1 ∙ sym was_open
 
-  -- a request behind a shutdown changes nothing
+  -- a request after a shutdown changes nothing
   pub request_closed : (asked : Request) (s t : Machine E) → IsStep calls s (step_of asked 0) outcome.Closed t →
       (s.control.closed ≡ true) × (t ≡ s)
   request_closed asked s t steps =

@@ -110,7 +110,7 @@ module _ {E : Type 0} (calls : Ghosts E) where
   pub largest_left : (s t : Machine E) → LeavesAtRest calls s t → 0 < largest_batch s.control → 0 < largest_batch t.control
   largest_left s t leaves some = rw (same_largest s.control t.control (sizes_left s t leaves)) some
 
-  -- what a run of the worker took off, where there is nothing in its hand before and behind it
+  -- what a run of the worker took off, where there is nothing in its hand before and after it
   leaves_by : (s t : Machine E) → TakesOff calls s t → KeepsSizes s.control t.control → s.hand ≡ [] → IsAtRest t →
       TakesNothing (queue_telling calls s) (queue_telling calls t) → t.control.closed ≡ s.control.closed →
       LeavesAtRest calls s t
@@ -188,7 +188,7 @@ module _ {E : Type 0} (calls : Ghosts E) where
   ]
 
   -- an end at an eager queue, by the export before it, the offer, and what follows. Where the offer found the queue full
-  -- nothing more was heard behind it
+  -- nothing more was heard after it
   pub eager_told : (p m q t : Machine E) (span : PlainSpanData) → is_sampled span ≡ true → p.control.closed ≡ false →
       IsSound (counts p) → LeavesAtRest calls p m → EndsIdle m span q →
       TakesNothing (queue_telling calls q) (queue_telling calls t) → t.control.closed ≡ q.control.closed →

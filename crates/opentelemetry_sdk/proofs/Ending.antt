@@ -88,12 +88,12 @@ module _ {E : Type 0} (calls : Ghosts E) where
   rest_goes s [] (o ∷ os) t works holds goes = absurd goes
   rest_goes s (x ∷ xs) [] t works holds goes = absurd goes
 
-  -- behind the send of the span that the producer holds
-  behind_send : (s m t : Machine E) (o : Outcome) (span : PlainSpanData) (n : ℕ) →
+  -- after the send of the span that the producer holds
+  after_send : (s m t : Machine E) (o : Outcome) (span : PlainSpanData) (n : ℕ) →
       slot_at (counts s) 0 ≡ Some (slot.Holding span n) → SendRow (counts s) 0 o (counts m) →
       MovesSpans calls s (step.Send 0) o m → LeavesRest m t → QueuesNone m t →
       SpanGoes s.control.closed s span t × (m.exporter ≡ s.exporter) × (m.hand ≡ s.hand)
-  behind_send s m t outcome.Accepted span n at row moved rest none =
+  after_send s m t outcome.Accepted span n at row moved rest none =
       let waits : m.waiting ≡ s.waiting ++ span ∷ [] = rw at at moved.waiting in (
         rw row.1 (inl (record {
           waiting = none.waiting ∙ waits;
@@ -102,7 +102,7 @@ module _ {E : Type 0} (calls : Ghosts E) where
         moved.exporter,
         moved.hand,
       )
-  behind_send s m t outcome.Full span n at row moved rest none = (
+  after_send s m t outcome.Full span n at row moved rest none = (
     rw row.1 (inr (record {
       full = row.2;
       waiting = none.waiting ∙ moved.waiting;
@@ -111,7 +111,7 @@ module _ {E : Type 0} (calls : Ghosts E) where
     moved.exporter,
     moved.hand,
   )
-  behind_send s m t outcome.Closed span n at row moved rest none = (
+  after_send s m t outcome.Closed span n at row moved rest none = (
     rw row.1 (record {
       waiting = none.waiting ∙ moved.waiting;
       dropped = none.dropped ∙ ap (λ c. c.control.dropped) row.2;
@@ -119,9 +119,9 @@ module _ {E : Type 0} (calls : Ghosts E) where
     moved.exporter,
     moved.hand,
   )
-  behind_send s m t outcome.NotEnabled span n at row moved rest none =
+  after_send s m t outcome.NotEnabled span n at row moved rest none =
       absurd (let yes : is_holding (slot_at (counts s) 0) ≡ true = rw at refl in let no = row.0 in cc)
-  behind_send s m t _ span n at row moved rest none = absurd row
+  after_send s m t _ span n at row moved rest none = absurd row
 
   -- with a span to send
   pub span_goes : (s : Machine E) (xs : List Step) (os : List Outcome) (t : Machine E) (span : PlainSpanData) (n : ℕ) →
@@ -136,16 +136,16 @@ module _ {E : Type 0} (calls : Ghosts E) where
       let on = send_goes (counts s) o (counts m) span n at row in
       let rest = rest_goes m xs os t (rw on.puts.slot on.at_work) (rw on.puts.slot on.holds_none) goes.3 in
       let moved : MovesSpans calls s (step.Send 0) o m = rw is at goes.2.moved in
-      let behind = behind_send s m t o span n at row moved rest.0 rest.1 in (
+      let after = after_send s m t o span n at row moved rest.0 rest.1 in (
         record {
-          exporter = rest.0.exporter ∙ behind.1;
-          hand = rest.0.hand ∙ behind.2;
+          exporter = rest.0.exporter ∙ after.1;
+          hand = rest.0.hand ∙ after.2;
           slots = rest.0.slots ∙ on.puts.slots;
           worker = rest.0.worker ∙ on.puts.worker;
           closed = rest.0.closed ∙ on.puts.closed;
           at_work = rest.0.at_work;
         },
-        behind.0,
+        after.0,
       )
   span_goes s [] (o ∷ os) t span n at goes over = absurd goes
   span_goes s (x ∷ xs) [] t span n at goes over = absurd goes

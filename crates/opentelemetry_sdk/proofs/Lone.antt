@@ -27,7 +27,7 @@ use Rattle.otel_batch.proofs.Draining.{ltb_tells}
 use Rattle.otel_batch.specs.WorkedOff.{GoesBy, next_of_worker}
 use Rattle.opentelemetry_sdk.proofs.Worker.{has_next, next_permitted}
 
--- behind a drain nothing waits, or it found no memory and its result is an error
+-- after a drain nothing waits, or it found no memory and its result is an error
 abbrev pub EndsDrain : Bool → Counts → Type 0
 EndsDrain true s = is_ok s.control.result ≡ false
 EndsDrain false s = s.waiting ≡ 0
@@ -48,7 +48,7 @@ pub record IsAlone (s : Counts) : Type 0 where
   pub closing : is_closing s.control.worker ≡ true → s.waiting ≡ 0
   pub answered : (answer : Result (Unit {0}) OTelSdkError) → slot_at s 0 ≡ Some (slot.Answered answer) → IsDone answer s
 
--- the worker is at none of the places of a drain behind its load
+-- the worker is at none of the places of a drain after its load
 abbrev pub is_free : Worker → Bool
 is_free worker.Ready = true
 is_free worker.Clearing = true
@@ -239,7 +239,7 @@ subtract_alone s outcome.Subtracted t sound a n row =
 subtract_alone s outcome.NotEnabled t sound a n row = rw row.1 a
 subtract_alone s _ t sound a n row = absurd row
 
--- an answer was put into a slot, behind which the worker is at rest
+-- an answer was put into a slot, after which the worker is at rest
 answers_alone : (s t : Counts) (p : ℕ) (answer : Result (Unit {0}) OTelSdkError) → IsAlone s →
     is_answered (slot_at s 0) ≡ false → t ≡ put_slot (end_of_drain s worker.Ready) p (slot.Answered answer) →
     OnOk answer (s.waiting ≡ 0) → IsAlone t

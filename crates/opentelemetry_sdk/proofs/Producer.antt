@@ -42,7 +42,7 @@ puts s t old new at slots worker closed = record {
   closed = closed;
 }
 
--- a step of the producer behind its send
+-- a step of the producer after its send
 pub record GoesOnToIdle (s t : Counts) : Type 0 where
   pub new : Slot
   pub puts : PutsFirst s t new
@@ -124,7 +124,7 @@ reset_goes s outcome.ResetDone t at row = record {
 reset_goes s outcome.NotEnabled t at row = absurd (let yes : is_resetting (slot_at s 0) ≡ true = rw at refl in let no = row.0 in cc)
 reset_goes s _ t at row = absurd row
 
--- the send of the span that the producer holds: what is in the slot behind it, and whether a drop was counted
+-- the send of the span that the producer holds: what is in the slot after it, and whether a drop was counted
 pub record Sends (s : Counts) (o : Outcome) (t : Counts) : Type 0 where
   pub new : Slot
   pub puts : PutsFirst s t new

@@ -109,7 +109,7 @@ subtract_tells error s outcome.Subtracted t n h row =
 subtract_tells error s outcome.NotEnabled t n h row = rw row.1 h
 subtract_tells error s _ t n h row = absurd row
 
--- an answer was put into a slot, behind which the worker is at rest
+-- an answer was put into a slot, after which the worker is at rest
 answers_tell : (error : Option OTelSdkError) (s t : Counts) (p : ℕ) (answer : Result (Unit {0}) OTelSdkError) →
     length s.control.slots ≡ 1 → is_answered (slot_at s 0) ≡ false →
     t ≡ put_slot (end_of_drain s worker.Ready) p (slot.Answered answer) → IsErrorOf answer error → TellsError error t

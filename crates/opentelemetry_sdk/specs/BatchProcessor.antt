@@ -106,7 +106,7 @@ module _ {E : Type 0} (calls : Ghosts E) where
   EndInMemory old (span ∷ spans) new = (answer : Result (Unit {0}) AllocError) × (next : BatchProcessor E)
       × (ends : BatchEnds old span answer next) × (ends.refused ≡ false) × EndInMemory next spans new
 
-  -- a flush or a shutdown. Where the queue is closed behind it, no span was left behind
+  -- a flush or a shutdown. Where the queue is closed after it, no span was left behind
   pub record BatchRequests (asked : Request) (old : BatchProcessor E) (answer : Result (Unit {0}) OTelSdkError)
       (new : BatchProcessor E) : Type 0 where
     pub requests : Requests calls asked old.machine answer new.machine
@@ -120,7 +120,7 @@ module _ {E : Type 0} (calls : Ghosts E) where
     pub works : WorkerWorks calls old.machine answer new.machine
     pub rest : new ≡ record old { machine = new.machine }
 
-  -- a run of the worker, which is an error behind a completed shutdown
+  -- a run of the worker, which is an error after a completed shutdown
   abbrev pub RunsWorker : BatchProcessor E → Result (Unit {0}) OTelSdkError → BatchProcessor E → Type 0
   RunsWorker old answer new = MatchBool old.machine.control.closed
       ((answer ≡ Err AlreadyShutdown) × (new ≡ old))
@@ -132,7 +132,7 @@ module _ {E : Type 0} (calls : Ghosts E) where
     pub drains : TicksAndWorks calls old.machine answer new.machine
     pub rest : new ≡ record old { machine = new.machine; last = Some now }
 
-  -- the time is told behind a run of the worker with this answer: the first time the timer is started, and later it
+  -- the time is told after a run of the worker with this answer: the first time the timer is started, and later it
   -- runs out once its time has passed
   abbrev pub TellsTime : ℕ → BatchProcessor E → Result (Unit {0}) OTelSdkError → Result (Unit {0}) OTelSdkError
       → BatchProcessor E → Type 0
@@ -142,7 +142,7 @@ module _ {E : Type 0} (calls : Ghosts E) where
       (DrainsByTimer now old answer new)
       ((answer ≡ worked) × (new ≡ old)))
 
-  -- a run of the worker, and the time that is told behind it
+  -- a run of the worker, and the time that is told after it
   pub record WorksAndTellsTime (now : ℕ) (old : BatchProcessor E) (answer : Result (Unit {0}) OTelSdkError)
       (new : BatchProcessor E) : Type 0 where
     pub worked : Result (Unit {0}) OTelSdkError
@@ -150,7 +150,7 @@ module _ {E : Type 0} (calls : Ghosts E) where
     pub works : WorksUntilIdle old worked idle
     pub tells : TellsTime now idle worked answer new
 
-  -- what is due at a moment, which is an error behind a completed shutdown
+  -- what is due at a moment, which is an error after a completed shutdown
   abbrev pub BatchDue : BatchProcessor E → ℕ → Result (Unit {0}) OTelSdkError → BatchProcessor E → Type 0
   BatchDue old now answer new = MatchBool old.machine.control.closed
       ((answer ≡ Err AlreadyShutdown) × (new ≡ old))

@@ -23,7 +23,7 @@ use Rattle.otel_batch.specs.declared.machine.step.Step.TheVariants as step
 use Rattle.otel_export.specs.declared.trace.export.SpanExporter.{Ghosts}
 
 -- between two calls the producer has no span, waits for nothing and has no answer, the worker is ready or gone, and
--- there is nothing in its hand. A completed shutdown has left no span behind
+-- there is nothing in its hand. A completed shutdown has left no span after
 pub record IsAtRest {E : Type 0} (m : Machine E) : Type 0 where
   pub slots : m.control.slots ≡ slot.Idle ∷ []
   pub worker : is_ready m.control.worker || is_gone m.control.worker ≡ true
@@ -65,7 +65,7 @@ module _ {E : Type 0} (calls : Ghosts E) where
     pub shuts : asked ≡ request.Shutdown
         → ShutdownAnswers (own_refusal false answers.outcomes) answer t.control.closed
 
-  -- a request: an error that changes nothing behind a completed shutdown or where the control queue is full, and else
+  -- a request: an error that changes nothing after a completed shutdown or where the control queue is full, and else
   -- carried out
   abbrev pub Requests : Request → Machine E → Result (Unit {0}) OTelSdkError → Machine E → Type 0
   Requests asked s answer t = MatchBool s.control.closed
@@ -75,7 +75,7 @@ module _ {E : Type 0} (calls : Ghosts E) where
       (AnswersRequest asked s answer t))
 
   -- what a request does, whether it was carried out or not: with Ok nothing waits, a flush leaves the queue open or
-  -- closed as it was, and where the queue is closed behind it no span was left behind
+  -- closed as it was, and where the queue is closed after it no span was left behind
   pub record MakesRequest (asked : Request) (s : Machine E) (answer : Result (Unit {0}) OTelSdkError) (t : Machine E)
       : Type 0 where
     pub gives : Requests asked s answer t

@@ -31,8 +31,8 @@ module _ {E : Type 0} (calls : Ghosts E) {keeps : E → List (List PlainSpanData
   pub works_over : (s : Machine E) (answer : Result (Unit {0}) OTelSdkError) (t : Machine E) (e : E)
       → recalled bs s.exporter e → WorkerWorks calls s answer t
       → Over calls recalls bs (λ a b. WorkerWorks calls a answer b) s e t
-  works_over s answer t e behind h =
-      let g = goes_over calls recalls bs next_of_worker s h.works.steps h.outcomes t e behind h.works.goes in (
+  works_over s answer t e after h =
+      let g = goes_over calls recalls bs next_of_worker s h.works.steps h.outcomes t e after h.works.goes in (
         g.0,
         g.1,
         record {
@@ -45,9 +45,9 @@ module _ {E : Type 0} (calls : Ghosts E) {keeps : E → List (List PlainSpanData
   answers_over : (asked : Request) (s : Machine E) (answer : Result (Unit {0}) OTelSdkError) (t : Machine E) (e : E)
       → recalled bs s.exporter e → AnswersRequest calls asked s answer t
       → Over calls recalls bs (λ a b. AnswersRequest calls asked a answer b) s e t
-  answers_over asked s answer t e behind h =
+  answers_over asked s answer t e after h =
       let done = h.answers in
-      let posts = run_over calls recalls bs s (step_of asked 0 ∷ []) (outcome.Requested ∷ []) h.posted e behind
+      let posts = run_over calls recalls bs s (step_of asked 0 ∷ []) (outcome.Requested ∷ []) h.posted e after
       h.posts in
       let goes = goes_over calls recalls bs next_of_worker h.posted done.works.steps done.outcomes done.answered posts.0
       posts.1 done.works.goes in
@@ -72,12 +72,12 @@ module _ {E : Type 0} (calls : Ghosts E) {keeps : E → List (List PlainSpanData
   pub requests_over : (asked : Request) (s : Machine E) (answer : Result (Unit {0}) OTelSdkError) (t : Machine E) (e : E)
       → recalled bs s.exporter e → Requests calls asked s answer t
       → Over calls recalls bs (λ a b. Requests calls asked a answer b) s e t
-  requests_over asked s answer t e behind = by_state _ _ s.control.closed (is_crowded (counts s))
+  requests_over asked s answer t e after = by_state _ _ s.control.closed (is_crowded (counts s))
     where
       same : {A : Type 0} → A × (t ≡ s) → Over calls recalls bs (λ a b. A × (b ≡ a)) s e t
       same h = (
         e,
-        subst (λ m. recalled bs m.exporter e) (sym h.1) behind,
+        subst (λ m. recalled bs m.exporter e) (sym h.1) after,
         (h.0, ap (λ m. in_front_of m e) h.1),
       )
 
@@ -87,4 +87,4 @@ module _ {E : Type 0} (calls : Ghosts E) {keeps : E → List (List PlainSpanData
           (AnswersRequest calls asked a answer b))) s e t
       by_state A B true crowded h = same h
       by_state A B false true h = same h
-      by_state A B false false h = answers_over asked s answer t e behind h
+      by_state A B false false h = answers_over asked s answer t e after h

@@ -2,12 +2,12 @@
 use Rattle.std.specs.Prelude.{◌≡◌, List, [], Option, Some, None, refl}
 use Rattle.std.proofs.Common.{ap, sym, subst, ◌∙◌, append_assoc}
 use Rattle.otel_export.specs.PlainSpanData.{PlainSpanData, spans_in}
-use Rattle.otel_export.specs.RecalledBatches.{told_behind}
-use Rattle.otel_export.specs.RecalledKinds.{told_behind_none}
+use Rattle.otel_export.specs.RecalledBatches.{told_after}
+use Rattle.otel_export.specs.RecalledKinds.{told_after_none}
 use Rattle.otel_export.specs.Telling.{and_then_told}
 use Rattle.otel_pipeline.specs.ProcessorTelling.{ProcessorTelling}
 use Rattle.otel_pipeline.specs.SimpleProcessor.{SimpleProcessor}
-use Rattle.otel_kept.specs.RecalledBatches.{heard_behind}
+use Rattle.otel_kept.specs.RecalledBatches.{heard_after}
 use Rattle.otel_kept.specs.RecalledBySimple.{simple_before}
 use Rattle.opentelemetry_sdk.specs.BatchProcessor.{BatchProcessor, batch_open_over}
 use Rattle.opentelemetry_sdk.specs.ProcessorKinds.{ProcessorGives, dropped_over_by_kind, open_over_by_kind}
@@ -31,9 +31,9 @@ pub processor_recalls : {E C : Type 0} (recalled : List (List PlainSpanData) →
     → (f : E) × recalled bs b.exporter f × simple (simple_before a e) (simple_before b f))
     → ((a b : BatchProcessor E) (e : E) → recalled bs a.machine.exporter e → batch a b
     → (f : E) × recalled bs b.machine.exporter f × batch (batch_before a e) (batch_before b f))
-    → (old behind new : ProcessorOf E C) → processor_recalled recalled bs old behind
+    → (old after new : ProcessorOf E C) → processor_recalled recalled bs old after
     → ProcessorGives simple batch custom old new
-    → (s : ProcessorOf E C) × processor_recalled recalled bs new s × ProcessorGives simple batch custom behind s
+    → (s : ProcessorOf E C) × processor_recalled recalled bs new s × ProcessorGives simple batch custom after s
 processor_recalls recalled bs simple batch custom one other (kinds.Simple a) (kinds.Simple r) (kinds.Simple b) h given =
     let g = one a b r.exporter h.1 given in
     (kinds.Simple (simple_before b g.0), (refl, g.1), subst (λ x. simple x (simple_before b g.0)) (sym h.0) g.2)
@@ -61,17 +61,17 @@ processor_recalls recalled bs simple batch custom one other (kinds.Custom a) (ki
 processor_recalls recalled bs simple batch custom one other (kinds.Custom a) (kinds.Custom r) (kinds.Custom b) h given =
     (kinds.Custom b, (h.0, refl), subst (λ x. custom x b) (sym h.1) given)
 
--- what waits, behind a telling that stands behind others
-pub then_behind : {X : Type 0} (xs : List X) (told : Option (List X)) (more : List X)
-    → and_then_told (told_behind xs told) more ≡ told_behind xs (and_then_told told more)
-then_behind xs None more = refl
-then_behind xs (Some l) more = ap (λ x. Some x) (append_assoc xs l more)
+-- what waits, after a telling that stands after others
+pub then_after : {X : Type 0} (xs : List X) (told : Option (List X)) (more : List X)
+    → and_then_told (told_after xs told) more ≡ told_after xs (and_then_told told more)
+then_after xs None more = refl
+then_after xs (Some l) more = ap (λ x. Some x) (append_assoc xs l more)
 
 -- a processor of the caller's own where no batch is recalled
 pub custom_heard : (bs : List (List PlainSpanData)) (told : ProcessorTelling) → bs ≡ []
-    → told ≡ heard_behind (spans_in bs) told
-custom_heard bs told none = ap (λ x. record told { heard = x }) (told_behind_none told.heard)
-    ∙ ap (λ (l : List (List PlainSpanData)). heard_behind (spans_in l) told) (sym none)
+    → told ≡ heard_after (spans_in bs) told
+custom_heard bs told none = ap (λ x. record told { heard = x }) (told_after_none told.heard)
+    ∙ ap (λ (l : List (List PlainSpanData)). heard_after (spans_in l) told) (sym none)
 
 -- a processor of any kind where batches are recalled leaves and dropped as many spans
 pub processor_leaves : {E C : Type 0} (recalled : List (List PlainSpanData) → E → E → Type 0)

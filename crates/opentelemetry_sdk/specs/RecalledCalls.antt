@@ -15,9 +15,9 @@ module _ {E : Type 0} (calls : Ghosts E) {keeps : E → List (List PlainSpanData
   -- a call that leaves the processor as it was
   pub batch_same : (p q : BatchProcessor E) (e : E) → recalled bs p.machine.exporter e → q ≡ p
       → BatchOver calls recalls bs (λ a b. b ≡ a) p e q
-  batch_same p q e behind h = (
+  batch_same p q e after h = (
     e,
-    subst (λ (r : BatchProcessor E). recalled bs r.machine.exporter e) (sym h) behind,
+    subst (λ (r : BatchProcessor E). recalled bs r.machine.exporter e) (sym h) after,
     ap (λ (r : BatchProcessor E). batch_before r e) h,
   )
 
@@ -25,8 +25,8 @@ module _ {E : Type 0} (calls : Ghosts E) {keeps : E → List (List PlainSpanData
   pub asks_over : (asked : Request) (answer : Result (Unit {0}) OTelSdkError) (p q : BatchProcessor E) (e : E)
       → recalled bs p.machine.exporter e → BatchRequests calls asked p answer q
       → BatchOver calls recalls bs (λ a b. BatchRequests calls asked a answer b) p e q
-  asks_over asked answer p q e behind h =
-      let g = requests_over calls recalls bs asked p.machine answer q.machine e behind h.requests in (
+  asks_over asked answer p q e after h =
+      let g = requests_over calls recalls bs asked p.machine answer q.machine e after h.requests in (
         g.0,
         g.1,
         record {

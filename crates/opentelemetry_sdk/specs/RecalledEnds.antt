@@ -24,27 +24,27 @@ module _ {E : Type 0} (calls : Ghosts E) {keeps : E → List (List PlainSpanData
   -- nothing was done
   same : {A : Type 0} (s t : Machine E) (e : E) → recalled bs s.exporter e → A × (t ≡ s)
       → Over calls recalls bs (λ a b. A × (b ≡ a)) s e t
-  same s t e behind h = (
+  same s t e after h = (
     e,
-    subst (λ m. recalled bs m.exporter e) (sym h.1) behind,
+    subst (λ m. recalled bs m.exporter e) (sym h.1) after,
     (h.0, ap (λ m. in_front_of m e) h.1),
   )
 
   full_works_over : (s : Machine E) (answer : Result (Unit {0}) OTelSdkError) (t : Machine E) (e : E)
       → recalled bs s.exporter e → WorksIfFull calls s answer t
       → Over calls recalls bs (λ a b. WorksIfFull calls a answer b) s e t
-  full_works_over s answer t e behind = by_full (has_full_batch s)
+  full_works_over s answer t e after = by_full (has_full_batch s)
     where
       by_full : (full : Bool) → MatchBool full (WorkerWorks calls s answer t) ((answer ≡ Ok tt) × (t ≡ s))
           → Over calls recalls bs (λ a b. MatchBool full (WorkerWorks calls a answer b) ((answer ≡ Ok tt) × (b ≡ a)))
           s e t
-      by_full true h = works_over calls recalls bs s answer t e behind h
-      by_full false h = same s t e behind h
+      by_full true h = works_over calls recalls bs s answer t e after h
+      by_full false h = same s t e after h
 
   full_drains_over : (s : Machine E) (refused : Bool) (answer : Result (Unit {0}) OTelSdkError) (t : Machine E) (e : E)
       → recalled bs s.exporter e → DrainsIfFull calls s refused answer t
       → Over calls recalls bs (λ a b. DrainsIfFull calls a refused answer b) s e t
-  full_drains_over s refused answer t e behind = by_full (has_full_batch s)
+  full_drains_over s refused answer t e after = by_full (has_full_batch s)
     where
       by_full : (full : Bool) → MatchBool full (Drains calls s refused answer t)
           ((refused ≡ false) × (answer ≡ Ok tt) × (t ≡ s))
@@ -52,7 +52,7 @@ module _ {E : Type 0} (calls : Ghosts E) {keeps : E → List (List PlainSpanData
           ((refused ≡ false) × (answer ≡ Ok tt) × (b ≡ a))) s e t
       by_full true h =
           let works = h.drain.works in
-          let ticks = run_over calls recalls bs s (step.Tick ∷ []) (outcome.Ticked ∷ []) h.drain.ticked e behind
+          let ticks = run_over calls recalls bs s (step.Tick ∷ []) (outcome.Ticked ∷ []) h.drain.ticked e after
           h.drain.ticks in
           let goes = goes_over calls recalls bs next_of_worker h.drain.ticked works.works.steps works.outcomes t ticks.0
           ticks.1 works.works.goes in (
@@ -73,15 +73,15 @@ module _ {E : Type 0} (calls : Ghosts E) {keeps : E → List (List PlainSpanData
           )
       by_full false h = (
         e,
-        subst (λ m. recalled bs m.exporter e) (sym h.2) behind,
+        subst (λ m. recalled bs m.exporter e) (sym h.2) after,
         (h.0, h.1, ap (λ m. in_front_of m e) h.2),
       )
 
   exports_over : (s : Machine E) (refused : Bool) (failed : ℕ) (t : Machine E) (e : E)
       → recalled bs s.exporter e → ExportsFullBatch calls s refused failed t
       → Over calls recalls bs (λ a b. ExportsFullBatch calls a refused failed b) s e t
-  exports_over s refused failed t e behind h =
-      let works = full_works_over s h.worked h.idle e behind h.works in
+  exports_over s refused failed t e after h =
+      let works = full_works_over s h.worked h.idle e after h.works in
       let drains = full_drains_over h.idle refused h.drained t works.0 works.1 h.drains in (
         drains.0,
         drains.1,
@@ -98,14 +98,14 @@ module _ {E : Type 0} (calls : Ghosts E) {keeps : E → List (List PlainSpanData
   -- an offer asks the exporter for nothing
   offered_over : (s : Machine E) (span : PlainSpanData) (t : Machine E) (e : E) → recalled bs s.exporter e
       → OffersSpan calls s span t → Over calls recalls bs (λ a b. OffersSpan calls a span b) s e t
-  offered_over s span t e behind h =
-      (e, subst (λ x. recalled bs x e) (sym h.exporter) behind, offers_before calls s span t e h)
+  offered_over s span t e after h =
+      (e, subst (λ x. recalled bs x e) (sym h.exporter) after, offers_before calls s span t e h)
 
   eagerly_over : (s : Machine E) (span : PlainSpanData) (refused : Bool) (failed : ℕ) (t : Machine E) (e : E)
       → recalled bs s.exporter e → OffersEagerly calls s span refused failed t
       → Over calls recalls bs (λ a b. OffersEagerly calls a span refused failed b) s e t
-  eagerly_over s span refused failed t e behind h =
-      let room = exports_over s h.refused_before h.failed_before h.roomy e behind h.makes_room in
+  eagerly_over s span refused failed t e after h =
+      let room = exports_over s h.refused_before h.failed_before h.roomy e after h.makes_room in
       let offers = offered_over h.roomy span h.queued room.0 room.1 h.offers in
       let exports = by_full (has_full_batch h.roomy) offers.0 offers.1 h.exports in (
         exports.0,
@@ -142,7 +142,7 @@ module _ {E : Type 0} (calls : Ghosts E) {keeps : E → List (List PlainSpanData
   pub ends_over : (span : PlainSpanData) (answer : Result (Unit {0}) AllocError) (p q : BatchProcessor E) (e : E)
       → recalled bs p.machine.exporter e → BatchEnds calls p span answer q
       → BatchOver calls recalls bs (λ a b. BatchEnds calls a span answer b) p e q
-  ends_over span answer p q e behind h =
+  ends_over span answer p q e after h =
       let g = by_kind (ends_eagerly p span) h.ends in (
         g.0,
         g.1,
@@ -162,7 +162,7 @@ module _ {E : Type 0} (calls : Ghosts E) {keeps : E → List (List PlainSpanData
           → BatchOver calls recalls bs (λ a b. MatchBool eagerly (EndsEagerly calls a span h.refused b)
           (EndsByQueue calls a span h.refused b)) p e q
       by_kind true ends =
-          let g = eagerly_over p.machine span h.refused ends.failed q.machine e behind ends.offers in (
+          let g = eagerly_over p.machine span h.refused ends.failed q.machine e after ends.offers in (
             g.0,
             g.1,
             record {
@@ -172,7 +172,7 @@ module _ {E : Type 0} (calls : Ghosts E) {keeps : E → List (List PlainSpanData
             },
           )
       by_kind false ends =
-          let g = offered_over p.machine span q.machine e behind ends.offers in (
+          let g = offered_over p.machine span q.machine e after ends.offers in (
             g.0,
             g.1,
             record {

@@ -7,30 +7,30 @@ use Rattle.otel_export.specs.Telling.{and_then_told}
 use Rattle.otel_export.specs.declared.trace.export.SpanExporter.{Ghosts}
 use Rattle.otel_pipeline.specs.ProcessorTelling.{ProcessorTelling, spans_told}
 use Rattle.otel_pipeline.specs.SimpleProcessor.{SimpleProcessor, simple_telling}
-use Rattle.otel_kept.specs.RecalledBatches.{heard_behind}
+use Rattle.otel_kept.specs.RecalledBatches.{heard_after}
 use Rattle.otel_kept.specs.RecalledBySimple.{exporter_heard, simple_before, simple_heard}
 use Rattle.opentelemetry_sdk.specs.BatchProcessor.{BatchProcessor, batch_telling}
 use Rattle.opentelemetry_sdk.specs.KeptByKinds.{processor_keeps, processor_loses}
 use Rattle.opentelemetry_sdk.specs.ProcessorKinds.{telling_by_kind}
 use Rattle.opentelemetry_sdk.specs.RecalledByBatch.{batch_before}
-use Rattle.opentelemetry_sdk.specs.RecalledByKinds.{custom_heard, processor_recalled, then_behind}
+use Rattle.opentelemetry_sdk.specs.RecalledByKinds.{custom_heard, processor_recalled, then_after}
 use Rattle.opentelemetry_sdk.specs.declared.trace.processor.ProcessorOf.{ProcessorOf}
 use Rattle.opentelemetry_sdk.specs.declared.trace.processor.ProcessorOf.TheVariants as kinds
 
 module _ {E : Type 0} (calls : Ghosts E) {keeps : E → List (List PlainSpanData)} {loses : E → ℕ}
     {recalled : List (List PlainSpanData) → E → E → Type 0} (recalls : ExporterRecalls calls keeps loses recalled) where
   batch_heard : (bs : List (List PlainSpanData)) (p : BatchProcessor E) (e : E) → recalled bs p.machine.exporter e
-      → batch_telling calls (batch_before p e) ≡ heard_behind (spans_in bs) (batch_telling calls p)
+      → batch_telling calls (batch_before p e) ≡ heard_after (spans_in bs) (batch_telling calls p)
   batch_heard bs p e h =
       ap (λ x. record (batch_telling calls p) { heard = x })
       (ap (λ x. and_then_told x p.machine.waiting) (exporter_heard calls recalls bs p.machine.exporter e h)
-      ∙ then_behind (spans_in bs) (spans_told (calls.told p.machine.exporter)) p.machine.waiting)
+      ∙ then_after (spans_in bs) (spans_told (calls.told p.machine.exporter)) p.machine.waiting)
 
 module _ {E C : Type 0} (calls : Ghosts E) {keeps : E → List (List PlainSpanData)} {loses : E → ℕ}
     {recalled : List (List PlainSpanData) → E → E → Type 0} (recalls : ExporterRecalls calls keeps loses recalled) where
   pub processor_heard : (told : C → ProcessorTelling) (bs : List (List PlainSpanData)) (p r : ProcessorOf E C)
       → processor_recalled recalled bs p r
-      → telling_by_kind calls told r ≡ heard_behind (spans_in bs) (telling_by_kind calls told p)
+      → telling_by_kind calls told r ≡ heard_after (spans_in bs) (telling_by_kind calls told p)
   processor_heard told bs (kinds.Simple a) (kinds.Simple b) h =
       ap (λ (x : SimpleProcessor E). simple_telling calls x) h.0 ∙ simple_heard calls recalls bs a b.exporter h.1
   processor_heard told bs (kinds.Simple a) (kinds.Batch b) h = absurd h

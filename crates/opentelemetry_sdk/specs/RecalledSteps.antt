@@ -3,7 +3,7 @@ use Rattle.std.specs.Prelude.{List, [], ◌∷◌, ℕ, refl}
 use Rattle.std.proofs.Common.{sym, subst}
 use Rattle.otel_export.specs.PlainSpanData.{PlainSpanData}
 use Rattle.otel_export.specs.RecalledBatches.{ExporterRecalls}
-use Rattle.otel_export.specs.RecalledKinds.{exporter_tells_behind, exporter_tells_same}
+use Rattle.otel_export.specs.RecalledKinds.{exporter_tells_after, exporter_tells_same}
 use Rattle.otel_export.specs.declared.trace.export.SpanExporter.{Ghosts}
 use Rattle.otel_batch.specs.MachineState.{Machine}
 use Rattle.otel_batch.specs.MachineRun.{IsStep}
@@ -25,24 +25,24 @@ module _ {E : Type 0} (calls : Ghosts E) {keeps : E → List (List PlainSpanData
   Over gives s e t = (f : E) × recalled bs t.exporter f × gives (in_front_of s e) (in_front_of t f)
 
   keeps_over : (s t : Machine E) (e : E) → recalled bs s.exporter e → Keeps s t → Over Keeps s e t
-  keeps_over s t e behind m = (
+  keeps_over s t e after m = (
     e,
-    subst (λ x. recalled bs x e) (sym m.exporter) behind,
+    subst (λ x. recalled bs x e) (sym m.exporter) after,
     record { exporter = refl; hand = m.hand; waiting = m.waiting },
   )
 
   -- one step
   moved_over : (s : Machine E) (x : Step) (o : Outcome) (t : Machine E) (e : E) → recalled bs s.exporter e
       → MovesSpans calls s x o t → Over (λ a b. MovesSpans calls a x o b) s e t
-  moved_over s (step.Send p) outcome.Accepted t e behind m = (
+  moved_over s (step.Send p) outcome.Accepted t e after m = (
     e,
-    subst (λ x. recalled bs x e) (sym m.exporter) behind,
+    subst (λ x. recalled bs x e) (sym m.exporter) after,
     record { exporter = refl; hand = m.hand; waiting = m.waiting },
   )
-  moved_over s step.Pull outcome.Pulled t e behind m =
-      (e, subst (λ x. recalled bs x e) (sym m.exporter) behind, record { exporter = refl; both = m.both })
-  moved_over s step.HandOver (outcome.HandedOver k failure) t e behind m =
-      let h = recalls.exports bs s.hand m.answer s.exporter e t.exporter behind m.gives in (
+  moved_over s step.Pull outcome.Pulled t e after m =
+      (e, subst (λ x. recalled bs x e) (sym m.exporter) after, record { exporter = refl; both = m.both })
+  moved_over s step.HandOver (outcome.HandedOver k failure) t e after m =
+      let h = recalls.exports bs s.hand m.answer s.exporter e t.exporter after m.gives in (
         h.0,
         h.1,
         record {
@@ -50,40 +50,40 @@ module _ {E : Type 0} (calls : Ghosts E) {keeps : E → List (List PlainSpanData
           gives = h.2;
           says = m.says;
           kept = m.kept;
-          told = exporter_tells_behind recalls bs s.exporter e t.exporter h.0 behind h.1 (s.hand ∷ []) m.told;
+          told = exporter_tells_after recalls bs s.exporter e t.exporter h.0 after h.1 (s.hand ∷ []) m.told;
           hand = m.hand;
           waiting = m.waiting;
         },
       )
-  moved_over s step.Take outcome.TookResource t e behind m =
-      let h = recalls.passes bs _ s.exporter e t.exporter behind m.gives in (
+  moved_over s step.Take outcome.TookResource t e after m =
+      let h = recalls.passes bs _ s.exporter e t.exporter after m.gives in (
         h.0,
         h.1,
         record {
           gives = h.2;
-          told = exporter_tells_same recalls bs s.exporter e t.exporter h.0 behind h.1 m.told;
+          told = exporter_tells_same recalls bs s.exporter e t.exporter h.0 after h.1 m.told;
           hand = m.hand;
           waiting = m.waiting;
         },
       )
-  moved_over s step.Close (outcome.ShutDown n) t e behind m =
-      let h = recalls.shuts bs 5_000_000_000 m.answer s.exporter e t.exporter behind m.gives in (
+  moved_over s step.Close (outcome.ShutDown n) t e after m =
+      let h = recalls.shuts bs 5_000_000_000 m.answer s.exporter e t.exporter after m.gives in (
         h.0,
         h.1,
         record {
           answer = m.answer;
           gives = h.2;
-          told = exporter_tells_same recalls bs s.exporter e t.exporter h.0 behind h.1 m.told;
+          told = exporter_tells_same recalls bs s.exporter e t.exporter h.0 after h.1 m.told;
           hand = m.hand;
           waiting = m.waiting;
         },
       )
-  moved_over s _ _ t e behind m = keeps_over s t e behind m
+  moved_over s _ _ t e after m = keeps_over s t e after m
 
   pub stepped_over : (s : Machine E) (x : Step) (o : Outcome) (t : Machine E) (e : E) → recalled bs s.exporter e
       → IsStep calls s x o t → Over (λ a b. IsStep calls a x o b) s e t
-  stepped_over s x o t e behind m =
-      let h = moved_over s x o t e behind m.moved in (
+  stepped_over s x o t e after m =
+      let h = moved_over s x o t e after m.moved in (
         h.0,
         h.1,
         record {

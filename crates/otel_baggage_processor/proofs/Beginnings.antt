@@ -78,13 +78,13 @@ no_items : {X : Type 0} (xs ys : List X) → [] ≡ xs ++ ys → (xs ≡ []) × 
 no_items [] ys h = (refl, sym h)
 no_items (x ∷ xs) ys h = absurd (cc)
 
-module _ {K : Type 0} (takes : K → List ℕ → Bool) (old new : BaggageProcessor K) (before behind : PlainSpan)
-    (cx : PlainContext) (h : SetsBaggage takes old before cx behind new) where
+module _ {K : Type 0} (takes : K → List ℕ → Bool) (old new : BaggageProcessor K) (before later : PlainSpan)
+    (cx : PlainContext) (h : SetsBaggage takes old before cx later new) where
   left_out : new.left_out ≡ counted_up old.left_out h.count
   left_out = ap (λ (p : BaggageProcessor K). p.left_out) h.counted
 
   pub all_set : old.left_out < 2 ^ 64 - 1 → new.left_out ≡ old.left_out
-      → behind ≡ after (baggage_edits (takes old.keys) cx.baggage) before
+      → later ≡ after (baggage_edits (takes old.keys) cx.baggage) before
   all_set few same =
       let zero : 0 ≡ h.count = omega (arith, left_out) in
       let none : h.edits.left_out ≡ [] = none_out h.edits.left_out (zero ∙ h.edits.counted) in
@@ -93,7 +93,7 @@ module _ {K : Type 0} (takes : K → List ℕ → Bool) (old new : BaggageProces
       h.edits.span ∙ ap (λ (l : List Edit). after l before) (sym all)
 
   pub none_set : old.left_out < 2 ^ 64 → baggage_edits (takes old.keys) cx.baggage ≡ []
-      → (behind ≡ before) × (new ≡ old)
+      → (later ≡ before) × (new ≡ old)
   none_set few none =
       let nothing = no_items h.edits.made h.edits.left_out (sym none ∙ h.edits.all) in
       let count : h.count ≡ 0 = h.edits.counted ∙ ap (λ (l : List Edit). counted_up 0 (length l)) nothing.1 in

@@ -17,7 +17,7 @@ use std::marker::Model;
 use std::time::Duration;
 
 /// Sets the entries whose keys its filter takes, as texts and in the baggage's order. Where an entry finds no memory,
-/// it and those behind it are left out and counted.
+/// it and those after it are left out and counted.
 #[derive(Drop)]
 pub struct BaggageSpanProcessor<K> {
     keys: K,
@@ -44,7 +44,7 @@ impl<K> BaggageSpanProcessor<K> {
         }
     }
 
-    /// How many entries were left out for want of memory. It stops at the greatest `u64`.
+    /// How many entries were left out when memory runs out. It stops at the greatest `u64`.
     pub fn left_out(&self) -> u64
         ensures { result ≡ self.now.left_out }
     {

@@ -10,16 +10,16 @@ use crate::key_filter::KeyFilter;
 
 /// A start that counts nothing has set every entry that is taken.
 pub fn uncounted_starts_set_all<K: KeyFilter>()
-    ensures { (old new : BaggageProcessor K) (before behind : PlainSpan) (cx : PlainContext)
-        → SetsBaggage K.takes old before cx behind new
+    ensures { (old new : BaggageProcessor K) (before later : PlainSpan) (cx : PlainContext)
+        → SetsBaggage K.takes old before cx later new
         → old.left_out < 2 ^ 64 - 1 → new.left_out ≡ old.left_out
-        → behind ≡ after (baggage_edits (K.takes old.keys) cx.baggage) before }
+        → later ≡ after (baggage_edits (K.takes old.keys) cx.baggage) before }
 {}
 
 /// A start in a context of which nothing is taken changes nothing.
 pub fn starts_without_entries_change_nothing<K: KeyFilter>()
-    ensures { (old new : BaggageProcessor K) (before behind : PlainSpan) (cx : PlainContext)
-        → SetsBaggage K.takes old before cx behind new
+    ensures { (old new : BaggageProcessor K) (before later : PlainSpan) (cx : PlainContext)
+        → SetsBaggage K.takes old before cx later new
         → old.left_out < 2 ^ 64 → baggage_edits (K.takes old.keys) cx.baggage ≡ []
-        → (behind ≡ before) × (new ≡ old) }
+        → (later ≡ before) × (new ≡ old) }
 {}

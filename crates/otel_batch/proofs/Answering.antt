@@ -13,7 +13,7 @@ use Rattle.otel_batch.specs.DrainEnds.{FinishRow, FinishRowFor, end_of_drain}
 use Rattle.otel_batch.specs.PermittedStep.{IsPermitted}
 use Rattle.otel_batch.specs.MachineRun.{Run}
 use Rattle.otel_batch.specs.Drains.{NoneFinishes}
-use Rattle.otel_batch.specs.DrainAnswers.{error_after, error_behind, first_error, finds_no_memory, GivesAnswer, AnswersDrains}
+use Rattle.otel_batch.specs.DrainAnswers.{error_after, error_later, first_error, finds_no_memory, GivesAnswer, AnswersDrains}
 use Rattle.otel_batch.specs.declared.machine.state.Slot.TheVariants as slot
 use Rattle.otel_batch.specs.declared.machine.state.Why.{Why}
 use Rattle.otel_batch.specs.declared.machine.state.Why.TheVariants as why
@@ -29,21 +29,21 @@ use Rattle.otel_batch.proofs.TableFacts.{is_producers, LeavesWorker, permitted-a
 use Rattle.otel_batch.proofs.Draining.{is_busy, take_busy, tick_busy, clear_busy, load_busy, close_busy, at_load}
 use Rattle.otel_batch.proofs.Bounding.{none-first}
 
--- whether a drain found no memory, behind one more outcome
+-- whether a drain found no memory, after one more outcome
 abbrev refused_after : Bool → Outcome → Bool
 refused_after before outcome.NoMemory = true
 refused_after before _ = before
 
-abbrev refused_behind : Bool → List Outcome → Bool
-refused_behind before [] = before
-refused_behind before (o ∷ os) = refused_behind (refused_after before o) os
+abbrev refused_later : Bool → List Outcome → Bool
+refused_later before [] = before
+refused_later before (o ∷ os) = refused_later (refused_after before o) os
 
-stays_refused : (os : List Outcome) → refused_behind true os ≡ true
+stays_refused : (os : List Outcome) → refused_later true os ≡ true
 stays_refused [] = refl
 stays_refused (outcome.NoMemory ∷ os) = stays_refused os
 stays_refused (_ ∷ os) = stays_refused os
 
-refused-finds : (os : List Outcome) → refused_behind false os ≡ finds_no_memory os
+refused-finds : (os : List Outcome) → refused_later false os ≡ finds_no_memory os
 refused-finds [] = refl
 refused-finds (outcome.NoMemory ∷ os) = stays_refused os
 refused-finds (_ ∷ os) = refused-finds os
@@ -212,7 +212,7 @@ step_holds reason error refused s step.HandOver o t row on h = hand_over_holds r
 step_holds reason error refused s step.Subtract o t row on h = subtract_holds reason error refused s o t row h
 step_holds reason error refused s step.Finish o t row on h = finish_holds reason error refused s o t row on h
 
--- the answer of a drain right behind its load
+-- the answer of a drain right after its load
 load_holds : (s : Counts) (x : Step) (target : ℕ) (t : Counts) → IsPermitted s x (outcome.Loaded target) t →
     HoldsAnswer t.control.why None false t
 load_holds s step.Load target t row =
@@ -286,9 +286,9 @@ module _ {E : Type 0} (calls : Ghosts E) where
     finish : Machine E
     drain : Run calls s (take m xs) (take m os) before
     ends : Run calls before (take 1 (drop m xs)) (take 1 (drop m os)) finish
-    behind : Run calls finish (drop (suc m) xs) (drop (suc m) os) t
-    result : IsErrorOf before.control.result (error_behind error (take m os))
-    given : GivesAnswer reason (refused_behind refused (take m os)) before.control.result e (counts finish)
+    after : Run calls finish (drop (suc m) xs) (drop (suc m) os) t
+    result : IsErrorOf before.control.result (error_later error (take m os))
+    given : GivesAnswer reason (refused_later refused (take m os)) before.control.result e (counts finish)
 
   ends_drain : (m : ℕ) (reason : Why) (error : Option OTelSdkError) (refused : Bool) (e : Option OTelSdkError)
       (s : Machine E) (xs : List Step) (os : List Outcome) (t : Machine E) → IsSound (counts s) →
@@ -304,7 +304,7 @@ module _ {E : Type 0} (calls : Ghosts E) where
         finish = run.0;
         drain = refl;
         ends = (run.0, run.1, refl);
-        behind = run.2;
+        after = run.2;
         result = h.result_is;
         given = finish_gives reason error refused (counts s) x e (counts run.0) sound row h;
       }
@@ -318,7 +318,7 @@ module _ {E : Type 0} (calls : Ghosts E) where
         finish = rest.finish;
         drain = (run.0, run.1, rest.drain);
         ends = rest.ends;
-        behind = rest.behind;
+        after = rest.after;
         result = rest.result;
         given = rest.given;
       }
@@ -332,7 +332,7 @@ module _ {E : Type 0} (calls : Ghosts E) where
       let at = at_load calls n s xs os t target sound run loads in
       let held = load_holds at.loaded.0 at.loaded.1 target (counts at.load) at.loaded.2 in
       let last = ends_drain m at.load.control.why None false e at.load (drop (suc n) xs) (drop (suc n) os) t at.sound
-      held at.behind on finishes in
+      held at.after on finishes in
       record {
         load = at.load;
         before = last.before;
@@ -340,7 +340,7 @@ module _ {E : Type 0} (calls : Ghosts E) where
         up_to = at.up_to;
         drain = last.drain;
         ends = last.ends;
-        behind = last.behind;
+        after = last.after;
         held = last.result;
         given = rw (refused-finds (take m (drop (suc n) os))) at last.given;
       }

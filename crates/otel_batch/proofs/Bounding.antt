@@ -109,7 +109,7 @@ fuel_some (worker.Loading y) left hand extra fuel h = absurd h
 fuel_some (worker.Closing p) left hand extra fuel h = absurd h
 fuel_some worker.Gone left hand extra fuel h = absurd h
 
--- what is left of the fuel behind a step
+-- what is left of the fuel after a step
 record Burns (x : Step) (o : Outcome) (extra fuel given : ℕ) (t : Counts) : Type 0 where
   left : ℕ
   burnt : left + worker_steps (x ∷ []) (o ∷ []) ≤ fuel
@@ -516,7 +516,7 @@ extra_is c d queue batch h w = elim (eqb_tells c.batch_size 0) [
       record { none = λ e. absurd (omega (arith, e, batch, some.1)); some = λ e. is }
 ]
 
--- the fuel behind a load
+-- the fuel after a load
 load_bound : (extra target : ℕ) (s : Counts) →
     (s.control.worker ≡ worker.Pulling) ⊎ (s.control.worker ≡ worker.Finishing) → s.control.target ≡ target →
     s.control.done ≡ 0 → s.hand ≡ 0 → InBound extra (4 * target + 1 + extra) 0 s
@@ -597,7 +597,7 @@ module _ {E : Type 0} (calls : Ghosts E) where
       Run calls s xs os t → BoundsDrains s.control xs os
   run-bounds s xs os t sound run n m target e on =
       let at = at_load calls n s xs os t target sound run e in
-      let parts = run-splits calls at.load (drop (suc n) xs) (drop (suc n) os) t m at.behind in
+      let parts = run-splits calls at.load (drop (suc n) xs) (drop (suc n) os) t m at.after in
       let extra : ℕ = more_steps s.control in
       let batch = at.batch_same in
       let queue = at.queue_same in

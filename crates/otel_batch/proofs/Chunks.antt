@@ -74,7 +74,7 @@ module _ {X : Type 0} where
         ∙ sym (set-append_right bs fs (length bs) j c refl (omega arith) ∙ ap (λ k. bs ++ set fs k c) back)
   ]
 
-  -- the chunk that lies j steps behind the head
+  -- the chunk that lies j steps after the head
   pub slice_get-circle : (h j p : ℕ) (cs : List (Buffer X)) → h < length cs → j < length cs → Wraps h j (length cs) p → slice_get (circle h cs) j ≡ slice_get cs p
   slice_get-circle h j p cs hl jl w =
       let k = cut h cs hl in
@@ -92,7 +92,7 @@ module _ {X : Type 0} where
   chunk_at h j n p cs c hl jl e w is =
       slice_get-circle h j p cs hl jl (subst (λ m. Wraps h j m p) e w) ∙ slice_get_read cs n p c e w.0 is
 
-  -- a write to the chunk that lies j steps behind the head
+  -- a write to the chunk that lies j steps after the head
   pub circle-set : (h j p : ℕ) (cs : List (Buffer X)) (c : Buffer X) → h < length cs → j < length cs → Wraps h j (length cs) p → circle h (set cs p c) ≡ set (circle h cs) j c
   circle-set h j p cs c hl jl w =
       let k = cut h cs hl in
@@ -206,7 +206,7 @@ module _ {X : Type 0} where
   laid_more zero (b ∷ bs) h e lt = let more = one_more bs h.1 (omega arith) in ((h.0, more.0), more.1)
   laid_more (suc k) (b ∷ bs) h e lt = let more = filled_more k bs h.1 e (omega arith) in ((h.0, more.0), more.1)
 
-  -- behind a full tail there is an empty chunk, where the items leave room for it
+  -- after a full tail there is an empty chunk, where the items leave room for it
   pub record NextTail (k : ℕ) (bs : List (Buffer X)) : Type 0 where
     pub within : k + 1 < length bs
     pub laid : IsLaid (k + 1) bs
@@ -230,7 +230,7 @@ module _ {X : Type 0} where
   put_chunk : (c : Buffer X) (x : X) → IsChunk c → length c.items < 64 → IsChunk (put_in c x)
   put_chunk c x h lt = (h.0, omega (arith, length-append c.items (x ∷ [])))
 
-  -- an item that is put behind all others
+  -- an item that is put after all others
   items_of-put_last : (b : Buffer X) (bs : List (Buffer X)) (x : X) → AllEmpty bs → items_of (put_in b x ∷ bs) ≡ items_of (b ∷ bs) ++ x ∷ []
   items_of-put_last b bs x h =
       let none = items_of-empty bs h in
@@ -283,7 +283,7 @@ module _ {X : Type 0} where
         value = sym (slice_get-append_left b.items (items_of bs) 0 some);
       })
 
-  -- an empty head makes way for the chunk behind it
+  -- an empty head makes way for the chunk after it
   pub record Advances (k : ℕ) (bs : List (Buffer X)) : Type 0 where
     pub steps : 0 < k
     pub laid : IsLaid (k - 1) (drop 1 bs ++ take 1 bs)
@@ -340,7 +340,7 @@ module _ {X : Type 0} where
   filled_len zero (b ∷ bs) h = h.0.1
   filled_len (suc k) (b ∷ bs) h = filled_len k bs h.2
 
-  -- the items of the head, and behind it those of a chunk of 64 each
+  -- the items of the head, and after it those of a chunk of 64 each
   pub head_item : (k i : ℕ) (bs : List (Buffer X)) (c : Buffer X) → IsLaid k bs → slice_get bs 0 ≡ Some c → i < length c.items → slice_get c.items i ≡ slice_get (items_of bs) i
   head_item k i [] c h e lt = absurd h
   head_item k i (b ∷ bs) c h e lt =
@@ -476,7 +476,7 @@ module _ {X : Type 0} where
       let got = slice_get_read cs (length cs) tail c refl to.at.0 is in
       queue_put cs head tail len limit tail c x to lt (tail_has_room cs head tail len limit c to got room) is
 
-  -- a put into the chunk d behind the tail chunk c, which is full and was written back as it was
+  -- a put into the chunk d after the tail chunk c, which is full and was written back as it was
   pub record IsPutNext (cs : List (Buffer X)) (head tail len limit p : ℕ) (c d : Buffer X) (x : X) : Type 0 where
     pub written : (e : Buffer X) → e ≡ put_in d x → set (set cs tail c) p e ≡ set cs p (put_in d x)
     pub put : IsPut cs head len limit p d x
@@ -485,14 +485,14 @@ module _ {X : Type 0} where
       → b ≡ get_or cs tail b → (length b.items < b.capacity → false ≡ true) → c ≡ b
       → n ≡ length cs → Wraps tail 1 n p → d ≡ get_or (set cs tail c) p d
       → IsPutNext cs head tail len limit p c d x
-  next_put cs head tail len limit p n b c d x to lt is full back e next behind =
+  next_put cs head tail len limit p n b c d x to lt is full back e next after =
       let same : set cs tail c ≡ cs = ap (set cs tail) (back ∙ is) ∙ set-get_or cs tail b in
       let got = slice_get_read cs (length cs) tail b refl to.at.0 is in
       let at = subst (λ m. Wraps tail 1 m p) e next in
       let has = next_has_room cs head tail len limit p b to lt got (λ room. false≢true (full room)) at in
       record {
         written = λ e w. ap (set (set cs tail c) p) w ∙ ap (λ l. set l p (put_in d x)) same;
-        put = queue_put cs head tail len limit p d x to lt has (behind ∙ ap (λ l. get_or l p d) same);
+        put = queue_put cs head tail len limit p d x to lt has (after ∙ ap (λ l. get_or l p d) same);
       }
 
   -- a queue of the items xs, whose head has one
@@ -507,7 +507,7 @@ module _ {X : Type 0} where
   first_at : (cs : List (Buffer X)) (head : ℕ) (c : Buffer X) → head < length cs → slice_get cs head ≡ Some c → len_at 0 (circle head cs) ≡ length c.items
   first_at cs head c lt is = ap len_of (slice_get-circle head 0 head cs lt (omega arith) (lt, inl (omega arith)) ∙ is)
 
-  -- the head is empty, and p is the place behind it
+  -- the head is empty, and p is the place after it
   ready_next : (cs : List (Buffer X)) (head tail len limit p : ℕ) (c : Buffer X) → IsQueueTo cs head tail len limit → 0 < len
       → slice_get cs head ≡ Some c → length c.items ≡ 0 → Wraps head 1 (length cs) p → IsReady cs p tail len limit (items_of (circle head cs))
   ready_next cs head tail len limit p c to lt is none w =
@@ -592,7 +592,7 @@ module _ {X : Type 0} where
       let same : c ≡ d = same_Some c d (sym got ∙ more) in
       head_item k i (circle head cs) d queue.laid more (subst (λ (b : Buffer X). i < length b.items) same lt)
 
-  -- and behind the head, in d, where the head has m items
+  -- and after the head, in d, where the head has m items
   pub read_rest : (cs : List (Buffer X)) (head k len limit i m n p : ℕ) (c d : Buffer X) → IsQueue cs head k len limit → c ≡ get_or cs head c → m ≡ length c.items → m ≤ i → i < len
       → n ≡ length cs → Wraps head ((i - m) / 64 + 1) n p → d ≡ get_or cs p d → slice_get d.items ((i - m) % 64) ≡ slice_get (items_of (circle head cs)) i
   read_rest cs head k len limit i m n p c d queue is first le lt same w there =

@@ -19,13 +19,13 @@ use Rattle.otel_export.proofs.Tellings.{tells_append, tells_same}
 use Rattle.otel_batch.proofs.Holding.{AreHeldIn, held_at_slots, held_at_first, permitted-holds, accepts-held}
 use Rattle.otel_batch.proofs.TableFacts.{permitted-leaves, dropped_after}
 
--- the sizes of a step's batches stand before those of the steps behind it
+-- the sizes of a step's batches stand before those of the steps after it
 pub sizes-first : (o : Outcome) (os : List Outcome) → batch_sizes (o ∷ os) ≡ batch_sizes (o ∷ []) ++ batch_sizes os
 sizes-first (outcome.HandedOver k e) os = refl
 sizes-first _ os = refl
 
 module _ {E : Type 0} (calls : Ghosts E) where
-  -- one stretch behind another
+  -- one stretch after another
   pub conserves_then : (s m t : Machine E) (xs ys : List PlainSpanData) (js ks : List ℕ) →
       Conserves calls s xs js m → Conserves calls m ys ks t → Conserves calls s (xs ++ ys) (js ++ ks) t
   conserves_then s m t xs ys js ks first second =
@@ -156,7 +156,7 @@ module _ {E : Type 0} (calls : Ghosts E) where
         conserved = sym (c.conserved ∙ ap (λ l. l ++ accepted (λ p. []) xs os) none);
       }
 
--- a step's dropped count, with those of the steps behind it
+-- a step's dropped count, with those of the steps after it
 counts_full : (x : Step) (o : Outcome) (xs : List Step) (os : List Outcome) (dropped : ℕ) →
     counted_up (dropped_after x o dropped) (full_sends xs os) ≡ counted_up dropped (full_sends (x ∷ xs) (o ∷ os))
 counts_full (step.Send p) outcome.Full xs os dropped = omega arith

@@ -56,7 +56,7 @@ pub handed-rest : (o : Outcome) (os : List Outcome) → sum (batch_sizes (o ∷ 
 handed-rest (outcome.HandedOver k e) os = let first = sum-cons k (batch_sizes os) in omega (arith, first)
 handed-rest _ os = omega arith
 
--- the worker is in a drain behind its load
+-- the worker is in a drain after its load
 abbrev pub is_busy : Worker → Bool
 is_busy worker.Pulling = true
 is_busy worker.Handing = true
@@ -365,7 +365,7 @@ drain_step w given s step.Close o t row d = stays_next w given step.Close o s t
     (rests step.Close o s t (close_busy s o t d.busy row)) d
 drain_step w given s step.Finish o t row d = finish_drain w given s o t row d
 
--- neither a finish nor want of memory
+-- neither a finish nor out of memory
 abbrev is_plain : Outcome → Bool
 is_plain (outcome.Finished e) = false
 is_plain outcome.NoMemory = false
@@ -402,7 +402,7 @@ pub load-fits : (s t : Counts) (target : ℕ) → IsSound s → IsPermitted s st
 load-fits s t target sound row =
     omega (arith, load_target s target t sound row, counts_le s.control.slots, sound.fits.waiting_fits)
 
--- the machine right behind a load
+-- the machine right after a load
 pub record StartsDrain (target : ℕ) (t : Counts) : Type 0 where
   pub drain : InDrain t.waiting 0 t
   pub starts : (t.control.worker ≡ worker.Pulling) ⊎ (t.control.worker ≡ worker.Finishing)
@@ -551,11 +551,11 @@ module _ {E : Type 0} (calls : Ghosts E) where
       (omega (arith, given, enough)) in
       record { batches = c.batches; sized = c.sized; told = c.told; rest = cut.0; begins = cut.1 }
 
-  -- the machine behind the n-th step, which loaded a drain
+  -- the machine after the n-th step, which loaded a drain
   pub record AtLoad (n : ℕ) (s : Machine E) (xs : List Step) (os : List Outcome) (target : ℕ) (t : Machine E) : Type 0 where
     pub load : Machine E
     pub up_to : Run calls s (take (suc n) xs) (take (suc n) os) load
-    pub behind : Run calls load (drop (suc n) xs) (drop (suc n) os) t
+    pub after : Run calls load (drop (suc n) xs) (drop (suc n) os) t
     pub sound : IsSound (counts load)
     pub start : StartsDrain target (counts load)
     -- the step that loaded it
@@ -576,7 +576,7 @@ module _ {E : Type 0} (calls : Ghosts E) where
       record {
         load = run.0;
         up_to = (run.0, run.1, refl);
-        behind = run.2;
+        after = run.2;
         sound = run.1.sound;
         start = begun;
         loaded = (counts s, x, row);
@@ -589,7 +589,7 @@ module _ {E : Type 0} (calls : Ghosts E) where
       record {
         load = later.load;
         up_to = (run.0, run.1, later.up_to);
-        behind = later.behind;
+        after = later.after;
         sound = later.sound;
         start = later.start;
         loaded = later.loaded;
@@ -604,7 +604,7 @@ module _ {E : Type 0} (calls : Ghosts E) where
       Run calls s xs os t → CompletesDrains calls s xs os t
   run-completes s xs os t sound run n m target e whole =
       let at = at_load n s xs os t target sound run e in
-      let parts = run-splits calls at.load (drop (suc n) xs) (drop (suc n) os) t m at.behind in
+      let parts = run-splits calls at.load (drop (suc n) xs) (drop (suc n) os) t m at.after in
       let sizes = batch_sizes (take m (drop (suc n) os)) in
       let earlier_sizes = batch_sizes (take (suc n) os) in
       let spans = accepted (holds_at s.control.slots) (take (suc n) xs) (take (suc n) os) in
@@ -626,7 +626,7 @@ module _ {E : Type 0} (calls : Ghosts E) where
         finish = parts.0;
         up_to = at.up_to;
         drain = parts.1;
-        behind = parts.2;
+        after = parts.2;
         waited = hands_first at.load at.load.waiting more sizes parts.0 more
             (ap (λ l. (l ++ at.load.waiting) ++ more) none) (omega (arith, enough)) during;
         earlier = hands_first s (there ++ spans) more (earlier_sizes ++ sizes) parts.0 (spans ++ more)

@@ -10,7 +10,7 @@ use Rattle.otel_batch.specs.SoundMachine.{IsSound}
 use Rattle.otel_batch.specs.RequestSteps.{RequestRow}
 use Rattle.otel_batch.specs.PermittedStep.{IsPermitted}
 use Rattle.otel_batch.specs.MachineRun.{Run}
-use Rattle.otel_batch.specs.KnownRequests.{step_of, requests_of, IsPending, IsAnswered, StaysAnswered, StaysKnown, IsKnownBehind, KnowsRequests}
+use Rattle.otel_batch.specs.KnownRequests.{step_of, requests_of, IsPending, IsAnswered, StaysAnswered, StaysKnown, IsKnownAfter, KnowsRequests}
 use Rattle.otel_batch.specs.declared.machine.state.Request.{Request}
 use Rattle.otel_batch.specs.declared.machine.state.Request.TheVariants as request
 use Rattle.otel_batch.specs.declared.machine.state.Slot.TheVariants as slot
@@ -97,7 +97,7 @@ module _ {E : Type 0} (calls : Ghosts E) where
   -- so is one that was made in it
   made-known : (n p : ℕ) (asked : Request) (s : Machine E) (xs : List Step) (os : List Outcome) (t : Machine E) →
       Run calls s xs os t → slice_get xs n ≡ Some (step_of asked p) → slice_get os n ≡ Some outcome.Requested →
-      IsKnownBehind calls n p asked s xs os t
+      IsKnownAfter calls n p asked s xs os t
   made-known n p asked s [] [] t run at e =
       absurd (let os : List Outcome = [] in let none : slice_get os n ≡ None = refl in cc)
   made-known zero p asked s (x ∷ xs) (o ∷ os) t run at e =
@@ -110,7 +110,7 @@ module _ {E : Type 0} (calls : Ghosts E) where
         posted = run.0;
         up_to = refl;
         posts = (run.0, run.1, refl);
-        behind = stays-known p asked run.0 xs os t run.1.sound (posted-waits (counts s) asked p (counts run.0) row) run.2;
+        after = stays-known p asked run.0 xs os t run.1.sound (posted-waits (counts s) asked p (counts run.0) row) run.2;
       }
   made-known (suc n) p asked s (x ∷ xs) (o ∷ os) t run at e =
       let later = made-known n p asked run.0 xs os t run.2 at e in
@@ -119,7 +119,7 @@ module _ {E : Type 0} (calls : Ghosts E) where
         posted = later.posted;
         up_to = (run.0, run.1, later.up_to);
         posts = later.posts;
-        behind = later.behind;
+        after = later.after;
       }
   made-known n p asked s [] (o ∷ os) t run at e = absurd run
   made-known n p asked s (x ∷ xs) [] t run at e = absurd run

@@ -80,7 +80,7 @@ at_none_pulls hand is = elim (eqb_tells hand 0) [
   | inr some ↦ let at : worker.Handing ≡ worker.Pulling = rw some.0 at is in cc
 ]
 
--- a pull behind which the worker still pulls has put a span into the hand, and changed no slot
+-- a pull after which the worker still pulls has put a span into the hand, and changed no slot
 pulls_still : (s : Counts) (o : Outcome) (t : Counts) → PullRow s o t → s.control.worker ≡ worker.Pulling →
     t.control.worker ≡ worker.Pulling → (0 < t.hand) × (t.control.slots ≡ s.control.slots)
 pulls_still s outcome.Empty t row before after =
@@ -104,7 +104,7 @@ abbrev at : {E : Type 0} → Control → E → Worker → List PlainSpanData →
 at c e w hand waiting = record { control = record c { worker = w }; hand = hand; waiting = waiting; exporter = e }
 
 module _ {E : Type 0} (calls : Ghosts E) where
-  -- one pull, behind which the worker does not pull
+  -- one pull, after which the worker does not pull
   pub pulls_once : (s : Machine E) (o : Outcome) (t : Machine E) → next_of_worker s.control ≡ Some step.Pull →
       IsStep calls s step.Pull o t → (t.control.worker ≡ worker.Pulling → ⊥) → PullsBatch calls s t
   pulls_once s o t next pulled over = record {
@@ -151,13 +151,13 @@ module _ {E : Type 0} (calls : Ghosts E) (c : Control) (e : E)
   one_more_in_hand : (hand : List PlainSpanData) (x : PlainSpanData) → length (hand ++ x ∷ []) ≡ length hand + 1
   one_more_in_hand hand x = grind (arith, common_steps)
 
-  abbrev behind : ℕ → Worker
-  behind hand = if nat_lt (hand + 1) (limit_of c) then worker.Pulling else worker.Handing
+  abbrev later : ℕ → Worker
+  later hand = if nat_lt (hand + 1) (limit_of c) then worker.Pulling else worker.Handing
 
-  behind_cases : (hand : ℕ) →
-      (behind hand ≡ worker.Pulling) × (hand + 1 < limit_of c)
-      ⊎ (behind hand ≡ worker.Handing) × (limit_of c ≤ hand + 1)
-  behind_cases hand = elim (leb_tells (suc (hand + 1)) (limit_of c)) [
+  after_cases : (hand : ℕ) →
+      (later hand ≡ worker.Pulling) × (hand + 1 < limit_of c)
+      ⊎ (later hand ≡ worker.Handing) × (limit_of c ≤ hand + 1)
+  after_cases hand = elim (leb_tells (suc (hand + 1)) (limit_of c)) [
     | inl below ↦ inl (rw below.0 refl, omega (arith, below.1))
     | inr full ↦ inr (rw full.0 refl, omega (arith, full.1))
   ]
@@ -165,30 +165,30 @@ module _ {E : Type 0} (calls : Ghosts E) (c : Control) (e : E)
   pulls_one : (hand : List PlainSpanData) (x : PlainSpanData) (ws : List PlainSpanData) →
       IsSound (counts (at c e worker.Pulling hand (x ∷ ws))) →
       IsStep calls (at c e worker.Pulling hand (x ∷ ws)) step.Pull outcome.Pulled
-      (at c e (behind (length hand)) (hand ++ x ∷ []) ws)
+      (at c e (later (length hand)) (hand ++ x ∷ []) ws)
   pulls_one hand x ws sound =
       let more = one_more_in_hand hand x in
       let one : length (x ∷ ws) ≡ length ws + 1 = omega arith in
       stepped calls (at c e worker.Pulling hand (x ∷ ws)) step.Pull outcome.Pulled
-      (at c e (behind (length hand)) (hand ++ x ∷ []) ws) sound (
+      (at c e (later (length hand)) (hand ++ x ∷ []) ws) sound (
         refl,
         one,
         ap (λ k. record {
           hand = k;
           waiting = length ws;
-          control = record c { worker = behind (length hand) };
+          control = record c { worker = later (length hand) };
         }) more,
       )
       (record { exporter = refl; both = append_assoc hand (x ∷ []) ws })
-      (rw more (sound_pulled (counts (at c e worker.Pulling hand (x ∷ ws))) (behind (length hand)) (length ws) refl one
-      (behind_cases (length hand)) sound))
+      (rw more (sound_pulled (counts (at c e worker.Pulling hand (x ∷ ws))) (later (length hand)) (length ws) refl one
+      (after_cases (length hand)) sound))
 
   -- the last that the hand has room for
   fills : (hand : List PlainSpanData) (x : PlainSpanData) (ws : List PlainSpanData) → limit_of c ≤ length hand + 1 →
       IsSound (counts (at c e worker.Pulling hand (x ∷ ws))) →
       PullsBatch calls (at c e worker.Pulling hand (x ∷ ws)) (at c e worker.Handing (hand ++ x ∷ []) ws)
   fills hand x ws last sound =
-      let full : behind (length hand) ≡ worker.Handing = elim (behind_cases (length hand)) [
+      let full : later (length hand) ≡ worker.Handing = elim (after_cases (length hand)) [
         | inl below ↦ absurd (omega (arith, last, below.1))
         | inr full ↦ full.0
       ] in
@@ -201,7 +201,7 @@ module _ {E : Type 0} (calls : Ghosts E) (c : Control) (e : E)
       IsStep calls (at c e worker.Pulling hand (x ∷ ws)) step.Pull outcome.Pulled
       (at c e worker.Pulling (hand ++ x ∷ []) ws)
   pulls_further hand x ws room sound =
-      let on : behind (length hand) ≡ worker.Pulling = elim (behind_cases (length hand)) [
+      let on : later (length hand) ≡ worker.Pulling = elim (after_cases (length hand)) [
         | inl below ↦ below.0
         | inr full ↦ absurd (omega (arith, room, full.1))
       ] in
@@ -239,11 +239,11 @@ module _ {E : Type 0} (calls : Ghosts E) (c : Control) (e : E)
   pulls_so_many ws hand zero some more room sound = absurd (omega arith)
   pulls_so_many ws hand (suc n) some more room sound = pulls_all ws hand n some room sound
 
--- the machine behind so many pulls, the last of which filled the hand or found none that waits
+-- the machine after so many pulls, the last of which filled the hand or found none that waits
 abbrev pub filled : {E : Type 0} → ℕ → Machine E → Machine E
 filled k m = at m.control m.exporter worker.Handing (m.hand ++ take k m.waiting) (drop k m.waiting)
 
--- one pull, behind which the worker still pulls, and all that its hand has room for
+-- one pull, after which the worker still pulls, and all that its hand has room for
 pub pulls_full : {E : Type 0} (calls : Ghosts E) (s : Machine E) (o : Outcome) (m : Machine E) (k : ℕ) →
     next_of_worker s.control ≡ Some step.Pull → IsStep calls s step.Pull o m → m.control.worker ≡ worker.Pulling →
     k ≡ limit_of m.control - length m.hand → PullsBatch calls s (filled k m)
@@ -264,7 +264,7 @@ pulls_sound calls s t sound pulls =
     goes_sound calls next_of_worker s (step.Pull ∷ replicate pulls.more step.Pull) (pulls.pulled ∷ pulls.outcomes) t
     sound pulls.goes
 
--- the first item behind so many
+-- the first item after so many
 pub next_item : {X : Type 0} (xs : List X) (i : ℕ) (x : X) → slice_get (drop i xs) 0 ≡ Some x →
     (take (suc i) xs ≡ take i xs ++ x ∷ []) × (drop 1 (drop i xs) ≡ drop (suc i) xs)
 next_item [] zero x e = absurd (let no : None ≡ Some x = e in cc)

@@ -61,14 +61,14 @@ module _ {E : Type 0} (calls : Ghosts E) where
     sound = after;
   }
 
--- the slot behind a send that was accepted accounts for nothing, whether the producer wants an export or not
+-- the slot after a send that was accepted accounts for nothing, whether the producer wants an export or not
 open_slot : (b : Bool) → (slot_counts (if b then slot.Asking else slot.Idle) ≡ 0)
     × (slot_asks (if b then slot.Asking else slot.Idle) ≡ 0)
     × (slot_waits (Some (if b then slot.Asking else slot.Idle)) ≡ 0)
 open_slot true = (refl, refl, refl)
 open_slot false = (refl, refl, refl)
 
--- the machine behind a put that was accepted, with this flag and these messages
+-- the machine after a put that was accepted, with this flag and these messages
 abbrev pub taken : {E : Type 0} → PlainSpanData → Bool → List Message → Machine E → Machine E
 taken span flag messages m = record m {
   waiting = m.waiting ++ span ∷ [];
@@ -239,7 +239,7 @@ module _ {E : Type 0} (calls : Ghosts E) (s : Machine E) (span : PlainSpanData)
       (record { exporter = refl; hand = refl; waiting = ap (λ o. s.waiting ++ span_held o) (sym held_at) })
       (queued_sound b room)
 
-  -- what is left of a put behind the send
+  -- what is left of a put after the send
   accepts : (b : Bool) → is_sampled span ≡ true → nat_le s.control.batch_size number ≡ b → s.control.closed ≡ false →
       length s.waiting < s.control.queue_size → (xs : List Step) (os : List Outcome) (t : Machine E) →
       GoesBy calls next_of_producer (queued (if b then slot.Asking else slot.Idle)) xs os t →
@@ -322,7 +322,7 @@ module _ {E : Type 0} (calls : Ghosts E) (s : Machine E) (span : PlainSpanData)
       (queued_sound true room) (asking_at, clear, refl) (record { exporter = refl; hand = refl; waiting = refl })
       (posting_sound room clear)
 
-  -- the slot is the same behind five changes
+  -- the slot is the same after five changes
   put_back : (x : Slot) → slice_set (slice_set posting.control.slots 0 x) 0 slot.Idle ≡ s.control.slots
   put_back x = put_five s.control.slots slot.Idle holding slot.Asking slot.Posting x at
 

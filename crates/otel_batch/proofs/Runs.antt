@@ -1,4 +1,4 @@
--- Runs of the batch queue one behind another.
+-- Runs of the batch queue one after another.
 use Rattle.std.proofs.Common.{refl, zero, suc, ℕ, List, [], ◌∷◌, ◌++◌, take, drop}
 use Rattle.otel_batch.specs.MachineState.{Machine, counts}
 use Rattle.otel_batch.specs.SoundMachine.{IsSound}

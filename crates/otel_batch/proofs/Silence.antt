@@ -1,4 +1,4 @@
--- Behind a completed shutdown the worker of the batch queue is gone, and nothing is exported.
+-- After a completed shutdown the worker of the batch queue is gone, and nothing is exported.
 use Rattle.std.proofs.Common.{◌≡◌, ◌∙◌, ap, sym, refl, zero, suc, ℕ, true, false, List, [], ◌∷◌, ◌++◌, None, length, slice_get}
 use Rattle.otel_batch.specs.Workers.{is_closing, is_gone}
 use Rattle.otel_batch.specs.MachineState.{Machine, Counts, counts}
@@ -234,7 +234,7 @@ module _ {E : Type 0} (calls : Ghosts E) where
         shut = run.0;
         up_to = refl;
         closes = (run.0, run.1, refl);
-        behind = run.2;
+        after = run.2;
         told = closed.0;
         exporter = rest.keeps.exporter;
         hand = rest.keeps.hand;
@@ -248,7 +248,7 @@ module _ {E : Type 0} (calls : Ghosts E) where
         shut = later.shut;
         up_to = (run.0, run.1, later.up_to);
         closes = later.closes;
-        behind = later.behind;
+        after = later.after;
         told = later.told;
         exporter = later.exporter;
         hand = later.hand;

@@ -17,7 +17,7 @@ use Rattle.otel_batch.proofs.Silence.{closes, run-stays_silent}
 module _ {E : Type 0} (calls : Ghosts E) where
   -- the n-th step of a run completed a shutdown that left k spans
   record AtClose (n k : ℕ) (s : Machine E) (xs : List Step) (os : List Outcome) (t : Machine E) : Type 0 where
-    -- the machine behind it
+    -- the machine after it
     shut : Machine E
     up_to : Run calls s (take (suc n) xs) (take (suc n) os) shut
     left : length shut.waiting ≡ k

@@ -22,21 +22,21 @@ abbrev pub first_error : (before error : Option OTelSdkError) → Option OTelSdk
 first_error None error = error
 first_error (Some e) error = Some e
 
--- the error of a drain behind one more outcome
+-- the error of a drain after one more outcome
 abbrev pub error_after : Option OTelSdkError → Outcome → Option OTelSdkError
 error_after before (outcome.HandedOver k error) = first_error before error
 error_after before outcome.NoMemory = first_error before (Some OutOfMemory)
 error_after before _ = before
 
--- the error of a drain behind more outcomes
-abbrev pub error_behind : Option OTelSdkError → List Outcome → Option OTelSdkError
-error_behind before [] = before
-error_behind before (o ∷ os) = error_behind (error_after before o) os
+-- the error of a drain after more outcomes
+abbrev pub error_later : Option OTelSdkError → List Outcome → Option OTelSdkError
+error_later before [] = before
+error_later before (o ∷ os) = error_later (error_after before o) os
 
--- the error of a drain with these outcomes behind its load: the first of those of the exporter's answers and that there
+-- the error of a drain with these outcomes after its load: the first of those of the exporter's answers and that there
 -- was no memory for a batch; else none
 abbrev pub drain_error : List Outcome → Option OTelSdkError
-drain_error os = error_behind None os
+drain_error os = error_later None os
 
 -- the drain found no memory for a batch
 abbrev pub finds_no_memory : List Outcome → Bool
@@ -59,17 +59,17 @@ GivesAnswer (why.Shutdown p) true answer e t =
 GivesAnswer (why.Shutdown p) false answer e t = (e ≡ None) × (t.control.worker ≡ worker.Closing p)
 
 module _ {E : Type 0} (calls : Ghosts E) where
-  -- the n-th step of a run loaded a drain, none of the m steps behind it finished one, and the next finished it
+  -- the n-th step of a run loaded a drain, none of the m steps after it finished one, and the next finished it
   pub record AnswersDrain (n m : ℕ) (e : Option OTelSdkError) (s : Machine E) (xs : List Step) (os : List Outcome)
       (t : Machine E) : Type 0 where
-    -- the machine behind the load, before the finish, and behind it
+    -- the machine after the load, before the finish, and after it
     pub load : Machine E
     pub before : Machine E
     pub finish : Machine E
     pub up_to : Run calls s (take (suc n) xs) (take (suc n) os) load
     pub drain : Run calls load (take m (drop (suc n) xs)) (take m (drop (suc n) os)) before
     pub ends : Run calls before (take 1 (drop m (drop (suc n) xs))) (take 1 (drop m (drop (suc n) os))) finish
-    pub behind : Run calls finish (drop (suc m) (drop (suc n) xs)) (drop (suc m) (drop (suc n) os)) t
+    pub after : Run calls finish (drop (suc m) (drop (suc n) xs)) (drop (suc m) (drop (suc n) os)) t
     -- the worker's result before the finish is what the drain's outcomes say, but for the text of a failure
     pub held : IsErrorOf before.control.result (drain_error (take m (drop (suc n) os)))
     -- it is that result that is learnt

@@ -4,7 +4,7 @@ use Rattle.otel_export.specs.declared.error.OTelSdkError.{OTelSdkError}
 use Rattle.otel_export.specs.declared.error.OTelSdkError.TheVariants.{AlreadyShutdown, Timeout, InternalFailure}
 use Rattle.otel_export.specs.declared.error.OTelSdkError.TheVariants.{OutOfMemory}
 
--- a drain's result behind one more answer: the first error stays
+-- a drain's result after one more answer: the first error stays
 abbrev pub first_failure : (before answer : Result (Unit {0}) OTelSdkError) → Result (Unit {0}) OTelSdkError
 first_failure (Ok u) answer = answer
 first_failure (Err e) answer = Err e
@@ -18,7 +18,7 @@ IsErrorOf (Err (InternalFailure reason)) (Some (InternalFailure text)) = string_
 IsErrorOf (Err OutOfMemory) (Some OutOfMemory) = Unit {0}
 IsErrorOf _ _ = ⊥
 
--- the drain's result behind an export whose answer had this error: an error that was there before, else that answer
+-- the drain's result after an export whose answer had this error: an error that was there before, else that answer
 pub record KeepsFailure (before : Result (Unit {0}) OTelSdkError) (error : Option OTelSdkError)
     (after : Result (Unit {0}) OTelSdkError) : Type 0 where
   pub answer : Result (Unit {0}) OTelSdkError

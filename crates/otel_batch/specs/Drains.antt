@@ -32,7 +32,7 @@ worker_steps [] os = 0
 worker_steps (x ∷ xs) [] = 0
 worker_steps (x ∷ xs) (o ∷ os) = (if is_workers x && is_enabled o then 1 else 0) + worker_steps xs os
 
--- the outcomes behind a load, up to the first that finished, of which none found no memory
+-- the outcomes after a load, up to the first that finished, of which none found no memory
 abbrev pub IsWholeDrain : List Outcome → Type 0
 IsWholeDrain [] = ⊥
 IsWholeDrain (outcome.Finished e ∷ []) = Unit {0}
@@ -69,13 +69,13 @@ has_full_batch m = nat_le (largest_batch m.control) (length m.waiting)
 abbrev pub more_steps : Control → ℕ
 more_steps c = if c.batch_size == 0 then c.queue_size else 0
 
--- behind a load of this target, before its drain has finished: the worker took at most four enabled steps a span; and
+-- after a load of this target, before its drain has finished: the worker took at most four enabled steps a span; and
 -- with a size of batches it handed over at most the target
 pub record IsBounded (c : Control) (target : ℕ) (xs : List Step) (os : List Outcome) : Type 0 where
   pub steps : worker_steps xs os ≤ 4 * target + more_steps c
   pub handed : 0 < c.batch_size → sum (batch_sizes os) ≤ target
 
--- so it is behind every load of a run from this control on
+-- so it is after every load of a run from this control on
 abbrev pub BoundsDrains : Control → List Step → List Outcome → Type 0
 BoundsDrains c xs os =
     (n m target : ℕ) → slice_get os n ≡ Some (outcome.Loaded target) → NoneFinishes (take m (drop (suc n) os)) →
@@ -96,15 +96,15 @@ module _ {E : Type 0} (calls : Ghosts E) where
     pub rest : List PlainSpanData
     pub begins : spans_in batches ≡ spans ++ rest
 
-  -- the n-th step of a run loaded a drain, and the m steps behind it are up to its finish
+  -- the n-th step of a run loaded a drain, and the m steps after it are up to its finish
   pub record CompletesDrain (n m : ℕ) (s : Machine E) (xs : List Step) (os : List Outcome) (t : Machine E)
       : Type 0 where
-    -- the machine behind the load, and behind the finish
+    -- the machine after the load, and after the finish
     pub load : Machine E
     pub finish : Machine E
     pub up_to : Run calls s (take (suc n) xs) (take (suc n) os) load
     pub drain : Run calls load (take m (drop (suc n) xs)) (take m (drop (suc n) os)) finish
-    pub behind : Run calls finish (drop m (drop (suc n) xs)) (drop m (drop (suc n) os)) t
+    pub after : Run calls finish (drop m (drop (suc n) xs)) (drop m (drop (suc n) os)) t
     -- all that waited at the load was handed over in the drain, before anything else
     pub waited : HandsOverFirst load load.waiting (batch_sizes (take m (drop (suc n) os))) finish
     -- what was in hand or waited at the start of the run, and what it accepted before the load, was handed over by the
@@ -116,7 +116,7 @@ module _ {E : Type 0} (calls : Ghosts E) where
     pub handed : length s.hand + length s.waiting
         + length (accepted (holds_at s.control.slots) (take (suc n) xs) (take (suc n) os))
         ≤ sum (batch_sizes (take (suc n) os) ++ batch_sizes (take m (drop (suc n) os)))
-    -- where all steps of the drain were the worker's, nothing is left behind it
+    -- where all steps of the drain were the worker's, nothing is left after it
     pub alone : AreWorkers (take m (drop (suc n) xs)) → IsEmptied finish
 
   -- every finished drain of a run that found memory is complete

@@ -50,7 +50,7 @@ module _ {E : Type 0} (calls : Ghosts E) where
   StaysAnswered p answer s (x ∷ xs) [] t = ⊥
 
   -- a run in which the request of p is pending at the start and at each point, to the end or up to a step that
-  -- answers it, behind which p has that answer
+  -- answers it, after which p has that answer
   abbrev pub StaysKnown : ℕ → Request → Machine E → List Step → List Outcome → Machine E → Type 0
   StaysKnown p asked s [] [] t = IsPending p asked (counts s) × (t ≡ s)
   StaysKnown p asked s (x ∷ xs) (o ∷ os) t =
@@ -63,14 +63,14 @@ module _ {E : Type 0} (calls : Ghosts E) where
   StaysKnown p asked s (x ∷ xs) [] t = ⊥
 
   -- the n-th step of a run was a request of p, which is known from there on
-  pub record IsKnownBehind (n p : ℕ) (asked : Request) (s : Machine E) (xs : List Step) (os : List Outcome)
+  pub record IsKnownAfter (n p : ℕ) (asked : Request) (s : Machine E) (xs : List Step) (os : List Outcome)
       (t : Machine E) : Type 0 where
-    -- the machine before that step, and behind it
+    -- the machine before that step, and after it
     pub before : Machine E
     pub posted : Machine E
     pub up_to : Run calls s (take n xs) (take n os) before
     pub posts : Run calls before (take 1 (drop n xs)) (take 1 (drop n os)) posted
-    pub behind : StaysKnown p asked posted (drop (suc n) xs) (drop (suc n) os) t
+    pub after : StaysKnown p asked posted (drop (suc n) xs) (drop (suc n) os) t
 
   -- no request is lost: neither one that is pending at the start of a run, nor one that was made in it, nor one whose
   -- answer was not collected before
@@ -78,6 +78,6 @@ module _ {E : Type 0} (calls : Ghosts E) where
     pub earlier : (p : ℕ) (asked : Request) → slot_at (counts s) p ≡ Some (slot.Waiting asked) →
         StaysKnown p asked s xs os t
     pub made : (n p : ℕ) (asked : Request) → slice_get xs n ≡ Some (step_of asked p) →
-        slice_get os n ≡ Some outcome.Requested → IsKnownBehind n p asked s xs os t
+        slice_get os n ≡ Some outcome.Requested → IsKnownAfter n p asked s xs os t
     pub answered : (p : ℕ) (answer : Result (Unit {0}) OTelSdkError) →
         slot_at (counts s) p ≡ Some (slot.Answered answer) → StaysAnswered p answer s xs os t

@@ -59,7 +59,7 @@ accepted holds [] os = []
 accepted holds (x ∷ xs) [] = []
 accepted holds (x ∷ xs) (o ∷ os) = accepts holds x o ++ accepted (λ q. holds_after holds x o q) xs os
 
--- what was put behind a list
+-- what was put after a list
 abbrev pub added : {X : Type 0} → List X → List X → List X
 added before after = drop (length before) after
 

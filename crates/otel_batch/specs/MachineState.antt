@@ -78,7 +78,7 @@ abbrev pub batch_limit : (queue_size batch_size target done : ℕ) → ℕ
 batch_limit queue_size batch_size target done =
     if batch_size == 0 then queue_size else min batch_size (target - done)
 
--- how many spans a shutdown left behind: those that wait in a machine that is closed
+-- how many spans a shutdown left after: those that wait in a machine that is closed
 abbrev pub stranded_in : {E : Type 0} → Machine E → Option ℕ
 stranded_in m = if m.control.closed then Some (length m.waiting) else None
 

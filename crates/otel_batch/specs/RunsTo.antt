@@ -23,7 +23,7 @@ module _ {E : Type 0} (calls : Ghosts E) where
     -- the spans that a new machine accepted are, in order and each once, those handed to the exporter, those in the
     -- worker's hand, and those that wait
     pub loses_no_span : IsFirst s → LosesNoSpan calls s xs os t
-    -- so it is from any machine on, behind what was in hand and waited before
+    -- so it is from any machine on, after what was in hand and waited before
     pub conserved : Conserves calls s (accepted (holds_at s.control.slots) xs os) (batch_sizes os) t
     -- each span that met a full queue is counted
     pub dropped : t.control.dropped ≡ counted_up s.control.dropped (full_sends xs os)

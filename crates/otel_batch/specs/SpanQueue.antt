@@ -9,7 +9,7 @@ module _ {X : Type 0} where
   unfoldable pub circle : ℕ → List (Buffer X) → List (Buffer X)
   circle head cs = drop head cs ++ take head cs
 
-  -- the items of the chunks, one chunk behind another
+  -- the items of the chunks, one chunk after another
   abbrev pub items_of : List (Buffer X) → List X
   items_of [] = []
   items_of (b ∷ bs) = b.items ++ items_of bs
@@ -35,7 +35,7 @@ module _ {X : Type 0} where
   IsFilled zero (b ∷ bs) = IsChunk b × AllEmpty bs
   IsFilled (suc k) (b ∷ bs) = IsChunk b × (length b.items ≡ 64) × IsFilled k bs
 
-  -- the head, full chunks, the tail that lies so many steps behind the head, and then empty chunks
+  -- the head, full chunks, the tail that lies so many steps after the head, and then empty chunks
   abbrev pub IsLaid : ℕ → List (Buffer X) → Type 0
   IsLaid k [] = ⊥
   IsLaid zero (b ∷ bs) = IsChunk b × AllEmpty bs
@@ -54,7 +54,7 @@ module _ {X : Type 0} where
     pub queue : IsQueue cs head steps len limit
     pub at : Wraps head steps (length cs) tail
 
-  -- the oldest item is at the place p where the head lies at this one: behind an empty chunk
+  -- the oldest item is at the place p where the head lies at this one: after an empty chunk
   pub record TakesAt (cs : List (Buffer X)) (head p : ℕ) : Type 0 where
     pub chunk : Buffer X
     pub is : slice_get cs head ≡ Some chunk

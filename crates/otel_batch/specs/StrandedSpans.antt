@@ -6,18 +6,18 @@ use Rattle.otel_batch.specs.declared.machine.step.Outcome.{Outcome}
 use Rattle.otel_batch.specs.declared.machine.step.Outcome.TheVariants as outcome
 use Rattle.otel_batch.specs.declared.machine.step.Step.{Step}
 
--- a run with these steps and outcomes left so many spans behind: what was in hand or waited at its start and what it
+-- a run with these steps and outcomes left so many spans after: what was in hand or waited at its start and what it
 -- accepted is what it handed over, and those
 abbrev pub Leaves : {E : Type 0} → ℕ → Machine E → List Step → List Outcome → Type 0
 Leaves k s xs os =
     length s.hand + length s.waiting + length (accepted (holds_at s.control.slots) xs os) ≡ sum (batch_sizes os) + k
 
--- the n-th step of a run completed a shutdown that left k spans behind
+-- the n-th step of a run completed a shutdown that left k spans after
 pub record StrandsSpans {E : Type 0} (n k : ℕ) (s : Machine E) (xs : List Step) (os : List Outcome) (t : Machine E)
     : Type 0 where
   -- by the run up to that step
   pub up_to : Leaves k s (take (suc n) xs) (take (suc n) os)
-  -- and by the whole run, in which nothing is accepted or handed over behind it
+  -- and by the whole run, in which nothing is accepted or handed over after it
   pub whole : Leaves k s xs os
   -- they are left for good
   pub stranded : stranded_in t ≡ Some k

@@ -47,7 +47,7 @@ last_error before [] = before
 last_error before (outcome.Finished error ∷ os) = last_error error os
 last_error before (_ ∷ os) = last_error before os
 
--- the error of a drain behind one more outcome, where a load begins the next drain
+-- the error of a drain after one more outcome, where a load begins the next drain
 abbrev pub error_next : Option OTelSdkError → Outcome → Option OTelSdkError
 error_next before (outcome.Loaded target) = None
 error_next before o = error_after before o
@@ -57,7 +57,7 @@ abbrev pub own_error : Option OTelSdkError → List Outcome → Option OTelSdkEr
 own_error before [] = before
 own_error before (o ∷ os) = own_error (error_next before o) os
 
--- whether a drain found no memory for a batch, behind one more outcome, where a load begins the next drain
+-- whether a drain found no memory for a batch, after one more outcome, where a load begins the next drain
 abbrev pub refusal_next : Bool → Outcome → Bool
 refusal_next before (outcome.Loaded target) = false
 refusal_next before outcome.NoMemory = true

@@ -38,7 +38,7 @@ pub fn runs_are_joined<E: SpanExporter>()
         → Run E.SpanExporter s (xs ++ ys) (os ++ ps) t }
 {}
 
-/// A run is split at any place: behind its first steps is a machine from which the others run.
+/// A run is split at any place: after its first steps is a machine from which the others run.
 pub fn runs_are_split<E: SpanExporter>()
     ensures { (s t : Machine E) (xs ys : List Step) (os : List Outcome)
         → Run E.SpanExporter s (xs ++ ys) os t → SplitsRun E.SpanExporter s xs ys os t }
@@ -125,7 +125,7 @@ pub fn nobody_waits_once_the_worker_is_gone()
 {}
 
 /// Nothing follows a shutdown: neither one in the run nor one before it.
-pub fn runs_are_silent_behind_a_shutdown<E: SpanExporter>()
+pub fn runs_are_silent_after_a_shutdown<E: SpanExporter>()
     ensures within { (s t : Machine E) (xs : List Step) (os : List Outcome)
         → Run E.SpanExporter s xs os t → SilentAfterShutdown E.SpanExporter s xs os t }
     ensures before { (s t : Machine E) (xs : List Step) (os : List Outcome)

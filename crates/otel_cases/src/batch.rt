@@ -23,7 +23,7 @@ pub fn answer(alloc: Global, row: &Row, out: &mut AnswerText) -> bool {
     true
 }
 
-/// What the strings of the queue, a batch, the delay and an export configure, and the steps behind them.
+/// What the strings of the queue, a batch, the delay and an export configure, and the steps after them.
 fn configured(alloc: Global, row: &Row) -> Result<BatchConfig, RowError> {
     let strings = BatchStrings {
         max_queue_size: row.owned(alloc, 0)?,
@@ -40,7 +40,7 @@ fn built(row: &Row) -> Result<BatchConfig, RowError> {
     Ok(stepped(BatchConfigBuilder::default(), row, 0)?.build())
 }
 
-/// A builder behind the steps of a row's fields, from this field on.
+/// A builder after the steps of a row's fields, from this field on.
 fn stepped(
     builder: BatchConfigBuilder,
     row: &Row,
@@ -53,7 +53,7 @@ fn stepped(
     Ok(builder)
 }
 
-/// A builder behind a step: `queue:COUNT`, `batch:COUNT` or `delay:SECONDS`.
+/// A builder after a step: `queue:COUNT`, `batch:COUNT` or `delay:SECONDS`.
 fn changed(builder: BatchConfigBuilder, step: &str) -> Result<BatchConfigBuilder, RowError> {
     let (name, text) = step.split_once(':').ok_or(RowError::Field)?;
     let number = number_of(text)?;

@@ -34,7 +34,7 @@ pub fn answer(alloc: Global, row: &Row, out: &mut AnswerText) -> bool {
     true
 }
 
-/// `span LIMITS GIVEN .. start EDIT ..`: starts a span with what is given in front of `start`, makes the edits behind
+/// `span LIMITS GIVEN .. start EDIT ..`: starts a span with what is given in front of `start`, makes the edits after
 /// it, and shows what it would export; where an edit is `end`, what was exported and how many processors refused.
 fn answer_span(alloc: Global, row: &Row, out: &mut AnswerText) {
     match provider_by(alloc, row) {
@@ -136,7 +136,7 @@ fn builder_of(alloc: Global, row: &Row) -> Result<SpanBuilder, RowError> {
     Ok(builder.with_links(links_given(alloc, row)?))
 }
 
-/// The word of a field, and what stands behind its first colon.
+/// The word of a field, and what stands after its first colon.
 fn halves_of(field: &str) -> (&str, &str) {
     field.split_once(':').unwrap_or((field, ""))
 }
@@ -200,7 +200,7 @@ fn links_given(alloc: Global, row: &Row) -> Result<Vec<Link>, RowError> {
     Ok(links)
 }
 
-/// Makes the edits behind `start`, and answers how many processors refused the span where one of them ends it.
+/// Makes the edits after `start`, and answers how many processors refused the span where one of them ends it.
 fn edit_all(
     alloc: Global,
     row: &Row,

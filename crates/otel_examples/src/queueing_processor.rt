@@ -53,7 +53,7 @@ impl<E: SpanExporter> SpanProcessor for QueueingProcessor<E> {
     ghost use Rattle.otel_export.specs.Telling.{and_then_told};
     ghost use Rattle.otel_pipeline.specs.ProcessorTelling.{spans_told};
 
-    // What is heard is what the exporter tells, and then what waits. A span may be refused, for want of memory.
+    // What is heard is what the exporter tells, and then what waits. A span may be refused, when memory runs out.
     ghost told = { λ p. record {
       spans = None;
       heard = and_then_told (spans_told (E.told p.exporter)) p.waiting.items;
@@ -65,7 +65,7 @@ impl<E: SpanExporter> SpanProcessor for QueueingProcessor<E> {
 
     fn on_start(&mut self, _span: &mut Span, _cx: &Context) {}
 
-    /// A span that is not sampled, or comes after the shutdown, is let go. For want of memory the queue stays as it is,
+    /// A span that is not sampled, or comes after the shutdown, is let go. When memory runs out the queue stays as it is,
     /// and the error says so.
     fn on_end(&mut self, span: SpanData) -> Result<(), AllocError> {
         if self.is_shut || !span.span_context.trace_flags().is_sampled() {

@@ -67,7 +67,7 @@ fn kept<P: KeepsBatches>(provider: &ProviderOf<P, Sampler, IdSource>) -> usize {
 }
 
 /// Traces a request under a provider with a batch processor over this exporter. The answer is how many batches that
-/// keeps before a flush and behind it, and what the provider reports when it is closed.
+/// keeps before a flush and after it, and what the provider reports when it is closed.
 fn export_request<P: OverExporter + KeepsBatches>(
     alloc: Global,
     exporter: P::Exporter,
@@ -83,7 +83,7 @@ fn export_request<P: OverExporter + KeepsBatches>(
     Ok((before, after, report))
 }
 
-/// Want of memory, as the SDK calls it.
+/// Out of memory, as the SDK calls it.
 fn no_memory(_error: AllocError) -> OTelSdkError {
     OTelSdkError::OutOfMemory
 }

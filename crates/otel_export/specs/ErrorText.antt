@@ -39,7 +39,7 @@ unfoldable pub without_trailing_zeros : List ℕ → List ℕ
 without_trailing_zeros [] = []
 without_trailing_zeros (d ∷ ds) = in_front d (without_trailing_zeros ds)
 
--- the point and the digits behind it; nothing where nothing remains
+-- the point and the digits after it; nothing where nothing remains
 unfoldable pub fraction_text : ℕ → ℕ → List ℕ
 fraction_text k remainder = if remainder == 0 then [] else 46 ∷ without_trailing_zeros (padded_digits k remainder)
 

@@ -1,4 +1,4 @@
--- The batches that the in-memory exporter keeps, and how many it lost. A call of an exporter only adds batches behind
+-- The batches that the in-memory exporter keeps, and how many it lost. A call of an exporter only adds batches after
 -- those that are kept.
 use Rattle.std.specs.Prelude.{◌≡◌, ◌++◌, ℕ, List, [], ◌∷◌, Result, Ok, Err, refl}
 use Rattle.std.proofs.Common.{ap, sym, ◌∙◌, append-nil, append_assoc}
@@ -15,7 +15,7 @@ use Rattle.otel_export.specs.declared.trace.exporter_box.ExporterOf.TheVariants 
 abbrev pub Grows : {X : Type 0} → List X → List X → Type 0
 Grows {X} old new = (more : List X) × (new ≡ old ++ more)
 
--- nothing behind
+-- nothing after
 pub appends_none : {X : Type 0} (xs ys : List X) → ys ≡ xs → Grows xs ys
 appends_none xs ys e = ([], e ∙ sym (append-nil xs))
 

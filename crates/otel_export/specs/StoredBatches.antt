@@ -17,7 +17,7 @@ abbrev pub told_unless_lost : ℕ → List (List PlainSpanData) → Option (List
 told_unless_lost zero batches = Some batches
 told_unless_lost (suc _) batches = None
 
--- an export into memory: Ok appends the batch; for want of memory the batches stay, and one more is lost
+-- an export into memory: Ok appends the batch; when memory runs out the batches stay, and one more is lost
 abbrev pub StoresBatch : StoredBatches → List PlainSpanData → Result (Unit {0}) OTelSdkError → StoredBatches → Type 0
 StoresBatch old batch answer new = MatchResult answer
     (λ _. new ≡ record old { batches = old.batches ++ batch ∷ [] })

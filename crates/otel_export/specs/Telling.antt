@@ -6,7 +6,7 @@ abbrev pub and_then_told : {X : Type 0} → Option (List X) → List X → Optio
 and_then_told None more = None
 and_then_told (Some told) more = Some (told ++ more)
 
--- after more was handed over: it is told behind what was told before, or the telling has ended
+-- after more was handed over: it is told after what was told before, or the telling has ended
 abbrev pub Tells : {X : Type 0} → Option (List X) → List X → Option (List X) → Type 0
 Tells before more None = Unit {0}
 Tells before more (Some told) = and_then_told before more ≡ Some told

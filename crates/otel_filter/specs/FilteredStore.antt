@@ -1,10 +1,10 @@
--- The batches that an exporter behind a filter keeps.
+-- The batches that an exporter after a filter keeps.
 use Rattle.std.specs.Prelude.{◌≡◌, ℕ, Bool, List, [], ◌∷◌, Result, refl, filter}
 use Rattle.std.proofs.Common.{ap, sym, subst, ◌∙◌}
 use Rattle.otel_export.specs.KeptBatches.{ExporterAppends, Grows, nothing_more}
 use Rattle.otel_export.specs.PlainSpanData.{PlainSpanData}
-use Rattle.otel_export.specs.RecalledBatches.{ExporterRecalls, GivesBehind}
-use Rattle.otel_export.specs.RecalledKinds.{exporter_tells_behind, exporter_tells_same}
+use Rattle.otel_export.specs.RecalledBatches.{ExporterRecalls, GivesAfter}
+use Rattle.otel_export.specs.RecalledKinds.{exporter_tells_after, exporter_tells_same}
 use Rattle.otel_export.specs.declared.error.OTelSdkError.{OTelSdkError}
 use Rattle.otel_export.specs.declared.trace.export.SpanExporter.{Ghosts}
 use Rattle.otel_filter.specs.Filtering.{ExportsAny, ExportsKept, ReachesInside, unless_empty}
@@ -38,42 +38,42 @@ module _ {E : Type 0} {calls : Ghosts E} {stored : E → List (List PlainSpanDat
     {recalled : List (List PlainSpanData) → E → E → Type 0} (recalls : ExporterRecalls calls stored loses recalled)
     (bs : List (List PlainSpanData)) where
   any_recalls : (spans : List PlainSpanData) (answer : Result (Unit {0}) OTelSdkError)
-      → GivesBehind (recalled bs) (λ e f. ExportsAny calls e spans answer f)
-  any_recalls [] answer old behind new before h =
-      (behind, subst (λ (x : E). recalled bs x behind) (sym h.1) before, (h.0, refl))
-  any_recalls (span ∷ spans) answer old behind new before h =
-      recalls.exports bs (span ∷ spans) answer old behind new before h
+      → GivesAfter (recalled bs) (λ e f. ExportsAny calls e spans answer f)
+  any_recalls [] answer old after new before h =
+      (after, subst (λ (x : E). recalled bs x after) (sym h.1) before, (h.0, refl))
+  any_recalls (span ∷ spans) answer old after new before h =
+      recalls.exports bs (span ∷ spans) answer old after new before h
 
   -- an export
   pub kept_recalls : {F : Type 0} (keeps : F → PlainSpanData → Bool) (batch : List PlainSpanData)
       (answer : Result (Unit {0}) OTelSdkError)
-      → GivesBehind (filtered_recalled recalled bs) (λ e f. ExportsKept calls keeps e batch answer f)
-  kept_recalls {F} keeps batch answer old behind new before h =
+      → GivesAfter (filtered_recalled recalled bs) (λ e f. ExportsKept calls keeps e batch answer f)
+  kept_recalls {F} keeps batch answer old after new before h =
       let spans : List PlainSpanData = filter (keeps old.filter) batch in
-      let g = any_recalls spans answer old.exporter behind.exporter new.exporter before.0 h.given in (
-        record { exporter = g.0; filter = behind.filter },
+      let g = any_recalls spans answer old.exporter after.exporter new.exporter before.0 h.given in (
+        record { exporter = g.0; filter = after.filter },
         (g.1, before.1 ∙ sym h.same_filter),
         subst
-            (λ (f : F). ExportsKept calls keeps (record { exporter = behind.exporter; filter = f }) batch answer
+            (λ (f : F). ExportsKept calls keeps (record { exporter = after.exporter; filter = f }) batch answer
             (record { exporter = g.0; filter = f })) (sym before.1)
             (record {
               given = g.2;
-              told = exporter_tells_behind recalls bs old.exporter behind.exporter new.exporter g.0 before.0 g.1
+              told = exporter_tells_after recalls bs old.exporter after.exporter new.exporter g.0 before.0 g.1
                   (unless_empty spans) h.told;
               same_filter = refl;
             }),
       )
 
   -- another call
-  pub others_recall : {F : Type 0} (gives : E → E → Type 0) → GivesBehind (recalled bs) gives
-      → GivesBehind (filtered_recalled {F = F} recalled bs) (λ e f. ReachesInside calls gives e f)
-  others_recall {F} gives given old behind new before h =
-      let g = given old.exporter behind.exporter new.exporter before.0 h.given in (
-        record { exporter = g.0; filter = behind.filter },
+  pub others_recall : {F : Type 0} (gives : E → E → Type 0) → GivesAfter (recalled bs) gives
+      → GivesAfter (filtered_recalled {F = F} recalled bs) (λ e f. ReachesInside calls gives e f)
+  others_recall {F} gives given old after new before h =
+      let g = given old.exporter after.exporter new.exporter before.0 h.given in (
+        record { exporter = g.0; filter = after.filter },
         (g.1, before.1 ∙ sym h.same_filter),
         record {
           given = g.2;
-          told = exporter_tells_same recalls bs old.exporter behind.exporter new.exporter g.0 before.0 g.1 h.told;
+          told = exporter_tells_same recalls bs old.exporter after.exporter new.exporter g.0 before.0 g.1 h.told;
           same_filter = refl;
         },
       )

@@ -23,38 +23,38 @@ use Rattle.otel_pipeline.specs.StartRequest.{StartRequest}
 use Rattle.otel_pipeline.specs.Starting.{TakesPart, PassesThrough, Records, DecidesStart, Starts, StartsOpen}
 use Rattle.otel_pipeline.specs.declared.trace.span_processor.SpanProcessor.{Ghosts}
 use Rattle.otel_pipeline.specs.declared.trace.drain_due.DrainDue as timing
-use Rattle.otel_kept.specs.RecalledBatches.{FirstRecalled, Recalls, heard_behind}
-use Rattle.otel_export.specs.RecalledBatches.{told_behind}
-use Rattle.otel_export.specs.RecalledKinds.{tells_behind}
+use Rattle.otel_kept.specs.RecalledBatches.{FirstRecalled, Recalls, heard_after}
+use Rattle.otel_export.specs.RecalledBatches.{told_after}
+use Rattle.otel_export.specs.RecalledKinds.{tells_after}
 
-hands_behind : {T E : Type 0} (xs : List PlainSpanData) (is_due : Bool) (t : ProcessorTelling) (span : PlainSpanData) (answer : Result T E) (u : ProcessorTelling)
-    → HandsOver is_due t span answer u → HandsOver is_due (heard_behind xs t) span answer (heard_behind xs u)
-hands_behind xs true t span (Ok _) u (inl h) = inl (record { heard = tells_behind xs t.heard (span ∷ []) u.heard h.heard; dropped = h.dropped })
-hands_behind xs true t span (Ok _) u (inr h) = inr (record { heard = ap (told_behind xs) h.heard; dropped = h.dropped })
-hands_behind xs true t span (Err _) u h = record { heard = ap (told_behind xs) h.heard; dropped = h.dropped }
-hands_behind xs false t span answer u h = record { heard = ap (told_behind xs) h.heard; dropped = h.dropped }
+hands_after : {T E : Type 0} (xs : List PlainSpanData) (is_due : Bool) (t : ProcessorTelling) (span : PlainSpanData) (answer : Result T E) (u : ProcessorTelling)
+    → HandsOver is_due t span answer u → HandsOver is_due (heard_after xs t) span answer (heard_after xs u)
+hands_after xs true t span (Ok _) u (inl h) = inl (record { heard = tells_after xs t.heard (span ∷ []) u.heard h.heard; dropped = h.dropped })
+hands_after xs true t span (Ok _) u (inr h) = inr (record { heard = ap (told_after xs) h.heard; dropped = h.dropped })
+hands_after xs true t span (Err _) u h = record { heard = ap (told_after xs) h.heard; dropped = h.dropped }
+hands_after xs false t span answer u h = record { heard = ap (told_after xs) h.heard; dropped = h.dropped }
 
-takes_span_behind : {T E : Type 0} (xs : List PlainSpanData) (t : ProcessorTelling) (span : PlainSpanData) (answer : Result T E) (u : ProcessorTelling)
-    → TakesSpan t span answer u → TakesSpan (heard_behind xs t) span answer (heard_behind xs u)
-takes_span_behind xs t span answer u h = record {
+takes_span_after : {T E : Type 0} (xs : List PlainSpanData) (t : ProcessorTelling) (span : PlainSpanData) (answer : Result T E) (u : ProcessorTelling)
+    → TakesSpan t span answer u → TakesSpan (heard_after xs t) span answer (heard_after xs u)
+takes_span_after xs t span answer u h = record {
   spans = h.spans;
-  handed = hands_behind xs (t.is_open && is_sampled span) t span answer u h.handed;
+  handed = hands_after xs (t.is_open && is_sampled span) t span answer u h.handed;
   not_refused = h.not_refused;
   takes_all = h.takes_all;
   is_open = h.is_open;
 }
 
-takes_nothing_behind : (xs : List PlainSpanData) (t u : ProcessorTelling) → TakesNothing t u → TakesNothing (heard_behind xs t) (heard_behind xs u)
-takes_nothing_behind xs t u h = record {
+takes_nothing_after : (xs : List PlainSpanData) (t u : ProcessorTelling) → TakesNothing t u → TakesNothing (heard_after xs t) (heard_after xs u)
+takes_nothing_after xs t u h = record {
   spans = h.spans;
-  heard = tells_behind xs t.heard [] u.heard h.heard;
+  heard = tells_after xs t.heard [] u.heard h.heard;
   dropped = h.dropped;
   takes_all = h.takes_all;
   never_reopens = h.never_reopens;
 }
 
-follows_behind : (xs : List PlainSpanData) (t : ProcessorTelling) (ds : List Delivery) (u : ProcessorTelling) → Follows t ds u → Follows (heard_behind xs t) ds (heard_behind xs u)
-follows_behind xs t ds u h = record {
+follows_after : (xs : List PlainSpanData) (t : ProcessorTelling) (ds : List Delivery) (u : ProcessorTelling) → Follows t ds u → Follows (heard_after xs t) ds (heard_after xs u)
+follows_after xs t ds u h = record {
   spans = h.spans;
   while_open = h.while_open;
   while_shut = h.while_shut;
@@ -65,7 +65,7 @@ follows_behind xs t ds u h = record {
     reached = h.hears.reached;
     missed = h.hears.missed;
     reaches = h.hears.reaches;
-    heard = tells_behind xs t.heard h.hears.reached u.heard h.hears.heard;
+    heard = tells_after xs t.heard h.hears.reached u.heard h.hears.heard;
     dropped = h.hears.dropped;
     takes_all = h.hears.takes_all;
   };
@@ -78,9 +78,9 @@ Batches = List (List PlainSpanData)
 module _ {P : Type 0} (calls : Ghosts P) (timer : timing.Ghosts P) (kept : P → Batches) (lost : P → ℕ) (recalled : Batches → P → P → Type 0) (law : Recalls calls timer kept lost recalled) (bs : Batches) where
   -- a relation of tellings holds where the spans of the batches were heard before
   retold : (R : ProcessorTelling → ProcessorTelling → Type 0) (p r q s : P) → recalled bs p r → recalled bs q s
-      → R (heard_behind (spans_in bs) (calls.told p)) (heard_behind (spans_in bs) (calls.told q)) → R (calls.told r) (calls.told s)
+      → R (heard_after (spans_in bs) (calls.told p)) (heard_after (spans_in bs) (calls.told q)) → R (calls.told r) (calls.told s)
   retold R p r q s h k given =
-      subst (λ t. R t (calls.told s)) (sym (law.told bs p r h)) (subst (λ u. R (heard_behind (spans_in bs) (calls.told p)) u) (sym (law.told bs q s k)) given)
+      subst (λ t. R t (calls.told s)) (sym (law.told bs p r h)) (subst (λ u. R (heard_after (spans_in bs) (calls.told p)) u) (sym (law.told bs q s k)) given)
 
   -- each was asked, of whom the first has batches recalled
   each_again : {A : Type 0} (G : P → A → P → Type 0) → ((p r : P) (a : A) (q : P) → recalled bs p r → G p a q → (s : P) × recalled bs q s × G r a s)
@@ -104,7 +104,7 @@ module _ {P : Type 0} (calls : Ghosts P) (timer : timing.Ghosts P) (kept : P →
         one.1,
         record {
           gives = one.2;
-          told = retold TakesNothing p r q one.0 h one.1 (takes_nothing_behind (spans_in bs) (calls.told p) (calls.told q) k.told);
+          told = retold TakesNothing p r q one.0 h one.1 (takes_nothing_after (spans_in bs) (calls.told p) (calls.told q) k.told);
           is_open = retold (λ t u. u.is_open ≡ t.is_open) p r q one.0 h one.1 k.is_open;
           emptied = retold (λ t u. OnOk answer (u.waiting ≡ 0)) p r q one.0 h one.1 k.emptied;
         },
@@ -117,7 +117,7 @@ module _ {P : Type 0} (calls : Ghosts P) (timer : timing.Ghosts P) (kept : P →
         one.1,
         record {
           gives = one.2;
-          told = retold TakesNothing p r q one.0 h one.1 (takes_nothing_behind (spans_in bs) (calls.told p) (calls.told q) k.told);
+          told = retold TakesNothing p r q one.0 h one.1 (takes_nothing_after (spans_in bs) (calls.told p) (calls.told q) k.told);
           emptied = retold (λ t u. OnOk answer (u.waiting ≡ 0)) p r q one.0 h one.1 k.emptied;
         },
       )
@@ -129,7 +129,7 @@ module _ {P : Type 0} (calls : Ghosts P) (timer : timing.Ghosts P) (kept : P →
         one.1,
         record {
           gives = one.2;
-          told = retold TakesNothing p r q one.0 h one.1 (takes_nothing_behind (spans_in bs) (calls.told p) (calls.told q) k.told);
+          told = retold TakesNothing p r q one.0 h one.1 (takes_nothing_after (spans_in bs) (calls.told p) (calls.told q) k.told);
           is_open = retold (λ t u. u.is_open ≡ t.is_open) p r q one.0 h one.1 k.is_open;
         },
       )
@@ -141,7 +141,7 @@ module _ {P : Type 0} (calls : Ghosts P) (timer : timing.Ghosts P) (kept : P →
         one.1,
         record {
           gives = one.2;
-          told = retold (λ t u. TakesSpan t span answer u) p r q one.0 h one.1 (takes_span_behind (spans_in bs) (calls.told p) span answer (calls.told q) k.told);
+          told = retold (λ t u. TakesSpan t span answer u) p r q one.0 h one.1 (takes_span_after (spans_in bs) (calls.told p) span answer (calls.told q) k.told);
         },
       )
 
@@ -153,7 +153,7 @@ module _ {P : Type 0} (calls : Ghosts P) (timer : timing.Ghosts P) (kept : P →
         record {
           gives = one.2;
           edits = k.edits;
-          told = retold (λ t u. u ≡ t) p r q one.0 h one.1 (ap (heard_behind (spans_in bs)) k.told);
+          told = retold (λ t u. u ≡ t) p r q one.0 h one.1 (ap (heard_after (spans_in bs)) k.told);
         },
       )
 
@@ -178,7 +178,7 @@ module _ {P : Type 0} (calls : Ghosts P) (timer : timing.Ghosts P) (kept : P →
   follows_again ds (p ∷ ps) (r ∷ rs) [] ss h k f = absurd f
   follows_again ds (p ∷ ps) (r ∷ rs) (q ∷ qs) [] h k f = absurd k
   follows_again ds (p ∷ ps) (r ∷ rs) (q ∷ qs) (s ∷ ss) h k f = (
-    retold (λ t u. Follows t ds u) p r q s h.0 k.0 (follows_behind (spans_in bs) (calls.told p) ds (calls.told q) f.0),
+    retold (λ t u. Follows t ds u) p r q s h.0 k.0 (follows_after (spans_in bs) (calls.told p) ds (calls.told q) f.0),
     subst (λ l. EachFollows calls ds l ss) (sym h.1) (subst (λ l. EachFollows calls ds ps l) (sym k.1) f.1),
   )
 
@@ -215,7 +215,7 @@ module _ {P : Type 0} (calls : Ghosts P) (timer : timing.Ghosts P) (kept : P →
   told_again (p ∷ ps) (r ∷ rs) (q ∷ qs) (s ∷ ss) h k e =
       let first : calls.told q ≡ calls.told p = cc in
       let others : map calls.told qs ≡ map calls.told ps = cc in
-      let again : calls.told s ≡ calls.told r = law.told bs q s k.0 ∙ ap (heard_behind (spans_in bs)) first ∙ sym (law.told bs p r h.0) in
+      let again : calls.told s ≡ calls.told r = law.told bs q s k.0 ∙ ap (heard_after (spans_in bs)) first ∙ sym (law.told bs p r h.0) in
       let left : map calls.told ss ≡ map calls.told qs = ap (map calls.told) k.1 in
       let right : map calls.told rs ≡ map calls.told ps = ap (map calls.told) h.1 in
       cc

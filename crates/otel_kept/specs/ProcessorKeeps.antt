@@ -1,4 +1,4 @@
--- The batches that the exporter of a processor keeps: a call of a processor only adds batches behind them.
+-- The batches that the exporter of a processor keeps: a call of a processor only adds batches after them.
 use Rattle.std.specs.Prelude.{◌≡◌, ◌&&◌, not, ℕ, List, [], ◌∷◌, Bool, true, false, Result, Ok, Err}
 use Rattle.std.specs.declared.alloc.AllocError.{AllocError}
 use Rattle.std.proofs.Common.{ap}

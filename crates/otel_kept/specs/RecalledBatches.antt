@@ -4,7 +4,7 @@ use Rattle.std.specs.declared.alloc.AllocError.{AllocError}
 use Rattle.opentelemetry.specs.Plain.{PlainContext}
 use Rattle.otel_export.specs.declared.error.OTelSdkError.{OTelSdkError}
 use Rattle.otel_export.specs.PlainSpanData.{PlainSpanData, spans_in}
-use Rattle.otel_export.specs.RecalledBatches.{GivesBehind, told_behind}
+use Rattle.otel_export.specs.RecalledBatches.{GivesAfter, told_after}
 use Rattle.otel_pipeline.specs.ProcessorTelling.{ProcessorTelling}
 use Rattle.otel_pipeline.specs.SpanHistory.{PlainSpan}
 use Rattle.otel_pipeline.specs.declared.trace.drain_due.DrainDue as timing
@@ -12,24 +12,24 @@ use Rattle.otel_pipeline.specs.declared.trace.leaves_spans.LeavesSpans as leavin
 use Rattle.otel_pipeline.specs.declared.trace.span_processor.SpanProcessor.{Ghosts}
 
 -- what a processor tells where its exporter heard these spans first
-abbrev pub heard_behind : List PlainSpanData → ProcessorTelling → ProcessorTelling
-heard_behind xs t = record t { heard = told_behind xs t.heard }
+abbrev pub heard_after : List PlainSpanData → ProcessorTelling → ProcessorTelling
+heard_after xs t = record t { heard = told_after xs t.heard }
 
 -- batches that are recalled stand in front of those that are kept and heard, and change nothing else
 pub record Recalls {P : Type 0} (calls : Ghosts P) (timer : timing.Ghosts P) (keeps : P → List (List PlainSpanData))
     (loses : P → ℕ) (recalled : List (List PlainSpanData) → P → P → Type 0) : Type 0 where
   pub starts : (bs : List (List PlainSpanData)) (span : PlainSpan) (cx : PlainContext) (edited : PlainSpan)
-      → GivesBehind (recalled bs) (λ p q. calls.start_gives p span cx edited q)
+      → GivesAfter (recalled bs) (λ p q. calls.start_gives p span cx edited q)
   pub ends : (bs : List (List PlainSpanData)) (span : PlainSpanData) (answer : Result (Unit {0}) AllocError)
-      → GivesBehind (recalled bs) (λ p q. calls.end_gives p span answer q)
+      → GivesAfter (recalled bs) (λ p q. calls.end_gives p span answer q)
   pub flushes : (bs : List (List PlainSpanData)) (answer : Result (Unit {0}) OTelSdkError)
-      → GivesBehind (recalled bs) (λ p q. calls.flush_gives p answer q)
+      → GivesAfter (recalled bs) (λ p q. calls.flush_gives p answer q)
   pub shuts : (bs : List (List PlainSpanData)) (timeout : ℕ) (answer : Result (Unit {0}) OTelSdkError)
-      → GivesBehind (recalled bs) (λ p q. calls.shutdown_gives p timeout answer q)
+      → GivesAfter (recalled bs) (λ p q. calls.shutdown_gives p timeout answer q)
   pub runs : (bs : List (List PlainSpanData)) (now : ℕ) (answer : Result (Unit {0}) OTelSdkError)
-      → GivesBehind (recalled bs) (λ p q. timer.due_gives p now answer q)
+      → GivesAfter (recalled bs) (λ p q. timer.due_gives p now answer q)
   pub told : (bs : List (List PlainSpanData)) (p r : P) → recalled bs p r
-      → calls.told r ≡ heard_behind (spans_in bs) (calls.told p)
+      → calls.told r ≡ heard_after (spans_in bs) (calls.told p)
   pub kept : (bs : List (List PlainSpanData)) (p r : P) → recalled bs p r → keeps r ≡ bs ++ keeps p
   pub lost : (bs : List (List PlainSpanData)) (p r : P) → recalled bs p r → loses r ≡ loses p
   pub once : (bs : List (List PlainSpanData)) (p r s : P) → recalled bs p r → recalled bs p s → s ≡ r

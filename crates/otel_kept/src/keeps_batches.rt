@@ -9,7 +9,7 @@ use otel_export::trace::SpanData;
 use otel_pipeline::trace::{DrainDue, LeavesSpans};
 
 /// A processor whose exporter may keep its batches. At a start, an end, a flush, a shutdown or a drain batches may only
-/// come behind those that are kept.
+/// come after those that are kept.
 pub trait KeepsBatches: DrainDue + LeavesSpans {
     /// The batches that are kept; none where the exporter keeps none.
     ghost kept: { Self → List (List PlainSpanData) };

@@ -9,7 +9,7 @@ use Rattle.json.specs.Tree.{json_tokens, items_tokens, members_tokens}
 use Rattle.otel_otlp.specs.Fields.{Adds, Begun, Field, each_tokens, fields_tokens, items_of, list_tokens}
 use Rattle.otel_otlp.specs.Fields.{members_of, object_json}
 
--- tokens, and others behind them
+-- tokens, and others after them
 pub and_then : {E F : Type 0} {done : Unit {0}} {answer : Result (Unit {0}) F} {old middle new : Begun}
     {first second : List Token} → Adds {E = E} (Ok done) old middle first → Adds answer middle new second
     → Adds answer old new (first ++ second)
@@ -28,14 +28,14 @@ as_tokens {answer = answer} {old} {new} e h = subst (λ (ts : List Token). Adds 
 pub nothing : {E : Type 0} {done : Unit {0}} (old : Begun) → Adds {E = E} (Ok done) old old []
 nothing old = record { before = refl; written = sym (append-nil old.tokens) }
 
--- values, and others behind them
+-- values, and others after them
 pub each_joined : (first second : List Json) → each_tokens (first ++ second) ≡ each_tokens first ++ each_tokens second
 each_joined [] second = refl
 each_joined (j ∷ js) second =
     ap (λ ts. json_tokens j ++ ts) (each_joined js second)
     ∙ sym (append_assoc (json_tokens j) (each_tokens js) (each_tokens second))
 
--- members, and others behind them
+-- members, and others after them
 pub fields_joined : (first second : List Field)
     → fields_tokens (first ++ second) ≡ fields_tokens first ++ fields_tokens second
 fields_joined [] second = refl
@@ -90,7 +90,7 @@ object_tokens (f ∷ fs) =
     (ap (λ ts. json_tokens f.1 ++ ts) (object_tokens fs)
     ∙ sym (append_assoc (json_tokens f.1) (fields_tokens fs) (Token.end_object ∷ [])))
 
--- an object: its bracket, its members, and the bracket behind them
+-- an object: its bracket, its members, and the bracket after them
 pub as_object : {E : Type 0} {done more : Unit {0}} {answer : Result (Unit {0}) E} {old begun all new : Begun}
     (fields : List Field) → Adds {E = E} (Ok done) old begun (Token.begin_object ∷ [])
     → Adds {E = E} (Ok more) begun all (fields_tokens fields) → Adds answer all new (Token.end_object ∷ [])
@@ -105,7 +105,7 @@ pub as_field : {E : Type 0} {done : Unit {0}} {answer : Result (Unit {0}) E} {ol
 as_field key value h k =
     as_tokens (ap (λ ts. Token.key key ∷ ts) (sym (append-nil (json_tokens value)))) (and_then h k)
 
--- an array: its bracket, its items, and the bracket behind them
+-- an array: its bracket, its items, and the bracket after them
 pub as_array : {E : Type 0} {done more : Unit {0}} {answer : Result (Unit {0}) E} {old begun all new : Begun}
     (items : List Json) → Adds {E = E} (Ok done) old begun (Token.begin_array ∷ [])
     → Adds {E = E} (Ok more) begun all (each_tokens items) → Adds answer all new (Token.end_array ∷ [])

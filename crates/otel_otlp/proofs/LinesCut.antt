@@ -12,13 +12,13 @@ no_feed : (b : ℕ) → b ≢ 10 → (b == 10) ≡ false
 no_feed b h = grind (arith, nat_tests)
 
 -- a text in front of a line feed is a part
-first_part : (text behind : List ℕ) → NoFeed text
-    → slice_split (λ b. b == 10) (text ++ 10 ∷ behind) ≡ text ∷ slice_split (λ b. b == 10) behind
-first_part [] behind h = refl
-first_part (b ∷ text) behind h =
-    ap (λ t. cond t ([] ∷ slice_split (λ b. b == 10) (text ++ 10 ∷ behind))
-    (onto_first b (slice_split (λ b. b == 10) (text ++ 10 ∷ behind)))) (no_feed b h.0)
-    ∙ ap (onto_first b) (first_part text behind h.1)
+first_part : (text after : List ℕ) → NoFeed text
+    → slice_split (λ b. b == 10) (text ++ 10 ∷ after) ≡ text ∷ slice_split (λ b. b == 10) after
+first_part [] after h = refl
+first_part (b ∷ text) after h =
+    ap (λ t. cond t ([] ∷ slice_split (λ b. b == 10) (text ++ 10 ∷ after))
+    (onto_first b (slice_split (λ b. b == 10) (text ++ 10 ∷ after)))) (no_feed b h.0)
+    ∙ ap (onto_first b) (first_part text after h.1)
 
 pub lines_cut : (resource : PlainResource) (batches : List (List PlainSpanData))
     → slice_split (λ b. b == 10) (otlp_lines resource batches) ≡ map (otlp_text resource) batches ++ [] ∷ []

@@ -198,10 +198,10 @@ link_unbroken link =
     let flags = flags_of link.span_context.trace_flags link.span_context.is_remote in
     let attributes = attributes_fields link.attributes link.dropped_attributes_count in
     let flagged = number_field (codes "flags") flags ∷ [] in
-    let behind =
+    let later =
     all_joined UnbrokenField attributes flagged
     (attributes_unbroken link.attributes link.dropped_attributes_count) (number_unbroken (codes "flags") flags) in
-    object_unbroken (link_fields link) ((tt, tt), ((tt, tt), ((tt, tt), behind)))
+    object_unbroken (link_fields link) ((tt, tt), ((tt, tt), ((tt, tt), later)))
 
 status_unbroken : (status : PlainStatus) → UnbrokenJson (status_json status)
 status_unbroken status =

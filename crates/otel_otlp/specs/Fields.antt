@@ -27,16 +27,16 @@ list_json json xs = array (items_of (map json xs))
 abbrev pub object_json : List Field → Json
 object_json fields = object (members_of fields)
 
--- the tokens of members, without the bracket behind them
+-- the tokens of members, without the bracket after them
 abbrev pub fields_tokens : List Field → List Token
 fields_tokens [] = []
 fields_tokens (f ∷ fs) = Token.key f.0 ∷ (json_tokens f.1 ++ fields_tokens fs)
 
--- the tokens of values, one behind the other
+-- the tokens of values, one after the other
 abbrev pub each_tokens : List Json → List Token
 each_tokens = flat_map json_tokens
 
--- the tokens of items, without the bracket behind them
+-- the tokens of items, without the bracket after them
 abbrev pub list_tokens : {X : Type 0} → (X → Json) → List X → List Token
 list_tokens json xs = each_tokens (map json xs)
 

@@ -23,7 +23,7 @@ abbrev pub new_exporter : {W : Type 0} → W → PlainResource → LineExporter 
 new_exporter writer resource =
     record { writer = writer; resource = Some resource; is_cut = false; is_shut = false }
 
--- the line of a batch, behind the end of a line that was cut off
+-- the line of a batch, after the end of a line that was cut off
 abbrev pub next_line : Bool → PlainResource → List PlainSpanData → List ℕ
 next_line is_cut resource batch = (if is_cut then 10 ∷ [] else []) ++ otlp_line resource batch
 
@@ -41,7 +41,7 @@ module _ {W : Type 0} (contents : W → Option (List ℕ)) where
   Sends old line (Err error) new is_cut =
       IsInternalFailure error × AppendsBeginning (contents old) (contents new) line × (is_cut ≡ true)
 
-  -- an open exporter wrote a batch: its line was sent, or nothing, for want of memory
+  -- an open exporter wrote a batch: its line was sent, or nothing, when memory runs out
   abbrev pub WritesLine : PlainResource → LineExporter W → List PlainSpanData → Result (Unit {0}) OTelSdkError
       → LineExporter W → Type 0
   WritesLine resource old batch answer new =
@@ -61,7 +61,7 @@ module _ {W : Type 0} (contents : W → Option (List ℕ)) where
       MatchBool old.is_shut ((answer ≡ Err errors.AlreadyShutdown) × (new ≡ old))
       (WritesOf old.resource old batch answer new)
 
--- what a shutdown does: nothing is written behind it, and a second one says so
+-- what a shutdown does: nothing is written after it, and a second one says so
 abbrev pub Shuts : {W : Type 0} → LineExporter W → Result (Unit {0}) OTelSdkError → LineExporter W → Type 0
 Shuts old answer new =
     (answer ≡ (if old.is_shut then Err errors.AlreadyShutdown else Ok tt)) × (new ≡ record old { is_shut = true })

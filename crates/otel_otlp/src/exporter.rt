@@ -15,7 +15,7 @@ use std::io::Write;
 use std::marker::Model;
 use std::time::Duration;
 
-/// Writes each batch to a stream, as a line of the JSON of the OpenTelemetry protocol, and sends it on at once. Behind
+/// Writes each batch to a stream, as a line of the JSON of the OpenTelemetry protocol, and sends it on at once. After
 /// a line that its writer cut off, it goes on in a new one.
 #[derive(Drop)]
 pub struct OtlpJsonExporter<W> {
@@ -122,7 +122,7 @@ impl<W: Write + Drop> SpanExporter for OtlpJsonExporter<W> {
 
     ghost resource_gives = { TakesResource };
 
-    /// `InternalFailure` names what failed of the stream. Behind a shutdown it is `AlreadyShutdown`.
+    /// `InternalFailure` names what failed of the stream. After a shutdown it is `AlreadyShutdown`.
     fn export(&mut self, batch: Vec<SpanData>) -> OTelSdkResult {
         if self.is_shut {
             return Err(OTelSdkError::AlreadyShutdown);

@@ -1,5 +1,5 @@
 //! Each batch and each resource fits its types, which is what the laws of their JSON ask of them. Nothing needs to
-//! call these functions: their contracts are laws of the value behind the reference. What is read shows its range.
+//! call these functions: their contracts are laws of the value referred to. What is read shows its range.
 
 ghost use Rattle.std.specs.Prelude.{◌^◌, ◌<◌, FitsSigned};
 ghost use Rattle.std.specs.Int.{w64};

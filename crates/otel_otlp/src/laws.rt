@@ -38,7 +38,7 @@ pub fn lines_read_back()
         → otlp_line these batch ≡ otlp_line those other → request these batch ≡ request those other }
 {}
 
-/// The lines of batches, cut at their line feeds, are the texts of the batches, and nothing behind them.
+/// The lines of batches, cut at their line feeds, are the texts of the batches, and nothing after them.
 pub fn lines_are_cut()
     ensures { (resource : PlainResource) (batches : List (List PlainSpanData))
         → slice_split (λ b. b == 10) (otlp_lines resource batches) ≡ map (otlp_text resource) batches ++ [] ∷ [] }

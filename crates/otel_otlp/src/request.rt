@@ -28,14 +28,14 @@ fn has_scope_of(span: &SpanData, other: &SpanData) -> bool
 /// How many digits the longest id has.
 const ID_DIGITS: usize = 32;
 
-/// How many of the spans behind the first one are in its run.
-fn run_length(first: &SpanData, behind: &[SpanData]) -> usize
-    ensures within { result ≤ length behind.now }
-    ensures run { scope_runs (first.now ∷ behind.now)
-        ≡ (first.now ∷ take result behind.now) ∷ scope_runs (drop result behind.now) }
+/// How many of the spans after the first one are in its run.
+fn run_length(first: &SpanData, after: &[SpanData]) -> usize
+    ensures within { result ≤ length after.now }
+    ensures run { scope_runs (first.now ∷ after.now)
+        ≡ (first.now ∷ take result after.now) ∷ scope_runs (drop result after.now) }
 {
     let mut count = 0;
-    while count < behind.len() && has_scope_of(&behind[count], first) {
+    while count < after.len() && has_scope_of(&after[count], first) {
         count += 1;
     }
     count
@@ -86,10 +86,10 @@ impl RequestWriter {
         ensures { Adds result self.old self.new (list_tokens run_json (scope_runs spans.now)) }
     {
         let mut rest = spans;
-        while let Some((first, behind)) = rest.split_first() {
-            let count = run_length(first, behind);
+        while let Some((first, after)) = rest.split_first() {
+            let count = run_length(first, after);
             self.run(alloc, &first.instrumentation_scope, &rest[..count + 1])?;
-            rest = &behind[count..];
+            rest = &after[count..];
         }
         Ok(())
     }

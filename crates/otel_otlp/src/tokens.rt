@@ -20,7 +20,7 @@ use std::alloc::AllocError;
 use std::fmt::Write;
 use std::marker::Model;
 
-/// The text of a request in the making, behind bytes that stand before it.
+/// The text of a request in the making, after bytes that stand before it.
 #[derive(Drop)]
 pub(crate) struct RequestWriter {
     out: Writer,
@@ -37,7 +37,7 @@ impl Model for RequestWriter {
 }
 
 impl RequestWriter {
-    /// It writes behind these bytes. The text is room for that of an id.
+    /// It writes after these bytes. The text is room for that of an id.
     pub(crate) fn new(bytes: Vec<u8>, text: String) -> RequestWriter
         ensures { result ≡ record { before = bytes.items; tokens = [] } }
     {

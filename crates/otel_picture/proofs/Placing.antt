@@ -1,4 +1,4 @@
--- A row put in keeps each row behind its parent's.
+-- A row put in keeps each row after its parent's.
 use Rattle.std.proofs.Common.{◌≡◌, ◌<◌, ◌≤◌, ◌⊎◌, inl, inr, ℕ, zero, suc, Bool, true, false, Option, Some, List}
 use Rattle.std.proofs.Common.{[], ◌∷◌, ◌+◌, ◌==◌, ◌∙◌, if◌then◌else◌, get_or, set, length, sym, subst, ap, refl, arith}
 use Rattle.std.proofs.Common.{All, Contains, insert, count_by, take, drop, add-one, ◌&&◌}
@@ -62,7 +62,7 @@ insert_under parents before (r ∷ rows) zero row l known level h = (
 insert_under parents before (r ∷ rows) (suc at) row l known level h =
     (h.0, insert_under parents (r ∷ before) rows at row (omega arith) known level h.1)
 
--- how many rows a span has behind a row put in
+-- how many rows a span has after a row put in
 one_more : (span other : ℕ) (row : Row) (placed : List Bool) (rows : List Row) (at : ℕ) → row.span ≡ span
     → span < length placed → get_or placed span false ≡ false
     → rows_of other rows ≡ (if get_or placed other false then 1 else 0)
@@ -117,12 +117,12 @@ placed_more parents placed old new span before left put =
       there = all_there parents old put.at put.row (omega (arith, left.there, before.alike, put.shows)) before.there;
     })
 
--- a row put in behind its parent's
-pub put_behind : (parents : List (Option ℕ)) (placed : List Bool) (old new : List Row) (at span : ℕ) (parent : Row)
+-- a row put in after its parent's
+pub put_after : (parents : List (Option ℕ)) (placed : List Bool) (old new : List Row) (at span : ℕ) (parent : Row)
     → ArePlaced parents placed old → at < length old → parent ≡ get_or old at parent
     → parent_of parents span ≡ Some (get_or old at parent).span
     → new ≡ insert old (at + 1) (record { span = span; level = parent.level + 1 }) → IsPutIn parents old new span
-put_behind parents placed old new at span parent before there read known is =
+put_after parents placed old new at span parent before there read known is =
     let row : Row = record { span = span; level = parent.level + 1 } in
     let low : parent.level < length old =
     subst (λ (r : Row). r.level < length old) (sym read) (before.shallow at parent there) in

@@ -30,7 +30,7 @@ pub record IsUnder (parents : List (Option ℕ)) (before : List Row) (row : Row)
   pub level : row.level ≡ suc parent.level
   pub is_before : Contains before parent
 
--- each row is a root, or behind its parent's row and one level under it
+-- each row is a root, or after its parent's row and one level under it
 abbrev pub StandUnder : List (Option ℕ) → List Row → List Row → Type 0
 StandUnder parents before [] = Unit {0}
 StandUnder parents before (row ∷ rows) =

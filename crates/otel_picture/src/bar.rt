@@ -30,8 +30,8 @@ impl Scale {
         if self.first == self.last {
             return 0;
         }
-        let behind = u128::from(moment.saturating_sub(self.first));
-        let place = behind * u128::from(self.columns) / u128::from(self.last - self.first);
+        let after = u128::from(moment.saturating_sub(self.first));
+        let place = after * u128::from(self.columns) / u128::from(self.last - self.first);
         place.min(u128::from(self.columns - 1)) as u32
     }
 

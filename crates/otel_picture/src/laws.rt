@@ -17,7 +17,7 @@ pub fn columns_follow_time()
         × (column first last columns (max start end) ≤ column first last columns (max outer_start outer_end)) }
 {}
 
-/// Where each row is a root or behind its parent's and one level under it, a row's level is the number of its span's
+/// Where each row is a root or after its parent's and one level under it, a row's level is the number of its span's
 /// ancestors in the picture; a span of a circle, or under one, has no such number.
 pub fn levels_count_ancestors()
     ensures { (parents : List (Option ℕ)) (rows : List Row) → StandUnder parents [] rows

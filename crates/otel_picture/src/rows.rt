@@ -1,7 +1,7 @@
 //! The order of the rows of a trace's picture, and their levels.
 //!
 //! Rows are put in one by one. Of the spans whose parent has a row, or has none in the picture, the last one by start
-//! and order of export is next: right behind its parent's row, so that the siblings before it come between. A root
+//! and order of export is next: right after its parent's row, so that the siblings before it come between. A root
 //! goes in front of the first root that is later. Where no span is left but those of circles and under them, the first
 //! one of a circle is next, as a root.
 
@@ -255,7 +255,7 @@ impl Family {
     }
 }
 
-/// The rows of a trace's picture: one a span, each behind its parent's.
+/// The rows of a trace's picture: one a span, each after its parent's.
 pub fn rows(alloc: Global, family: &Family) -> Result<Vec<Row>, AllocError>
     ensures each_once { IfOk result (λ rows. (span : ℕ) → span < vec_len family.now.parents
         → rows_of span rows.items ≡ 1) }

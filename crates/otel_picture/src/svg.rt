@@ -1,6 +1,6 @@
 //! Pictures of traces as one SVG file, without scripts, fonts or links. A picture has lines of 20 units: of each trace
 //! a head, a line a span, and an empty one. Names stand left of unit 400, bars between units 400 and 1000, offset and
-//! length behind them; a bar's title has the span's name, moments and attributes.
+//! length after them; a bar's title has the span's name, moments and attributes.
 
 ghost use Rattle.std.specs.Prelude.{◌≡◌, ◌<◌, ◌++◌, ℕ, All, List, OnErr, OnOk, length, vec_len};
 

@@ -48,8 +48,8 @@ fn push_bar(text: &mut String, bar: Bar, room: u32) -> Result<(), AllocError> {
     push_times(text, ' ', bar.begin as usize)?;
     push_times(text, '=', (bar.end - bar.begin) as usize)?;
     text.push('=')?;
-    let behind = room.saturating_sub(bar.end).saturating_sub(1);
-    push_times(text, ' ', behind as usize)
+    let after = room.saturating_sub(bar.end).saturating_sub(1);
+    push_times(text, ' ', after as usize)
 }
 
 /// Its offset from the trace's first moment, and its length.

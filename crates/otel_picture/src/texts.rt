@@ -88,7 +88,7 @@ pub(crate) fn push_times(out: &mut String, c: char, count: usize) -> Result<(), 
     Ok(())
 }
 
-/// Appends a text in a room of so many characters: cut, with an ellipsis, where it is longer, and with blanks behind it
+/// Appends a text in a room of so many characters: cut, with an ellipsis, where it is longer, and with blanks after it
 /// where it is shorter.
 pub(crate) fn push_in_room(out: &mut String, text: &str, room: usize) -> Result<(), AllocError> {
     let count = text.chars().count();

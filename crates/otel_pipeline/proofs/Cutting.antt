@@ -20,7 +20,7 @@ short limit xs ys h =
     let whole : length xs + (limit - length xs) ≡ limit = omega arith in
     ap (λ zs. zs ++ take (limit - length zs) ys) same ∙ sym (take-append-add xs ys (limit - length xs)) ∙ ap (λ n. take n (xs ++ ys)) whole
 
--- what is kept of two lists joined: of the second what finds room behind the first
+-- what is kept of two lists joined: of the second what finds room after the first
 pub cut_joined : {X : Type 0} (limit : ℕ) (xs ys : List X) → cut_at limit xs ++ cut_at (limit - length (cut_at limit xs)) ys ≡ cut_at limit (xs ++ ys)
 cut_joined limit xs ys = elim (dec_lt (length xs) limit) [ Prim.yes h ↦ short limit xs ys (omega arith) | Prim.no h ↦ full limit xs ys (omega arith) ]
 

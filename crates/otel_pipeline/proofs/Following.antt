@@ -201,10 +201,10 @@ follows_both true a b c xs ys e h k =
       while_open = h.while_open ++ k.while_open;
       while_shut = k.while_shut;
       whole =
-          let behind : (List Delivery) → List Delivery = λ l. h.while_open ++ l in
-          let first : xs ≡ h.while_open = h.whole ∙ ap behind none ∙ append-nil h.while_open in
+          let later : (List Delivery) → List Delivery = λ l. h.while_open ++ l in
+          let first : xs ≡ h.while_open = h.whole ∙ ap later none ∙ append-nil h.while_open in
           let regrouped = sym (append_assoc h.while_open k.while_open k.while_shut) in
-          ap (λ (l : List Delivery). l ++ ys) first ∙ ap behind k.whole ∙ regrouped;
+          ap (λ (l : List Delivery). l ++ ys) first ∙ ap later k.whole ∙ regrouped;
       still_open = k.still_open;
       was_shut = λ shut. let was : IsTrue a.is_open = h.never_reopens e in cc;
       hears = hears_append a b c h.while_open k.while_open h.hears k.hears;

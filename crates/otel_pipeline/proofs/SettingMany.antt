@@ -1,4 +1,4 @@
--- Attributes that are set one behind the other are added at once, as far as there is room.
+-- Attributes that are set one after the other are added at once, as far as there is room.
 use Rattle.std.proofs.Common.{◌≡◌, ℕ, suc, ◌+◌, ◌-◌, ◌^◌, ◌<◌, ◌≤◌, true, false, min, map, List, [], ◌∷◌, ◌++◌, Option, Some, None, Result, Ok, Err, OnOk, OnErr, refl, sym, ◌∙◌, ap, subst, length, take, arith, append_assoc, append-nil, length-append, nat_lt}
 use native.Mathlib.Decide.{dec_lt}
 use Rattle.std.proofs.lemmas.Bool.Decides.{nat_tests}
@@ -113,7 +113,7 @@ pub edited_by_set : {T E : Type 0} (answer : Result T E) (added : List PlainKeyV
 edited_by_set (Ok _) added context limits before now old has e h k = (map set_attribute added, set_span added context limits before now old has e h)
 edited_by_set (Err _) added context limits before now old has e h k = ([], ap (plain_span context limits) k ∙ e)
 
--- a span with a history keeps one behind edits
+-- a span with a history keeps one after edits
 each_history : (edits : List Edit) (context : PlainSpanContext) (limits : SpanLimits) (recorded : Option PlainSpanData)
     → HasHistory (plain_span context limits recorded) → HasHistory (plain_span context limits (edited_each limits edits recorded))
 each_history [] context limits recorded has = has

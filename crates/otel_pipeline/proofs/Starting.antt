@@ -44,11 +44,11 @@ module _ {P : Type 0} (calls : Ghosts P) where
   decided_to_record decisions.RecordAndSample cx start old new history kept h = h
 
   -- a span that passes through processors leaves what they tell
-  passes_told : (cx : PlainContext) (span : PlainSpan) (old new : List P) (behind : PlainSpan) → PassesThrough calls cx span old new behind → map calls.told new ≡ map calls.told old
-  passes_told cx span [] [] behind h = refl
-  passes_told cx span [] (q ∷ qs) behind h = absurd h
-  passes_told cx span (p ∷ ps) [] behind h = absurd h
-  passes_told cx span (p ∷ ps) (q ∷ qs) behind h = λ k. h.1.told k ∷ passes_told cx h.0 ps qs behind h.2 k
+  passes_told : (cx : PlainContext) (span : PlainSpan) (old new : List P) (later : PlainSpan) → PassesThrough calls cx span old new later → map calls.told new ≡ map calls.told old
+  passes_told cx span [] [] later h = refl
+  passes_told cx span [] (q ∷ qs) later h = absurd h
+  passes_told cx span (p ∷ ps) [] later h = absurd h
+  passes_told cx span (p ∷ ps) (q ∷ qs) later h = λ k. h.1.told k ∷ passes_told cx h.0 ps qs later h.2 k
 
   -- and so does a start, whatever the sampler decided
   decided_told : (decision : SamplingDecision) (cx : PlainContext) (start : SpanStart) (old new : List P) (history : SpanHistory)
@@ -58,7 +58,7 @@ module _ {P : Type 0} (calls : Ghosts P) where
   decided_told decisions.RecordAndSample cx start old new history h = passes_told cx (recording start []) old new (recording start h.edits) h.passes
 
 module _ {P S G : Type 0} (calls : Ghosts P) (sampler : sampling.Ghosts S) (ids : drawing.Ghosts G) where
-  -- what the sampler decided, from the provider behind the draws
+  -- what the sampler decided, from the provider after the draws
   opened : (old drawn new : ProviderState P S G) (request : StartRequest) (trace_id span_id : ℕ) (answer : PlainSamplingResult) (history : SpanHistory)
       → (old.is_shut || request.cx.telemetry_suppressed) ≡ false
       → DrawsIds ids request.cx.span_context (start_moment request.builder request.now) old.id_generator trace_id span_id drawn.id_generator → drawn ≡ record old { id_generator = drawn.id_generator }

@@ -91,7 +91,7 @@ grown_within limit xs x = if nat_lt (length xs) limit then xs ++ x ∷ [] else x
 abbrev pub left_out_with : {X : Type 0} → ℕ → List X → ℕ → ℕ
 left_out_with limit xs n = if nat_lt (length xs) limit then n else min (n + 1) (2 ^ 32 - 1)
 
--- a list of attributes with others behind it, as far as there is room for them under the limit
+-- a list of attributes with others after it, as far as there is room for them under the limit
 abbrev pub grown_by : SpanLimits → List PlainKeyValue → List PlainKeyValue → List PlainKeyValue
 grown_by limits xs added = xs ++ attributes_within limits (limits.max_attributes_per_span - length xs) added
 
@@ -140,7 +140,7 @@ abbrev pub edited_if : SpanLimits → Edit → Option PlainSpanData → Option P
 edited_if limits edit None = None
 edited_if limits edit (Some recorded) = Some (edited_data limits edit recorded)
 
--- what edits make one behind the other of what is recorded
+-- what edits make one after the other of what is recorded
 abbrev pub edited_each : SpanLimits → List Edit → Option PlainSpanData → Option PlainSpanData
 edited_each limits [] recorded = recorded
 edited_each limits (edit ∷ edits) recorded = edited_each limits edits (edited_if limits edit recorded)

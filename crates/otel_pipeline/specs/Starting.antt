@@ -69,7 +69,7 @@ module _ {P : Type 0} (calls : Ghosts P) where
     pub edits : IsEdited old new
     pub told : calls.told after ≡ calls.told before
 
-  -- a span is passed from one processor to the next, each of which takes part: the span before all and behind all
+  -- a span is passed from one processor to the next, each of which takes part: the span before all and after all
   abbrev pub PassesThrough : PlainContext → PlainSpan → List P → List P → PlainSpan → Type 0
   PassesThrough cx old [] [] new = new ≡ old
   PassesThrough cx old [] (q ∷ qs) new = ⊥

@@ -1,5 +1,5 @@
 //! The laws of spans and traces over the definitions alone. Each function does nothing; its contract is the law, for all
-//! values, or for the value behind its reference.
+//! values, or for the value that a reference refers to.
 
 ghost use Rattle.std.specs.Prelude.{◌≡◌, ◌<◌, ◌≤◌, ◌++◌, ℕ, IsNone, Some, List, [], All, Result, false, length, map};
 ghost use Rattle.std.specs.Str.{IsUtf8, chars};

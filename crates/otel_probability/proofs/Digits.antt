@@ -49,7 +49,7 @@ number_push m p d (x ∷ xs) small h =
     (λ no. absurd (cc (sym (no_number x m xs no) ∙ h)))
     (true_or_false (is_digit x))
 
--- so many digits of a number, behind another one
+-- so many digits of a number, after another one
 pub number_of_hex : (k n m : ℕ) → n < 16 ^ k → number_after m (hex_text k n) ≡ Some (m * 16 ^ k + n)
 unfolding hex_text
 number_of_hex zero n m small = ap Some (omega arith)
@@ -68,7 +68,7 @@ none_where_no_hex m (x ∷ xs) h =
     (λ no. no_number x m xs no)
     (true_or_false (is_digit x))
 
--- what has a number is its text, behind that of the number in front
+-- what has a number is its text, after that of the number in front
 digits_read : (j m n : ℕ) (xs : List ℕ) → m < 16 ^ j → number_after m xs ≡ Some n → (n < 16 ^ (j + length xs)) × (hex_text (j + length xs) n ≡ hex_text j m ++ xs)
 digits_read j m n [] small h =
     let same : m ≡ n = cc in

@@ -3,7 +3,7 @@ use Rattle.std.proofs.Common.{◌≡◌, List, ℕ, ◌++◌, ◌∙◌, cond, a
 use Rattle.std.specs.Prelude.{Result, Ok, Err}
 use Rattle.std.specs.Result.{OnOk, is_ok}
 
--- behind a front, its last part makes the whole
+-- after a front, its last part makes the whole
 pub grows_by_last : {E : Type 0} (r : Result (Unit {0}) E) (new middle old front last whole : List ℕ)
     → new ≡ cond (is_ok r) (middle ++ last) middle → middle ≡ old ++ front → whole ≡ front ++ last → OnOk r (new ≡ old ++ whole)
 grows_by_last (Ok x) new middle old front last whole pushed fronted is =

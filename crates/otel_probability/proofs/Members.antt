@@ -1,4 +1,4 @@
--- A walk over the members of an entry: what it has found, and what it has put behind a text.
+-- A walk over the members of an entry: what it has found, and what it has put after a text.
 use Rattle.std.proofs.Common.{◌≡◌, ◌≢◌, ℕ, ◌+◌, ◌<◌, List, [], ◌∷◌, ◌++◌, length, drop, get_or, Option, Some, None, Bool, true, false, cond, refl, sym, ap, ◌∙◌, arith, append_assoc}
 use Rattle.std.proofs.lemmas.List.{at_drop_more, at_drop_all}
 use Rattle.std.specs.List.{after_first, filter, join_with_byte}
@@ -92,25 +92,25 @@ pub others_some : (ms : List (List ℕ)) → AreSome (filter stays ms)
 others_some [] = tt
 others_some (m ∷ ms) = some_more (stays m) m (filter stays ms) refl (others_some ms)
 
-with_member_behind : (text m : List ℕ) → text ≢ [] → with_member text m ≡ text ++ 59 ∷ m
-with_member_behind [] m h = absurd (h refl)
-with_member_behind (b ∷ text) m h = refl
+with_member_after : (text m : List ℕ) → text ≢ [] → with_member text m ≡ text ++ 59 ∷ m
+with_member_after [] m h = absurd (h refl)
+with_member_after (b ∷ text) m h = refl
 
-behind_not_nil : (text m : List ℕ) → text ≢ [] → text ++ 59 ∷ m ≢ []
-behind_not_nil [] m h = absurd (h refl)
-behind_not_nil (b ∷ text) m h = λ e. absurd cc
+after_not_nil : (text m : List ℕ) → text ≢ [] → text ++ 59 ∷ m ≢ []
+after_not_nil [] m h = absurd (h refl)
+after_not_nil (b ∷ text) m h = λ e. absurd cc
 
 -- two texts in front are one
 join_two : (text m : List ℕ) (ms : List (List ℕ)) → join_with_byte 59 (text ∷ m ∷ ms) ≡ join_with_byte 59 ((text ++ 59 ∷ m) ∷ ms)
 join_two text m [] = refl
 join_two text m (x ∷ ms) = sym (append_assoc text (59 ∷ m) (59 ∷ join_with_byte 59 (x ∷ ms)))
 
-pub joined_behind : (text : List ℕ) (ms : List (List ℕ)) → text ≢ [] → with_members text ms ≡ join_with_byte 59 (text ∷ ms)
-joined_behind text [] some = refl
-joined_behind text (m ∷ ms) some =
-    ap (λ t. with_members t ms) (with_member_behind text m some)
-    ∙ joined_behind (text ++ 59 ∷ m) ms (behind_not_nil text m some) ∙ sym (join_two text m ms)
+pub joined_after : (text : List ℕ) (ms : List (List ℕ)) → text ≢ [] → with_members text ms ≡ join_with_byte 59 (text ∷ ms)
+joined_after text [] some = refl
+joined_after text (m ∷ ms) some =
+    ap (λ t. with_members t ms) (with_member_after text m some)
+    ∙ joined_after (text ++ 59 ∷ m) ms (after_not_nil text m some) ∙ sym (join_two text m ms)
 
 pub joined_alone : (ms : List (List ℕ)) → AreSome ms → with_members [] ms ≡ join_with_byte 59 ms
 joined_alone [] some = refl
-joined_alone (m ∷ ms) some = joined_behind m ms some.0
+joined_alone (m ∷ ms) some = joined_after m ms some.0

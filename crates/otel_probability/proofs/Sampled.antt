@@ -10,7 +10,7 @@ use Rattle.otel_sampling.specs.Agreement.{Agrees}
 use Rattle.otel_sampling.specs.declared.trace.sampler.SamplingDecision.TheVariants as decisions
 use Rattle.otel_probability.specs.Answers.{bare_answer, by_threshold, child_answer, consistent_state, is_consistent, keeps_trace}
 use Rattle.otel_probability.specs.Entry.{Pairs, entry_of, entry_with, randomness_in, threshold_in, with_threshold, without_threshold}
-use Rattle.otel_probability.specs.Hops.{AreHops, IsHop, OthersFit, state_behind}
+use Rattle.otel_probability.specs.Hops.{AreHops, IsHop, OthersFit, state_after}
 use Rattle.opentelemetry.specs.Tracestate.{is_value}
 use Rattle.opentelemetry.proofs.Tracestates.{both_true}
 use Rattle.otel_probability.specs.Numbers.{every_number}
@@ -94,19 +94,19 @@ by_threshold_random true threshold state trace_id fits =
 by_threshold_random false threshold state trace_id fits =
     (fits_without state fits, same_randomness (without_threshold state) state trace_id (random_without state fits))
 
-pub random_behind : (hops : List ℕ) (state : Pairs) (trace_id : ℕ) → OthersFit state → randomness_in (state_behind hops state trace_id) trace_id ≡ randomness_in state trace_id
-random_behind [] state trace_id fits = refl
-random_behind (threshold ∷ hops) state trace_id fits =
+pub random_after : (hops : List ℕ) (state : Pairs) (trace_id : ℕ) → OthersFit state → randomness_in (state_after hops state trace_id) trace_id ≡ randomness_in state trace_id
+random_after [] state trace_id fits = refl
+random_after (threshold ∷ hops) state trace_id fits =
     let hop = by_threshold_random (keeps_trace threshold state trace_id) threshold state trace_id fits in
-    random_behind hops (by_threshold threshold state trace_id).trace_state trace_id hop.0 ∙ hop.1
+    random_after hops (by_threshold threshold state trace_id).trace_state trace_id hop.0 ∙ hop.1
 
 pub keeps_more : (one other : List ℕ) (state : Pairs) (trace_id small great : ℕ) → OthersFit state → small ≤ great
-    → keeps_trace great (state_behind one state trace_id) trace_id ≡ true → keeps_trace small (state_behind other state trace_id) trace_id ≡ true
+    → keeps_trace great (state_after one state trace_id) trace_id ≡ true → keeps_trace small (state_after other state trace_id) trace_id ≡ true
 keeps_more one other state trace_id small great fits least kept =
-    let here : great ≤ randomness_in (state_behind one state trace_id) trace_id = leb-true great (randomness_in (state_behind one state trace_id) trace_id) kept in
-    let this = random_behind one state trace_id fits in
-    let that = random_behind other state trace_id fits in
-    le-leb small (randomness_in (state_behind other state trace_id) trace_id) (omega (arith, here, this, that, least))
+    let here : great ≤ randomness_in (state_after one state trace_id) trace_id = leb-true great (randomness_in (state_after one state trace_id) trace_id) kept in
+    let this = random_after one state trace_id fits in
+    let that = random_after other state trace_id fits in
+    le-leb small (randomness_in (state_after other state trace_id) trace_id) (omega (arith, here, this, that, least))
 
 hop_agrees : (root parent child : PlainSpanContext) → root.trace_flags % 2 ≡ 1 → is_consistent root.trace_state root.trace_id ≡ true → Agrees root parent → IsHop parent child → Agrees root child
 hop_agrees root parent child sampled consistent agrees hop =

@@ -12,7 +12,7 @@ turned : (b : Bool) → not b ≡ true → b ≡ false
 turned true h = absurd cc
 turned false h = refl
 
--- the member that a threshold makes has its sub-key, and the text behind it
+-- the member that a threshold makes has its sub-key, and the text after it
 pub th_member : (text : List ℕ) → (has_sub_key th (th ++ 58 ∷ text) ≡ true) × (after_first is_colon (th ++ 58 ∷ text) ≡ text)
 th_member text =
     let inside : 2 < length (th ++ 58 ∷ text) = omega arith in

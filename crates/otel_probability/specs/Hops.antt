@@ -10,11 +10,11 @@ use Rattle.otel_probability.specs.Entry.{Pairs, entry_of, entry_text, other_memb
 abbrev pub OthersFit : Pairs → Type 0
 OthersFit state = is_value (entry_text (other_members (entry_of state))) ≡ true
 
--- the trace state of a trace behind services that decide by these thresholds
-abbrev pub state_behind : List ℕ → Pairs → ℕ → Pairs
-state_behind [] state trace_id = state
-state_behind (threshold ∷ more) state trace_id =
-    state_behind more (by_threshold threshold state trace_id).trace_state trace_id
+-- the trace state of a trace after services that decide by these thresholds
+abbrev pub state_after : List ℕ → Pairs → ℕ → Pairs
+state_after [] state trace_id = state
+state_after (threshold ∷ more) state trace_id =
+    state_after more (by_threshold threshold state trace_id).trace_state trace_id
 
 -- a span's context is that of a child on which a sampler by parents decided
 pub record IsHop (parent child : PlainSpanContext) : Type 0 where

@@ -1,4 +1,4 @@
--- Members that are put behind others one by one, with a semicolon between two.
+-- Members that are put after others one by one, with a semicolon between two.
 use Rattle.std.specs.Prelude.{ℕ, List, [], ◌∷◌, ◌++◌}
 use Rattle.opentelemetry.specs.Members.{semicolon}
 

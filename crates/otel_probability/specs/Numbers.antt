@@ -48,7 +48,7 @@ is_digit b = (nat_le 48 b && nat_le b 57) || (nat_le 97 b && nat_le b 102)
 abbrev pub digit_value : ℕ → ℕ
 digit_value b = if nat_lt b 58 then b - 48 else b - 87
 
--- the number that digits write behind those of another number; none where one is no digit
+-- the number that digits write after those of another number; none where one is no digit
 abbrev pub number_after : ℕ → List ℕ → Option ℕ
 number_after n [] = Some n
 number_after n (b ∷ bs) = if is_digit b then number_after (n * 16 + digit_value b) bs else None

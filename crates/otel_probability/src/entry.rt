@@ -40,7 +40,7 @@ fn stays(member: &str) -> bool
     !member.is_empty() && value_under(member, "th").is_none()
 }
 
-/// Puts a member behind others.
+/// Puts a member after others.
 fn push_member(text: &mut String, member: &str) -> Result<(), AllocError>
     ensures { OnOk result (string_bytes text.new ≡ with_member (string_bytes text.old) member.now) }
 {
@@ -50,7 +50,7 @@ fn push_member(text: &mut String, member: &str) -> Result<(), AllocError>
     text.push_str(member)
 }
 
-/// Puts the members of an entry that stay behind others.
+/// Puts the members of an entry that stay after others.
 fn push_others(text: &mut String, entry: &str) -> Result<(), AllocError>
     ensures { OnOk result
         (string_bytes text.new ≡ with_members (string_bytes text.old) (other_members entry.now)) }

@@ -12,7 +12,7 @@ ghost use Rattle.otel_probability.specs.Answers.{child_answer, is_consistent, ke
 ghost use Rattle.otel_probability.specs.Answers.{probability_answer, state_of};
 ghost use Rattle.otel_probability.specs.Entry.{Pairs, entry_of, entry_with, randomness_in, threshold_in};
 ghost use Rattle.otel_probability.specs.Entry.{with_threshold, without_threshold};
-ghost use Rattle.otel_probability.specs.Hops.{AreHops, OthersFit, state_behind};
+ghost use Rattle.otel_probability.specs.Hops.{AreHops, OthersFit, state_after};
 ghost use Rattle.otel_probability.specs.Numbers.{WritesRandomness, WritesThreshold, every_number, randomness_of_text};
 ghost use Rattle.otel_probability.specs.Numbers.{threshold_of_text, threshold_text};
 
@@ -73,8 +73,8 @@ pub fn inconsistent_thresholds_are_erased()
 /// What a service keeps, each keeps whose probability is at least as great, whichever services stand between them.
 pub fn greater_probabilities_keep_more()
     ensures { (one other : List ℕ) (state : Pairs) (trace_id threshold greater : ℕ) → OthersFit state
-        → threshold ≤ greater → keeps_trace greater (state_behind one state trace_id) trace_id ≡ true
-        → keeps_trace threshold (state_behind other state trace_id) trace_id ≡ true }
+        → threshold ≤ greater → keeps_trace greater (state_after one state trace_id) trace_id ≡ true
+        → keeps_trace threshold (state_after other state trace_id) trace_id ≡ true }
 {}
 
 /// The children of a sampled span with a consistent threshold, and theirs, over any hops, have its decision and its

@@ -89,7 +89,7 @@ impl Threshold {
         self.0
     }
 
-    /// Puts the text of a `th` behind others.
+    /// Puts the text of a `th` after others.
     pub(crate) fn push_text(self, text: &mut String) -> Result<(), AllocError>
         ensures { OnOk result (TextGrows text.old (threshold_text self) text.new) }
     {
@@ -97,7 +97,7 @@ impl Threshold {
     }
 }
 
-/// Puts so many digits of a number behind a text, without the zeros at their end, the first digit always.
+/// Puts so many digits of a number after a text, without the zeros at their end, the first digit always.
 fn push_short_hex(text: &mut String, count: usize, number: u64) -> Result<(), AllocError>
     ensures { OnOk result (TextGrows text.old (short_hex count number) text.new) }
 {
@@ -107,7 +107,7 @@ fn push_short_hex(text: &mut String, count: usize, number: u64) -> Result<(), Al
     push_hex(text, count, number)
 }
 
-/// Puts so many digits of a number behind a text.
+/// Puts so many digits of a number after a text.
 fn push_hex(text: &mut String, count: usize, number: u64) -> Result<(), AllocError>
     ensures { OnOk result (TextGrows text.old (hex_text count number) text.new) }
 {

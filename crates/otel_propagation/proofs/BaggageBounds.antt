@@ -19,7 +19,7 @@ use Rattle.std.proofs.lemmas.List.Elements.{filter_map-append}
 use Rattle.otel_propagation.proofs.BaggageNames.{one_a_name_push}
 use Rattle.otel_propagation.proofs.TrimLemmas.{length-trim}
 
--- how long pieces are, each with one byte behind it
+-- how long pieces are, each with one byte after it
 abbrev pub pieces_bytes : List (List ℕ) → ℕ
 pieces_bytes pieces = sum_by (λ piece. length piece + 1) pieces
 

@@ -27,7 +27,7 @@ last_key e (l ∷ more) =
     (λ is. ap (λ (x : PlainBaggageEntry). x.key) (cond-false _ _ _ is) ∙ last_key e more)
     (cases_Bool (bytes_eq e.key l.key))
 
--- an entry of the name behind the others is the last one
+-- an entry of the name after the others is the last one
 last_push_same : (e : PlainBaggageEntry) (es : PlainBaggage) (x : PlainBaggageEntry) → e.key ≡ x.key → last_of_name e (es ++ x ∷ []) ≡ x
 last_push_same e [] x is = cond-true _ _ _ (is_same e.key x.key is)
 last_push_same e (l ∷ more) x is =
@@ -54,8 +54,8 @@ stays e y es apart = cond-true _ _ _ (ap not (is_other e.key y.key apart))
 put_in_place : (y x : PlainBaggageEntry) (es : PlainBaggage) → x.key ≡ y.key → with_entry (y ∷ es) x ≡ x ∷ es
 put_in_place y x es is = cond-true _ _ _ (is_same x.key y.key is)
 
-put_behind : (y x : PlainBaggageEntry) (es : PlainBaggage) → x.key ≢ y.key → with_entry (y ∷ es) x ≡ y ∷ with_entry es x
-put_behind y x es apart = cond-false _ _ _ (is_other x.key y.key apart)
+put_after : (y x : PlainBaggageEntry) (es : PlainBaggage) → x.key ≢ y.key → with_entry (y ∷ es) x ≡ y ∷ with_entry es x
+put_after y x es apart = cond-false _ _ _ (is_other x.key y.key apart)
 
 others_with_same : (e x : PlainBaggageEntry) (es : PlainBaggage) → e.key ≡ x.key → of_other_names e (with_entry es x) ≡ of_other_names e es
 others_with_same e x [] is = same_name_left_out e x [] is
@@ -73,17 +73,17 @@ others_with_other e x (y ∷ es) apart =
     (λ here. let is = same x.key y.key here in let apart_y = λ (e_y : e.key ≡ y.key). apart (e_y ∙ sym is) in
     ap (of_other_names e) (cond-true _ _ _ here) ∙ stays e x es apart ∙ sym (put_in_place y x (of_other_names e es) is)
     ∙ ap (λ l. with_entry l x) (sym (stays e y es apart_y)))
-    (λ here. ap (of_other_names e) (cond-false _ _ _ here) ∙ behind (others_with_other e x es apart) (other x.key y.key here) (cases_Bool (bytes_eq e.key y.key)))
+    (λ here. ap (of_other_names e) (cond-false _ _ _ here) ∙ after (others_with_other e x es apart) (other x.key y.key here) (cases_Bool (bytes_eq e.key y.key)))
     (cases_Bool (bytes_eq x.key y.key))
   where
-    behind : of_other_names e (with_entry es x) ≡ with_entry (of_other_names e es) x → x.key ≢ y.key → (bytes_eq e.key y.key ≡ true) ⊎ (bytes_eq e.key y.key ≡ false) → of_other_names e (y ∷ with_entry es x) ≡ with_entry (of_other_names e (y ∷ es)) x
-    behind rest apart_x (inl here) =
+    after : of_other_names e (with_entry es x) ≡ with_entry (of_other_names e es) x → x.key ≢ y.key → (bytes_eq e.key y.key ≡ true) ⊎ (bytes_eq e.key y.key ≡ false) → of_other_names e (y ∷ with_entry es x) ≡ with_entry (of_other_names e (y ∷ es)) x
+    after rest apart_x (inl here) =
         let is = same e.key y.key here in
         same_name_left_out e y (with_entry es x) is ∙ rest ∙ ap (λ l. with_entry l x) (sym (same_name_left_out e y es is))
-    behind rest apart_x (inr here) =
+    after rest apart_x (inr here) =
         let apart_y = other e.key y.key here in
         stays e y (with_entry es x) apart_y ∙ ap (λ l. y ∷ l) rest
-        ∙ sym (put_behind y x (of_other_names e es) apart_x) ∙ ap (λ l. with_entry l x) (sym (stays e y es apart_y))
+        ∙ sym (put_after y x (of_other_names e es) apart_x) ∙ ap (λ l. with_entry l x) (sym (stays e y es apart_y))
 
 -- one entry more is put in the place of the one of its name, else last
 pub one_a_name_push : (es : PlainBaggage) (x : PlainBaggageEntry) → one_a_name (es ++ x ∷ []) ≡ with_entry (one_a_name es) x
@@ -96,7 +96,7 @@ one_a_name_push (e ∷ es) x =
     ∙ sym (put_in_place (last_of_name e es) x (of_other_names e (one_a_name es)) (sym is ∙ sym (last_key e es))))
     (λ here. let apart = other e.key x.key here in
     (λ i. last_push_other e es x apart i ∷ others_with_other e x (one_a_name es) apart i)
-    ∙ sym (put_behind (last_of_name e es) x (of_other_names e (one_a_name es)) (λ is. apart (sym (is ∙ last_key e es)))))
+    ∙ sym (put_after (last_of_name e es) x (of_other_names e (one_a_name es)) (λ is. apart (sym (is ∙ last_key e es)))))
     (cases_Bool (bytes_eq e.key x.key))
 
 last_free : (e : PlainBaggageEntry) (es : PlainBaggage) → IsFreeName e.key es → last_of_name e es ≡ e

@@ -22,13 +22,13 @@ all_others c bs none = All-from_get_or (λ b. eqb b c ≡ false) bs 0 (λ i insi
 pub uncut : (c : ℕ) (bs : List ℕ) → IsSplitOnceResult c bs None → c < 128 → pieces_at c bs ≡ bs ∷ []
 uncut c bs h ascii = slice_split_none (λ b. eqb b c) bs (all_others c bs (split_parts c bs None h ascii))
 
--- a text that was cut once is a piece, and the pieces of what is behind the byte
-pub cut_once : (c : ℕ) (bs : List ℕ) (before behind : Bor (List ℕ)) → IsSplitOnceResult c bs (Some (before, behind)) → c < 128 → pieces_at c bs ≡ before.now ∷ pieces_at c behind.now
-cut_once c bs before behind h ascii =
-    let parts = split_parts c bs (Some (before, behind)) h ascii in
-    ap (pieces_at c) parts.0 ∙ slice_split_at (λ b. eqb b c) before.now c behind.now (all_others c before.now parts.1) (eq-eqb c c refl)
+-- a text that was cut once is a piece, and the pieces of what is after the byte
+pub cut_once : (c : ℕ) (bs : List ℕ) (before after : Bor (List ℕ)) → IsSplitOnceResult c bs (Some (before, after)) → c < 128 → pieces_at c bs ≡ before.now ∷ pieces_at c after.now
+cut_once c bs before after h ascii =
+    let parts = split_parts c bs (Some (before, after)) h ascii in
+    ap (pieces_at c) parts.0 ∙ slice_split_at (λ b. eqb b c) before.now c after.now (all_others c before.now parts.1) (eq-eqb c c refl)
 
--- a property that says a text is written behind what parts it from the others
+-- a property that says a text is written after what parts it from the others
 pub property_added : (first : Bool) (old between new : List ℕ) (said : Option (List ℕ)) (text : List ℕ) → said ≡ Some text
     → between ≡ old ++ unless_first first (semicolon ∷ []) → new ≡ between ++ text → new ≡ old ++ next_property first said
 property_added first old between new said text is parted written =
@@ -48,7 +48,7 @@ pieces_lack c d [] none = All-cons (HasNo d) [] [] tt (All-nil (HasNo d))
 pieces_lack c d (b ∷ bs) none =
     ⊎_elim
     (λ here. subst (All (HasNo d)) (sym (cond-true _ _ _ here)) (All-cons (HasNo d) [] (pieces_at c bs) tt (pieces_lack c d bs none.1)))
-    (λ behind. subst (All (HasNo d)) (sym (cond-false _ _ _ behind)) (onto (pieces_at c bs) (pieces_lack c d bs none.1)))
+    (λ after. subst (All (HasNo d)) (sym (cond-false _ _ _ after)) (onto (pieces_at c bs) (pieces_lack c d bs none.1)))
     (cases_Bool (eqb b c))
   where
     onto : (pieces : List (List ℕ)) → All (HasNo d) pieces → All (HasNo d) (onto_first b pieces)
@@ -60,7 +60,7 @@ abbrev pub none_yet : List (List ℕ) → Bool
 none_yet [] = true
 none_yet (t ∷ ts) = false
 
--- one more text, behind what parts it from the others
+-- one more text, after what parts it from the others
 pub join_last : (c : ℕ) (ts : List (List ℕ)) (t : List ℕ) → join_with_byte c (ts ++ t ∷ []) ≡ join_with_byte c ts ++ (unless_first (none_yet ts) (c ∷ []) ++ t)
 join_last c [] t = refl
 join_last c (s ∷ ts) t =

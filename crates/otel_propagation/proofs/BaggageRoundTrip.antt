@@ -13,7 +13,7 @@ use Rattle.percent_encoding.proofs.PercentLemmas.{IsEscapeByte, All-percent_enco
 use Rattle.opentelemetry.specs.Baggage.{PlainBaggage, PlainBaggageEntry, entry_of, HasNames}
 use Rattle.opentelemetry.specs.Members.{HasNo, comma, equals_sign}
 use Rattle.otel_propagation.specs.declared.propagation.baggage.write.TheConstants.{ESCAPED}
-use Rattle.otel_propagation.specs.BaggageHeader.{behind_semicolon, entries_of, entry_of_member, escaped, header_of, member_of, metadata_of, named_entry, needs_escape, one_a_name, paired_entry, said_by, HasTexts, IsBaggage, IsSaidUnchanged, IsCarriedUnchanged, Carries, InjectsBaggage, baggage_field, read_baggage}
+use Rattle.otel_propagation.specs.BaggageHeader.{after_semicolon, entries_of, entry_of_member, escaped, header_of, member_of, metadata_of, named_entry, needs_escape, one_a_name, paired_entry, said_by, HasTexts, IsBaggage, IsSaidUnchanged, IsCarriedUnchanged, Carries, InjectsBaggage, baggage_field, read_baggage}
 use Rattle.opentelemetry.specs.Members.{pieces_at, semicolon}
 use Rattle.opentelemetry.specs.Carrier.{Texts}
 use Rattle.opentelemetry.specs.Plain.{PlainContext}
@@ -84,14 +84,14 @@ pair_lacks_semicolon e =
     All-append (λ b. eqb b semicolon ≡ false) (escaped e.key) (equals_sign ∷ escaped e.value) (escaped_lacks semicolon e.key semicolon_is)
     (All-cons (λ b. eqb b semicolon ≡ false) equals_sign (escaped e.value) refl (escaped_lacks semicolon e.value semicolon_is))
 
-member_is : (e : PlainBaggageEntry) → trim e.metadata ≡ e.metadata → member_of e ≡ encoded_pair e ++ behind_semicolon e.metadata
+member_is : (e : PlainBaggageEntry) → trim e.metadata ≡ e.metadata → member_of e ≡ encoded_pair e ++ after_semicolon e.metadata
 unfolding member_of
 member_is e tight =
-    ap (λ m. escaped e.key ++ (equals_sign ∷ (escaped e.value ++ behind_semicolon m))) tight
-    ∙ sym (append_assoc (escaped e.key) (equals_sign ∷ escaped e.value) (behind_semicolon e.metadata))
+    ap (λ m. escaped e.key ++ (equals_sign ∷ (escaped e.value ++ after_semicolon m))) tight
+    ∙ sym (append_assoc (escaped e.key) (equals_sign ∷ escaped e.value) (after_semicolon e.metadata))
 
 -- the parts of a member are the pair and the pieces of metadata, if there is any
-member_parts : (e : PlainBaggageEntry) (metadata : List ℕ) → (properties : List (List ℕ)) × (pieces_at semicolon (encoded_pair e ++ behind_semicolon metadata) ≡ encoded_pair e ∷ properties)
+member_parts : (e : PlainBaggageEntry) (metadata : List ℕ) → (properties : List (List ℕ)) × (pieces_at semicolon (encoded_pair e ++ after_semicolon metadata) ≡ encoded_pair e ∷ properties)
     × (metadata_of (pieces_at semicolon metadata) ≡ metadata → metadata_of properties ≡ metadata)
 unfolding metadata_of
 member_parts e [] = (
@@ -132,14 +132,14 @@ members_back (e ∷ es) named texts unchanged =
 member_lacks_comma : (e : PlainBaggageEntry) → HasTexts e → IsSaidUnchanged e → Lacks comma (member_of e)
 member_lacks_comma e texts unchanged =
     subst (Lacks comma) (sym (member_is e (metadata_tight e texts unchanged)))
-    (All-append (λ b. eqb b comma ≡ false) (encoded_pair e) (behind_semicolon e.metadata)
+    (All-append (λ b. eqb b comma ≡ false) (encoded_pair e) (after_semicolon e.metadata)
     (All-append (λ b. eqb b comma ≡ false) (escaped e.key) (equals_sign ∷ escaped e.value) (escaped_lacks comma e.key comma_is)
     (All-cons (λ b. eqb b comma ≡ false) equals_sign (escaped e.value) refl (escaped_lacks comma e.value comma_is)))
-    (behind e.metadata unchanged.no_comma))
+    (after e.metadata unchanged.no_comma))
   where
-    behind : (metadata : List ℕ) → HasNo comma metadata → Lacks comma (behind_semicolon metadata)
-    behind [] none = All-nil (λ b. eqb b comma ≡ false)
-    behind (b ∷ bs) none = All-cons (λ b. eqb b comma ≡ false) semicolon (b ∷ bs) refl (lacks comma (b ∷ bs) none)
+    after : (metadata : List ℕ) → HasNo comma metadata → Lacks comma (after_semicolon metadata)
+    after [] none = All-nil (λ b. eqb b comma ≡ false)
+    after (b ∷ bs) none = All-cons (λ b. eqb b comma ≡ false) semicolon (b ∷ bs) refl (lacks comma (b ∷ bs) none)
 
 -- texts that lack a byte are the pieces of what it joins
 joined_pieces : (c : ℕ) (t : List ℕ) (ts : List (List ℕ)) → All (Lacks c) (t ∷ ts) → pieces_at c (join_with_byte c (t ∷ ts)) ≡ t ∷ ts

@@ -13,7 +13,7 @@ use Rattle.std.proofs.lemmas.Bool.Decides.{nat_tests}
 use Rattle.percent_encoding.specs.AsciiSet.{should_percent_encode}
 use Rattle.percent_encoding.specs.Percent.{encode_byte, percent_encode, percent_encode_byte}
 use Rattle.otel_propagation.specs.declared.propagation.baggage.write.TheConstants.{ESCAPED}
-use Rattle.otel_propagation.specs.BaggageHeader.{said_by, needs_escape, escaped_byte, escaped, behind_semicolon, member_of, header_of, HasTexts}
+use Rattle.otel_propagation.specs.BaggageHeader.{said_by, needs_escape, escaped_byte, escaped, after_semicolon, member_of, header_of, HasTexts}
 use Rattle.opentelemetry.specs.Members.{comma, equals_sign}
 use Rattle.otel_propagation.specs.BaggagePieces.{unless_first}
 use Rattle.opentelemetry.specs.Baggage.{PlainBaggage, PlainBaggageEntry}
@@ -22,7 +22,7 @@ use Rattle.std.proofs.lemmas.List.Elements.{All-nil, All-cons, All-append}
 use Rattle.std.proofs.lemmas.List.{length-map, map_push}
 use Rattle.std.proofs.lemmas.List.Sums.{sum_by-cons}
 
--- a text that is UTF-8 behind its escapes says that, trimmed
+-- a text that is UTF-8 after its escapes says that, trimmed
 pub said : (text : List ℕ) → IsUtf8 (percent_decode text) → Some (trim (percent_decode text)) ≡ said_by text
 unfolding said_by
 said text is = sym (cond-true _ _ _ (is_utf8-from_IsUtf8 (percent_decode text) is))
@@ -32,7 +32,7 @@ pub says_nothing : (text : List ℕ) → ¬ (IsUtf8 (percent_decode text)) → N
 unfolding said_by
 says_nothing text not = sym (cond-false _ _ _ (false_from_ne_true (is_utf8 (percent_decode text)) (λ is. not (IsUtf8-from_is_utf8 (percent_decode text) is))))
 
--- a fault in UTF-8 is no want of memory
+-- a fault in UTF-8 is not out of memory
 pub not_out_of_memory : (e : DecodeError) (fault : Utf8Error) → e ≡ Utf8 fault → e ≡ OutOfMemory → ⊥
 not_out_of_memory e fault is other = let both : Utf8 fault ≡ OutOfMemory = sym is ∙ other in cc
 
@@ -61,19 +61,19 @@ pub length-escaped : (text : List ℕ) → length (escaped text) ≡ length (tri
 unfolding percent_encode
 length-escaped text = ap length (sym (escaped_is text)) ∙ encoded_length (trim text)
 
--- a member in four parts, one written behind the other
+-- a member in four parts, one written after the other
 pub member_written : (e : PlainBaggageEntry) (old name equals value new : List ℕ) → name ≡ old ++ escaped e.key → equals ≡ name ++ equals_sign ∷ [] → value ≡ equals ++ escaped e.value
-    → new ≡ value ++ behind_semicolon (trim e.metadata) → new ≡ old ++ member_of e
+    → new ≡ value ++ after_semicolon (trim e.metadata) → new ≡ old ++ member_of e
 unfolding member_of
 member_written e old name equals value new named parted valued all =
-    let rest = behind_semicolon (trim e.metadata) in
+    let rest = after_semicolon (trim e.metadata) in
     all ∙ ap (λ t. t ++ rest) (valued ∙ ap (λ t. t ++ escaped e.value) (parted ∙ ap (λ t. t ++ equals_sign ∷ []) named)) ∙ simp append_assoc
 
-pub length-member_of : (e : PlainBaggageEntry) → length (member_of e) ≡ length (escaped e.key) + 1 + length (escaped e.value) + length (behind_semicolon (trim e.metadata))
+pub length-member_of : (e : PlainBaggageEntry) → length (member_of e) ≡ length (escaped e.key) + 1 + length (escaped e.value) + length (after_semicolon (trim e.metadata))
 unfolding member_of
 length-member_of e =
-    let value = length-append (escaped e.value) (behind_semicolon (trim e.metadata)) in
-    let all = length-append (escaped e.key) (equals_sign ∷ (escaped e.value ++ behind_semicolon (trim e.metadata))) in omega arith
+    let value = length-append (escaped e.value) (after_semicolon (trim e.metadata)) in
+    let all = length-append (escaped e.key) (equals_sign ∷ (escaped e.value ++ after_semicolon (trim e.metadata))) in omega arith
 
 -- how long joined texts are
 length-join : (c : ℕ) (ts : List (List ℕ)) → length (join_with_byte c ts) ≡ length ts - 1 + sum_by length ts
@@ -106,7 +106,7 @@ header_begun (e ∷ es) =
     let own = length-member_of e in
     ne_eqb (length (header_of (e ∷ es))) 0 (λ none. absurd (omega arith))
 
--- one more member stands behind a comma
+-- one more member stands after a comma
 pub header_more : (es : PlainBaggage) (e : PlainBaggageEntry) → header_of (es ++ e ∷ []) ≡ header_of es ++ (unless_first (length (header_of es) == 0) (comma ∷ []) ++ member_of e)
 unfolding header_of
 header_more es e = ap (join_with_byte comma) (map_push member_of es e) ∙ join_last comma (map member_of es) (member_of e) ∙ ap (λ b. header_of es ++ (unless_first b (comma ∷ []) ++ member_of e)) (sym (header_begun es))

@@ -17,7 +17,7 @@ any_named name_of name (other ∷ others) = ap (λ b. bytes_eq (name_of other) n
 pub known : (given : List (List ℕ)) (name : List ℕ) → list_any (λ other. bytes_eq other name) given ≡ true → with_name given name ≡ given
 known given name is = cond-true _ _ _ is
 
--- a new name stands behind the others
+-- a new name stands after the others
 pub new : (given : List (List ℕ)) (name : List ℕ) → list_any (λ other. bytes_eq other name) given ≡ false → with_name given name ≡ given ++ name ∷ []
 new given name is = cond-false _ _ _ is
 
@@ -41,19 +41,19 @@ next_is_new list given name is inside next =
 pub next_is_another : (list : List (List ℕ)) (given : ℕ) (name : List ℕ) → list_any (λ other. bytes_eq other name) (take given list) ≡ false
     → (given < length list → get_or list given [] ≢ name) → (more : List (List ℕ)) → list ≢ with_name (take given list) name ++ more
 next_is_another list given name is another more goes_on =
-    let behind = append_cancel_left (take given list) (drop given list) (name ∷ more)
+    let after = append_cancel_left (take given list) (drop given list) (name ∷ more)
     (take-append-drop given list ∙ goes_on ∙ ap (λ l. l ++ more) (new (take given list) name is) ∙ append_assoc (take given list) (name ∷ []) more) in
-    let inside : given < length list = omega (arith, sym (length-drop given list) ∙ ap length behind) in
-    another inside (ap (λ l. get_or l 0 []) (sym (drop-cons list given [] inside) ∙ behind))
+    let inside : given < length list = omega (arith, sym (length-drop given list) ∙ ap length after) in
+    another inside (ap (λ l. get_or l 0 []) (sym (drop-cons list given [] inside) ∙ after))
 
--- a name puts at most itself behind
+-- a name puts at most itself after
 adds : (given : List (List ℕ)) (name : List ℕ) → (more : List (List ℕ)) × (with_name given name ≡ given ++ more)
 adds given name = ⊎_elim
     (λ is. ([], known given name is ∙ sym (append-nil given)))
     (λ is. (name ∷ [], new given name is))
     (cases_Bool (list_any (λ other. bytes_eq other name) given))
 
--- names are only put behind those that are given
+-- names are only put after those that are given
 pub goes_on : (given names : List (List ℕ)) → (more : List (List ℕ)) × (joined_onto given names ≡ given ++ more)
 goes_on given [] = ([], sym (append-nil given))
 goes_on given (name ∷ names) =
@@ -65,5 +65,5 @@ goes_on given (name ∷ names) =
 pub others_stay_away : (list front names all : List (List ℕ)) (name : List ℕ) → joined_onto front (name ∷ names) ≡ all
     → ((more : List (List ℕ)) → list ≢ with_name front name ++ more) → (more : List (List ℕ)) → list ≢ all ++ more
 others_stay_away list front names all name is away more same =
-    let (behind, also) = goes_on (with_name front name) names in
-    away (behind ++ more) (same ∙ ap (λ l. l ++ more) (sym is ∙ also) ∙ append_assoc (with_name front name) behind more)
+    let (after, also) = goes_on (with_name front name) names in
+    away (after ++ more) (same ∙ ap (λ l. l ++ more) (sym is ∙ also) ∙ append_assoc (with_name front name) after more)

@@ -10,7 +10,7 @@ use Rattle.percent_encoding.proofs.PercentLemmas.{All-percent_encode_byte, IsEsc
 use Rattle.opentelemetry.specs.Baggage.{PlainBaggage, PlainBaggageEntry, entry_of, HasDistinctNames, IsWithinLimits}
 use Rattle.opentelemetry.specs.Members.{comma, equals_sign, pieces_at, semicolon}
 use Rattle.opentelemetry.proofs.Tracestates.{both_true}
-use Rattle.otel_propagation.specs.BaggageHeader.{behind_semicolon}
+use Rattle.otel_propagation.specs.BaggageHeader.{after_semicolon}
 use Rattle.otel_propagation.specs.StrictGrammar.{are_octets, is_octet, is_token, without_blanks, AreListMembers, AreProperties, IsBaggageHeader, IsListMember, IsOptionalSpace, IsProperty}
 use Rattle.otel_propagation.specs.StrictGrammar.IsProperty.{key_alone, key_and_value}
 use Rattle.otel_propagation.specs.StrictGrammar.AreProperties.{no_property, next_property}
@@ -18,7 +18,7 @@ use Rattle.otel_propagation.specs.StrictGrammar.AreListMembers.{last_member, nex
 use Rattle.otel_propagation.specs.StrictBaggage.{has_token_name, properties_onto, spelled_header, spelled_member, strict_entries_of, strict_header_of, strict_metadata_of, strict_pair, strict_property, written_entries, written_entry, written_octet, written_value}
 use Rattle.otel_propagation.proofs.BaggagePieceLemmas.{Lacks}
 use Rattle.otel_propagation.proofs.StrictBytes.{all_append, blanks_gone, dark_kept, dark_key, dark_octets, is_dark, semicolon_is}
-use Rattle.otel_propagation.proofs.StrictPairs.{key_tight, onto_behind, properties_tight, IsTightProperty}
+use Rattle.otel_propagation.proofs.StrictPairs.{key_tight, onto_after, properties_tight, IsTightProperty}
 use Rattle.otel_propagation.proofs.StrictReads.{header_reads, property_lacks, tight_reads}
 
 -- an entry as a member spells it: its name, its value and its properties are of the grammar
@@ -86,8 +86,8 @@ properties_spelled (p ∷ ps) tight = next_property [] [] p p (properties_onto f
 
 pub member_parts : (e : PlainBaggageEntry) (tight : IsTightEntry e) → spelled_member e ≡ e.key ++ equals_sign ∷ (e.value ++ properties_onto false tight.say)
 member_parts e tight =
-    ap (λ m. e.key ++ equals_sign ∷ (e.value ++ behind_semicolon m)) tight.metadata
-    ∙ ap (λ t. e.key ++ equals_sign ∷ (e.value ++ t)) (sym (onto_behind tight.say tight.properties))
+    ap (λ m. e.key ++ equals_sign ∷ (e.value ++ after_semicolon m)) tight.metadata
+    ∙ ap (λ t. e.key ++ equals_sign ∷ (e.value ++ t)) (sym (onto_after tight.say tight.properties))
 
 member_spelled : (e : PlainBaggageEntry) → IsTightEntry e → IsListMember (spelled_member e) e
 member_spelled e tight = record {
@@ -222,7 +222,7 @@ member_bare text e is =
     ∙ (λ i. dark_kept e.key (dark_key e.key is.key) i ++ gone_between is.before is.after (e.value ++ is.properties) equals_sign is.before_is is.after_is refl i)
     ∙ ap (λ t. e.key ++ equals_sign ∷ t) (filter-append is_dark e.value is.properties
     ∙ (λ i. dark_kept e.value (dark_octets e.value is.value) i ++ properties_bare is.properties is.say is.properties_are i)
-    ∙ ap (λ t. e.value ++ t) (onto_behind is.say (said_tight is.properties is.say is.properties_are) ∙ ap behind_semicolon (sym is.metadata)))
+    ∙ ap (λ t. e.value ++ t) (onto_after is.say (said_tight is.properties is.say is.properties_are) ∙ ap after_semicolon (sym is.metadata)))
 
 pub some_entries : (text : List ℕ) (es : PlainBaggage) → AreListMembers text es → es ≢ []
 some_entries _ _ (last_member text e is) none = absurd (cc)

@@ -9,7 +9,7 @@ use Rattle.std.proofs.lemmas.List.Elements.{filter_map-append}
 use Rattle.opentelemetry.proofs.Tracestates.{both_true}
 use Rattle.opentelemetry.specs.Members.{pieces_at, semicolon}
 use Rattle.opentelemetry.specs.Tracestate.{trimmed}
-use Rattle.otel_propagation.specs.BaggageHeader.{behind_semicolon}
+use Rattle.otel_propagation.specs.BaggageHeader.{after_semicolon}
 use Rattle.otel_propagation.specs.BaggagePieces.{next_property, unless_first}
 use Rattle.otel_propagation.specs.StrictGrammar.{are_octets, is_token, IsProperty}
 use Rattle.otel_propagation.specs.StrictGrammar.IsProperty.{key_alone, key_and_value}
@@ -17,7 +17,7 @@ use Rattle.otel_propagation.specs.StrictBaggage.{split_once, pair_of_cut, plain_
 use Rattle.otel_propagation.proofs.BaggagePieceLemmas.{none_yet}
 use Rattle.otel_propagation.proofs.StrictBytes.{cut_bytes, length-split_once, length-trimmed}
 
--- a key is a token, and a value behind it is of octets
+-- a key is a token, and a value after it is of octets
 abbrev pub IsKeyed : List ℕ → Option (List ℕ) → Type 0
 IsKeyed key None = is_token key ≡ true
 IsKeyed key (Some value) = (is_token key ≡ true) × (are_octets value ≡ true)
@@ -76,14 +76,14 @@ onto_join [] = refl
 onto_join (p ∷ []) = append-nil p
 onto_join (p ∷ q ∷ ps) = ap (λ l. p ++ semicolon ∷ l) (onto_join (q ∷ ps))
 
--- or stand behind a semicolon
-pub onto_behind : (ps : List (List ℕ)) → AllByRecursion IsTightProperty ps → properties_onto false ps ≡ behind_semicolon (join_with_byte semicolon ps)
-onto_behind [] tight = refl
-onto_behind (p ∷ ps) tight = by p (says_some p p tight.0)
+-- or stand after a semicolon
+pub onto_after : (ps : List (List ℕ)) → AllByRecursion IsTightProperty ps → properties_onto false ps ≡ after_semicolon (join_with_byte semicolon ps)
+onto_after [] tight = refl
+onto_after (p ∷ ps) tight = by p (says_some p p tight.0)
   where
-    by : (p : List ℕ) → p ≢ [] → properties_onto false (p ∷ ps) ≡ behind_semicolon (join_with_byte semicolon (p ∷ ps))
+    by : (p : List ℕ) → p ≢ [] → properties_onto false (p ∷ ps) ≡ after_semicolon (join_with_byte semicolon (p ∷ ps))
     by [] some = absurd (some refl)
-    by (b ∷ bs) some = ap behind_semicolon (onto_join ((b ∷ bs) ∷ ps))
+    by (b ∷ bs) some = ap after_semicolon (onto_join ((b ∷ bs) ∷ ps))
 
 -- one more
 onto_push : (first : Bool) (ps : List (List ℕ)) (p : List ℕ) → properties_onto first (ps ++ p ∷ []) ≡ properties_onto first ps ++ (unless_first (first && none_yet ps) (semicolon ∷ []) ++ p)
@@ -94,7 +94,7 @@ onto_push first (q ∷ ps) p =
     ∙ sym (append_assoc front (q ++ properties_onto false ps) (semicolon ∷ p) ∙ ap (λ l. front ++ l) (append_assoc q (properties_onto false ps) (semicolon ∷ p)))
     ∙ ap (λ (b : Bool). (front ++ (q ++ properties_onto false ps)) ++ (unless_first b (semicolon ∷ []) ++ p)) (sym (and-false first))
 
--- some properties were written behind a text, and the next one is the first still or is not
+-- some properties were written after a text, and the next one is the first still or is not
 pub record ArePushed (read : List (List ℕ)) (began is_first : Bool) (old new : List ℕ) : Type 0 where
   pub text : new ≡ old ++ properties_onto began (filter_map strict_property read)
   pub first : is_first ≡ (began && none_yet (filter_map strict_property read))

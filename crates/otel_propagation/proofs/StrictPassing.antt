@@ -13,7 +13,7 @@ use Rattle.opentelemetry.specs.Members.{HasNo, comma}
 use Rattle.opentelemetry.specs.Tracestate.{is_some_text}
 use Rattle.opentelemetry.proofs.Tracestates.{both_true}
 use Rattle.otel_propagation.specs.declared.propagation.baggage.write.TheConstants.{ESCAPED}
-use Rattle.otel_propagation.specs.BaggageHeader.{behind_semicolon, entries_of, escaped, escaped_byte, header_of, member_of, needs_escape, HasTexts, IsBaggage, IsSaidUnchanged}
+use Rattle.otel_propagation.specs.BaggageHeader.{after_semicolon, entries_of, escaped, escaped_byte, header_of, member_of, needs_escape, HasTexts, IsBaggage, IsSaidUnchanged}
 use Rattle.otel_propagation.specs.StrictGrammar.{are_octets, is_octet, is_token, is_token_byte}
 use Rattle.otel_propagation.specs.StrictBaggage.{spelled_header, spelled_member, strict_entries_of, strict_entry_of_member, strict_header_of, strict_pair, written_entries}
 use Rattle.otel_propagation.specs.StrictLaws.{backslash, HasPlainToken}
@@ -100,7 +100,7 @@ all_tight (e ∷ es) unchanged plain =
 -- the header of such a baggage spells its entries so
 member_same : (e : PlainBaggageEntry) → e.metadata ≡ [] → member_of e ≡ spelled_member (encoded e)
 unfolding member_of trim_start trim_end chars
-member_same e none = ap (λ m. escaped e.key ++ (61 ∷ (escaped e.value ++ behind_semicolon (trim m)))) none
+member_same e none = ap (λ m. escaped e.key ++ (61 ∷ (escaped e.value ++ after_semicolon (trim m)))) none
 
 members_same : (es : PlainBaggage) → All HasPlainToken es → map member_of es ≡ map spelled_member (map encoded es)
 members_same [] plain = refl

@@ -68,7 +68,7 @@ properties_lack_comma _ _ (next_property before after property says rest others 
     (both_lack comma after (property ++ rest) (space_lacks comma refl after after_is)
     (both_lack comma property rest (property_lacks comma comma_is property says is) (properties_lack_comma rest others more))))
 
--- a text with properties behind it, cut at the semicolons
+-- a text with properties after it, cut at the semicolons
 record IsCut (front text : List ℕ) (says : List (List ℕ)) : Type 0 where
   space : List ℕ
   pieces : List (List ℕ)

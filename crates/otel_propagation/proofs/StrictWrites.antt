@@ -10,12 +10,12 @@ use Rattle.percent_encoding.specs.Percent.{encode_byte, percent_encode, percent_
 use Rattle.opentelemetry.specs.Baggage.{PlainBaggage, PlainBaggageEntry}
 use Rattle.opentelemetry.specs.Members.{comma, equals_sign, pieces_at, semicolon}
 use Rattle.otel_propagation.specs.declared.propagation.strict_baggage.write.TheConstants.{NO_OCTETS}
-use Rattle.otel_propagation.specs.BaggageHeader.{behind_semicolon}
+use Rattle.otel_propagation.specs.BaggageHeader.{after_semicolon}
 use Rattle.otel_propagation.specs.BaggagePieces.{unless_first}
 use Rattle.otel_propagation.specs.StrictGrammar.{is_octet, is_token}
 use Rattle.otel_propagation.specs.StrictBaggage.{has_token_name, next_written, properties_onto, spelled_header, spelled_member, strict_header_of, strict_metadata_of, strict_property, written_entries, written_entry, written_octet, written_value}
 use Rattle.otel_propagation.proofs.BaggagePieceLemmas.{join_last, none_yet}
-use Rattle.otel_propagation.proofs.StrictPairs.{onto_behind, properties_tight}
+use Rattle.otel_propagation.proofs.StrictPairs.{onto_after, properties_tight}
 
 -- the bytes that a value has escaped are those that are no octets
 pub no_octets_is : (b : ℕ) → should_percent_encode NO_OCTETS b ≡ not (is_octet b)
@@ -48,11 +48,11 @@ member_written e old name equals value new named parted valued all =
     let same : ((old ++ e.key) ++ equals_sign ∷ []) ++ written ++ rest ≡ old ++ (e.key ++ equals_sign ∷ (written ++ rest)) = simp append_assoc in
     all ∙ ap (λ t. t ++ rest) (valued ∙ ap (λ t. t ++ written) (parted ∙ ap (λ t. t ++ equals_sign ∷ []) named))
     ∙ same
-    ∙ ap (λ t. old ++ (e.key ++ equals_sign ∷ (written ++ t))) (onto_behind properties (properties_tight (pieces_at semicolon e.metadata)))
+    ∙ ap (λ t. old ++ (e.key ++ equals_sign ∷ (written ++ t))) (onto_after properties (properties_tight (pieces_at semicolon e.metadata)))
 
 -- no member is empty, and so no header of some
 member_some : (e : PlainBaggageEntry) → 0 < length (spelled_member e)
-member_some e = let all = length-append e.key (equals_sign ∷ (e.value ++ behind_semicolon e.metadata)) in omega arith
+member_some e = let all = length-append e.key (equals_sign ∷ (e.value ++ after_semicolon e.metadata)) in omega arith
 
 pub header_some : (e : PlainBaggageEntry) (es : PlainBaggage) → 0 < length (spelled_header (e ∷ es))
 header_some e [] = member_some e

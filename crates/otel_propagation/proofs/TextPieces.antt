@@ -36,7 +36,7 @@ some_piece c [] = ([], [], refl)
 some_piece c (b ∷ bs) =
     ⊎_elim
     (λ here. ([], slice_split (at_byte c) bs, cond-true _ _ _ here))
-    (λ behind. let (piece, pieces, is) = some_piece c bs in (b ∷ piece, pieces, cond-false _ _ _ behind ∙ ap (onto_first b) is))
+    (λ after. let (piece, pieces, is) = some_piece c bs in (b ∷ piece, pieces, cond-false _ _ _ after ∙ ap (onto_first b) is))
     (cases_Bool (eqb b c))
 
 no_byte_of : (c d : ℕ) → c < 128 → d ≢ c → All (λ b. eqb b c ≡ false) (encode_utf8 d)
@@ -56,12 +56,12 @@ split_encodes c (d ∷ cs) ascii = by_case (split_encodes c cs ascii) (some_piec
         let is = eqb-true d c here in
         ap (λ t. slice_split (at_byte c) (t ++ encode_utf8_all cs)) (encode_ascii d (rw is ascii)) ∙ cond-true _ _ _ here
         ∙ ap (λ l. [] ∷ l) rest ∙ sym (ap (map encode_utf8_all) (cond-true _ _ _ here))
-    by_case rest (piece, pieces, is) (inr behind) =
-        let apart = λ (e : d ≡ c). both_ways (eqb d c) behind (eq-eqb d c e) in
+    by_case rest (piece, pieces, is) (inr after) =
+        let apart = λ (e : d ≡ c). both_ways (eqb d c) after (eq-eqb d c e) in
         split_front c (encode_utf8 d) (encode_utf8_all cs) (no_byte_of c d ascii apart)
         ∙ ap (onto_pieces (encode_utf8 d)) (rest ∙ ap (map encode_utf8_all) is)
         ∙ onto_some (encode_utf8 d) (encode_utf8_all piece) (map encode_utf8_all pieces)
-        ∙ sym (ap (map encode_utf8_all) (cond-false _ _ _ behind ∙ ap (onto_first d) is))
+        ∙ sym (ap (map encode_utf8_all) (cond-false _ _ _ after ∙ ap (onto_first d) is))
 
 first_true : (a b : Bool) → (a && b) ≡ true → a ≡ true
 first_true true b is = refl
@@ -79,9 +79,9 @@ parts_of_scalars c (d ∷ cs) are = by_case (parts_of_scalars c cs (second_true 
         → ((piece : List ℕ) × (pieces : List (List ℕ)) × (slice_split (at_byte c) cs ≡ piece ∷ pieces))
         → (eqb d c ≡ true) ⊎ (eqb d c ≡ false) → AllByRecursion (λ part. all_scalars part ≡ true) (slice_split (at_byte c) (d ∷ cs))
     by_case rest some (inl here) = subst (AllByRecursion (λ part. all_scalars part ≡ true)) (sym (cond-true _ _ _ here)) (refl, rest)
-    by_case rest (piece, pieces, is) (inr behind) =
+    by_case rest (piece, pieces, is) (inr after) =
         let known : AllByRecursion (λ part. all_scalars part ≡ true) (piece ∷ pieces) = subst (AllByRecursion (λ part. all_scalars part ≡ true)) is rest in
-        subst (AllByRecursion (λ part. all_scalars part ≡ true)) (sym (cond-false _ _ _ behind ∙ ap (onto_first d) is))
+        subst (AllByRecursion (λ part. all_scalars part ≡ true)) (sym (cond-false _ _ _ after ∙ ap (onto_first d) is))
         (both_are (scalar d) (all_scalars piece) (first_true (scalar d) (all_scalars cs) are) known.0, known.1)
 
 -- ---- trimming
@@ -126,11 +126,11 @@ tight_from_trimmed cs is =
     let all : length (trimmed_chars cs) ≡ length cs = ap length is in whole_skipped cs (omega arith) in
     record { front = front; back = ap drop_trailing_whitespace (sym front) ∙ is }
 
--- behind some characters nothing more is dropped
-dropped_behind : (xs ys : List ℕ) → 0 < length ys → drop_trailing_whitespace ys ≡ ys → drop_trailing_whitespace (xs ++ ys) ≡ xs ++ ys
-dropped_behind [] ys some is = is
-dropped_behind (x ∷ xs) ys some is =
-    let rest = dropped_behind xs ys some is in
+-- after some characters nothing more is dropped
+dropped_after : (xs ys : List ℕ) → 0 < length ys → drop_trailing_whitespace ys ≡ ys → drop_trailing_whitespace (xs ++ ys) ≡ xs ++ ys
+dropped_after [] ys some is = is
+dropped_after (x ∷ xs) ys some is =
+    let rest = dropped_after xs ys some is in
     let more : length (drop_trailing_whitespace (xs ++ ys)) ≡ length xs + length ys = ap length rest ∙ length-append xs ys in
     cond-false _ _ _ (and_right (is_whitespace x) (eqb (length (drop_trailing_whitespace (xs ++ ys))) 0) (ne_eqb (length (drop_trailing_whitespace (xs ++ ys))) 0 (λ none. absurd (omega arith))))
     ∙ ap (λ l. x ∷ l) rest
@@ -144,7 +144,7 @@ joined_back c [] visible are = refl
 joined_back c (part ∷ []) visible are = are.0.back
 joined_back c (part ∷ next ∷ more) visible are =
     let rest = join_with_byte c (next ∷ more) in
-    dropped_behind part (c ∷ rest) (omega arith)
+    dropped_after part (c ∷ rest) (omega arith)
     (cond-false _ _ _ (ap (λ b. b && eqb (length (drop_trailing_whitespace rest)) 0) visible) ∙ ap (λ l. c ∷ l) (joined_back c (next ∷ more) visible are.1))
 
 joined_front : (c : ℕ) (parts : List (List ℕ)) → is_whitespace c ≡ false → AllByRecursion IsTight parts → skip_leading_whitespace (join_with_byte c parts) ≡ join_with_byte c parts

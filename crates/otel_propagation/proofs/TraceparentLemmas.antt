@@ -35,7 +35,7 @@ no_hyphen digits number i inside is =
 tails : (a b : ℕ) (xs ys : List ℕ) → a ∷ xs ≡ b ∷ ys → xs ≡ ys
 tails a b xs ys same = cc
 
--- fronts of one length are the same, and so is what stands behind them
+-- fronts of one length are the same, and so is what stands after them
 same_parts : (xs ys r s : List ℕ) → length xs ≡ length ys → xs ++ r ≡ ys ++ s → (xs ≡ ys) × (r ≡ s)
 same_parts [] [] r s long same = (refl, same)
 same_parts [] (b ∷ ys) r s long same = absurd (omega arith)
@@ -51,7 +51,7 @@ field_once digits m n r s small smaller same =
     let parts = same_parts (hex_text digits m) (hex_text digits n) r s ((hex_text_IsHexText digits m).0 ∙ sym (hex_text_IsHexText digits n).0) same in
     (hex_text_injective digits m n small smaller parts.0, parts.1)
 
--- and so is what stands behind its hyphen
+-- and so is what stands after its hyphen
 pub field_once_before_hyphen : (digits m n : ℕ) (r s : List ℕ) → m < 16 ^ digits → n < 16 ^ digits → hex_text digits m ++ hyphen ∷ r ≡ hex_text digits n ++ hyphen ∷ s → (m ≡ n) × (r ≡ s)
 field_once_before_hyphen digits m n r s small smaller same =
     let parts = field_once digits m n (hyphen ∷ r) (hyphen ∷ s) small smaller same in
@@ -63,10 +63,10 @@ pub read_number : (read : Option ℕ) (digits number : ℕ) (text : List ℕ) �
 read_number None digits number text value only small is = let no : IsSome {T = ℕ} None = only (subst (IsHexText digits) (sym is) (hex_text_IsHexText digits number)) in cc
 read_number (Some n) digits number text value only small is = ap Some (hex_text_injective digits n number value.0 small (sym value.1 ∙ is))
 
--- behind a hyphen version 0 has nothing
+-- after a hyphen version 0 has nothing
 pub too_much : (version : ℕ) (rest more : List ℕ) → MayFollow version rest → hyphen ∷ more ≡ rest → version ≡ 0 → more ≡ []
 too_much version rest more (inl none) is zero = let no : hyphen ∷ more ≡ [] = is ∙ none in absurd (cc)
-too_much version rest more (inr (behind, hyphened, only)) is zero = tails hyphen hyphen more behind (is ∙ hyphened) ∙ only zero
+too_much version rest more (inr (after, hyphened, only)) is zero = tails hyphen hyphen more after (is ∙ hyphened) ∙ only zero
 
 -- a text that says two span contexts says one
 pub read_once : (text : List ℕ) (a b : PlainSpanContext) → IsTraceparent text a → IsTraceparent text b → a ≡ b
@@ -169,7 +169,7 @@ not_extracted cx texts text is none = record {
 names_differ : IsOtherName traceparent_field tracestate_field
 names_differ same = absurd (cc)
 
--- a header that is set behind the other one leaves it there
+-- a header that is set after the other one leaves it there
 pub both_set : (old between new : Texts) (c : PlainSpanContext) → SetsText old between traceparent_field (traceparent_of c)
     → SetsText between new tracestate_field (tracestate_text c.trace_state) → SetsHeaders old new c
 both_set old between new c first second = record {
@@ -237,7 +237,7 @@ injected_carries cx old new is valid injects = let sets = injects.set valid in h
 
 -- ---- the empty trace state
 
--- a member's fault is no want of memory
+-- a member's fault is not out of memory
 member_fault_said : (uncut key value : Bool) → cond uncut (Some faults.List) (cond key (cond value None (Some faults.Value)) (Some faults.Key)) ≡ Some faults.Memory → ⊥
 member_fault_said true key value is = absurd cc
 member_fault_said false true true is = absurd cc
@@ -254,7 +254,7 @@ fault_said (m ∷ ms) is =
     first_said (member_fault m) (first_fault ms)
     (member_fault_said (eqb (position_or_len is_equals m) (length m)) (is_key (pair_of m).0) (is_value (pair_of m).1)) (fault_said ms) is
 
--- a text that says the empty trace state has no members, or a fault that is no want of memory
+-- a text that says the empty trace state has no members, or a fault that is not out of memory
 pub says_none : (text : List ℕ) → SaysState (Some text) [] → (members text ≡ []) ⊎ ((fault : TraceStateError) × (first_fault (members text) ≡ Some fault) × (fault ≢ faults.Memory))
 says_none text (inl spelled) = inl (no_members (members text) spelled)
   where

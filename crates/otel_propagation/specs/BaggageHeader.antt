@@ -1,4 +1,4 @@
--- The header of a baggage (W3C Baggage, section 3.3): members `name=value` between commas, each with properties behind
+-- The header of a baggage (W3C Baggage, section 3.3): members `name=value` between commas, each with properties after
 -- semicolons. Names and values are percent-encoded, and white space around them and around properties says nothing.
 use Rattle.std.specs.Prelude.{◌≡◌, ◌≢◌, ◌≤◌, ℕ, Bool, not, ◌||◌, ◌==◌, nat_lt, nat_le, List, [], ◌∷◌, ◌++◌}
 use Rattle.std.specs.Prelude.{Option, None, Some, All, IsUtf8, length, take, map, codes, unwrap_or, if◌then◌else◌}
@@ -29,14 +29,14 @@ escaped_byte b = if needs_escape b then percent_encode_byte b else b ∷ []
 unfoldable pub escaped : List ℕ → List ℕ
 escaped text = flat_map escaped_byte (trim text)
 
--- metadata behind its semicolon; where it is empty, nothing
-abbrev pub behind_semicolon : List ℕ → List ℕ
-behind_semicolon [] = []
-behind_semicolon (b ∷ bs) = semicolon ∷ b ∷ bs
+-- metadata after its semicolon; where it is empty, nothing
+abbrev pub after_semicolon : List ℕ → List ℕ
+after_semicolon [] = []
+after_semicolon (b ∷ bs) = semicolon ∷ b ∷ bs
 
 -- the member of an entry; its metadata stands as it is, without the white space around it
 unfoldable pub member_of : PlainBaggageEntry → List ℕ
-member_of e = escaped e.key ++ (equals_sign ∷ (escaped e.value ++ behind_semicolon (trim e.metadata)))
+member_of e = escaped e.key ++ (equals_sign ∷ (escaped e.value ++ after_semicolon (trim e.metadata)))
 
 -- the header of a baggage: the members of its entries, in order
 unfoldable pub header_of : PlainBaggage → List ℕ
@@ -72,7 +72,7 @@ entry_of_parts (pair ∷ properties) = paired_entry (pieces_at equals_sign pair)
 unfoldable pub entry_of_member : List ℕ → Option PlainBaggageEntry
 entry_of_member member = entry_of_parts (pieces_at semicolon member)
 
--- the last entry of this one's name: this one, or one of those behind it
+-- the last entry of this one's name: this one, or one of those after it
 abbrev pub last_of_name : PlainBaggageEntry → PlainBaggage → PlainBaggageEntry
 last_of_name e [] = e
 last_of_name e (later ∷ more) = if bytes_eq e.key later.key then last_of_name later more else last_of_name e more

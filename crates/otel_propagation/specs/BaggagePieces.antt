@@ -4,10 +4,10 @@ use Rattle.std.specs.Borrow.{Bor}
 use Rattle.opentelemetry.specs.Baggage.{PlainBaggageEntry, entry_of}
 use Rattle.opentelemetry.specs.Members.{pieces_at, semicolon}
 
--- the properties that stand behind a first semicolon; none where there is no semicolon
-abbrev pub properties_behind : Option (Bor (List ℕ)) → List (List ℕ)
-properties_behind None = []
-properties_behind (Some text) = pieces_at semicolon text.now
+-- the properties that stand after a first semicolon; none where there is no semicolon
+abbrev pub properties_after : Option (Bor (List ℕ)) → List (List ℕ)
+properties_after None = []
+properties_after (Some text) = pieces_at semicolon text.now
 
 -- the entry of a name and a value, with metadata
 abbrev pub entry_with : {Y Z : Type 0} → List ℕ → String Y × String Z → PlainBaggageEntry
@@ -18,7 +18,7 @@ abbrev pub unless_first : Bool → List ℕ → List ℕ
 unless_first true separator = []
 unless_first false separator = separator
 
--- what a property adds to metadata: nothing where it is not UTF-8, and else its text behind a semicolon
+-- what a property adds to metadata: nothing where it is not UTF-8, and else its text after a semicolon
 abbrev pub next_property : Bool → Option (List ℕ) → List ℕ
 next_property is_first None = []
 next_property is_first (Some text) = unless_first is_first (semicolon ∷ []) ++ text

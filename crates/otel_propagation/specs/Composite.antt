@@ -1,4 +1,4 @@
--- Two propagators as one: what they inject and extract one behind the other, and their fields as one list.
+-- Two propagators as one: what they inject and extract one after the other, and their fields as one list.
 use Rattle.std.specs.Prelude.{◌⊎◌, ℕ, List, [], ◌∷◌, ◌++◌, Ok, map, IsErr, if◌then◌else◌}
 use Rattle.std.specs.Borrow.{Bor}
 use Rattle.std.specs.List.{list_any}
@@ -33,11 +33,11 @@ BothAreInfallible these first second cx texts =
 abbrev pub names_of : List (Bor (List ℕ)) → List (List ℕ)
 names_of names = map (λ name. name.now) names
 
--- a name behind those that are given, unless it is one of them
+-- a name after those that are given, unless it is one of them
 abbrev pub with_name : List (List ℕ) → List ℕ → List (List ℕ)
 with_name given name = if list_any (λ other. bytes_eq other name) given then given else given ++ name ∷ []
 
--- names behind those that are given, each once
+-- names after those that are given, each once
 abbrev pub joined_onto : List (List ℕ) → List (List ℕ) → List (List ℕ)
 joined_onto given [] = given
 joined_onto given (name ∷ more) = joined_onto (with_name given name) more

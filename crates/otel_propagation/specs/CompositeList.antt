@@ -1,4 +1,4 @@
--- A list of propagators as one: the first one and, behind it, the others as one, as two are one.
+-- A list of propagators as one: the first one and, after it, the others as one, as two are one.
 use Rattle.std.specs.Prelude.{◌≡◌, ℕ, List, [], ◌∷◌, Ok}
 use Rattle.opentelemetry.specs.Carrier.{Injection}
 use Rattle.opentelemetry.specs.PlainContexts.{SharesNothing}
@@ -9,7 +9,7 @@ use Rattle.otel_propagation.specs.Composite.{joined_onto}
 abbrev pub InjectsNothing : Injection
 InjectsNothing cx old result new = (result ≡ Ok tt) × (new ≡ old)
 
--- each injects into what those before it leave; where one is refused, those behind it are not asked
+-- each injects into what those before it leave; where one is refused, those after it are not asked
 abbrev pub InjectsEach : {P : Type 0} → (P → Injection) → List P → Injection
 InjectsEach injects [] = InjectsNothing
 InjectsEach injects (p ∷ more) = InjectsBoth (injects p) (InjectsEach injects more)
@@ -38,7 +38,7 @@ abbrev pub ListIsInfallible : {P : Type 0} → (P → Extraction) → (P → Inf
 ListIsInfallible extracts infallible [] cx texts = SharesNothing cx
 ListIsInfallible extracts infallible (p ∷ more) cx texts = EachIsInfallible extracts infallible (p ∷ more) cx texts
 
--- the fields of each behind those that are given, each name once, at its first place
+-- the fields of each after those that are given, each name once, at its first place
 abbrev pub fields_onto : {P : Type 0} → (P → List (List ℕ)) → List (List ℕ) → List P → List (List ℕ)
 fields_onto fields given [] = given
 fields_onto fields given (p ∷ more) = fields_onto fields (joined_onto given (fields p)) more

@@ -13,7 +13,7 @@ use Rattle.opentelemetry.specs.Members.{comma, equals_sign, pieces_at, semicolon
 use Rattle.opentelemetry.specs.Plain.{PlainContext}
 use Rattle.opentelemetry.specs.PlainContexts.{current_span_context}
 use Rattle.opentelemetry.specs.Tracestate.{trimmed}
-use Rattle.otel_propagation.specs.BaggageHeader.{baggage_field, behind_semicolon, one_a_name}
+use Rattle.otel_propagation.specs.BaggageHeader.{baggage_field, after_semicolon, one_a_name}
 use Rattle.otel_propagation.specs.BaggagePieces.{unless_first}
 use Rattle.otel_propagation.specs.StrictGrammar.{is_octet, is_token, are_octets}
 
@@ -21,7 +21,7 @@ use Rattle.otel_propagation.specs.StrictGrammar.{is_octet, is_token, are_octets}
 abbrev pub StrictPair : Type 0
 StrictPair = List ℕ × Option (List ℕ)
 
--- what stands in front of the first of a byte, and what stands behind it; none where it does not stand
+-- what stands in front of the first of a byte, and what stands after it; none where it does not stand
 abbrev pub split_once : ℕ → List ℕ → Option (List ℕ × List ℕ)
 split_once c [] = None
 split_once c (b ∷ bs) = if b == c then Some ([], bs) else option_map (λ cut. (b ∷ cut.0, cut.1)) (split_once c bs)
@@ -118,7 +118,7 @@ written_entries es = map written_entry (filter has_token_name es)
 
 -- the member that spells an entry as it is
 abbrev pub spelled_member : PlainBaggageEntry → List ℕ
-spelled_member e = e.key ++ equals_sign ∷ (e.value ++ behind_semicolon e.metadata)
+spelled_member e = e.key ++ equals_sign ∷ (e.value ++ after_semicolon e.metadata)
 
 -- the header that spells entries as they are
 abbrev pub spelled_header : PlainBaggage → List ℕ
@@ -151,7 +151,7 @@ pub record StrictBaggageIsInfallible (cx : PlainContext) (texts : Texts) : Type 
 abbrev pub plain_pair : Bor (List ℕ) × Option (Bor (List ℕ)) → StrictPair
 plain_pair pair = (pair.0.now, option_map (λ value. value.now) pair.1)
 
--- properties behind a text, each behind a semicolon; the first has none where nothing stands before it
+-- properties after a text, each after a semicolon; the first has none where nothing stands before it
 abbrev pub properties_onto : Bool → List (List ℕ) → List ℕ
 properties_onto is_first [] = []
 properties_onto is_first (p ∷ ps) = unless_first is_first (semicolon ∷ []) ++ (p ++ properties_onto false ps)

@@ -22,12 +22,12 @@ tracestate_field = codes "tracestate"
 abbrev pub hyphen : ℕ
 hyphen = 45
 
--- a version and ids in lower-case digits, and behind the last hyphen what else there is
+-- a version and ids in lower-case digits, and after the last hyphen what else there is
 abbrev pub traceparent_text : ℕ → ℕ → ℕ → List ℕ → List ℕ
 traceparent_text version trace_id span_id tail =
     hex_text 2 version ++ hyphen ∷ (hex_text 32 trace_id ++ hyphen ∷ (hex_text 16 span_id ++ hyphen ∷ tail))
 
--- what may stand behind the flags: in version 0 a hyphen at most, in a later one a hyphen and anything
+-- what may stand after the flags: in version 0 a hyphen at most, in a later one a hyphen and anything
 abbrev pub MayFollow : ℕ → List ℕ → Type 0
 MayFollow version rest = (rest ≡ []) ⊎ ((more : List ℕ) × (rest ≡ hyphen ∷ more) × (version ≡ 0 → more ≡ []))
 

@@ -56,7 +56,7 @@ tails a b xs ys same = cc
 heads : (a b : ℕ) (xs ys : List ℕ) → a ∷ xs ≡ b ∷ ys → a ≡ b
 heads a b xs ys same = cc
 
--- what stands in front of a hyphen first, and what stands behind it
+-- what stands in front of a hyphen first, and what stands after it
 pub front_once : (a b r s : List ℕ) → All IsInField a → All IsInField b → a ++ hyphen ∷ r ≡ b ++ hyphen ∷ s → (a ≡ b) × (r ≡ s)
 front_once [] [] r s fa fb same = (refl, tails hyphen hyphen r s same)
 front_once [] (y ∷ ys) r s fa fb same = absurd (All-head IsInField y ys fb (sym (heads hyphen y r (ys ++ hyphen ∷ s) same)))
@@ -148,7 +148,7 @@ not_a_mark (Some digits) None mark is one same = let bytes : digits ≡ mark = c
 not_a_mark (Some digits) (Some rest) mark is one same =
     let bytes : digits ≡ mark ++ hyphen ∷ rest = cc in no_hyphen digits mark rest (digits_in_field 16 digits is) bytes
 
--- what stands behind a span id has one mark
+-- what stands after a span id has one mark
 optional_once : (m n p q : Option (List ℕ)) → IfSome m (λ mark. (length mark ≡ 1) × All IsInField mark) → IfSome n (λ mark. (length mark ≡ 1) × All IsInField mark)
     → IsParent p → IsParent q → optional m p ≡ optional n q → m ≡ n
 optional_once None None p q sm sn ip iq same = refl
@@ -259,39 +259,39 @@ zeros_say_none count text id (inr short) zeros (some, inr is) = absurd (omega (a
 
 -- ---- what is read
 
--- where no parent's id stands alone, what is cut off is a mark, and a parent's id behind it
-pub rest_read : (text mark : List ℕ) (behind : Option (List ℕ)) (state : SamplingState) → ¬ (IsHexText 16 text) → text ≡ joined mark behind → All IsInField mark
-    → SaysState (Some text) state → (state_mark state ≡ Some mark) × IsParent behind
-rest_read text mark behind state alone cut field says = by (state_mark state) says.parent (mark_is_short state) says.is_parent says.spelled
+-- where no parent's id stands alone, what is cut off is a mark, and a parent's id after it
+pub rest_read : (text mark : List ℕ) (after : Option (List ℕ)) (state : SamplingState) → ¬ (IsHexText 16 text) → text ≡ joined mark after → All IsInField mark
+    → SaysState (Some text) state → (state_mark state ≡ Some mark) × IsParent after
+rest_read text mark after state alone cut field says = by (state_mark state) says.parent (mark_is_short state) says.is_parent says.spelled
   where
-    by : (m p : Option (List ℕ)) → IfSome m (λ x. (length x ≡ 1) × All IsInField x) → IsParent p → Some text ≡ optional m p → (m ≡ Some mark) × IsParent behind
+    by : (m p : Option (List ℕ)) → IfSome m (λ x. (length x ≡ 1) × All IsInField x) → IsParent p → Some text ≡ optional m p → (m ≡ Some mark) × IsParent after
     by None None short is same = absurd cc
     by None (Some digits) short is same = let bytes : text ≡ digits = cc in absurd (alone (subst (IsHexText 16) (sym bytes) is))
     by (Some x) p short is same =
         let bytes : text ≡ joined x p = cc in
-        let parts = cut_once x mark p behind short.1 field (sym bytes ∙ cut) in
+        let parts = cut_once x mark p after short.1 field (sym bytes ∙ cut) in
         (ap Some parts.0, subst IsParent parts.1 is)
 
 -- and so they say it
-pub rest_says : (text mark : List ℕ) (behind : Option (List ℕ)) (state : SamplingState) → text ≡ joined mark behind → state_mark state ≡ Some mark → IsParent behind → SaysState (Some text) state
-rest_says text mark behind state cut is parent = record {
-  parent = behind;
+pub rest_says : (text mark : List ℕ) (after : Option (List ℕ)) (state : SamplingState) → text ≡ joined mark after → state_mark state ≡ Some mark → IsParent after → SaysState (Some text) state
+rest_says text mark after state cut is parent = record {
+  parent = after;
   is_parent = parent;
-  spelled = ap Some cut ∙ ap (λ m. optional m behind) (sym is);
+  spelled = ap Some cut ∙ ap (λ m. optional m after) (sym is);
 }
 
 -- what is cut off in front of the first hyphen is the trace id
-pub first_field : (text front : List ℕ) (behind : Option (List ℕ)) (c : PlainSpanContext) (is : IsSingle text c) → text ≡ joined front behind → All IsInField front
-    → IsTraceId front c.trace_id × (behind ≡ Some (joined is.span_text is.rest))
-first_field text front behind c is cut field =
-    let parts = cut_once front is.trace_text behind (Some (joined is.span_text is.rest)) field (trace_id_in_field is.trace_text c.trace_id is.is_trace_id) (sym cut ∙ is.spelled) in
+pub first_field : (text front : List ℕ) (after : Option (List ℕ)) (c : PlainSpanContext) (is : IsSingle text c) → text ≡ joined front after → All IsInField front
+    → IsTraceId front c.trace_id × (after ≡ Some (joined is.span_text is.rest))
+first_field text front after c is cut field =
+    let parts = cut_once front is.trace_text after (Some (joined is.span_text is.rest)) field (trace_id_in_field is.trace_text c.trace_id is.is_trace_id) (sym cut ∙ is.spelled) in
     (subst (λ t. IsTraceId t c.trace_id) (sym parts.0) is.is_trace_id, parts.1)
 
--- and behind it stand the span id and the state
-pub second_field : (text front span : List ℕ) (behind rest : Option (List ℕ)) (bytes : List ℕ) (c : PlainSpanContext) (is : IsSingle text c) → text ≡ joined front behind → All IsInField front
-    → behind ≡ Some bytes → bytes ≡ joined span rest → All IsInField span → IsSpanId span c.span_id × SaysState rest is.state
-second_field text front span behind rest bytes c is cut field some cut_again field_again =
-    let first = first_field text front behind c is cut field in
+-- and after it stand the span id and the state
+pub second_field : (text front span : List ℕ) (after rest : Option (List ℕ)) (bytes : List ℕ) (c : PlainSpanContext) (is : IsSingle text c) → text ≡ joined front after → All IsInField front
+    → after ≡ Some bytes → bytes ≡ joined span rest → All IsInField span → IsSpanId span c.span_id × SaysState rest is.state
+second_field text front span after rest bytes c is cut field some cut_again field_again =
+    let first = first_field text front after c is cut field in
     let same : Some bytes ≡ Some (joined is.span_text is.rest) = sym some ∙ first.1 in
     let bytes_are : bytes ≡ joined is.span_text is.rest = cc in
     let parts = cut_once span is.span_text rest is.rest field_again (span_id_in_field is.span_text c.span_id is.is_span_id) (sym cut_again ∙ bytes_are) in

@@ -93,7 +93,7 @@ sampled_flags same = let long : ◌≡◌ {A = ℕ} 12 10 = ap length same in ab
 turned : (a b : List ℕ) → IsOtherName a b → IsOtherName b a
 turned a b apart same = apart (sym same)
 
--- ---- what stands there behind an injection
+-- ---- what stands there after an injection
 
 -- the headers of a state leave others as they are
 state_keeps : (state : SamplingState) (old new : Texts) (name : List ℕ) → SetsInTurn old (state_headers state) new → IsOtherName name sampled_field → IsOtherName name flags_field → new name ≡ old name

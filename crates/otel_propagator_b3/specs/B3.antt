@@ -48,7 +48,7 @@ state_mark Deny = Some (codes "0")
 state_mark Defer = None
 state_mark Debug = Some (codes "d")
 
--- a field, and behind a hyphen what follows it
+-- a field, and after a hyphen what follows it
 abbrev pub joined : List ℕ → Option (List ℕ) → List ℕ
 joined field None = field
 joined field (Some rest) = field ++ hyphen ∷ rest
@@ -71,7 +71,7 @@ IsSpanId text id = (0 < id) × (id < 16 ^ 16) × (text ≡ hex_text 16 id)
 abbrev pub IsParent : Option (List ℕ) → Type 0
 IsParent parent = IfSome parent (IsHexText 16)
 
--- what stands behind the span id says this sampling state: the state, and behind it the parent's id, each of which may
+-- what stands after the span id says this sampling state: the state, and after it the parent's id, each of which may
 -- be left out
 pub record SaysState (rest : Option (List ℕ)) (state : SamplingState) : Type 0 where
   pub parent : Option (List ℕ)

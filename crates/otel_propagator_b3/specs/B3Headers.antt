@@ -66,7 +66,7 @@ plain_headers headers = map (λ header. (name_of header.0, string_bytes header.1
 abbrev pub IsValid : PlainSpanContext → Type 0
 IsValid c = (0 < c.trace_id) × (0 < c.span_id)
 
--- headers were set, one behind the other
+-- headers were set, one after the other
 abbrev pub SetsInTurn : Texts → List (List ℕ × List ℕ) → Texts → Type 0
 SetsInTurn old [] new = SameTexts old new
 SetsInTurn old (header ∷ more) new =

@@ -13,7 +13,7 @@ pub enum B3Encoding {
     /// `b3` alone.
     #[default]
     SingleHeader,
-    /// `b3`, and the many behind it.
+    /// `b3`, and the many after it.
     SingleAndMultiHeader,
 }
 

@@ -32,10 +32,10 @@ pub fn read_span<X: Extractor>(extractor: &X) -> Option<SpanContext>
 fn read_single(text: &str) -> Option<SpanContext>
     ensures { MatchOption result ((c : PlainSpanContext) → ¬ (IsSingle text.now c)) (λ c. IsSingle text.now c) }
 {
-    let (front, behind) = cut(text);
-    let behind = behind?;
+    let (front, after) = cut(text);
+    let after = after?;
     let trace_id = read_trace_id(front)?;
-    let (front, rest) = cut(behind);
+    let (front, rest) = cut(after);
     let span_id = read_span_id(front)?;
     let state = read_state(rest)?;
     Some(remote_context(trace_id, span_id, state))
@@ -59,13 +59,13 @@ fn read_many<X: Extractor>(extractor: &X) -> Option<SpanContext>
     Some(remote_context(trace_id, span_id, state))
 }
 
-/// What stands before the first hyphen, and what stands behind it where there is one.
+/// What stands before the first hyphen, and what stands after it where there is one.
 fn cut(text: &str) -> (&str, Option<&str>)
     ensures parts { text.now ≡ joined result.0.now (option_copied result.1) }
     ensures first { All (λ b. b ≢ hyphen) result.0.now }
 {
     match text.split_once('-') {
-        Some((front, behind)) => (front, Some(behind)),
+        Some((front, after)) => (front, Some(after)),
         None => (text, None),
     }
 }
@@ -95,7 +95,7 @@ fn read_span_id(text: &str) -> Option<SpanId>
     Some(SpanId::from(number as u64))
 }
 
-/// The sampling state that the single header says behind the span id.
+/// The sampling state that the single header says after the span id.
 fn read_state(rest: Option<&str>) -> Option<SamplingState>
     ensures { MatchOption result
         ((state : SamplingState) → ¬ (SaysState (option_copied rest.entry) state))

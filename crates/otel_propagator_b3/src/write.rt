@@ -16,7 +16,7 @@ use std::alloc::{AllocError, Global};
 /// How long the single header of an accepted trace is, in bytes.
 const SINGLE_BYTES: usize = 51;
 
-/// Sets headers, one behind the other.
+/// Sets headers, one after the other.
 pub fn set_all<I: Injector>(
     injector: &mut I,
     headers: Vec<(Field, String)>,

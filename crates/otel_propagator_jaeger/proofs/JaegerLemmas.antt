@@ -30,7 +30,7 @@ tails a b xs ys same = cc
 heads : (a b : ℕ) (xs ys : List ℕ) → a ∷ xs ≡ b ∷ ys → a ≡ b
 heads a b xs ys same = cc
 
--- digits, and what stands behind them, which begins with none
+-- digits, and what stands after them, which begins with none
 digits_once : (a b : List ℕ) (s t : ℕ) (r q : List ℕ) → All IsHexDigit a → All IsHexDigit b → ¬ (IsHexDigit s) → ¬ (IsHexDigit t) → a ++ s ∷ r ≡ b ++ t ∷ q → (a ≡ b) × (s ≡ t) × (r ≡ q)
 digits_once [] [] s t r q fa fb ns nt same = (refl, heads s t r q same, tails s t r q same)
 digits_once [] (y ∷ ys) s t r q fa fb ns nt same = absurd (ns (subst IsHexDigit (sym (heads s y r (ys ++ t ∷ q) same)) (All-head IsHexDigit y ys fb)))
@@ -95,10 +95,10 @@ escaped_once most m n text r s this that =
 -- a text that is escaped, or is not, says one span context at most
 pub context_once : (escaped : Bool) (text : List ℕ) (a b : PlainSpanContext) → SaysContext escaped text a → SaysContext escaped text b → a ≡ b
 context_once escaped text a b this that =
-    let trace_id = field_once escaped 32 text a.trace_id b.trace_id this.behind_trace that.behind_trace this.trace_id that.trace_id in
-    let span_id = field_once escaped 16 that.behind_trace a.span_id b.span_id this.behind_span that.behind_span
-    (subst (λ t. SaysField escaped 16 t a.span_id this.behind_span) trace_id.1 this.span_id) that.span_id in
-    let parent_id = field_once escaped 16 that.behind_span this.parent that.parent this.flags_text that.flags_text
+    let trace_id = field_once escaped 32 text a.trace_id b.trace_id this.after_trace that.after_trace this.trace_id that.trace_id in
+    let span_id = field_once escaped 16 that.after_trace a.span_id b.span_id this.after_span that.after_span
+    (subst (λ t. SaysField escaped 16 t a.span_id this.after_span) trace_id.1 this.span_id) that.span_id in
+    let parent_id = field_once escaped 16 that.after_span this.parent that.parent this.flags_text that.flags_text
     (subst (λ t. SaysField escaped 16 t this.parent this.flags_text) span_id.1 this.parent_id) that.parent_id in
     let flags = number_once 2 that.flags_text this.flags that.flags (subst (λ t. IsNumber 2 t this.flags) parent_id.1 this.says_flags) that.says_flags in
     let kept = this.trace_flags ∙ ap flags_read flags ∙ sym that.trace_flags in
@@ -116,8 +116,8 @@ context_once escaped text a b this that =
 pub read_once : (text : List ℕ) (a b : PlainSpanContext) → IsUberTraceId text a → IsUberTraceId text b → a ≡ b
 read_once text a b (false, this) (false, that) = context_once false text a b this that
 read_once text a b (true, this) (true, that) = context_once true text a b this that
-read_once text a b (false, this) (true, that) = absurd (escaped_once 32 a.trace_id b.trace_id text this.behind_trace that.behind_trace this.trace_id that.trace_id)
-read_once text a b (true, this) (false, that) = absurd (escaped_once 32 b.trace_id a.trace_id text that.behind_trace this.behind_trace that.trace_id this.trace_id)
+read_once text a b (false, this) (true, that) = absurd (escaped_once 32 a.trace_id b.trace_id text this.after_trace that.after_trace this.trace_id that.trace_id)
+read_once text a b (true, this) (false, that) = absurd (escaped_once 32 b.trace_id a.trace_id text that.after_trace this.after_trace that.trace_id this.trace_id)
 
 -- ---- what is extracted
 
@@ -140,35 +140,35 @@ not_extracted cx texts none = record {
   as_it_was = λ _. refl;
 }
 
--- behind a percent sign, as read
-pub behind_percent : (behind rest stripped : List ℕ) → behind ≡ 51 ∷ 65 ∷ rest → behind ≡ 51 ∷ 65 ∷ stripped → stripped ≡ rest
-behind_percent behind rest stripped is was = tails 65 65 stripped rest (tails 51 51 (65 ∷ stripped) (65 ∷ rest) (sym was ∙ is))
+-- after a percent sign, as read
+pub after_percent : (after rest stripped : List ℕ) → after ≡ 51 ∷ 65 ∷ rest → after ≡ 51 ∷ 65 ∷ stripped → stripped ≡ rest
+after_percent after rest stripped is was = tails 65 65 stripped rest (tails 51 51 (65 ∷ stripped) (65 ∷ rest) (sym was ∙ is))
 
 -- what is cut off, and is no number, is no field
-pub not_a_field : (escaped : Bool) (most : ℕ) (text front behind : List ℕ) (number : ℕ) (rest : List ℕ)
-    → ((f r : List ℕ) → All IsHexDigit f → text ≡ f ++ (colon_text escaped ++ r) → (front ≡ f) × (behind ≡ r)) → ((n : ℕ) → ¬ (IsNumber most front n)) → SaysField escaped most text number rest → ⊥
-not_a_field escaped most text front behind number rest only none is =
+pub not_a_field : (escaped : Bool) (most : ℕ) (text front after : List ℕ) (number : ℕ) (rest : List ℕ)
+    → ((f r : List ℕ) → All IsHexDigit f → text ≡ f ++ (colon_text escaped ++ r) → (front ≡ f) × (after ≡ r)) → ((n : ℕ) → ¬ (IsNumber most front n)) → SaysField escaped most text number rest → ⊥
+not_a_field escaped most text front after number rest only none is =
     none number (subst (λ f. IsNumber most f number) (sym (only is.field rest (number_digits most number is.field is.says) is.spelled).0) is.says)
 
--- what stands behind the trace id, as cut off
-pub second_field : (escaped : Bool) (text behind : List ℕ) (number : ℕ) (c : PlainSpanContext) (is : SaysContext escaped text c) → SaysField escaped 32 text number behind
-    → (number ≡ c.trace_id) × SaysField escaped 16 behind c.span_id is.behind_span
-second_field escaped text behind number c is says =
-    let same = field_once escaped 32 text number c.trace_id behind is.behind_trace says is.trace_id in
-    (same.0, subst (λ t. SaysField escaped 16 t c.span_id is.behind_span) (sym same.1) is.span_id)
+-- what stands after the trace id, as cut off
+pub second_field : (escaped : Bool) (text after : List ℕ) (number : ℕ) (c : PlainSpanContext) (is : SaysContext escaped text c) → SaysField escaped 32 text number after
+    → (number ≡ c.trace_id) × SaysField escaped 16 after c.span_id is.after_span
+second_field escaped text after number c is says =
+    let same = field_once escaped 32 text number c.trace_id after is.after_trace says is.trace_id in
+    (same.0, subst (λ t. SaysField escaped 16 t c.span_id is.after_span) (sym same.1) is.span_id)
 
--- behind the span id
-pub third_field : (escaped : Bool) (text behind further : List ℕ) (number span : ℕ) (c : PlainSpanContext) (is : SaysContext escaped text c) → SaysField escaped 32 text number behind
-    → SaysField escaped 16 behind span further → (span ≡ c.span_id) × SaysField escaped 16 further is.parent is.flags_text
-third_field escaped text behind further number span c is says also =
-    let same = field_once escaped 16 behind span c.span_id further is.behind_span also (second_field escaped text behind number c is says).1 in
+-- after the span id
+pub third_field : (escaped : Bool) (text after further : List ℕ) (number span : ℕ) (c : PlainSpanContext) (is : SaysContext escaped text c) → SaysField escaped 32 text number after
+    → SaysField escaped 16 after span further → (span ≡ c.span_id) × SaysField escaped 16 further is.parent is.flags_text
+third_field escaped text after further number span c is says also =
+    let same = field_once escaped 16 after span c.span_id further is.after_span also (second_field escaped text after number c is says).1 in
     (same.0, subst (λ t. SaysField escaped 16 t is.parent is.flags_text) (sym same.1) is.parent_id)
 
--- and behind the parent's
-pub flags_field : (escaped : Bool) (text behind further last : List ℕ) (number span parent : ℕ) (c : PlainSpanContext) (is : SaysContext escaped text c) → SaysField escaped 32 text number behind
-    → SaysField escaped 16 behind span further → SaysField escaped 16 further parent last → IsNumber 2 last is.flags
-flags_field escaped text behind further last number span parent c is says also third =
-    let same = field_once escaped 16 further parent is.parent last is.flags_text third (third_field escaped text behind further number span c is says also).1 in
+-- and after the parent's
+pub flags_field : (escaped : Bool) (text after further last : List ℕ) (number span parent : ℕ) (c : PlainSpanContext) (is : SaysContext escaped text c) → SaysField escaped 32 text number after
+    → SaysField escaped 16 after span further → SaysField escaped 16 further parent last → IsNumber 2 last is.flags
+flags_field escaped text after further last number span parent c is says also third =
+    let same = field_once escaped 16 further parent is.parent last is.flags_text third (third_field escaped text after further number span c is says also).1 in
     subst (λ t. IsNumber 2 t is.flags) (sym same.1) is.says_flags
 
 -- what fails only for a reason that is not there is well

@@ -53,8 +53,8 @@ header_says c valid trace_id span_id =
     let flags : List ℕ = flags_digit c.trace_flags in (
       false,
       record {
-        behind_trace = hex_text 16 c.span_id ++ (codes ":0:" ++ flags);
-        behind_span = codes "0:" ++ flags;
+        after_trace = hex_text 16 c.span_id ++ (codes ":0:" ++ flags);
+        after_span = codes "0:" ++ flags;
         parent = 0;
         flags_text = flags;
         flags = flags_written c.trace_flags;

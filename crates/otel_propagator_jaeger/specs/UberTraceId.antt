@@ -22,7 +22,7 @@ abbrev pub IsNumber : ℕ → List ℕ → ℕ → Type 0
 IsNumber most text number =
     (0 < length text) × (length text ≤ most) × (number < 16 ^ length text) × (text ≡ hex_text (length text) number)
 
--- a text begins with a field that says a number, and behind its colon stands the rest
+-- a text begins with a field that says a number, and after its colon stands the rest
 pub record SaysField (escaped : Bool) (most : ℕ) (text : List ℕ) (number : ℕ) (rest : List ℕ) : Type 0 where
   pub field : List ℕ
   pub says : IsNumber most field number
@@ -39,14 +39,14 @@ flags_written flags = if flags % 2 == 0 then 0 else if flags / 4 % 2 == 0 then 1
 -- a text says a span context that came from another process: its ids, that of a parent, which is read over, and flags.
 -- Zero is no id
 pub record SaysContext (escaped : Bool) (text : List ℕ) (c : PlainSpanContext) : Type 0 where
-  pub behind_trace : List ℕ
-  pub behind_span : List ℕ
+  pub after_trace : List ℕ
+  pub after_span : List ℕ
   pub parent : ℕ
   pub flags_text : List ℕ
   pub flags : ℕ
-  pub trace_id : SaysField escaped 32 text c.trace_id behind_trace
-  pub span_id : SaysField escaped 16 behind_trace c.span_id behind_span
-  pub parent_id : SaysField escaped 16 behind_span parent flags_text
+  pub trace_id : SaysField escaped 32 text c.trace_id after_trace
+  pub span_id : SaysField escaped 16 after_trace c.span_id after_span
+  pub parent_id : SaysField escaped 16 after_span parent flags_text
   pub says_flags : IsNumber 2 flags_text flags
   pub not_zero : (0 < c.trace_id) × (0 < c.span_id)
   pub trace_flags : c.trace_flags ≡ flags_read flags

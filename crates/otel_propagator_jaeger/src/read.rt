@@ -28,9 +28,9 @@ fn read_context(text: &str, escaped: bool) -> Option<SpanContext>
         ((c : PlainSpanContext) → ¬ (SaysContext escaped text.now c))
         (λ c. SaysContext escaped text.now c) }
 {
-    let (trace_id, behind_trace) = read_field(text, escaped, 32)?;
-    let (span_id, behind_span) = read_field(behind_trace, escaped, 16)?;
-    let (_parent, flags_text) = read_field(behind_span, escaped, 16)?;
+    let (trace_id, after_trace) = read_field(text, escaped, 32)?;
+    let (span_id, after_span) = read_field(after_trace, escaped, 16)?;
+    let (_parent, flags_text) = read_field(after_span, escaped, 16)?;
     let flags = read_number(flags_text, 2)?;
     if trace_id == 0 {
         return None;
@@ -61,7 +61,7 @@ fn remote_context(trace_id: u128, span_id: u128, flags: u128) -> SpanContext
     )
 }
 
-/// The number in front of a colon, and what stands behind that.
+/// The number in front of a colon, and what stands after that.
 fn read_field(text: &str, escaped: bool, most: usize) -> Option<(u128, &str)>
     requires { most ≤ 32 }
     ensures { MatchOption result
@@ -72,7 +72,7 @@ fn read_field(text: &str, escaped: bool, most: usize) -> Option<(u128, &str)>
     Some((read_number(front, most)?, rest))
 }
 
-/// What stands before the first colon, and what stands behind it.
+/// What stands before the first colon, and what stands after it.
 fn cut(text: &str, escaped: bool) -> Option<(&str, &str)>
     ensures value { IfSome result (λ parts. text.now ≡ parts.0.now ++ (colon_text escaped ++ parts.1.now)) }
     ensures only { (front rest : List ℕ) → All IsHexDigit front
@@ -101,8 +101,8 @@ fn cut_escaped(text: &str) -> Option<(&str, &str)>
         → text.now ≡ front ++ (colon_text true ++ rest)
         → MatchOption result ⊥ (λ parts. (parts.0.now ≡ front) × (parts.1.now ≡ rest)) }
 {
-    let (front, behind) = text.split_once('%')?;
-    Some((front, behind.strip_prefix("3A")?))
+    let (front, after) = text.split_once('%')?;
+    Some((front, after.strip_prefix("3A")?))
 }
 
 /// The number that a text of one to `most` digits says.

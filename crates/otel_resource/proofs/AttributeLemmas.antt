@@ -103,7 +103,7 @@ attributes_of-push pairs a =
     let pair : PlainKeyValue → List ℕ × PlainValue = λ b. (b.key, b.value) in
     ap (λ (es : List (List ℕ × PlainValue)). from_entries {R = key_cmp} es) (ap reverse (map-append pair pairs (a ∷ [])) ∙ reverse-append (map pair pairs) (pair a ∷ []))
 
--- one list behind another
+-- one list after another
 pub attributes_of-append : (xs ys : List PlainKeyValue) → attributes_of (xs ++ ys) ≡ union (attributes_of xs) (attributes_of ys)
 attributes_of-append xs ys =
     let pair : PlainKeyValue → List ℕ × PlainValue = λ b. (b.key, b.value) in

@@ -19,7 +19,7 @@ pub string_more : (given member rest : List ℕ) (first others : List PlainKeyVa
 string_more given member rest first others e free is (members, cut, read) =
     (member ∷ members, (free, inr (rest, e, cut)), (first, others, is, read, refl))
 
--- the last member, with no comma behind it
+-- the last member, with no comma after it
 pub string_last : (member : List ℕ) (first : List PlainKeyValue) → HasNo comma member → IsMember member first → IsAttributesString member first
 string_last member first free is = (member ∷ [], (free, inl (refl, refl)), (first, [], is, refl, sym (append-nil first)))
 
@@ -30,7 +30,7 @@ after_byte : ℕ → Option (List ℕ × List ℕ) → Option (List ℕ × List 
 after_byte b None = None
 after_byte b (Some cut) = Some (b ∷ cut.0, cut.1)
 
--- where a byte stands first: what is before it and what is behind it
+-- where a byte stands first: what is before it and what is after it
 first_cut : ℕ → List ℕ → Option (List ℕ × List ℕ)
 first_cut c [] = None
 first_cut c (b ∷ bs) = cond (eqb b c) (Some ([], bs)) (after_byte b (first_cut c bs))
@@ -102,21 +102,21 @@ pub string_reads_once : (given : List ℕ) (pairs others : List PlainKeyValue) �
 string_reads_once given pairs others (members, cut, read) (members', cut', read') =
     string_reads given members pairs cut read ∙ sym (string_reads given members' others cut' read')
 
--- a byte stands nowhere in a text, or first behind some bytes without it
+-- a byte stands nowhere in a text, or first after some bytes without it
 Cut : ℕ → List ℕ → Type 0
-Cut c bs = HasNo c bs ⊎ ((before : List ℕ) × (behind : List ℕ) × (bs ≡ before ++ c ∷ behind) × HasNo c before)
+Cut c bs = HasNo c bs ⊎ ((before : List ℕ) × (after : List ℕ) × (bs ≡ before ++ c ∷ after) × HasNo c before)
 
-cut_behind : (c b : ℕ) (bs : List ℕ) → b ≢ c → Cut c bs → Cut c (b ∷ bs)
+cut_after : (c b : ℕ) (bs : List ℕ) → b ≢ c → Cut c bs → Cut c (b ∷ bs)
 unfolding Cut
-cut_behind c b bs other (inl free) = inl (other, free)
-cut_behind c b bs other (inr (before, behind, is, free)) = inr (b ∷ before, behind, ap (λ t. b ∷ t) is, (other, free))
+cut_after c b bs other (inl free) = inl (other, free)
+cut_after c b bs other (inr (before, after, is, free)) = inr (b ∷ before, after, ap (λ t. b ∷ t) is, (other, free))
 
 some_cut : (c : ℕ) (bs : List ℕ) → Cut c bs
 unfolding Cut
 some_cut c [] = inl tt
 some_cut c (b ∷ bs) = elim (eqb b c) as (λ r. eqb b c ≡ r → Cut c (b ∷ bs)) [
   | true ↦ λ same. inr ([], bs, ap (λ x. x ∷ bs) (eqb-true b c same), tt)
-  | false ↦ λ other. cut_behind c b bs (λ same. absurd (true_is_not_false (sym (eq-eqb b c same) ∙ other))) (some_cut c bs)
+  | false ↦ λ other. cut_after c b bs (λ same. absurd (true_is_not_false (sym (eq-eqb b c same) ∙ other))) (some_cut c bs)
 ] refl
   where
     true_is_not_false : true ≡ false → ⊥

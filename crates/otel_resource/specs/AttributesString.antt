@@ -16,7 +16,7 @@ IsMember member pairs =
     ⊎ ((key : List ℕ) × (value : List ℕ) × (member ≡ key ++ equals_sign ∷ value)
     × HasNo equals_sign key × (pairs ≡ trimmed_pair key value ∷ []))
 
--- a text is these members with a comma behind each; behind the last one it may be left out
+-- a text is these members with a comma after each; after the last one it may be left out
 abbrev pub IsCut : List ℕ → List (List ℕ) → Type 0
 IsCut given [] = given ≡ []
 IsCut given (member ∷ more) =

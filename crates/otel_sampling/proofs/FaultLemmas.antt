@@ -32,7 +32,7 @@ next : (settings : List Setting) (i : ℕ) (d : Setting) → i < length settings
     → drop i settings ≡ get_or settings i d ∷ drop (i + 1) settings
 next settings i d inside = rw (add-one, drop-cons settings i d)
 
--- the faults found so far, and behind them those of the settings that are left, are those of all settings
+-- the faults found so far, and after them those of the settings that are left, are those of all settings
 pub record Completes (strings : PlainConfigStrings) (limits : SpanLimits) (settings left : List Setting)
     (found : List SettingFault) : Type 0 where
   pub with_the_rest : (rest : List SettingFault) → AreFaults strings limits left rest
@@ -43,7 +43,7 @@ pub nothing_found : (strings : PlainConfigStrings) (limits : SpanLimits) (settin
 nothing_found strings limits settings found none =
     record { with_the_rest = λ rest faults. subst (λ was. AreFaults strings limits settings (was ++ rest)) (sym none) faults }
 
--- the setting at an index has its fault behind those found, where its string is ignored
+-- the setting at an index has its fault after those found, where its string is ignored
 pub one_more : (strings : PlainConfigStrings) (limits : SpanLimits) (settings : List Setting) (i : ℕ) (d : Setting)
     (found now : List SettingFault) (string : Option (List ℕ)) (ignored : Bool) (place : Replacement)
     → Completes strings limits settings (drop i settings) found → i < length settings

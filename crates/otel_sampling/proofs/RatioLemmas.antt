@@ -13,7 +13,7 @@ use Rattle.otel_sampling.specs.Ratio.{PlainRatio, WritesRatio, IsCutAtPoint, IsD
 
 -- ---- digits
 
--- digits behind others go on from their number
+-- digits after others go on from their number
 pub value_after_append : (n : ℕ) (xs ys : List ℕ) → digits_value_after 10 n (xs ++ ys) ≡ digits_value_after 10 (digits_value_after 10 n xs) ys
 value_after_append n [] ys = refl
 value_after_append n (x ∷ xs) ys = value_after_append (n * 10 + digit_value x) xs ys
@@ -26,9 +26,9 @@ pub digits_front : (xs ys : List ℕ) → AllDigits 10 (xs ++ ys) → AllDigits 
 digits_front [] ys are = tt
 digits_front (x ∷ xs) ys are = (are.0, digits_front xs ys are.1)
 
-pub digits_behind : (xs ys : List ℕ) → AllDigits 10 (xs ++ ys) → AllDigits 10 ys
-digits_behind [] ys are = are
-digits_behind (x ∷ xs) ys are = digits_behind xs ys are.1
+pub digits_after : (xs ys : List ℕ) → AllDigits 10 (xs ++ ys) → AllDigits 10 ys
+digits_after [] ys are = are
+digits_after (x ∷ xs) ys are = digits_after xs ys are.1
 
 pub digit_at : (xs : List ℕ) (i : ℕ) → AllDigits 10 xs → i < length xs → digit_value (get_or xs i 0) < 10
 digit_at [] i are inside = absurd (omega arith)
@@ -53,15 +53,15 @@ room_for_digit start n i count fits below room =
     let most : (start + 1) * 10 ^ (i + 1) ≤ (start + 1) * 10 ^ count = mul-le-mul_left (start + 1) power in
     omega (arith, fits, next_bound start i, most, room)
 
--- so many digits have room, from nothing and behind others
+-- so many digits have room, from nothing and after others
 pub room_at_first : (count : ℕ) → count ≤ 19 → (0 + 1) * 10 ^ count ≤ 10 ^ 19
 room_at_first count few = let power : 10 ^ count ≤ 10 ^ 19 = pow-le-pow_right (omega arith) few in omega (arith, power)
 
-pub room_behind : (n front behind : ℕ) → n + 1 ≤ (0 + 1) * 10 ^ front → front + behind ≤ 19 → (n + 1) * 10 ^ behind ≤ 10 ^ 19
-room_behind n front behind fits few =
-    let most : (n + 1) * 10 ^ behind ≤ (0 + 1) * 10 ^ front * 10 ^ behind = mul-le-mul_right (10 ^ behind) fits in
-    let both : 10 ^ (front + behind) ≡ 10 ^ front * 10 ^ behind = pow-add 10 front behind in
-    let power : 10 ^ (front + behind) ≤ 10 ^ 19 = pow-le-pow_right (omega arith) few in
+pub room_after : (n front after : ℕ) → n + 1 ≤ (0 + 1) * 10 ^ front → front + after ≤ 19 → (n + 1) * 10 ^ after ≤ 10 ^ 19
+room_after n front after fits few =
+    let most : (n + 1) * 10 ^ after ≤ (0 + 1) * 10 ^ front * 10 ^ after = mul-le-mul_right (10 ^ after) fits in
+    let both : 10 ^ (front + after) ≡ 10 ^ front * 10 ^ after = pow-add 10 front after in
+    let power : 10 ^ (front + after) ≤ 10 ^ 19 = pow-le-pow_right (omega arith) few in
     omega (arith, most, both, power)
 
 -- the next byte is a digit: it goes on from the number of those before it
@@ -113,7 +113,7 @@ pub cut_at_point : (text whole fraction : List ℕ) → text ≡ whole ++ 46 ∷
 cut_at_point text whole fraction e none w f (inl cut) are = same_cut w whole f fraction (sym e ∙ cut) none (digits_front w f are)
 cut_at_point text whole fraction e none w f (inr cut) are =
     let all : AllDigits 10 (whole ++ 46 ∷ fraction) = subst (AllDigits 10) (sym cut.0 ∙ e) (digits_front w f are) in
-    absurd (point_is_none ((digits_behind whole (46 ∷ fraction) all).0, tt))
+    absurd (point_is_none ((digits_after whole (46 ∷ fraction) all).0, tt))
 
 point_stands : (w f : List ℕ) → (length w < length (w ++ 46 ∷ f)) × (get_or (w ++ 46 ∷ f) (length w) 0 ≡ 46)
 point_stands [] f = (omega arith, refl)
@@ -152,16 +152,16 @@ no_signed_decimal : (sign : ℕ) (rest : List ℕ) (ratio : PlainRatio) → (sig
 no_signed_decimal sign rest ratio (inl e) decimal = (no_sign sign (decimal_front sign rest ratio decimal)).0 e
 no_signed_decimal sign rest ratio (inr e) decimal = (no_sign sign (decimal_front sign rest ratio decimal)).1 e
 
--- what stands behind a minus sign: where that is no decimal, the text writes no ratio
-pub none_behind_minus : (text size : List ℕ) → text ≡ 45 ∷ size → ((ratio : PlainRatio) → IsDecimal size ratio → ⊥)
+-- what stands after a minus sign: where that is no decimal, the text writes no ratio
+pub none_after_minus : (text size : List ℕ) → text ≡ 45 ∷ size → ((ratio : PlainRatio) → IsDecimal size ratio → ⊥)
     → (ratio : PlainRatio) → IsRatioText text ratio → ⊥
-none_behind_minus text size e none ratio (inl decimal) = no_signed_decimal 45 size ratio (inr refl) (subst (λ t. IsDecimal t ratio) e decimal)
-none_behind_minus text size e none ratio (inr (inl (rest, cut, decimal))) =
+none_after_minus text size e none ratio (inl decimal) = no_signed_decimal 45 size ratio (inr refl) (subst (λ t. IsDecimal t ratio) e decimal)
+none_after_minus text size e none ratio (inr (inl (rest, cut, decimal))) =
     let apart : 43 ≡ 45 = cut_head 43 45 rest size (sym cut ∙ e) in absurd (omega (arith, apart))
-none_behind_minus text size e none ratio (inr (inr (rest, cut, (other, decimal), is))) =
+none_after_minus text size e none ratio (inr (inr (rest, cut, (other, decimal), is))) =
     none other (subst (λ t. IsDecimal t other) (cut_tail 45 45 rest size (sym cut ∙ e)) decimal)
 
--- what stands behind a plus sign writes what the text writes
+-- what stands after a plus sign writes what the text writes
 pub by_plus : (text size : List ℕ) (r : Option PlainRatio) → text ≡ 43 ∷ size
     → MatchOption r ((ratio : PlainRatio) → IsDecimal size ratio → ⊥) (λ ratio. IsDecimal size ratio)
     → MatchOption r ((ratio : PlainRatio) → IsRatioText text ratio → ⊥) (λ ratio. IsRatioText text ratio)
@@ -185,7 +185,7 @@ by_itself text None minus plus none = none_there
     none_there ratio (inr (inr (rest, cut, decimal, is))) = minus rest cut
 by_itself text (Some ratio) minus plus decimal = inl decimal
 
--- digits in front of a point and behind it write a ratio
+-- digits in front of a point and after it write a ratio
 pub writes : (whole fraction : List ℕ) (front n power : ℕ) → AllDigits 10 whole × (front ≡ digits_value_after 10 0 whole)
     → AllDigits 10 fraction × (n ≡ digits_value_after 10 front fraction) → power ≡ 10 ^ length fraction
     → 0 < length whole + length fraction → length whole + length fraction ≤ 19

@@ -37,15 +37,15 @@ IsConfiguredSampler strings sampler =
     × IsConfigured (IsNamed (sampler_names ratio)) strings.sampler (parent_based always_on) sampler
 
 -- a number that a string of its own configures, and where that says nothing a general one, and else the default
-pub record IsConfiguredBehind {A : Type 0} (Configured : Option (List ℕ) → A → A → Type 0)
+pub record IsConfiguredAfter {A : Type 0} (Configured : Option (List ℕ) → A → A → Type 0)
     (own general : Option (List ℕ)) (default value : A) : Type 0 where
-  pub behind : A
-  pub in_general : Configured general default behind
-  pub in_own : Configured own behind value
+  pub after : A
+  pub in_general : Configured general default after
+  pub in_own : Configured own after value
 
 -- the limits that are configured, the default ones where nothing else is said
 pub record AreConfiguredLimits (strings : PlainConfigStrings) (limits : SpanLimits) : Type 0 where
-  pub attributes : IsConfiguredBehind (IsConfiguredNumber 32) strings.attribute_count_limit
+  pub attributes : IsConfiguredAfter (IsConfiguredNumber 32) strings.attribute_count_limit
       strings.general_attribute_count_limit default_limits.max_attributes_per_span limits.max_attributes_per_span
   pub events : IsConfiguredNumber 32 strings.event_count_limit default_limits.max_events_per_span
       limits.max_events_per_span
@@ -55,7 +55,7 @@ pub record AreConfiguredLimits (strings : PlainConfigStrings) (limits : SpanLimi
       default_limits.max_attributes_per_event limits.max_attributes_per_event
   pub attributes_per_link : IsConfiguredNumber 32 strings.link_attribute_count_limit
       default_limits.max_attributes_per_link limits.max_attributes_per_link
-  pub value_length : IsConfiguredBehind IsConfiguredLength strings.attribute_value_length_limit
+  pub value_length : IsConfiguredAfter IsConfiguredLength strings.attribute_value_length_limit
       strings.general_attribute_value_length_limit default_limits.max_attribute_value_length
       limits.max_attribute_value_length
 

@@ -23,8 +23,8 @@ all_traces = record { numerator = 1; denominator = 1 }
 abbrev pub no_traces : PlainRatio
 no_traces = record { numerator = 0; denominator = 1 }
 
--- the digits in front of a point and behind it, 1 to 19 in all, write a ratio: the number of all digits over as many
--- tens as digits stand behind the point
+-- the digits in front of a point and after it, 1 to 19 in all, write a ratio: the number of all digits over as many
+-- tens as digits stand after the point
 pub record WritesRatio (whole fraction : List ℕ) (ratio : PlainRatio) : Type 0 where
   pub digits : AllDigits 10 (whole ++ fraction)
   pub some : 0 < length (whole ++ fraction)
@@ -35,12 +35,12 @@ pub record WritesRatio (whole fraction : List ℕ) (ratio : PlainRatio) : Type 0
 abbrev pub IsCutAtPoint : List ℕ → List ℕ → List ℕ → Type 0
 IsCutAtPoint text whole fraction = (text ≡ whole ++ 46 ∷ fraction) ⊎ ((text ≡ whole) × (fraction ≡ []))
 
--- a text is a decimal: digits with at most one point in front of them, among them or behind them
+-- a text is a decimal: digits with at most one point in front of them, among them or after them
 abbrev pub IsDecimal : List ℕ → PlainRatio → Type 0
 IsDecimal text ratio =
     (whole : List ℕ) × (fraction : List ℕ) × IsCutAtPoint text whole fraction × WritesRatio whole fraction ratio
 
--- a text writes a ratio: a decimal, with a plus sign in front of it or not; behind a minus sign it stands for no traces
+-- a text writes a ratio: a decimal, with a plus sign in front of it or not; after a minus sign it stands for no traces
 abbrev pub IsRatioText : List ℕ → PlainRatio → Type 0
 IsRatioText text ratio =
     IsDecimal text ratio

@@ -1,4 +1,4 @@
--- Where a text is cut: behind its first line feed, and round its first space.
+-- Where a text is cut: after its first line feed, and round its first space.
 use Rattle.std.proofs.Common.{◌≡◌, ◌≢◌, ℕ, ◌+◌, ◌<◌, ◌≤◌, Bool, true, false, cond, eqb, ltb, List, [], ◌∷◌, ◌++◌, length, take, drop, get_or, Option, None, Some, MatchOption, refl, sym, ap, ◌∙◌, arith, position, length-append}
 use Rattle.std.specs.List.{slice_split, position_or_len, before_first, after_first}
 use Rattle.std.specs.Str.Lines.{lines, lines_of_parts, strip_carriage_return}
@@ -58,7 +58,7 @@ no_field text field rest none e =
     none (length field) (omega arith) (ap (λ t. get_or t (length field) 0) e ∙ get_or_at field 32 rest 0 (length field) refl)
 
 -- where the first byte is a space, no field stands in front
-pub no_empty_field : (text front rest field behind : List ℕ) → text ≡ front ++ 32 ∷ rest → ¬ (0 < length front) → IsField field → text ≡ field ++ 32 ∷ behind → ⊥
-no_empty_field text [] rest [] behind e none is_field f = absurd (omega (arith, is_field.0))
-no_empty_field text [] rest (b ∷ field) behind e none is_field f = is_field.1 0 0 (omega arith) cc
-no_empty_field text (b ∷ front) rest field behind e none is_field f = absurd (none (omega arith))
+pub no_empty_field : (text front rest field after : List ℕ) → text ≡ front ++ 32 ∷ rest → ¬ (0 < length front) → IsField field → text ≡ field ++ 32 ∷ after → ⊥
+no_empty_field text [] rest [] after e none is_field f = absurd (omega (arith, is_field.0))
+no_empty_field text [] rest (b ∷ field) after e none is_field f = is_field.1 0 0 (omega arith) cc
+no_empty_field text (b ∷ front) rest field after e none is_field f = absurd (none (omega arith))

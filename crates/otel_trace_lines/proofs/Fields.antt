@@ -1,4 +1,4 @@
--- A text has one first field, so what stands behind it is determined.
+-- A text has one first field, so what stands after it is determined.
 use Rattle.std.proofs.Common.{◌≡◌, ◌≢◌, ℕ, List, [], ◌∷◌, ◌++◌, Option, None, Some, All, IsUtf8, codes, refl, sym, ap, subst, ◌∙◌, arith, rules}
 use Rattle.std.proofs.lemmas.List.Elements.{All-tail, All-from_recursion}
 use Rattle.otel_trace_lines.specs.Commands.{PlainCommand, plain_command, start, child, remote, attr, event, status, inject, end, flush, run, shutdown}
@@ -7,7 +7,7 @@ use Rattle.otel_trace_lines.specs.declared.command.Command.{Command}
 use Rattle.otel_trace_lines.specs.Lines.{IsField, IsStatus, LineForm, field, last_field, time, outcome, rest_of_line, IsOfForm, form_of, LineGives, HasFields, AreFields, IsCommand, FieldsGive, WordGives}
 use Rattle.otel_trace_lines.proofs.Cuts.{no_field}
 
--- what stands in front of the first space, and behind it, is determined
+-- what stands in front of the first space, and after it, is determined
 same_parts : (front rest other more : List ℕ) → All (λ b. b ≢ 32) front → All (λ b. b ≢ 32) other → front ++ 32 ∷ rest ≡ other ++ 32 ∷ more → (front ≡ other) × (rest ≡ more)
 same_parts [] rest [] more f g e = (refl, cc)
 same_parts [] rest (c ∷ other) more f g e = absurd (g 0 0 (omega arith) cc)
@@ -22,9 +22,9 @@ same_parts (b ∷ front) rest (c ∷ other) more f g e =
 pub same_field : (text first rest other more : List ℕ) → IsField first → IsField other → text ≡ first ++ 32 ∷ rest → text ≡ other ++ 32 ∷ more → (first ≡ other) × (rest ≡ more)
 same_field text first rest other more f g e d = same_parts first rest other more f.1 g.1 (sym e ∙ d)
 
--- where a text begins with a field, a form that it is of goes on in what stands behind
-pub behind_field : (text first rest : List ℕ) → IsField first → text ≡ first ++ 32 ∷ rest → (other : List ℕ) (behind : LineForm) → IsOfForm text (field other behind) → IsOfForm rest behind
-behind_field text first rest is e other behind h = rw (same_field text first rest other h.1.0 is h.0 e h.1.1).1 h.1.2
+-- where a text begins with a field, a form that it is of goes on in what stands after
+pub after_field : (text first rest : List ℕ) → IsField first → text ≡ first ++ 32 ∷ rest → (other : List ℕ) (after : LineForm) → IsOfForm text (field other after) → IsOfForm rest after
+after_field text first rest is e other after h = rw (same_field text first rest other h.1.0 is h.0 e h.1.1).1 h.1.2
 
 -- a text is no status where it is neither `ok` nor begins with `error` and a space
 pub no_status : (text : List ℕ) → (text ≡ codes "ok" → ⊥) → ((description : List ℕ) → text ≡ codes "error" ++ 32 ∷ description → ⊥) → (how : PlainStatus) → IsStatus text how → ⊥
@@ -40,7 +40,7 @@ error_is_field = (omega arith, All-from_recursion (λ b. b ≢ 32) (codes "error
 pub no_last_field : (text last first rest : List ℕ) → IsField last → text ≡ last → text ≡ first ++ 32 ∷ rest → ⊥
 no_last_field text last first rest is e d = no_field last first rest (λ i h. is.1 i 0 h) (sym e ∙ d)
 
--- behind `start` stand the fields of no other command than a start; and so on, word by word
+-- after `start` stand the fields of no other command than a start; and so on, word by word
 pub only_start : (fields : List ℕ) → ((s n : List ℕ) (m : ℕ) → IsOfForm fields (field s (field n (time m))) → ⊥) → (command : PlainCommand) → HasFields (codes "start") fields (form_of command) → ⊥
 only_start fields none (start s n m) h = none s n m h.1
 only_start fields none _ h = search rules
@@ -57,7 +57,7 @@ pub only_attr : (fields : List ℕ) → ((s k v : List ℕ) → IsOfForm fields 
 only_attr fields none (attr s k v) h = none s k v h.1
 only_attr fields none _ h = search rules
 
--- behind `attr` two fields and a rest are of an attribute
+-- after `attr` two fields and a rest are of an attribute
 pub attr_there : (fields span rest key value : List ℕ) → IsField span × (fields ≡ span ++ 32 ∷ rest) → IsField key × (rest ≡ key ++ 32 ∷ value) → AreFields (codes "attr") fields
 attr_there fields span rest key value first second = (attr span key value, (refl, (first.0, (rest, first.1, (second.0, (value, second.1, refl))))))
 
@@ -81,25 +81,25 @@ pub only_run : (fields : List ℕ) → ((m : ℕ) → IsOfForm fields (time m) �
 only_run fields none (run m) h = none m h.1
 only_run fields none _ h = search rules
 
--- behind the word of a line stand the fields of each command as which it reads
-fields_behind : (line word fields : List ℕ) → IsField word → line ≡ word ++ 32 ∷ fields → (command : PlainCommand) → IsOfForm line (form_of command) → HasFields word fields (form_of command)
-fields_behind line word fields is e flush h = no_last_field line (codes "flush") word fields h.0 h.1 e
-fields_behind line word fields is e shutdown h = no_last_field line (codes "shutdown") word fields h.0 h.1 e
-fields_behind line word fields is e _ h =
+-- after the word of a line stand the fields of each command as which it reads
+fields_after : (line word fields : List ℕ) → IsField word → line ≡ word ++ 32 ∷ fields → (command : PlainCommand) → IsOfForm line (form_of command) → HasFields word fields (form_of command)
+fields_after line word fields is e flush h = no_last_field line (codes "flush") word fields h.0 h.1 e
+fields_after line word fields is e shutdown h = no_last_field line (codes "shutdown") word fields h.0 h.1 e
+fields_after line word fields is e _ h =
     let same = same_field line word fields _ h.1.0 is h.0 e h.1.1 in
     (sym same.0, rw same.1 h.1.2)
 
 -- a word, a space and fields
 with_fields : (line word fields : List ℕ) → IsField word → line ≡ word ++ 32 ∷ fields → (form : LineForm) → HasFields word fields form → IsOfForm line form
-with_fields line word fields is e (field front behind) h = (rw h.0 is, (fields, rw h.0 e, h.1))
+with_fields line word fields is e (field front after) h = (rw h.0 is, (fields, rw h.0 e, h.1))
 with_fields line word fields is e _ h = absurd h
 
--- what is found behind the word is found in the line
+-- what is found after the word is found in the line
 pub fields_give_line : (line word fields : List ℕ) → IsUtf8 line → IsField word → line ≡ word ++ 32 ∷ fields → (found : Option Command) → FieldsGive word fields found → LineGives line found
-fields_give_line line word fields text is e None h = λ command reads. h command (fields_behind line word fields is e command reads.1)
+fields_give_line line word fields text is e None h = λ command reads. h command (fields_after line word fields is e command reads.1)
 fields_give_line line word fields text is e (Some command) h = (text, with_fields line word fields is e (form_of (plain_command command)) h)
 
--- fields of a command behind the word make the line one
+-- fields of a command after the word make the line one
 pub fields_make_line : (line word fields : List ℕ) → IsUtf8 line → IsField word → line ≡ word ++ 32 ∷ fields → AreFields word fields → IsCommand line
 fields_make_line line word fields text is e h = (h.0, (text, with_fields line word fields is e (form_of h.0) h.1))
 

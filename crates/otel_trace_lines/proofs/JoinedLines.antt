@@ -17,10 +17,10 @@ onto_joined b part parts more = refl
 first_part : (text : List ℕ) → (part : List ℕ) × (parts : List (List ℕ)) × (slice_split is_feed text ≡ part ∷ parts)
 first_part [] = ([], [], refl)
 first_part (b ∷ text) =
-    let behind = first_part text in
+    let after = first_part text in
     elim (is_feed b) as (λ v. (part : List ℕ) × (parts : List (List ℕ)) × (cond v ([] ∷ slice_split is_feed text) (onto_first b (slice_split is_feed text)) ≡ part ∷ parts)) [
       | true ↦ ([], slice_split is_feed text, refl)
-      | false ↦ (b ∷ behind.0, behind.1, ap (onto_first b) behind.2)
+      | false ↦ (b ∷ after.0, after.1, ap (onto_first b) after.2)
     ]
 
 onto_more : (b : ℕ) (text : List ℕ) (more : List (List ℕ)) → onto_first b (slice_split is_feed text ++ more) ≡ onto_first b (slice_split is_feed text) ++ more
@@ -28,14 +28,14 @@ onto_more b text more =
     let h = first_part text in rw h.2 refl
 
 -- the parts of texts that a line feed joins
-parts_joined : (text behind : List ℕ) → slice_split is_feed (text ++ 10 ∷ behind) ≡ slice_split is_feed text ++ slice_split is_feed behind
-parts_joined [] behind = refl
-parts_joined (b ∷ text) behind =
-    let more = parts_joined text behind in
-    elim (is_feed b) as (λ v. cond v ([] ∷ slice_split is_feed (text ++ 10 ∷ behind)) (onto_first b (slice_split is_feed (text ++ 10 ∷ behind)))
-    ≡ cond v ([] ∷ slice_split is_feed text) (onto_first b (slice_split is_feed text)) ++ slice_split is_feed behind) [
+parts_joined : (text after : List ℕ) → slice_split is_feed (text ++ 10 ∷ after) ≡ slice_split is_feed text ++ slice_split is_feed after
+parts_joined [] after = refl
+parts_joined (b ∷ text) after =
+    let more = parts_joined text after in
+    elim (is_feed b) as (λ v. cond v ([] ∷ slice_split is_feed (text ++ 10 ∷ after)) (onto_first b (slice_split is_feed (text ++ 10 ∷ after)))
+    ≡ cond v ([] ∷ slice_split is_feed text) (onto_first b (slice_split is_feed text)) ++ slice_split is_feed after) [
       | true ↦ ap (λ ps. [] ∷ ps) more
-      | false ↦ ap (onto_first b) more ∙ onto_more b text (slice_split is_feed behind)
+      | false ↦ ap (onto_first b) more ∙ onto_more b text (slice_split is_feed after)
     ]
 
 -- parts in front of others each end in a line feed
@@ -45,15 +45,15 @@ lines_in_front (x ∷ []) part more = refl
 lines_in_front (x ∷ y ∷ parts) part more = ap (λ ls. strip_carriage_return x ∷ ls) (lines_in_front (y ∷ parts) part more)
 
 -- the lines of a text that ends in a line feed, in front of another
-lines_behind : (front behind : List ℕ) → lines (front ++ 10 ∷ behind) ≡ map strip_carriage_return (slice_split is_feed front) ++ lines behind
-lines_behind front behind =
-    let h = first_part behind in
-    ap lines_of_parts (parts_joined front behind) ∙ ap (λ ps. lines_of_parts (slice_split is_feed front ++ ps)) h.2 ∙ lines_in_front (slice_split is_feed front) h.0 h.1
+lines_after : (front after : List ℕ) → lines (front ++ 10 ∷ after) ≡ map strip_carriage_return (slice_split is_feed front) ++ lines after
+lines_after front after =
+    let h = first_part after in
+    ap lines_of_parts (parts_joined front after) ∙ ap (λ ps. lines_of_parts (slice_split is_feed front ++ ps)) h.2 ∙ lines_in_front (slice_split is_feed front) h.0 h.1
     ∙ ap (λ ps. map strip_carriage_return (slice_split is_feed front) ++ lines_of_parts ps) (sym h.2)
 
-pub lines_at_feed : (front behind : List ℕ) → lines (front ++ 10 ∷ behind) ≡ lines (front ++ 10 ∷ []) ++ lines behind
-lines_at_feed front behind =
-    lines_behind front behind ∙ ap (λ ls. ls ++ lines behind) (sym (lines_behind front [] ∙ append-nil (map strip_carriage_return (slice_split is_feed front))))
+pub lines_at_feed : (front after : List ℕ) → lines (front ++ 10 ∷ after) ≡ lines (front ++ 10 ∷ []) ++ lines after
+lines_at_feed front after =
+    lines_after front after ∙ ap (λ ls. ls ++ lines after) (sym (lines_after front [] ∙ append-nil (map strip_carriage_return (slice_split is_feed front))))
 
 -- what stands in front of the last byte
 ends_in_feed : (b : ℕ) (text : List ℕ) → get_or (b ∷ text) (length text) 0 ≡ 10 → (front : List ℕ) × (b ∷ text ≡ front ++ 10 ∷ [])

@@ -8,7 +8,7 @@ use Rattle.otel_trace_lines.specs.Commands.{PlainCommand}
 use Rattle.otel_trace_lines.specs.Lines.{Spell, SpellUpTo, StopsAt, TextSpells}
 use Rattle.otel_trace_lines.proofs.JoinedLines.{lines_joined}
 
--- lines, and others behind them
+-- lines, and others after them
 spell_joined : (first second : List (List ℕ)) (commands more : List PlainCommand) → Spell first commands → Spell second more → Spell (first ++ second) (commands ++ more)
 spell_joined [] second [] more h k = k
 spell_joined [] second (c ∷ cs) more h k = absurd h
@@ -22,27 +22,27 @@ spell_up_to_joined first second commands more None h k = spell_joined first seco
 spell_up_to_joined first second commands more (Some n) h k = record {
   before = first ++ k.before;
   line = k.line;
-  behind = k.behind;
-  parts = ap (λ ls. first ++ ls) k.parts ∙ sym (append_assoc first k.before (k.line ∷ k.behind));
+  after = k.after;
+  parts = ap (λ ls. first ++ ls) k.parts ∙ sym (append_assoc first k.before (k.line ∷ k.after));
   number = let number : n ≡ length k.before + 1 = k.number in omega (arith, length-append first k.before);
   spelled = spell_joined first k.before commands more h k.spelled;
   bad = k.bad;
 }
 
--- a text with no bad line, and another behind its end
+-- a text with no bad line, and another after its end
 pub texts_joined : (first second : List ℕ) (commands more : List PlainCommand) (bad_line : Option ℕ) → IsEmptyOrEndsWith first 10 → TextSpells first commands None → TextSpells second more bad_line
     → TextSpells (first ++ second) (commands ++ more) (option_map (λ n. length (lines first) + n) bad_line)
 texts_joined first second commands more bad_line ends h k =
     subst (λ (all : List (List ℕ)). SpellUpTo all (commands ++ more) (option_map (λ n. length (lines first) + n) bad_line)) (sym (lines_joined first second ends))
     (spell_up_to_joined (lines first) (lines second) commands more bad_line h k)
 
--- what stands behind a bad line is not read
+-- what stands after a bad line is not read
 stops_before : (first second : List (List ℕ)) (commands : List PlainCommand) (n : ℕ) → StopsAt first commands n → StopsAt (first ++ second) commands n
 stops_before first second commands n h = record {
   before = h.before;
   line = h.line;
-  behind = h.behind ++ second;
-  parts = ap (λ ls. ls ++ second) h.parts ∙ append_assoc h.before (h.line ∷ h.behind) second;
+  after = h.after ++ second;
+  parts = ap (λ ls. ls ++ second) h.parts ∙ append_assoc h.before (h.line ∷ h.after) second;
   number = h.number;
   spelled = h.spelled;
   bad = h.bad;

@@ -6,14 +6,14 @@ use Rattle.std.proofs.lemmas.List.Folds.{length-flat_map-take}
 use Rattle.std.proofs.lemmas.Bool.Decides.{nat_tests}
 use Rattle.otel_trace_lines.specs.ReplyText.{comma_before}
 
--- a piece behind others stands behind a comma
+-- a piece after others stands after a comma
 join_more : (pieces : List (List ℕ)) (piece : List ℕ) → 0 < length pieces → join_with_byte 44 (pieces ++ piece ∷ []) ≡ join_with_byte 44 pieces ++ 44 ∷ piece
 join_more [] piece h = absurd (omega arith)
 join_more (x ∷ []) piece h = refl
 join_more (x ∷ y ∷ more) piece h =
     ap (λ t. x ++ 44 ∷ t) (join_more (y ∷ more) piece (omega arith)) ∙ sym (append_assoc x (44 ∷ join_with_byte 44 (y ∷ more)) (44 ∷ piece))
 
--- a piece behind others, or alone
+-- a piece after others, or alone
 join_next : (pieces : List (List ℕ)) (piece : List ℕ) (i : ℕ) → length pieces ≡ i → join_with_byte 44 (pieces ++ piece ∷ []) ≡ join_with_byte 44 pieces ++ (comma_before i ++ piece)
 join_next [] piece i h = rw (sym h) refl
 join_next (x ∷ more) piece i h =
@@ -28,7 +28,7 @@ listed_more {X} text items i item within is =
     let long : length (map text (take i items)) ≡ i = length-map (take i items) text ∙ length-take-le i items (omega arith) in
     ap (λ pieces. join_with_byte 44 pieces) more ∙ (rw (← is) (join_next (map text (take i items)) (text item) i long))
 
--- the text behind an item more: t is before, then the bracket and the items so far; u has the comma too, and v the item
+-- the text after an item more: t is before, then the bracket and the items so far; u has the comma too, and v the item
 pub item_written : {X : Type 0} (text : X → List ℕ) (items : List X) (i : ℕ) (item : X) (before t u v : List ℕ) → i < length items → item ≡ get_or items i item
     → t ≡ before ++ (91 ∷ join_with_byte 44 (map text (take i items))) → u ≡ t ++ comma_before i → v ≡ u ++ text item → v ≡ before ++ (91 ∷ join_with_byte 44 (map text (take (i + 1) items)))
 item_written {X} text items i item before t u v within is e f g =

@@ -22,9 +22,9 @@ same_status text ok ok f g = refl
 
 -- two forms agree: field by field, and at their ends where these are of one kind
 abbrev pub AreOneForm : LineForm → LineForm → Type 0
-AreOneForm (field front behind) (field other more) = (front ≡ other) × AreOneForm behind more
-AreOneForm (field front behind) (last_field last) = ⊥
-AreOneForm (last_field last) (field front behind) = ⊥
+AreOneForm (field front after) (field other more) = (front ≡ other) × AreOneForm after more
+AreOneForm (field front after) (last_field last) = ⊥
+AreOneForm (last_field last) (field front after) = ⊥
 AreOneForm (last_field last) (last_field other) = last ≡ other
 AreOneForm (time moment) (time other) = moment ≡ other
 AreOneForm (outcome how) (outcome other) = how ≡ other
@@ -33,11 +33,11 @@ AreOneForm _ _ = Unit {0}
 
 -- the forms of one text agree
 forms_agree : (text : List ℕ) (form other : LineForm) → IsOfForm text form → IsOfForm text other → AreOneForm form other
-forms_agree text (field front behind) (field other more) f g =
+forms_agree text (field front after) (field other more) f g =
     let same = same_field text front f.1.0 other g.1.0 f.0 g.0 f.1.1 g.1.1 in
-    (same.0, forms_agree g.1.0 behind more (rw (← same.1) f.1.2) g.1.2)
-forms_agree text (field front behind) (last_field last) f g = no_last_field text last front f.1.0 g.0 g.1 f.1.1
-forms_agree text (last_field last) (field front behind) f g = no_last_field text last front g.1.0 f.0 f.1 g.1.1
+    (same.0, forms_agree g.1.0 after more (rw (← same.1) f.1.2) g.1.2)
+forms_agree text (field front after) (last_field last) f g = no_last_field text last front f.1.0 g.0 g.1 f.1.1
+forms_agree text (last_field last) (field front after) f g = no_last_field text last front g.1.0 f.0 f.1 g.1.1
 forms_agree text (last_field last) (last_field other) f g = sym f.1 ∙ g.1
 forms_agree text (time moment) (time other) f g = same_moment text text moment other f g refl
 forms_agree text (outcome how) (outcome other) f g = same_status text how other f g
@@ -80,11 +80,11 @@ bad_head (b ∷ line) more [] h bad = h
 bad_head (b ∷ line) more (c ∷ cs) h bad = bad.1 c h.0
 
 -- nor stands among them
-bad_within : (before : List (List ℕ)) (line : List ℕ) (behind : List (List ℕ)) (commands : List PlainCommand) → Spell (before ++ line ∷ behind) commands → IsBad line → ⊥
-bad_within [] line behind commands h bad = bad_head line behind commands h bad
-bad_within ([] ∷ more) line behind commands h bad = bad_within more line behind commands h bad
-bad_within ((b ∷ first) ∷ more) line behind [] h bad = h
-bad_within ((b ∷ first) ∷ more) line behind (c ∷ cs) h bad = bad_within more line behind cs h.1 bad
+bad_within : (before : List (List ℕ)) (line : List ℕ) (after : List (List ℕ)) (commands : List PlainCommand) → Spell (before ++ line ∷ after) commands → IsBad line → ⊥
+bad_within [] line after commands h bad = bad_head line after commands h bad
+bad_within ([] ∷ more) line after commands h bad = bad_within more line after commands h bad
+bad_within ((b ∷ first) ∷ more) line after [] h bad = h
+bad_within ((b ∷ first) ∷ more) line after (c ∷ cs) h bad = bad_within more line after cs h.1 bad
 
 -- lines spell one list of commands
 one_list : (all : List (List ℕ)) (commands others : List PlainCommand) → Spell all commands → Spell all others → others ≡ commands
@@ -100,38 +100,38 @@ one_list ((b ∷ line) ∷ more) (c ∷ cs) (d ∷ ds) f g =
     cc (head, tail)
 
 -- lines before the first bad one spell one list of commands, and are of one number
-one_stop : (before : List (List ℕ)) (line : List ℕ) (behind before' : List (List ℕ)) (line' : List ℕ) (behind' : List (List ℕ)) (cs ds : List PlainCommand) → before ++ line ∷ behind ≡ before' ++ line' ∷ behind' → Spell before cs → Spell before' ds → IsBad line → IsBad line' → (ds ≡ cs) × (length before' ≡ length before)
-one_stop [] line behind [] line' behind' [] [] e f g bad bad' = (refl, refl)
-one_stop [] line behind [] line' behind' [] (d ∷ ds) e f g bad bad' = absurd g
-one_stop [] line behind [] line' behind' (c ∷ cs) ds e f g bad bad' = absurd f
-one_stop [] line behind (first ∷ more) line' behind' cs ds e f g bad bad' =
+one_stop : (before : List (List ℕ)) (line : List ℕ) (after before' : List (List ℕ)) (line' : List ℕ) (after' : List (List ℕ)) (cs ds : List PlainCommand) → before ++ line ∷ after ≡ before' ++ line' ∷ after' → Spell before cs → Spell before' ds → IsBad line → IsBad line' → (ds ≡ cs) × (length before' ≡ length before)
+one_stop [] line after [] line' after' [] [] e f g bad bad' = (refl, refl)
+one_stop [] line after [] line' after' [] (d ∷ ds) e f g bad bad' = absurd g
+one_stop [] line after [] line' after' (c ∷ cs) ds e f g bad bad' = absurd f
+one_stop [] line after (first ∷ more) line' after' cs ds e f g bad bad' =
     let heads : line ≡ first = cc in
     absurd (bad_head first more ds g (rw (← heads) bad))
-one_stop (first ∷ more) line behind [] line' behind' cs ds e f g bad bad' =
+one_stop (first ∷ more) line after [] line' after' cs ds e f g bad bad' =
     let heads : line' ≡ first = cc in
     absurd (bad_head first more cs f (rw (← heads) bad'))
-one_stop ([] ∷ more) line behind ([] ∷ more') line' behind' cs ds e f g bad bad' =
-    let tails : more ++ line ∷ behind ≡ more' ++ line' ∷ behind' = cc in
-    let rest = one_stop more line behind more' line' behind' cs ds tails f g bad bad' in
+one_stop ([] ∷ more) line after ([] ∷ more') line' after' cs ds e f g bad bad' =
+    let tails : more ++ line ∷ after ≡ more' ++ line' ∷ after' = cc in
+    let rest = one_stop more line after more' line' after' cs ds tails f g bad bad' in
     (rest.0, ap suc rest.1)
-one_stop ([] ∷ more) line behind ((b ∷ first) ∷ more') line' behind' cs ds e f g bad bad' = cc
-one_stop ((b ∷ first) ∷ more) line behind ([] ∷ more') line' behind' cs ds e f g bad bad' = cc
-one_stop ((b ∷ first) ∷ more) line behind ((b' ∷ first') ∷ more') line' behind' [] ds e f g bad bad' = absurd f
-one_stop ((b ∷ first) ∷ more) line behind ((b' ∷ first') ∷ more') line' behind' (c ∷ cs) [] e f g bad bad' = absurd g
-one_stop ((b ∷ first) ∷ more) line behind ((b' ∷ first') ∷ more') line' behind' (c ∷ cs) (d ∷ ds) e f g bad bad' =
-    let tails : more ++ line ∷ behind ≡ more' ++ line' ∷ behind' = cc in
+one_stop ([] ∷ more) line after ((b ∷ first) ∷ more') line' after' cs ds e f g bad bad' = cc
+one_stop ((b ∷ first) ∷ more) line after ([] ∷ more') line' after' cs ds e f g bad bad' = cc
+one_stop ((b ∷ first) ∷ more) line after ((b' ∷ first') ∷ more') line' after' [] ds e f g bad bad' = absurd f
+one_stop ((b ∷ first) ∷ more) line after ((b' ∷ first') ∷ more') line' after' (c ∷ cs) [] e f g bad bad' = absurd g
+one_stop ((b ∷ first) ∷ more) line after ((b' ∷ first') ∷ more') line' after' (c ∷ cs) (d ∷ ds) e f g bad bad' =
+    let tails : more ++ line ∷ after ≡ more' ++ line' ∷ after' = cc in
     let heads : b' ∷ first' ≡ b ∷ first = cc in
-    let rest = one_stop more line behind more' line' behind' cs ds tails f.1 g.1 bad bad' in
+    let rest = one_stop more line after more' line' after' cs ds tails f.1 g.1 bad bad' in
     let here : d ≡ c = one_command (b ∷ first) c d f.0 (rw (← heads) g.0) in
     (cc (rest.0, here), ap suc rest.1)
 
 -- a text spells one list of commands up to its first bad line, and has one such line or none
 pub one_reading : (text : List ℕ) (commands others : List PlainCommand) (bad_line other : Option ℕ) → TextSpells text commands bad_line → TextSpells text others other → (others ≡ commands) × (other ≡ bad_line)
 one_reading text cs ds None None f g = (one_list (lines text) cs ds f g, refl)
-one_reading text cs ds None (Some n) f g = absurd (bad_within g.before g.line g.behind cs (rw (← g.parts) f) g.bad)
-one_reading text cs ds (Some n) None f g = absurd (bad_within f.before f.line f.behind ds (rw (← f.parts) g) f.bad)
+one_reading text cs ds None (Some n) f g = absurd (bad_within g.before g.line g.after cs (rw (← g.parts) f) g.bad)
+one_reading text cs ds (Some n) None f g = absurd (bad_within f.before f.line f.after ds (rw (← f.parts) g) f.bad)
 one_reading text cs ds (Some n) (Some k) f g =
-    let same = one_stop f.before f.line f.behind g.before g.line g.behind cs ds (sym f.parts ∙ g.parts) f.spelled g.spelled f.bad g.bad in
+    let same = one_stop f.before f.line f.after g.before g.line g.after cs ds (sym f.parts ∙ g.parts) f.spelled g.spelled f.bad g.bad in
     let numbers : k ≡ n = omega (arith, f.number, g.number, same.1) in
     (same.0, ap (λ i. Some i) numbers)
 
@@ -142,7 +142,7 @@ none_filled [] (b ∷ line) more h some = h
 none_filled ([] ∷ before) line more h some = none_filled before line more h some
 none_filled ((b ∷ first) ∷ before) line more h some = h
 
--- where the lines in front of the first bad one spell nothing, no line that reads stands behind lines that spell commands
+-- where the lines in front of the first bad one spell nothing, no line that reads stands after lines that spell commands
 pub none_read : (before : List (List ℕ)) (line : List ℕ) (more before' : List (List ℕ)) (line' : List ℕ) (more' : List (List ℕ)) (cs : List PlainCommand) (command : PlainCommand) → before ++ line ∷ more ≡ before' ++ line' ∷ more' → Spell before cs → line ≢ [] → Reads line command → Spell before' [] → IsBad line' → ⊥
 none_read [] line more [] line' more' cs command e f some reads g bad =
     let heads : line' ≡ line = cc in

@@ -23,7 +23,7 @@ spell_more ([] ∷ more) cs line command h some reads = spell_more more cs line 
 spell_more ((b ∷ first) ∷ more) [] line command h some reads = absurd h
 spell_more ((b ∷ first) ∷ more) (c ∷ cs) line command h some reads = (h.0, spell_more more cs line command h.1 some reads)
 
--- the first lines of a text, in number, spell the commands, and rest stands behind them
+-- the first lines of a text, in number, spell the commands, and rest stands after them
 pub record HasRead (text rest : List ℕ) (commands : List PlainCommand) (number : ℕ) : Type 0 where
   pub before : List (List ℕ)
   pub parts : lines text ≡ before ++ lines rest
@@ -31,24 +31,24 @@ pub record HasRead (text rest : List ℕ) (commands : List PlainCommand) (number
   pub spelled : Spell before commands
 
 -- what is read with the next line
-parts_more : (text rest line behind : List ℕ) (before : List (List ℕ)) → lines text ≡ before ++ lines rest → lines rest ≡ line ∷ lines behind → lines text ≡ (before ++ line ∷ []) ++ lines behind
-parts_more text rest line behind before parts next =
-    parts ∙ ap (λ more. before ++ more) next ∙ sym (append_assoc before (line ∷ []) (lines behind))
+parts_more : (text rest line after : List ℕ) (before : List (List ℕ)) → lines text ≡ before ++ lines rest → lines rest ≡ line ∷ lines after → lines text ≡ (before ++ line ∷ []) ++ lines after
+parts_more text rest line after before parts next =
+    parts ∙ ap (λ more. before ++ more) next ∙ sym (append_assoc before (line ∷ []) (lines after))
 
 -- an empty line is read
-pub read_blank : (text rest line behind : List ℕ) (commands : List PlainCommand) (number : ℕ) → HasRead text rest commands number → lines rest ≡ line ∷ lines behind → line ≡ [] → HasRead text behind commands (number + 1)
-read_blank text rest line behind commands number h next blank = record {
+pub read_blank : (text rest line after : List ℕ) (commands : List PlainCommand) (number : ℕ) → HasRead text rest commands number → lines rest ≡ line ∷ lines after → line ≡ [] → HasRead text after commands (number + 1)
+read_blank text rest line after commands number h next blank = record {
   before = h.before ++ line ∷ [];
-  parts = parts_more text rest line behind h.before h.parts next;
+  parts = parts_more text rest line after h.before h.parts next;
   count = omega (arith, length_push h.before line, h.count);
   spelled = rw blank (spell_blank h.before commands h.spelled);
 }
 
 -- a line is read as a command
-pub read_more : (text rest line behind : List ℕ) (commands : List PlainCommand) (command : PlainCommand) (number : ℕ) → HasRead text rest commands number → lines rest ≡ line ∷ lines behind → line ≢ [] → Reads line command → HasRead text behind (commands ++ command ∷ []) (number + 1)
-read_more text rest line behind commands command number h next some reads = record {
+pub read_more : (text rest line after : List ℕ) (commands : List PlainCommand) (command : PlainCommand) (number : ℕ) → HasRead text rest commands number → lines rest ≡ line ∷ lines after → line ≢ [] → Reads line command → HasRead text after (commands ++ command ∷ []) (number + 1)
+read_more text rest line after commands command number h next some reads = record {
   before = h.before ++ line ∷ [];
-  parts = parts_more text rest line behind h.before h.parts next;
+  parts = parts_more text rest line after h.before h.parts next;
   count = omega (arith, length_push h.before line, h.count);
   spelled = spell_more h.before commands line command h.spelled some reads;
 }
@@ -58,11 +58,11 @@ pub read_all : (text rest : List ℕ) (commands : List PlainCommand) (number : �
 read_all text rest commands number h none = rw (h.parts, none, append-nil) h.spelled
 
 -- the next line is bad
-pub read_bad : (text rest line behind : List ℕ) (commands : List PlainCommand) (number : ℕ) → HasRead text rest commands number → lines rest ≡ line ∷ lines behind → line ≢ [] → ((command : PlainCommand) → Reads line command → ⊥) → StopsAt (lines text) commands (number + 1)
-read_bad text rest line behind commands number h next some bad = record {
+pub read_bad : (text rest line after : List ℕ) (commands : List PlainCommand) (number : ℕ) → HasRead text rest commands number → lines rest ≡ line ∷ lines after → line ≢ [] → ((command : PlainCommand) → Reads line command → ⊥) → StopsAt (lines text) commands (number + 1)
+read_bad text rest line after commands number h next some bad = record {
   before = h.before;
   line = line;
-  behind = lines behind;
+  after = lines after;
   parts = h.parts ∙ ap (λ more. h.before ++ more) next;
   number = omega (arith, h.count);
   spelled = h.spelled;
@@ -70,12 +70,12 @@ read_bad text rest line behind commands number h next some bad = record {
 }
 
 -- a text whose next line reads as a command spells one
-spells_by : (text rest line behind : List ℕ) (commands : List PlainCommand) (command : PlainCommand) (number : ℕ) → HasRead text rest commands number → lines rest ≡ line ∷ lines behind → line ≢ [] → Reads line command → (bad_line : Option ℕ) → TextSpells text [] bad_line → ⊥
-spells_by text rest line behind commands command number h next some reads None all =
-    none_filled h.before line (lines behind) (subst (λ (ls : List (List ℕ)). Spell ls []) (h.parts ∙ ap (λ more. h.before ++ more) next) all) some
-spells_by text rest line behind commands command number h next some reads (Some n) stops =
-    none_read h.before line (lines behind) stops.before stops.line stops.behind commands command (sym (h.parts ∙ ap (λ more. h.before ++ more) next) ∙ stops.parts) h.spelled some reads stops.spelled stops.bad
+spells_by : (text rest line after : List ℕ) (commands : List PlainCommand) (command : PlainCommand) (number : ℕ) → HasRead text rest commands number → lines rest ≡ line ∷ lines after → line ≢ [] → Reads line command → (bad_line : Option ℕ) → TextSpells text [] bad_line → ⊥
+spells_by text rest line after commands command number h next some reads None all =
+    none_filled h.before line (lines after) (subst (λ (ls : List (List ℕ)). Spell ls []) (h.parts ∙ ap (λ more. h.before ++ more) next) all) some
+spells_by text rest line after commands command number h next some reads (Some n) stops =
+    none_read h.before line (lines after) stops.before stops.line stops.after commands command (sym (h.parts ∙ ap (λ more. h.before ++ more) next) ∙ stops.parts) h.spelled some reads stops.spelled stops.bad
 
-pub spells_something : (text rest line behind : List ℕ) (commands : List PlainCommand) (command : PlainCommand) (number : ℕ) → HasRead text rest commands number → lines rest ≡ line ∷ lines behind → line ≢ [] → Reads line command → SpellsNothing text → ⊥
-spells_something text rest line behind commands command number h next some reads nothing =
-    spells_by text rest line behind commands command number h next some reads nothing.0 nothing.1
+pub spells_something : (text rest line after : List ℕ) (commands : List PlainCommand) (command : PlainCommand) (number : ℕ) → HasRead text rest commands number → lines rest ≡ line ∷ lines after → line ≢ [] → Reads line command → SpellsNothing text → ⊥
+spells_something text rest line after commands command number h next some reads nothing =
+    spells_by text rest line after commands command number h next some reads nothing.0 nothing.1

@@ -1,5 +1,5 @@
 -- Which commands a text spells, line by line. Lines are those of the text, in std's word: each ends in a line feed and
--- loses the one carriage return in front of it, and a rest behind the last line feed, if not empty, is a line as it is.
+-- loses the one carriage return in front of it, and a rest after the last line feed, if not empty, is a line as it is.
 use Rattle.std.specs.Prelude.{◌≡◌, ◌≢◌, ℕ, ◌+◌, ◌^◌, ◌<◌, List, [], ◌∷◌, ◌++◌, length, Option, Some, None, All, codes, IsUtf8}
 use Rattle.std.specs.Str.Lines.{lines}
 use Rattle.std.specs.Str.Parse.{IsNumeral, digits_value}
@@ -25,9 +25,9 @@ IsStatus text ok = text ≡ codes "ok"
 
 -- the form of a line, from its front to its end
 pub data LineForm : Type 0 where
-  -- a field, a space, and what stands behind it
+  -- a field, a space, and what stands after it
   field : List ℕ → LineForm → LineForm
-  -- a field with nothing behind it
+  -- a field with nothing after it
   last_field : List ℕ → LineForm
   -- a moment
   time : ℕ → LineForm
@@ -38,14 +38,14 @@ pub data LineForm : Type 0 where
 
 -- a text is of a form
 abbrev pub IsOfForm : List ℕ → LineForm → Type 0
-IsOfForm text (field front behind) =
-    IsField front × ((rest : List ℕ) × (text ≡ front ++ 32 ∷ rest) × IsOfForm rest behind)
+IsOfForm text (field front after) =
+    IsField front × ((rest : List ℕ) × (text ≡ front ++ 32 ∷ rest) × IsOfForm rest after)
 IsOfForm text (last_field last) = IsField last × (text ≡ last)
 IsOfForm text (time moment) = IsMoment text moment
 IsOfForm text (outcome how) = IsStatus text how
 IsOfForm text (rest_of_line rest) = text ≡ rest
 
--- the form of a command's line: its word, and what stands behind the word
+-- the form of a command's line: its word, and what stands after the word
 abbrev pub form_of : PlainCommand → LineForm
 form_of (start span name moment) = field (codes "start") (field span (field name (time moment)))
 form_of (child span parent name moment) =
@@ -81,8 +81,8 @@ Spell ((b ∷ line) ∷ more) (command ∷ commands) = Reads (b ∷ line) comman
 pub record StopsAt (all : List (List ℕ)) (commands : List PlainCommand) (n : ℕ) : Type 0 where
   pub before : List (List ℕ)
   pub line : List ℕ
-  pub behind : List (List ℕ)
-  pub parts : all ≡ before ++ line ∷ behind
+  pub after : List (List ℕ)
+  pub parts : all ≡ before ++ line ∷ after
   pub number : n ≡ length before + 1
   pub spelled : Spell before commands
   pub bad : IsBad line
@@ -100,16 +100,16 @@ TextSpells text commands bad_line = SpellUpTo (lines text) commands bad_line
 abbrev pub SpellsNothing : List ℕ → Type 0
 SpellsNothing text = (bad_line : Option ℕ) × TextSpells text [] bad_line
 
--- a form that begins with a word, and these fields are of the form behind its space
+-- a form that begins with a word, and these fields are of the form after its space
 abbrev pub HasFields : List ℕ → List ℕ → LineForm → Type 0
-HasFields word fields (field front behind) = (front ≡ word) × IsOfForm fields behind
+HasFields word fields (field front after) = (front ≡ word) × IsOfForm fields after
 HasFields word fields _ = ⊥
 
 -- a line that reads as a command
 abbrev pub IsCommand : List ℕ → Type 0
 IsCommand line = (command : PlainCommand) × Reads line command
 
--- behind this word's space these fields are a command's
+-- after this word's space these fields are a command's
 abbrev pub AreFields : List ℕ → List ℕ → Type 0
 AreFields word fields = (command : PlainCommand) × HasFields word fields (form_of command)
 
@@ -122,7 +122,7 @@ abbrev pub LineGives : List ℕ → Option Command → Type 0
 LineGives line None = (command : PlainCommand) → Reads line command → ⊥
 LineGives line (Some command) = Reads line (plain_command command)
 
--- what is found behind a word: a command of that word whose fields stand there, and none only where there is none
+-- what is found after a word: a command of that word whose fields stand there, and none only where there is none
 abbrev pub FieldsGive : List ℕ → List ℕ → Option Command → Type 0
 FieldsGive word fields None = (command : PlainCommand) → HasFields word fields (form_of command) → ⊥
 FieldsGive word fields (Some command) = HasFields word fields (form_of (plain_command command))

@@ -1,4 +1,4 @@
--- The texts of replies. Each reply has a line of its own, or two for headers, behind the lines of the spans that were
+-- The texts of replies. Each reply has a line of its own, or two for headers, after the lines of the spans that were
 -- exported.
 use Rattle.std.specs.Prelude.{ℕ, List, [], ◌∷◌, ◌++◌, length, map, codes, if◌then◌else◌, ◌==◌}
 use Rattle.std.specs.List.{join_with_byte, flat_map}

@@ -6,13 +6,13 @@ ghost use Rattle.std.specs.Str.Lines.{lines as lines_of};
 ghost use Rattle.otel_trace_lines.specs.Commands.{PlainCommand};
 ghost use Rattle.otel_trace_lines.specs.Lines.{TextSpells};
 
-/// A text that is cut behind a line feed has the lines of its two parts.
+/// A text that is cut after a line feed has the lines of its two parts.
 pub fn lines_join()
     ensures { (first second : List ℕ) → IsEmptyOrEndsWith first 10
         → lines_of (first ++ second) ≡ lines_of first ++ lines_of second }
 {}
 
-/// A text that is cut behind a line feed spells what its two parts spell, with its lines counted through. Behind a bad
+/// A text that is cut after a line feed spells what its two parts spell, with its lines counted through. After a bad
 /// line it may go on as it will.
 pub fn texts_join()
     ensures joined { (first second : List ℕ) (commands more : List PlainCommand) (bad_line : Option ℕ)

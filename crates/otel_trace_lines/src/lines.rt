@@ -48,8 +48,8 @@ pub fn parse(alloc: Global, text: &[u8]) -> Result<Script, AllocError>
     let mut commands = Vec::new(alloc);
     let mut number: u64 = 0;
     let mut rest = text;
-    while let Some((line, behind)) = first_line(rest) {
-        rest = behind;
+    while let Some((line, after)) = first_line(rest) {
+        rest = after;
         number += 1;
         if line.is_empty() {
             continue;
@@ -95,7 +95,7 @@ fn command_of_word(word: &str) -> Option<Command>
     }
 }
 
-/// The command of a word and the fields behind it.
+/// The command of a word and the fields after it.
 fn command_with_fields(
     alloc: Global,
     word: &str,
@@ -250,7 +250,7 @@ fn run_of(field: &str) -> Option<Command>
     Some(Command::Run { moment })
 }
 
-/// Three fields and the moment behind them; none where anything else stands there.
+/// Three fields and the moment after them; none where anything else stands there.
 fn three_fields_and_moment(text: &str) -> Option<(&str, &str, &str, Moment)>
     ensures { MatchOption result
         ((first second third : List ℕ) (moment : ℕ)
@@ -263,7 +263,7 @@ fn three_fields_and_moment(text: &str) -> Option<(&str, &str, &str, Moment)>
     Some((first, second, third, moment))
 }
 
-/// Two fields and the moment behind them; none where anything else stands there.
+/// Two fields and the moment after them; none where anything else stands there.
 fn two_fields_and_moment(text: &str) -> Option<(&str, &str, Moment)>
     ensures { MatchOption result
         ((first second : List ℕ) (moment : ℕ) → IsOfForm text.now (field first (field second (time moment))) → ⊥)
@@ -274,7 +274,7 @@ fn two_fields_and_moment(text: &str) -> Option<(&str, &str, Moment)>
     Some((first, second, moment))
 }
 
-/// A field and the moment behind it; none where anything else stands there.
+/// A field and the moment after it; none where anything else stands there.
 fn field_and_moment(text: &str) -> Option<(&str, Moment)>
     ensures { MatchOption result
         ((first : List ℕ) (moment : ℕ) → IsOfForm text.now (field first (time moment)) → ⊥)
@@ -311,7 +311,7 @@ fn is_field(text: &str) -> bool
     !text.is_empty() && text.as_bytes().iter().all(|byte| *byte != b' ')
 }
 
-/// The first field of a text and what stands behind the space that ends it; none where no field ends in a space.
+/// The first field of a text and what stands after the space that ends it; none where no field ends in a space.
 pub fn first_field(text: &str) -> Option<(&str, &str)>
     ensures { MatchOption result
         ((front rest : List ℕ) → IsField front → text.now ≡ front ++ 32 ∷ rest → ⊥)
@@ -346,7 +346,7 @@ pub fn number_of(digits: &str) -> Option<u64>
     digits.parse::<u64>().ok()
 }
 
-/// The first line of a text, without what ends it, and the text behind it; none where the text is empty.
+/// The first line of a text, without what ends it, and the text after it; none where the text is empty.
 pub fn first_line(text: &[u8]) -> Option<(&[u8], &[u8])>
     ensures { MatchOption result
         (lines_of text.now ≡ [])

@@ -38,7 +38,7 @@ pub enum Answer {
     NoSuchSpan,
     /// The name is taken.
     SpanExists,
-    /// The span has ended, and so many processors refused it for want of memory.
+    /// The span has ended, and so many processors refused it when memory runs out.
     Ended(usize),
     /// The flush or the shutdown of the provider failed.
     Failed(OTelSdkError),

@@ -301,7 +301,7 @@ pub fn write_reply(
     write_text(out, text.as_str())
 }
 
-/// Puts a whole text behind what was written, or nothing where memory runs out.
+/// Puts a whole text after what was written, or nothing where memory runs out.
 pub fn write_text(out: &mut Vec<u8>, text: &str) -> Result<(), AllocError>
     ensures ok { OnOk result (out.new.items ≡ out.old.items ++ text.now) }
     ensures err { OnErr result (out.new.items ≡ out.old.items) }

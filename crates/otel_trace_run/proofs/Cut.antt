@@ -1,4 +1,4 @@
--- An input that is read in pieces: what was given of it, and what stands behind.
+-- An input that is read in pieces: what was given of it, and what stands after.
 use Rattle.std.proofs.Common.{◌≡◌, ℕ, ◌+◌, ◌-◌, true, false, Bool, List, [], ◌∷◌, ◌++◌, length, get_or, Option, None, Some, inl, inr, refl, sym, ap, subst, ◌∙◌, arith, append_assoc, append-nil, length-append}
 use Rattle.std.specs.Prelude.{◌⊎◌}
 use Rattle.std.proofs.KnownBytes.{Consumes-trans}
@@ -32,17 +32,17 @@ read_on_from before now after given rest read lines next first second joined =
     subst (Consumes before after) (append_assoc given rest read ∙ ap (λ bs. given ++ bs) joined ∙ sym (append_assoc given lines next))
     (Consumes-trans before now after (given ++ rest) read first second)
 
--- a text in front of all that there is: it ends as a line does, or nothing stands behind it
+-- a text in front of all that there is: it ends as a line does, or nothing stands after it
 pub record IsCut (input : Option (List ℕ)) (text : List ℕ) : Type 0 where
-  pub behind : List ℕ
-  pub all : AreAll input (text ++ behind)
-  pub ends : (behind ≡ []) ⊎ IsEmptyOrEndsWith text 10
+  pub after : List ℕ
+  pub all : AreAll input (text ++ later)
+  pub ends : (later ≡ []) ⊎ IsEmptyOrEndsWith text 10
 
--- what was given is such a text, whatever was read behind it
+-- what was given is such a text, whatever was read after it
 pub cut_given : (before after : Option (List ℕ)) (given rest : List ℕ) → Consumes before after (given ++ rest) → IsEmptyOrEndsWith given 10 → IsCut before given
 cut_given before after given rest h ends =
     let left = what_is_left before after (given ++ rest) h in record {
-      behind = rest ++ left.0;
+      after = rest ++ left.0;
       all = subst (AreAll before) (append_assoc given rest left.0) left.1;
       ends = inr ends;
     }
@@ -56,7 +56,7 @@ cut_piece before now after given rest false piece h ends g =
     let left = what_is_left before after ((given ++ piece.lines) ++ piece.rest) (read_on_from before now after given rest g.read piece.lines piece.rest h g.consumed g.joined) in
     let none : piece.rest ≡ [] = (g.last refl).0 in
     record {
-      behind = left.0;
+      after = left.0;
       all = subst (λ (bs : List ℕ). AreAll before (bs ++ left.0)) (ap (λ r. (given ++ piece.lines) ++ r) none ∙ append-nil (given ++ piece.lines)) left.1;
       ends = inl (left.2 (g.last refl).1);
     }
@@ -73,9 +73,9 @@ cut_last before now after given rest false piece is h g =
       (g.last refl).1,
     )
 
--- what holds of a text, and of any that goes on behind its last line, holds of all that there is
-pub holds_of_all : (P : List ℕ → Type 0) (input : Option (List ℕ)) (text : List ℕ) (cut : IsCut input text) → ((behind : List ℕ) → IsEmptyOrEndsWith text 10 → P text → P (text ++ behind)) → P text → P (text ++ cut.behind)
+-- what holds of a text, and of any that goes on after its last line, holds of all that there is
+pub holds_of_all : (P : List ℕ → Type 0) (input : Option (List ℕ)) (text : List ℕ) (cut : IsCut input text) → ((later : List ℕ) → IsEmptyOrEndsWith text 10 → P text → P (text ++ later)) → P text → P (text ++ cut.after)
 holds_of_all P input text cut longer h = elim cut.ends [
   | inl none ↦ subst P (sym (ap (λ r. text ++ r) none ∙ append-nil text)) h
-  | inr ends ↦ longer cut.behind ends h
+  | inr ends ↦ longer cut.after ends h
 ]

@@ -58,7 +58,7 @@ module _ {P S G : Type 0} (calls : Calls P S G) where
   shut_by again old new (Err errors.OutOfMemory) false e says h = let no : ⊥ = cc in absurd no
   shut_by again old new (Err (errors.Timeout time)) false e says h = let no : ⊥ = cc in absurd no
 
-  -- how a session stands behind a shutdown
+  -- how a session stands after a shutdown
   record StandsShut (old : SessionState P S G) (replies : List PlainReply) (new : SessionState P S G) : Type 0 where
     pub shuts : ShutsIfOpen calls.processor old.provider (Ok tt) new.provider
     pub is_shut : new.provider.is_shut ≡ true
@@ -71,15 +71,15 @@ module _ {P S G : Type 0} (calls : Calls P S G) where
   stands_shut old new histories after [] h says = absurd h
   stands_shut old new histories after (turn ∷ turn2 ∷ turns) h says = absurd h.3
   stands_shut old new histories after (turn ∷ []) h says =
-      let course : course_of new after ≡ replied calls turn.behind = h.3 in
+      let course : course_of new after ≡ replied calls turn.after = h.3 in
       let begins : turn.before ≡ course_of old histories = h.0 in
       let asks = h.1.is_turn in
-      let there : turn.behind.provider ≡ new.provider = sym (ap (λ (c : Course P S G). c.provider) course) in
+      let there : turn.after.provider ≡ new.provider = sym (ap (λ (c : Course P S G). c.provider) course) in
       let from : turn.before.provider ≡ old.provider = ap (λ (c : Course P S G). c.provider) begins in
       let at : turn.before.shown ≡ old.shown = ap (λ (c : Course P S G). c.shown) begins in
       let answered : IsTrue (says_shut (call_answer asks.said)) =
       subst (λ answer. IsTrue (says_shut answer)) asks.says (says 0 (reply_of calls turn) (omega arith)) in
-      let done = shut_by (shut_answer turn.before.provider.is_disabled turn.before.provider.processors) turn.before.provider turn.behind.provider asks.said turn.before.provider.is_shut refl answered asks.gives in
+      let done = shut_by (shut_answer turn.before.provider.is_disabled turn.before.provider.processors) turn.before.provider turn.after.provider asks.said turn.before.provider.is_shut refl answered asks.gives in
       let moved : ShutsIfOpen calls.processor old.provider (Ok tt) new.provider =
       subst (λ (p : ProviderState P S G). ShutsIfOpen calls.processor p (Ok tt) new.provider) from
       (subst (λ (p : ProviderState P S G). ShutsIfOpen calls.processor turn.before.provider (Ok tt) p) there done.0) in
@@ -87,7 +87,7 @@ module _ {P S G : Type 0} (calls : Calls P S G) where
         shuts = moved;
         is_shut = subst (λ (p : ProviderState P S G). p.is_shut ≡ true) there done.1;
         shows = append-nil _
-            ∙ ap (λ (n : ℕ). drop n (batches_of_first calls.keeps turn.behind.provider.processors)) at
+            ∙ ap (λ (n : ℕ). drop n (batches_of_first calls.keeps turn.after.provider.processors)) at
             ∙ ap (λ (p : ProviderState P S G). drop old.shown (batches_of_first calls.keeps p.processors)) there;
       }
 
@@ -207,7 +207,7 @@ none_counted (reply ∷ replies) e = by (counts_refusals reply.answer) refl e (n
     by true same h more = let no : ⊥ = cc in absurd no
     by false same h more = (sym same, more h)
 
--- the spans of batches, and of more behind them
+-- the spans of batches, and of more after them
 pub spans_joined : (first second : List (List PlainSpanData)) → spans_in (first ++ second) ≡ spans_in first ++ spans_in second
 spans_joined first second = flat_map-append (λ (batch : List PlainSpanData). batch) first second
 
@@ -233,7 +233,7 @@ spans_shown replies reply now after h k =
     ∙ ap (λ (batches : List (List PlainSpanData)). exported_in replies ++ batches) (append-nil reply.exported)))
 
 module _ {P S G : Type 0} (calls : Calls P S G) where
-  -- commands were carried out, and a shutdown behind them, and these are the spans of all their replies
+  -- commands were carried out, and a shutdown after them, and these are the spans of all their replies
   pub runs_out : (old middle new : SessionState P S G) (commands : List Command) (before first last all : List PlainReply)
       (spans : List PlainSpanData) → before ≡ [] → Gains before first (λ added. Runs calls old commands added middle)
       → list_any (λ (reply : PlainReply). counts_refusals reply.answer) first ≡ false → RunsShutdown calls middle last new

@@ -29,7 +29,7 @@ use Rattle.otel_trace_session.specs.Shown.{exported_in}
 use Rattle.otel_trace_session.specs.Turns.{SessionState, session_under}
 use Rattle.otel_trace_session.proofs.ShownLemmas.{closes_rest}
 
--- lines of batches, and of others behind them
+-- lines of batches, and of others after them
 lines_joined : (resource : PlainResource) (first second : List (List PlainSpanData))
     → otlp_lines resource (first ++ second) ≡ otlp_lines resource first ++ otlp_lines resource second
 lines_joined resource [] second = refl
@@ -45,7 +45,7 @@ texts_are_lines resource (reply ∷ replies) =
     ap (λ bs. otlp_lines resource reply.exported ++ bs) (texts_are_lines resource replies)
     ∙ sym (lines_joined resource reply.exported (exported_in replies))
 
--- want of memory is not Ok
+-- out of memory is not Ok
 never_well : (said : Result (Unit {0}) OTelSdkError) → Ok tt ≡ or_no_memory said → ⊥
 never_well (Ok done) e = cc
 never_well (Err error) e = cc

@@ -28,12 +28,12 @@ three_first h (x ∷ y ∷ z ∷ more) a b c p q r least ea eb ec ep eq er =
     take_all (length (x ∷ y ∷ z ∷ more) - 3) more (omega arith) in
     cc
 
--- words name one processor, with one word behind it at most
+-- words name one processor, with one word after it at most
 pub given_once : (words : List (List ℕ)) (asked other : AskedProcessor) (given more : List (List ℕ))
     → NamesGiven words asked given → NamesGiven words other more → (asked ≡ other) × (given ≡ more)
 given_once words asks.Simple asks.Simple given more h k =
     let same : codes "simple" ∷ given ≡ codes "simple" ∷ more = sym h.1 ∙ k.1 in
-    let behind : given ≡ more = cc in (refl, behind)
+    let after : given ≡ more = cc in (refl, after)
 given_once words asks.Simple (asks.Batch queue batch) given more h (few, q, b, is_queue, is_batch, k) =
     let same : codes "simple" ∷ given ≡ codes "batch" ∷ q ∷ b ∷ more = sym h.1 ∙ k in let no : ⊥ = cc in absurd no
 given_once words (asks.Batch queue batch) asks.Simple given more (few, q, b, is_queue, is_batch, h) k =
@@ -42,10 +42,10 @@ given_once words (asks.Batch queue batch) (asks.Batch other size) given more
     (few, q, b, is_queue, is_batch, h) (least, r, c, is_other, is_size, k) =
     let one : q ≡ r = cc in
     let two : b ≡ c = cc in
-    let behind : given ≡ more = cc in
+    let after : given ≡ more = cc in
     let first : queue ≡ other = is_queue.1 ∙ ap (λ d. digits_value 10 d) one ∙ sym is_other.1 in
     let second : batch ≡ size = is_batch.1 ∙ ap (λ d. digits_value 10 d) two ∙ sym is_size.1 in
-    (rw (first, second) refl, behind)
+    (rw (first, second) refl, after)
 
 -- what is asked, part by part
 abbrev pub asked_of : ℕ → AskedProcessor → Asked
@@ -55,13 +55,13 @@ asked_of seed processor = record { seed = seed; processor = processor }
 pub otlp_once : (words : List (List ℕ)) (asked other : Asked) (given more : List (List ℕ))
     → AsksForOtlp words asked given → AsksForOtlp words other more → (asked ≡ other) × (given ≡ more)
 otlp_once words asked other given more h k =
-    let said : words ≡ codes "otlp" ∷ h.digits ∷ h.behind = h.words_are in
-    let too : words ≡ codes "otlp" ∷ k.digits ∷ k.behind = k.words_are in
+    let said : words ≡ codes "otlp" ∷ h.digits ∷ h.after = h.words_are in
+    let too : words ≡ codes "otlp" ∷ k.digits ∷ k.after = k.words_are in
     let digits : h.digits ≡ k.digits = cc in
-    let behind : h.behind ≡ k.behind = cc in
+    let after : h.after ≡ k.after = cc in
     let seed : asked.seed ≡ other.seed = h.seed.1 ∙ ap (λ d. digits_value 10 d) digits ∙ sym k.seed.1 in
     let named =
-    given_once k.behind asked.processor other.processor given more
-    (subst (λ (words : List (List ℕ)). NamesGiven words asked.processor given) behind h.named) k.named in
+    given_once k.after asked.processor other.processor given more
+    (subst (λ (words : List (List ℕ)). NamesGiven words asked.processor given) after h.named) k.named in
     let same : asked_of asked.seed asked.processor ≡ asked_of other.seed other.processor = rw (seed, named.0) refl in
     (same, named.1)

@@ -20,14 +20,14 @@ columns_once (digits ∷ more) columns other h k = h.0.1 ∙ sym k.0.1
 text_once : (words : List (List ℕ)) (asked other : Asked) (columns wide : ℕ) → AsksForText words asked columns
     → AsksForText words other wide → (asked ≡ other) × (columns ≡ wide)
 text_once words asked other columns wide h k =
-    let said : words ≡ codes "picture" ∷ h.digits ∷ h.behind = h.words_are in
-    let too : words ≡ codes "picture" ∷ k.digits ∷ k.behind = k.words_are in
+    let said : words ≡ codes "picture" ∷ h.digits ∷ h.after = h.words_are in
+    let too : words ≡ codes "picture" ∷ k.digits ∷ k.after = k.words_are in
     let digits : h.digits ≡ k.digits = cc in
-    let behind : h.behind ≡ k.behind = cc in
+    let after : h.after ≡ k.after = cc in
     let seed : asked.seed ≡ other.seed = h.seed.1 ∙ ap (λ d. digits_value 10 d) digits ∙ sym k.seed.1 in
     let named =
-    given_once k.behind asked.processor other.processor h.given k.given
-    (subst (λ (words : List (List ℕ)). NamesGiven words asked.processor h.given) behind h.named) k.named in
+    given_once k.after asked.processor other.processor h.given k.given
+    (subst (λ (words : List (List ℕ)). NamesGiven words asked.processor h.given) after h.named) k.named in
     let same : asked_of asked.seed asked.processor ≡ asked_of other.seed other.processor = rw (seed, named.0) refl in (
       same,
       columns_once k.given columns wide (subst (λ (given : List (List ℕ)). GivesColumns given columns) named.1 h.wide) k.wide,
@@ -50,7 +50,7 @@ svg_once words asked other h k =
 one_form : (words : List (List ℕ)) (asked other : Asked) (columns : ℕ) → AsksForText words asked columns
     → AsksForSvg words other → ⊥
 one_form words asked other columns h k =
-    let same : codes "picture" ∷ h.digits ∷ h.behind ≡ codes "svg" ∷ k.digits ∷ k.kind = sym h.words_are ∙ k.words_are in
+    let same : codes "picture" ∷ h.digits ∷ h.after ≡ codes "svg" ∷ k.digits ∷ k.kind = sym h.words_are ∙ k.words_are in
     cc
 
 -- words ask for one thing

@@ -12,7 +12,7 @@ use Rattle.std.proofs.lemmas.List.{get_or-take}
 use Rattle.std.specs.Io.KnownBytes.{IsAtEnd}
 use Rattle.otel_trace_run.specs.Pieces.{EndsNoLine, GivesLines, KeepsAll}
 
--- what stood behind the lines, moved to the front
+-- what stood after the lines, moved to the front
 pub moved : (buffer now : List ℕ) (complete filled : ℕ) → complete ≤ filled → filled ≤ length buffer → now ≡ paste buffer 0 (drop complete buffer) (filled - complete)
     → take (filled - complete) now ≡ drop complete (take filled buffer)
 moved buffer now complete filled within room e =
@@ -23,17 +23,17 @@ moved buffer now complete filled within room e =
     ap (λ k. take k (paste buffer 0 (drop complete buffer) n)) (omega arith) ∙ take-paste buffer 0 (drop complete buffer) n (omega arith) most in
     ap (take n) e ∙ first ∙ sym (drop-take complete n buffer) ∙ ap (λ k. drop complete (take k buffer)) joined
 
--- no line ends behind the end
+-- no line ends after the end
 pub ends_none : (bytes : List ℕ) (end : ℕ) → length bytes ≤ end → EndsNoLine (drop end bytes)
 ends_none bytes end past = subst (λ (bs : List ℕ). All (λ b. b ≢ 10) bs) (sym (drop_all end bytes past)) (All-nil (λ b. b ≢ 10))
 
 -- nor where one byte more is no line feed
 pub ends_none_more : (bytes : List ℕ) (end : ℕ) → 0 < end → end ≤ length bytes → get_or bytes (end - 1) 0 ≢ 10 → EndsNoLine (drop end bytes) → EndsNoLine (drop (end - 1) bytes)
-ends_none_more bytes end some within other behind =
+ends_none_more bytes end some within other after =
     let here : end - 1 < length bytes = omega arith in
     let next : (end - 1) + 1 ≡ end = omega arith in
     let parts : drop (end - 1) bytes ≡ get_or bytes (end - 1) 0 ∷ drop end bytes = drop-cons bytes (end - 1) 0 here ∙ ap (λ k. get_or bytes (end - 1) 0 ∷ drop k bytes) (sym (add-one (end - 1)) ∙ next) in
-    subst (λ (bs : List ℕ). All (λ b. b ≢ 10) bs) (sym parts) (All-cons (λ b. b ≢ 10) (get_or bytes (end - 1) 0) (drop end bytes) other behind)
+    subst (λ (bs : List ℕ). All (λ b. b ≢ 10) bs) (sym parts) (All-cons (λ b. b ≢ 10) (get_or bytes (end - 1) 0) (drop end bytes) other after)
 
 -- a buffer that was read into keeps what stood in front
 pub front_kept : (start old new : List ℕ) (before filled : ℕ) → before ≤ filled → take before old ≡ take before start → take filled new ≡ take filled old → take before new ≡ take before start
@@ -65,7 +65,7 @@ none_more old new piece before filled count grown within front is first second =
 pub ends_in_more : (new piece : List ℕ) (before filled count end : ℕ) → before ≤ filled → filled + count ≤ length new → piece ≡ take count (drop filled new) → 0 < end → end ≤ length piece
     → get_or piece (end - 1) 0 ≡ 10 → EndsNoLine (drop end piece)
     → (before < filled + end) × (filled + end ≤ length (take (filled + count) new)) × (get_or (take (filled + count) new) (filled + end - 1) 0 ≡ 10) × EndsNoLine (drop (filled + end) (take (filled + count) new))
-ends_in_more new piece before filled count end grown within is some most feed behind =
+ends_in_more new piece before filled count end grown within is some most feed after =
     let parts : take (filled + count) new ≡ take filled new ++ piece = take-add filled count new ∙ ap (λ t. take filled new ++ t) (sym is) in
     let long : length (take filled new) ≡ filled = omega (arith, length-take filled new) in
     let last : filled + end - 1 ≡ length (take filled new) + (end - 1) = omega (arith, long) in
@@ -76,10 +76,10 @@ ends_in_more new piece before filled count end grown within is some most feed be
       omega arith,
       omega (arith, length-take (filled + count) new, length-take count (drop filled new), length-drop filled new, ap length is),
       here,
-      subst (λ (bs : List ℕ). All (λ b. b ≢ 10) bs) (sym left) behind,
+      subst (λ (bs : List ℕ). All (λ b. b ≢ 10) bs) (sym left) after,
     )
 
--- what was there and what was read, cut behind a line
+-- what was there and what was read, cut after a line
 pub cut_read : (new rest : List ℕ) (before filled end : ℕ) → before ≤ filled → end ≤ length (take filled new) → take before new ≡ rest
     → rest ++ drop before (take filled new) ≡ take end new ++ drop end (take filled new)
 cut_read new rest before filled end grown within e =

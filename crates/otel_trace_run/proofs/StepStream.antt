@@ -18,7 +18,7 @@ use Rattle.otel_trace_run.proofs.Cut.{IsCut, cut_given, cut_last, cut_piece, end
 use Rattle.otel_trace_steps.specs.StepAnswers.{AnswersBeginning, AnswersLines, BeginsAnswers}
 use Rattle.otel_trace_steps.proofs.JoinedSteps.{answers_begin, beginning_begins, answers_joined, bad_answers_joined, begins_joined, begins_longer}
 
--- so many lines were given and answered, and a rest was read behind them
+-- so many lines were given and answered, and a rest was read after them
 pub record HasStepped (start now : Machine StoredBatches) (s : Streams) (rest : List ℕ) (number : ℕ) : Type 0 where
   pub given : List ℕ
   pub answers : List ℕ
@@ -40,9 +40,9 @@ stepped_none start input output = record {
   counted = refl;
 }
 
--- a beginning was written behind what was written
-appends_behind : (a b c : Option (List ℕ)) (first second : List ℕ) → Appends a b first → AppendsBeginning b c second → AppendsBeginning a c (first ++ second)
-appends_behind a b c first second h (written, left, e, k) =
+-- a beginning was written after what was written
+appends_after : (a b c : Option (List ℕ)) (first second : List ℕ) → Appends a b first → AppendsBeginning b c second → AppendsBeginning a c (first ++ second)
+appends_after a b c first second h (written, left, e, k) =
     (first ++ written, left, ap (λ bs. first ++ bs) e ∙ sym (append_assoc first written left), Appends-trans a b c first written h k)
 
 -- all is a beginning
@@ -52,10 +52,10 @@ appends_all a b bytes h = (bytes, [], sym (append-nil bytes), h)
 -- answers to a beginning of what is given are answers to a beginning of the whole
 begun : (start : Machine StoredBatches) (s : Streams) (text answers : List ℕ) → IsCut s.input text → BeginsAnswers start text answers → AppendsBeginning s.output s.output_after answers → StepsSome start s
 begun start s text answers cut h written = record {
-  bytes = text ++ cut.behind;
+  bytes = text ++ cut.after;
   answers = answers;
   all = cut.all;
-  begun = holds_of_all (λ bs. BeginsAnswers start bs answers) s.input text cut (λ behind ends k. begins_longer start text behind answers ends k) h;
+  begun = holds_of_all (λ bs. BeginsAnswers start bs answers) s.input text cut (λ later ends k. begins_longer start text later answers ends k) h;
   written = written;
 }
 
@@ -81,7 +81,7 @@ pub begun_answering : (start : Machine StoredBatches) (now : Machine StoredBatch
 begun_answering start now input here after output reached output_after rest number goes_on piece more h g k written =
     begun start (streams input after output output_after) (h.given ++ piece.lines) (h.answers ++ more) (cut_piece input here after h.given rest goes_on piece h.read h.ends g)
     (begins_joined start now h.given piece.lines h.answers more h.ends h.answered k)
-    (appends_behind output reached output_after h.answers more h.written written)
+    (appends_after output reached output_after h.answers more h.written written)
 
 -- there are more lines than can be counted
 pub begun_counting : (start : Machine StoredBatches) (now next : Machine StoredBatches) (input here after output reached output_after : Option (List ℕ)) (rest : List ℕ) (number : ℕ) (goes_on : Bool) (piece : PlainPieces) (bad_line : Option ℕ)
@@ -141,10 +141,10 @@ stepped_bad start now next input here after output reached output_after rest num
     let bad : AnswersLines start text (Some (number + line)) all next =
     subst (λ (n : ℕ). AnswersLines start text (Some (n + line)) all next) (sym h.counted) (answers_joined start now next h.given piece.lines (Some line) h.answers more h.ends h.answered k) in
     record {
-      bytes = text ++ cut.behind;
+      bytes = text ++ cut.after;
       answers = all;
       all = cut.all;
-      answered = holds_of_all (λ bs. AnswersLines start bs (Some (number + line)) all next) input text cut (λ behind ends h. bad_answers_joined start next text behind (number + line) all ends h) bad;
+      answered = holds_of_all (λ bs. AnswersLines start bs (Some (number + line)) all next) input text cut (λ later ends h. bad_answers_joined start next text later (number + line) all ends h) bad;
       written = Appends-trans output reached output_after h.answers more h.written written;
     }
 

@@ -49,7 +49,7 @@ replies_joined form replies more = sym (flat_map-append form.reply replies more)
 -- commands that all lines spell are spelled by a beginning of them
 begins_all : (all : List (List ℕ)) (commands : List PlainCommand) (bad_line : Option ℕ) → SpellUpTo all commands bad_line → (front : List (List ℕ)) × (left : List (List ℕ)) × (all ≡ front ++ left) × Spell front commands
 begins_all all commands None h = (all, [], sym (append-nil all), h)
-begins_all all commands (Some n) h = (h.before, h.line ∷ h.behind, h.parts, h.spelled)
+begins_all all commands (Some n) h = (h.before, h.line ∷ h.after, h.parts, h.spelled)
 
 pub begins_text : (text : List ℕ) (commands : List PlainCommand) (bad_line : Option ℕ) → TextSpells text commands bad_line → BeginsToSpell text commands
 begins_text text commands bad_line h = let k = begins_all (lines text) commands bad_line h in record { front = k.0; left = k.1; parts = k.2; spelled = k.3 }
@@ -66,7 +66,7 @@ begins_fewer text done more h =
     let k = spells_fewer h.front done more h.spelled in
     record { front = k.0; left = k.1 ++ h.left; parts = h.parts ∙ ap (λ ls. ls ++ h.left) k.2 ∙ append_assoc k.0 k.1 h.left; spelled = k.3 }
 
--- lines, and others behind them
+-- lines, and others after them
 spell_joined : (first second : List (List ℕ)) (commands more : List PlainCommand) → Spell first commands → Spell second more → Spell (first ++ second) (commands ++ more)
 spell_joined [] second [] more h k = k
 spell_joined [] second (c ∷ cs) more h k = absurd h
@@ -90,9 +90,9 @@ begins_longer first second commands ends h = record {
   spelled = h.spelled;
 }
 
--- a beginning was written behind what was written
-appends_behind : (a b c : Option (List ℕ)) (first second : List ℕ) → Appends a b first → AppendsBeginning b c second → AppendsBeginning a c (first ++ second)
-appends_behind a b c first second h (written, left, e, k) =
+-- a beginning was written after what was written
+appends_after : (a b c : Option (List ℕ)) (first second : List ℕ) → Appends a b first → AppendsBeginning b c second → AppendsBeginning a c (first ++ second)
+appends_after a b c first second h (written, left, e, k) =
     (first ++ written, left, ap (λ bs. first ++ bs) e ∙ sym (append_assoc first written left), Appends-trans a b c first written h k)
 
 -- a beginning of a text is one of a longer text
@@ -103,7 +103,7 @@ pub appends_all : (a b : Option (List ℕ)) (bytes : List ℕ) → Appends a b b
 appends_all a b bytes h = (bytes, [], sym (append-nil bytes), h)
 
 module _ {P S G : Type 0} (calls : Calls P S G) (form : Form) (begun : SessionState P S G) where
-  -- so many lines were given and their commands carried out, and a rest was read behind them
+  -- so many lines were given and their commands carried out, and a rest was read after them
   pub record HasTraced (now : SessionState P S G) (s : Streams) (rest : List ℕ) (number : ℕ) : Type 0 where
     pub given : List ℕ
     pub replies : List PlainReply
@@ -124,7 +124,7 @@ module _ {P S G : Type 0} (calls : Calls P S G) where
   })
 
 module _ {P S G : Type 0} (calls : Calls P S G) (form : Form) where
-  -- what a close appends is a beginning of the text of batches, behind any text
+  -- what a close appends is a beginning of the text of batches, after any text
   closes_text : (now : SessionState P S G) (answer : Result (Unit {0}) OTelSdkError) (before text : List ℕ) → Closes calls form now before answer text
       → (batches : List (List PlainSpanData)) × (left : List ℕ) × (before ++ form.rest batches ≡ text ++ left)
   closes_text now answer before text h = elim h.writes [
@@ -150,12 +150,12 @@ module _ {P S G : Type 0} (calls : Calls P S G) (form : Form) (law : RecallsNoth
   some_traced : (input : Option (List ℕ)) (Written : List ℕ → Type 0) (text : List ℕ) (commands : List Command) (replies : List PlainReply) (after : SessionState P S G) → IsCut input text → BeginsToSpell text (plain_commands commands)
       → Runs calls begun commands replies after → NoneRefused replies → Written (texts form replies) → CarriesOutSome calls form begun input Written
   some_traced input Written text commands replies after cut begins ran none written = record {
-    bytes = text ++ cut.behind;
+    bytes = text ++ cut.after;
     commands = commands;
     replies = replies;
     after = after;
     all = cut.all;
-    begins = holds_of_all (λ bs. BeginsToSpell bs (plain_commands commands)) input text cut (λ behind ends k. begins_longer text behind (plain_commands commands) ends k) begins;
+    begins = holds_of_all (λ bs. BeginsToSpell bs (plain_commands commands)) input text cut (λ later ends k. begins_longer text later (plain_commands commands) ends k) begins;
     ran = ran;
     none_refused = none;
     written = written;
@@ -220,13 +220,13 @@ module _ {P S G : Type 0} (calls : Calls P S G) (form : Form) (law : RecallsNoth
   fed_commands now middle text (Err feeds.BatchLost) more h = some_commands feeds.BatchLost now middle text more h
 
   -- of a piece more some was carried out, and of the text of its replies some was written
-  pub begun_feeding : {T : Type 0} (now next : SessionState P S G) (input here after output reached : Option (List ℕ)) (rest : List ℕ) (number : ℕ) (goes_on : Bool) (piece : PlainPieces) (fed : Result T FeedError) (Written Behind : List ℕ → Type 0)
+  pub begun_feeding : {T : Type 0} (now next : SessionState P S G) (input here after output reached : Option (List ℕ)) (rest : List ℕ) (number : ℕ) (goes_on : Bool) (piece : PlainPieces) (fed : Result T FeedError) (Written After : List ℕ → Type 0)
       → HasTraced calls form begun now (streams input here output reached) rest number → GivesLines here after rest goes_on piece → FeedsPiece calls form now piece.lines fed Written next
-      → ((first second : List ℕ) → Appends output reached first → Written second → Behind (first ++ second)) → CarriesOutSome calls form begun input Behind
-  begun_feeding now next input here after output reached rest number goes_on piece fed Written Behind h g k behind =
+      → ((first second : List ℕ) → Appends output reached first → Written second → After (first ++ second)) → CarriesOutSome calls form begun input After
+  begun_feeding now next input here after output reached rest number goes_on piece fed Written After h g k later =
       let ran = fed_commands now k.middle piece.lines fed k.replies k.feeds in
-      some_more now ran.1 input here after output reached rest number goes_on piece Behind ran.0 k.replies h g ran.2 ran.3 k.none_refused
-      (subst Behind (replies_joined form h.replies k.replies) (behind (texts form h.replies) (texts form k.replies) h.written k.written))
+      some_more now ran.1 input here after output reached rest number goes_on piece After ran.0 k.replies h g ran.2 ran.3 k.none_refused
+      (subst After (replies_joined form h.replies k.replies) (later (texts form h.replies) (texts form k.replies) h.written k.written))
 
   pub begun_failing : {T : Type 0} (now next : SessionState P S G) (input here after output reached output_after : Option (List ℕ)) (rest : List ℕ) (number : ℕ) (goes_on : Bool) (piece : PlainPieces) (fed : Result T FeedError)
       → HasTraced calls form begun now (streams input here output reached) rest number → GivesLines here after rest goes_on piece → FeedsPiece calls form now piece.lines fed (Appends reached output_after) next
@@ -240,7 +240,7 @@ module _ {P S G : Type 0} (calls : Calls P S G) (form : Form) (law : RecallsNoth
       → CarriesOutSome calls form begun input (AppendsBeginning output output_after)
   begun_breaking now next input here after output reached output_after rest number goes_on piece fed h g k =
       begun_feeding now next input here after output reached rest number goes_on piece fed (AppendsBeginning reached output_after) (AppendsBeginning output output_after) h g k
-      (λ first second first_h second_h. appends_behind output reached output_after first second first_h second_h)
+      (λ first second first_h second_h. appends_after output reached output_after first second first_h second_h)
 
   -- the pieces so far, and one more
   follows_more : (now next middle : SessionState P S G) (given lines_now : List ℕ) (bad_line : Option ℕ) (replies more : List PlainReply) → IsEmptyOrEndsWith given 10 → Follows calls begun given None replies now
@@ -286,11 +286,11 @@ module _ {P S G : Type 0} (calls : Calls P S G) (form : Form) (law : RecallsNoth
         last.1,
       )
 
-  -- behind a bad line a text may go on
-  follows_longer : (now : SessionState P S G) (text behind : List ℕ) (line : ℕ) (replies : List PlainReply) → IsEmptyOrEndsWith text 10 → Follows calls begun text (Some line) replies now → Follows calls begun (text ++ behind) (Some line) replies now
-  follows_longer now text behind line replies ends h = record {
+  -- after a bad line a text may go on
+  follows_longer : (now : SessionState P S G) (text later : List ℕ) (line : ℕ) (replies : List PlainReply) → IsEmptyOrEndsWith text 10 → Follows calls begun text (Some line) replies now → Follows calls begun (text ++ later) (Some line) replies now
+  follows_longer now text later line replies ends h = record {
     whole = h.whole;
-    feeds = record { commands = h.feeds.commands; spelled = bad_text_joined text behind (plain_commands h.feeds.commands) line ends h.feeds.spelled; ran = h.feeds.ran };
+    feeds = record { commands = h.feeds.commands; spelled = bad_text_joined text later (plain_commands h.feeds.commands) line ends h.feeds.spelled; ran = h.feeds.ran };
     forgot = h.forgot;
   }
 
@@ -305,10 +305,10 @@ module _ {P S G : Type 0} (calls : Calls P S G) (form : Form) (law : RecallsNoth
       let follows : Follows calls begun text (Some (number + line)) all next =
       subst (λ (n : ℕ). Follows calls begun text (Some (n + line)) all next) (sym h.counted) (follows_more now next k.middle h.given piece.lines (Some line) h.replies k.replies h.ends h.follows (subst (λ (r : Result T FeedError). Feeds calls now piece.lines r k.replies k.middle) is k.feeds) k.forgot) in
       record {
-        bytes = text ++ cut.behind;
+        bytes = text ++ cut.after;
         replies = all;
         all = cut.all;
-        follows = holds_of_all (λ bs. Follows calls begun bs (Some (number + line)) all next) input text cut (λ behind ends h. follows_longer next text behind (number + line) all ends h) follows;
+        follows = holds_of_all (λ bs. Follows calls begun bs (Some (number + line)) all next) input text cut (λ later ends h. follows_longer next text later (number + line) all ends h) follows;
         none_refused = none_refused_joined h.replies k.replies h.none_refused k.none_refused;
         written = subst (Appends output output_after) (replies_joined form h.replies k.replies) (Appends-trans output reached output_after (texts form h.replies) (texts form k.replies) h.written k.written);
       }
@@ -343,7 +343,7 @@ module _ {P S G : Type 0} (calls : Calls P S G) (form : Form) (law : RecallsNoth
         none_refused = h.none_refused;
         written = (
           rest.0,
-          appends_behind output reached output_after (texts form h.replies) (form.rest rest.0) h.written
+          appends_after output reached output_after (texts form h.replies) (form.rest rest.0) h.written
               (subst (AppendsBeginning reached output_after) (sym rest.2) (appends_longer reached output_after closing rest.1 written)),
         );
       }
@@ -361,9 +361,9 @@ module _ {P S G : Type 0} (calls : Calls P S G) (form : Form) (law : RecallsNoth
     written = ([], appends_longer output output_after (texts form h.replies) (form.rest []) h.written);
   }
 
-  -- a close appends the same behind any text
-  closes_behind : (now : SessionState P S G) (answer : Result (Unit {0}) OTelSdkError) (before closing : List ℕ) → Closes calls form now [] answer closing → Closes calls form now before answer (before ++ closing)
-  closes_behind now answer before closing h = record {
+  -- a close appends the same after any text
+  closes_after : (now : SessionState P S G) (answer : Result (Unit {0}) OTelSdkError) (before closing : List ℕ) → Closes calls form now [] answer closing → Closes calls form now before answer (before ++ closing)
+  closes_after now answer before closing h = record {
     provider = h.provider;
     shutdown = h.shutdown;
     shuts = h.shuts;
@@ -376,12 +376,12 @@ module _ {P S G : Type 0} (calls : Calls P S G) (form : Form) (law : RecallsNoth
   -- what was fed and closed well, all of it written
   pub all_closed : (now : SessionState P S G) (input after output reached output_after : Option (List ℕ)) (bad_line : Option ℕ) (closing : List ℕ) → FeedsPieces calls form begun now (streams input after output reached) bad_line
       → LeavesAsMany calls.queues calls.keeps.recalled → EndsWell calls form now form.minds_drops closing → Appends reached output_after closing → TracesAll calls form begun (streams input after output output_after) bad_line
-  unfolding closes_behind
+  unfolding closes_after
   all_closed now input after output reached output_after bad_line closing h leaves k written = record {
     bytes = h.bytes;
     text = texts form h.replies ++ closing;
     all = h.all;
-    finishes = streams_finish calls law form begun now h.bytes bad_line h.replies (texts form h.replies ++ closing) leaves h.follows h.none_refused (closes_behind now (Ok tt) (texts form h.replies) closing k.closes) k.leaves_none k.drops_none;
+    finishes = streams_finish calls law form begun now h.bytes bad_line h.replies (texts form h.replies ++ closing) leaves h.follows h.none_refused (closes_after now (Ok tt) (texts form h.replies) closing k.closes) k.leaves_none k.drops_none;
     written = Appends-trans output reached output_after (texts form h.replies) closing h.written written;
   }
 
@@ -433,12 +433,12 @@ module _ {P S G : Type 0} (calls : Calls P S G) (form : Form) (begun : SessionSt
   none_begun input output =
       let cut = cut_given input input [] [] (Consumes-nil input) nothing_ends in
       record {
-        bytes = [] ++ cut.behind;
+        bytes = [] ++ cut.after;
         commands = [];
         replies = [];
         after = begun;
         all = cut.all;
-        begins = record { front = []; left = lines cut.behind; parts = refl; spelled = tt };
+        begins = record { front = []; left = lines cut.after; parts = refl; spelled = tt };
         ran = nothing_ran calls begun [] refl;
         none_refused = tt;
         written = ([], ([], form.rest [], refl, Appends-nil output));

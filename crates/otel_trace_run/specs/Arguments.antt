@@ -24,7 +24,7 @@ pub record AsksFor (words : List (List ℕ)) (asked : Asked) : Type 0 where
   pub processor : NamesProcessor kind asked.processor
   pub words_are : words ≡ codes "trace" ∷ digits ∷ kind
 
--- the words of a processor, and behind them one more word at most
+-- the words of a processor, and after them one more word at most
 abbrev pub NamesGiven : List (List ℕ) → AskedProcessor → List (List ℕ) → Type 0
 NamesGiven words asks.Simple given = (length given ≤ 1) × (words ≡ codes "simple" ∷ given)
 NamesGiven words (asks.Batch queue batch) given = (length given ≤ 1)
@@ -33,10 +33,10 @@ NamesGiven words (asks.Batch queue batch) given = (length given ≤ 1)
 -- the words `otlp SEED`, those of a processor, and an attributes string, if one is given
 pub record AsksForOtlp (words : List (List ℕ)) (asked : Asked) (given : List (List ℕ)) : Type 0 where
   pub digits : List ℕ
-  pub behind : List (List ℕ)
+  pub after : List (List ℕ)
   pub seed : IsMoment digits asked.seed
-  pub named : NamesGiven behind asked.processor given
-  pub words_are : words ≡ codes "otlp" ∷ digits ∷ behind
+  pub named : NamesGiven after asked.processor given
+  pub words_are : words ≡ codes "otlp" ∷ digits ∷ after
 
 -- the columns that a word gives, 20 at least and 400 at most, or 72 where none does
 abbrev pub GivesColumns : List (List ℕ) → ℕ → Type 0
@@ -46,12 +46,12 @@ GivesColumns (digits ∷ more) columns = IsMoment digits columns × (20 ≤ colu
 -- the words `picture SEED`, those of a processor, and a number of columns, if one is given
 pub record AsksForText (words : List (List ℕ)) (asked : Asked) (columns : ℕ) : Type 0 where
   pub digits : List ℕ
-  pub behind : List (List ℕ)
+  pub after : List (List ℕ)
   pub given : List (List ℕ)
   pub seed : IsMoment digits asked.seed
-  pub named : NamesGiven behind asked.processor given
+  pub named : NamesGiven after asked.processor given
   pub wide : GivesColumns given columns
-  pub words_are : words ≡ codes "picture" ∷ digits ∷ behind
+  pub words_are : words ≡ codes "picture" ∷ digits ∷ after
 
 -- the words `svg SEED` and those of a processor
 pub record AsksForSvg (words : List (List ℕ)) (asked : Asked) : Type 0 where

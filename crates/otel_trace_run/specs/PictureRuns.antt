@@ -40,7 +40,7 @@ pub record ReadsScript (input after : Option (List ℕ)) (commands : List PlainC
   pub spelled : TextSpells bytes commands bad_line
 
 module _ {P S G : Type 0} (calls : Calls P S G) where
-  -- a session carried out a shutdown, behind which its provider is shut
+  -- a session carried out a shutdown, after which its provider is shut
   pub record RunsShutdown (old : SessionState P S G) (replies : List PlainReply) (new : SessionState P S G)
       : Type 0 where
     pub ran : Runs calls old (requests.Shutdown ∷ []) replies new

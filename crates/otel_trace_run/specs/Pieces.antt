@@ -10,7 +10,7 @@ pub record Brings (before after : Option (List ℕ)) (buffer : List ℕ) (at cou
   pub consumed : Consumes before after (take count (drop at buffer))
   pub end : count ≡ 0 → IsAtEnd after
 
--- lines, and behind them the line that is not ended yet
+-- lines, and after them the line that is not ended yet
 pub record PlainPieces : Type 0 where
   pub lines : List ℕ
   pub rest : List ℕ
@@ -19,7 +19,7 @@ pub record PlainPieces : Type 0 where
 abbrev pub EndsNoLine : List ℕ → Type 0
 EndsNoLine bytes = All (λ b. b ≢ 10) bytes
 
--- a call read on behind a rest: there are lines, whole ones; or the input is at its end, and nothing is left behind
+-- a call read on after a rest: there are lines, whole ones; or the input is at its end, and nothing is left behind
 -- them
 pub record GivesLines (before after : Option (List ℕ)) (rest : List ℕ) (goes_on : Bool) (now : PlainPieces)
     : Type 0 where
@@ -30,7 +30,7 @@ pub record GivesLines (before after : Option (List ℕ)) (rest : List ℕ) (goes
   pub some : IsTrue goes_on → (0 < length now.lines) × IsEmptyOrEndsWith now.lines 10
   pub last : IsFalse goes_on → (now.rest ≡ []) × IsAtEnd after
 
--- a call failed that was to read on behind a rest: it gives no lines, and what it read is behind that rest
+-- a call failed that was to read on after a rest: it gives no lines, and what it read is after that rest
 pub record KeepsAll (before after : Option (List ℕ)) (rest : List ℕ) (now : PlainPieces) : Type 0 where
   pub read : List ℕ
   pub consumed : Consumes before after read
@@ -38,7 +38,7 @@ pub record KeepsAll (before after : Option (List ℕ)) (rest : List ℕ) (now : 
   pub unended : EndsNoLine now.rest
   pub none : now.lines ≡ []
 
--- where the last line ends among bytes of which so many were there before: behind them, or nowhere, at the end of the
+-- where the last line ends among bytes of which so many were there before: after them, or nowhere, at the end of the
 -- input or where reading failed
 abbrev pub EndsLines : {E : Type 0} → Option (List ℕ) → ℕ → List ℕ → Result (Option ℕ) E → Type 0
 EndsLines after before bytes (Ok (Some end)) = (before < end) × (end ≤ length bytes)

@@ -5,7 +5,7 @@ use Rattle.otel_trace_run.specs.Arguments.{bad_line_text}
 use Rattle.otel_trace_run.specs.declared.run_end.RunEnd.{RunEnd}
 use Rattle.otel_trace_run.specs.declared.run_end.RunEnd.TheVariants as ends
 
--- the bytes that an input has left and those that an output and the faults' stream hold, before a run and behind it
+-- the bytes that an input has left and those that an output and the faults' stream hold, before a run and after it
 pub record Streams : Type 0 where
   pub input : Option (List ℕ)
   pub input_after : Option (List ℕ)
@@ -21,7 +21,7 @@ streams input input_after output output_after =
 abbrev pub AreAll : Option (List ℕ) → List ℕ → Type 0
 AreAll input bytes = IfSome input (λ all. bytes ≡ all)
 
--- how a run ended: at the input's end, behind which the input has nothing; at its first bad line; or it failed, where
+-- how a run ended: at the input's end, after which the input has nothing; at its first bad line; or it failed, where
 -- only a beginning was done
 abbrev pub EndsAs : (Option ℕ → Type 0) → Type 0 → Streams → RunEnd → Type 0
 EndsAs Whole Begun s ends.Done = Whole None × IsAtEnd s.input_after

@@ -51,7 +51,7 @@ module _ {P S G : Type 0} (calls : Calls P S G) (form : Form) where
     pub written : Written (texts form replies)
 
   -- the output was given a beginning of the replies to a beginning of the input's commands, and of the text of batches
-  -- behind them
+  -- after them
   abbrev pub TracesSome : SessionState P S G → Streams → Type 0
   TracesSome begun s = CarriesOutSome begun s.input
       (λ text. (batches : List (List PlainSpanData))

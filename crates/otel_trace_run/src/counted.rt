@@ -7,8 +7,8 @@ ghost use Rattle.otel_trace_run.specs.declared.run_end.RunEnd.TheVariants as end
 use crate::run_end::RunEnd;
 use otel_trace_lines::lines::first_line;
 
-/// The line of this number behind so many lines, or a failure where a number of 64 bits cannot count them.
-pub fn bad_line_behind(before: u64, line: u64) -> RunEnd
+/// The line of this number after so many lines, or a failure where a number of 64 bits cannot count them.
+pub fn bad_line_after(before: u64, line: u64) -> RunEnd
     ensures { (result ≡ ends.Failed) ⊎ (result ≡ ends.BadLine (before + line)) }
 {
     match before.checked_add(line) {
@@ -17,14 +17,14 @@ pub fn bad_line_behind(before: u64, line: u64) -> RunEnd
     }
 }
 
-/// How many lines there are with those of a text behind so many; none where a number of 64 bits cannot count them.
+/// How many lines there are with those of a text after so many; none where a number of 64 bits cannot count them.
 pub fn lines_counted(before: u64, text: &[u8]) -> Option<u64>
     ensures { IfSome result (λ count. count ≡ before + length (lines_of text.now)) }
 {
     let mut count = before;
     let mut rest = text;
-    while let Some((_, behind)) = first_line(rest) {
-        rest = behind;
+    while let Some((_, after)) = first_line(rest) {
+        rest = after;
         count = count.checked_add(1)?;
     }
     Some(count)

@@ -105,7 +105,7 @@ impl ReplyForm for OtlpLines {
     }
 }
 
-/// What the words of the mode `otlp` ask for, and the attributes string behind them, if one is given; none where the
+/// What the words of the mode `otlp` ask for, and the attributes string after them, if one is given; none where the
 /// words are others.
 pub(crate) fn otlp_of(words: &[String]) -> Option<(Asked, &[String])>
     ensures { MatchOption result
@@ -113,7 +113,7 @@ pub(crate) fn otlp_of(words: &[String]) -> Option<(Asked, &[String])>
         (λ found. AsksForOtlp (map string_bytes words.now) found.0 (map string_bytes found.1.now)) }
 {
     match words {
-        [mode, seed, behind @ ..] if mode.as_str() == "otlp" => match given_behind(behind) {
+        [mode, seed, after @ ..] if mode.as_str() == "otlp" => match given_after(after) {
             Some((processor, given)) => {
                 let seed = number_of(seed.as_str())?;
                 Some((Asked { seed, processor }, given))
@@ -124,8 +124,8 @@ pub(crate) fn otlp_of(words: &[String]) -> Option<(Asked, &[String])>
     }
 }
 
-/// The processor that is named, and behind it one more word at most; none where the words are others.
-pub(crate) fn given_behind(words: &[String]) -> Option<(AskedProcessor, &[String])>
+/// The processor that is named, and after it one more word at most; none where the words are others.
+pub(crate) fn given_after(words: &[String]) -> Option<(AskedProcessor, &[String])>
     ensures { MatchOption result
         ((asked : AskedProcessor) (given : List (List ℕ)) → NamesGiven (map string_bytes words.now) asked given → ⊥)
         (λ found. NamesGiven (map string_bytes words.now) found.0 (map string_bytes found.1.now)) }

@@ -11,7 +11,7 @@ ghost use Rattle.otel_trace_run.specs.Streams.{streams};
 ghost use Rattle.otel_trace_session.specs.Calls.{calls_of};
 ghost use Rattle.otel_trace_session.specs.Shown.{exported_in};
 
-use crate::otlp::given_behind;
+use crate::otlp::given_after;
 use crate::program::{Asked, processor_named};
 use crate::run_end::RunEnd;
 use otel_export::error::OTelSdkError;
@@ -82,7 +82,7 @@ pub(crate) fn text_asked(words: &[String]) -> Option<(Asked, u32)>
         (λ found. AsksForText (map string_bytes words.now) found.0 found.1) }
 {
     match words {
-        [mode, seed, behind @ ..] if mode.as_str() == "picture" => match given_behind(behind) {
+        [mode, seed, after @ ..] if mode.as_str() == "picture" => match given_after(after) {
             Some((processor, given)) => {
                 let seed = number_of(seed.as_str())?;
                 let columns = columns_in(given)?;
@@ -175,7 +175,7 @@ pub(crate) fn draw_input<
     }
 }
 
-/// Carries out the lines of an input, up to the first bad one, and a shutdown behind them, and draws the spans that
+/// Carries out the lines of an input, up to the first bad one, and a shutdown after them, and draws the spans that
 /// were exported. None where reading, memory or the shutdown failed, or a batch was lost.
 fn draw_lines<P: KeepsBatches, S: ShouldSample, G: GivesIds, D: SpanPainter, R: Read>(
     alloc: Global,
@@ -208,7 +208,7 @@ fn read_script<R: Read>(alloc: Global, input: &mut R) -> io::Result<Script>
     Ok(script)
 }
 
-/// Carries out commands and a shutdown behind them, and gives the spans that were exported. None where memory ran out,
+/// Carries out commands and a shutdown after them, and gives the spans that were exported. None where memory ran out,
 /// a processor refused a span, a batch was lost or the shutdown failed.
 fn exported_by<P: KeepsBatches, S: ShouldSample, G: GivesIds>(
     alloc: Global,

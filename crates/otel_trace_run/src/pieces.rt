@@ -14,10 +14,10 @@ use std::marker::Model;
 /// How many bytes a read asks for.
 const CHUNK: usize = 64 * 1024;
 
-/// What was read of an input: complete lines, and behind them the line that is not ended yet.
+/// What was read of an input: complete lines, and after them the line that is not ended yet.
 #[derive(Drop)]
 pub struct Pieces {
-    // What was read stands in front, and behind it is room.
+    // What was read stands in front, and after it is room.
     buffer: Vec<u8>,
     // How many bytes were read.
     filled: usize,
@@ -92,7 +92,7 @@ impl Pieces {
     }
 }
 
-/// Reads behind the bytes that are filled until a line ends or the input does. Answers how many bytes are filled then,
+/// Reads after the bytes that are filled until a line ends or the input does. Answers how many bytes are filled then,
 /// and where the last line ends; none at the end of the input.
 fn fill_to_line<R: Read>(
     reader: &mut R,
@@ -108,7 +108,7 @@ fn fill_to_line<R: Read>(
 {
     let mut now = filled;
     for _ in 0..u64::MAX {
-        match read_behind(reader, buffer, now) {
+        match read_after(reader, buffer, now) {
             Ok(0) => return (now, Ok(None)),
             Ok(count) => {
                 let before = now;
@@ -140,9 +140,9 @@ fn last_line_end(bytes: &[u8]) -> Option<usize>
     None
 }
 
-/// Reads once behind the bytes that are filled, and answers how many bytes came. Room is made first, so that nothing
+/// Reads once after the bytes that are filled, and answers how many bytes came. Room is made first, so that nothing
 /// that was read is lost where there is no memory.
-fn read_behind<R: Read>(reader: &mut R, buffer: &mut Vec<u8>, filled: usize) -> io::Result<usize>
+fn read_after<R: Read>(reader: &mut R, buffer: &mut Vec<u8>, filled: usize) -> io::Result<usize>
     requires { filled ≤ length buffer.old.items }
     ensures within { filled ≤ length buffer.new.items }
     ensures front { take filled buffer.new.items ≡ take filled buffer.old.items }

@@ -73,7 +73,7 @@ type TraceExporter = ExporterOf<InMemorySpanExporter, NoExporter>;
 /// What the program's provider holds.
 pub type TraceProcessor = ProcessorOf<TraceExporter, SimpleSpanProcessor<NoExporter>>;
 
-/// What stands for an exporter of another's own, and behind a processor of another's own, of which the program has
+/// What stands for an exporter of another's own, and after a processor of another's own, of which the program has
 /// none: it takes each batch and forgets it.
 #[derive(Drop)]
 pub struct NoExporter;
@@ -148,7 +148,7 @@ pub enum AskedProcessor {
 /// line or wrong arguments; 1 where reading, writing or the closing fails, memory is missing or a batch was lost, also
 /// where 2 would be due. `words` are the arguments without the program's name; wrong ones are found before anything is
 /// read. Lines are answered as they come: what answers them is written and sent on before more is read, and a run of
-/// status 1 has written a beginning. Behind a bad line nothing is read. A picture is written at the end of the input,
+/// status 1 has written a beginning. After a bad line nothing is read. A picture is written at the end of the input,
 /// which is read to that whatever its lines are.
 pub fn run_program<R: Read, W: Write, F: Write>(
     alloc: Global,

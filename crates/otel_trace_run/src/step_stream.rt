@@ -8,7 +8,7 @@ ghost use Rattle.otel_trace_run.specs.StepRuns.{Steps, StepsOn};
 ghost use Rattle.otel_trace_run.specs.Streams.{streams};
 ghost use Rattle.otel_trace_steps.specs.StepAnswers.{AnswersLines, BeginsAnswers, machine_of};
 
-use crate::counted::{bad_line_behind, lines_counted};
+use crate::counted::{bad_line_after, lines_counted};
 use crate::pieces::Pieces;
 use crate::run_end::RunEnd;
 use otel_batch::machine::BatchMachine;
@@ -62,7 +62,7 @@ fn step_stream<R: Read, W: Write>(
         };
         match answer_piece(alloc, machine, pieces.lines(), &mut answers, output) {
             Ok(None) => {}
-            Ok(Some(line)) => return bad_line_behind(before, line),
+            Ok(Some(line)) => return bad_line_after(before, line),
             Err(_) => return RunEnd::Failed,
         }
         if !goes_on {

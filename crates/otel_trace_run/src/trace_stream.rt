@@ -15,7 +15,7 @@ ghost use Rattle.otel_trace_run.specs.TraceRuns.{
 ghost use Rattle.otel_trace_session.specs.Calls.{calls_of};
 ghost use Rattle.otel_trace_session.specs.declared.session.FeedError.{FeedError};
 
-use crate::counted::{bad_line_behind, lines_counted};
+use crate::counted::{bad_line_after, lines_counted};
 use crate::pieces::Pieces;
 use crate::run_end::RunEnd;
 use otel_kept::KeepsBatches;
@@ -111,7 +111,7 @@ fn feed_pieces<P: KeepsBatches, S: ShouldSample, G: GivesIds, F: ReplyForm, R: R
         let goes_on = pieces.read_on(input)?;
         match feed_piece(session, form, pieces.lines(), text, output)? {
             Ok(()) => {}
-            Err(FeedError::Line(line)) => return Ok(bad_line_behind(before, line)),
+            Err(FeedError::Line(line)) => return Ok(bad_line_after(before, line)),
             Err(FeedError::Memory | FeedError::Refused | FeedError::BatchLost) => {
                 return Ok(RunEnd::Failed);
             }

@@ -16,7 +16,7 @@ use Rattle.otel_trace_session.specs.Calls.{Calls}
 use Rattle.otel_trace_session.specs.Headers.{SaysContext, child_cx}
 use Rattle.otel_trace_session.specs.OpenSpans.{AnswersInject, Describe, Histories, NamedSpans, edited_in}
 use Rattle.otel_trace_session.specs.ProviderTurns.{AsksProvider, Shuts, call_answer}
-use Rattle.otel_trace_session.specs.SpanTurns.{ChildTurn, EditTurn, EndTurn, Start, StartTurn, StartsBehind, start_in}
+use Rattle.otel_trace_session.specs.SpanTurns.{ChildTurn, EditTurn, EndTurn, Start, StartTurn, StartsAfter, start_in}
 use Rattle.otel_trace_session.specs.Turn.{AsksNobody, Course, TakesTurn, Turn}
 use Rattle.otel_trace_session.specs.Turns.{IsCarriedOut, IsTurn}
 use Rattle.otel_trace_session.proofs.KeptLemmas.{turn_grows}
@@ -31,16 +31,16 @@ took_also Is Also p q old new answer also takes = λ before describes.
 module _ {P S G : Type 0} (calls : Calls P S G) where
   -- each processor follows what a turn delivered
   abbrev FollowsIn : Turn P S G → Type 0
-  FollowsIn turn = EachFollows calls.processor turn.delivered turn.before.provider.processors turn.behind.provider.processors
+  FollowsIn turn = EachFollows calls.processor turn.delivered turn.before.provider.processors turn.after.provider.processors
 
-  follows_none : (turn : Turn P S G) → turn.delivered ≡ [] → map calls.processor.told turn.behind.provider.processors ≡ map calls.processor.told turn.before.provider.processors → FollowsIn turn
-  follows_none turn none told = subst (λ (ds : List Delivery). EachFollows calls.processor ds turn.before.provider.processors turn.behind.provider.processors) (sym none)
-      (EachFollows-same calls.processor turn.before.provider.processors turn.behind.provider.processors told)
+  follows_none : (turn : Turn P S G) → turn.delivered ≡ [] → map calls.processor.told turn.after.provider.processors ≡ map calls.processor.told turn.before.provider.processors → FollowsIn turn
+  follows_none turn none told = subst (λ (ds : List Delivery). EachFollows calls.processor ds turn.before.provider.processors turn.after.provider.processors) (sym none)
+      (EachFollows-same calls.processor turn.before.provider.processors turn.after.provider.processors told)
 
   nobody_follows : (said : Answer) (histories : Histories) (turn : Turn P S G) → AsksNobody said histories turn → FollowsIn turn
   nobody_follows said histories turn h = follows_none turn h.delivers (ap (λ (c : Course P S G). map calls.processor.told c.provider.processors) h.rest)
 
-  start_follows : (found : Option SpanHistory) (asked : Start) (turn : Turn P S G) → StartsBehind calls found asked turn → FollowsIn turn
+  start_follows : (found : Option SpanHistory) (asked : Start) (turn : Turn P S G) → StartsAfter calls found asked turn → FollowsIn turn
   start_follows (Some history) asked turn h = nobody_follows answers.SpanExists turn.before.histories turn h
   start_follows None asked turn h = follows_none turn h.delivers h.told
 
@@ -52,8 +52,8 @@ module _ {P S G : Type 0} (calls : Calls P S G) where
   end_follows None span moment turn h = nobody_follows answers.NoSuchSpan turn.before.histories turn h
   end_follows (Some (over context limits)) span moment turn h = nobody_follows answers.Ignored turn.before.histories turn h
   end_follows (Some (begun from edits)) span moment turn h =
-      subst (λ (ds : List Delivery). EachFollows calls.processor ds turn.before.provider.processors turn.behind.provider.processors) (sym h.delivers)
-      (delivered_follows calls.processor turn.before.provider.is_shut moment (Some (data_of from edits from.start_time)) turn.before.provider.processors turn.behind.provider.processors h.refused h.delivered)
+      subst (λ (ds : List Delivery). EachFollows calls.processor ds turn.before.provider.processors turn.after.provider.processors) (sym h.delivers)
+      (delivered_follows calls.processor turn.before.provider.is_shut moment (Some (data_of from edits from.start_time)) turn.before.provider.processors turn.after.provider.processors h.refused h.delivered)
 
 module _ {P S G : Type 0} (calls : Calls P S G) (law : OnlyAppends calls.processor calls.timer calls.keeps.kept calls.keeps.lost) (scope : PlainScope) where
   -- a command was carried out in its turn
@@ -81,7 +81,7 @@ module _ {P S G : Type 0} (calls : Calls P S G) (law : OnlyAppends calls.process
       → Edits old span edit answer new → TakesTurn (IsCarriedOut calls scope command) p old answer p new
   carries_edit command p old new span edit answer is edits = λ before describes.
       let edited = edits before.histories describes in
-      let turn : Turn P S G = record { before = record before { provider = p }; answer = answer; delivered = []; behind = record before { provider = p; histories = edited_in before.histories span edit } } in
+      let turn : Turn P S G = record { before = record before { provider = p }; answer = answer; delivered = []; after = record before { provider = p; histories = edited_in before.histories span edit } } in
       let h : EditTurn span edit turn = record { says = edited.0; delivers = refl; rest = refl } in
       record { delivered = []; histories = edited_in before.histories span edit; is = carried command turn (nobody_follows calls _ _ turn h) (is turn h); describes = edited.1 }
 
@@ -89,7 +89,7 @@ module _ {P S G : Type 0} (calls : Calls P S G) (law : OnlyAppends calls.process
   pub carries_inject : (p : ProviderState P S G) (spans : NamedSpans) (span : List ℕ) (answer : Answer) → ((histories : Histories) → Describe histories spans → AnswersInject (histories span) answer)
       → TakesTurn (IsCarriedOut calls scope (inject span)) p spans answer p spans
   carries_inject p spans span answer says = λ before describes.
-      let turn : Turn P S G = record { before = record before { provider = p }; answer = answer; delivered = []; behind = record before { provider = p } } in
+      let turn : Turn P S G = record { before = record before { provider = p }; answer = answer; delivered = []; after = record before { provider = p } } in
       record { delivered = []; histories = before.histories; is = carried (inject span) turn (follows_none calls turn refl refl) (record { says = says before.histories describes; delivers = refl; rest = refl }); describes = describes }
 
   -- an end
@@ -103,7 +103,7 @@ module _ {P S G : Type 0} (calls : Calls P S G) (law : OnlyAppends calls.process
       → ((turn : Turn P S G) → AsksProvider Gives turn → IsTurn calls scope command turn) → Gives p said q → EachFollows calls.processor [] p.processors q.processors
       → TakesTurn (IsCarriedOut calls scope command) p spans (call_answer said) q spans
   carries_call command Gives p q spans said is gives follows = λ before describes.
-      let turn : Turn P S G = record { before = record before { provider = p }; answer = call_answer said; delivered = []; behind = record before { provider = q } } in
+      let turn : Turn P S G = record { before = record before { provider = p }; answer = call_answer said; delivered = []; after = record before { provider = q } } in
       record { delivered = []; histories = before.histories; is = carried command turn follows (is turn (record { said = said; gives = gives; says = refl; delivers = refl; rest = refl })); describes = describes }
 
 -- a shutdown, by what is promised of a second one and of a first one

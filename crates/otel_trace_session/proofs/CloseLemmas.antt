@@ -18,7 +18,7 @@ use Rattle.otel_trace_session.specs.Turns.{SessionState}
 abbrev answer_of : Result (Unit {0}) OTelSdkError → Bool → Result (Unit {0}) OTelSdkError
 answer_of shutdown lost = if lost then or_no_memory shutdown else shutdown
 
--- want of memory is not Ok
+-- out of memory is not Ok
 never_well : (shutdown : Result (Unit {0}) OTelSdkError) → Ok tt ≡ or_no_memory shutdown → ⊥
 never_well (Ok done) e = cc
 never_well (Err error) e = cc

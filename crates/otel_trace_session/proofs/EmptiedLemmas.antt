@@ -1,4 +1,4 @@
--- Behind a flush or a shutdown that is answered by Ok no span waits.
+-- After a flush or a shutdown that is answered by Ok no span waits.
 use Rattle.std.proofs.Common.{◌≡◌, ℕ, Bool, true, false, List, [], ◌∷◌, ◌++◌, Result, Ok, Err, MatchBool, OnOk, All, length, length-append, map, refl, ap, subst, sym, ◌∙◌, arith, rules}
 use Rattle.std.proofs.lemmas.List.{same_from_push}
 use Rattle.std.proofs.lemmas.List.Elements.{All-cons, All-nil}
@@ -13,7 +13,7 @@ use Rattle.otel_trace_lines.specs.PlainReply.{PlainReply}
 use Rattle.otel_trace_lines.specs.declared.reply.Answer.TheVariants as answers
 use Rattle.otel_trace_session.specs.Calls.{Calls}
 use Rattle.otel_trace_session.specs.ProviderTurns.{EmptiesIfOk, call_answer}
-use Rattle.otel_trace_session.specs.Shown.{EmptiedBehind}
+use Rattle.otel_trace_session.specs.Shown.{EmptiedAfter}
 use Rattle.otel_trace_session.specs.Turn.{Course, Turn}
 use Rattle.otel_trace_session.specs.Turns.{AreTurns, IsTurn, replied, reply_of}
 
@@ -63,8 +63,8 @@ module _ {P S G : Type 0} (calls : Calls P S G) where
       none_again false ps h = absurd (failed_again said h e)
   shutdown_leaves_none false old new said h e = first_shutdown_leaves_none calls.processor old new 5_000_000_000 said h e
 
-  -- behind one command
-  one_empties : (scope : PlainScope) (command : PlainCommand) (turn : Turn P S G) → IsTurn calls scope command turn → EmptiesIfOk calls.processor command turn.answer turn.behind.provider.processors
+  -- after one command
+  one_empties : (scope : PlainScope) (command : PlainCommand) (turn : Turn P S G) → IsTurn calls scope command turn → EmptiesIfOk calls.processor command turn.answer turn.after.provider.processors
   one_empties scope (start span name moment) turn h is e = absurd (search (rules, is))
   one_empties scope (child span parent name moment) turn h is e = absurd (search (rules, is))
   one_empties scope (remote span header name moment) turn h is e = absurd (search (rules, is))
@@ -73,11 +73,11 @@ module _ {P S G : Type 0} (calls : Calls P S G) where
   one_empties scope (status span how) turn h is e = absurd (search (rules, is))
   one_empties scope (inject span) turn h is e = absurd (search (rules, is))
   one_empties scope (end span moment) turn h is e = absurd (search (rules, is))
-  one_empties scope flush turn h is e = flush_leaves_none calls.processor turn.before.provider turn.behind.provider h.said h.gives (sym h.says ∙ e)
+  one_empties scope flush turn h is e = flush_leaves_none calls.processor turn.before.provider turn.after.provider h.said h.gives (sym h.says ∙ e)
   one_empties scope (run moment) turn h is e = absurd (search (rules, is))
-  one_empties scope shutdown turn h is e = shutdown_leaves_none turn.before.provider.is_shut turn.before.provider turn.behind.provider h.said h.gives (sym h.says ∙ e)
+  one_empties scope shutdown turn h is e = shutdown_leaves_none turn.before.provider.is_shut turn.before.provider turn.after.provider h.said h.gives (sym h.says ∙ e)
 
-  -- behind all, by the last of them
+  -- after all, by the last of them
   all_empty : (scope : PlainScope) (old new : Course P S G) (commands : List PlainCommand) (turns : List (Turn P S G)) (before : List PlainCommand) (last : PlainCommand) (others : List PlainReply) (reply : PlainReply)
       → AreTurns calls scope old commands turns new → commands ≡ before ++ last ∷ [] → map (reply_of calls) turns ≡ others ++ reply ∷ [] → EmptiesIfOk calls.processor last reply.answer new.provider.processors
   all_empty scope old new [] turns before last others reply h e f = absurd (omega (arith, ap length e, length-append before (last ∷ [])))
@@ -91,10 +91,10 @@ module _ {P S G : Type 0} (calls : Calls P S G) where
   all_empty scope old new (command ∷ following ∷ commands) (turn ∷ next ∷ turns) [] last others reply h e f = absurd (omega (arith, ap length e))
   all_empty scope old new (command ∷ following ∷ commands) (turn ∷ next ∷ turns) (first ∷ before) last [] reply h e f = absurd (omega (arith, ap length f))
   all_empty scope old new (command ∷ following ∷ commands) (turn ∷ next ∷ turns) (first ∷ before) last (other ∷ others) reply h e f =
-      let commands_behind : following ∷ commands ≡ before ++ last ∷ [] = cc in
-      let replies_behind : map (reply_of calls) (next ∷ turns) ≡ others ++ reply ∷ [] = cc in
-      all_empty scope (replied calls turn.behind) new (following ∷ commands) (next ∷ turns) before last others reply h.3 commands_behind replies_behind
+      let commands_after : following ∷ commands ≡ before ++ last ∷ [] = cc in
+      let replies_after : map (reply_of calls) (next ∷ turns) ≡ others ++ reply ∷ [] = cc in
+      all_empty scope (replied calls turn.after) new (following ∷ commands) (next ∷ turns) before last others reply h.3 commands_after replies_after
 
   pub all_emptied : (scope : PlainScope) (old new : Course P S G) (commands : List PlainCommand) (turns : List (Turn P S G)) (replies : List PlainReply) → replies ≡ map (reply_of calls) turns → AreTurns calls scope old commands turns new
-      → EmptiedBehind calls.processor commands replies new.provider.processors
+      → EmptiedAfter calls.processor commands replies new.provider.processors
   all_emptied scope old new commands turns replies told h before last others reply e f = all_empty scope old new commands turns before last others reply h e (sym told ∙ f)

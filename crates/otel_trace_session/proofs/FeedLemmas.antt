@@ -1,4 +1,4 @@
--- What stands in the output behind replies, and behind a whole text.
+-- What stands in the output after replies, and after a whole text.
 use Rattle.std.proofs.Common.{IsTrue, sum_by}
 use Rattle.std.proofs.Common.{Ok, Err, Option, ◌≡◌, ℕ, List, [], ◌∷◌, ◌++◌, false, sym, ◌∙◌, ap, append-nil, append_assoc, inr}
 use Rattle.std.proofs.lemmas.List.Concat.{flat_map-append}
@@ -33,7 +33,7 @@ pub none_refused_more : (replies : List PlainReply) (reply : PlainReply) → Non
 none_refused_more [] reply h k = (k, tt)
 none_refused_more (first ∷ replies) reply h k = (h.0, none_refused_more replies reply h.1 k)
 
--- a text that was stopped behind a beginning of its commands
+-- a text that was stopped after a beginning of its commands
 pub fed_some : {P S G : Type 0} (calls : Calls P S G) (error : FeedError) (old new : SessionState P S G) (bytes : List ℕ) (replies : List PlainReply)
     → FeedsSome calls error old bytes replies new → Feeds calls {T = Unit {0}} old bytes (Err error) replies new
 fed_some calls (feeds.Line n) old new bytes replies h = absurd h.stopped.stopped.why

@@ -18,7 +18,7 @@ use Rattle.otel_trace_lines.specs.declared.reply.Answer.{Answer}
 use Rattle.otel_trace_session.specs.Calls.{Calls, batches_of_first, losses_of_first}
 use Rattle.otel_trace_session.specs.OpenSpans.{Describe, Histories}
 use Rattle.otel_trace_session.specs.ProviderTurns.{AsksProvider, Shuts, ShutsOr}
-use Rattle.otel_trace_session.specs.SpanTurns.{ChildTurn, EndTurn, Start, StartTurn, StartsBehind, request_of, start_in}
+use Rattle.otel_trace_session.specs.SpanTurns.{ChildTurn, EndTurn, Start, StartTurn, StartsAfter, request_of, start_in}
 use Rattle.otel_trace_session.specs.Turn.{AsksNobody, Course, Turn}
 use Rattle.otel_trace_session.specs.Turns.{AreTurns, IsTurn, Runs, SessionState, TookTurns, course_of, replied, reply_of}
 
@@ -30,17 +30,17 @@ abbrev pub RecallsNothingElse : {P S G : Type 0} → Calls P S G → Type 0
 RecallsNothingElse calls = Recalls calls.processor calls.timer calls.keeps.kept calls.keeps.lost calls.keeps.recalled
 
 module _ {P S G : Type 0} (calls : Calls P S G) (law : RecallsNothingElse calls) (bs : Batches) where
-  -- a course whose provider has other processors, behind more batches that were shown
+  -- a course whose provider has other processors, after more batches that were shown
   abbrev shift : Course P S G → List P → Course P S G
   shift c ps = record c { provider = record c.provider { processors = ps }; shown = length bs + c.shown }
 
   -- a turn between such courses
   abbrev shift_turn : Turn P S G → List P → List P → Turn P S G
-  shift_turn turn rs ss = record { before = shift turn.before rs; answer = turn.answer; delivered = turn.delivered; behind = shift turn.behind ss }
+  shift_turn turn rs ss = record { before = shift turn.before rs; answer = turn.answer; delivered = turn.delivered; after = shift turn.after ss }
 
-  -- where batches are recalled before a turn, they are behind it, and it is one of the same kind
+  -- where batches are recalled before a turn, they are after it, and it is one of the same kind
   abbrev Again : (Turn P S G → Type 0) → Turn P S G → List P → Type 0
-  Again Is turn rs = (ss : List P) × FirstRecalled calls.keeps.recalled bs turn.behind.provider.processors ss × Is (shift_turn turn rs ss)
+  Again Is turn rs = (ss : List P) × FirstRecalled calls.keeps.recalled bs turn.after.provider.processors ss × Is (shift_turn turn rs ss)
 
   nobody_again : (said : Answer) (histories : Histories) (turn : Turn P S G) (rs : List P) → FirstRecalled calls.keeps.recalled bs turn.before.provider.processors rs
       → AsksNobody said histories turn → Again (AsksNobody said histories) turn rs
@@ -50,17 +50,17 @@ module _ {P S G : Type 0} (calls : Calls P S G) (law : RecallsNothingElse calls)
     record { says = k.says; delivers = k.delivers; rest = ap (λ (c : Course P S G). shift c rs) k.rest },
   )
 
-  behind_again : (found : Option SpanHistory) (begins : Start) (turn : Turn P S G) (rs : List P) → FirstRecalled calls.keeps.recalled bs turn.before.provider.processors rs
-      → StartsBehind calls found begins turn → Again (StartsBehind calls found begins) turn rs
-  behind_again (Some history) begins turn rs h k = nobody_again _ _ turn rs h k
-  behind_again None begins turn rs h k =
-      let started = starts_again calls.processor calls.timer calls.keeps.kept calls.keeps.lost calls.keeps.recalled law bs calls.sampler calls.ids turn.before.provider rs (request_of begins) k.history turn.behind.provider h k.starts in (
+  after_again : (found : Option SpanHistory) (begins : Start) (turn : Turn P S G) (rs : List P) → FirstRecalled calls.keeps.recalled bs turn.before.provider.processors rs
+      → StartsAfter calls found begins turn → Again (StartsAfter calls found begins) turn rs
+  after_again (Some history) begins turn rs h k = nobody_again _ _ turn rs h k
+  after_again None begins turn rs h k =
+      let started = starts_again calls.processor calls.timer calls.keeps.kept calls.keeps.lost calls.keeps.recalled law bs calls.sampler calls.ids turn.before.provider rs (request_of begins) k.history turn.after.provider h k.starts in (
         started.0,
         started.1,
         record {
           history = k.history;
           starts = started.2;
-          told = told_again calls.processor calls.timer calls.keeps.kept calls.keeps.lost calls.keeps.recalled law bs turn.before.provider.processors rs turn.behind.provider.processors started.0 h started.1 k.told;
+          told = told_again calls.processor calls.timer calls.keeps.kept calls.keeps.lost calls.keeps.recalled law bs turn.before.provider.processors rs turn.after.provider.processors started.0 h started.1 k.told;
           says = k.says;
           delivers = k.delivers;
           histories = k.histories;
@@ -70,7 +70,7 @@ module _ {P S G : Type 0} (calls : Calls P S G) (law : RecallsNothingElse calls)
 
   start_again : (begins : Start) (turn : Turn P S G) (rs : List P) → FirstRecalled calls.keeps.recalled bs turn.before.provider.processors rs
       → StartTurn calls begins turn → Again (StartTurn calls begins) turn rs
-  start_again begins turn rs h k = behind_again (turn.before.histories begins.span) begins turn rs h k
+  start_again begins turn rs h k = after_again (turn.before.histories begins.span) begins turn rs h k
 
   child_again : (begins : Start) (found : Option SpanHistory) (turn : Turn P S G) (rs : List P) → FirstRecalled calls.keeps.recalled bs turn.before.provider.processors rs
       → ChildTurn calls begins found turn → Again (ChildTurn calls begins found) turn rs
@@ -83,7 +83,7 @@ module _ {P S G : Type 0} (calls : Calls P S G) (law : RecallsNothingElse calls)
   end_again span moment (Some (over context limits)) turn rs h k = nobody_again _ _ turn rs h k
   end_again span moment (Some (begun from edits)) turn rs h k =
       let ended = delivers_again calls.processor calls.timer calls.keeps.kept calls.keeps.lost calls.keeps.recalled law bs turn.before.provider.is_shut (data_of from edits moment) turn.before.provider.processors rs
-      turn.behind.provider.processors k.refused h k.delivered in (
+      turn.after.provider.processors k.refused h k.delivered in (
         ended.0,
         ended.1,
         record {
@@ -103,7 +103,7 @@ module _ {P S G : Type 0} (calls : Calls P S G) (law : RecallsNothingElse calls)
       → (ss : List P) × FirstRecalled calls.keeps.recalled bs new.processors ss × Gives (record old { processors = rs }) said (record new { processors = ss }))
       → (turn : Turn P S G) (rs : List P) → FirstRecalled calls.keeps.recalled bs turn.before.provider.processors rs → AsksProvider Gives turn → Again (AsksProvider Gives) turn rs
   asks_again Gives again turn rs h k =
-      let one = again turn.before.provider rs k.said turn.behind.provider h k.gives in
+      let one = again turn.before.provider rs k.said turn.after.provider h k.gives in
       (one.0, one.1, record { said = k.said; gives = one.2; says = k.says; delivers = k.delivers; rest = ap (λ (c : Course P S G). shift c one.0) k.rest })
 
   pub shuts_or_again : (other : Result (Unit {0}) OTelSdkError) (old : ProviderState P S G) (rs : List P) (said : Result (Unit {0}) OTelSdkError) (new : ProviderState P S G)
@@ -182,10 +182,10 @@ module _ {P S G : Type 0} (calls : Calls P S G) (law : RecallsNothingElse calls)
   shown_again n ps rs h = ap (drop (length bs + n)) (kept_again ps rs h) ∙ drop-append-add bs (batches_of_first calls.keeps ps) n
 
   -- the reply of a turn is the same
-  reply_again : (turn : Turn P S G) (rs ss : List P) → FirstRecalled calls.keeps.recalled bs turn.behind.provider.processors ss → reply_of calls (shift_turn turn rs ss) ≡ reply_of calls turn
-  reply_again turn rs ss k = ap (λ (shown : Batches). record { exported = shown; answer = turn.answer }) (shown_again turn.before.shown turn.behind.provider.processors ss k)
+  reply_again : (turn : Turn P S G) (rs ss : List P) → FirstRecalled calls.keeps.recalled bs turn.after.provider.processors ss → reply_of calls (shift_turn turn rs ss) ≡ reply_of calls turn
+  reply_again turn rs ss k = ap (λ (shown : Batches). record { exported = shown; answer = turn.answer }) (shown_again turn.before.shown turn.after.provider.processors ss k)
 
-  -- where a session stands behind a reply
+  -- where a session stands after a reply
   replied_again : (course : Course P S G) (ss : List P) → FirstRecalled calls.keeps.recalled bs course.provider.processors ss → replied calls (shift course ss) ≡ shift (replied calls course) ss
   replied_again course ss k =
       ap (λ (n : ℕ). record course { provider = record course.provider { processors = ss }; shown = n })
@@ -213,7 +213,7 @@ module _ {P S G : Type 0} (calls : Calls P S G) (law : RecallsNothingElse calls)
   turns_again scope old new rs (command ∷ commands) (turn ∷ turns) h k =
       let begins : FirstRecalled calls.keeps.recalled bs turn.before.provider.processors rs = subst (λ (c : Course P S G). FirstRecalled calls.keeps.recalled bs c.provider.processors rs) (sym k.0) h in
       let one = turn_again scope command turn rs begins k.1.is_turn in
-      let others = turns_again scope (replied calls turn.behind) new one.0 commands turns one.1 k.3 in
+      let others = turns_again scope (replied calls turn.after) new one.0 commands turns one.1 k.3 in
       record {
         processors = others.processors;
         first = others.first;
@@ -222,11 +222,11 @@ module _ {P S G : Type 0} (calls : Calls P S G) (law : RecallsNothingElse calls)
           ap (λ (c : Course P S G). shift c rs) k.0,
           record {
             is_turn = one.2;
-            follows = follows_again calls.processor calls.timer calls.keeps.kept calls.keeps.lost calls.keeps.recalled law bs turn.delivered turn.before.provider.processors rs turn.behind.provider.processors one.0 begins one.1 k.1.follows;
-            grows = grows_again turn.before.provider.processors rs turn.behind.provider.processors one.0 begins one.1 k.1.grows;
+            follows = follows_again calls.processor calls.timer calls.keeps.kept calls.keeps.lost calls.keeps.recalled law bs turn.delivered turn.before.provider.processors rs turn.after.provider.processors one.0 begins one.1 k.1.follows;
+            grows = grows_again turn.before.provider.processors rs turn.after.provider.processors one.0 begins one.1 k.1.grows;
           },
-          (λ never. lost_again turn.behind.provider.processors one.0 one.1 ∙ k.2 never ∙ sym (lost_again turn.before.provider.processors rs begins)),
-          subst (λ (c : Course P S G). AreTurns calls scope c commands others.again (shift new others.processors)) (sym (replied_again turn.behind one.0 one.1)) others.are_turns,
+          (λ never. lost_again turn.after.provider.processors one.0 one.1 ∙ k.2 never ∙ sym (lost_again turn.before.provider.processors rs begins)),
+          subst (λ (c : Course P S G). AreTurns calls scope c commands others.again (shift new others.processors)) (sym (replied_again turn.after one.0 one.1)) others.are_turns,
         );
         replies = ap (λ (reply : PlainReply). reply ∷ map (reply_of calls) others.again) (reply_again turn rs one.0 one.1)
             ∙ ap (λ (l : List PlainReply). reply_of calls turn ∷ l) others.replies;

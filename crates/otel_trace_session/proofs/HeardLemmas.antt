@@ -1,5 +1,5 @@
 -- What the processors of a session hear of all that its commands deliver: a processor closes at a shutdown of the
--- provider alone, and nothing is delivered behind that.
+-- provider alone, and nothing is delivered after that.
 use Rattle.std.proofs.Common.{◌≡◌, ℕ, Bool, true, false, List, [], ◌∷◌, ◌++◌, map, Option, Some, None, Result, MatchBool, refl, sym, ◌∙◌, ap, subst}
 use Rattle.opentelemetry.specs.Plain.{PlainScope}
 use Rattle.opentelemetry.specs.PlainContexts.{root_cx}
@@ -17,7 +17,7 @@ use Rattle.otel_trace_lines.specs.declared.reply.Answer.TheVariants as answers
 use Rattle.otel_trace_session.specs.Calls.{Calls}
 use Rattle.otel_trace_session.specs.Headers.{child_cx}
 use Rattle.otel_trace_session.specs.OpenSpans.{Histories}
-use Rattle.otel_trace_session.specs.SpanTurns.{ChildTurn, EndTurn, Start, StartsBehind, start_in}
+use Rattle.otel_trace_session.specs.SpanTurns.{ChildTurn, EndTurn, Start, StartsAfter, start_in}
 use Rattle.otel_trace_session.specs.Traces.{is_shutdown}
 use Rattle.otel_trace_session.specs.Turn.{AsksNobody, Course, Turn}
 use Rattle.otel_trace_session.specs.Turns.{AreTurns, IsTurn, delivered_in, replied}
@@ -31,15 +31,15 @@ end_delivers_none false span refused e = cc
 module _ {P S G : Type 0} (calls : Calls P S G) where
   -- each processor stays as open or shut over a turn as it was
   abbrev StaysIn : Turn P S G → Type 0
-  StaysIn turn = EachStays calls.processor turn.before.provider.processors turn.behind.provider.processors
+  StaysIn turn = EachStays calls.processor turn.before.provider.processors turn.after.provider.processors
 
-  told_stays : (turn : Turn P S G) → map calls.processor.told turn.behind.provider.processors ≡ map calls.processor.told turn.before.provider.processors → StaysIn turn
-  told_stays turn e = stays_same calls.processor turn.before.provider.processors turn.behind.provider.processors e
+  told_stays : (turn : Turn P S G) → map calls.processor.told turn.after.provider.processors ≡ map calls.processor.told turn.before.provider.processors → StaysIn turn
+  told_stays turn e = stays_same calls.processor turn.before.provider.processors turn.after.provider.processors e
 
   nobody_closes_none : (said : Answer) (histories : Histories) (turn : Turn P S G) → AsksNobody said histories turn → StaysIn turn
   nobody_closes_none said histories turn h = told_stays turn (ap (λ (c : Course P S G). map calls.processor.told c.provider.processors) h.rest)
 
-  start_closes_none : (found : Option SpanHistory) (asked : Start) (turn : Turn P S G) → StartsBehind calls found asked turn → StaysIn turn
+  start_closes_none : (found : Option SpanHistory) (asked : Start) (turn : Turn P S G) → StartsAfter calls found asked turn → StaysIn turn
   start_closes_none (Some history) asked turn h = nobody_closes_none answers.SpanExists turn.before.histories turn h
   start_closes_none None asked turn h = told_stays turn h.told
 
@@ -54,7 +54,7 @@ module _ {P S G : Type 0} (calls : Calls P S G) where
   end_closes_none : (found : Option SpanHistory) (span : List ℕ) (moment : ℕ) (turn : Turn P S G) → EndTurn calls.processor span moment found turn → StaysIn turn
   end_closes_none None span moment turn h = nobody_closes_none answers.NoSuchSpan turn.before.histories turn h
   end_closes_none (Some (over context limits)) span moment turn h = nobody_closes_none answers.Ignored turn.before.histories turn h
-  end_closes_none (Some (begun from edits)) span moment turn h = delivery_closes_none turn.before.provider.is_shut _ turn.before.provider.processors turn.behind.provider.processors h.refused h.delivered
+  end_closes_none (Some (begun from edits)) span moment turn h = delivery_closes_none turn.before.provider.is_shut _ turn.before.provider.processors turn.after.provider.processors h.refused h.delivered
 
   -- over any command but a shutdown
   one_closes_none : (scope : PlainScope) (command : PlainCommand) (turn : Turn P S G) → is_shutdown command ≡ false → IsTurn calls scope command turn → StaysIn turn
@@ -67,13 +67,13 @@ module _ {P S G : Type 0} (calls : Calls P S G) where
   one_closes_none scope (inject span) turn e h = told_stays turn (ap (λ (c : Course P S G). map calls.processor.told c.provider.processors) h.rest)
   one_closes_none scope (end span moment) turn e h = end_closes_none (turn.before.histories span) span moment turn h
   one_closes_none scope flush turn e h =
-      stays_asked calls.processor (FlushesProcessor calls.processor) (λ p r q flushes. flushes.is_open) turn.before.provider.processors turn.behind.provider.processors (error_count h.gives.asked.0) (h.gives.asked.0, refl, h.gives.asked.2)
+      stays_asked calls.processor (FlushesProcessor calls.processor) (λ p r q flushes. flushes.is_open) turn.before.provider.processors turn.after.provider.processors (error_count h.gives.asked.0) (h.gives.asked.0, refl, h.gives.asked.2)
   one_closes_none scope (run moment) turn e h =
-      stays_asked calls.processor (RunsProcessor calls.processor calls.timer moment) (λ p r q runs. runs.is_open) turn.before.provider.processors turn.behind.provider.processors h.gives.failed h.gives.asked
+      stays_asked calls.processor (RunsProcessor calls.processor calls.timer moment) (λ p r q runs. runs.is_open) turn.before.provider.processors turn.after.provider.processors h.gives.failed h.gives.asked
   one_closes_none scope shutdown turn e h = cc
 
   -- a start delivers nothing
-  start_delivers_none : (found : Option SpanHistory) (asked : Start) (turn : Turn P S G) → StartsBehind calls found asked turn → turn.delivered ≡ []
+  start_delivers_none : (found : Option SpanHistory) (asked : Start) (turn : Turn P S G) → StartsAfter calls found asked turn → turn.delivered ≡ []
   start_delivers_none (Some history) asked turn h = h.delivers
   start_delivers_none None asked turn h = h.delivers
 
@@ -105,8 +105,8 @@ module _ {P S G : Type 0} (calls : Calls P S G) where
   shut_by again true old new said e h = ap (λ (p : ProviderState P S G). p.is_shut) h.1 ∙ e
   shut_by again false old new said e h = ap (λ (p : ProviderState P S G). p.is_shut) h.rest
 
-  -- behind a shutdown the provider is shut
-  shutdown_shuts : (scope : PlainScope) (command : PlainCommand) (turn : Turn P S G) → is_shutdown command ≡ true → IsTurn calls scope command turn → (turn.behind.provider.is_shut ≡ true) × (turn.delivered ≡ [])
+  -- after a shutdown the provider is shut
+  shutdown_shuts : (scope : PlainScope) (command : PlainCommand) (turn : Turn P S G) → is_shutdown command ≡ true → IsTurn calls scope command turn → (turn.after.provider.is_shut ≡ true) × (turn.delivered ≡ [])
   shutdown_shuts scope (start span name moment) turn e h = cc
   shutdown_shuts scope (child span parent name moment) turn e h = cc
   shutdown_shuts scope (remote span header name moment) turn e h = cc
@@ -117,10 +117,10 @@ module _ {P S G : Type 0} (calls : Calls P S G) where
   shutdown_shuts scope (end span moment) turn e h = cc
   shutdown_shuts scope flush turn e h = cc
   shutdown_shuts scope (run moment) turn e h = cc
-  shutdown_shuts scope shutdown turn e h = (shut_by (shut_answer turn.before.provider.is_disabled turn.before.provider.processors) turn.before.provider.is_shut turn.before.provider turn.behind.provider h.said refl h.gives, h.delivers)
+  shutdown_shuts scope shutdown turn e h = (shut_by (shut_answer turn.before.provider.is_disabled turn.before.provider.processors) turn.before.provider.is_shut turn.before.provider turn.after.provider h.said refl h.gives, h.delivers)
 
   -- a shut provider stays shut over any command
-  stays_shut : (b : Bool) (scope : PlainScope) (command : PlainCommand) (turn : Turn P S G) → is_shutdown command ≡ b → turn.before.provider.is_shut ≡ true → IsTurn calls scope command turn → turn.behind.provider.is_shut ≡ true
+  stays_shut : (b : Bool) (scope : PlainScope) (command : PlainCommand) (turn : Turn P S G) → is_shutdown command ≡ b → turn.before.provider.is_shut ≡ true → IsTurn calls scope command turn → turn.after.provider.is_shut ≡ true
   stays_shut true scope command turn e shut h = (shutdown_shuts scope command turn e h).0
   stays_shut false scope command turn e shut h = (one_stays calls scope command turn e h).0 ∙ shut
 
@@ -132,19 +132,19 @@ module _ {P S G : Type 0} (calls : Calls P S G) where
   all_follow scope old new (command ∷ commands) [] h = absurd h
   all_follow scope old new (command ∷ commands) (turn ∷ turns) h =
       subst (λ (c : Course P S G). EachFollows calls.processor (delivered_in (turn ∷ turns)) c.provider.processors new.provider.processors) h.0
-      (EachFollows-append calls.processor turn.delivered (delivered_in turns) turn.before.provider.processors turn.behind.provider.processors new.provider.processors h.1.follows
-      (all_follow scope (replied calls turn.behind) new commands turns h.3))
+      (EachFollows-append calls.processor turn.delivered (delivered_in turns) turn.before.provider.processors turn.after.provider.processors new.provider.processors h.1.follows
+      (all_follow scope (replied calls turn.after) new commands turns h.3))
 
   -- nothing is delivered from a shut provider on
-  none_behind : (scope : PlainScope) (old new : Course P S G) (commands : List PlainCommand) (turns : List (Turn P S G)) → old.provider.is_shut ≡ true → AreTurns calls scope old commands turns new → delivered_in turns ≡ []
-  none_behind scope old new [] [] shut h = refl
-  none_behind scope old new [] (turn ∷ turns) shut h = absurd h
-  none_behind scope old new (command ∷ commands) [] shut h = absurd h
-  none_behind scope old new (command ∷ commands) (turn ∷ turns) shut h =
+  none_after : (scope : PlainScope) (old new : Course P S G) (commands : List PlainCommand) (turns : List (Turn P S G)) → old.provider.is_shut ≡ true → AreTurns calls scope old commands turns new → delivered_in turns ≡ []
+  none_after scope old new [] [] shut h = refl
+  none_after scope old new [] (turn ∷ turns) shut h = absurd h
+  none_after scope old new (command ∷ commands) [] shut h = absurd h
+  none_after scope old new (command ∷ commands) (turn ∷ turns) shut h =
       let is_shut = ap (λ (c : Course P S G). c.provider.is_shut) h.0 ∙ shut in
       let first : turn.delivered ≡ [] = shut_delivers_none scope command turn is_shut h.1.is_turn in
       let still = stays_shut (is_shutdown command) scope command turn refl is_shut h.1.is_turn in
-      ap (λ (l : List Delivery). l ++ delivered_in turns) first ∙ none_behind scope (replied calls turn.behind) new commands turns still h.3
+      ap (λ (l : List Delivery). l ++ delivered_in turns) first ∙ none_after scope (replied calls turn.after) new commands turns still h.3
 
   -- each processor that was open hears all that is delivered
   pub all_heard : (scope : PlainScope) (old new : Course P S G) (commands : List PlainCommand) (turns : List (Turn P S G)) → AreTurns calls scope old commands turns new
@@ -154,17 +154,17 @@ module _ {P S G : Type 0} (calls : Calls P S G) where
   all_heard scope old new (command ∷ commands) [] h = absurd h
   all_heard scope old new (command ∷ commands) (turn ∷ turns) h =
       subst (λ (c : Course P S G). EachOpenHears calls.processor (delivered_in (turn ∷ turns)) c.provider.processors new.provider.processors) h.0
-      (by (is_shutdown command) refl (all_heard scope (replied calls turn.behind) new commands turns h.3))
+      (by (is_shutdown command) refl (all_heard scope (replied calls turn.after) new commands turns h.3))
     where
-      by : (b : Bool) → is_shutdown command ≡ b → EachOpenHears calls.processor (delivered_in turns) turn.behind.provider.processors new.provider.processors
+      by : (b : Bool) → is_shutdown command ≡ b → EachOpenHears calls.processor (delivered_in turns) turn.after.provider.processors new.provider.processors
           → EachOpenHears calls.processor (turn.delivered ++ delivered_in turns) turn.before.provider.processors new.provider.processors
       by false e rest =
           let stays = one_closes_none scope command turn e h.1.is_turn in
-          let first = hears_first calls.processor turn.delivered turn.before.provider.processors turn.behind.provider.processors h.1.follows stays in
-          hears_on calls.processor turn.delivered (delivered_in turns) turn.before.provider.processors turn.behind.provider.processors new.provider.processors first stays rest
+          let first = hears_first calls.processor turn.delivered turn.before.provider.processors turn.after.provider.processors h.1.follows stays in
+          hears_on calls.processor turn.delivered (delivered_in turns) turn.before.provider.processors turn.after.provider.processors new.provider.processors first stays rest
       by true e _ =
           let shut = shutdown_shuts scope command turn e h.1.is_turn in
-          let none : turn.delivered ++ delivered_in turns ≡ [] = ap (λ (l : List Delivery). l ++ delivered_in turns) shut.1 ∙ none_behind scope (replied calls turn.behind) new commands turns shut.0 h.3 in
+          let none : turn.delivered ++ delivered_in turns ≡ [] = ap (λ (l : List Delivery). l ++ delivered_in turns) shut.1 ∙ none_after scope (replied calls turn.after) new commands turns shut.0 h.3 in
           let follows = subst (λ (c : Course P S G). EachFollows calls.processor (delivered_in (turn ∷ turns)) c.provider.processors new.provider.processors) (sym h.0) (all_follow scope old new (command ∷ commands) (turn ∷ turns) h) in
           let nothing = subst (λ (l : List Delivery). EachFollows calls.processor l turn.before.provider.processors new.provider.processors) none follows in
           subst (λ (l : List Delivery). EachOpenHears calls.processor l turn.before.provider.processors new.provider.processors) (sym none) (hears_no_delivery calls.processor turn.before.provider.processors new.provider.processors nothing)

@@ -24,11 +24,11 @@ use Rattle.otel_trace_lines.specs.declared.reply.Answer.TheVariants as answers
 use Rattle.otel_trace_session.specs.Calls.{Calls, batches_of_first, losses_of_first}
 use Rattle.otel_trace_session.specs.Headers.{child_cx}
 use Rattle.otel_trace_session.specs.OpenSpans.{Histories}
-use Rattle.otel_trace_session.specs.SpanTurns.{ChildTurn, EndTurn, InjectTurn, Start, StartsBehind, request_of, start_in}
+use Rattle.otel_trace_session.specs.SpanTurns.{ChildTurn, EndTurn, InjectTurn, Start, StartsAfter, request_of, start_in}
 use Rattle.otel_trace_session.specs.Turn.{AsksNobody, Course, Turn}
 use Rattle.otel_trace_session.specs.Turns.{IsTurn, LosesNone}
 
--- batches are kept behind those that were kept, and none was lost
+-- batches are kept after those that were kept, and none was lost
 abbrev pub LosesNothing : {P : Type 0} → keeping.Ghosts P → List P → List P → Type 0
 LosesNothing keeps old new = Grows (batches_of_first keeps old) (batches_of_first keeps new) × (losses_of_first keeps new ≡ losses_of_first keeps old)
 
@@ -84,13 +84,13 @@ module _ {P : Type 0} (calls : Ghosts P) (timer : timing.Ghosts P) (keeps : keep
   first_ran now (p ∷ ps) (q ∷ qs) (r ∷ rs) h = law.runs p now r q h.0.gives
 
 module _ {P S G : Type 0} (calls : Calls P S G) (law : OnlyAppends calls.processor calls.timer calls.keeps.kept calls.keeps.lost) where
-  -- batches come only behind those that are kept
+  -- batches come only after those that are kept
   abbrev GrowsIn : Turn P S G → Type 0
-  GrowsIn turn = Grows (batches_of_first calls.keeps turn.before.provider.processors) (batches_of_first calls.keeps turn.behind.provider.processors)
+  GrowsIn turn = Grows (batches_of_first calls.keeps turn.before.provider.processors) (batches_of_first calls.keeps turn.after.provider.processors)
 
   -- a turn that asked nobody
-  nobody_loses : (said : Answer) (histories : Histories) (turn : Turn P S G) → AsksNobody said histories turn → LosesNothing calls.keeps turn.before.provider.processors turn.behind.provider.processors
-  nobody_loses said histories turn h = loses_nothing calls.keeps turn.before.provider.processors turn.behind.provider.processors (ap (λ (c : Course P S G). c.provider.processors) h.rest)
+  nobody_loses : (said : Answer) (histories : Histories) (turn : Turn P S G) → AsksNobody said histories turn → LosesNothing calls.keeps turn.before.provider.processors turn.after.provider.processors
+  nobody_loses said histories turn h = loses_nothing calls.keeps turn.before.provider.processors turn.after.provider.processors (ap (λ (c : Course P S G). c.provider.processors) h.rest)
 
   started_loses : (starts_nothing : Bool) (old new : ProviderState P S G) (request : StartRequest) (history : SpanHistory)
       → MatchBool starts_nothing ((history ≡ over (unstarted_context old request.cx) old.span_limits) × (new ≡ old)) (StartsOpen calls.processor calls.sampler calls.ids old request history new)
@@ -98,16 +98,16 @@ module _ {P S G : Type 0} (calls : Calls P S G) (law : OnlyAppends calls.process
   started_loses true old new request history h = loses_nothing calls.keeps old.processors new.processors (ap (λ (r : ProviderState P S G). r.processors) h.1)
   started_loses false old new request history h = decided_keeps calls.processor calls.timer calls.keeps law h.answer.decision request.cx _ old.processors new.processors history h.decided
 
-  starts_lose : (found : Option SpanHistory) (asked : Start) (turn : Turn P S G) → StartsBehind calls found asked turn → LosesNothing calls.keeps turn.before.provider.processors turn.behind.provider.processors
+  starts_lose : (found : Option SpanHistory) (asked : Start) (turn : Turn P S G) → StartsAfter calls found asked turn → LosesNothing calls.keeps turn.before.provider.processors turn.after.provider.processors
   starts_lose (Some history) asked turn h = nobody_loses answers.SpanExists turn.before.histories turn h
-  starts_lose None asked turn h = started_loses (turn.before.provider.is_shut || asked.cx.telemetry_suppressed) turn.before.provider turn.behind.provider (request_of asked) h.history h.starts
+  starts_lose None asked turn h = started_loses (turn.before.provider.is_shut || asked.cx.telemetry_suppressed) turn.before.provider turn.after.provider (request_of asked) h.history h.starts
 
-  child_loses : (found : Option SpanHistory) (asked : Start) (turn : Turn P S G) → ChildTurn calls asked found turn → LosesNothing calls.keeps turn.before.provider.processors turn.behind.provider.processors
+  child_loses : (found : Option SpanHistory) (asked : Start) (turn : Turn P S G) → ChildTurn calls asked found turn → LosesNothing calls.keeps turn.before.provider.processors turn.after.provider.processors
   child_loses None asked turn h = nobody_loses answers.NoSuchSpan turn.before.histories turn h
   child_loses (Some parent) asked turn h = starts_lose (turn.before.histories asked.span) (record asked { cx = child_cx (span_of parent).span_context }) turn h
 
-  inject_loses : (span : List ℕ) (turn : Turn P S G) → InjectTurn span turn → LosesNothing calls.keeps turn.before.provider.processors turn.behind.provider.processors
-  inject_loses span turn h = loses_nothing calls.keeps turn.before.provider.processors turn.behind.provider.processors (ap (λ (c : Course P S G). c.provider.processors) h.rest)
+  inject_loses : (span : List ℕ) (turn : Turn P S G) → InjectTurn span turn → LosesNothing calls.keeps turn.before.provider.processors turn.after.provider.processors
+  inject_loses span turn h = loses_nothing calls.keeps turn.before.provider.processors turn.after.provider.processors (ap (λ (c : Course P S G). c.provider.processors) h.rest)
 
   delivery_grows : (is_shut : Bool) (span : PlainSpanData) (ps qs : List P) (refused : ℕ) → Delivers calls.processor is_shut span ps qs refused → Grows (batches_of_first calls.keeps ps) (batches_of_first calls.keeps qs)
   delivery_grows true span ps qs refused h = appends_none _ _ (ap (batches_of_first calls.keeps) h.0)
@@ -116,14 +116,14 @@ module _ {P S G : Type 0} (calls : Calls P S G) (law : OnlyAppends calls.process
   end_grows : (found : Option SpanHistory) (span : List ℕ) (moment : ℕ) (turn : Turn P S G) → EndTurn calls.processor span moment found turn → GrowsIn turn
   end_grows None span moment turn h = (nobody_loses answers.NoSuchSpan turn.before.histories turn h).0
   end_grows (Some (over context limits)) span moment turn h = (nobody_loses answers.Ignored turn.before.histories turn h).0
-  end_grows (Some (begun from edits)) span moment turn h = delivery_grows turn.before.provider.is_shut _ turn.before.provider.processors turn.behind.provider.processors h.refused h.delivered
+  end_grows (Some (begun from edits)) span moment turn h = delivery_grows turn.before.provider.is_shut _ turn.before.provider.processors turn.after.provider.processors h.refused h.delivered
 
   pub shutdown_grows : (again : Result (Unit {0}) OTelSdkError) (is_shut : Bool) (old new : ProviderState P S G)
       (said : Result (Unit {0}) OTelSdkError) → MatchBool is_shut ((said ≡ again) × (new ≡ old)) (ShutsDown calls.processor old 5_000_000_000 said new) → Grows (batches_of_first calls.keeps old.processors) (batches_of_first calls.keeps new.processors)
   shutdown_grows again true old new said h = appends_none _ _ (ap (λ (p : ProviderState P S G). batches_of_first calls.keeps p.processors) h.1)
   shutdown_grows again false old new said h = first_shut calls.processor calls.timer calls.keeps law 5_000_000_000 old.processors new.processors h.asked.0 h.asked.2
 
-  -- over a turn batches come only behind those that are kept
+  -- over a turn batches come only after those that are kept
   pub turn_grows : (scope : PlainScope) (command : PlainCommand) (turn : Turn P S G) → IsTurn calls scope command turn → GrowsIn turn
   turn_grows scope (start span name moment) turn h = (starts_lose (turn.before.histories span) (start_in scope root_cx span name moment) turn h).0
   turn_grows scope (child span parent name moment) turn h = (child_loses (turn.before.histories parent) (start_in scope root_cx span name moment) turn h).0
@@ -133,13 +133,13 @@ module _ {P S G : Type 0} (calls : Calls P S G) (law : OnlyAppends calls.process
   turn_grows scope (status span how) turn h = (nobody_loses _ _ turn h).0
   turn_grows scope (inject span) turn h = (inject_loses span turn h).0
   turn_grows scope (end span moment) turn h = end_grows (turn.before.histories span) span moment turn h
-  turn_grows scope flush turn h = first_flushed calls.processor calls.timer calls.keeps law turn.before.provider.processors turn.behind.provider.processors h.gives.asked.0 h.gives.asked.2
-  turn_grows scope (run moment) turn h = first_ran calls.processor calls.timer calls.keeps law moment turn.before.provider.processors turn.behind.provider.processors h.gives.asked.0 h.gives.asked.2
-  turn_grows scope shutdown turn h = shutdown_grows (shut_answer turn.before.provider.is_disabled turn.before.provider.processors) turn.before.provider.is_shut turn.before.provider turn.behind.provider h.said h.gives
+  turn_grows scope flush turn h = first_flushed calls.processor calls.timer calls.keeps law turn.before.provider.processors turn.after.provider.processors h.gives.asked.0 h.gives.asked.2
+  turn_grows scope (run moment) turn h = first_ran calls.processor calls.timer calls.keeps law moment turn.before.provider.processors turn.after.provider.processors h.gives.asked.0 h.gives.asked.2
+  turn_grows scope shutdown turn h = shutdown_grows (shut_answer turn.before.provider.is_disabled turn.before.provider.processors) turn.before.provider.is_shut turn.before.provider turn.after.provider h.said h.gives
 
   -- and where it is neither an end nor a flush, a run or a shutdown none is lost
   pub turn_loses_none : (scope : PlainScope) (command : PlainCommand) (turn : Turn P S G) → IsTurn calls scope command turn → is_end command ≡ false
-      → LosesNone calls command turn.before.provider.processors turn.behind.provider.processors
+      → LosesNone calls command turn.before.provider.processors turn.after.provider.processors
   turn_loses_none scope (start span name moment) turn h e _ = (starts_lose (turn.before.histories span) (start_in scope root_cx span name moment) turn h).1
   turn_loses_none scope (child span parent name moment) turn h e _ = (child_loses (turn.before.histories parent) (start_in scope root_cx span name moment) turn h).1
   turn_loses_none scope (remote span header name moment) turn h e _ = (starts_lose (turn.before.histories span) (start_in scope h.cx span name moment) turn h.starts).1

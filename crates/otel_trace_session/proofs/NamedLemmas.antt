@@ -109,7 +109,7 @@ found_history (Some span) has = (Some (has span refl).history, ap Some (has span
 pub described : (spans : NamedSpans) → HaveHistories spans → (histories : List ℕ → Option SpanHistory) × ((q : List ℕ) → named spans q ≡ option_map span_of (histories q))
 described spans have = (λ q. (found_history (named spans q) (have q)).0, λ q. (found_history (named spans q) (have q)).1)
 
--- a span keeps its history over an edit, and is over behind its end
+-- a span keeps its history over an edit, and is over after its end
 pub edited_has : (edit : Edit) (span : PlainSpan) → HasHistory span → HasHistory (edited edit span)
 edited_has edit span has = keeps_history {T = Unit {0}} {E = Unit {0}} (Ok tt) edit span.span_context span.limits span.recorded (edited_if span.limits edit span.recorded) has refl tt
 
@@ -127,7 +127,7 @@ described_have histories spans describes = λ name span there.
     let found = by_history (histories name) span (sym there ∙ describes name) in
     record { history = found.0; is = sym found.2 }
 
--- so spans have histories behind a turn
+-- so spans have histories after a turn
 pub took_histories : {P S G : Type 0} (Is : Turn P S G → Type 0) (p q : ProviderState P S G) (old new : NamedSpans) (answer : Answer) → HaveHistories old → TakesTurn Is p old answer q new → HaveHistories new
 took_histories Is p q old new answer have takes =
     let first = described old have in

@@ -22,7 +22,7 @@ module _ {P S G : Type 0} (calls : Calls P S G) where
   turns_join scope old middle new [] ds [] us h k = subst (λ (c : Course P S G). AreTurns calls scope c ds us new) h k
   turns_join scope old middle new [] ds (t ∷ ts) us h k = absurd h
   turns_join scope old middle new (c ∷ cs) ds [] us h k = absurd h
-  turns_join scope old middle new (c ∷ cs) ds (t ∷ ts) us h k = (h.0, h.1, h.2, turns_join scope (replied calls t.behind) middle new cs ds ts us h.3 k)
+  turns_join scope old middle new (c ∷ cs) ds (t ∷ ts) us h k = (h.0, h.1, h.2, turns_join scope (replied calls t.after) middle new cs ds ts us h.3 k)
 
   -- a run, and another from where it ends
   pub runs_join : (old middle new : SessionState P S G) (cs ds : List Command) (rs qs : List PlainReply) → Runs calls old cs rs middle → Runs calls middle ds qs new → Runs calls old (cs ++ ds) (rs ++ qs) new
@@ -32,11 +32,11 @@ module _ {P S G : Type 0} (calls : Calls P S G) where
     took = λ histories describes.
         let one = h.took histories describes in
         let two = k.took one.after one.describes in
-        let behind = subst (λ (s : PlainScope). AreTurns calls s (course_of middle one.after) (plain_commands ds) two.turns (course_of new two.after)) h.scope two.are_turns in record {
+        let later = subst (λ (s : PlainScope). AreTurns calls s (course_of middle one.after) (plain_commands ds) two.turns (course_of new two.after)) h.scope two.are_turns in record {
           turns = one.turns ++ two.turns;
           after = two.after;
           are_turns = subst (λ (l : List PlainCommand). AreTurns calls old.scope (course_of old histories) l (one.turns ++ two.turns) (course_of new two.after)) (sym (map-append plain_command cs ds))
-              (turns_join old.scope (course_of old histories) (course_of middle one.after) (course_of new two.after) (plain_commands cs) (plain_commands ds) one.turns two.turns one.are_turns behind);
+              (turns_join old.scope (course_of old histories) (course_of middle one.after) (course_of new two.after) (plain_commands cs) (plain_commands ds) one.turns two.turns one.are_turns later);
           replied_to = ap (λ (l : List PlainReply). l ++ qs) one.replied_to ∙ ap (λ (l : List PlainReply). map (reply_of calls) one.turns ++ l) two.replied_to ∙ sym (map-append (reply_of calls) one.turns two.turns);
           describes = two.describes;
         };
@@ -58,7 +58,7 @@ module _ {P S G : Type 0} (calls : Calls P S G) where
     lost_before = ap (λ (s : SessionState P S G). s.lost_before) rest;
     took = λ histories describes.
         let took = answers.carried (course_of old histories) describes in
-        let turn : Turn P S G = record { before = course_of old histories; answer = answer; delivered = took.delivered; behind = record (course_of old histories) { provider = new.provider; histories = took.histories } } in record {
+        let turn : Turn P S G = record { before = course_of old histories; answer = answer; delivered = took.delivered; after = record (course_of old histories) { provider = new.provider; histories = took.histories } } in record {
           turns = turn ∷ [];
           after = took.histories;
           are_turns = (refl, took.is, answers.loses_none, refl);

@@ -26,7 +26,7 @@ grows_length xs ys h = let e = ap length h.1 ∙ length-append xs h.0 in omega (
 none_shown : (batches : Batches) (n : ℕ) → n ≤ length batches → [] ≡ drop n (take n batches)
 none_shown batches n h = sym (drop_of_length-le (take n batches) (subst (λ (m : ℕ). m ≤ n) (sym (length-take-le n batches h)) (omega arith)))
 
--- batches and a beginning of those behind them
+-- batches and a beginning of those after them
 taken : (batches more all : Batches) (n : ℕ) → all ≡ batches ++ more → length batches ≤ n → take n all ≡ batches ++ take (n - length batches) more
 taken batches more all n e h =
     let sum : n ≡ length batches + (n - length batches) = omega (arith, h) in
@@ -52,9 +52,9 @@ module _ {P S G : Type 0} (calls : Calls P S G) where
   shows_none : (course : Course P S G) → ShowsTo course [] course
   shows_none course = record { grows = appends_none _ _ refl; not_fewer = λ within. omega arith; no_more = λ within. within; exported = none_shown (kept course) course.shown }
 
-  shows_more : (turn : Turn P S G) (replies : List PlainReply) (new : Course P S G) → Grows (kept turn.before) (kept turn.behind) → ShowsTo (replied calls turn.behind) replies new → ShowsTo turn.before (reply_of calls turn ∷ replies) new
+  shows_more : (turn : Turn P S G) (replies : List PlainReply) (new : Course P S G) → Grows (kept turn.before) (kept turn.after) → ShowsTo (replied calls turn.after) replies new → ShowsTo turn.before (reply_of calls turn ∷ replies) new
   shows_more turn replies new grew h =
-      let batches = kept turn.behind in
+      let batches = kept turn.after in
       let all : length batches ≤ length batches = omega arith in
       let longer = grows_length _ _ grew in
       let fewer : length batches ≤ new.shown = h.not_fewer all in
@@ -73,19 +73,19 @@ module _ {P S G : Type 0} (calls : Calls P S G) where
   all_show scope old new [] (turn ∷ turns) h = absurd h
   all_show scope old new (command ∷ commands) [] h = absurd h
   all_show scope old new (command ∷ commands) (turn ∷ turns) h = subst (λ (c : Course P S G). ShowsTo c (map (reply_of calls) (turn ∷ turns)) new) h.0
-      (shows_more turn (map (reply_of calls) turns) new h.1.grows (all_show scope (replied calls turn.behind) new commands turns h.3))
+      (shows_more turn (map (reply_of calls) turns) new h.1.grows (all_show scope (replied calls turn.after) new commands turns h.3))
 
-  -- behind a reply none is left to show
-  none_behind : (scope : PlainScope) (old new : Course P S G) (commands : List PlainCommand) (turns : List (Turn P S G)) → AreTurns calls scope (replied calls old) commands turns new → new.shown ≡ length (kept new)
-  none_behind scope old new [] [] h = ap (λ (c : Course P S G). c.shown) h ∙ sym (ap (λ (c : Course P S G). length (kept c)) h)
-  none_behind scope old new [] (turn ∷ turns) h = absurd h
-  none_behind scope old new (command ∷ commands) [] h = absurd h
-  none_behind scope old new (command ∷ commands) (turn ∷ turns) h = none_behind scope turn.behind new commands turns h.3
+  -- after a reply none is left to show
+  none_after : (scope : PlainScope) (old new : Course P S G) (commands : List PlainCommand) (turns : List (Turn P S G)) → AreTurns calls scope (replied calls old) commands turns new → new.shown ≡ length (kept new)
+  none_after scope old new [] [] h = ap (λ (c : Course P S G). c.shown) h ∙ sym (ap (λ (c : Course P S G). length (kept c)) h)
+  none_after scope old new [] (turn ∷ turns) h = absurd h
+  none_after scope old new (command ∷ commands) [] h = absurd h
+  none_after scope old new (command ∷ commands) (turn ∷ turns) h = none_after scope turn.after new commands turns h.3
 
   none_left : (scope : PlainScope) (old new : Course P S G) (commands : List PlainCommand) (turns : List (Turn P S G)) → AreTurns calls scope old commands turns new → (map (reply_of calls) turns ≡ []) ⊎ (new.shown ≡ length (kept new))
   none_left scope old new commands [] h = inl refl
   none_left scope old new [] (turn ∷ turns) h = absurd h
-  none_left scope old new (command ∷ commands) (turn ∷ turns) h = inr (none_behind scope turn.behind new commands turns h.3)
+  none_left scope old new (command ∷ commands) (turn ∷ turns) h = inr (none_after scope turn.after new commands turns h.3)
 
   pub all_shown : (old new : SessionState P S G) (histories after : Histories) (commands : List PlainCommand) (turns : List (Turn P S G)) (replies : List PlainReply) → replies ≡ map (reply_of calls) turns
       → AreTurns calls old.scope (course_of old histories) commands turns (course_of new after) → Shows calls.keeps old replies new
@@ -96,7 +96,7 @@ module _ {P S G : Type 0} (calls : Calls P S G) where
         none_left = none_left old.scope (course_of old histories) (course_of new after) commands turns h;
       })
 
--- batches up to a place, and those behind it
+-- batches up to a place, and those after it
 up_to_place : (batches : Batches) (a n : ℕ) → a ≤ n → n ≤ length batches
     → drop a (take n batches) ++ drop n batches ≡ drop a batches
 up_to_place batches a n fewer within =

@@ -29,7 +29,7 @@ use Rattle.otel_trace_session.proofs.Forgetting.{RecallsNothingElse, lost_again,
 abbrev Batches : Type 0
 Batches = List (List PlainSpanData)
 
--- a text that is fed behind another one is fed with it
+-- a text that is fed after another one is fed with it
 pub feeds_join : {P S G : Type 0} (calls : Calls P S G) (old middle new : SessionState P S G) (first second : List ℕ) (bad_line : Option ℕ) (replies more : List PlainReply)
     → IsEmptyOrEndsWith first 10 → FeedsUpTo calls old first None replies middle → FeedsUpTo calls middle second bad_line more new
     → FeedsUpTo calls old (first ++ second) (option_map (λ n. length (lines first) + n) bad_line) (replies ++ more) new

@@ -18,7 +18,7 @@ use Rattle.otel_trace_lines.specs.declared.reply.Answer.TheVariants as answers
 use Rattle.otel_trace_session.specs.Calls.{Calls}
 use Rattle.otel_trace_session.specs.Headers.{child_cx}
 use Rattle.otel_trace_session.specs.OpenSpans.{Describe, Histories, NamedSpans, edited_history, edited_in, is_name, with_history}
-use Rattle.otel_trace_session.specs.SpanTurns.{ChildTurn, EndTurn, Start, StartsBehind, request_of, start_in}
+use Rattle.otel_trace_session.specs.SpanTurns.{ChildTurn, EndTurn, Start, StartsAfter, request_of, start_in}
 use Rattle.otel_trace_session.specs.Traces.{ChildrenAgree, KeepsContexts, is_shutdown, made_span, with_child, with_children}
 use Rattle.otel_trace_session.specs.Turn.{AsksNobody, Course, Turn}
 use Rattle.otel_trace_session.specs.Turns.{AreTurns, IsTurn, replied, reply_of}
@@ -120,15 +120,15 @@ joined root is_in histories span parent name moment answer father new is_father 
 module _ {P S G : Type 0} (calls : Calls P S G) where
   -- histories keep their span contexts over a turn
   abbrev PersistsIn : Turn P S G → Type 0
-  PersistsIn turn = Persists turn.before.histories turn.behind.histories
+  PersistsIn turn = Persists turn.before.histories turn.after.histories
 
-  same_persists : (turn : Turn P S G) → turn.behind.histories ≡ turn.before.histories → PersistsIn turn
-  same_persists turn e = persists_same turn.before.histories turn.behind.histories e
+  same_persists : (turn : Turn P S G) → turn.after.histories ≡ turn.before.histories → PersistsIn turn
+  same_persists turn e = persists_same turn.before.histories turn.after.histories e
 
   nobody_persists : (said : Answer) (turn : Turn P S G) → AsksNobody said turn.before.histories turn → PersistsIn turn
   nobody_persists said turn h = same_persists turn (ap (λ (c : Course P S G). c.histories) h.rest)
 
-  start_persists : (found : Option SpanHistory) (asked : Start) (turn : Turn P S G) → turn.before.histories asked.span ≡ found → StartsBehind calls found asked turn → PersistsIn turn
+  start_persists : (found : Option SpanHistory) (asked : Start) (turn : Turn P S G) → turn.before.histories asked.span ≡ found → StartsAfter calls found asked turn → PersistsIn turn
   start_persists (Some history) asked turn e h = nobody_persists answers.SpanExists turn h
   start_persists None asked turn e h = subst (Persists turn.before.histories) (sym h.histories) (put_persists turn.before.histories asked.span h.history e)
 
@@ -166,79 +166,79 @@ module _ {P S G : Type 0} (calls : Calls P S G) where
   stays : (old new made : ProviderState P S G) → new ≡ made → Stays old made → Stays old new
   stays old new made e s = (ap (λ (p : ProviderState P S G). p.is_shut) e ∙ s.0, ap (λ (p : ProviderState P S G). p.sampler) e ∙ s.1)
 
-  nobody_stays : (said : Answer) (histories : Histories) (turn : Turn P S G) → AsksNobody said histories turn → Stays turn.before.provider turn.behind.provider
-  nobody_stays said histories turn h = stays turn.before.provider turn.behind.provider turn.before.provider (ap (λ (c : Course P S G). c.provider) h.rest) (refl, refl)
+  nobody_stays : (said : Answer) (histories : Histories) (turn : Turn P S G) → AsksNobody said histories turn → Stays turn.before.provider turn.after.provider
+  nobody_stays said histories turn h = stays turn.before.provider turn.after.provider turn.before.provider (ap (λ (c : Course P S G). c.provider) h.rest) (refl, refl)
 
   open_stays : (b : Bool) (old new : ProviderState P S G) (request : StartRequest) (history : SpanHistory)
       → MatchBool b ((history ≡ over (unstarted_context old request.cx) old.span_limits) × (new ≡ old)) (StartsOpen calls.processor calls.sampler calls.ids old request history new) → Stays old new
   open_stays true old new request history h = stays old new old h.1 (refl, refl)
   open_stays false old new request history h = stays old new (record old { processors = new.processors; id_generator = new.id_generator }) h.rest (refl, refl)
 
-  start_stays : (found : Option SpanHistory) (asked : Start) (turn : Turn P S G) → StartsBehind calls found asked turn → Stays turn.before.provider turn.behind.provider
+  start_stays : (found : Option SpanHistory) (asked : Start) (turn : Turn P S G) → StartsAfter calls found asked turn → Stays turn.before.provider turn.after.provider
   start_stays (Some history) asked turn h = nobody_stays answers.SpanExists turn.before.histories turn h
-  start_stays None asked turn h = open_stays (turn.before.provider.is_shut || asked.cx.telemetry_suppressed) turn.before.provider turn.behind.provider (request_of asked) h.history h.starts
+  start_stays None asked turn h = open_stays (turn.before.provider.is_shut || asked.cx.telemetry_suppressed) turn.before.provider turn.after.provider (request_of asked) h.history h.starts
 
-  child_stays : (found : Option SpanHistory) (asked : Start) (turn : Turn P S G) → ChildTurn calls asked found turn → Stays turn.before.provider turn.behind.provider
+  child_stays : (found : Option SpanHistory) (asked : Start) (turn : Turn P S G) → ChildTurn calls asked found turn → Stays turn.before.provider turn.after.provider
   child_stays None asked turn h = nobody_stays answers.NoSuchSpan turn.before.histories turn h
   child_stays (Some parent) asked turn h = start_stays (turn.before.histories asked.span) (record asked { cx = child_cx (span_of parent).span_context }) turn h
 
-  end_stays : (found : Option SpanHistory) (span : List ℕ) (moment : ℕ) (turn : Turn P S G) → EndTurn calls.processor span moment found turn → Stays turn.before.provider turn.behind.provider
+  end_stays : (found : Option SpanHistory) (span : List ℕ) (moment : ℕ) (turn : Turn P S G) → EndTurn calls.processor span moment found turn → Stays turn.before.provider turn.after.provider
   end_stays None span moment turn h = nobody_stays answers.NoSuchSpan turn.before.histories turn h
   end_stays (Some (over context limits)) span moment turn h = nobody_stays answers.Ignored turn.before.histories turn h
-  end_stays (Some (begun from edits)) span moment turn h = stays turn.before.provider turn.behind.provider (record turn.before.provider { processors = turn.behind.provider.processors }) h.provider (refl, refl)
+  end_stays (Some (begun from edits)) span moment turn h = stays turn.before.provider turn.after.provider (record turn.before.provider { processors = turn.after.provider.processors }) h.provider (refl, refl)
 
   -- over any command but a shutdown
-  pub one_stays : (scope : PlainScope) (command : PlainCommand) (turn : Turn P S G) → is_shutdown command ≡ false → IsTurn calls scope command turn → Stays turn.before.provider turn.behind.provider
+  pub one_stays : (scope : PlainScope) (command : PlainCommand) (turn : Turn P S G) → is_shutdown command ≡ false → IsTurn calls scope command turn → Stays turn.before.provider turn.after.provider
   one_stays scope (start span name moment) turn e h = start_stays (turn.before.histories span) (start_in scope root_cx span name moment) turn h
   one_stays scope (child span parent name moment) turn e h = child_stays (turn.before.histories parent) (start_in scope root_cx span name moment) turn h
   one_stays scope (remote span header name moment) turn e h = start_stays (turn.before.histories span) (start_in scope h.cx span name moment) turn h.starts
   one_stays scope (attr span key value) turn e h = nobody_stays _ _ turn h
   one_stays scope (event span name moment) turn e h = nobody_stays _ _ turn h
   one_stays scope (status span how) turn e h = nobody_stays _ _ turn h
-  one_stays scope (inject span) turn e h = stays turn.before.provider turn.behind.provider turn.before.provider (ap (λ (c : Course P S G). c.provider) h.rest) (refl, refl)
+  one_stays scope (inject span) turn e h = stays turn.before.provider turn.after.provider turn.before.provider (ap (λ (c : Course P S G). c.provider) h.rest) (refl, refl)
   one_stays scope (end span moment) turn e h = end_stays (turn.before.histories span) span moment turn h
-  one_stays scope flush turn e h = stays turn.before.provider turn.behind.provider (record turn.before.provider { processors = turn.behind.provider.processors }) h.gives.rest (refl, refl)
-  one_stays scope (run moment) turn e h = stays turn.before.provider turn.behind.provider (record turn.before.provider { processors = turn.behind.provider.processors }) h.gives.rest (refl, refl)
+  one_stays scope flush turn e h = stays turn.before.provider turn.after.provider (record turn.before.provider { processors = turn.after.provider.processors }) h.gives.rest (refl, refl)
+  one_stays scope (run moment) turn e h = stays turn.before.provider turn.after.provider (record turn.before.provider { processors = turn.after.provider.processors }) h.gives.rest (refl, refl)
   one_stays scope shutdown turn e h = cc
 
   -- a child joins the traces of its parent
   taken_joins : (found : Option SpanHistory) (scope : PlainScope) (root : PlainSpanContext) (is_in : List ℕ → Bool) (last : Histories) (turn : Turn P S G) (span parent name : List ℕ) (moment : ℕ) (father : SpanHistory)
-      → GoesByParents calls.sampler turn.before.provider.sampler → turn.before.provider.is_shut ≡ false → turn.before.histories parent ≡ Some father → Persists turn.before.histories last → Persists turn.behind.histories last → EachAgrees root is_in last
-      → StartsBehind calls found (start_in scope (child_cx (span_of father).span_context) span name moment) turn → EachAgrees root (with_child is_in (child span parent name moment) turn.answer) last
-  taken_joins (Some history) scope root is_in last turn span parent name moment father by_parents is_open there before behind agree h =
+      → GoesByParents calls.sampler turn.before.provider.sampler → turn.before.provider.is_shut ≡ false → turn.before.histories parent ≡ Some father → Persists turn.before.histories last → Persists turn.after.histories last → EachAgrees root is_in last
+      → StartsAfter calls found (start_in scope (child_cx (span_of father).span_context) span name moment) turn → EachAgrees root (with_child is_in (child span parent name moment) turn.answer) last
+  taken_joins (Some history) scope root is_in last turn span parent name moment father by_parents is_open there before after agree h =
       not_made root is_in last span parent name moment turn.answer (ap made_span h.says) agree
-  taken_joins None scope root is_in last turn span parent name moment father by_parents is_open there before behind agree h =
+  taken_joins None scope root is_in last turn span parent name moment father by_parents is_open there before after agree h =
       let cx = child_cx (span_of father).span_context in
-      let is_child = child_of_start calls.processor calls.sampler calls.ids turn.before.provider turn.behind.provider (request_of (start_in scope cx span name moment)) h.history (span_of father).span_context by_parents is_open refl refl h.starts in
-      let put : turn.behind.histories span ≡ Some h.history = ap (λ (histories : Histories). histories span) h.histories ∙ put_there (is_name span span) h.history (turn.before.histories span) (is_itself span) in
+      let is_child = child_of_start calls.processor calls.sampler calls.ids turn.before.provider turn.after.provider (request_of (start_in scope cx span name moment)) h.history (span_of father).span_context by_parents is_open refl refl h.starts in
+      let put : turn.after.histories span ≡ Some h.history = ap (λ (histories : Histories). histories span) h.histories ∙ put_there (is_name span span) h.history (turn.before.histories span) (is_itself span) in
       let then_father = before parent father there in
-      let then_child = behind span h.history put in
+      let then_child = after span h.history put in
       joined root is_in last span parent name moment turn.answer then_father.0 then_child.0 then_father.1 then_child.1
       (λ agrees. subst (Agrees root) (sym then_child.2) (child_agrees root (context_of father) (context_of h.history) (subst (Agrees root) then_father.2 agrees) is_child)) agree
 
   child_joins : (found : Option SpanHistory) (scope : PlainScope) (root : PlainSpanContext) (is_in : List ℕ → Bool) (last : Histories) (turn : Turn P S G) (span parent name : List ℕ) (moment : ℕ)
-      → GoesByParents calls.sampler turn.before.provider.sampler → turn.before.provider.is_shut ≡ false → turn.before.histories parent ≡ found → Persists turn.before.histories last → Persists turn.behind.histories last → EachAgrees root is_in last
+      → GoesByParents calls.sampler turn.before.provider.sampler → turn.before.provider.is_shut ≡ false → turn.before.histories parent ≡ found → Persists turn.before.histories last → Persists turn.after.histories last → EachAgrees root is_in last
       → ChildTurn calls (start_in scope root_cx span name moment) found turn → EachAgrees root (with_child is_in (child span parent name moment) turn.answer) last
-  child_joins None scope root is_in last turn span parent name moment by_parents is_open e before behind agree h =
+  child_joins None scope root is_in last turn span parent name moment by_parents is_open e before after agree h =
       not_made root is_in last span parent name moment turn.answer (ap made_span h.says) agree
-  child_joins (Some father) scope root is_in last turn span parent name moment by_parents is_open e before behind agree h =
-      taken_joins (turn.before.histories span) scope root is_in last turn span parent name moment father by_parents is_open e before behind agree h
+  child_joins (Some father) scope root is_in last turn span parent name moment by_parents is_open e before after agree h =
+      taken_joins (turn.before.histories span) scope root is_in last turn span parent name moment father by_parents is_open e before after agree h
 
   one_joins : (scope : PlainScope) (root : PlainSpanContext) (is_in : List ℕ → Bool) (last : Histories) (command : PlainCommand) (turn : Turn P S G)
-      → GoesByParents calls.sampler turn.before.provider.sampler → turn.before.provider.is_shut ≡ false → Persists turn.before.histories last → Persists turn.behind.histories last → EachAgrees root is_in last
+      → GoesByParents calls.sampler turn.before.provider.sampler → turn.before.provider.is_shut ≡ false → Persists turn.before.histories last → Persists turn.after.histories last → EachAgrees root is_in last
       → IsTurn calls scope command turn → EachAgrees root (with_child is_in command turn.answer) last
-  one_joins scope root is_in last (start span name moment) turn by_parents is_open before behind agree h = agree
-  one_joins scope root is_in last (child span parent name moment) turn by_parents is_open before behind agree h =
-      child_joins (turn.before.histories parent) scope root is_in last turn span parent name moment by_parents is_open refl before behind agree h
-  one_joins scope root is_in last (remote span header name moment) turn by_parents is_open before behind agree h = agree
-  one_joins scope root is_in last (attr span key value) turn by_parents is_open before behind agree h = agree
-  one_joins scope root is_in last (event span name moment) turn by_parents is_open before behind agree h = agree
-  one_joins scope root is_in last (status span how) turn by_parents is_open before behind agree h = agree
-  one_joins scope root is_in last (inject span) turn by_parents is_open before behind agree h = agree
-  one_joins scope root is_in last (end span moment) turn by_parents is_open before behind agree h = agree
-  one_joins scope root is_in last flush turn by_parents is_open before behind agree h = agree
-  one_joins scope root is_in last (run moment) turn by_parents is_open before behind agree h = agree
-  one_joins scope root is_in last shutdown turn by_parents is_open before behind agree h = agree
+  one_joins scope root is_in last (start span name moment) turn by_parents is_open before after agree h = agree
+  one_joins scope root is_in last (child span parent name moment) turn by_parents is_open before after agree h =
+      child_joins (turn.before.histories parent) scope root is_in last turn span parent name moment by_parents is_open refl before after agree h
+  one_joins scope root is_in last (remote span header name moment) turn by_parents is_open before after agree h = agree
+  one_joins scope root is_in last (attr span key value) turn by_parents is_open before after agree h = agree
+  one_joins scope root is_in last (event span name moment) turn by_parents is_open before after agree h = agree
+  one_joins scope root is_in last (status span how) turn by_parents is_open before after agree h = agree
+  one_joins scope root is_in last (inject span) turn by_parents is_open before after agree h = agree
+  one_joins scope root is_in last (end span moment) turn by_parents is_open before after agree h = agree
+  one_joins scope root is_in last flush turn by_parents is_open before after agree h = agree
+  one_joins scope root is_in last (run moment) turn by_parents is_open before after agree h = agree
+  one_joins scope root is_in last shutdown turn by_parents is_open before after agree h = agree
 
   -- commands one after another
   all_persist : (scope : PlainScope) (old new : Course P S G) (commands : List PlainCommand) (turns : List (Turn P S G)) → AreTurns calls scope old commands turns new → Persists old.histories new.histories
@@ -246,7 +246,7 @@ module _ {P S G : Type 0} (calls : Calls P S G) where
   all_persist scope old new [] (turn ∷ turns) h = absurd h
   all_persist scope old new (command ∷ commands) [] h = absurd h
   all_persist scope old new (command ∷ commands) (turn ∷ turns) h = subst (λ (c : Course P S G). Persists c.histories new.histories) h.0
-      (persists_on turn.before.histories turn.behind.histories new.histories (one_persists scope command turn h.1.is_turn) (all_persist scope (replied calls turn.behind) new commands turns h.3))
+      (persists_on turn.before.histories turn.after.histories new.histories (one_persists scope command turn h.1.is_turn) (all_persist scope (replied calls turn.after) new commands turns h.3))
 
   all_join : (scope : PlainScope) (root : PlainSpanContext) (is_in : List ℕ → Bool) (old new : Course P S G) (commands : List PlainCommand) (turns : List (Turn P S G))
       → GoesByParents calls.sampler old.provider.sampler → old.provider.is_shut ≡ false → EachAgrees root is_in new.histories
@@ -255,10 +255,10 @@ module _ {P S G : Type 0} (calls : Calls P S G) where
   all_join scope root is_in old new [] (turn ∷ turns) by_parents is_open agree h = absurd h
   all_join scope root is_in old new (command ∷ commands) [] by_parents is_open agree h = absurd h
   all_join scope root is_in old new (command ∷ commands) (turn ∷ turns) by_parents is_open agree h = by (is_shutdown command) refl
-      (λ next still stays_open joins. all_join scope root next (replied calls turn.behind) new commands turns still stays_open joins h.3)
+      (λ next still stays_open joins. all_join scope root next (replied calls turn.after) new commands turns still stays_open joins h.3)
     where
-      behind : Persists turn.behind.histories new.histories
-      behind = all_persist scope (replied calls turn.behind) new commands turns h.3
+      after : Persists turn.after.histories new.histories
+      after = all_persist scope (replied calls turn.after) new commands turns h.3
 
       goes : GoesByParents calls.sampler turn.before.provider.sampler
       goes = subst (λ (c : Course P S G). GoesByParents calls.sampler c.provider.sampler) (sym h.0) by_parents
@@ -267,14 +267,14 @@ module _ {P S G : Type 0} (calls : Calls P S G) where
       opened = ap (λ (c : Course P S G). c.provider.is_shut) h.0 ∙ is_open
 
       by : (b : Bool) → is_shutdown command ≡ b
-          → ((next : List ℕ → Bool) → GoesByParents calls.sampler turn.behind.provider.sampler → turn.behind.provider.is_shut ≡ false → EachAgrees root next new.histories → EachAgrees root (with_children next commands (map (reply_of calls) turns)) new.histories)
+          → ((next : List ℕ → Bool) → GoesByParents calls.sampler turn.after.provider.sampler → turn.after.provider.is_shut ≡ false → EachAgrees root next new.histories → EachAgrees root (with_children next commands (map (reply_of calls) turns)) new.histories)
           → EachAgrees root (if b then is_in else with_children (with_child is_in command turn.answer) commands (map (reply_of calls) turns)) new.histories
       by true e on = agree
       by false e on =
           let stay = one_stays scope command turn e h.1.is_turn in
           let one = one_persists scope command turn h.1.is_turn in
           on (with_child is_in command turn.answer) (subst (GoesByParents calls.sampler) (sym stay.1) goes) (stay.0 ∙ opened)
-          (one_joins scope root is_in new.histories command turn goes opened (persists_on turn.before.histories turn.behind.histories new.histories one behind) behind agree h.1.is_turn)
+          (one_joins scope root is_in new.histories command turn goes opened (persists_on turn.before.histories turn.after.histories new.histories one after) after agree h.1.is_turn)
 
   -- the spans of names, by histories that they have
   pub contexts_kept : (scope : PlainScope) (old new : Course P S G) (commands : List PlainCommand) (turns : List (Turn P S G)) (were are : NamedSpans)

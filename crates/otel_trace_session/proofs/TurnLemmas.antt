@@ -38,7 +38,7 @@ abbrev said : Option PlainSpan → Answer
 said None = answers.NoSuchSpan
 said (Some found) = if is_some found.recorded then answers.Ok else answers.Ignored
 
--- a history and its span behind an edit
+-- a history and its span after an edit
 edit_found : (edit : Edit) (found : Option SpanHistory) → (said (option_map span_of found) ≡ edit_answer found) × (option_map (edited edit) (option_map span_of found) ≡ option_map span_of (option_map (edited_history edit) found))
 edit_found edit None = (refl, refl)
 edit_found edit (Some (over context limits)) = (refl, refl)
@@ -154,7 +154,7 @@ module _ {P S G : Type 0} (calls : Calls P S G) where
         before = record before { provider = p };
         answer = answer;
         delivered = [];
-        behind = record before { provider = q; histories = with_history before.histories start.span history };
+        after = record before { provider = q; histories = with_history before.histories start.span history };
       })) → TakesTurn (StartTurn calls start) p old answer q new
   starts_free p q old new start answer history free put begins = λ before describes. by before describes (before.histories start.span) refl
     where
@@ -183,7 +183,7 @@ module _ {P S G : Type 0} (calls : Calls P S G) where
       by before describes None e took = absurd (none-some cx (sym (ap (option_map (λ (s : PlainSpan). child_cx s.span_context)) (describes parent ∙ ap (option_map span_of) e)) ∙ sym there))
       by before describes (Some h) e took =
           let same : cx ≡ child_cx (span_of h).span_context = same_Some cx _ (there ∙ ap (option_map (λ (s : PlainSpan). child_cx s.span_context)) (describes parent ∙ ap (option_map span_of) e)) in
-          let turn : Turn P S G = record { before = record before { provider = p }; answer = answer; delivered = took.delivered; behind = record before { provider = q; histories = took.histories } } in
+          let turn : Turn P S G = record { before = record before { provider = p }; answer = answer; delivered = took.delivered; after = record before { provider = q; histories = took.histories } } in
           record {
             delivered = took.delivered;
             histories = took.histories;

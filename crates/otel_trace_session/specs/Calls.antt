@@ -28,6 +28,6 @@ calls_of processor timer queues keeps sampler ids =
 abbrev pub batches_of_first : {P : Type 0} → keeping.Ghosts P → List P → List (List PlainSpanData)
 batches_of_first keeps processors = option_map_or keeps.kept (slice_get processors 0) []
 
--- how many batches the first of these processors lost for want of memory
+-- how many batches the first of these processors lost when memory runs out
 abbrev pub losses_of_first : {P : Type 0} → keeping.Ghosts P → List P → ℕ
 losses_of_first keeps processors = option_map_or keeps.lost (slice_get processors 0) 0

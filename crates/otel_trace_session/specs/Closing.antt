@@ -13,7 +13,7 @@ use Rattle.otel_trace_session.specs.Shown.{has_lost, unshown}
 use Rattle.otel_trace_session.specs.Turns.{SessionState}
 use Rattle.otel_trace_session.specs.declared.session.ClosedSession.{ClosedSession}
 
--- want of memory, unless there is an error already
+-- out of memory, unless there is an error already
 abbrev pub or_no_memory : Result (Unit {0}) OTelSdkError → Result (Unit {0}) OTelSdkError
 or_no_memory (Ok _) = Err errors.OutOfMemory
 or_no_memory (Err error) = Err error

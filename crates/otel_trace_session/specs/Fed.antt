@@ -56,7 +56,7 @@ module _ {P S G : Type 0} (calls : Calls P S G) where
     pub spelled : TextSpells bytes (plain_commands commands) bad_line
     pub ran : Runs calls old commands replies new
 
-  -- a beginning of the commands that a text spells was carried out, and the one behind it was stopped by this error
+  -- a beginning of the commands that a text spells was carried out, and the one after it was stopped by this error
   pub record FeedsSome (error : FeedError) (old : SessionState P S G) (bytes : List ℕ) (replies : List PlainReply)
       (new : SessionState P S G) : Type 0 where
     pub commands : List Command

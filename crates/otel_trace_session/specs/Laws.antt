@@ -17,7 +17,7 @@ use Rattle.otel_trace_session.specs.Fed.{FeedsUpTo}
 use Rattle.otel_trace_session.specs.Forgotten.{HasForgotten, RunsWhole}
 use Rattle.otel_trace_session.specs.OpenSpans.{Describe, Histories}
 use Rattle.otel_trace_session.specs.ProviderTurns.{ShutsIfOpen}
-use Rattle.otel_trace_session.specs.Shown.{EmptiedBehind, Shows, exported_in, session_batches}
+use Rattle.otel_trace_session.specs.Shown.{EmptiedAfter, Shows, exported_in, session_batches}
 use Rattle.otel_trace_session.specs.Traces.{ChildrenAgree, KeepsContexts}
 use Rattle.otel_trace_session.specs.Turns.{Runs, SessionState, TookTurns, delivered_in}
 
@@ -68,11 +68,11 @@ module _ {P S G : Type 0} (calls : Calls P S G) where
       → exported_in replies ++ drop new.shown (batches_of_first calls.keeps closed.processors)
       ≡ drop old.shown (batches_of_first calls.keeps closed.processors)
 
-  -- behind a flush or a shutdown that came last and was answered by Ok no span waits
+  -- after a flush or a shutdown that came last and was answered by Ok no span waits
   abbrev pub FlushesEmpty : Type 0
   FlushesEmpty = (old new : SessionState P S G) (histories : Histories) (commands : List PlainCommand)
       (replies : List PlainReply) → TookTurns calls old histories commands replies new
-      → EmptiedBehind calls.processor commands replies new.provider.processors
+      → EmptiedAfter calls.processor commands replies new.provider.processors
 
   -- what a session carries out that has forgotten batches, it carries out, had it forgotten nothing
   abbrev pub ForgetfulRunsAreWhole : Type 0
@@ -86,7 +86,7 @@ module _ {P S G : Type 0} (calls : Calls P S G) where
       (answer : Result (Unit {0}) OTelSdkError) → HasForgotten calls.keeps whole now
       → Closes calls form now before answer text → Closes calls form whole before answer text
 
-  -- a text, and another that is fed behind it, are one text, where the first one ends as a line does
+  -- a text, and another that is fed after it, are one text, where the first one ends as a line does
   abbrev pub FeedsJoin : Type 0
   FeedsJoin = (old middle new : SessionState P S G) (first second : List ℕ) (bad_line : Option ℕ)
       (replies more : List PlainReply) → IsEmptyOrEndsWith first 10

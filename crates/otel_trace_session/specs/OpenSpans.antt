@@ -54,12 +54,12 @@ with_history old span history = λ q. if is_name q span then Some history else o
 abbrev pub Describe : Histories → NamedSpans → Type 0
 Describe histories spans = (q : List ℕ) → named spans q ≡ option_map span_of (histories q)
 
--- a history behind an edit: one more, where it is not over
+-- a history after an edit: one more, where it is not over
 abbrev pub edited_history : Edit → SpanHistory → SpanHistory
 edited_history edit (over context limits) = over context limits
 edited_history edit (begun from edits) = begun from (edits ++ edit ∷ [])
 
--- histories behind an edit of the span of a name
+-- histories after an edit of the span of a name
 abbrev pub edited_in : Histories → List ℕ → Edit → Histories
 edited_in old span edit = λ q. if is_name q span then option_map (edited_history edit) (old span) else old q
 

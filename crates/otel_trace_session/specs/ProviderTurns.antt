@@ -18,10 +18,10 @@ pub record AsksProvider {P S G : Type 0}
     (Gives : ProviderState P S G → Result (Unit {0}) OTelSdkError → ProviderState P S G → Type 0)
     (turn : Turn P S G) : Type 0 where
   pub said : Result (Unit {0}) OTelSdkError
-  pub gives : Gives turn.before.provider said turn.behind.provider
+  pub gives : Gives turn.before.provider said turn.after.provider
   pub says : turn.answer ≡ call_answer said
   pub delivers : turn.delivered ≡ []
-  pub rest : turn.behind ≡ record turn.before { provider = turn.behind.provider }
+  pub rest : turn.after ≡ record turn.before { provider = turn.after.provider }
 
 -- a shutdown with 5 seconds, where the provider is open; where it is shut this is answered, and nothing happens
 abbrev pub ShutsOr : {P S G : Type 0} → Ghosts P → Result (Unit {0}) OTelSdkError → ProviderState P S G
@@ -44,7 +44,7 @@ empties flush = true
 empties shutdown = true
 empties _ = false
 
--- behind such a command that is answered by Ok no span waits at any of the processors
+-- after such a command that is answered by Ok no span waits at any of the processors
 abbrev pub EmptiesIfOk : {P : Type 0} → Ghosts P → PlainCommand → Answer → List P → Type 0
 EmptiesIfOk processor command answer processors = IsTrue (empties command) → answer ≡ answers.Ok
     → All (λ p. (processor.told p).waiting ≡ 0) processors

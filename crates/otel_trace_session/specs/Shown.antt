@@ -31,23 +31,23 @@ module _ {P S G : Type 0} (keeps : keeping.Ghosts P) where
   abbrev pub has_lost : SessionState P S G → Bool
   has_lost session = not (session_losses session == session.lost_before)
 
-  -- the replies show the batches behind so many, up to those that are shown now
+  -- the replies show the batches after so many, up to those that are shown now
   pub record ShowsFrom (before : ℕ) (replies : List PlainReply) (new : SessionState P S G) : Type 0 where
     pub not_fewer : before ≤ new.shown
     pub no_more_than_kept : new.shown ≤ length (session_batches new)
     pub exported : exported_in replies ≡ drop before (take new.shown (session_batches new))
 
-  -- batches are kept behind those that were kept, the replies show them in order and each once, and behind a reply none
+  -- batches are kept after those that were kept, the replies show them in order and each once, and after a reply none
   -- is left to show
   pub record Shows (old : SessionState P S G) (replies : List PlainReply) (new : SessionState P S G) : Type 0 where
     pub grows : Grows (session_batches old) (session_batches new)
     pub in_order : old.shown ≤ length (session_batches old) → ShowsFrom old.shown replies new
     pub none_left : (replies ≡ []) ⊎ (new.shown ≡ length (session_batches new))
 
--- behind commands, each with its reply, no span waits at any of the processors, where the last of them has each
+-- after commands, each with its reply, no span waits at any of the processors, where the last of them has each
 -- processor hand on all that waits and is answered by Ok
-abbrev pub EmptiedBehind : {P : Type 0} → Ghosts P → List PlainCommand → List PlainReply → List P → Type 0
-EmptiedBehind processor commands replies processors =
+abbrev pub EmptiedAfter : {P : Type 0} → Ghosts P → List PlainCommand → List PlainReply → List P → Type 0
+EmptiedAfter processor commands replies processors =
     (before : List PlainCommand) (last : PlainCommand) (others : List PlainReply) (reply : PlainReply)
     → commands ≡ before ++ last ∷ [] → replies ≡ others ++ reply ∷ []
     → EmptiesIfOk processor last reply.answer processors

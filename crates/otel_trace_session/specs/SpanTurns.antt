@@ -41,22 +41,22 @@ module _ {P S G : Type 0} (calls : Calls P S G) where
   pub record BeginsHistory (start : Start) (turn : Turn P S G) : Type 0 where
     pub history : SpanHistory
     pub starts : Starts calls.processor calls.sampler calls.ids turn.before.provider (request_of start) history
-        turn.behind.provider
-    pub told : map calls.processor.told turn.behind.provider.processors
+        turn.after.provider
+    pub told : map calls.processor.told turn.after.provider.processors
         ≡ map calls.processor.told turn.before.provider.processors
     pub says : turn.answer ≡ start_answer (span_of history)
     pub delivers : turn.delivered ≡ []
-    pub histories : turn.behind.histories ≡ with_history turn.before.histories start.span history
-    pub shown : turn.behind.shown ≡ turn.before.shown
+    pub histories : turn.after.histories ≡ with_history turn.before.histories start.span history
+    pub shown : turn.after.shown ≡ turn.before.shown
 
   -- a start, by the history that its name has: it is given one once
-  abbrev pub StartsBehind : Option SpanHistory → Start → Turn P S G → Type 0
-  StartsBehind (Some _) start turn = OnlyAnswers answers.SpanExists turn
-  StartsBehind None start turn = BeginsHistory start turn
+  abbrev pub StartsAfter : Option SpanHistory → Start → Turn P S G → Type 0
+  StartsAfter (Some _) start turn = OnlyAnswers answers.SpanExists turn
+  StartsAfter None start turn = BeginsHistory start turn
 
   -- a start
   abbrev pub StartTurn : Start → Turn P S G → Type 0
-  StartTurn start turn = StartsBehind (turn.before.histories start.span) start turn
+  StartTurn start turn = StartsAfter (turn.before.histories start.span) start turn
 
   -- a start as a child, by the history of its parent: in a context where that is active
   abbrev pub ChildTurn : Start → Option SpanHistory → Turn P S G → Type 0
@@ -79,20 +79,20 @@ EditTurn span edit turn =
 pub record InjectTurn {P S G : Type 0} (span : List ℕ) (turn : Turn P S G) : Type 0 where
   pub says : AnswersInject (turn.before.histories span) turn.answer
   pub delivers : turn.delivered ≡ []
-  pub rest : turn.behind ≡ turn.before
+  pub rest : turn.after ≡ turn.before
 
 module _ {P S G : Type 0} (processor : Ghosts P) where
   -- the history of a name is over, and this data of it is delivered, unless the provider is shut
   pub record EndsHistory (span : List ℕ) (from : SpanStart) (ended : PlainSpanData) (turn : Turn P S G) : Type 0 where
     pub refused : ℕ
     pub delivered : Delivers processor turn.before.provider.is_shut ended turn.before.provider.processors
-        turn.behind.provider.processors refused
+        turn.after.provider.processors refused
     pub says : turn.answer ≡ answers.Ended refused
     pub delivers : turn.delivered ≡ end_delivers turn.before.provider.is_shut ended refused
-    pub provider : turn.behind.provider ≡ record turn.before.provider { processors = turn.behind.provider.processors }
-    pub histories : turn.behind.histories
+    pub provider : turn.after.provider ≡ record turn.before.provider { processors = turn.after.provider.processors }
+    pub histories : turn.after.histories
         ≡ with_history turn.before.histories span (over from.span_context from.limits)
-    pub shown : turn.behind.shown ≡ turn.before.shown
+    pub shown : turn.after.shown ≡ turn.before.shown
 
   -- an end, by the history that the name has
   abbrev pub EndTurn : List ℕ → ℕ → Option SpanHistory → Turn P S G → Type 0

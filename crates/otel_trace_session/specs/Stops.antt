@@ -81,7 +81,7 @@ module _ {P S G : Type 0} (calls : Calls P S G) where
     pub rest : new ≡ record old { provider = new.provider; spans = new.spans }
     pub keeps_batches : Grows (session_batches calls.keeps old) (session_batches calls.keeps new)
 
-  -- a beginning of the commands was carried out, each with its reply, and the one behind it has none
+  -- a beginning of the commands was carried out, each with its reply, and the one after it has none
   pub record RunsBeginning (Why : SessionState P S G → Command → SessionState P S G → Type 0)
       (old : SessionState P S G) (commands : List Command) (replies : List PlainReply)
       (new : SessionState P S G) : Type 0 where

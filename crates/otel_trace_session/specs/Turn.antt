@@ -17,18 +17,18 @@ pub record Turn (P S G : Type 0) : Type 0 where
   pub before : Course P S G
   pub answer : Answer
   pub delivered : List Delivery
-  pub behind : Course P S G
+  pub after : Course P S G
 
 -- a turn, from what it has
 abbrev pub turn_of : {P S G : Type 0} → Course P S G → Answer → List Delivery → Course P S G → Turn P S G
-turn_of before answer delivered behind =
-    record { before = before; answer = answer; delivered = delivered; behind = behind }
+turn_of before answer delivered after =
+    record { before = before; answer = answer; delivered = delivered; after = after }
 
 -- a turn in which no one was asked: it has this answer, and leaves these histories
 pub record AsksNobody {P S G : Type 0} (said : Answer) (histories : Histories) (turn : Turn P S G) : Type 0 where
   pub says : turn.answer ≡ said
   pub delivers : turn.delivered ≡ []
-  pub rest : turn.behind ≡ record turn.before { histories = histories }
+  pub rest : turn.after ≡ record turn.before { histories = histories }
 
 -- a turn that has this answer and changes nothing
 abbrev pub OnlyAnswers : {P S G : Type 0} → Answer → Turn P S G → Type 0

@@ -65,14 +65,14 @@ module _ {P S G : Type 0} (calls : Calls P S G) where
   IsTurn scope (run moment) turn = AsksProvider (RunsDue calls.processor calls.timer moment) turn
   IsTurn scope shutdown turn = AsksProvider (Shuts calls.processor) turn
 
-  -- a command was carried out in a turn: each processor follows what it delivered, and batches came only behind those
+  -- a command was carried out in a turn: each processor follows what it delivered, and batches came only after those
   -- that the first one keeps
   pub record IsCarriedOut (scope : PlainScope) (command : PlainCommand) (turn : Turn P S G) : Type 0 where
     pub is_turn : IsTurn scope command turn
     pub follows : EachFollows calls.processor turn.delivered turn.before.provider.processors
-        turn.behind.provider.processors
+        turn.after.provider.processors
     pub grows : Grows (batches_of_first calls.keeps turn.before.provider.processors)
-        (batches_of_first calls.keeps turn.behind.provider.processors)
+        (batches_of_first calls.keeps turn.after.provider.processors)
 
   -- a command lost no batch from processors to processors, but at a flush, a run or a shutdown
   abbrev pub LosesNone : PlainCommand → List P → List P → Type 0
@@ -82,22 +82,22 @@ module _ {P S G : Type 0} (calls : Calls P S G) where
   -- the reply of a turn: its answer, and the batches that no reply before it has shown
   abbrev pub reply_of : Turn P S G → PlainReply
   reply_of turn = record {
-    exported = drop turn.before.shown (batches_of_first calls.keeps turn.behind.provider.processors);
+    exported = drop turn.before.shown (batches_of_first calls.keeps turn.after.provider.processors);
     answer = turn.answer;
   }
 
-  -- where a session stands behind a reply: it has shown all batches
+  -- where a session stands after a reply: it has shown all batches
   abbrev pub replied : Course P S G → Course P S G
   replied course = record course { shown = length (batches_of_first calls.keeps course.provider.processors) }
 
-  -- commands were carried out in turns, each from where the one before it stands behind its reply
+  -- commands were carried out in turns, each from where the one before it stands after its reply
   abbrev pub AreTurns : PlainScope → Course P S G → List PlainCommand → List (Turn P S G) → Course P S G → Type 0
   AreTurns scope old [] [] new = new ≡ old
   AreTurns scope old [] (turn ∷ turns) new = ⊥
   AreTurns scope old (command ∷ commands) [] new = ⊥
   AreTurns scope old (command ∷ commands) (turn ∷ turns) new = (turn.before ≡ old) × IsCarriedOut scope command turn
-      × LosesNone command turn.before.provider.processors turn.behind.provider.processors
-      × AreTurns scope (replied turn.behind) commands turns new
+      × LosesNone command turn.before.provider.processors turn.after.provider.processors
+      × AreTurns scope (replied turn.after) commands turns new
 
   -- commands were carried out from a session whose spans had these histories, each in a turn that its reply tells
   pub record TookTurns (old : SessionState P S G) (histories : Histories) (commands : List PlainCommand)

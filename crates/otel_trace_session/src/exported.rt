@@ -5,7 +5,7 @@ ghost use Rattle.std.specs.Prelude.{◌≡◌, IfOk, drop, map};
 use otel_export::trace::SpanData;
 use std::alloc::{AllocError, Global};
 
-/// The batches behind those that were shown.
+/// The batches after those that were shown.
 pub(crate) fn batches_since(batches: &[Vec<SpanData>], shown: usize) -> &[Vec<SpanData>]
     ensures { result.now ≡ drop shown batches.now }
 {

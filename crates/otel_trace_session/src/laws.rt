@@ -26,7 +26,7 @@ pub fn runs_join<P: KeepsBatches, S: ShouldSample, G: GivesIds>()
 {}
 
 /// Each processor follows all that was delivered, in order; and one that was open hears all of it, also where commands
-/// shut it down, since nothing is delivered behind that.
+/// shut it down, since nothing is delivered after that.
 pub fn runs_are_heard<P: KeepsBatches, S: ShouldSample, G: GivesIds>()
     ensures follows { RunsAreFollowed
         (calls_of P.SpanProcessor P.DrainDue.own P.LeavesSpans.own P.KeepsBatches.own S.ShouldSample G.GivesIds) }
@@ -58,7 +58,7 @@ pub fn closes_show_the_rest<P: KeepsBatches, S: ShouldSample, G: GivesIds>()
         (calls_of P.SpanProcessor P.DrainDue.own P.LeavesSpans.own P.KeepsBatches.own S.ShouldSample G.GivesIds) }
 {}
 
-/// Behind a flush or a shutdown that came last and was answered by Ok no span waits.
+/// After a flush or a shutdown that came last and was answered by Ok no span waits.
 pub fn flushed_runs_leave_none_waiting<P: KeepsBatches, S: ShouldSample, G: GivesIds>()
     ensures { FlushesEmpty
         (calls_of P.SpanProcessor P.DrainDue.own P.LeavesSpans.own P.KeepsBatches.own S.ShouldSample G.GivesIds) }

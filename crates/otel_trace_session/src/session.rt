@@ -202,7 +202,7 @@ impl<P: KeepsBatches, S: ShouldSample, G: GivesIds> Session<P, S, G> {
     }
 
     /// Carries commands out in order and appends a reply for each. On an error a beginning of the commands was carried
-    /// out, each with its reply; the one behind it has none, and the error says why. A processor that refused a span is
+    /// out, each with its reply; the one after it has none, and the error says why. A processor that refused a span is
     /// counted in the reply.
     pub fn run(&mut self, commands: Vec<Command>, replies: &mut Vec<Reply>) -> Result<(), RunError>
         ensures ok { OnOk result (Gains replies.old.items replies.new.items (λ added. Runs
@@ -234,8 +234,8 @@ impl<P: KeepsBatches, S: ShouldSample, G: GivesIds> Session<P, S, G> {
 
     /// Carries out the commands that the lines of a text spell, up to the first line that is none, and appends the text
     /// of each reply. `Line` names the first bad line, from 1 and with empty lines counted. On another error the output
-    /// has the replies of a beginning of the commands; behind `Refused` and `BatchLost`, which no text tells, one more
-    /// was carried out, and behind `Memory` at most one. What that one exported is left for the next reply.
+    /// has the replies of a beginning of the commands; after `Refused` and `BatchLost`, which no text tells, one more
+    /// was carried out, and after `Memory` at most one. What that one exported is left for the next reply.
     pub fn feed(&mut self, text: &[u8], output: &mut Vec<u8>) -> Result<(), FeedError>
         ensures { Writes reply_lines output.old.items output.new.items (λ replies. Feeds
             (calls_of P.SpanProcessor P.DrainDue.own P.LeavesSpans.own P.KeepsBatches.own S.ShouldSample G.GivesIds)
@@ -306,7 +306,7 @@ impl<P: KeepsBatches, S: ShouldSample, G: GivesIds> Session<P, S, G> {
         }
     }
 
-    /// Carries commands out in order, and appends each reply before the next command. It stops behind a command whose
+    /// Carries commands out in order, and appends each reply before the next command. It stops after a command whose
     /// answer counts a refusal, or whose reply finds no memory.
     fn run_and_write<F: ReplyForm>(
         &mut self,
@@ -462,7 +462,7 @@ fn lost_by_first<P: KeepsBatches>(processors: &[P]) -> u64
     }
 }
 
-/// The batches that the first of these processors keeps behind those that were shown.
+/// The batches that the first of these processors keeps after those that were shown.
 fn unshown_by_first<P: KeepsBatches>(processors: &[P], shown: usize) -> &[Vec<SpanData>]
     ensures { map (λ batch. batch.items) result.now
         ≡ drop shown (batches_of_first P.KeepsBatches.own processors.now) }

@@ -10,7 +10,7 @@ use Rattle.otel_trace_lines.proofs.JoinedLines.{lines_joined}
 use Rattle.otel_trace_steps.specs.StepAnswers.{AnswersBeginning, AnswersLines, BeginsAnswers, ObeysEach}
 use Rattle.otel_trace_steps.proofs.StepFollowing.{obeys_append}
 
--- lines behind others are counted on
+-- lines after others are counted on
 counted_on : (m after : Machine StoredBatches) (before number : ℕ) (all : List (List ℕ)) (bad_line : Option ℕ) (answers : List ℕ) → ObeysEach m number all bad_line answers after
     → ObeysEach m (before + number) all (option_map (λ n. before + n) bad_line) answers after
 counted_on m after before number [] bad_line answers h = (ap (option_map (λ n. before + n)) h.0, h.1, h.2)
@@ -42,18 +42,18 @@ counted_on m after before number ((b ∷ bytes) ∷ more) bad_line answers (inr 
 each_joined : (m middle after : Machine StoredBatches) (first second : List (List ℕ)) (bad_line : Option ℕ) (answers more : List ℕ) → ObeysEach m 0 first None answers middle → ObeysEach middle 0 second bad_line more after
     → ObeysEach m 0 (first ++ second) (option_map (λ n. length first + n) bad_line) (answers ++ more) after
 each_joined m middle after first second bad_line answers more h k =
-    let behind : length first + 0 ≡ 0 + length first = omega arith in
+    let later : length first + 0 ≡ 0 + length first = omega arith in
     obeys_append m middle after 0 first second (option_map (λ n. length first + n) bad_line) answers more h
-    (subst (λ (n : ℕ). ObeysEach middle n second (option_map (λ n. length first + n) bad_line) more after) behind (counted_on middle after (length first) 0 second bad_line more k))
+    (subst (λ (n : ℕ). ObeysEach middle n second (option_map (λ n. length first + n) bad_line) more after) later (counted_on middle after (length first) 0 second bad_line more k))
 
--- a text with no bad line, and another behind its end
+-- a text with no bad line, and another after its end
 pub answers_joined : (m middle after : Machine StoredBatches) (first second : List ℕ) (bad_line : Option ℕ) (answers more : List ℕ) → IsEmptyOrEndsWith first 10 → AnswersLines m first None answers middle → AnswersLines middle second bad_line more after
     → AnswersLines m (first ++ second) (option_map (λ n. length (lines first) + n) bad_line) (answers ++ more) after
 answers_joined m middle after first second bad_line answers more ends h k =
     subst (λ (all : List (List ℕ)). ObeysEach m 0 all (option_map (λ n. length (lines first) + n) bad_line) (answers ++ more) after) (sym (lines_joined first second ends))
     (each_joined m middle after (lines first) (lines second) bad_line answers more h k)
 
--- what stands behind a bad line is not read
+-- what stands after a bad line is not read
 bad_before : (m after : Machine StoredBatches) (number : ℕ) (first second : List (List ℕ)) (line : ℕ) (answers : List ℕ) → ObeysEach m number first (Some line) answers after → ObeysEach m number (first ++ second) (Some line) answers after
 bad_before m after number [] second line answers h = let none : Some line ≡ None = h.0 in let never : ⊥ = cc in absurd never
 bad_before m after number ([] ∷ first) second line answers h = bad_before m after (number + 1) first second line answers h
@@ -98,7 +98,7 @@ obeyed_front m after number ((b ∷ bytes) ∷ more) bad_line answers (inr h) =
       }),
     )
 
--- a text whose lines were followed begins to be answered, whatever stands behind it
+-- a text whose lines were followed begins to be answered, whatever stands after it
 pub answers_begin : (m after : Machine StoredBatches) (text : List ℕ) (bad_line : Option ℕ) (answers : List ℕ) → AnswersLines m text bad_line answers after → BeginsAnswers m text answers
 answers_begin m after text bad_line answers h =
     let front = obeyed_front m after 0 (lines text) bad_line answers h in
@@ -108,7 +108,7 @@ answers_begin m after text bad_line answers h =
 pub beginning_begins : (m after : Machine StoredBatches) (text answers : List ℕ) → AnswersBeginning m text answers after → BeginsAnswers m text answers
 beginning_begins m after text answers h = record { done = h.done; left = h.last ∷ h.left; after = h.middle; parts = h.parts; obeyed = h.obeyed }
 
--- a text behind one whose lines were followed
+-- a text after one whose lines were followed
 pub begins_joined : (m middle : Machine StoredBatches) (first second answers more : List ℕ) → IsEmptyOrEndsWith first 10 → AnswersLines m first None answers middle → BeginsAnswers middle second more
     → BeginsAnswers m (first ++ second) (answers ++ more)
 begins_joined m middle first second answers more ends h k = record {

@@ -15,7 +15,7 @@ pub number_is_field : (digits : List ℕ) (n : ℕ) → IsMoment digits n → Is
 number_is_field digits n h =
     (h.0.0, All-from_get_or (λ b. b ≢ 32) digits 0 (not_in_digits (numerals_by_value (AllDigits 10) tells_digits) digits 32 h.0.1 (λ r. omega (arith, r.0))))
 
--- where a number stands behind the word, and a name behind that
+-- where a number stands after the word, and a name after that
 reads_name : (word fields digits name : List ℕ) → IsField digits → fields ≡ digits ++ 32 ∷ name → (order : Order) → (TakesName word digits name order → ⊥) → TakesFields word fields order → ⊥
 reads_name word fields digits name is e order none (inl t) = no_last_field fields fields digits name (number_is_field fields t.0 t.1) refl e
 reads_name word fields digits name is e order none (inr t) =

@@ -74,7 +74,7 @@ TakesProducer word digits order = (p : ℕ) × IsMoment digits p × IsOfProducer
 abbrev pub TakesName : List ℕ → List ℕ → List ℕ → Order → Type 0
 TakesName word digits name order = (p : ℕ) × IsMoment digits p × IsField name × IsOffer word p name order
 
--- a word and what stands behind its space
+-- a word and what stands after its space
 abbrev pub TakesFields : List ℕ → List ℕ → Order → Type 0
 TakesFields word fields order = TakesProducer word fields order
     ⊎ ((digits name : List ℕ) × (fields ≡ digits ++ 32 ∷ name) × TakesName word digits name order)

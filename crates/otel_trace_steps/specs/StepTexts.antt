@@ -23,7 +23,7 @@ name_of (Some span) = span.name
 abbrev pub pulled_name : List PlainSpanData → List ℕ
 pulled_name hand = name_of (slice_get hand (length hand - 1))
 
--- what answers a step, where these spans are in hand behind it
+-- what answers a step, where these spans are in hand after it
 abbrev pub outcome_text : List PlainSpanData → Outcome → List ℕ
 outcome_text hand outcomes.Skipped = codes "skipped"
 outcome_text hand (outcomes.Counted n) = codes "counted " ++ decimal n
@@ -56,7 +56,7 @@ outcome_text hand (outcomes.Finished (Some error)) = codes "finished " ++ error_
 outcome_text hand (outcomes.ShutDown count) = codes "shut down " ++ decimal count
 outcome_text hand outcomes.NotEnabled = codes "not enabled"
 
--- the batches that an exporter kept, each behind a space, or a dash
+-- the batches that an exporter kept, each after a space, or a dash
 abbrev pub told_text : List (List PlainSpanData) → List ℕ
 told_text [] = codes " -"
 told_text (batch ∷ more) = flat_map (λ spans. 32 ∷ names_text spans) (batch ∷ more)

@@ -7,8 +7,8 @@ ghost use Rattle.otel_batch.specs.MachineState.{Machine};
 ghost use Rattle.otel_export.specs.StoredBatches.{StoredBatches};
 ghost use Rattle.otel_trace_steps.specs.StepAnswers.{AnswersLines, BeginsAnswers};
 
-/// A text that is cut behind a line feed does what its two parts do, one behind the other, with its lines counted
-/// through. Behind a bad line it may go on as it will.
+/// A text that is cut after a line feed does what its two parts do, one after the other, with its lines counted
+/// through. After a bad line it may go on as it will.
 pub fn answers_join()
     ensures joined { (m middle after : Machine StoredBatches) (first second : List ℕ) (bad_line : Option ℕ)
         (answers more : List ℕ) → IsEmptyOrEndsWith first 10

@@ -66,8 +66,8 @@ pub fn answer_lines(
     let mut answer = String::new(alloc);
     let mut number: u64 = 0;
     let mut rest = text;
-    while let Some((line, behind)) = first_line(rest) {
-        rest = behind;
+    while let Some((line, after)) = first_line(rest) {
+        rest = after;
         number += 1;
         if line.is_empty() {
             continue;

@@ -56,7 +56,7 @@ impl ListItem for String {
     }
 }
 
-/// Writes the item at an index: behind a comma where others stand before it.
+/// Writes the item at an index: after a comma where others stand before it.
 fn write_at<T: ListItem, W: fmt::Write>(
     index: usize,
     item: &T,

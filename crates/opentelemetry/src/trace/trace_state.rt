@@ -18,7 +18,7 @@ use std::marker::Model;
 use std::sync::Arc;
 use thiserror::Error;
 
-/// Why a trace state was not made. A bad form is named before want of memory; of several bad members the first is
+/// Why a trace state was not made. A bad form is named before out of memory; of several bad members the first is
 /// named, and of a bad pair the key.
 #[derive(Clone, Copy, Debug, PartialEq, Eq, Error)]
 pub enum TraceStateError {

@@ -28,7 +28,7 @@ use std::marker::Model;
 use std::time::Duration;
 
 /// Queues each sampled span until its worker hands it to the exporter in a batch, and drops it where the queue is full.
-/// Behind a shutdown that was completed it takes and exports nothing.
+/// After a shutdown that was completed it takes and exports nothing.
 #[derive(Drop)]
 pub struct BatchSpanProcessor<E> {
     machine: BatchMachine<E>,
@@ -173,7 +173,7 @@ impl<E: SpanExporter> BatchSpanProcessor<E> {
 
     /// The worker works until it has nothing to do: it hands over what was asked for, and passes resources on. Spans
     /// below a full batch go on waiting. The answer is the exporter's first error in the last drain, or `OutOfMemory`
-    /// where that found no memory for a batch, Ok where nothing was drained, and `AlreadyShutdown` behind a completed
+    /// where that found no memory for a batch, Ok where nothing was drained, and `AlreadyShutdown` after a completed
     /// shutdown.
     pub fn run_worker(&mut self) -> OTelSdkResult
         ensures gives { RunsWorker E.SpanExporter self.old result self.new }

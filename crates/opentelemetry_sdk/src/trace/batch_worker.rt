@@ -47,7 +47,7 @@ pub(crate) fn post_resource<E: SpanExporter>(machine: &mut BatchMachine<E>, reso
     let _ = machine.step(Step::PostResource(resource));
 }
 
-/// A flush or a shutdown is carried out. `AlreadyShutdown` behind a completed shutdown, and an `InternalFailure` where
+/// A flush or a shutdown is carried out. `AlreadyShutdown` after a completed shutdown, and an `InternalFailure` where
 /// the control queue is full, change nothing.
 pub(crate) fn make_request<E: SpanExporter>(
     machine: &mut BatchMachine<E>,
@@ -206,7 +206,7 @@ fn work_on<E: SpanExporter>(
     }
 }
 
-/// The last drain's answer behind one more step.
+/// The last drain's answer after one more step.
 fn answer_after(answer: OTelSdkResult, outcome: Outcome) -> OTelSdkResult
     ensures { result_err result ≡ last_error (result_err answer) (outcome ∷ []) }
 {

@@ -206,21 +206,21 @@ impl<E: StoresBatches, C: SpanProcessor> KeepsBatches for ProcessorOf<E, C> {
 
     ghost recalls = { record {
       starts = λ bs span cx edited. processor_recalls E.recalled bs _ _ _
-          (λ a b e behind h. let g = simple_same E.SpanExporter E.recalls bs a b e behind h.0 in (g.0, g.1, (g.2, h.1)))
-          (λ a b e behind h. let g = batch_same E.SpanExporter E.recalls bs a b e behind h.0 in (g.0, g.1, (g.2, h.1)));
+          (λ a b e after h. let g = simple_same E.SpanExporter E.recalls bs a b e after h.0 in (g.0, g.1, (g.2, h.1)))
+          (λ a b e after h. let g = batch_same E.SpanExporter E.recalls bs a b e after h.0 in (g.0, g.1, (g.2, h.1)));
       ends = λ bs span answer. processor_recalls E.recalled bs _ _ _
-          (λ a b e behind h. simple_ends_over E.SpanExporter E.recalls bs span answer a b e behind h)
-          (λ a b e behind h. ends_over E.SpanExporter E.recalls bs span answer a b e behind h);
+          (λ a b e after h. simple_ends_over E.SpanExporter E.recalls bs span answer a b e after h)
+          (λ a b e after h. ends_over E.SpanExporter E.recalls bs span answer a b e after h);
       flushes = λ bs answer. processor_recalls E.recalled bs _ _ _
-          (λ a b e behind h. let g = simple_same E.SpanExporter E.recalls bs a b e behind h.1 in (g.0, g.1, (h.0, g.2)))
-          (λ a b e behind h. asks_over E.SpanExporter E.recalls bs request.Flush answer a b e behind h);
+          (λ a b e after h. let g = simple_same E.SpanExporter E.recalls bs a b e after h.1 in (g.0, g.1, (h.0, g.2)))
+          (λ a b e after h. asks_over E.SpanExporter E.recalls bs request.Flush answer a b e after h);
       shuts = λ bs timeout answer. processor_recalls E.recalled bs _ _ _
-          (λ a b e behind h. simple_shuts_over E.SpanExporter E.recalls bs timeout answer a b e behind h)
-          (λ a b e behind h. asks_over E.SpanExporter E.recalls bs request.Shutdown answer a b e behind h);
+          (λ a b e after h. simple_shuts_over E.SpanExporter E.recalls bs timeout answer a b e after h)
+          (λ a b e after h. asks_over E.SpanExporter E.recalls bs request.Shutdown answer a b e after h);
       runs = λ bs now answer. processor_recalls E.recalled bs _ _ _
-          (λ a b e behind h. let g = simple_same E.SpanExporter E.recalls bs a b e behind h.rest in
+          (λ a b e after h. let g = simple_same E.SpanExporter E.recalls bs a b e after h.rest in
           (g.0, g.1, record { ok = h.ok; rest = g.2 }))
-          (λ a b e behind h. due_over E.SpanExporter E.recalls bs now answer a b e behind h);
+          (λ a b e after h. due_over E.SpanExporter E.recalls bs now answer a b e after h);
       told = λ bs p r h. processor_heard E.SpanExporter E.recalls C.told bs p r h;
       kept = λ bs p r h. processor_kept E.SpanExporter E.recalls bs p r h;
       lost = λ bs p r h. processor_lost E.SpanExporter E.recalls bs p r h;

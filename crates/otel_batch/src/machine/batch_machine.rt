@@ -227,7 +227,7 @@ impl<E: SpanExporter> BatchMachine<E> {
         steps: Vec<Step>,
         outcomes: &mut Vec<Outcome>,
     ) -> Result<(), AllocFailed<Vec<Step>>>
-        // The outcomes of these steps go behind those that were there; all that holds of them is a field of `RunsTo`.
+        // The outcomes of these steps go after those that were there; all that holds of them is a field of `RunsTo`.
         ensures ok { OnOk result ((os : List Outcome)
             × (outcomes.new.items ≡ outcomes.old.items ++ os)
             × RunsTo E.SpanExporter self.old steps.items os self.new) }

@@ -40,10 +40,10 @@ impl<T> Model for SpanQueue<T> {
     ghost invariant = { λ q. IsQueueTo q.chunks.items q.head q.tail q.len q.limit };
 }
 
-/// The place that lies some steps behind another one, in a circle of `count` places. It is out of line, since few puts
+/// The place that lies some steps after another one, in a circle of `count` places. It is out of line, since few puts
 /// and takings go on to the next chunk.
 #[inline(never)]
-fn place_behind(from: usize, steps: usize, count: usize) -> usize
+fn place_after(from: usize, steps: usize, count: usize) -> usize
     requires { (from < count) × (steps ≤ count) × (count < 2 ^ 63) }
     ensures { Wraps from steps count result }
 {
@@ -51,13 +51,13 @@ fn place_behind(from: usize, steps: usize, count: usize) -> usize
     if place < count { place } else { place - count }
 }
 
-/// The place of the chunk with the oldest item: the head's, and where that is empty the one behind it.
+/// The place of the chunk with the oldest item: the head's, and where that is empty the one after it.
 fn place_to_take<T>(chunks: &[HeapCircularBuffer<T>], head: usize) -> usize
     requires { (head < length chunks.now) × (length chunks.now < 2 ^ 63) }
     ensures { TakesAt chunks.now head result }
 {
     if chunks[head].is_empty() {
-        place_behind(head, 1, chunks.len())
+        place_after(head, 1, chunks.len())
     } else {
         head
     }
@@ -137,7 +137,7 @@ impl<T: Drop> SpanQueue<T> {
             return self.chunks[self.head].get(index);
         }
         let rest = index - in_head;
-        let place = place_behind(self.head, rest / CHUNK_LEN + 1, self.chunks.len());
+        let place = place_after(self.head, rest / CHUNK_LEN + 1, self.chunks.len());
         self.chunks[place].get(rest % CHUNK_LEN)
     }
 
@@ -151,7 +151,7 @@ impl<T: Drop> SpanQueue<T> {
         if self.len >= self.limit {
             return Err(item);
         }
-        // A full tail chunk hands the item back, and the one behind it becomes the tail.
+        // A full tail chunk hands the item back, and the one after it becomes the tail.
         let item = match self.chunks[self.tail].try_push_back(item) {
             Ok(()) => {
                 self.len += 1;
@@ -159,7 +159,7 @@ impl<T: Drop> SpanQueue<T> {
             }
             Err(item) => item,
         };
-        let next = place_behind(self.tail, 1, self.chunks.len());
+        let next = place_after(self.tail, 1, self.chunks.len());
         let Ok(()) = self.chunks[next].try_push_back(item) else {
             unreachable!();
         };
@@ -185,7 +185,7 @@ impl<T: Drop> SpanQueue<T> {
         Some(item)
     }
 
-    /// Moves so many of the oldest items, or all where there are fewer, behind those of a list that has room for them.
+    /// Moves so many of the oldest items, or all where there are fewer, after those of a list that has room for them.
     pub fn pop_into(&mut self, items: &mut Vec<T>, count: usize)
         requires { vec_len items.old + count ≤ vec_capacity items.old }
         ensures items { items.new.items ≡ items.old.items ++ take count self.old.items }

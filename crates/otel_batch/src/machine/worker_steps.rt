@@ -215,7 +215,7 @@ impl<E: SpanExporter> BatchMachine<E> {
     }
 }
 
-/// What a drain answers so far, behind one more answer: the first error stays.
+/// What a drain answers so far, after one more answer: the first error stays.
 fn keep_failure(so_far: &mut OTelSdkResult, answer: OTelSdkResult)
     ensures { so_far.new ≡ first_failure so_far.old answer }
 {

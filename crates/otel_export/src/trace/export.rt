@@ -37,7 +37,7 @@ pub trait SpanExporter: Drop {
     ghost resource_gives: { Self → PlainResource → Self → Type 0 } = { λ _ _ _. Unit {0} };
 
     /// Takes a batch over. It ends the telling, or appends the batch to it. An exporter may answer `OutOfMemory` for
-    /// want of memory, `AlreadyShutdown` behind a shutdown, `Timeout` where it took too long, and otherwise
+    /// out of memory, `AlreadyShutdown` after a shutdown, `Timeout` where it took too long, and otherwise
     /// `InternalFailure` with its reason.
     fn export(&mut self, batch: Vec<SpanData>) -> OTelSdkResult
         ensures told { Tells (told self.old) (batch.items ∷ []) (told self.new) }

@@ -86,7 +86,7 @@ impl SpanExporter for InMemorySpanExporter {
         }
     }
 
-    /// It goes on taking batches, which can be read behind a shutdown too.
+    /// It goes on taking batches, which can be read after a shutdown too.
     fn shutdown_with_timeout(&mut self, _timeout: Duration) -> OTelSdkResult {
         Ok(())
     }

@@ -40,7 +40,7 @@ impl<C: SpanExporter> StoresBatches for ExporterOf<InMemorySpanExporter, C> {
     ghost use Rattle.otel_export.specs.KeptBatches.{exporter_appends, exporter_keeps, exporter_loses};
     ghost use Rattle.otel_export.specs.KeptBatches.{exporter_passes, exporter_shuts};
     ghost use Rattle.otel_export.specs.RecalledBatches.{exporter_recalled, exporter_recalls, memory_exports};
-    ghost use Rattle.otel_export.specs.RecalledBatches.{memory_stays, stored_behind};
+    ghost use Rattle.otel_export.specs.RecalledBatches.{memory_stays, stored_after};
     ghost use Rattle.otel_export.specs.RecalledKinds.{more_recalled, none_recalled, recalled_keeps, recalled_loses};
     ghost use Rattle.otel_export.specs.RecalledKinds.{recalled_once, recalled_tells};
 
@@ -60,11 +60,11 @@ impl<C: SpanExporter> StoresBatches for ExporterOf<InMemorySpanExporter, C> {
 
     ghost recalls = { record {
       exports = λ bs batch answer. exporter_recalls bs _ _
-          (λ m r n behind stored. memory_exports bs batch answer m r n behind stored);
+          (λ m r n after stored. memory_exports bs batch answer m r n after stored);
       shuts = λ bs timeout answer. exporter_recalls bs _ _
-          (λ m r n behind h. (r, memory_stays bs m r n behind h.1, (h.0, refl)));
+          (λ m r n after h. (r, memory_stays bs m r n after h.1, (h.0, refl)));
       passes = λ bs resource. exporter_recalls bs _ _
-          (λ m r n behind h. (r, memory_stays bs m r n behind h, refl));
+          (λ m r n after h. (r, memory_stays bs m r n after h, refl));
       told = λ bs e r h. recalled_tells C.told bs e r h;
       kept = λ bs e r h. recalled_keeps bs e r h;
       lost = λ bs e r h. recalled_loses bs e r h;

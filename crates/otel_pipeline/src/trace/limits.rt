@@ -47,7 +47,7 @@ pub(crate) fn push_within<T: Drop>(
     Ok(())
 }
 
-/// Adds attributes behind those that are there as far as there is room under the limit, and drops the others, which are
+/// Adds attributes after those that are there as far as there is room under the limit, and drops the others, which are
 /// counted beside those that were dropped before. Of those that are kept the texts are cut.
 pub(crate) fn append_within(
     attributes: &mut Vec<KeyValue>,
@@ -63,7 +63,7 @@ pub(crate) fn append_within(
     ensures full { limits.now.max_attributes_per_span ≤ length attributes.old.items → IsOk result }
     ensures none { added.items ≡ [] → IsOk result }
 {
-    let room = room_behind(attributes, limits.max_attributes_per_span);
+    let room = room_after(attributes, limits.max_attributes_per_span);
     let left_out = cut(&mut added, room);
     cut_each_attribute(&mut added, limits);
     if !added.is_empty() {
@@ -73,8 +73,8 @@ pub(crate) fn append_within(
     Ok(())
 }
 
-/// How many items find room behind these under a limit.
-fn room_behind<T>(items: &[T], limit: u32) -> u32
+/// How many items find room after these under a limit.
+fn room_after<T>(items: &[T], limit: u32) -> u32
     ensures { result ≡ limit - length items.now }
 {
     limit.saturating_sub(u32::try_from(items.len()).unwrap_or(u32::MAX))
@@ -125,9 +125,9 @@ fn joined_within<T: Drop>(
     }
     let left_out = cut(&mut front, limit);
     let room = limit.saturating_sub(front.len() as u32);
-    let left_out_behind = cut(&mut back, room);
+    let left_out_after = cut(&mut back, room);
     front.append(&mut back)?;
-    Ok((front, left_out.saturating_add(left_out_behind)))
+    Ok((front, left_out.saturating_add(left_out_after)))
 }
 
 /// Cuts an event's own attributes and their texts; its count becomes how many attributes were cut.

@@ -1,4 +1,4 @@
-//! Processors that are made over an exporter, at once or behind a queue. A provider's builder knows no queue, and makes
+//! Processors that are made over an exporter, at once or after a queue. A provider's builder knows no queue, and makes
 //! its processors through this trait.
 
 ghost use Rattle.std.specs.Prelude.{◌≡◌, IfOk};
@@ -8,7 +8,7 @@ use crate::trace::SpanProcessor;
 use otel_sampling::trace::BatchStrings;
 use std::alloc::{AllocError, Global};
 
-/// A processor of several kinds, which can be made over an exporter: one that exports at once, or one behind a queue.
+/// A processor of several kinds, which can be made over an exporter: one that exports at once, or one after a queue.
 pub trait OverExporter: SpanProcessor {
     type Exporter: Drop;
 

@@ -140,7 +140,7 @@ impl<P: OverExporter, S, G> ProviderBuilderOf<P, S, G> {
 }
 
 impl<P: Drop, S, G> ProviderBuilderOf<P, S, G> {
-    /// Adds this processor behind the others. Memory is taken where their list grows.
+    /// Adds this processor after the others. Memory is taken where their list grows.
     pub fn with_span_processor(mut self, processor: P) -> Result<Self, AllocFailed<Self>>
         ensures { MatchResult result
             (λ built. built ≡ record self { processors = self.processors ++ processor ∷ [] })

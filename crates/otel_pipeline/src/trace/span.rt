@@ -118,7 +118,7 @@ impl Span {
         edit.apply(&mut self.recorded, self.span_limits)
     }
 
-    /// Sets an attribute behind those that are there, also where its key is among them. Over the limit it is only
+    /// Sets an attribute after those that are there, also where its key is among them. Over the limit it is only
     /// counted, which takes no memory. Nothing happens where the span is not recording (OpenTelemetry specification,
     /// "Set Attributes").
     #[inline(always)]
@@ -252,7 +252,7 @@ impl Span {
     }
 
     /// Ends the span at this moment: each processor of the provider is given what the span recorded, also after one
-    /// refused it; a test shows that they are asked first to last. The answer is how many refused for want of memory.
+    /// refused it; a test shows that they are asked first to last. The answer is how many refused when memory runs out.
     /// On an error, which comes before any processor is asked, span and processors are unchanged; the last processor
     /// gets the original, and with one processor nothing is copied. A span that is not recording, or whose provider is
     /// shut, ends with 0. What follows of an end is in `laws`: what is delivered is the data of the span's history, each

@@ -24,7 +24,7 @@ pub struct CompositePropagator<A, B> {
 }
 
 impl<A: TextMapPropagator + Drop, B: TextMapPropagator + Drop> CompositePropagator<A, B> {
-    /// Both as one, with these fields: those of the first one and behind them those of the second one, each name once.
+    /// Both as one, with these fields: those of the first one and after them those of the second one, each name once.
     /// Other fields are refused.
     pub fn new(
         first: A,

@@ -134,7 +134,7 @@ fn read_parent(text: &str) -> Option<SpanContext>
     ))
 }
 
-/// The number that so many digits before a hyphen spell, and what stands behind the hyphen.
+/// The number that so many digits before a hyphen spell, and what stands after the hyphen.
 fn read_field(text: &str, digits: usize) -> Option<(u128, &str)>
     requires { digits ≤ 32 }
     ensures value { IfSome result (λ field. (field.0 < 16 ^ digits)
@@ -143,11 +143,11 @@ fn read_field(text: &str, digits: usize) -> Option<(u128, &str)>
         → text.now ≡ hex_text digits number ++ hyphen ∷ rest
         → MatchOption result ⊥ (λ field. (field.0 ≡ number) × (field.1.now ≡ rest)) }
 {
-    let (front, behind) = text.split_once('-')?;
-    Some((number_from_hex(front, digits)?, behind))
+    let (front, after) = text.split_once('-')?;
+    Some((number_from_hex(front, digits)?, after))
 }
 
-/// The flags at the end of a header of this version. A hyphen may stand behind them, and anything behind that where the
+/// The flags at the end of a header of this version. A hyphen may stand after them, and anything after that where the
 /// version is not 0.
 fn read_flags(text: &str, version: u128) -> Option<u128>
     ensures value { IfSome result (λ flags. (flags < 16 ^ 2)

@@ -73,7 +73,7 @@ pub struct ConfigStrings {
     /// How many links a span keeps, usually of `OTEL_SPAN_LINK_COUNT_LIMIT`.
     pub link_count_limit: Option<String>,
     /// The name of the sampler, usually of `OTEL_TRACES_SAMPLER`: `always_on`, `always_off`, `traceidratio`, or one of
-    /// these behind `parentbased_`. Any other text is `parentbased_always_on`.
+    /// these after `parentbased_`. Any other text is `parentbased_always_on`.
     pub sampler: Option<String>,
     /// The ratio of a sampler by ratio, usually of `OTEL_TRACES_SAMPLER_ARG`. All traces where it is no decimal.
     pub sampler_arg: Option<String>,

@@ -62,7 +62,7 @@ impl Ratio {
     }
 
     /// Reads a decimal: an optional `+` or `-`, then digits with at most one point, 1 to 19 digits in all, and nothing
-    /// else. Behind a `-` it is 0/1. `0.25` is 25/100.
+    /// else. After a `-` it is 0/1. `0.25` is 25/100.
     pub fn from_text(text: &str) -> Option<Ratio>
         ensures { MatchOption result
             ((ratio : PlainRatio) → IsRatioText text.now ratio → ⊥)
@@ -123,7 +123,7 @@ fn decimal(text: &str) -> Option<Ratio>
     }
 }
 
-/// The ratio that the digits of a decimal write, those in front of its point and those behind it.
+/// The ratio that the digits of a decimal write, those in front of its point and those after it.
 fn ratio_of(whole: &[u8], fraction: &[u8]) -> Option<Ratio>
     ensures { MatchOption result
         ((ratio : PlainRatio) → WritesRatio whole.now fraction.now ratio → ⊥)
@@ -141,7 +141,7 @@ fn ratio_of(whole: &[u8], fraction: &[u8]) -> Option<Ratio>
     })
 }
 
-/// The number that digits write behind those of another number; none where a byte is no digit.
+/// The number that digits write after those of another number; none where a byte is no digit.
 fn number_after(start: u64, digits: &[u8]) -> Option<u64>
     requires { (start + 1) * 10 ^ length digits.now ≤ 10 ^ 19 }
     ensures value { MatchOption result

@@ -28,7 +28,7 @@ pub enum SamplingDecision {
 #[derive(Debug, Drop)]
 pub struct SamplingResult {
     pub decision: SamplingDecision,
-    /// They stand behind those that the span starts with.
+    /// They stand after those that the span starts with.
     pub attributes: Option<Vec<KeyValue>>,
     /// The trace state of the span's context.
     pub trace_state: TraceState,

@@ -58,7 +58,7 @@ fn order_of_word(alloc: Global, word: &str) -> Option<Order>
     Some(Order::Step(step))
 }
 
-/// The order of a word and the fields behind it.
+/// The order of a word and the fields after it.
 fn order_with_fields(alloc: Global, word: &str, fields: &str) -> Result<Option<Order>, AllocError>
     ensures found { IfOk result (Finds (TakesFields word.now fields.now)) }
     ensures free { ¬ SomeOffer (TakesFields word.now fields.now) → IsOk result }

@@ -10,7 +10,7 @@ use otel_trace_lines::reply_text::push_comma;
 use std::alloc::AllocError;
 use std::fmt::Write;
 
-/// What answers a step, where these spans are in hand behind it.
+/// What answers a step, where these spans are in hand after it.
 pub fn push_outcome(
     text: &mut String,
     outcome: &Outcome,
@@ -93,7 +93,7 @@ fn push_waiting(
     text.push(']')
 }
 
-/// The batches that an exporter kept, each behind a space, or a dash.
+/// The batches that an exporter kept, each after a space, or a dash.
 fn push_told(text: &mut String, batches: &[Vec<SpanData>]) -> Result<(), AllocError>
     ensures { OnOk result (TextGrows text.old (told_text (map (λ batch. batch.items) batches.now)) text.new) }
 {

@@ -101,7 +101,7 @@ fn put_names(fields: FieldIter<'_>, out: &mut AnswerText) {
     }
 }
 
-/// Puts out the names of the headers of the propagators that a text configures, and behind question marks the names in
+/// Puts out the names of the headers of the propagators that a text configures, and after question marks the names in
 /// it that are unknown, each with a bar after it.
 fn put_configured<C: TextMapPropagator>(
     configured: &ConfiguredPropagators<C>,

@@ -140,7 +140,7 @@ fn merged(
     second.with_schema_url(pairs, schema)
 }
 
-/// A builder behind a step that calls one of its methods.
+/// A builder after a step that calls one of its methods.
 fn changed(
     alloc: Global,
     builder: ResourceBuilder,
@@ -197,7 +197,7 @@ fn with_env(
     builder.with_detector(detector)
 }
 
-/// The builder behind the detectors of attributes strings, with `|` between them.
+/// The builder after the detectors of attributes strings, with `|` between them.
 fn with_envs(
     alloc: Global,
     builder: ResourceBuilder,

@@ -43,7 +43,7 @@ pub fn insert_allowed(
     }
 }
 
-/// A value, and the metadata behind it where there is some.
+/// A value, and the metadata after it where there is some.
 fn halves_of(rest: &str) -> (&str, Option<&str>) {
     match rest.split_once(';') {
         Some((value, metadata)) => (value, Some(metadata)),

@@ -147,7 +147,7 @@ pub fn trim_blanks(text: &str) -> &str
     back
 }
 
-/// What stands before the first comma, and what stands behind it, where there is one.
+/// What stands before the first comma, and what stands after it, where there is one.
 pub fn cut_at_comma(text: &str) -> (&str, Option<&str>)
     ensures pieces { MatchOption result.1
         (slice_split (λ b. b == 44) text.now ≡ result.0.now ∷ [])
@@ -166,11 +166,11 @@ pub fn text_fault(text: &str) -> Option<TraceStateError>
 {
     let mut rest = Some(text);
     'pieces: while let Some(left) = rest {
-        let (piece, behind) = cut_at_comma(left);
+        let (piece, after) = cut_at_comma(left);
         if let Some(fault) = piece_fault(trim_blanks(piece)) {
             return Some(fault);
         }
-        rest = behind;
+        rest = after;
     }
     None
 }

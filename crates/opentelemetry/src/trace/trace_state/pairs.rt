@@ -46,7 +46,7 @@ fn copied_pair(alloc: Global, key: &str, value: &str) -> Result<(String, String)
     ))
 }
 
-/// Puts the pair of a trimmed piece behind the others; an empty piece has none, and takes no memory.
+/// Puts the pair of a trimmed piece after the others; an empty piece has none, and takes no memory.
 fn push_piece(
     pairs: &mut Vec<(String, String)>,
     alloc: Global,
@@ -75,14 +75,14 @@ pub fn read_members(alloc: Global, text: &str) -> Result<Vec<(String, String)>, 
     let mut pairs = Vec::new(alloc);
     let mut rest = Some(text);
     'pieces: while let Some(left) = rest {
-        let (piece, behind) = cut_at_comma(left);
+        let (piece, after) = cut_at_comma(left);
         push_piece(&mut pairs, alloc, trim_blanks(piece))?;
-        rest = behind;
+        rest = after;
     }
     Ok(pairs)
 }
 
-/// Puts a copy of a pair behind the others, unless it has the key, which takes no memory.
+/// Puts a copy of a pair after the others, unless it has the key, which takes no memory.
 fn push_unless_key(
     pairs: &mut Vec<(String, String)>,
     alloc: Global,
@@ -100,7 +100,7 @@ fn push_unless_key(
     Ok(())
 }
 
-/// Puts copies of the pairs that have another key behind those of a list.
+/// Puts copies of the pairs that have another key after those of a list.
 fn push_others(
     list: &mut Vec<(String, String)>,
     alloc: Global,
@@ -132,7 +132,7 @@ pub fn without_key(
     Ok(others)
 }
 
-/// The new pair, and behind it copies of the pairs that have another key.
+/// The new pair, and after it copies of the pairs that have another key.
 pub fn with_pair(
     alloc: Global,
     pairs: &[(String, String)],
@@ -172,7 +172,7 @@ fn header_len(pairs: &[(String, String)]) -> usize
     len
 }
 
-/// Writes a member, behind a comma where others stand before it.
+/// Writes a member, after a comma where others stand before it.
 fn push_member(text: &mut String, index: usize, pair: &(String, String)) -> Result<(), AllocError>
     ensures { OnOk result (TextGrows text.old (next_member_text index (plain_pair pair.now)) text.new) }
 {

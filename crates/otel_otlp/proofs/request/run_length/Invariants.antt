@@ -4,9 +4,9 @@ use Rattle.otel_otlp.proofs.request.run_length.Given as goal
 
 abbrev pub invariant-loop-count : goal.invariant-loop-count
 invariant-loop-count l = record {
-  within : l.count ≤ length l.behind;
-  same : (k : ℕ) → k < l.count → (get_or l.behind k l.first).instrumentation_scope ≡ l.first.instrumentation_scope;
+  within : l.count ≤ length l.after;
+  same : (k : ℕ) → k < l.count → (get_or l.after k l.first).instrumentation_scope ≡ l.first.instrumentation_scope;
 }
 
 abbrev pub decreases-loop-count : goal.decreases-loop-count
-decreases-loop-count l = length l.behind - l.count
+decreases-loop-count l = length l.after - l.count

@@ -1,4 +1,4 @@
-//! Texts that are written one behind another, with a separator between two.
+//! Texts that are written one after another, with a separator between two.
 
 ghost use Rattle.std.specs.Prelude.{OnOk};
 ghost use Rattle.opentelemetry.specs.Text.{TextGrows};

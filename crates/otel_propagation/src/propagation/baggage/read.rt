@@ -11,7 +11,7 @@ ghost use Rattle.otel_propagation.specs.BaggageHeader.{entries_of, entry_of_memb
 ghost use Rattle.opentelemetry.specs.Members.{pieces_at};
 ghost use Rattle.otel_propagation.specs.BaggageHeader.{said_by};
 ghost use Rattle.opentelemetry.specs.Members.{semicolon};
-ghost use Rattle.otel_propagation.specs.BaggagePieces.{entry_with, next_property, properties_behind};
+ghost use Rattle.otel_propagation.specs.BaggagePieces.{entry_with, next_property, properties_after};
 ghost use Rattle.opentelemetry.specs.Text.{TextGrows};
 
 use super::pieces::push_unless_first;
@@ -23,7 +23,7 @@ use std::borrow::CowStr;
 /// How many members of a header are looked at (W3C Baggage, section 3.3.2).
 const MAX_MEMBERS: usize = 64;
 
-/// The baggage of a header. One member is read at a time, and none behind the last that counts is looked for.
+/// The baggage of a header. One member is read at a time, and none after the last that counts is looked for.
 pub fn entries_of(alloc: Global, header: &str) -> Result<Baggage, AllocError>
     requires { length header.now ≤ 8192 }
     ensures read { IfOk result (λ baggage. baggage ≡ entries_of header.now) }
@@ -75,9 +75,9 @@ fn read_member(alloc: Global, member: &str) -> Result<Option<KeyValueMetadata>, 
     Ok(Some(KeyValueMetadata::new(name, value, metadata)))
 }
 
-/// What stands before the first semicolon of a member, and what stands behind it.
+/// What stands before the first semicolon of a member, and what stands after it.
 fn split_properties(member: &str) -> (&str, Option<&str>)
-    ensures { pieces_at semicolon member.now ≡ result.0.now ∷ properties_behind result.1 }
+    ensures { pieces_at semicolon member.now ≡ result.0.now ∷ properties_after result.1 }
 {
     match member.split_once(';') {
         Some((pair, properties)) => (pair, Some(properties)),
@@ -106,23 +106,23 @@ fn read_pair(alloc: Global, pair: &str) -> Result<Option<(String, String)>, Allo
     Ok(Some((name, value)))
 }
 
-/// What stands before the first equals sign of a pair, and what stands behind it up to the next one.
+/// What stands before the first equals sign of a pair, and what stands after it up to the next one.
 fn split_pair(pair: &str) -> Option<(&str, &str)>
     ensures { MatchOption result
         (pieces_at equals_sign pair.now ≡ pair.now ∷ [])
         (λ both. (more : List (List ℕ))
         × (pieces_at equals_sign pair.now ≡ both.0.now ∷ both.1.now ∷ more)) }
 {
-    let (name, behind) = pair.split_once('=')?;
-    match behind.split_once('=') {
+    let (name, after) = pair.split_once('=')?;
+    match after.split_once('=') {
         Some((value, _)) => Some((name, value)),
-        None => Some((name, behind)),
+        None => Some((name, after)),
     }
 }
 
 /// The metadata of a member's properties. Its room is taken at once, and none where there are no properties.
 fn read_metadata(alloc: Global, properties: Option<&str>) -> Result<String, AllocError>
-    ensures { IfOk result (λ metadata. string_bytes metadata ≡ metadata_of (properties_behind properties.entry)) }
+    ensures { IfOk result (λ metadata. string_bytes metadata ≡ metadata_of (properties_after properties.entry)) }
 {
     let Some(properties) = properties else {
         return Ok(String::new(alloc));
@@ -135,7 +135,7 @@ fn read_metadata(alloc: Global, properties: Option<&str>) -> Result<String, Allo
     Ok(metadata)
 }
 
-/// Puts what a property says behind the others, unless it is not UTF-8. Answers whether the next one is the first
+/// Puts what a property says after the others, unless it is not UTF-8. Answers whether the next one is the first
 /// still.
 fn push_property(
     metadata: &mut String,

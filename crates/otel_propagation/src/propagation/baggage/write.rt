@@ -3,7 +3,7 @@
 ghost use Rattle.std.specs.Prelude.{◌≡◌, ◌-◌, ◌^◌, ◌≤◌, ◌∷◌, [], All, IfOk, OnOk, length, min, string_bytes};
 ghost use Rattle.opentelemetry.specs.Baggage.{entry_of};
 ghost use Rattle.opentelemetry.specs.Text.{TextGrows};
-ghost use Rattle.otel_propagation.specs.BaggageHeader.{behind_semicolon, escaped, header_of, member_of, HasTexts};
+ghost use Rattle.otel_propagation.specs.BaggageHeader.{after_semicolon, escaped, header_of, member_of, HasTexts};
 
 use super::pieces::push_unless_first;
 use opentelemetry::baggage::Baggage;
@@ -71,9 +71,9 @@ fn push_escaped(header: &mut String, text: &str) -> Result<(), AllocError>
     utf8_percent_encode(text.trim(), ESCAPED).append_to(header)
 }
 
-/// Writes metadata behind a semicolon, unless it is empty.
+/// Writes metadata after a semicolon, unless it is empty.
 fn push_metadata(header: &mut String, metadata: &str) -> Result<(), AllocError>
-    ensures { OnOk result (TextGrows header.old (behind_semicolon metadata.now) header.new) }
+    ensures { OnOk result (TextGrows header.old (after_semicolon metadata.now) header.new) }
 {
     if metadata.is_empty() {
         return Ok(());
@@ -107,7 +107,7 @@ fn escaped_len(text: &str) -> usize
 
 /// How long metadata is when it is written.
 fn metadata_len(metadata: &str) -> usize
-    ensures { result ≡ min (length (behind_semicolon metadata.now)) (2 ^ 64 - 1) }
+    ensures { result ≡ min (length (after_semicolon metadata.now)) (2 ^ 64 - 1) }
 {
     if metadata.is_empty() {
         return 0;

@@ -144,7 +144,7 @@ pub fn are_properties(properties: &str) -> bool
     properties.split(';').all(|property| is_property(property))
 }
 
-/// Writes those of the properties that are of the grammar, each behind a semicolon; not so the first of all.
+/// Writes those of the properties that are of the grammar, each after a semicolon; not so the first of all.
 pub fn push_properties(
     text: &mut String,
     properties: &str,
@@ -173,7 +173,7 @@ fn push_property(text: &mut String, property: &str, is_first: bool) -> Result<bo
     Ok(false)
 }
 
-/// Writes a key, and a value behind an equals sign if there is one.
+/// Writes a key, and a value after an equals sign if there is one.
 fn push_pair(text: &mut String, key: &str, value: Option<&str>) -> Result<(), AllocError>
     ensures { OnOk result (TextGrows text.old (spelled_pair (plain_pair (key.entry, value.entry))) text.new) }
 {

@@ -4,7 +4,7 @@ ghost use Rattle.std.specs.Prelude.{◌≡◌, ◌+◌, ◌<◌, ◌≤◌, ◌�
 ghost use Rattle.std.specs.Option.{option_map, option_map_or};
 ghost use Rattle.opentelemetry.specs.Baggage.{baggage_bytes, with_entry, BreaksLimit};
 ghost use Rattle.opentelemetry.specs.Members.{pieces_at, semicolon};
-ghost use Rattle.otel_propagation.specs.BaggagePieces.{properties_behind};
+ghost use Rattle.otel_propagation.specs.BaggagePieces.{properties_after};
 ghost use Rattle.otel_propagation.specs.StrictBaggage.{checked_metadata, strict_entries_of, strict_entry_of_member};
 
 use super::pairs::{are_properties, push_properties, read_pair};
@@ -72,7 +72,7 @@ fn read_member(alloc: Global, member: &str) -> Result<Option<KeyValueMetadata>, 
 
 /// What stands before the first semicolon of a member, and what stands after it.
 fn split_properties(member: &str) -> (&str, Option<&str>)
-    ensures { pieces_at semicolon member.now ≡ result.0.now ∷ properties_behind result.1 }
+    ensures { pieces_at semicolon member.now ≡ result.0.now ∷ properties_after result.1 }
 {
     match member.split_once(';') {
         Some((pair, properties)) => (pair, Some(properties)),
@@ -83,7 +83,7 @@ fn split_properties(member: &str) -> (&str, Option<&str>)
 /// The metadata of a member's properties; none where one breaks the grammar.
 fn read_properties(alloc: Global, properties: Option<&str>) -> Result<Option<String>, AllocError>
     ensures { IfOk result (λ metadata. option_map string_bytes metadata
-        ≡ checked_metadata (properties_behind properties.entry)) }
+        ≡ checked_metadata (properties_after properties.entry)) }
 {
     let mut metadata = String::new(alloc);
     let Some(properties) = properties else {

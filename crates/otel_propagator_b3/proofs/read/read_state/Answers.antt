@@ -16,8 +16,8 @@ pub returns : goal.returns
 returns c =
     let given = ap (λ r. option_copied r) c.in-Some.is in
     let alone : ¬ (IsHexText 16 c.in-Some.text.now) = λ is. let some = c.number_from_hex.ensures.only.1 is in absurd cc in
-    let behind = option_copied c.cut.result.1 in
+    let after = option_copied c.cut.result.1 in
     match_weaker c.read_mark.result
-    (λ none state says. none state (rest_read c.in-Some.text.now c.cut.result.0.now behind state alone c.cut.ensures.parts c.cut.ensures.first (subst (λ r. SaysState r state) given says)).0)
-    (λ state is. subst (λ r. SaysState r state) (sym given) (rest_says c.in-Some.text.now c.cut.result.0.now behind state c.cut.ensures.parts is (c.is_parent.ensures.0 c.if-not-is_parent.false)))
+    (λ none state says. none state (rest_read c.in-Some.text.now c.cut.result.0.now after state alone c.cut.ensures.parts c.cut.ensures.first (subst (λ r. SaysState r state) given says)).0)
+    (λ state is. subst (λ r. SaysState r state) (sym given) (rest_says c.in-Some.text.now c.cut.result.0.now after state c.cut.ensures.parts is (c.is_parent.ensures.0 c.if-not-is_parent.false)))
     c.read_mark.ensures

@@ -1,4 +1,4 @@
--- What is found behind the word, or of the word alone, is found in the line.
+-- What is found after the word, or of the word alone, is found in the line.
 use Rattle.std.proofs.Common.{◌≡◌, ◌++◌, ◌∷◌, IsUtf8, rules}
 use Rattle.opentelemetry.proofs.Clauses.{if_ok_map}
 use Rattle.otel_trace_lines.proofs.Fields.{fields_give_line, fields_make_line, word_gives_line}
@@ -8,10 +8,10 @@ pub returns-in-Some : goal.returns-in-Some
 returns-in-Some c =
     let text : IsUtf8 c.args.line.now = search rules in
     let parts : c.args.line.now ≡ c.in-Some.word.now ++ 32 ∷ c.in-Some.fields.now = search rules in
-    let behind = c.command_with_fields.ensures in
+    let after = c.command_with_fields.ensures in
     record {
-      found = if_ok_map c.command_with_fields.result (λ found h. fields_give_line c.args.line.now c.in-Some.word.now c.in-Some.fields.now text c.in-Some.ensures.0 parts found h) behind.found;
-      free = λ none. behind.free (λ fields. none (fields_make_line c.args.line.now c.in-Some.word.now c.in-Some.fields.now text c.in-Some.ensures.0 parts fields));
+      found = if_ok_map c.command_with_fields.result (λ found h. fields_give_line c.args.line.now c.in-Some.word.now c.in-Some.fields.now text c.in-Some.ensures.0 parts found h) after.found;
+      free = λ none. after.free (λ fields. none (fields_make_line c.args.line.now c.in-Some.word.now c.in-Some.fields.now text c.in-Some.ensures.0 parts fields));
     }
 
 pub returns-in-None-clause-found : goal.returns-in-None-clause-found

@@ -16,7 +16,7 @@ returns-then-is_empty c =
     let here = rw c.in_ok-field.was at parts in
     let fi = c.in_ok-field.field-is in
     let em = c.if-is_empty.true in
-    λ field behind is_field e. no_empty_field c.args.text.now c.in_ok-field.field.now c.in_ok-field.rest.now field behind (rw (c.in_ok-field.field-is, c.in_ok-field.rest-is) here.0) (search rules) is_field e
+    λ field after is_field e. no_empty_field c.args.text.now c.in_ok-field.field.now c.in_ok-field.rest.now field after (rw (c.in_ok-field.field-is, c.in_ok-field.rest-is) here.0) (search rules) is_field e
 
 pub returns : goal.returns
 returns c =

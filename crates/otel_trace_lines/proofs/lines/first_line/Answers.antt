@@ -14,5 +14,5 @@ returns-in-Some c =
     let text = c.args.text.now in
     let first = lines_first text c.in-Some.end (sym c.in-Some.ensures) in
     let front = c.without_carriage_return.ensures in
-    let behind = take_rest text (c.in-Some.end + 1) in
-    (rw (front, behind) first.0, rw behind (omega (arith, length-drop (c.in-Some.end + 1) text)))
+    let after = take_rest text (c.in-Some.end + 1) in
+    (rw (front, after) first.0, rw after (omega (arith, length-drop (c.in-Some.end + 1) text)))

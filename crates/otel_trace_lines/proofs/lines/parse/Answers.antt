@@ -14,7 +14,7 @@ loop-line-preserved-then-is_empty c =
     let none : length c.in-Some.line.now ≡ 0 = search rules in
     let empty = nil_from_length c.in-Some.line.now none in
     record {
-      read = read_blank c.args.text.now c.loop-line.rest.now c.in-Some.line.now c.in-Some.behind.now (plain_commands c.loop-line.commands.items) c.loop-line.number c.loop-line.invariant.read next.0 empty;
+      read = read_blank c.args.text.now c.loop-line.rest.now c.in-Some.line.now c.in-Some.after.now (plain_commands c.loop-line.commands.items) c.loop-line.number c.loop-line.invariant.read next.0 empty;
       room = omega (arith, next.1);
     }
 
@@ -25,7 +25,7 @@ loop-line-preserved c =
     let reads : Reads c.in-Some.line.now (plain_command c.in-Some-2.command) = rw c.in-Some-2.is at c.in_ok-command.ensures.found in
     let pushed = map_push plain_command c.loop-line.commands.items c.in-Some-2.command in
     record {
-      read = rw (c.in_ok-push-in-Some-2.ensures.items, pushed) (read_more c.args.text.now c.loop-line.rest.now c.in-Some.line.now c.in-Some.behind.now (plain_commands c.loop-line.commands.items) (plain_command c.in-Some-2.command) c.loop-line.number c.loop-line.invariant.read next.0 some reads);
+      read = rw (c.in_ok-push-in-Some-2.ensures.items, pushed) (read_more c.args.text.now c.loop-line.rest.now c.in-Some.line.now c.in-Some.after.now (plain_commands c.loop-line.commands.items) (plain_command c.in-Some-2.command) c.loop-line.number c.loop-line.invariant.read next.0 some reads);
       room = omega (arith, next.1);
     }
 
@@ -34,7 +34,7 @@ returns-in-None-clause-only c =
     let next = c.in-Some.ensures in
     let some : c.in-Some.line.now ≢ [] = search rules in
     let bad : (command : PlainCommand) → Reads c.in-Some.line.now command → ⊥ = rw c.in-None.is at c.in_ok-command.ensures.found in
-    let stops = read_bad c.args.text.now c.loop-line.rest.now c.in-Some.line.now c.in-Some.behind.now (plain_commands c.loop-line.commands.items) c.loop-line.number c.loop-line.invariant.read next.0 some bad in
+    let stops = read_bad c.args.text.now c.loop-line.rest.now c.in-Some.line.now c.in-Some.after.now (plain_commands c.loop-line.commands.items) c.loop-line.number c.loop-line.invariant.read next.0 some bad in
     λ commands bad_line h. one_reading c.args.text.now (plain_commands c.loop-line.commands.items) commands (Some (c.loop-line.number + 1)) bad_line stops h
 
 pub returns-clause-only : goal.returns-clause-only
@@ -46,10 +46,10 @@ returns-clause-only c =
 pub returns-in_err-command-clause-free : goal.returns-in_err-command-clause-free
 returns-in_err-command-clause-free c =
     let some : c.in-Some.line.now ≢ [] = search rules in
-    λ nothing. absurd (fails_on_err c.in_err-command.ensures.free (λ read. spells_something c.args.text.now c.loop-line.rest.now c.in-Some.line.now c.in-Some.behind.now (plain_commands c.loop-line.commands.items) read.0 c.loop-line.number c.loop-line.invariant.read c.in-Some.ensures.0 some read.1 nothing))
+    λ nothing. absurd (fails_on_err c.in_err-command.ensures.free (λ read. spells_something c.args.text.now c.loop-line.rest.now c.in-Some.line.now c.in-Some.after.now (plain_commands c.loop-line.commands.items) read.0 c.loop-line.number c.loop-line.invariant.read c.in-Some.ensures.0 some read.1 nothing))
 
 pub returns-in_err-push-in-Some-2-clause-free : goal.returns-in_err-push-in-Some-2-clause-free
 returns-in_err-push-in-Some-2-clause-free c =
     let some : c.in-Some.line.now ≢ [] = search rules in
     let reads : Reads c.in-Some.line.now (plain_command c.in-Some-2.command) = rw c.in-Some-2.is at c.in_ok-command.ensures.found in
-    λ nothing. absurd (spells_something c.args.text.now c.loop-line.rest.now c.in-Some.line.now c.in-Some.behind.now (plain_commands c.loop-line.commands.items) (plain_command c.in-Some-2.command) c.loop-line.number c.loop-line.invariant.read c.in-Some.ensures.0 some reads nothing)
+    λ nothing. absurd (spells_something c.args.text.now c.loop-line.rest.now c.in-Some.line.now c.in-Some.after.now (plain_commands c.loop-line.commands.items) (plain_command c.in-Some-2.command) c.loop-line.number c.loop-line.invariant.read c.in-Some.ensures.0 some reads nothing)

@@ -1,11 +1,11 @@
--- Behind the first field there is no status.
+-- After the first field there is no status.
 use Rattle.std.proofs.Common.{refl}
 use Rattle.otel_trace_lines.specs.Commands.{status}
 use Rattle.opentelemetry.specs.PlainValues.{plain_status}
 use Rattle.opentelemetry.proofs.Clauses.{fails_on_err}
 use Rattle.otel_trace_lines.specs.Lines.{IsStatus, outcome}
 use Rattle.opentelemetry.specs.Plain.{PlainStatus}
-use Rattle.otel_trace_lines.proofs.Fields.{behind_field, only_status}
+use Rattle.otel_trace_lines.proofs.Fields.{after_field, only_status}
 use Rattle.otel_trace_lines.proofs.lines.status_of.Goals as goal
 
 pub returns-in_default-2-clause-found : goal.returns-in_default-2-clause-found
@@ -13,7 +13,7 @@ returns-in_default-2-clause-found c =
     let here = c.in-Some.ensures in
     let none : (how : PlainStatus) → IsStatus c.in-Some.rest.now how → ⊥ = rw c.in_default-2.is at c.in_ok-status.ensures.found in
     only_status c.args.fields.now (λ span how h.
-    none how (behind_field c.args.fields.now c.in-Some.span.now c.in-Some.rest.now here.0 here.1 span (outcome how) h))
+    none how (after_field c.args.fields.now c.in-Some.span.now c.in-Some.rest.now here.0 here.1 span (outcome how) h))
 
 -- where a text of it finds no memory, a status stands there
 pub returns-in_err-status-clause-free : goal.returns-in_err-status-clause-free

@@ -1,4 +1,4 @@
--- One attribute more is written, behind a comma if others stand before it.
+-- One attribute more is written, after a comma if others stand before it.
 use Rattle.std.proofs.Common.{string_bytes, arith}
 use Rattle.otel_trace_lines.specs.ReplyText.{attribute_text}
 use Rattle.otel_trace_lines.proofs.Listed.{item_written}

@@ -1,4 +1,4 @@
--- The words of the mode, its seed, and the processor behind them.
+-- The words of the mode, its seed, and the processor after them.
 use Rattle.std.proofs.Common.{rules, ◌≡◌, ◌∙◌, sym, codes, string_bytes}
 use Rattle.std.specs.Cmp.Lexicographic.{bytes_decides}
 use Rattle.otel_trace_run.proofs.ProgramLemmas.{two_first}

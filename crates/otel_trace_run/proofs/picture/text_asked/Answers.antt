@@ -1,4 +1,4 @@
--- The words of the mode, its seed, what is behind them, and the columns.
+-- The words of the mode, its seed, what is after them, and the columns.
 use Rattle.std.proofs.Common.{rules, ◌≡◌, ◌∙◌, codes, map, string_bytes, sym}
 use Rattle.std.specs.Cmp.Lexicographic.{bytes_decides}
 use Rattle.otel_trace_run.proofs.ProgramLemmas.{two_first}
@@ -9,7 +9,7 @@ returns-in_ok-columns-in-Some c =
     let mode : string_bytes c.mode-item.result ≡ codes "picture" = sym c.as_str.ensures.value ∙ (bytes_decides c.as_str.result.now (codes "picture")).0 (search rules) in
     record {
       digits = c.as_str-in-Some.result.now;
-      behind = _;
+      after = _;
       given = map string_bytes c.in-Some.given.now;
       seed = c.in_ok-seed-in-Some.ensures;
       named = c.in-Some.ensures;

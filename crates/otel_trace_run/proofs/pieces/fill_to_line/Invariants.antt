@@ -1,4 +1,4 @@
--- What was read stands behind what was there before, and no line ends in it.
+-- What was read stands after what was there before, and no line ends in it.
 use Rattle.std.proofs.Common.{◌≡◌, ◌≤◌, length, take, drop}
 use Rattle.std.specs.Io.KnownBytes.{Consumes}
 use Rattle.otel_trace_run.specs.Pieces.{EndsNoLine}

@@ -26,7 +26,7 @@ returns-in-Ok-Some g c =
     let h = rw c.in-Ok-Some.field-0-is at c.in-Ok-Some.ensures.ok in
     let answered = subst (λ (bs : List ℕ). AnswersLines c.loop.machine bs (Some line) h.0 next) c.lines.ensures h.1 in
     let s = streams (g.R.Read.remaining c.args.input.now) (g.R.Read.remaining c.read_on.new.reader) (g.W.Write.contents c.args.output.now) (g.W.Write.contents c.answer_piece.new.output) in
-    ends_bad (StepsTo c.args.machine.now next s) (StepsSome c.args.machine.now s) s (c.loop.before + line) c.bad_line_behind.result c.bad_line_behind.ensures
+    ends_bad (StepsTo c.args.machine.now next s) (StepsSome c.args.machine.now s) s (c.loop.before + line) c.bad_line_after.result c.bad_line_after.ensures
     (stepped_bad c.args.machine.now c.loop.machine next _ _ _ _ _ _ c.loop.pieces.rest c.loop.before line c.in-Ok.goes_on c.read_on.new.self h.0 c.loop.invariant c.in-Ok.ensures.ok answered h.2)
     (begun_counting c.args.machine.now c.loop.machine next _ _ _ _ _ _ c.loop.pieces.rest c.loop.before c.in-Ok.goes_on c.read_on.new.self (Some line) h.0 c.loop.invariant c.in-Ok.ensures.ok answered h.2)
 

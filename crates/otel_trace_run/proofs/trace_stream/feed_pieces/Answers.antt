@@ -62,7 +62,7 @@ returns-in-Err-Line-clause-ok g c =
     let piece = piece_fed calls form _ (c.loop.session) next _ _ fed _ c.loop.invariant.0 c.lines.ensures c.in_ok-feed_piece.ensures.ok in
     let bad : fed ≡ Err (feeds.Line c.in-Err-Line.line) = search rules in
     let s = streams (g.R.Read.remaining c.args.input.now) (g.R.Read.remaining c.read_on.new.reader) (g.W.Write.contents c.args.output.now) (g.W.Write.contents c.feed_piece.new.output) in
-    fed_bad calls form g.met.P.KeepsBatches.recalls begun next s (c.loop.before + c.in-Err-Line.line) c.bad_line_behind.result (subst (λ (n : ℕ). (c.bad_line_behind.result ≡ ends.Failed) ⊎ (c.bad_line_behind.result ≡ ends.BadLine (c.loop.before + n))) c.in-Err-Line.line-is c.bad_line_behind.ensures)
+    fed_bad calls form g.met.P.KeepsBatches.recalls begun next s (c.loop.before + c.in-Err-Line.line) c.bad_line_after.result (subst (λ (n : ℕ). (c.bad_line_after.result ≡ ends.Failed) ⊎ (c.bad_line_after.result ≡ ends.BadLine (c.loop.before + n))) c.in-Err-Line.line-is c.bad_line_after.ensures)
     (traced_bad calls form g.met.P.KeepsBatches.recalls begun c.has_histories.ensures.0 c.has_histories.ensures.1
     (c.loop.session) next _ _ _ _ _ _ c.loop.pieces.rest c.loop.before c.in-Err-Line.line c.in_ok-goes_on.goes_on c.read_on.new.self fed c.loop.invariant.1 c.in_ok-goes_on.ensures.ok bad piece)
     (begun_failing calls form g.met.P.KeepsBatches.recalls begun c.has_histories.ensures.0 c.has_histories.ensures.1

@@ -1,11 +1,11 @@
--- The row comes behind its parent's, or it is a root's.
+-- The row comes after its parent's, or it is a root's.
 use Rattle.std.proofs.Common.{rules}
-use Rattle.otel_picture.proofs.Placing.{put_behind, put_root}
+use Rattle.otel_picture.proofs.Placing.{put_after, put_root}
 use Rattle.otel_picture.proofs.rows.Family.put_in.Goals as goal
 
 pub returns-in_ok-insert-in-Some : goal.returns-in_ok-insert-in-Some
 returns-in_ok-insert-in-Some c =
-    put_behind c.args.self.now.parents.items c.args.placed.now c.args.rows.now.items c.insert.new.self.items c.in-Some.at
+    put_after c.args.self.now.parents.items c.args.placed.now c.args.rows.now.items c.insert.new.self.items c.in-Some.at
     c.args.span c.index.result.now c.requires.placed (rw c.deref.ensures.value at c.in-Some.ensures.there) (search rules)
     (rw c.deref.ensures.value at (c.in-Some.ensures.parent c.index.result.now))
     c.in_ok-insert-in-Some.ensures.items

@@ -1,4 +1,4 @@
--- The first start so far is not behind the last end.
+-- The first start so far is not after the last end.
 use Rattle.std.proofs.Common.{◌≤◌}
 use Rattle.otel_picture.proofs.rows.Family.scale.Given as goal
 

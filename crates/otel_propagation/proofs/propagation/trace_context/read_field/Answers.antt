@@ -11,11 +11,11 @@ returns-in_err-front-clause-only c = λ number rest small is.
 
 pub returns-in_err-number_from_hex-clause-only : goal.returns-in_err-number_from_hex-clause-only
 returns-in_err-number_from_hex-clause-only c = λ number rest small is.
-    let parts = split_after 45 c.args.text.now (hex_text c.args.digits number) rest (Some (c.in_ok-front.front, c.in_ok-front.behind)) c.in_ok-front.ensures.cases (lit< tt) is (no_hyphen c.args.digits number) in
+    let parts = split_after 45 c.args.text.now (hex_text c.args.digits number) rest (Some (c.in_ok-front.front, c.in_ok-front.after)) c.in_ok-front.ensures.cases (lit< tt) is (no_hyphen c.args.digits number) in
     absurd (let no = c.in_err-number_from_hex.ensures.only.1 (subst (IsHexText c.args.digits) (sym parts.0) (hex_text_IsHexText c.args.digits number)) in cc)
 
 pub returns-clause-only : goal.returns-clause-only
 returns-clause-only c = λ number rest small is.
-    let parts = split_after 45 c.args.text.now (hex_text c.args.digits number) rest (Some (c.in_ok-front.front, c.in_ok-front.behind)) c.in_ok-front.ensures.cases (lit< tt) is (no_hyphen c.args.digits number) in
+    let parts = split_after 45 c.args.text.now (hex_text c.args.digits number) rest (Some (c.in_ok-front.front, c.in_ok-front.after)) c.in_ok-front.ensures.cases (lit< tt) is (no_hyphen c.args.digits number) in
     let value = c.in_ok-number_from_hex.ensures.value in
     (hex_text_injective c.args.digits c.in_ok-number_from_hex.field-0 number value.0 small (sym value.1 ∙ parts.0), parts.1)

@@ -15,11 +15,11 @@ returns-in-Some-clause-only c = λ flags rest small follows is.
 pub returns-in-Some-2-clause-only : goal.returns-in-Some-2-clause-only
 returns-in-Some-2-clause-only c = λ flags rest small follows is.
     let value = c.in-Some.ensures.value in
-    let behind = (field_once 2 c.in-Some.flags flags (hyphen ∷ c.in-Some.rest.now) rest value.0 small (sym value.1 ∙ is)).1 in
+    let after = (field_once 2 c.in-Some.flags flags (hyphen ∷ c.in-Some.rest.now) rest value.0 small (sym value.1 ∙ is)).1 in
     elim c.if-version-gt0.branch [
       | then-version-gt0 w ↦ absurd (both_ways c.if-version-gt0.value c.if-is_empty.false (w.value-is ∙ lt-ltb 0 c.args.version w.if-version-gt0.true))
       | else-version-gt0 w ↦
-          let none : c.in-Some.rest.now ≡ [] = too_much c.args.version rest c.in-Some.rest.now follows behind (omega (arith, w.if-version-gt0.false)) in
+          let none : c.in-Some.rest.now ≡ [] = too_much c.args.version rest c.in-Some.rest.now follows after (omega (arith, w.if-version-gt0.false)) in
           let empty : (length c.in-Some.rest.now == 0) ≡ true = eq-eqb (length c.in-Some.rest.now) 0 (ap length none) in absurd (both_ways c.if-version-gt0.value c.if-is_empty.false (w.value-is ∙ w.is_empty.ensures ∙ empty))
     ]
 

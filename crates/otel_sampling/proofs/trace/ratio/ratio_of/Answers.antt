@@ -1,5 +1,5 @@
 use Rattle.std.proofs.Common.{arith, length}
-use Rattle.otel_sampling.proofs.RatioLemmas.{digits_front, digits_behind, room_behind, writes}
+use Rattle.otel_sampling.proofs.RatioLemmas.{digits_front, digits_after, room_after, writes}
 use Rattle.otel_sampling.proofs.trace.ratio.ratio_of.Goals as goal
 
 pub returns-in_err-front : goal.returns-in_err-front
@@ -8,12 +8,12 @@ returns-in_err-front c =
 
 pub number_after-requires-2 : goal.number_after-requires-2
 number_after-requires-2 c =
-    room_behind c.in_ok-front.front (length c.args.whole.now) (length c.args.fraction.now) c.in_ok-front.ensures.fits (omega arith)
+    room_after c.in_ok-front.front (length c.args.whole.now) (length c.args.fraction.now) c.in_ok-front.ensures.fits (omega arith)
 
 pub returns-in_err-numerator : goal.returns-in_err-numerator
 returns-in_err-numerator c =
     rw c.from_residual-in_err-numerator.ensures
-    (λ ratio w. c.in_err-numerator.ensures.value (digits_behind c.args.whole.now c.args.fraction.now w.digits))
+    (λ ratio w. c.in_err-numerator.ensures.value (digits_after c.args.whole.now c.args.fraction.now w.digits))
 
 pub returns : goal.returns
 returns c =

@@ -1,4 +1,4 @@
--- What stood behind the lines stands in front.
+-- What stood after the lines stands in front.
 use Rattle.std.proofs.Common.{◌≡◌, ◌≢◌, ◌≤◌, List, [], ℕ, length, sym, subst, arith, rules, ap, ◌∙◌}
 use Rattle.std.specs.List.{All}
 use Rattle.otel_trace_run.specs.Pieces.{PlainPieces}

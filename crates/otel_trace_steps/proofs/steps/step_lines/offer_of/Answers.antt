@@ -1,4 +1,4 @@
--- A name has no space, and memory is wanted behind all tests.
+-- A name has no space, and memory is wanted after all tests.
 use Rattle.std.proofs.Common.{◌≢◌, ◌<◌, length, lit<, refl, rules}
 use Rattle.std.proofs.lemmas.List.Elements.{All-from_get_or}
 use Rattle.std.proofs.lemmas.Str.Pattern.{contains_char}

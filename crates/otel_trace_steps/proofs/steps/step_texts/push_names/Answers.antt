@@ -1,4 +1,4 @@
--- One name more is written, behind a comma if others stand before it.
+-- One name more is written, after a comma if others stand before it.
 use Rattle.std.proofs.Common.{◌≡◌, ◌++◌, string_bytes, arith, rules}
 use Rattle.otel_trace_lines.proofs.Listed.{item_written}
 use Rattle.otel_trace_steps.proofs.steps.step_texts.push_names.Goals as goal

@@ -1,4 +1,4 @@
--- One name more is written, behind a comma if others stand before it.
+-- One name more is written, after a comma if others stand before it.
 use Rattle.std.proofs.Common.{◌≡◌, ◌++◌, Some, slice_get, string_bytes, sym, arith, rules}
 use Rattle.std.proofs.lemmas.Option.{get_or_from_slice_get}
 use Rattle.otel_trace_lines.proofs.Listed.{item_written}

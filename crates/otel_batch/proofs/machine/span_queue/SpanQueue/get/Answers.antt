@@ -12,6 +12,6 @@ returns-then-index-in_head g c =
 pub returns : goal.returns
 returns g c =
     let s = c.self.inside in
-    let read = read_rest s.chunks.items s.head c.self.invariant.steps s.len s.limit c.args.index c.len-in_head.result c.len.result c.place_behind-place.result c.index.result.now c.index-2.result.now c.self.invariant.queue
-    c.index.ensures c.len-in_head.ensures.len (omega arith) (omega arith) (omega arith) c.place_behind-place.ensures c.index-2.ensures in
+    let read = read_rest s.chunks.items s.head c.self.invariant.steps s.len s.limit c.args.index c.len-in_head.result c.len.result c.place_after-place.result c.index.result.now c.index-2.result.now c.self.invariant.queue
+    c.index.ensures c.len-in_head.ensures.len (omega arith) (omega arith) (omega arith) c.place_after-place.ensures c.index-2.ensures in
     c.get-2.ensures ∙ read ∙ ap (λ (b : Buffer g.row.T.Denot). slice_get b.items c.args.index) c.self.view_is

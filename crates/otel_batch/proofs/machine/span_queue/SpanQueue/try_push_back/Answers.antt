@@ -22,26 +22,26 @@ returns-in-Ok-clause-ok g c =
 pub unreachable-requires : goal.unreachable-requires
 unreachable-requires g c =
     let s = c.self.inside in
-    let next = c.place_behind-next.result in
+    let next = c.place_after-next.result in
     let put = next_put s.chunks.items s.head s.tail s.len s.limit next c.len.result c.index_mut.result.now c.try_push_back.new.self c.index_mut-2.result.now c.in-Err.item c.self.invariant c.if-self.false
-    c.index_mut.ensures.value c.in-Err.ensures.variant.1 c.in-Err.ensures.err.1 (omega arith) c.place_behind-next.ensures c.index_mut-2.ensures.value in
+    c.index_mut.ensures.value c.in-Err.ensures.variant.1 c.in-Err.ensures.err.1 (omega arith) c.place_after-next.ensures c.index_mut-2.ensures.value in
     false≢true (c.in_default.ensures.variant.1 put.put.room)
 
 pub invariant_of-self-2 : goal.invariant_of-self-2
 invariant_of-self-2 g c =
     let s = c.self.inside in
-    let next = c.place_behind-next.result in
+    let next = c.place_after-next.result in
     let put = next_put s.chunks.items s.head s.tail s.len s.limit next c.len.result c.index_mut.result.now c.try_push_back.new.self c.index_mut-2.result.now c.in-Err.item c.self.invariant c.if-self.false
-    c.index_mut.ensures.value c.in-Err.ensures.variant.1 c.in-Err.ensures.err.1 (omega arith) c.place_behind-next.ensures c.index_mut-2.ensures.value in
+    c.index_mut.ensures.value c.in-Err.ensures.variant.1 c.in-Err.ensures.err.1 (omega arith) c.place_after-next.ensures c.index_mut-2.ensures.value in
     let written = put.written c.try_push_back-2.new.self c.in-Ok-try_push_back.ensures.ok in
     subst (λ l. IsQueueTo l s.head next (s.len + 1) s.limit) (sym written) put.put.queue
 
 pub returns-clause-ok : goal.returns-clause-ok
 returns-clause-ok g c =
     let s = c.self.inside in
-    let next = c.place_behind-next.result in
+    let next = c.place_after-next.result in
     let put = next_put s.chunks.items s.head s.tail s.len s.limit next c.len.result c.index_mut.result.now c.try_push_back.new.self c.index_mut-2.result.now c.in-Err.item c.self.invariant c.if-self.false
-    c.index_mut.ensures.value c.in-Err.ensures.variant.1 c.in-Err.ensures.err.1 (omega arith) c.place_behind-next.ensures c.index_mut-2.ensures.value in
+    c.index_mut.ensures.value c.in-Err.ensures.variant.1 c.in-Err.ensures.err.1 (omega arith) c.place_after-next.ensures c.index_mut-2.ensures.value in
     let written = put.written c.try_push_back-2.new.self c.in-Ok-try_push_back.ensures.ok in
     ap (λ l. buffer (items_of (circle s.head l)) s.limit) written
     ∙ ap (λ xs. buffer xs s.limit) put.put.items

@@ -1,9 +1,9 @@
 use Rattle.std.proofs.Common.{◌∙◌}
-use Rattle.opentelemetry.proofs.Behind.{behind, same_behind}
+use Rattle.opentelemetry.proofs.BoxedCalls.{boxed_call, same_boxed}
 use Rattle.otel_pipeline.proofs.trace.span_processor.BoxDynSpanProcessorSpanProcessor.on_start.Goals as goal
 
 pub returns-clause-told : goal.returns-clause-told
-returns-clause-told g c = c.on_start.ensures.0 ∙ same_behind (λ k. (g.dyn-1.0.entry k).0.Denot) (λ k x. (g.dyn-1.0.entry k).1.told x) c.deref_box_mut-1.ensures.value.1
+returns-clause-told g c = c.on_start.ensures.0 ∙ same_boxed (λ k. (g.dyn-1.0.entry k).0.Denot) (λ k x. (g.dyn-1.0.entry k).1.told x) c.deref_box_mut-1.ensures.value.1
 
 pub returns-clause-gives : goal.returns-clause-gives
-returns-clause-gives g c = behind (λ k. (g.dyn-1.0.entry k).0.Denot) (λ k x y. (g.dyn-1.0.entry k).1.start_gives x c.args.span.now c.args.cx.now c.on_start.new.span y) (λ k x. record c.args.self.now { vtable = k; value = x }) c.deref_box_mut-1.ensures.value.1 c.on_start.ensures.1.1
+returns-clause-gives g c = boxed_call (λ k. (g.dyn-1.0.entry k).0.Denot) (λ k x y. (g.dyn-1.0.entry k).1.start_gives x c.args.span.now c.args.cx.now c.on_start.new.span y) (λ k x. record c.args.self.now { vtable = k; value = x }) c.deref_box_mut-1.ensures.value.1 c.on_start.ensures.1.1

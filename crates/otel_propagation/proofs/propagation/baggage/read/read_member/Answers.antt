@@ -2,7 +2,7 @@ use Rattle.std.proofs.Common.{[], Some, string_bytes, sym, ap, ◌∙◌}
 use Rattle.std.specs.Option.{option_map}
 use Rattle.opentelemetry.specs.Baggage.{entry_of}
 use Rattle.otel_propagation.specs.BaggageHeader.{metadata_of}
-use Rattle.otel_propagation.specs.BaggagePieces.{entry_with, properties_behind}
+use Rattle.otel_propagation.specs.BaggagePieces.{entry_with, properties_after}
 use Rattle.otel_propagation.proofs.BaggageNoEntries.{front_has_none, no_pair}
 use Rattle.otel_propagation.proofs.BaggagePieceLemmas.{member_says}
 use Rattle.otel_propagation.proofs.propagation.baggage.read.read_member.Goals as goal
@@ -10,7 +10,7 @@ use Rattle.otel_propagation.proofs.propagation.baggage.read.read_member.Goals as
 pub returns-in_default-clause-read : goal.returns-in_default-clause-read
 returns-in_default-clause-read c =
     let pair = c.split_properties.result.0.now in
-    let properties = properties_behind c.split_properties.result.1 in
+    let properties = properties_after c.split_properties.result.1 in
     sym (ap (option_map (entry_with (metadata_of properties))) c.in_default.is)
     ∙ c.in_ok-name.ensures.read (metadata_of properties)
     ∙ sym (member_says c.args.member.now pair properties c.split_properties.ensures)
@@ -18,7 +18,7 @@ returns-in_default-clause-read c =
 pub returns-clause-read : goal.returns-clause-read
 returns-clause-read c =
     let pair = c.split_properties.result.0.now in
-    let properties = properties_behind c.split_properties.result.1 in
+    let properties = properties_after c.split_properties.result.1 in
     ap Some c.new.ensures
     ∙ ap (λ m. Some (entry_of (string_bytes c.in-Some.name) (string_bytes c.in-Some.value) m)) (c.new-metadata.ensures ∙ c.in_ok-read_metadata.ensures)
     ∙ sym (ap (option_map (entry_with (metadata_of properties))) c.in-Some.is)

@@ -3,13 +3,13 @@ use Rattle.std.proofs.lemmas.List.{map_push}
 use Rattle.std.proofs.lemmas.Iterator.Consumers.{YieldsList-at, YieldsList-end}
 use Rattle.std.proofs.lemmas.Iterator.Splits.{YieldsList-from_str_split}
 use Rattle.otel_propagation.specs.BaggageHeader.{metadata_of}
-use Rattle.otel_propagation.specs.BaggagePieces.{properties_behind}
+use Rattle.otel_propagation.specs.BaggagePieces.{properties_after}
 use Rattle.otel_propagation.proofs.BaggagePieceLemmas.{Gathers, gathers_none, gathers_more}
 use Rattle.otel_propagation.proofs.propagation.baggage.read.read_metadata.Goals as goal
 
 pub returns-in_default : goal.returns-in_default
 unfolding metadata_of
-returns-in_default c = c.new.ensures.bytes ∙ sym (ap (λ p. metadata_of (properties_behind p)) c.in_default.is)
+returns-in_default c = c.new.ensures.bytes ∙ sym (ap (λ p. metadata_of (properties_after p)) c.in_default.is)
 
 pub properties-init : goal.properties-init
 properties-init c = gathers_none _ c.in_ok-metadata.ensures.bytes
@@ -27,4 +27,4 @@ returns c =
     (YieldsList-from_str_split 59 c.in-Some.properties.now (lit< tt) c.split-property-items.ensures.text c.split-property-items.ensures.has_more c.split-property-items.ensures.pattern) in
     c.properties.invariant.text
     ∙ ap metadata_of (YieldsList-end pieces c.properties.yielded _ c.properties.yielded_by _ _ c.in-None.is c.next.ensures.steps).0
-    ∙ sym (ap (λ p. metadata_of (properties_behind p)) c.in-Some.is)
+    ∙ sym (ap (λ p. metadata_of (properties_after p)) c.in-Some.is)

@@ -6,8 +6,8 @@ use Rattle.otel_propagation.proofs.propagation.composite.CompositePropagator.new
 pub returns-in_default-clause-err : goal.returns-in_default-clause-err
 returns-in_default-clause-err g c same =
     let these = g.A.TextMapPropagator.field_names c.args.first in
-    let (behind, is) = goes_on (joined_onto [] these) (g.B.TextMapPropagator.field_names c.args.second) in
-    c.in_default.ensures behind (same ∙ is ∙ ap (λ names. joined_onto [] names ++ behind) (sym c.fields.ensures))
+    let (after, is) = goes_on (joined_onto [] these) (g.B.TextMapPropagator.field_names c.args.second) in
+    c.in_default.ensures after (same ∙ is ∙ ap (λ names. joined_onto [] names ++ after) (sym c.fields.ensures))
 
 pub returns-in_default-names_added-clause-err : goal.returns-in_default-names_added-clause-err
 returns-in_default-names_added-clause-err g c same =

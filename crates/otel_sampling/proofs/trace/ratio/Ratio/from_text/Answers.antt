@@ -1,13 +1,13 @@
 -- A sign in front of a decimal is no part of it.
 use Rattle.std.proofs.Common.{Some, None, inr, refl, lit<}
 use Rattle.std.proofs.lemmas.Str.Pattern.{strip_prefix_char}
-use Rattle.otel_sampling.proofs.RatioLemmas.{by_itself, by_plus, none_behind_minus}
+use Rattle.otel_sampling.proofs.RatioLemmas.{by_itself, by_plus, none_after_minus}
 use Rattle.otel_sampling.proofs.trace.ratio.Ratio.from_text.Goals as goal
 
 pub returns-in_err-decimal : goal.returns-in_err-decimal
 returns-in_err-decimal c =
     let minus = strip_prefix_char 45 c.args.text.now (Some c.in-Some.size) c.in-Some.ensures.cases (lit< tt) in
-    rw c.from_residual.ensures (none_behind_minus c.args.text.now c.in-Some.size.now minus c.in_err-decimal.ensures)
+    rw c.from_residual.ensures (none_after_minus c.args.text.now c.in-Some.size.now minus c.in_err-decimal.ensures)
 
 pub returns-in-Some : goal.returns-in-Some
 returns-in-Some c =

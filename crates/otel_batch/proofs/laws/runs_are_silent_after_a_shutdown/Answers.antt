@@ -1,5 +1,5 @@
 use Rattle.otel_batch.proofs.Silence.{run-silent, run-stays_silent}
-use Rattle.otel_batch.proofs.laws.runs_are_silent_behind_a_shutdown.Goals as goal
+use Rattle.otel_batch.proofs.laws.runs_are_silent_after_a_shutdown.Goals as goal
 
 pub returns-clause-within : goal.returns-clause-within
 returns-clause-within g c = λ s t xs os run. run-silent g.E.SpanExporter s xs os t run
