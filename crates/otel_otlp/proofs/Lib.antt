@@ -2,9 +2,11 @@ pub mod Adding
 pub mod BatchesAlike
 pub mod Fitting
 pub mod JsonParts
+pub mod LineLemmas
 pub mod LinesCut
 pub mod Numbers
 pub mod NumbersAlike
+pub mod QueueLemmas
 pub mod ReadsBack
 pub mod RunLaws
 pub mod Runs

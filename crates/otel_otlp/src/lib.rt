@@ -4,6 +4,7 @@
 mod exporter;
 pub mod fits;
 pub mod laws;
+pub mod queue;
 mod request;
 mod span;
 pub mod stream;

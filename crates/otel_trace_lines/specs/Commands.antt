@@ -47,24 +47,8 @@ plain_command commands.Shutdown = shutdown
 
 -- whether a command may end a span
 abbrev pub is_end : PlainCommand → Bool
-is_end (start span name moment) = false
-is_end (child span parent name moment) = false
-is_end (remote span header name moment) = false
-is_end (attr span key value) = false
-is_end (event span name moment) = false
-is_end (status span how) = false
-is_end (inject span) = false
 is_end (end span moment) = true
-is_end flush = false
-is_end (run moment) = false
-is_end shutdown = false
-
--- whether a command has the provider hand on what waits, where batches may be lost that no reply tells
-abbrev pub may_lose : PlainCommand → Bool
-may_lose flush = true
-may_lose (run moment) = true
-may_lose shutdown = true
-may_lose _ = false
+is_end _ = false
 
 -- what commands ask for, in order
 abbrev pub plain_commands : List Command → List PlainCommand

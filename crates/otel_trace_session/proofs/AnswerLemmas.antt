@@ -1,10 +1,11 @@
 -- What one command of a session comes to, whatever its answer.
-use Rattle.std.proofs.Common.{◌≡◌, Bool, true, false, List, refl, ap}
+use Rattle.std.proofs.Common.{◌≡◌, ◌∙◌, Bool, true, false, List, refl, ap}
 use Rattle.otel_export.specs.KeptBatches.{Grows, appends_none}
 use Rattle.otel_kept.specs.ProcessorKeeps.{OnlyAppends}
-use Rattle.otel_trace_lines.specs.Commands.{is_end, plain_command}
+use Rattle.otel_trace_lines.specs.Commands.{PlainCommand, start, child, remote, attr, event, status, inject, end, flush, run, shutdown, is_end, plain_command}
 use Rattle.otel_trace_lines.specs.declared.command.Command.{Command}
 use Rattle.otel_trace_lines.specs.declared.reply.Answer.{Answer}
+use Rattle.otel_trace_session.specs.Actions.{action_of, ends_span}
 use Rattle.otel_trace_session.specs.Calls.{Calls}
 use Rattle.otel_trace_session.specs.OpenSpans.{HaveHistories}
 use Rattle.otel_trace_session.specs.Shown.{session_batches, session_losses}
@@ -12,6 +13,20 @@ use Rattle.otel_trace_session.specs.Stops.{Answers, CarriesOut, Refuses}
 use Rattle.otel_trace_session.specs.Turns.{SessionState}
 use Rattle.otel_trace_session.proofs.KeptLemmas.{turn_loses_none}
 use Rattle.otel_trace_session.proofs.NamedLemmas.{described}
+
+-- a command ends a span where its action does
+same_end : (command : PlainCommand) → ends_span (action_of command) ≡ is_end command
+same_end (start span name moment) = refl
+same_end (child span parent name moment) = refl
+same_end (remote span header name moment) = refl
+same_end (attr span key value) = refl
+same_end (event span name moment) = refl
+same_end (status span how) = refl
+same_end (inject span) = refl
+same_end (end span moment) = refl
+same_end flush = refl
+same_end (run moment) = refl
+same_end shutdown = refl
 
 module _ {P S G : Type 0} (calls : Calls P S G) where
   -- a command that was carried out, and one that was refused, takes back no batch
@@ -30,4 +45,4 @@ module _ {P S G : Type 0} (calls : Calls P S G) where
   answers_one law old new command answer false have carries is none =
       let first = described old.spans have in
       let took = carries (record { provider = old.provider; histories = first.0; shown = 0 }) first.1 in
-      record { carried = carries; loses_none = turn_loses_none calls law old.scope (plain_command command) _ took.is.is_turn is }
+      record { carried = carries; loses_none = turn_loses_none calls law old.scope (action_of (plain_command command)) _ took.is.is_turn (same_end (plain_command command) ∙ is) }

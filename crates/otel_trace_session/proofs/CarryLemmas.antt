@@ -9,16 +9,16 @@ use Rattle.otel_kept.specs.ProcessorKeeps.{OnlyAppends}
 use Rattle.otel_pipeline.specs.Provider.{ProviderState, ShutsDown, shut_answer}
 use Rattle.otel_pipeline.specs.SpanHistory.{SpanHistory, Edit, begun, over, data_of, span_of}
 use Rattle.otel_pipeline.proofs.Following.{EachFollows-same, delivered_follows}
-use Rattle.otel_trace_lines.specs.Commands.{PlainCommand, start, child, remote, inject, end}
 use Rattle.otel_trace_lines.specs.declared.reply.Answer.{Answer}
 use Rattle.otel_trace_lines.specs.declared.reply.Answer.TheVariants as answers
+use Rattle.otel_trace_session.specs.Actions.{PlainAction, PlainCall, at_root, under, from_header, starts, edits, injects, ends, calls_provider}
 use Rattle.otel_trace_session.specs.Calls.{Calls}
 use Rattle.otel_trace_session.specs.Headers.{SaysContext, child_cx}
 use Rattle.otel_trace_session.specs.OpenSpans.{AnswersInject, Describe, Histories, NamedSpans, edited_in}
-use Rattle.otel_trace_session.specs.ProviderTurns.{AsksProvider, Shuts, call_answer}
+use Rattle.otel_trace_session.specs.ProviderTurns.{CallGives, Shuts, call_answer}
 use Rattle.otel_trace_session.specs.SpanTurns.{ChildTurn, EditTurn, EndTurn, Start, StartTurn, StartsAfter, start_in}
 use Rattle.otel_trace_session.specs.Turn.{AsksNobody, Course, TakesTurn, Turn}
-use Rattle.otel_trace_session.specs.Turns.{IsCarriedOut, IsTurn}
+use Rattle.otel_trace_session.specs.Turns.{IsCarriedOut, TakesAction}
 use Rattle.otel_trace_session.proofs.KeptLemmas.{turn_grows}
 use Rattle.otel_trace_session.proofs.TurnLemmas.{Childs, Edits, EndsNamed}
 
@@ -56,55 +56,53 @@ module _ {P S G : Type 0} (calls : Calls P S G) where
       (delivered_follows calls.processor turn.before.provider.is_shut moment (Some (data_of from edits from.start_time)) turn.before.provider.processors turn.after.provider.processors h.refused h.delivered)
 
 module _ {P S G : Type 0} (calls : Calls P S G) (law : OnlyAppends calls.processor calls.timer calls.keeps.kept calls.keeps.lost) (scope : PlainScope) where
-  -- a command was carried out in its turn
-  carried : (command : PlainCommand) (turn : Turn P S G) → FollowsIn calls turn → IsTurn calls scope command turn → IsCarriedOut calls scope command turn
-  carried command turn follows h = record { is_turn = h; follows = follows; grows = turn_grows calls law scope command turn h }
+  -- an action was carried out in its turn
+  carried : (action : PlainAction) (turn : Turn P S G) → FollowsIn calls turn → TakesAction calls scope action turn → IsCarriedOut calls scope action turn
+  carried action turn follows h = record { is_turn = h; follows = follows; grows = turn_grows calls law scope action turn h }
 
   -- a start, as a root, a child, or where a header says
   pub carries_start : (p q : ProviderState P S G) (old new : NamedSpans) (span name : List ℕ) (moment : ℕ) (answer : Answer)
-      → TakesTurn (StartTurn calls (start_in scope root_cx span name moment)) p old answer q new → TakesTurn (IsCarriedOut calls scope (start span name moment)) p old answer q new
+      → TakesTurn (StartTurn calls (start_in scope root_cx span name moment)) p old answer q new → TakesTurn (IsCarriedOut calls scope (starts at_root span name moment)) p old answer q new
   carries_start p q old new span name moment answer = took_also _ _ p q old new answer
-      (λ turn h. carried (start span name moment) turn (start_follows calls (turn.before.histories span) (start_in scope root_cx span name moment) turn h) h)
+      (λ turn h. carried (starts at_root span name moment) turn (start_follows calls (turn.before.histories span) (start_in scope root_cx span name moment) turn h) h)
 
   pub carries_child : (p q : ProviderState P S G) (old new : NamedSpans) (span parent name : List ℕ) (moment : ℕ) (answer : Answer)
-      → TakesTurn (Childs calls (start_in scope root_cx span name moment) parent) p old answer q new → TakesTurn (IsCarriedOut calls scope (child span parent name moment)) p old answer q new
+      → TakesTurn (Childs calls (start_in scope root_cx span name moment) parent) p old answer q new → TakesTurn (IsCarriedOut calls scope (starts (under parent) span name moment)) p old answer q new
   carries_child p q old new span parent name moment answer = took_also _ _ p q old new answer
-      (λ turn h. carried (child span parent name moment) turn (child_follows calls (turn.before.histories parent) (start_in scope root_cx span name moment) turn h) h)
+      (λ turn h. carried (starts (under parent) span name moment) turn (child_follows calls (turn.before.histories parent) (start_in scope root_cx span name moment) turn h) h)
 
   pub carries_remote : (p q : ProviderState P S G) (old new : NamedSpans) (span header name : List ℕ) (moment : ℕ) (cx : PlainContext) (answer : Answer) → SaysContext header cx
-      → TakesTurn (StartTurn calls (start_in scope cx span name moment)) p old answer q new → TakesTurn (IsCarriedOut calls scope (remote span header name moment)) p old answer q new
+      → TakesTurn (StartTurn calls (start_in scope cx span name moment)) p old answer q new → TakesTurn (IsCarriedOut calls scope (starts (from_header header) span name moment)) p old answer q new
   carries_remote p q old new span header name moment cx answer says = took_also _ _ p q old new answer
-      (λ turn h. carried (remote span header name moment) turn (start_follows calls (turn.before.histories span) (start_in scope cx span name moment) turn h) (record { cx = cx; says = says; starts = h }))
+      (λ turn h. carried (starts (from_header header) span name moment) turn (start_follows calls (turn.before.histories span) (start_in scope cx span name moment) turn h) (record { cx = cx; says = says; starts = h }))
 
   -- an edit
-  pub carries_edit : (command : PlainCommand) (p : ProviderState P S G) (old new : NamedSpans) (span : List ℕ) (edit : Edit) (answer : Answer) → ((turn : Turn P S G) → EditTurn span edit turn → IsTurn calls scope command turn)
-      → Edits old span edit answer new → TakesTurn (IsCarriedOut calls scope command) p old answer p new
-  carries_edit command p old new span edit answer is edits = λ before describes.
-      let edited = edits before.histories describes in
+  pub carries_edit : (p : ProviderState P S G) (old new : NamedSpans) (span : List ℕ) (edit : Edit) (answer : Answer) → Edits old span edit answer new → TakesTurn (IsCarriedOut calls scope (edits span edit)) p old answer p new
+  carries_edit p old new span edit answer made = λ before describes.
+      let edited = made before.histories describes in
       let turn : Turn P S G = record { before = record before { provider = p }; answer = answer; delivered = []; after = record before { provider = p; histories = edited_in before.histories span edit } } in
       let h : EditTurn span edit turn = record { says = edited.0; delivers = refl; rest = refl } in
-      record { delivered = []; histories = edited_in before.histories span edit; is = carried command turn (nobody_follows calls _ _ turn h) (is turn h); describes = edited.1 }
+      record { delivered = []; histories = edited_in before.histories span edit; is = carried (edits span edit) turn (nobody_follows calls _ _ turn h) h; describes = edited.1 }
 
   -- the headers of a span
   pub carries_inject : (p : ProviderState P S G) (spans : NamedSpans) (span : List ℕ) (answer : Answer) → ((histories : Histories) → Describe histories spans → AnswersInject (histories span) answer)
-      → TakesTurn (IsCarriedOut calls scope (inject span)) p spans answer p spans
+      → TakesTurn (IsCarriedOut calls scope (injects span)) p spans answer p spans
   carries_inject p spans span answer says = λ before describes.
       let turn : Turn P S G = record { before = record before { provider = p }; answer = answer; delivered = []; after = record before { provider = p } } in
-      record { delivered = []; histories = before.histories; is = carried (inject span) turn (follows_none calls turn refl refl) (record { says = says before.histories describes; delivers = refl; rest = refl }); describes = describes }
+      record { delivered = []; histories = before.histories; is = carried (injects span) turn (follows_none calls turn refl refl) (record { says = says before.histories describes; delivers = refl; rest = refl }); describes = describes }
 
   -- an end
   pub carries_end : (p q : ProviderState P S G) (old new : NamedSpans) (span : List ℕ) (moment : ℕ) (answer : Answer)
-      → TakesTurn (EndsNamed calls.processor span moment) p old answer q new → TakesTurn (IsCarriedOut calls scope (end span moment)) p old answer q new
+      → TakesTurn (EndsNamed calls.processor span moment) p old answer q new → TakesTurn (IsCarriedOut calls scope (ends span moment)) p old answer q new
   carries_end p q old new span moment answer = took_also _ _ p q old new answer
-      (λ turn h. carried (end span moment) turn (end_follows calls (turn.before.histories span) span moment turn h) h)
+      (λ turn h. carried (ends span moment) turn (end_follows calls (turn.before.histories span) span moment turn h) h)
 
   -- a call of the provider
-  pub carries_call : (command : PlainCommand) (Gives : ProviderState P S G → Result (Unit {0}) OTelSdkError → ProviderState P S G → Type 0) (p q : ProviderState P S G) (spans : NamedSpans) (said : Result (Unit {0}) OTelSdkError)
-      → ((turn : Turn P S G) → AsksProvider Gives turn → IsTurn calls scope command turn) → Gives p said q → EachFollows calls.processor [] p.processors q.processors
-      → TakesTurn (IsCarriedOut calls scope command) p spans (call_answer said) q spans
-  carries_call command Gives p q spans said is gives follows = λ before describes.
+  pub carries_call : (call : PlainCall) (p q : ProviderState P S G) (spans : NamedSpans) (said : Result (Unit {0}) OTelSdkError)
+      → CallGives calls call p said q → EachFollows calls.processor [] p.processors q.processors → TakesTurn (IsCarriedOut calls scope (calls_provider call)) p spans (call_answer said) q spans
+  carries_call call p q spans said gives follows = λ before describes.
       let turn : Turn P S G = record { before = record before { provider = p }; answer = call_answer said; delivered = []; after = record before { provider = q } } in
-      record { delivered = []; histories = before.histories; is = carried command turn follows (is turn (record { said = said; gives = gives; says = refl; delivers = refl; rest = refl })); describes = describes }
+      record { delivered = []; histories = before.histories; is = carried (calls_provider call) turn follows (record { said = said; gives = gives; says = refl; delivers = refl; rest = refl }); describes = describes }
 
 -- a shutdown, by what is promised of a second one and of a first one
 pub shuts_by : {P S G : Type 0} (calls : Calls P S G) (p q : ProviderState P S G) (said : Result (Unit {0}) OTelSdkError)

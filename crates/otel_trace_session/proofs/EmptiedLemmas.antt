@@ -8,14 +8,15 @@ use Rattle.otel_export.specs.declared.error.OTelSdkError.TheVariants as errors
 use Rattle.otel_pipeline.specs.Each.{Each, error_count, first_failure}
 use Rattle.otel_pipeline.specs.Provider.{Flushes, FlushesProcessor, ProviderState, ShutsDown, ShutsProcessor, shut_answer}
 use Rattle.otel_pipeline.specs.declared.trace.span_processor.SpanProcessor.{Ghosts}
-use Rattle.otel_trace_lines.specs.Commands.{PlainCommand, start, child, remote, attr, event, status, inject, end, flush, run, shutdown}
+use Rattle.otel_trace_lines.specs.Commands.{PlainCommand}
 use Rattle.otel_trace_lines.specs.PlainReply.{PlainReply}
 use Rattle.otel_trace_lines.specs.declared.reply.Answer.TheVariants as answers
+use Rattle.otel_trace_session.specs.Actions.{PlainAction, PlainCall, action_of, flushes, runs_at, shuts_down, starts, edits, injects, ends, calls_provider}
 use Rattle.otel_trace_session.specs.Calls.{Calls}
-use Rattle.otel_trace_session.specs.ProviderTurns.{EmptiesIfOk, call_answer}
+use Rattle.otel_trace_session.specs.ProviderTurns.{AsksProvider, CallGives, EmptiesIfOk, call_answer}
 use Rattle.otel_trace_session.specs.Shown.{EmptiedAfter}
 use Rattle.otel_trace_session.specs.Turn.{Course, Turn}
-use Rattle.otel_trace_session.specs.Turns.{AreTurns, IsTurn, replied, reply_of}
+use Rattle.otel_trace_session.specs.Turns.{AreTurns, TakesAction, replied, reply_of}
 
 -- none waits at any processor
 abbrev NoneWaits : {P : Type 0} → Ghosts P → List P → Type 0
@@ -64,28 +65,27 @@ module _ {P S G : Type 0} (calls : Calls P S G) where
   shutdown_leaves_none false old new said h e = first_shutdown_leaves_none calls.processor old new 5_000_000_000 said h e
 
   -- after one command
-  one_empties : (scope : PlainScope) (command : PlainCommand) (turn : Turn P S G) → IsTurn calls scope command turn → EmptiesIfOk calls.processor command turn.answer turn.after.provider.processors
-  one_empties scope (start span name moment) turn h is e = absurd (search (rules, is))
-  one_empties scope (child span parent name moment) turn h is e = absurd (search (rules, is))
-  one_empties scope (remote span header name moment) turn h is e = absurd (search (rules, is))
-  one_empties scope (attr span key value) turn h is e = absurd (search (rules, is))
-  one_empties scope (event span name moment) turn h is e = absurd (search (rules, is))
-  one_empties scope (status span how) turn h is e = absurd (search (rules, is))
-  one_empties scope (inject span) turn h is e = absurd (search (rules, is))
-  one_empties scope (end span moment) turn h is e = absurd (search (rules, is))
-  one_empties scope flush turn h is e = flush_leaves_none calls.processor turn.before.provider turn.after.provider h.said h.gives (sym h.says ∙ e)
-  one_empties scope (run moment) turn h is e = absurd (search (rules, is))
-  one_empties scope shutdown turn h is e = shutdown_leaves_none turn.before.provider.is_shut turn.before.provider turn.after.provider h.said h.gives (sym h.says ∙ e)
+  call_empties : (call : PlainCall) (turn : Turn P S G) → AsksProvider (CallGives calls call) turn → EmptiesIfOk calls.processor (calls_provider call) turn.answer turn.after.provider.processors
+  call_empties flushes turn h is e = flush_leaves_none calls.processor turn.before.provider turn.after.provider h.said h.gives (sym h.says ∙ e)
+  call_empties (runs_at moment) turn h is e = absurd (search (rules, is))
+  call_empties shuts_down turn h is e = shutdown_leaves_none turn.before.provider.is_shut turn.before.provider turn.after.provider h.said h.gives (sym h.says ∙ e)
+
+  one_empties : (scope : PlainScope) (action : PlainAction) (turn : Turn P S G) → TakesAction calls scope action turn → EmptiesIfOk calls.processor action turn.answer turn.after.provider.processors
+  one_empties scope (starts origin span name moment) turn h is e = absurd (search (rules, is))
+  one_empties scope (edits span edit) turn h is e = absurd (search (rules, is))
+  one_empties scope (injects span) turn h is e = absurd (search (rules, is))
+  one_empties scope (ends span moment) turn h is e = absurd (search (rules, is))
+  one_empties scope (calls_provider call) turn h is e = call_empties call turn h is e
 
   -- after all, by the last of them
   all_empty : (scope : PlainScope) (old new : Course P S G) (commands : List PlainCommand) (turns : List (Turn P S G)) (before : List PlainCommand) (last : PlainCommand) (others : List PlainReply) (reply : PlainReply)
-      → AreTurns calls scope old commands turns new → commands ≡ before ++ last ∷ [] → map (reply_of calls) turns ≡ others ++ reply ∷ [] → EmptiesIfOk calls.processor last reply.answer new.provider.processors
+      → AreTurns calls scope old commands turns new → commands ≡ before ++ last ∷ [] → map (reply_of calls) turns ≡ others ++ reply ∷ [] → EmptiesIfOk calls.processor (action_of last) reply.answer new.provider.processors
   all_empty scope old new [] turns before last others reply h e f = absurd (omega (arith, ap length e, length-append before (last ∷ [])))
   all_empty scope old new (command ∷ commands) [] before last others reply h e f = absurd h
   all_empty scope old new (command ∷ []) (turn ∷ []) before last others reply h e f =
-      subst (λ (c : PlainCommand). EmptiesIfOk calls.processor c reply.answer new.provider.processors) (same_from_push [] before command last e).1
-      (subst (λ (r : PlainReply). EmptiesIfOk calls.processor command r.answer new.provider.processors) (same_from_push [] others (reply_of calls turn) reply f).1
-      (subst (λ (c : Course P S G). EmptiesIfOk calls.processor command turn.answer c.provider.processors) (sym h.3) (one_empties scope command turn h.1.is_turn)))
+      subst (λ (c : PlainCommand). EmptiesIfOk calls.processor (action_of c) reply.answer new.provider.processors) (same_from_push [] before command last e).1
+      (subst (λ (r : PlainReply). EmptiesIfOk calls.processor (action_of command) r.answer new.provider.processors) (same_from_push [] others (reply_of calls turn) reply f).1
+      (subst (λ (c : Course P S G). EmptiesIfOk calls.processor (action_of command) turn.answer c.provider.processors) (sym h.3) (one_empties scope (action_of command) turn h.1.is_turn)))
   all_empty scope old new (command ∷ []) (turn ∷ next ∷ turns) before last others reply h e f = absurd h.3
   all_empty scope old new (command ∷ following ∷ commands) (turn ∷ []) before last others reply h e f = absurd h.3
   all_empty scope old new (command ∷ following ∷ commands) (turn ∷ next ∷ turns) [] last others reply h e f = absurd (omega (arith, ap length e))

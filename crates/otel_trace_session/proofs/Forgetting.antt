@@ -11,16 +11,18 @@ use Rattle.otel_pipeline.specs.Provider.{ProviderState, ShutsDown, shut_answer}
 use Rattle.otel_pipeline.specs.SpanHistory.{SpanHistory, begun, over, data_of}
 use Rattle.otel_kept.specs.RecalledBatches.{FirstRecalled, Recalls}
 use Rattle.otel_kept.proofs.ProviderRecalls.{delivers_again, first_once, flushes_again, follows_again, runs_again, shuts_again, starts_again, told_again}
-use Rattle.otel_trace_lines.specs.Commands.{PlainCommand, start, child, remote, attr, event, status, inject, end, flush, run, shutdown, plain_commands}
+use Rattle.otel_trace_lines.specs.Commands.{PlainCommand, plain_commands}
 use Rattle.otel_trace_lines.specs.PlainReply.{PlainReply}
 use Rattle.otel_trace_lines.specs.declared.command.Command.{Command}
 use Rattle.otel_trace_lines.specs.declared.reply.Answer.{Answer}
+use Rattle.otel_trace_session.specs.Actions.{PlainAction, PlainCall, PlainOrigin, action_of, at_root, under, from_header, flushes, runs_at, shuts_down}
+use Rattle.otel_trace_session.specs.Actions.{starts, edits, injects, ends, calls_provider}
 use Rattle.otel_trace_session.specs.Calls.{Calls, batches_of_first, losses_of_first}
 use Rattle.otel_trace_session.specs.OpenSpans.{Describe, Histories}
-use Rattle.otel_trace_session.specs.ProviderTurns.{AsksProvider, Shuts, ShutsOr}
-use Rattle.otel_trace_session.specs.SpanTurns.{ChildTurn, EndTurn, Start, StartTurn, StartsAfter, request_of, start_in}
+use Rattle.otel_trace_session.specs.ProviderTurns.{AsksProvider, CallGives, Shuts, ShutsOr}
+use Rattle.otel_trace_session.specs.SpanTurns.{ChildTurn, EndTurn, Start, StartTurn, StartsAfter, StartsFrom, request_of, start_in}
 use Rattle.otel_trace_session.specs.Turn.{AsksNobody, Course, Turn}
-use Rattle.otel_trace_session.specs.Turns.{AreTurns, IsTurn, Runs, SessionState, TookTurns, course_of, replied, reply_of}
+use Rattle.otel_trace_session.specs.Turns.{AreTurns, IsTurn, TakesAction, Runs, SessionState, TookTurns, course_of, replied, reply_of}
 
 abbrev Batches : Type 0
 Batches = List (List PlainSpanData)
@@ -136,26 +138,32 @@ module _ {P S G : Type 0} (calls : Calls P S G) (law : RecallsNothingElse calls)
             (same_shut_answer old.is_disabled old.processors rs h) again.2,
       )
 
-  -- the turn of a command
-  turn_again : (scope : PlainScope) (command : PlainCommand) (turn : Turn P S G) (rs : List P) → FirstRecalled calls.keeps.recalled bs turn.before.provider.processors rs
-      → IsTurn calls scope command turn → Again (IsTurn calls scope command) turn rs
-  turn_again scope (start span name moment) turn rs h k = start_again _ turn rs h k
-  turn_again scope (child span parent name moment) turn rs h k = child_again (start_in scope root_cx span name moment) (turn.before.histories parent) turn rs h k
-  turn_again scope (remote span header name moment) turn rs h k =
+  -- the turn of an action
+  origin_again : (scope : PlainScope) (origin : PlainOrigin) (span name : List ℕ) (moment : ℕ) (turn : Turn P S G) (rs : List P) → FirstRecalled calls.keeps.recalled bs turn.before.provider.processors rs
+      → StartsFrom calls scope origin span name moment turn → Again (StartsFrom calls scope origin span name moment) turn rs
+  origin_again scope at_root span name moment turn rs h k = start_again _ turn rs h k
+  origin_again scope (under parent) span name moment turn rs h k = child_again (start_in scope root_cx span name moment) (turn.before.histories parent) turn rs h k
+  origin_again scope (from_header header) span name moment turn rs h k =
       let started = start_again _ turn rs h k.starts in
       (started.0, started.1, record { cx = k.cx; says = k.says; starts = started.2 })
-  turn_again scope (attr span key value) turn rs h k = nobody_again _ _ turn rs h k
-  turn_again scope (event span name moment) turn rs h k = nobody_again _ _ turn rs h k
-  turn_again scope (status span how) turn rs h k = nobody_again _ _ turn rs h k
-  turn_again scope (inject span) turn rs h k = (
+
+  call_again : (call : PlainCall) (turn : Turn P S G) (rs : List P) → FirstRecalled calls.keeps.recalled bs turn.before.provider.processors rs
+      → AsksProvider (CallGives calls call) turn → Again (AsksProvider (CallGives calls call)) turn rs
+  call_again flushes turn rs h k = asks_again _ (λ old rs said new. flushes_again calls.processor calls.timer calls.keeps.kept calls.keeps.lost calls.keeps.recalled law bs old rs said new) turn rs h k
+  call_again (runs_at moment) turn rs h k = asks_again _ (λ old rs said new. runs_again calls.processor calls.timer calls.keeps.kept calls.keeps.lost calls.keeps.recalled law bs moment old rs said new) turn rs h k
+  call_again shuts_down turn rs h k = asks_again _ (λ old rs said new. shuts_as_asked old rs said new) turn rs h k
+
+  turn_again : (scope : PlainScope) (action : PlainAction) (turn : Turn P S G) (rs : List P) → FirstRecalled calls.keeps.recalled bs turn.before.provider.processors rs
+      → TakesAction calls scope action turn → Again (TakesAction calls scope action) turn rs
+  turn_again scope (starts origin span name moment) turn rs h k = origin_again scope origin span name moment turn rs h k
+  turn_again scope (edits span edit) turn rs h k = nobody_again _ _ turn rs h k
+  turn_again scope (injects span) turn rs h k = (
     rs,
     subst (λ (c : Course P S G). FirstRecalled calls.keeps.recalled bs c.provider.processors rs) (sym k.rest) h,
     record { says = k.says; delivers = k.delivers; rest = ap (λ (c : Course P S G). shift c rs) k.rest },
   )
-  turn_again scope (end span moment) turn rs h k = end_again span moment (turn.before.histories span) turn rs h k
-  turn_again scope flush turn rs h k = asks_again _ (λ old rs said new. flushes_again calls.processor calls.timer calls.keeps.kept calls.keeps.lost calls.keeps.recalled law bs old rs said new) turn rs h k
-  turn_again scope (run moment) turn rs h k = asks_again _ (λ old rs said new. runs_again calls.processor calls.timer calls.keeps.kept calls.keeps.lost calls.keeps.recalled law bs moment old rs said new) turn rs h k
-  turn_again scope shutdown turn rs h k = asks_again _ (λ old rs said new. shuts_as_asked old rs said new) turn rs h k
+  turn_again scope (ends span moment) turn rs h k = end_again span moment (turn.before.histories span) turn rs h k
+  turn_again scope (calls_provider call) turn rs h k = call_again call turn rs h k
 
   -- what the first processor keeps and lost
   pub kept_again : (ps rs : List P) → FirstRecalled calls.keeps.recalled bs ps rs → batches_of_first calls.keeps rs ≡ bs ++ batches_of_first calls.keeps ps
@@ -212,7 +220,7 @@ module _ {P S G : Type 0} (calls : Calls P S G) (law : RecallsNothingElse calls)
   turns_again scope old new rs (command ∷ commands) [] h k = absurd k
   turns_again scope old new rs (command ∷ commands) (turn ∷ turns) h k =
       let begins : FirstRecalled calls.keeps.recalled bs turn.before.provider.processors rs = subst (λ (c : Course P S G). FirstRecalled calls.keeps.recalled bs c.provider.processors rs) (sym k.0) h in
-      let one = turn_again scope command turn rs begins k.1.is_turn in
+      let one = turn_again scope (action_of command) turn rs begins k.1.is_turn in
       let others = turns_again scope (replied calls turn.after) new one.0 commands turns one.1 k.3 in
       record {
         processors = others.processors;

@@ -11,16 +11,18 @@ use Rattle.otel_pipeline.specs.Each.{error_count}
 use Rattle.otel_pipeline.specs.Provider.{FlushesProcessor, ProviderState, RunsProcessor, ShutsDown, shut_answer}
 use Rattle.otel_pipeline.specs.SpanHistory.{SpanHistory, begun, over, span_of}
 use Rattle.otel_pipeline.proofs.Following.{EachFollows-same, EachFollows-append, EachStays, hears_first, hears_no_delivery, hears_on, stays_same, stays_asked}
-use Rattle.otel_trace_lines.specs.Commands.{PlainCommand, start, child, remote, attr, event, status, inject, end, flush, run, shutdown}
+use Rattle.otel_trace_lines.specs.Commands.{PlainCommand}
 use Rattle.otel_trace_lines.specs.declared.reply.Answer.{Answer}
 use Rattle.otel_trace_lines.specs.declared.reply.Answer.TheVariants as answers
+use Rattle.otel_trace_session.specs.Actions.{PlainAction, PlainCall, PlainOrigin, action_of, is_shutdown, at_root, under, from_header, flushes, runs_at, shuts_down}
+use Rattle.otel_trace_session.specs.Actions.{starts, edits, injects, ends, calls_provider}
 use Rattle.otel_trace_session.specs.Calls.{Calls}
 use Rattle.otel_trace_session.specs.Headers.{child_cx}
 use Rattle.otel_trace_session.specs.OpenSpans.{Histories}
-use Rattle.otel_trace_session.specs.SpanTurns.{ChildTurn, EndTurn, Start, StartsAfter, start_in}
-use Rattle.otel_trace_session.specs.Traces.{is_shutdown}
+use Rattle.otel_trace_session.specs.SpanTurns.{ChildTurn, EndTurn, Start, StartsAfter, StartsFrom, start_in}
+use Rattle.otel_trace_session.specs.ProviderTurns.{AsksProvider, CallGives}
 use Rattle.otel_trace_session.specs.Turn.{AsksNobody, Course, Turn}
-use Rattle.otel_trace_session.specs.Turns.{AreTurns, IsTurn, delivered_in, replied}
+use Rattle.otel_trace_session.specs.Turns.{AreTurns, TakesAction, delivered_in, replied}
 use Rattle.otel_trace_session.proofs.TraceLemmas.{one_stays}
 
 -- an end at a shut provider delivers nothing
@@ -56,21 +58,25 @@ module _ {P S G : Type 0} (calls : Calls P S G) where
   end_closes_none (Some (over context limits)) span moment turn h = nobody_closes_none answers.Ignored turn.before.histories turn h
   end_closes_none (Some (begun from edits)) span moment turn h = delivery_closes_none turn.before.provider.is_shut _ turn.before.provider.processors turn.after.provider.processors h.refused h.delivered
 
-  -- over any command but a shutdown
-  one_closes_none : (scope : PlainScope) (command : PlainCommand) (turn : Turn P S G) → is_shutdown command ≡ false → IsTurn calls scope command turn → StaysIn turn
-  one_closes_none scope (start span name moment) turn e h = start_closes_none (turn.before.histories span) (start_in scope root_cx span name moment) turn h
-  one_closes_none scope (child span parent name moment) turn e h = child_closes_none (turn.before.histories parent) (start_in scope root_cx span name moment) turn h
-  one_closes_none scope (remote span header name moment) turn e h = start_closes_none (turn.before.histories span) (start_in scope h.cx span name moment) turn h.starts
-  one_closes_none scope (attr span key value) turn e h = nobody_closes_none _ _ turn h
-  one_closes_none scope (event span name moment) turn e h = nobody_closes_none _ _ turn h
-  one_closes_none scope (status span how) turn e h = nobody_closes_none _ _ turn h
-  one_closes_none scope (inject span) turn e h = told_stays turn (ap (λ (c : Course P S G). map calls.processor.told c.provider.processors) h.rest)
-  one_closes_none scope (end span moment) turn e h = end_closes_none (turn.before.histories span) span moment turn h
-  one_closes_none scope flush turn e h =
+  origin_closes_none : (scope : PlainScope) (origin : PlainOrigin) (span name : List ℕ) (moment : ℕ) (turn : Turn P S G) → StartsFrom calls scope origin span name moment turn → StaysIn turn
+  origin_closes_none scope at_root span name moment turn h = start_closes_none (turn.before.histories span) (start_in scope root_cx span name moment) turn h
+  origin_closes_none scope (under parent) span name moment turn h = child_closes_none (turn.before.histories parent) (start_in scope root_cx span name moment) turn h
+  origin_closes_none scope (from_header header) span name moment turn h = start_closes_none (turn.before.histories span) (start_in scope h.cx span name moment) turn h.starts
+
+  call_closes_none : (call : PlainCall) (turn : Turn P S G) → is_shutdown (calls_provider call) ≡ false → AsksProvider (CallGives calls call) turn → StaysIn turn
+  call_closes_none flushes turn e h =
       stays_asked calls.processor (FlushesProcessor calls.processor) (λ p r q flushes. flushes.is_open) turn.before.provider.processors turn.after.provider.processors (error_count h.gives.asked.0) (h.gives.asked.0, refl, h.gives.asked.2)
-  one_closes_none scope (run moment) turn e h =
+  call_closes_none (runs_at moment) turn e h =
       stays_asked calls.processor (RunsProcessor calls.processor calls.timer moment) (λ p r q runs. runs.is_open) turn.before.provider.processors turn.after.provider.processors h.gives.failed h.gives.asked
-  one_closes_none scope shutdown turn e h = cc
+  call_closes_none shuts_down turn e h = cc
+
+  -- over any action but a shutdown
+  one_closes_none : (scope : PlainScope) (action : PlainAction) (turn : Turn P S G) → is_shutdown action ≡ false → TakesAction calls scope action turn → StaysIn turn
+  one_closes_none scope (starts origin span name moment) turn e h = origin_closes_none scope origin span name moment turn h
+  one_closes_none scope (edits span edit) turn e h = nobody_closes_none _ _ turn h
+  one_closes_none scope (injects span) turn e h = told_stays turn (ap (λ (c : Course P S G). map calls.processor.told c.provider.processors) h.rest)
+  one_closes_none scope (ends span moment) turn e h = end_closes_none (turn.before.histories span) span moment turn h
+  one_closes_none scope (calls_provider call) turn e h = call_closes_none call turn e h
 
   -- a start delivers nothing
   start_delivers_none : (found : Option SpanHistory) (asked : Start) (turn : Turn P S G) → StartsAfter calls found asked turn → turn.delivered ≡ []
@@ -86,19 +92,18 @@ module _ {P S G : Type 0} (calls : Calls P S G) where
   shut_end_delivers_none (Some (over context limits)) span moment turn shut h = h.delivers
   shut_end_delivers_none (Some (begun from edits)) span moment turn shut h = h.delivers ∙ end_delivers_none turn.before.provider.is_shut _ h.refused shut
 
-  -- at a shut provider no command delivers anything
-  shut_delivers_none : (scope : PlainScope) (command : PlainCommand) (turn : Turn P S G) → turn.before.provider.is_shut ≡ true → IsTurn calls scope command turn → turn.delivered ≡ []
-  shut_delivers_none scope (start span name moment) turn shut h = start_delivers_none (turn.before.histories span) (start_in scope root_cx span name moment) turn h
-  shut_delivers_none scope (child span parent name moment) turn shut h = child_delivers_none (turn.before.histories parent) (start_in scope root_cx span name moment) turn h
-  shut_delivers_none scope (remote span header name moment) turn shut h = start_delivers_none (turn.before.histories span) (start_in scope h.cx span name moment) turn h.starts
-  shut_delivers_none scope (attr span key value) turn shut h = h.delivers
-  shut_delivers_none scope (event span name moment) turn shut h = h.delivers
-  shut_delivers_none scope (status span how) turn shut h = h.delivers
-  shut_delivers_none scope (inject span) turn shut h = h.delivers
-  shut_delivers_none scope (end span moment) turn shut h = shut_end_delivers_none (turn.before.histories span) span moment turn shut h
-  shut_delivers_none scope flush turn shut h = h.delivers
-  shut_delivers_none scope (run moment) turn shut h = h.delivers
-  shut_delivers_none scope shutdown turn shut h = h.delivers
+  origin_delivers_none : (scope : PlainScope) (origin : PlainOrigin) (span name : List ℕ) (moment : ℕ) (turn : Turn P S G) → StartsFrom calls scope origin span name moment turn → turn.delivered ≡ []
+  origin_delivers_none scope at_root span name moment turn h = start_delivers_none (turn.before.histories span) (start_in scope root_cx span name moment) turn h
+  origin_delivers_none scope (under parent) span name moment turn h = child_delivers_none (turn.before.histories parent) (start_in scope root_cx span name moment) turn h
+  origin_delivers_none scope (from_header header) span name moment turn h = start_delivers_none (turn.before.histories span) (start_in scope h.cx span name moment) turn h.starts
+
+  -- at a shut provider no action delivers anything
+  shut_delivers_none : (scope : PlainScope) (action : PlainAction) (turn : Turn P S G) → turn.before.provider.is_shut ≡ true → TakesAction calls scope action turn → turn.delivered ≡ []
+  shut_delivers_none scope (starts origin span name moment) turn shut h = origin_delivers_none scope origin span name moment turn h
+  shut_delivers_none scope (edits span edit) turn shut h = h.delivers
+  shut_delivers_none scope (injects span) turn shut h = h.delivers
+  shut_delivers_none scope (ends span moment) turn shut h = shut_end_delivers_none (turn.before.histories span) span moment turn shut h
+  shut_delivers_none scope (calls_provider call) turn shut h = h.delivers
 
   shut_by : (again : Result (Unit {0}) OTelSdkError) (is_shut : Bool) (old new : ProviderState P S G) (said : Result (Unit {0}) OTelSdkError)
       → old.is_shut ≡ is_shut → MatchBool is_shut ((said ≡ again) × (new ≡ old)) (ShutsDown calls.processor old 5_000_000_000 said new) → new.is_shut ≡ true
@@ -106,23 +111,22 @@ module _ {P S G : Type 0} (calls : Calls P S G) where
   shut_by again false old new said e h = ap (λ (p : ProviderState P S G). p.is_shut) h.rest
 
   -- after a shutdown the provider is shut
-  shutdown_shuts : (scope : PlainScope) (command : PlainCommand) (turn : Turn P S G) → is_shutdown command ≡ true → IsTurn calls scope command turn → (turn.after.provider.is_shut ≡ true) × (turn.delivered ≡ [])
-  shutdown_shuts scope (start span name moment) turn e h = cc
-  shutdown_shuts scope (child span parent name moment) turn e h = cc
-  shutdown_shuts scope (remote span header name moment) turn e h = cc
-  shutdown_shuts scope (attr span key value) turn e h = cc
-  shutdown_shuts scope (event span name moment) turn e h = cc
-  shutdown_shuts scope (status span how) turn e h = cc
-  shutdown_shuts scope (inject span) turn e h = cc
-  shutdown_shuts scope (end span moment) turn e h = cc
-  shutdown_shuts scope flush turn e h = cc
-  shutdown_shuts scope (run moment) turn e h = cc
-  shutdown_shuts scope shutdown turn e h = (shut_by (shut_answer turn.before.provider.is_disabled turn.before.provider.processors) turn.before.provider.is_shut turn.before.provider turn.after.provider h.said refl h.gives, h.delivers)
+  call_shuts : (call : PlainCall) (turn : Turn P S G) → is_shutdown (calls_provider call) ≡ true → AsksProvider (CallGives calls call) turn → turn.after.provider.is_shut ≡ true
+  call_shuts flushes turn e h = cc
+  call_shuts (runs_at moment) turn e h = cc
+  call_shuts shuts_down turn e h = shut_by (shut_answer turn.before.provider.is_disabled turn.before.provider.processors) turn.before.provider.is_shut turn.before.provider turn.after.provider h.said refl h.gives
 
-  -- a shut provider stays shut over any command
-  stays_shut : (b : Bool) (scope : PlainScope) (command : PlainCommand) (turn : Turn P S G) → is_shutdown command ≡ b → turn.before.provider.is_shut ≡ true → IsTurn calls scope command turn → turn.after.provider.is_shut ≡ true
-  stays_shut true scope command turn e shut h = (shutdown_shuts scope command turn e h).0
-  stays_shut false scope command turn e shut h = (one_stays calls scope command turn e h).0 ∙ shut
+  shutdown_shuts : (scope : PlainScope) (action : PlainAction) (turn : Turn P S G) → is_shutdown action ≡ true → TakesAction calls scope action turn → (turn.after.provider.is_shut ≡ true) × (turn.delivered ≡ [])
+  shutdown_shuts scope (starts origin span name moment) turn e h = cc
+  shutdown_shuts scope (edits span edit) turn e h = cc
+  shutdown_shuts scope (injects span) turn e h = cc
+  shutdown_shuts scope (ends span moment) turn e h = cc
+  shutdown_shuts scope (calls_provider call) turn e h = (call_shuts call turn e h, h.delivers)
+
+  -- a shut provider stays shut over any action
+  stays_shut : (b : Bool) (scope : PlainScope) (action : PlainAction) (turn : Turn P S G) → is_shutdown action ≡ b → turn.before.provider.is_shut ≡ true → TakesAction calls scope action turn → turn.after.provider.is_shut ≡ true
+  stays_shut true scope action turn e shut h = (shutdown_shuts scope action turn e h).0
+  stays_shut false scope action turn e shut h = (one_stays calls scope action turn e h).0 ∙ shut
 
   -- each processor follows all that is delivered
   pub all_follow : (scope : PlainScope) (old new : Course P S G) (commands : List PlainCommand) (turns : List (Turn P S G)) → AreTurns calls scope old commands turns new
@@ -142,8 +146,8 @@ module _ {P S G : Type 0} (calls : Calls P S G) where
   none_after scope old new (command ∷ commands) [] shut h = absurd h
   none_after scope old new (command ∷ commands) (turn ∷ turns) shut h =
       let is_shut = ap (λ (c : Course P S G). c.provider.is_shut) h.0 ∙ shut in
-      let first : turn.delivered ≡ [] = shut_delivers_none scope command turn is_shut h.1.is_turn in
-      let still = stays_shut (is_shutdown command) scope command turn refl is_shut h.1.is_turn in
+      let first : turn.delivered ≡ [] = shut_delivers_none scope (action_of command) turn is_shut h.1.is_turn in
+      let still = stays_shut (is_shutdown (action_of command)) scope (action_of command) turn refl is_shut h.1.is_turn in
       ap (λ (l : List Delivery). l ++ delivered_in turns) first ∙ none_after scope (replied calls turn.after) new commands turns still h.3
 
   -- each processor that was open hears all that is delivered
@@ -154,16 +158,16 @@ module _ {P S G : Type 0} (calls : Calls P S G) where
   all_heard scope old new (command ∷ commands) [] h = absurd h
   all_heard scope old new (command ∷ commands) (turn ∷ turns) h =
       subst (λ (c : Course P S G). EachOpenHears calls.processor (delivered_in (turn ∷ turns)) c.provider.processors new.provider.processors) h.0
-      (by (is_shutdown command) refl (all_heard scope (replied calls turn.after) new commands turns h.3))
+      (by (is_shutdown (action_of command)) refl (all_heard scope (replied calls turn.after) new commands turns h.3))
     where
-      by : (b : Bool) → is_shutdown command ≡ b → EachOpenHears calls.processor (delivered_in turns) turn.after.provider.processors new.provider.processors
+      by : (b : Bool) → is_shutdown (action_of command) ≡ b → EachOpenHears calls.processor (delivered_in turns) turn.after.provider.processors new.provider.processors
           → EachOpenHears calls.processor (turn.delivered ++ delivered_in turns) turn.before.provider.processors new.provider.processors
       by false e rest =
-          let stays = one_closes_none scope command turn e h.1.is_turn in
+          let stays = one_closes_none scope (action_of command) turn e h.1.is_turn in
           let first = hears_first calls.processor turn.delivered turn.before.provider.processors turn.after.provider.processors h.1.follows stays in
           hears_on calls.processor turn.delivered (delivered_in turns) turn.before.provider.processors turn.after.provider.processors new.provider.processors first stays rest
       by true e _ =
-          let shut = shutdown_shuts scope command turn e h.1.is_turn in
+          let shut = shutdown_shuts scope (action_of command) turn e h.1.is_turn in
           let none : turn.delivered ++ delivered_in turns ≡ [] = ap (λ (l : List Delivery). l ++ delivered_in turns) shut.1 ∙ none_after scope (replied calls turn.after) new commands turns shut.0 h.3 in
           let follows = subst (λ (c : Course P S G). EachFollows calls.processor (delivered_in (turn ∷ turns)) c.provider.processors new.provider.processors) (sym h.0) (all_follow scope old new (command ∷ commands) (turn ∷ turns) h) in
           let nothing = subst (λ (l : List Delivery). EachFollows calls.processor l turn.before.provider.processors new.provider.processors) none follows in

@@ -1,5 +1,5 @@
 -- The batches that the first processor of a session keeps over a turn, and how many it loses.
-use Rattle.std.proofs.Common.{◌≡◌, ℕ, List, [], ◌∷◌, Result, Option, Some, None, Bool, true, false, ◌||◌, MatchBool, refl, ap, rules}
+use Rattle.std.proofs.Common.{◌≡◌, ℕ, List, [], ◌∷◌, Result, Option, Some, None, Bool, true, false, IsFalse, ◌||◌, MatchBool, refl, ap, rules}
 use Rattle.std.specs.declared.alloc.AllocError.{AllocError}
 use Rattle.opentelemetry.specs.Plain.{PlainContext, PlainScope}
 use Rattle.opentelemetry.specs.PlainContexts.{empty_span_context, root_cx}
@@ -18,15 +18,17 @@ use Rattle.otel_pipeline.specs.Starting.{PassesThrough, DecidesStart, StartsOpen
 use Rattle.otel_pipeline.specs.declared.trace.span_processor.SpanProcessor.{Ghosts}
 use Rattle.otel_pipeline.specs.declared.trace.drain_due.DrainDue as timing
 use Rattle.otel_kept.specs.declared.keeps_batches.KeepsBatches as keeping
-use Rattle.otel_trace_lines.specs.Commands.{PlainCommand, start, child, remote, attr, event, status, inject, end, flush, run, shutdown, is_end}
 use Rattle.otel_trace_lines.specs.declared.reply.Answer.{Answer}
 use Rattle.otel_trace_lines.specs.declared.reply.Answer.TheVariants as answers
+use Rattle.otel_trace_session.specs.Actions.{PlainAction, PlainCall, PlainOrigin, at_root, under, from_header, flushes, runs_at, shuts_down}
+use Rattle.otel_trace_session.specs.Actions.{starts, edits, injects, ends, calls_provider, ends_span, may_lose}
 use Rattle.otel_trace_session.specs.Calls.{Calls, batches_of_first, losses_of_first}
 use Rattle.otel_trace_session.specs.Headers.{child_cx}
 use Rattle.otel_trace_session.specs.OpenSpans.{Histories}
-use Rattle.otel_trace_session.specs.SpanTurns.{ChildTurn, EndTurn, InjectTurn, Start, StartsAfter, request_of, start_in}
+use Rattle.otel_trace_session.specs.SpanTurns.{ChildTurn, EndTurn, InjectTurn, Start, StartsAfter, StartsFrom, request_of, start_in}
 use Rattle.otel_trace_session.specs.Turn.{AsksNobody, Course, Turn}
-use Rattle.otel_trace_session.specs.Turns.{IsTurn, LosesNone}
+use Rattle.otel_trace_session.specs.ProviderTurns.{AsksProvider, CallGives}
+use Rattle.otel_trace_session.specs.Turns.{TakesAction}
 
 -- batches are kept after those that were kept, and none was lost
 abbrev pub LosesNothing : {P : Type 0} → keeping.Ghosts P → List P → List P → Type 0
@@ -123,31 +125,29 @@ module _ {P S G : Type 0} (calls : Calls P S G) (law : OnlyAppends calls.process
   shutdown_grows again true old new said h = appends_none _ _ (ap (λ (p : ProviderState P S G). batches_of_first calls.keeps p.processors) h.1)
   shutdown_grows again false old new said h = first_shut calls.processor calls.timer calls.keeps law 5_000_000_000 old.processors new.processors h.asked.0 h.asked.2
 
-  -- over a turn batches come only after those that are kept
-  pub turn_grows : (scope : PlainScope) (command : PlainCommand) (turn : Turn P S G) → IsTurn calls scope command turn → GrowsIn turn
-  turn_grows scope (start span name moment) turn h = (starts_lose (turn.before.histories span) (start_in scope root_cx span name moment) turn h).0
-  turn_grows scope (child span parent name moment) turn h = (child_loses (turn.before.histories parent) (start_in scope root_cx span name moment) turn h).0
-  turn_grows scope (remote span header name moment) turn h = (starts_lose (turn.before.histories span) (start_in scope h.cx span name moment) turn h.starts).0
-  turn_grows scope (attr span key value) turn h = (nobody_loses _ _ turn h).0
-  turn_grows scope (event span name moment) turn h = (nobody_loses _ _ turn h).0
-  turn_grows scope (status span how) turn h = (nobody_loses _ _ turn h).0
-  turn_grows scope (inject span) turn h = (inject_loses span turn h).0
-  turn_grows scope (end span moment) turn h = end_grows (turn.before.histories span) span moment turn h
-  turn_grows scope flush turn h = first_flushed calls.processor calls.timer calls.keeps law turn.before.provider.processors turn.after.provider.processors h.gives.asked.0 h.gives.asked.2
-  turn_grows scope (run moment) turn h = first_ran calls.processor calls.timer calls.keeps law moment turn.before.provider.processors turn.after.provider.processors h.gives.asked.0 h.gives.asked.2
-  turn_grows scope shutdown turn h = shutdown_grows (shut_answer turn.before.provider.is_disabled turn.before.provider.processors) turn.before.provider.is_shut turn.before.provider turn.after.provider h.said h.gives
+  origin_loses : (scope : PlainScope) (origin : PlainOrigin) (span name : List ℕ) (moment : ℕ) (turn : Turn P S G) → StartsFrom calls scope origin span name moment turn → LosesNothing calls.keeps turn.before.provider.processors turn.after.provider.processors
+  origin_loses scope at_root span name moment turn h = starts_lose (turn.before.histories span) (start_in scope root_cx span name moment) turn h
+  origin_loses scope (under parent) span name moment turn h = child_loses (turn.before.histories parent) (start_in scope root_cx span name moment) turn h
+  origin_loses scope (from_header header) span name moment turn h = starts_lose (turn.before.histories span) (start_in scope h.cx span name moment) turn h.starts
 
-  -- and where it is neither an end nor a flush, a run or a shutdown none is lost
-  pub turn_loses_none : (scope : PlainScope) (command : PlainCommand) (turn : Turn P S G) → IsTurn calls scope command turn → is_end command ≡ false
-      → LosesNone calls command turn.before.provider.processors turn.after.provider.processors
-  turn_loses_none scope (start span name moment) turn h e _ = (starts_lose (turn.before.histories span) (start_in scope root_cx span name moment) turn h).1
-  turn_loses_none scope (child span parent name moment) turn h e _ = (child_loses (turn.before.histories parent) (start_in scope root_cx span name moment) turn h).1
-  turn_loses_none scope (remote span header name moment) turn h e _ = (starts_lose (turn.before.histories span) (start_in scope h.cx span name moment) turn h.starts).1
-  turn_loses_none scope (attr span key value) turn h e _ = (nobody_loses _ _ turn h).1
-  turn_loses_none scope (event span name moment) turn h e _ = (nobody_loses _ _ turn h).1
-  turn_loses_none scope (status span how) turn h e _ = (nobody_loses _ _ turn h).1
-  turn_loses_none scope (inject span) turn h e _ = (inject_loses span turn h).1
-  turn_loses_none scope (end span moment) turn h e _ = cc
-  turn_loses_none scope flush turn h e keeps = absurd (search (rules, keeps))
-  turn_loses_none scope (run moment) turn h e keeps = absurd (search (rules, keeps))
-  turn_loses_none scope shutdown turn h e keeps = absurd (search (rules, keeps))
+  call_grows : (call : PlainCall) (turn : Turn P S G) → AsksProvider (CallGives calls call) turn → GrowsIn turn
+  call_grows flushes turn h = first_flushed calls.processor calls.timer calls.keeps law turn.before.provider.processors turn.after.provider.processors h.gives.asked.0 h.gives.asked.2
+  call_grows (runs_at moment) turn h = first_ran calls.processor calls.timer calls.keeps law moment turn.before.provider.processors turn.after.provider.processors h.gives.asked.0 h.gives.asked.2
+  call_grows shuts_down turn h = shutdown_grows (shut_answer turn.before.provider.is_disabled turn.before.provider.processors) turn.before.provider.is_shut turn.before.provider turn.after.provider h.said h.gives
+
+  -- over a turn batches come only after those that are kept
+  pub turn_grows : (scope : PlainScope) (action : PlainAction) (turn : Turn P S G) → TakesAction calls scope action turn → GrowsIn turn
+  turn_grows scope (starts origin span name moment) turn h = (origin_loses scope origin span name moment turn h).0
+  turn_grows scope (edits span edit) turn h = (nobody_loses _ _ turn h).0
+  turn_grows scope (injects span) turn h = (inject_loses span turn h).0
+  turn_grows scope (ends span moment) turn h = end_grows (turn.before.histories span) span moment turn h
+  turn_grows scope (calls_provider call) turn h = call_grows call turn h
+
+  -- and where it is neither an end nor a call of the provider none is lost
+  pub turn_loses_none : (scope : PlainScope) (action : PlainAction) (turn : Turn P S G) → TakesAction calls scope action turn → ends_span action ≡ false → IsFalse (may_lose action)
+      → losses_of_first calls.keeps turn.after.provider.processors ≡ losses_of_first calls.keeps turn.before.provider.processors
+  turn_loses_none scope (starts origin span name moment) turn h e _ = (origin_loses scope origin span name moment turn h).1
+  turn_loses_none scope (edits span edit) turn h e _ = (nobody_loses _ _ turn h).1
+  turn_loses_none scope (injects span) turn h e _ = (inject_loses span turn h).1
+  turn_loses_none scope (ends span moment) turn h e _ = cc
+  turn_loses_none scope (calls_provider call) turn h e keeps = absurd (search (rules, keeps))

@@ -11,17 +11,20 @@ use Rattle.otel_pipeline.specs.SpanHistory.{PlainSpan, SpanHistory, Edit, begun,
 use Rattle.otel_pipeline.specs.StartRequest.{StartRequest}
 use Rattle.otel_pipeline.specs.Starting.{StartsOpen}
 use Rattle.otel_pipeline.proofs.AgreementLemmas.{child_agrees, child_of_start}
-use Rattle.otel_trace_lines.specs.Commands.{PlainCommand, start, child, remote, attr, event, status, inject, end, flush, run, shutdown}
+use Rattle.otel_trace_lines.specs.Commands.{PlainCommand}
 use Rattle.otel_trace_lines.specs.PlainReply.{PlainReply}
 use Rattle.otel_trace_lines.specs.declared.reply.Answer.{Answer}
 use Rattle.otel_trace_lines.specs.declared.reply.Answer.TheVariants as answers
+use Rattle.otel_trace_session.specs.Actions.{PlainAction, PlainCall, PlainOrigin, action_of, is_shutdown, at_root, under, from_header, flushes, runs_at, shuts_down}
+use Rattle.otel_trace_session.specs.Actions.{starts, edits, injects, ends, calls_provider}
 use Rattle.otel_trace_session.specs.Calls.{Calls}
 use Rattle.otel_trace_session.specs.Headers.{child_cx}
 use Rattle.otel_trace_session.specs.OpenSpans.{Describe, Histories, NamedSpans, edited_history, edited_in, is_name, with_history}
-use Rattle.otel_trace_session.specs.SpanTurns.{ChildTurn, EndTurn, Start, StartsAfter, request_of, start_in}
-use Rattle.otel_trace_session.specs.Traces.{ChildrenAgree, KeepsContexts, is_shutdown, made_span, with_child, with_children}
+use Rattle.otel_trace_session.specs.SpanTurns.{ChildTurn, EndTurn, Start, StartsAfter, StartsFrom, request_of, start_in}
+use Rattle.otel_trace_session.specs.ProviderTurns.{AsksProvider, CallGives}
+use Rattle.otel_trace_session.specs.Traces.{ChildrenAgree, KeepsContexts, made_span, with_child, with_children}
 use Rattle.otel_trace_session.specs.Turn.{AsksNobody, Course, Turn}
-use Rattle.otel_trace_session.specs.Turns.{AreTurns, IsTurn, replied, reply_of}
+use Rattle.otel_trace_session.specs.Turns.{AreTurns, TakesAction, replied, reply_of}
 use Rattle.otel_trace_session.proofs.NamedLemmas.{by_history, is_itself, same_name}
 
 -- the span context of a history
@@ -97,7 +100,7 @@ true_is_no false e f = cc
 
 -- a child that was not started joins no trace
 not_made : (root : PlainSpanContext) (is_in : List ℕ → Bool) (histories : Histories) (span parent name : List ℕ) (moment : ℕ) (answer : Answer) → made_span answer ≡ false → EachAgrees root is_in histories
-    → EachAgrees root (with_child is_in (child span parent name moment) answer) histories
+    → EachAgrees root (with_child is_in (starts (under parent) span name moment) answer) histories
 not_made root is_in histories span parent name moment answer none agree q e = by (which (is_in q) (is_name q span) (is_in parent) (made_span answer) e)
   where
     by : (is_in q ≡ true) ⊎ ((is_name q span ≡ true) × (is_in parent ≡ true) × (made_span answer ≡ true)) → (h : SpanHistory) × (histories q ≡ Some h) × Agrees root (context_of h)
@@ -107,7 +110,7 @@ not_made root is_in histories span parent name moment answer none agree q e = by
 -- one that was started, of what its parent and it came to be
 joined : (root : PlainSpanContext) (is_in : List ℕ → Bool) (histories : Histories) (span parent name : List ℕ) (moment : ℕ) (answer : Answer) (father new : SpanHistory)
     → histories parent ≡ Some father → histories span ≡ Some new → (Agrees root (context_of father) → Agrees root (context_of new)) → EachAgrees root is_in histories
-    → EachAgrees root (with_child is_in (child span parent name moment) answer) histories
+    → EachAgrees root (with_child is_in (starts (under parent) span name moment) answer) histories
 joined root is_in histories span parent name moment answer father new is_father is_new also agree q e = by (which (is_in q) (is_name q span) (is_in parent) (made_span answer) e)
   where
     by : (is_in q ≡ true) ⊎ ((is_name q span ≡ true) × (is_in parent ≡ true) × (made_span answer ≡ true)) → (h : SpanHistory) × (histories q ≡ Some h) × Agrees root (context_of h)
@@ -145,19 +148,18 @@ module _ {P S G : Type 0} (calls : Calls P S G) where
   end_persists (Some (begun from edits)) span moment turn e h =
       subst (Persists turn.before.histories) (sym h.histories) (again_persists turn.before.histories span (begun from edits) (over from.span_context from.limits) e refl)
 
-  -- over any command
-  one_persists : (scope : PlainScope) (command : PlainCommand) (turn : Turn P S G) → IsTurn calls scope command turn → PersistsIn turn
-  one_persists scope (start span name moment) turn h = start_persists (turn.before.histories span) (start_in scope root_cx span name moment) turn refl h
-  one_persists scope (child span parent name moment) turn h = child_persists (turn.before.histories parent) (start_in scope root_cx span name moment) turn h
-  one_persists scope (remote span header name moment) turn h = start_persists (turn.before.histories span) (start_in scope h.cx span name moment) turn refl h.starts
-  one_persists scope (attr span key value) turn h = edit_persists _ span _ turn h
-  one_persists scope (event span name moment) turn h = edit_persists _ span _ turn h
-  one_persists scope (status span how) turn h = edit_persists _ span _ turn h
-  one_persists scope (inject span) turn h = same_persists turn (ap (λ (c : Course P S G). c.histories) h.rest)
-  one_persists scope (end span moment) turn h = end_persists (turn.before.histories span) span moment turn refl h
-  one_persists scope flush turn h = same_persists turn (ap (λ (c : Course P S G). c.histories) h.rest)
-  one_persists scope (run moment) turn h = same_persists turn (ap (λ (c : Course P S G). c.histories) h.rest)
-  one_persists scope shutdown turn h = same_persists turn (ap (λ (c : Course P S G). c.histories) h.rest)
+  origin_persists : (scope : PlainScope) (origin : PlainOrigin) (span name : List ℕ) (moment : ℕ) (turn : Turn P S G) → StartsFrom calls scope origin span name moment turn → PersistsIn turn
+  origin_persists scope at_root span name moment turn h = start_persists (turn.before.histories span) (start_in scope root_cx span name moment) turn refl h
+  origin_persists scope (under parent) span name moment turn h = child_persists (turn.before.histories parent) (start_in scope root_cx span name moment) turn h
+  origin_persists scope (from_header header) span name moment turn h = start_persists (turn.before.histories span) (start_in scope h.cx span name moment) turn refl h.starts
+
+  -- over any action
+  one_persists : (scope : PlainScope) (action : PlainAction) (turn : Turn P S G) → TakesAction calls scope action turn → PersistsIn turn
+  one_persists scope (starts origin span name moment) turn h = origin_persists scope origin span name moment turn h
+  one_persists scope (edits span edit) turn h = edit_persists _ span _ turn h
+  one_persists scope (injects span) turn h = same_persists turn (ap (λ (c : Course P S G). c.histories) h.rest)
+  one_persists scope (ends span moment) turn h = end_persists (turn.before.histories span) span moment turn refl h
+  one_persists scope (calls_provider call) turn h = same_persists turn (ap (λ (c : Course P S G). c.histories) h.rest)
 
   -- the provider stays as open as it was, with its sampler
   abbrev Stays : ProviderState P S G → ProviderState P S G → Type 0
@@ -187,24 +189,28 @@ module _ {P S G : Type 0} (calls : Calls P S G) where
   end_stays (Some (over context limits)) span moment turn h = nobody_stays answers.Ignored turn.before.histories turn h
   end_stays (Some (begun from edits)) span moment turn h = stays turn.before.provider turn.after.provider (record turn.before.provider { processors = turn.after.provider.processors }) h.provider (refl, refl)
 
-  -- over any command but a shutdown
-  pub one_stays : (scope : PlainScope) (command : PlainCommand) (turn : Turn P S G) → is_shutdown command ≡ false → IsTurn calls scope command turn → Stays turn.before.provider turn.after.provider
-  one_stays scope (start span name moment) turn e h = start_stays (turn.before.histories span) (start_in scope root_cx span name moment) turn h
-  one_stays scope (child span parent name moment) turn e h = child_stays (turn.before.histories parent) (start_in scope root_cx span name moment) turn h
-  one_stays scope (remote span header name moment) turn e h = start_stays (turn.before.histories span) (start_in scope h.cx span name moment) turn h.starts
-  one_stays scope (attr span key value) turn e h = nobody_stays _ _ turn h
-  one_stays scope (event span name moment) turn e h = nobody_stays _ _ turn h
-  one_stays scope (status span how) turn e h = nobody_stays _ _ turn h
-  one_stays scope (inject span) turn e h = stays turn.before.provider turn.after.provider turn.before.provider (ap (λ (c : Course P S G). c.provider) h.rest) (refl, refl)
-  one_stays scope (end span moment) turn e h = end_stays (turn.before.histories span) span moment turn h
-  one_stays scope flush turn e h = stays turn.before.provider turn.after.provider (record turn.before.provider { processors = turn.after.provider.processors }) h.gives.rest (refl, refl)
-  one_stays scope (run moment) turn e h = stays turn.before.provider turn.after.provider (record turn.before.provider { processors = turn.after.provider.processors }) h.gives.rest (refl, refl)
-  one_stays scope shutdown turn e h = cc
+  origin_stays : (scope : PlainScope) (origin : PlainOrigin) (span name : List ℕ) (moment : ℕ) (turn : Turn P S G) → StartsFrom calls scope origin span name moment turn → Stays turn.before.provider turn.after.provider
+  origin_stays scope at_root span name moment turn h = start_stays (turn.before.histories span) (start_in scope root_cx span name moment) turn h
+  origin_stays scope (under parent) span name moment turn h = child_stays (turn.before.histories parent) (start_in scope root_cx span name moment) turn h
+  origin_stays scope (from_header header) span name moment turn h = start_stays (turn.before.histories span) (start_in scope h.cx span name moment) turn h.starts
+
+  call_stays : (call : PlainCall) (turn : Turn P S G) → is_shutdown (calls_provider call) ≡ false → AsksProvider (CallGives calls call) turn → Stays turn.before.provider turn.after.provider
+  call_stays flushes turn e h = stays turn.before.provider turn.after.provider (record turn.before.provider { processors = turn.after.provider.processors }) h.gives.rest (refl, refl)
+  call_stays (runs_at moment) turn e h = stays turn.before.provider turn.after.provider (record turn.before.provider { processors = turn.after.provider.processors }) h.gives.rest (refl, refl)
+  call_stays shuts_down turn e h = cc
+
+  -- over any action but a shutdown
+  pub one_stays : (scope : PlainScope) (action : PlainAction) (turn : Turn P S G) → is_shutdown action ≡ false → TakesAction calls scope action turn → Stays turn.before.provider turn.after.provider
+  one_stays scope (starts origin span name moment) turn e h = origin_stays scope origin span name moment turn h
+  one_stays scope (edits span edit) turn e h = nobody_stays _ _ turn h
+  one_stays scope (injects span) turn e h = stays turn.before.provider turn.after.provider turn.before.provider (ap (λ (c : Course P S G). c.provider) h.rest) (refl, refl)
+  one_stays scope (ends span moment) turn e h = end_stays (turn.before.histories span) span moment turn h
+  one_stays scope (calls_provider call) turn e h = call_stays call turn e h
 
   -- a child joins the traces of its parent
   taken_joins : (found : Option SpanHistory) (scope : PlainScope) (root : PlainSpanContext) (is_in : List ℕ → Bool) (last : Histories) (turn : Turn P S G) (span parent name : List ℕ) (moment : ℕ) (father : SpanHistory)
       → GoesByParents calls.sampler turn.before.provider.sampler → turn.before.provider.is_shut ≡ false → turn.before.histories parent ≡ Some father → Persists turn.before.histories last → Persists turn.after.histories last → EachAgrees root is_in last
-      → StartsAfter calls found (start_in scope (child_cx (span_of father).span_context) span name moment) turn → EachAgrees root (with_child is_in (child span parent name moment) turn.answer) last
+      → StartsAfter calls found (start_in scope (child_cx (span_of father).span_context) span name moment) turn → EachAgrees root (with_child is_in (starts (under parent) span name moment) turn.answer) last
   taken_joins (Some history) scope root is_in last turn span parent name moment father by_parents is_open there before after agree h =
       not_made root is_in last span parent name moment turn.answer (ap made_span h.says) agree
   taken_joins None scope root is_in last turn span parent name moment father by_parents is_open there before after agree h =
@@ -218,27 +224,29 @@ module _ {P S G : Type 0} (calls : Calls P S G) where
 
   child_joins : (found : Option SpanHistory) (scope : PlainScope) (root : PlainSpanContext) (is_in : List ℕ → Bool) (last : Histories) (turn : Turn P S G) (span parent name : List ℕ) (moment : ℕ)
       → GoesByParents calls.sampler turn.before.provider.sampler → turn.before.provider.is_shut ≡ false → turn.before.histories parent ≡ found → Persists turn.before.histories last → Persists turn.after.histories last → EachAgrees root is_in last
-      → ChildTurn calls (start_in scope root_cx span name moment) found turn → EachAgrees root (with_child is_in (child span parent name moment) turn.answer) last
+      → ChildTurn calls (start_in scope root_cx span name moment) found turn → EachAgrees root (with_child is_in (starts (under parent) span name moment) turn.answer) last
   child_joins None scope root is_in last turn span parent name moment by_parents is_open e before after agree h =
       not_made root is_in last span parent name moment turn.answer (ap made_span h.says) agree
   child_joins (Some father) scope root is_in last turn span parent name moment by_parents is_open e before after agree h =
       taken_joins (turn.before.histories span) scope root is_in last turn span parent name moment father by_parents is_open e before after agree h
 
-  one_joins : (scope : PlainScope) (root : PlainSpanContext) (is_in : List ℕ → Bool) (last : Histories) (command : PlainCommand) (turn : Turn P S G)
+  origin_joins : (scope : PlainScope) (root : PlainSpanContext) (is_in : List ℕ → Bool) (last : Histories) (origin : PlainOrigin) (span name : List ℕ) (moment : ℕ) (turn : Turn P S G)
       → GoesByParents calls.sampler turn.before.provider.sampler → turn.before.provider.is_shut ≡ false → Persists turn.before.histories last → Persists turn.after.histories last → EachAgrees root is_in last
-      → IsTurn calls scope command turn → EachAgrees root (with_child is_in command turn.answer) last
-  one_joins scope root is_in last (start span name moment) turn by_parents is_open before after agree h = agree
-  one_joins scope root is_in last (child span parent name moment) turn by_parents is_open before after agree h =
+      → StartsFrom calls scope origin span name moment turn → EachAgrees root (with_child is_in (starts origin span name moment) turn.answer) last
+  origin_joins scope root is_in last at_root span name moment turn by_parents is_open before after agree h = agree
+  origin_joins scope root is_in last (under parent) span name moment turn by_parents is_open before after agree h =
       child_joins (turn.before.histories parent) scope root is_in last turn span parent name moment by_parents is_open refl before after agree h
-  one_joins scope root is_in last (remote span header name moment) turn by_parents is_open before after agree h = agree
-  one_joins scope root is_in last (attr span key value) turn by_parents is_open before after agree h = agree
-  one_joins scope root is_in last (event span name moment) turn by_parents is_open before after agree h = agree
-  one_joins scope root is_in last (status span how) turn by_parents is_open before after agree h = agree
-  one_joins scope root is_in last (inject span) turn by_parents is_open before after agree h = agree
-  one_joins scope root is_in last (end span moment) turn by_parents is_open before after agree h = agree
-  one_joins scope root is_in last flush turn by_parents is_open before after agree h = agree
-  one_joins scope root is_in last (run moment) turn by_parents is_open before after agree h = agree
-  one_joins scope root is_in last shutdown turn by_parents is_open before after agree h = agree
+  origin_joins scope root is_in last (from_header header) span name moment turn by_parents is_open before after agree h = agree
+
+  one_joins : (scope : PlainScope) (root : PlainSpanContext) (is_in : List ℕ → Bool) (last : Histories) (action : PlainAction) (turn : Turn P S G)
+      → GoesByParents calls.sampler turn.before.provider.sampler → turn.before.provider.is_shut ≡ false → Persists turn.before.histories last → Persists turn.after.histories last → EachAgrees root is_in last
+      → TakesAction calls scope action turn → EachAgrees root (with_child is_in action turn.answer) last
+  one_joins scope root is_in last (starts origin span name moment) turn by_parents is_open before after agree h =
+      origin_joins scope root is_in last origin span name moment turn by_parents is_open before after agree h
+  one_joins scope root is_in last (edits span edit) turn by_parents is_open before after agree h = agree
+  one_joins scope root is_in last (injects span) turn by_parents is_open before after agree h = agree
+  one_joins scope root is_in last (ends span moment) turn by_parents is_open before after agree h = agree
+  one_joins scope root is_in last (calls_provider call) turn by_parents is_open before after agree h = agree
 
   -- commands one after another
   all_persist : (scope : PlainScope) (old new : Course P S G) (commands : List PlainCommand) (turns : List (Turn P S G)) → AreTurns calls scope old commands turns new → Persists old.histories new.histories
@@ -246,7 +254,7 @@ module _ {P S G : Type 0} (calls : Calls P S G) where
   all_persist scope old new [] (turn ∷ turns) h = absurd h
   all_persist scope old new (command ∷ commands) [] h = absurd h
   all_persist scope old new (command ∷ commands) (turn ∷ turns) h = subst (λ (c : Course P S G). Persists c.histories new.histories) h.0
-      (persists_on turn.before.histories turn.after.histories new.histories (one_persists scope command turn h.1.is_turn) (all_persist scope (replied calls turn.after) new commands turns h.3))
+      (persists_on turn.before.histories turn.after.histories new.histories (one_persists scope (action_of command) turn h.1.is_turn) (all_persist scope (replied calls turn.after) new commands turns h.3))
 
   all_join : (scope : PlainScope) (root : PlainSpanContext) (is_in : List ℕ → Bool) (old new : Course P S G) (commands : List PlainCommand) (turns : List (Turn P S G))
       → GoesByParents calls.sampler old.provider.sampler → old.provider.is_shut ≡ false → EachAgrees root is_in new.histories
@@ -254,7 +262,7 @@ module _ {P S G : Type 0} (calls : Calls P S G) where
   all_join scope root is_in old new [] [] by_parents is_open agree h = agree
   all_join scope root is_in old new [] (turn ∷ turns) by_parents is_open agree h = absurd h
   all_join scope root is_in old new (command ∷ commands) [] by_parents is_open agree h = absurd h
-  all_join scope root is_in old new (command ∷ commands) (turn ∷ turns) by_parents is_open agree h = by (is_shutdown command) refl
+  all_join scope root is_in old new (command ∷ commands) (turn ∷ turns) by_parents is_open agree h = by (is_shutdown (action_of command)) refl
       (λ next still stays_open joins. all_join scope root next (replied calls turn.after) new commands turns still stays_open joins h.3)
     where
       after : Persists turn.after.histories new.histories
@@ -266,15 +274,15 @@ module _ {P S G : Type 0} (calls : Calls P S G) where
       opened : turn.before.provider.is_shut ≡ false
       opened = ap (λ (c : Course P S G). c.provider.is_shut) h.0 ∙ is_open
 
-      by : (b : Bool) → is_shutdown command ≡ b
+      by : (b : Bool) → is_shutdown (action_of command) ≡ b
           → ((next : List ℕ → Bool) → GoesByParents calls.sampler turn.after.provider.sampler → turn.after.provider.is_shut ≡ false → EachAgrees root next new.histories → EachAgrees root (with_children next commands (map (reply_of calls) turns)) new.histories)
-          → EachAgrees root (if b then is_in else with_children (with_child is_in command turn.answer) commands (map (reply_of calls) turns)) new.histories
+          → EachAgrees root (if b then is_in else with_children (with_child is_in (action_of command) turn.answer) commands (map (reply_of calls) turns)) new.histories
       by true e on = agree
       by false e on =
-          let stay = one_stays scope command turn e h.1.is_turn in
-          let one = one_persists scope command turn h.1.is_turn in
-          on (with_child is_in command turn.answer) (subst (GoesByParents calls.sampler) (sym stay.1) goes) (stay.0 ∙ opened)
-          (one_joins scope root is_in new.histories command turn goes opened (persists_on turn.before.histories turn.after.histories new.histories one after) after agree h.1.is_turn)
+          let stay = one_stays scope (action_of command) turn e h.1.is_turn in
+          let one = one_persists scope (action_of command) turn h.1.is_turn in
+          on (with_child is_in (action_of command) turn.answer) (subst (GoesByParents calls.sampler) (sym stay.1) goes) (stay.0 ∙ opened)
+          (one_joins scope root is_in new.histories (action_of command) turn goes opened (persists_on turn.before.histories turn.after.histories new.histories one after) after agree h.1.is_turn)
 
   -- the spans of names, by histories that they have
   pub contexts_kept : (scope : PlainScope) (old new : Course P S G) (commands : List PlainCommand) (turns : List (Turn P S G)) (were are : NamedSpans)

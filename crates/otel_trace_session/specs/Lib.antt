@@ -1,3 +1,4 @@
+pub mod Actions
 pub mod Calls
 pub mod Closing
 pub mod Fed

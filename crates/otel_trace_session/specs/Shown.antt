@@ -7,6 +7,7 @@ use Rattle.otel_kept.specs.declared.keeps_batches.KeepsBatches as keeping
 use Rattle.otel_pipeline.specs.declared.trace.span_processor.SpanProcessor.{Ghosts}
 use Rattle.otel_trace_lines.specs.Commands.{PlainCommand}
 use Rattle.otel_trace_lines.specs.PlainReply.{PlainReply}
+use Rattle.otel_trace_session.specs.Actions.{action_of}
 use Rattle.otel_trace_session.specs.Calls.{batches_of_first, losses_of_first}
 use Rattle.otel_trace_session.specs.ProviderTurns.{EmptiesIfOk}
 use Rattle.otel_trace_session.specs.Turns.{SessionState}
@@ -50,4 +51,4 @@ abbrev pub EmptiedAfter : {P : Type 0} → Ghosts P → List PlainCommand → Li
 EmptiedAfter processor commands replies processors =
     (before : List PlainCommand) (last : PlainCommand) (others : List PlainReply) (reply : PlainReply)
     → commands ≡ before ++ last ∷ [] → replies ≡ others ++ reply ∷ []
-    → EmptiesIfOk processor last reply.answer processors
+    → EmptiesIfOk processor (action_of last) reply.answer processors

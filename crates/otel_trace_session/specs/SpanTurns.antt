@@ -1,14 +1,16 @@
 -- The turns of commands of one span: its start, its edits, its headers and its end, by the history that its name has.
 use Rattle.std.specs.Prelude.{◌≡◌, ℕ, List, [], Option, Some, None, map}
 use Rattle.opentelemetry.specs.Plain.{PlainContext, PlainScope}
+use Rattle.opentelemetry.specs.PlainContexts.{root_cx}
 use Rattle.opentelemetry.specs.PlainSpanBuilder.{named_builder}
 use Rattle.otel_export.specs.PlainSpanData.{PlainSpanData}
-use Rattle.otel_pipeline.specs.SpanHistory.{SpanHistory, SpanStart, Edit, add_event, begun, over, data_of, span_of}
+use Rattle.otel_pipeline.specs.SpanHistory.{SpanHistory, SpanStart, Edit, begun, over, data_of, span_of}
 use Rattle.otel_pipeline.specs.StartRequest.{StartRequest}
 use Rattle.otel_pipeline.specs.Starting.{Starts}
 use Rattle.otel_pipeline.specs.Ending.{Delivers, end_delivers}
 use Rattle.otel_pipeline.specs.declared.trace.span_processor.SpanProcessor.{Ghosts}
 use Rattle.otel_trace_lines.specs.declared.reply.Answer.TheVariants as answers
+use Rattle.otel_trace_session.specs.Actions.{PlainOrigin, at_root, under, from_header}
 use Rattle.otel_trace_session.specs.Calls.{Calls}
 use Rattle.otel_trace_session.specs.Headers.{SaysContext, child_cx}
 use Rattle.otel_trace_session.specs.OpenSpans.{AnswersInject, edit_answer, edited_in, start_answer, with_history}
@@ -30,11 +32,6 @@ start_in scope cx span name moment = record { scope = scope; cx = cx; span = spa
 abbrev pub request_of : Start → StartRequest
 request_of start =
     record { scope = start.scope; builder = named_builder start.name; cx = start.cx; now = start.moment }
-
--- an event without attributes
-abbrev pub bare_event : List ℕ → ℕ → Edit
-bare_event name moment =
-    add_event (record { name = name; timestamp = moment; attributes = []; dropped_attributes_count = 0 })
 
 module _ {P S G : Type 0} (calls : Calls P S G) where
   -- a name is given the history that a start makes, and nothing is delivered
@@ -69,6 +66,14 @@ module _ {P S G : Type 0} (calls : Calls P S G) where
     pub cx : PlainContext
     pub says : SaysContext header cx
     pub starts : StartTurn (record start { cx = cx }) turn
+
+  -- a start, by where: as a root, as a child of the span of a name, or where a header says
+  abbrev pub StartsFrom : PlainScope → PlainOrigin → List ℕ → List ℕ → ℕ → Turn P S G → Type 0
+  StartsFrom scope at_root span name moment turn = StartTurn (start_in scope root_cx span name moment) turn
+  StartsFrom scope (under parent) span name moment turn =
+      ChildTurn (start_in scope root_cx span name moment) (turn.before.histories parent) turn
+  StartsFrom scope (from_header header) span name moment turn =
+      RemoteTurn (start_in scope root_cx span name moment) header turn
 
 -- one more edit of the span of a name, where its history is not over
 abbrev pub EditTurn : {P S G : Type 0} → List ℕ → Edit → Turn P S G → Type 0

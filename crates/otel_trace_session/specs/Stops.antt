@@ -1,13 +1,15 @@
 -- Why the commands of a session were not carried out to their end: one was refused, or has no reply.
-use Rattle.std.specs.Prelude.{◌≡◌, ◌⊎◌, ◌∷◌, ◌++◌, List, true}
+use Rattle.std.specs.Prelude.{◌≡◌, ◌⊎◌, ◌∷◌, ◌++◌, ℕ, List, Option, true}
 use Rattle.opentelemetry.specs.PlainContexts.{root_cx}
 use Rattle.otel_export.specs.KeptBatches.{Grows}
 use Rattle.otel_pipeline.specs.Provider.{ProviderState}
-use Rattle.otel_trace_lines.specs.Commands.{PlainCommand, start, child, remote, attr, event, status, inject, end, flush}
-use Rattle.otel_trace_lines.specs.Commands.{run, shutdown, is_end, plain_command}
+use Rattle.otel_trace_lines.specs.Commands.{is_end, plain_command}
 use Rattle.otel_trace_lines.specs.PlainReply.{PlainReply}
 use Rattle.otel_trace_lines.specs.declared.command.Command.{Command}
 use Rattle.otel_trace_lines.specs.declared.reply.Answer.{Answer}
+use Rattle.otel_pipeline.specs.SpanHistory.{PlainSpan}
+use Rattle.otel_trace_session.specs.Actions.{PlainAction, PlainOrigin, action_of, at_root, under, from_header, starts}
+use Rattle.otel_trace_session.specs.Actions.{calls_provider}
 use Rattle.otel_trace_session.specs.Calls.{Calls}
 use Rattle.otel_trace_session.specs.OpenSpans.{ChildMayStart, MayStart, NamedSpans, RemoteMayStart, SameSpans, named}
 use Rattle.otel_trace_session.specs.Shown.{session_batches, session_losses}
@@ -17,37 +19,37 @@ use Rattle.otel_trace_session.specs.declared.session.RunError.{RunError}
 use Rattle.otel_trace_session.specs.declared.session.RunError.TheVariants as runs
 
 module _ {P S G : Type 0} (calls : Calls P S G) where
-  -- what a command that is refused may have done to the provider: nothing, but that a start under a new name may have
-  -- drawn ids. The provider's own calls are not refused
-  abbrev pub MayAsk : ProviderState P S G → NamedSpans → PlainCommand → ProviderState P S G → Type 0
-  MayAsk p spans (start span name moment) q = MayStart calls p root_cx name moment (named spans span) q
-  MayAsk p spans (child span parent name moment) q =
-      ChildMayStart calls p (named spans parent) name moment (named spans span) q
-  MayAsk p spans (remote span header name moment) q =
-      RemoteMayStart calls p header name moment (named spans span) q
-  MayAsk p spans (attr span key value) q = q ≡ p
-  MayAsk p spans (event span name moment) q = q ≡ p
-  MayAsk p spans (status span how) q = q ≡ p
-  MayAsk p spans (inject span) q = q ≡ p
-  MayAsk p spans (end span moment) q = q ≡ p
-  MayAsk p spans flush q = ⊥
-  MayAsk p spans (run moment) q = ⊥
-  MayAsk p spans shutdown q = ⊥
+  -- what a start that is refused may have done to the provider: nothing, or under a new name ids were drawn
+  abbrev pub MayStartFrom : ProviderState P S G → NamedSpans → PlainOrigin → List ℕ → ℕ → Option PlainSpan
+      → ProviderState P S G → Type 0
+  MayStartFrom p spans at_root name moment found q = MayStart calls p root_cx name moment found q
+  MayStartFrom p spans (under parent) name moment found q =
+      ChildMayStart calls p (named spans parent) name moment found q
+  MayStartFrom p spans (from_header header) name moment found q =
+      RemoteMayStart calls p header name moment found q
 
-  -- a command was refused: each name has the span that it had, and no processor was asked
-  pub record RefusesOne (p : ProviderState P S G) (old : NamedSpans) (command : PlainCommand) (q : ProviderState P S G)
+  -- what an action that is refused may have done to it: nothing, but for a start. Its own calls are not refused
+  abbrev pub MayAsk : ProviderState P S G → NamedSpans → PlainAction → ProviderState P S G → Type 0
+  MayAsk p spans (starts origin span name moment) q =
+      MayStartFrom p spans origin name moment (named spans span) q
+  MayAsk p spans (calls_provider call) q = ⊥
+  MayAsk p spans _ q = q ≡ p
+
+  -- an action was refused: each name has the span that it had, and no processor was asked
+  pub record RefusesOne (p : ProviderState P S G) (old : NamedSpans) (action : PlainAction) (q : ProviderState P S G)
       (new : NamedSpans) : Type 0 where
     pub spans : SameSpans old new
-    pub asks : MayAsk p old command q
+    pub asks : MayAsk p old action q
     pub processors : q.processors ≡ p.processors
 
   -- a command of a session was refused
   abbrev pub Refuses : SessionState P S G → Command → SessionState P S G → Type 0
-  Refuses old command new = RefusesOne old.provider old.spans (plain_command command) new.provider new.spans
+  Refuses old command new = RefusesOne old.provider old.spans (action_of (plain_command command)) new.provider
+      new.spans
 
   -- a command of a session was carried out, with this answer
   abbrev pub CarriesOut : SessionState P S G → Command → Answer → SessionState P S G → Type 0
-  CarriesOut old command answer new = TakesTurn (IsCarriedOut calls old.scope (plain_command command))
+  CarriesOut old command answer new = TakesTurn (IsCarriedOut calls old.scope (action_of (plain_command command)))
       old.provider old.spans answer new.provider new.spans
 
   -- the same, and no batch was lost, but at a flush, a run or a shutdown

@@ -3,7 +3,8 @@ use Rattle.std.specs.Prelude.{◌≡◌, ℕ, ◌||◌, ◌&&◌, Bool, true, fa
 use Rattle.opentelemetry.specs.Plain.{PlainSpanContext}
 use Rattle.otel_sampling.specs.Agreement.{Agrees}
 use Rattle.otel_pipeline.specs.SpanHistory.{PlainSpan}
-use Rattle.otel_trace_lines.specs.Commands.{PlainCommand, child, shutdown}
+use Rattle.otel_trace_lines.specs.Commands.{PlainCommand}
+use Rattle.otel_trace_session.specs.Actions.{PlainAction, action_of, is_shutdown, starts, under}
 use Rattle.otel_trace_session.specs.OpenSpans.{NamedSpans, is_name, named}
 use Rattle.otel_trace_lines.specs.PlainReply.{PlainReply}
 use Rattle.otel_trace_lines.specs.declared.reply.Answer.{Answer}
@@ -15,14 +16,9 @@ made_span (answers.Started _) = true
 made_span (answers.Dropped _) = true
 made_span _ = false
 
--- whether a command shuts the provider down
-abbrev pub is_shutdown : PlainCommand → Bool
-is_shutdown shutdown = true
-is_shutdown _ = false
-
--- the names of spans of a trace, with that of a child of one of them where a command started it
-abbrev pub with_child : (List ℕ → Bool) → PlainCommand → Answer → List ℕ → Bool
-with_child is_in (child span parent name moment) answer =
+-- the names of spans of a trace, with that of a child of one of them where an action started it
+abbrev pub with_child : (List ℕ → Bool) → PlainAction → Answer → List ℕ → Bool
+with_child is_in (starts (under parent) span name moment) answer =
     λ q. is_in q || (is_name q span && (is_in parent && made_span answer))
 with_child is_in _ answer = is_in
 
@@ -31,7 +27,8 @@ abbrev pub with_children : (List ℕ → Bool) → List PlainCommand → List Pl
 with_children is_in [] replies = is_in
 with_children is_in (command ∷ commands) [] = is_in
 with_children is_in (command ∷ commands) (reply ∷ replies) =
-    if is_shutdown command then is_in else with_children (with_child is_in command reply.answer) commands replies
+    if is_shutdown (action_of command) then is_in
+    else with_children (with_child is_in (action_of command) reply.answer) commands replies
 
 -- each of these names has a span that agrees with a root
 abbrev pub AllAgree : PlainSpanContext → (List ℕ → Bool) → NamedSpans → Type 0

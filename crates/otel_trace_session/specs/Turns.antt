@@ -1,22 +1,20 @@
 -- The turns of the commands of a session, one after another, each with its reply.
 use Rattle.std.specs.Prelude.{◌≡◌, ℕ, List, [], ◌∷◌, IsFalse, codes, drop, length, map}
 use Rattle.std.specs.List.{flat_map}
-use Rattle.opentelemetry.specs.Plain.{PlainScope, scope_named, text}
-use Rattle.opentelemetry.specs.PlainContexts.{root_cx}
-use Rattle.otel_pipeline.specs.SpanHistory.{set_attribute, set_status}
+use Rattle.opentelemetry.specs.Plain.{PlainScope, scope_named}
 use Rattle.otel_pipeline.specs.Deliveries.{Delivery, EachFollows}
 use Rattle.otel_export.specs.KeptBatches.{Grows}
-use Rattle.otel_pipeline.specs.Provider.{Flushes, ProviderState, RunsDue}
+use Rattle.otel_pipeline.specs.Provider.{ProviderState}
 use Rattle.otel_kept.specs.declared.keeps_batches.KeepsBatches as keeping
-use Rattle.otel_trace_lines.specs.Commands.{PlainCommand, start, child, remote, attr, event, status, inject, end, flush}
-use Rattle.otel_trace_lines.specs.Commands.{run, shutdown, may_lose, plain_commands}
+use Rattle.otel_trace_lines.specs.Commands.{PlainCommand, plain_commands}
 use Rattle.otel_trace_lines.specs.PlainReply.{PlainReply}
 use Rattle.otel_trace_lines.specs.declared.command.Command.{Command}
+use Rattle.otel_trace_session.specs.Actions.{PlainAction, action_of, may_lose, starts, edits, injects, ends}
+use Rattle.otel_trace_session.specs.Actions.{calls_provider}
 use Rattle.otel_trace_session.specs.Calls.{Calls, batches_of_first, losses_of_first}
 use Rattle.otel_trace_session.specs.OpenSpans.{Describe, Histories, NamedSpans}
-use Rattle.otel_trace_session.specs.ProviderTurns.{AsksProvider, Shuts}
-use Rattle.otel_trace_session.specs.SpanTurns.{ChildTurn, EditTurn, EndTurn, InjectTurn, RemoteTurn, StartTurn, bare_event}
-use Rattle.otel_trace_session.specs.SpanTurns.{start_in}
+use Rattle.otel_trace_session.specs.ProviderTurns.{AsksProvider, CallGives}
+use Rattle.otel_trace_session.specs.SpanTurns.{EditTurn, EndTurn, InjectTurn, StartsFrom}
 use Rattle.otel_trace_session.specs.Turn.{Course, Turn}
 
 -- a session: its provider, the library's scope, its spans, how many batches its replies have shown, and how many were
@@ -48,27 +46,18 @@ abbrev pub delivered_in : {P S G : Type 0} → List (Turn P S G) → List Delive
 delivered_in turns = flat_map (λ turn. turn.delivered) turns
 
 module _ {P S G : Type 0} (calls : Calls P S G) where
-  -- the turn of a command under a scope
-  abbrev pub IsTurn : PlainScope → PlainCommand → Turn P S G → Type 0
-  IsTurn scope (start span name moment) turn = StartTurn calls (start_in scope root_cx span name moment) turn
-  IsTurn scope (child span parent name moment) turn =
-      ChildTurn calls (start_in scope root_cx span name moment) (turn.before.histories parent) turn
-  IsTurn scope (remote span header name moment) turn =
-      RemoteTurn calls (start_in scope root_cx span name moment) header turn
-  IsTurn scope (attr span key value) turn =
-      EditTurn span (set_attribute (record { key = key; value = text value })) turn
-  IsTurn scope (event span name moment) turn = EditTurn span (bare_event name moment) turn
-  IsTurn scope (status span how) turn = EditTurn span (set_status how) turn
-  IsTurn scope (inject span) turn = InjectTurn span turn
-  IsTurn scope (end span moment) turn = EndTurn calls.processor span moment (turn.before.histories span) turn
-  IsTurn scope flush turn = AsksProvider (Flushes calls.processor) turn
-  IsTurn scope (run moment) turn = AsksProvider (RunsDue calls.processor calls.timer moment) turn
-  IsTurn scope shutdown turn = AsksProvider (Shuts calls.processor) turn
+  -- the turn of an action under a scope
+  abbrev pub TakesAction : PlainScope → PlainAction → Turn P S G → Type 0
+  TakesAction scope (starts origin span name moment) turn = StartsFrom calls scope origin span name moment turn
+  TakesAction scope (edits span edit) turn = EditTurn span edit turn
+  TakesAction scope (injects span) turn = InjectTurn span turn
+  TakesAction scope (ends span moment) turn = EndTurn calls.processor span moment (turn.before.histories span) turn
+  TakesAction scope (calls_provider call) turn = AsksProvider (CallGives calls call) turn
 
-  -- a command was carried out in a turn: each processor follows what it delivered, and batches came only after those
+  -- an action was carried out in a turn: each processor follows what it delivered, and batches came only after those
   -- that the first one keeps
-  pub record IsCarriedOut (scope : PlainScope) (command : PlainCommand) (turn : Turn P S G) : Type 0 where
-    pub is_turn : IsTurn scope command turn
+  pub record IsCarriedOut (scope : PlainScope) (action : PlainAction) (turn : Turn P S G) : Type 0 where
+    pub is_turn : TakesAction scope action turn
     pub follows : EachFollows calls.processor turn.delivered turn.before.provider.processors
         turn.after.provider.processors
     pub grows : Grows (batches_of_first calls.keeps turn.before.provider.processors)
@@ -77,7 +66,7 @@ module _ {P S G : Type 0} (calls : Calls P S G) where
   -- a command lost no batch from processors to processors, but at a flush, a run or a shutdown
   abbrev pub LosesNone : PlainCommand → List P → List P → Type 0
   LosesNone command ps qs =
-      IsFalse (may_lose command) → losses_of_first calls.keeps qs ≡ losses_of_first calls.keeps ps
+      IsFalse (may_lose (action_of command)) → losses_of_first calls.keeps qs ≡ losses_of_first calls.keeps ps
 
   -- the reply of a turn: its answer, and the batches that no reply before it has shown
   abbrev pub reply_of : Turn P S G → PlainReply
@@ -95,7 +84,7 @@ module _ {P S G : Type 0} (calls : Calls P S G) where
   AreTurns scope old [] [] new = new ≡ old
   AreTurns scope old [] (turn ∷ turns) new = ⊥
   AreTurns scope old (command ∷ commands) [] new = ⊥
-  AreTurns scope old (command ∷ commands) (turn ∷ turns) new = (turn.before ≡ old) × IsCarriedOut scope command turn
+  AreTurns scope old (command ∷ commands) (turn ∷ turns) new = (turn.before ≡ old) × IsCarriedOut scope (action_of command) turn
       × LosesNone command turn.before.provider.processors turn.after.provider.processors
       × AreTurns scope (replied turn.after) commands turns new
 

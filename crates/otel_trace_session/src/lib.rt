@@ -1,7 +1,11 @@
 //! A session of commands over the trace pipeline: its spans by name, its replies, and what they show.
 #![tactic(auto)]
 
+mod actions;
+mod carry_out;
+mod closing;
 mod exported;
+mod first_processor;
 mod headers;
 pub mod laws;
 mod open_spans;

@@ -1,37 +1,31 @@
 //! A session: commands against one provider, each with a reply. What its commands deliver to the exporters is stated by
 //! the histories of its spans, apart from the code that fills them.
 
-ghost use Rattle.std.specs.Prelude.{◌≡◌, ◌++◌, ◌∷◌, [], drop, length, map, is_err, ◌||◌, if◌then◌else◌, IfErr, IfOk};
-ghost use Rattle.std.specs.Prelude.{◌↔◌, IsTrue, OnOk, OnErr, codes, string_bytes, true};
-ghost use Rattle.opentelemetry.specs.Plain.{scope_named, text};
+ghost use Rattle.std.specs.Prelude.{◌≡◌, ◌++◌, ◌∷◌, [], length, map, IfErr, IfOk};
+ghost use Rattle.std.specs.Prelude.{◌↔◌, IsTrue, OnOk, OnErr, codes};
+ghost use Rattle.opentelemetry.specs.Plain.{scope_named};
 ghost use Rattle.opentelemetry.specs.PlainContexts.{root_cx};
 ghost use Rattle.otel_export.specs.KeptBatches.{Grows};
-ghost use Rattle.otel_pipeline.specs.SpanEdits.{plain_edit};
-ghost use Rattle.otel_pipeline.specs.SpanHistory.{set_attribute};
-ghost use Rattle.otel_trace_lines.specs.Commands.{plain_command};
 ghost use Rattle.otel_trace_lines.specs.ReplyForm.{reply_lines};
-ghost use Rattle.otel_trace_session.specs.Calls.{batches_of_first, calls_of, losses_of_first};
-ghost use Rattle.otel_trace_session.specs.Closing.{Closes, ClosesAs, LostNothing, or_no_memory};
-ghost use Rattle.otel_kept.specs.RecalledBatches.{FirstRecalled};
+ghost use Rattle.otel_trace_session.specs.Calls.{calls_of};
+ghost use Rattle.otel_trace_session.specs.Closing.{Closes, ClosesAs, LostNothing};
 ghost use Rattle.otel_trace_session.specs.Forgotten.{HasForgotten};
 ghost use Rattle.otel_trace_session.specs.Fed.{FeedStops, Feeds, Writes};
 ghost use Rattle.otel_trace_session.specs.OpenSpans.{Describe, Histories};
-ghost use Rattle.otel_trace_session.specs.ProviderTurns.{ShutsIfOpen, call_answer};
 ghost use Rattle.otel_trace_session.specs.Shown.{session_batches, session_losses, unshown};
-ghost use Rattle.otel_trace_session.specs.SpanTurns.{bare_event};
-ghost use Rattle.otel_trace_session.specs.Stops.{AnswerStops, Answers, Gains, RefusesOne, RunStops};
-ghost use Rattle.otel_trace_session.specs.Turn.{TakesTurn};
-ghost use Rattle.otel_trace_session.specs.Turns.{IsCarriedOut, Runs, session_under};
+ghost use Rattle.otel_trace_session.specs.Stops.{AnswerStops, Answers, Gains, RunStops};
+ghost use Rattle.otel_trace_session.specs.Turns.{Runs, session_under};
 
-use crate::exported::{batches_since, copied_batches};
-use crate::headers::remote_context;
+use crate::carry_out::carry_out;
+use crate::closing::{close_answer, shut_down};
+use crate::exported::copied_batches;
+use crate::first_processor::{forget_first, kept_by_first, lost_by_first, unshown_by_first};
 use crate::open_spans::OpenSpans;
-use opentelemetry::trace::Event;
-use opentelemetry::{Context, Key, KeyValue, Moment, Value};
-use otel_export::error::{OTelSdkError, OTelSdkResult};
+use opentelemetry::Context;
+use otel_export::error::OTelSdkResult;
 use otel_export::trace::SpanData;
 use otel_kept::KeepsBatches;
-use otel_pipeline::trace::{DrainDue, ProviderOf, SdkTracer, SpanEdit, SpanProcessor};
+use otel_pipeline::trace::{ProviderOf, SdkTracer};
 use otel_sampling::trace::{GivesIds, ShouldSample};
 use otel_trace_lines::{Answer, Command, Reply, ReplyForm, ReplyLines, parse};
 use std::alloc::{AllocError, AllocFailed, Global};
@@ -413,146 +407,4 @@ impl<P: KeepsBatches, S: ShouldSample, G: GivesIds> Session<P, S, G> {
     {
         self.shown = kept_by_first(self.provider.processors()).len();
     }
-}
-
-/// Shuts the provider down where it is open.
-fn shut_down<P: SpanProcessor, S: Drop, G: Drop>(
-    provider: &mut ProviderOf<P, S, G>,
-) -> OTelSdkResult
-    ensures shuts { ShutsIfOpen P.SpanProcessor provider.old result provider.new }
-    ensures is_shut { provider.new.is_shut ≡ true }
-{
-    match provider.shutdown() {
-        Err(OTelSdkError::AlreadyShutdown) => Ok(()),
-        answer => answer,
-    }
-}
-
-/// What closing answers: what the shutdown did, and where that is Ok, whether a batch or the text found no memory.
-fn close_answer(
-    shutdown: OTelSdkResult,
-    has_lost: bool,
-    written: Result<(), AllocError>,
-) -> OTelSdkResult
-    ensures { result ≡ (if has_lost || is_err written then or_no_memory shutdown else shutdown) }
-{
-    match shutdown {
-        Ok(()) if has_lost || written.is_err() => Err(OTelSdkError::OutOfMemory),
-        shutdown => shutdown,
-    }
-}
-
-/// The batches that the first of these processors keeps.
-fn kept_by_first<P: KeepsBatches>(processors: &[P]) -> &[Vec<SpanData>]
-    ensures { map (λ batch. batch.items) result.now ≡ batches_of_first P.KeepsBatches.own processors.now }
-{
-    match processors.first() {
-        Some(first) => first.batches(),
-        None => &[],
-    }
-}
-
-/// How many batches of the first of these processors found no memory.
-fn lost_by_first<P: KeepsBatches>(processors: &[P]) -> u64
-    ensures { result ≡ losses_of_first P.KeepsBatches.own processors.now }
-{
-    match processors.first() {
-        Some(first) => first.lost_batches(),
-        None => 0,
-    }
-}
-
-/// The batches that the first of these processors keeps after those that were shown.
-fn unshown_by_first<P: KeepsBatches>(processors: &[P], shown: usize) -> &[Vec<SpanData>]
-    ensures { map (λ batch. batch.items) result.now
-        ≡ drop shown (batches_of_first P.KeepsBatches.own processors.now) }
-{
-    batches_since(kept_by_first(processors), shown)
-}
-
-/// The exporter of the first processor forgets the batches that it keeps. All else is as it was.
-fn forget_first<P: KeepsBatches, S, G>(provider: &mut ProviderOf<P, S, G>)
-    ensures recalled { FirstRecalled P.KeepsBatches.own.recalled
-        (batches_of_first P.KeepsBatches.own provider.old.processors)
-        provider.new.processors provider.old.processors }
-    ensures none { batches_of_first P.KeepsBatches.own provider.new.processors ≡ [] }
-    ensures rest { provider.new ≡ record provider.old { processors = provider.new.processors } }
-{
-    if let Some(first) = provider.first_processor_mut() {
-        first.forget_batches();
-    }
-}
-
-/// Carries one command out on the parts of a session; a lost batch is no error.
-fn carry_out<P: KeepsBatches, S: ShouldSample, G: GivesIds>(
-    alloc: Global,
-    tracer: &SdkTracer,
-    root: &Context,
-    provider: &mut ProviderOf<P, S, G>,
-    spans: &mut OpenSpans,
-    command: Command,
-) -> Result<Answer, AllocError>
-    requires { root.now ≡ root_cx }
-    ensures ok { IfOk result (λ answer. TakesTurn (IsCarriedOut
-        (calls_of P.SpanProcessor P.DrainDue.own P.LeavesSpans.own P.KeepsBatches.own S.ShouldSample G.GivesIds)
-        tracer.now (plain_command command)) provider.old spans.old answer provider.new spans.new) }
-    ensures err { OnErr result (RefusesOne
-        (calls_of P.SpanProcessor P.DrainDue.own P.LeavesSpans.own P.KeepsBatches.own S.ShouldSample G.GivesIds)
-        provider.old spans.old (plain_command command) provider.new spans.new) }
-{
-    match command {
-        Command::Start { span, name, moment } => {
-            spans.start_in(span, root, tracer, provider, name, moment)
-        }
-        Command::Child {
-            span,
-            parent,
-            name,
-            moment,
-        } => spans.start_child(span, parent.as_str(), tracer, provider, name, moment),
-        Command::Remote {
-            span,
-            traceparent,
-            name,
-            moment,
-        } => {
-            let cx = remote_context(alloc, traceparent)?;
-            spans.start_in(span, &cx, tracer, provider, name, moment)
-        }
-        Command::Attr { span, key, value } => spans.edit(span.as_str(), text_attribute(key, value)),
-        Command::Event { span, name, moment } => {
-            spans.edit(span.as_str(), event_without_attributes(alloc, name, moment))
-        }
-        Command::Status { span, status } => spans.edit(span.as_str(), SpanEdit::SetStatus(status)),
-        Command::Inject { span } => spans.inject(alloc, span.as_str()),
-        Command::End { span, moment } => spans.end(span.as_str(), provider, moment),
-        Command::Flush => Ok(answer_to_call(provider.force_flush())),
-        Command::Run { moment } => Ok(answer_to_call(provider.run_processors(moment))),
-        Command::Shutdown => Ok(answer_to_call(provider.shutdown())),
-    }
-}
-
-/// What is said of a call of the provider.
-fn answer_to_call(said: OTelSdkResult) -> Answer
-    ensures { result ≡ call_answer said }
-{
-    match said {
-        Ok(()) => Answer::Ok,
-        Err(error) => Answer::Failed(error),
-    }
-}
-
-/// The edit that adds an event without attributes.
-fn event_without_attributes(alloc: Global, name: String, moment: Moment) -> SpanEdit
-    ensures { plain_edit result ≡ bare_event (string_bytes name) moment.0 }
-{
-    SpanEdit::AddEvent(Event::new(name, moment, Vec::new(alloc), 0))
-}
-
-/// The edit that sets an attribute whose value is a text.
-fn text_attribute(key: String, value: String) -> SpanEdit
-    ensures { plain_edit result
-        ≡ set_attribute (record { key = string_bytes key; value = text (string_bytes value) }) }
-{
-    SpanEdit::SetAttribute(KeyValue::new(Key::new(key), Value::String(value)))
 }

@@ -19,7 +19,7 @@ use Rattle.otel_trace_session.specs.Turns.{IsCarriedOut}
 use Rattle.otel_trace_session.proofs.NamedLemmas.{on_err_both, refused_start_asks_none, refused_child_asks_none}
 use Rattle.otel_trace_session.proofs.CarryLemmas.{carries_call, carries_child, carries_edit, carries_end, carries_inject, carries_remote, carries_start, shuts_by}
 use Rattle.otel_trace_session.proofs.TurnLemmas.{Childs, Edits, EndsNamed}
-use Rattle.otel_trace_session.proofs.session.carry_out.Goals as goal
+use Rattle.otel_trace_session.proofs.carry_out.carry_out.Goals as goal
 
 pub returns-in-Start-clause-ok : goal.returns-in-Start-clause-ok
 returns-in-Start-clause-ok g c =

@@ -1,7 +1,7 @@
 use Rattle.std.proofs.Common.{◌∙◌, sym, ap, List, drop, map}
 use Rattle.std.proofs.lemmas.List.{drop-map}
 use Rattle.otel_export.specs.PlainSpanData.{PlainSpanData}
-use Rattle.otel_trace_session.proofs.session.unshown_by_first.Goals as goal
+use Rattle.otel_trace_session.proofs.first_processor.unshown_by_first.Goals as goal
 
 pub returns : goal.returns
 returns g c =

@@ -1,0 +1,5 @@
+use Rattle.std.proofs.Common.{◌++◌}
+use Rattle.otel_export.proofs.history.History.extend.Given as goal
+
+abbrev pub ghost-of : goal.ghost-of
+ghost-of g a = a._one.now.items ++ a._other.now.items
