@@ -1,2 +1,3 @@
 pub mod FractionLemmas
+pub mod StreamLemmas
 pub mod Tellings

@@ -7,4 +7,5 @@ pub mod KeptBatches
 pub mod RecalledBatches
 pub mod RecalledKinds
 pub mod RestsOr
+pub mod Streams
 pub mod Telling

@@ -3,4 +3,5 @@
 
 pub mod error;
 pub mod history;
+pub mod stream;
 pub mod trace;

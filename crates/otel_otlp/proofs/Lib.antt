@@ -14,4 +14,3 @@ pub mod RunsFit
 pub mod SpansAlike
 pub mod Unbroken
 pub mod ValuesAlike
-pub mod Written

@@ -7,4 +7,3 @@ pub mod OtlpValues
 pub mod QueueLines
 pub mod ScopeRuns
 pub mod Seen
-pub mod Streams

@@ -11,7 +11,7 @@ use Rattle.otel_export.specs.declared.error.OTelSdkError.TheVariants as errors
 use Rattle.otel_export.specs.PlainSpanData.{PlainSpanData}
 use Rattle.otel_export.specs.Telling.{and_then_told}
 use Rattle.otel_otlp.specs.Otlp.{otlp_line}
-use Rattle.otel_otlp.specs.Streams.{AppendsBeginning}
+use Rattle.otel_export.specs.Streams.{AppendsBeginning}
 
 -- a stream of lines: its writer, and whether the line before was cut off
 pub record LineStream (W : Type 0) : Type 0 where

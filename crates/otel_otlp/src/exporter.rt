@@ -6,7 +6,7 @@ ghost use Rattle.otel_otlp.specs.LineExporter.{HoldsLines, IsInternalFailure, Se
 ghost use Rattle.otel_otlp.specs.LineExporter.{next_line};
 
 use crate::request::write_request;
-use crate::stream::write_whole;
+use otel_export::stream::write_whole;
 use otel_export::error::{OTelSdkError, OTelSdkResult};
 use otel_export::history::History;
 use otel_export::trace::{SpanData, SpanExporter};

@@ -7,7 +7,6 @@ pub mod laws;
 pub mod queue;
 mod request;
 mod span;
-pub mod stream;
 mod tokens;
 mod value;
 

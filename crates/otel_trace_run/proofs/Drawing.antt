@@ -25,7 +25,7 @@ use Rattle.otel_trace_run.specs.Streams.{AreAll, EndsAs, Streams}
 use Rattle.otel_trace_run.specs.declared.program.Asked.{Asked}
 use Rattle.otel_trace_run.specs.Arguments.{AsksForPicture}
 use Rattle.otel_trace_run.proofs.PictureWords.{picture_once}
-use Rattle.otel_trace_run.proofs.TraceStream.{appends_all}
+use Rattle.otel_export.proofs.StreamLemmas.{appends_all}
 use Rattle.otel_trace_run.specs.declared.picture.PictureForm.{PictureForm}
 use Rattle.otel_trace_run.specs.declared.run_end.RunEnd.{RunEnd}
 use Rattle.otel_trace_run.specs.declared.run_end.RunEnd.TheVariants as ends

@@ -8,7 +8,8 @@ use Rattle.std.specs.Str.Lines.{lines}
 use Rattle.otel_batch.specs.MachineState.{Machine}
 use Rattle.otel_export.specs.StoredBatches.{StoredBatches}
 use Rattle.otel_trace_lines.proofs.JoinedLines.{lines_joined}
-use Rattle.otel_otlp.specs.Streams.{AppendsBeginning}
+use Rattle.otel_export.specs.Streams.{AppendsBeginning}
+use Rattle.otel_export.proofs.StreamLemmas.{appends_after, appends_all}
 use Rattle.otel_trace_run.specs.Pieces.{GivesLines, KeepsAll, PlainPieces}
 use Rattle.otel_trace_run.specs.StepRuns.{Steps, StepsAll, StepsOn, StepsSome, StepsTo}
 use Rattle.otel_trace_run.specs.Streams.{EndsAs, Streams, streams}
@@ -39,15 +40,6 @@ stepped_none start input output = record {
   written = Appends-nil output;
   counted = refl;
 }
-
--- a beginning was written after what was written
-appends_after : (a b c : Option (List ℕ)) (first second : List ℕ) → Appends a b first → AppendsBeginning b c second → AppendsBeginning a c (first ++ second)
-appends_after a b c first second h (written, left, e, k) =
-    (first ++ written, left, ap (λ bs. first ++ bs) e ∙ sym (append_assoc first written left), Appends-trans a b c first written h k)
-
--- all is a beginning
-pub appends_all : (a b : Option (List ℕ)) (bytes : List ℕ) → Appends a b bytes → AppendsBeginning a b bytes
-appends_all a b bytes h = (bytes, [], sym (append-nil bytes), h)
 
 -- answers to a beginning of what is given are answers to a beginning of the whole
 begun : (start : Machine StoredBatches) (s : Streams) (text answers : List ℕ) → IsCut s.input text → BeginsAnswers start text answers → AppendsBeginning s.output s.output_after answers → StepsSome start s

@@ -29,7 +29,8 @@ use Rattle.otel_trace_session.proofs.RunLemmas.{runs_join}
 use Rattle.otel_kept.specs.RecalledBatches.{LeavesAsMany}
 use Rattle.otel_trace_session.proofs.CloseLemmas.{EndsWell}
 use Rattle.otel_trace_session.proofs.Streaming.{runs_whole, streams_finish, streams_forget, streams_more, streams_nothing}
-use Rattle.otel_otlp.specs.Streams.{AppendsBeginning}
+use Rattle.otel_export.specs.Streams.{AppendsBeginning}
+use Rattle.otel_export.proofs.StreamLemmas.{appends_after, appends_all, appends_longer}
 use Rattle.otel_trace_run.specs.Pieces.{GivesLines, KeepsAll, PlainPieces}
 use Rattle.otel_trace_run.specs.Streams.{EndsAs, Streams, streams}
 use Rattle.otel_trace_run.specs.TraceRuns.{BeginsToSpell, CarriesOutSome, FeedsPieces, FeedsPiece, FedAs, TracesAll, TracesSome}
@@ -89,18 +90,6 @@ begins_longer first second commands ends h = record {
   parts = lines_joined first second ends ∙ ap (λ ls. ls ++ lines second) h.parts ∙ append_assoc h.front h.left (lines second);
   spelled = h.spelled;
 }
-
--- a beginning was written after what was written
-appends_after : (a b c : Option (List ℕ)) (first second : List ℕ) → Appends a b first → AppendsBeginning b c second → AppendsBeginning a c (first ++ second)
-appends_after a b c first second h (written, left, e, k) =
-    (first ++ written, left, ap (λ bs. first ++ bs) e ∙ sym (append_assoc first written left), Appends-trans a b c first written h k)
-
--- a beginning of a text is one of a longer text
-appends_longer : (a b : Option (List ℕ)) (first second : List ℕ) → AppendsBeginning a b first → AppendsBeginning a b (first ++ second)
-appends_longer a b first second (written, left, e, k) = (written, left ++ second, ap (λ bs. bs ++ second) e ∙ append_assoc written left second, k)
-
-pub appends_all : (a b : Option (List ℕ)) (bytes : List ℕ) → Appends a b bytes → AppendsBeginning a b bytes
-appends_all a b bytes h = (bytes, [], sym (append-nil bytes), h)
 
 module _ {P S G : Type 0} (calls : Calls P S G) (form : Form) (begun : SessionState P S G) where
   -- so many lines were given and their commands carried out, and a rest was read after them

@@ -3,7 +3,7 @@ use Rattle.std.specs.Prelude.{◌≡◌, ℕ, List, Option}
 use Rattle.std.specs.Io.KnownBytes.{Appends}
 use Rattle.otel_batch.specs.MachineState.{Machine}
 use Rattle.otel_export.specs.StoredBatches.{StoredBatches}
-use Rattle.otel_otlp.specs.Streams.{AppendsBeginning}
+use Rattle.otel_export.specs.Streams.{AppendsBeginning}
 use Rattle.otel_trace_run.specs.Streams.{AreAll, EndsAs, EndsWith, Streams}
 use Rattle.otel_trace_run.specs.declared.run_end.RunEnd.{RunEnd}
 use Rattle.otel_trace_steps.specs.StepAnswers.{AnswersLines, BeginsAnswers, machine_of}

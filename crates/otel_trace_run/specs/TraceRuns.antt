@@ -9,7 +9,7 @@ use Rattle.otel_trace_lines.specs.PlainReply.{NoneRefused, PlainReply}
 use Rattle.otel_trace_lines.specs.ReplyForm.{Form, texts}
 use Rattle.otel_trace_lines.specs.declared.command.Command.{Command}
 use Rattle.otel_pipeline.specs.Provider.{ProviderState}
-use Rattle.otel_otlp.specs.Streams.{AppendsBeginning}
+use Rattle.otel_export.specs.Streams.{AppendsBeginning}
 use Rattle.otel_trace_run.specs.Streams.{AreAll, EndsAs, Streams}
 use Rattle.otel_trace_run.specs.declared.run_end.RunEnd.{RunEnd}
 use Rattle.otel_trace_run.specs.declared.run_end.RunEnd.TheVariants as ends

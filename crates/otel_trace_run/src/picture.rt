@@ -17,7 +17,7 @@ use crate::run_end::RunEnd;
 use otel_export::error::OTelSdkError;
 use otel_export::trace::SpanData;
 use otel_kept::KeepsBatches;
-use otel_otlp::stream::write_whole;
+use otel_export::stream::write_whole;
 use otel_picture::svg::write_svg;
 use otel_picture::text::{COLUMNS, write_text};
 use otel_pipeline::trace::ProviderOf;

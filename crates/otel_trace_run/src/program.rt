@@ -41,7 +41,7 @@ use otel_batch::trace::BatchConfigBuilder;
 use otel_export::error::OTelSdkResult;
 use otel_export::trace::{ExporterOf, InMemorySpanExporter, SpanData, SpanExporter};
 use otel_kept::KeepsBatches;
-use otel_otlp::stream::write_whole;
+use otel_export::stream::write_whole;
 use otel_pipeline::trace::provider::provider_over;
 use otel_pipeline::trace::{DrainDue, ProviderOf, SimpleSpanProcessor, SpanProcessor};
 use otel_resource::resource::Resource;

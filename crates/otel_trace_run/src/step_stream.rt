@@ -3,7 +3,7 @@
 
 ghost use Rattle.std.specs.Prelude.{◌≡◌, ◌++◌, ◌+◌, ◌⊎◌, List, ℕ, IfOk, IfSome, OnErr, length};
 ghost use Rattle.std.specs.Io.KnownBytes.{Appends};
-ghost use Rattle.otel_otlp.specs.Streams.{AppendsBeginning};
+ghost use Rattle.otel_export.specs.Streams.{AppendsBeginning};
 ghost use Rattle.otel_trace_run.specs.StepRuns.{Steps, StepsOn};
 ghost use Rattle.otel_trace_run.specs.Streams.{streams};
 ghost use Rattle.otel_trace_steps.specs.StepAnswers.{AnswersLines, BeginsAnswers, machine_of};
@@ -13,7 +13,7 @@ use crate::pieces::Pieces;
 use crate::run_end::RunEnd;
 use otel_batch::machine::BatchMachine;
 use otel_export::trace::InMemorySpanExporter;
-use otel_otlp::stream::write_whole;
+use otel_export::stream::write_whole;
 use otel_trace_steps::{Sizes, answer_lines, machine_sized};
 use std::alloc::Global;
 use std::io;

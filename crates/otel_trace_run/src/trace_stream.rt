@@ -3,7 +3,7 @@
 
 ghost use Rattle.std.specs.Prelude.{◌≡◌, IfOk, OnErr, Result};
 ghost use Rattle.std.specs.Io.KnownBytes.{Appends};
-ghost use Rattle.otel_otlp.specs.Streams.{AppendsBeginning};
+ghost use Rattle.otel_export.specs.Streams.{AppendsBeginning};
 ghost use Rattle.otel_trace_run.specs.Streams.{streams};
 ghost use Rattle.otel_trace_run.specs.TraceRuns.{
   CarriesOutSome,
@@ -19,7 +19,7 @@ use crate::counted::{bad_line_after, lines_counted};
 use crate::pieces::Pieces;
 use crate::run_end::RunEnd;
 use otel_kept::KeepsBatches;
-use otel_otlp::stream::write_whole;
+use otel_export::stream::write_whole;
 use otel_pipeline::trace::ProviderOf;
 use otel_sampling::trace::{GivesIds, ShouldSample};
 use otel_trace_lines::ReplyForm;

@@ -17,13 +17,13 @@ use Rattle.otel_trace_session.specs.Headers.{SaysContext, child_cx}
 use Rattle.otel_trace_session.specs.OpenSpans.{AnswersInject, Describe, Histories, NamedSpans, edited_in}
 use Rattle.otel_trace_session.specs.ProviderTurns.{CallGives, Shuts, call_answer}
 use Rattle.otel_trace_session.specs.SpanTurns.{ChildTurn, EditTurn, EndTurn, Start, StartTurn, StartsAfter, start_in}
-use Rattle.otel_trace_session.specs.Turn.{AsksNobody, Course, TakesTurn, Turn}
+use Rattle.otel_trace_session.specs.Turn.{AsksNobody, Course, TurnsFromAny, Turn}
 use Rattle.otel_trace_session.specs.Turns.{IsCarriedOut, TakesAction}
 use Rattle.otel_trace_session.proofs.KeptLemmas.{turn_grows}
 use Rattle.otel_trace_session.proofs.TurnLemmas.{Childs, Edits, EndsNamed}
 
 -- a turn of which this is so, where something is so of each such turn
-pub took_also : {P S G : Type 0} (Is Also : Turn P S G → Type 0) (p q : ProviderState P S G) (old new : NamedSpans) (answer : Answer) → ((turn : Turn P S G) → Is turn → Also turn) → TakesTurn Is p old answer q new → TakesTurn Also p old answer q new
+pub took_also : {P S G : Type 0} (Is Also : Turn P S G → Type 0) (p q : ProviderState P S G) (old new : NamedSpans) (answer : Answer) → ((turn : Turn P S G) → Is turn → Also turn) → TurnsFromAny Is p old answer q new → TurnsFromAny Also p old answer q new
 took_also Is Also p q old new answer also takes = λ before describes.
     let took = takes before describes in
     record { delivered = took.delivered; histories = took.histories; is = also _ took.is; describes = took.describes }
@@ -62,22 +62,22 @@ module _ {P S G : Type 0} (calls : Calls P S G) (law : OnlyAppends calls.process
 
   -- a start, as a root, a child, or where a header says
   pub carries_start : (p q : ProviderState P S G) (old new : NamedSpans) (span name : List ℕ) (moment : ℕ) (answer : Answer)
-      → TakesTurn (StartTurn calls (start_in scope root_cx span name moment)) p old answer q new → TakesTurn (IsCarriedOut calls scope (starts at_root span name moment)) p old answer q new
+      → TurnsFromAny (StartTurn calls (start_in scope root_cx span name moment)) p old answer q new → TurnsFromAny (IsCarriedOut calls scope (starts at_root span name moment)) p old answer q new
   carries_start p q old new span name moment answer = took_also _ _ p q old new answer
       (λ turn h. carried (starts at_root span name moment) turn (start_follows calls (turn.before.histories span) (start_in scope root_cx span name moment) turn h) h)
 
   pub carries_child : (p q : ProviderState P S G) (old new : NamedSpans) (span parent name : List ℕ) (moment : ℕ) (answer : Answer)
-      → TakesTurn (Childs calls (start_in scope root_cx span name moment) parent) p old answer q new → TakesTurn (IsCarriedOut calls scope (starts (under parent) span name moment)) p old answer q new
+      → TurnsFromAny (Childs calls (start_in scope root_cx span name moment) parent) p old answer q new → TurnsFromAny (IsCarriedOut calls scope (starts (under parent) span name moment)) p old answer q new
   carries_child p q old new span parent name moment answer = took_also _ _ p q old new answer
       (λ turn h. carried (starts (under parent) span name moment) turn (child_follows calls (turn.before.histories parent) (start_in scope root_cx span name moment) turn h) h)
 
   pub carries_remote : (p q : ProviderState P S G) (old new : NamedSpans) (span header name : List ℕ) (moment : ℕ) (cx : PlainContext) (answer : Answer) → SaysContext header cx
-      → TakesTurn (StartTurn calls (start_in scope cx span name moment)) p old answer q new → TakesTurn (IsCarriedOut calls scope (starts (from_header header) span name moment)) p old answer q new
+      → TurnsFromAny (StartTurn calls (start_in scope cx span name moment)) p old answer q new → TurnsFromAny (IsCarriedOut calls scope (starts (from_header header) span name moment)) p old answer q new
   carries_remote p q old new span header name moment cx answer says = took_also _ _ p q old new answer
       (λ turn h. carried (starts (from_header header) span name moment) turn (start_follows calls (turn.before.histories span) (start_in scope cx span name moment) turn h) (record { cx = cx; says = says; starts = h }))
 
   -- an edit
-  pub carries_edit : (p : ProviderState P S G) (old new : NamedSpans) (span : List ℕ) (edit : Edit) (answer : Answer) → Edits old span edit answer new → TakesTurn (IsCarriedOut calls scope (edits span edit)) p old answer p new
+  pub carries_edit : (p : ProviderState P S G) (old new : NamedSpans) (span : List ℕ) (edit : Edit) (answer : Answer) → Edits old span edit answer new → TurnsFromAny (IsCarriedOut calls scope (edits span edit)) p old answer p new
   carries_edit p old new span edit answer made = λ before describes.
       let edited = made before.histories describes in
       let turn : Turn P S G = record { before = record before { provider = p }; answer = answer; delivered = []; after = record before { provider = p; histories = edited_in before.histories span edit } } in
@@ -86,20 +86,20 @@ module _ {P S G : Type 0} (calls : Calls P S G) (law : OnlyAppends calls.process
 
   -- the headers of a span
   pub carries_inject : (p : ProviderState P S G) (spans : NamedSpans) (span : List ℕ) (answer : Answer) → ((histories : Histories) → Describe histories spans → AnswersInject (histories span) answer)
-      → TakesTurn (IsCarriedOut calls scope (injects span)) p spans answer p spans
+      → TurnsFromAny (IsCarriedOut calls scope (injects span)) p spans answer p spans
   carries_inject p spans span answer says = λ before describes.
       let turn : Turn P S G = record { before = record before { provider = p }; answer = answer; delivered = []; after = record before { provider = p } } in
       record { delivered = []; histories = before.histories; is = carried (injects span) turn (follows_none calls turn refl refl) (record { says = says before.histories describes; delivers = refl; rest = refl }); describes = describes }
 
   -- an end
   pub carries_end : (p q : ProviderState P S G) (old new : NamedSpans) (span : List ℕ) (moment : ℕ) (answer : Answer)
-      → TakesTurn (EndsNamed calls.processor span moment) p old answer q new → TakesTurn (IsCarriedOut calls scope (ends span moment)) p old answer q new
+      → TurnsFromAny (EndsNamed calls.processor span moment) p old answer q new → TurnsFromAny (IsCarriedOut calls scope (ends span moment)) p old answer q new
   carries_end p q old new span moment answer = took_also _ _ p q old new answer
       (λ turn h. carried (ends span moment) turn (end_follows calls (turn.before.histories span) span moment turn h) h)
 
   -- a call of the provider
   pub carries_call : (call : PlainCall) (p q : ProviderState P S G) (spans : NamedSpans) (said : Result (Unit {0}) OTelSdkError)
-      → CallGives calls call p said q → EachFollows calls.processor [] p.processors q.processors → TakesTurn (IsCarriedOut calls scope (calls_provider call)) p spans (call_answer said) q spans
+      → CallGives calls call p said q → EachFollows calls.processor [] p.processors q.processors → TurnsFromAny (IsCarriedOut calls scope (calls_provider call)) p spans (call_answer said) q spans
   carries_call call p q spans said gives follows = λ before describes.
       let turn : Turn P S G = record { before = record before { provider = p }; answer = call_answer said; delivered = []; after = record before { provider = q } } in
       record { delivered = []; histories = before.histories; is = carried (calls_provider call) turn follows (record { said = said; gives = gives; says = refl; delivers = refl; rest = refl }); describes = describes }

@@ -18,7 +18,7 @@ use Rattle.otel_trace_lines.specs.declared.reply.Answer.{Answer}
 use Rattle.otel_trace_session.specs.Calls.{Calls}
 use Rattle.otel_trace_session.specs.OpenSpans.{ChildMayStart, Describe, HaveHistories, Histories, MayStart, NamedSpans, SameSpans, by_name, is_name, named}
 use Rattle.otel_trace_session.specs.Headers.{child_cx}
-use Rattle.otel_trace_session.specs.Turn.{TakesTurn, Turn}
+use Rattle.otel_trace_session.specs.Turn.{TurnsFromAny, Turn}
 
 named-lookup : {Y : Type 0} (entries : List (String Y × PlainSpan)) (q : List ℕ) → named (by_name entries) q ≡ lookup (is_at (λ k. slice_cmp nat_cmp q (string_bytes k))) entries
 named-lookup [] q = refl
@@ -128,7 +128,7 @@ described_have histories spans describes = λ name span there.
     record { history = found.0; is = sym found.2 }
 
 -- so spans have histories after a turn
-pub took_histories : {P S G : Type 0} (Is : Turn P S G → Type 0) (p q : ProviderState P S G) (old new : NamedSpans) (answer : Answer) → HaveHistories old → TakesTurn Is p old answer q new → HaveHistories new
+pub took_histories : {P S G : Type 0} (Is : Turn P S G → Type 0) (p q : ProviderState P S G) (old new : NamedSpans) (answer : Answer) → HaveHistories old → TurnsFromAny Is p old answer q new → HaveHistories new
 took_histories Is p q old new answer have takes =
     let first = described old have in
     let took = takes (record { provider = p; histories = first.0; shown = 0 }) first.1 in
@@ -136,6 +136,6 @@ took_histories Is p q old new answer have takes =
 
 -- be it that the turn was taken or refused
 pub start_keeps_histories : {P S G E : Type 0} (Is : Turn P S G → Type 0) (result : Result Answer E) (p q : ProviderState P S G) (old new : NamedSpans)
-    → HaveHistories old → IfOk result (λ answer. TakesTurn Is p old answer q new) → OnErr result (SameSpans old new) → HaveHistories new
+    → HaveHistories old → IfOk result (λ answer. TurnsFromAny Is p old answer q new) → OnErr result (SameSpans old new) → HaveHistories new
 start_keeps_histories Is (Ok answer) p q old new have ok err = took_histories Is p q old new answer have ok
 start_keeps_histories Is (Err e) p q old new have ok err = same_histories old new have err

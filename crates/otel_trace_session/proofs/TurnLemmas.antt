@@ -15,7 +15,7 @@ use Rattle.otel_trace_session.specs.Calls.{Calls}
 use Rattle.otel_trace_session.specs.Headers.{AnswersHeaders, child_cx}
 use Rattle.otel_trace_session.specs.OpenSpans.{AnswersInject, Describe, Histories, NamedSpans, SameSpans, edit_answer, edited_history, edited_in, is_name, named, with_history}
 use Rattle.otel_trace_session.specs.SpanTurns.{BeginsHistory, ChildTurn, EndTurn, Start, StartTurn}
-use Rattle.otel_trace_session.specs.Turn.{Course, TakesTurn, TookTurn, Turn}
+use Rattle.otel_trace_session.specs.Turn.{Course, TurnsFromAny, TurnsFrom, Turn}
 use Rattle.otel_trace_session.proofs.NamedLemmas.{PutsSpan, put_same, same_name}
 
 describes_if : (b : Bool) (history : SpanHistory) (o : Option SpanHistory) (found : Option PlainSpan) → found ≡ option_map span_of o → (if b then Some (span_of history) else found) ≡ option_map span_of (if b then Some history else o)
@@ -105,7 +105,7 @@ module _ {P S G : Type 0} (processor : Ghosts P) where
   EndsNamed span moment turn = EndTurn processor span moment (turn.before.histories span) turn
 
   end_found : (p q : ProviderState P S G) (before : Course P S G) (old new : NamedSpans) (span : List ℕ) (moment : ℕ) (history : SpanHistory) (answer : Answer) → before.histories span ≡ Some history → Describe before.histories old
-      → EndsSpan p old span moment (span_of history) answer q new → TookTurn (EndsNamed span moment) (record before { provider = p }) answer q new
+      → EndsSpan p old span moment (span_of history) answer q new → TurnsFrom (EndsNamed span moment) (record before { provider = p }) answer q new
   end_found p q before old new span moment (over context limits) answer e describes h =
       let same : q ≡ p = h.rest ∙ ap (λ (ps : List P). record p { processors = ps }) h.delivers.0 in record {
         delivered = [];
@@ -122,18 +122,18 @@ module _ {P S G : Type 0} (processor : Ghosts P) where
 
   -- of a name without a span, and of one with a span
   pub ends_absent : (p : ProviderState P S G) (old new : NamedSpans) (span : List ℕ) (moment : ℕ) → named old span ≡ None → SameSpans old new
-      → TakesTurn (EndsNamed span moment) p old answers.NoSuchSpan p new
+      → TurnsFromAny (EndsNamed span moment) p old answers.NoSuchSpan p new
   ends_absent p old new span moment absent same = λ before describes. by before describes (before.histories span) refl
     where
-      by : (before : Course P S G) → Describe before.histories old → (found : Option SpanHistory) → before.histories span ≡ found → TookTurn (EndsNamed span moment) (record before { provider = p }) answers.NoSuchSpan p new
+      by : (before : Course P S G) → Describe before.histories old → (found : Option SpanHistory) → before.histories span ≡ found → TurnsFrom (EndsNamed span moment) (record before { provider = p }) answers.NoSuchSpan p new
       by before describes None e = record { delivered = []; histories = before.histories; is = rw e (record { says = refl; delivers = refl; rest = refl }); describes = describes_same before.histories old new describes same }
       by before describes (Some history) e = absurd (none-some (span_of history) (sym absent ∙ describes span ∙ ap (option_map span_of) e))
 
   pub ends_there : (p q : ProviderState P S G) (old new : NamedSpans) (span : List ℕ) (moment : ℕ) (found : PlainSpan) (answer : Answer) → named old span ≡ Some found → EndsSpan p old span moment found answer q new
-      → TakesTurn (EndsNamed span moment) p old answer q new
+      → TurnsFromAny (EndsNamed span moment) p old answer q new
   ends_there p q old new span moment found answer there h = λ before describes. by before describes (before.histories span) refl
     where
-      by : (before : Course P S G) → Describe before.histories old → (history : Option SpanHistory) → before.histories span ≡ history → TookTurn (EndsNamed span moment) (record before { provider = p }) answer q new
+      by : (before : Course P S G) → Describe before.histories old → (history : Option SpanHistory) → before.histories span ≡ history → TurnsFrom (EndsNamed span moment) (record before { provider = p }) answer q new
       by before describes None e = absurd (none-some found (sym (ap (option_map span_of) e) ∙ sym (describes span) ∙ there))
       by before describes (Some history) e = end_found p q before old new span moment history answer e describes
           (subst (λ (s : PlainSpan). EndsSpan p old span moment s answer q new) (same_Some found (span_of history) (sym there ∙ describes span ∙ ap (option_map span_of) e)) h)
@@ -141,10 +141,10 @@ module _ {P S G : Type 0} (processor : Ghosts P) where
 module _ {P S G : Type 0} (calls : Calls P S G) where
   -- a start under a name that has a span, which stays
   pub starts_taken : (p : ProviderState P S G) (old new : NamedSpans) (start : Start) (found : PlainSpan) → named old start.span ≡ Some found → PutsSpan old start.span found new
-      → TakesTurn (StartTurn calls start) p old answers.SpanExists p new
+      → TurnsFromAny (StartTurn calls start) p old answers.SpanExists p new
   starts_taken p old new start found there put = λ before describes. by before describes (before.histories start.span) refl
     where
-      by : (before : Course P S G) → Describe before.histories old → (history : Option SpanHistory) → before.histories start.span ≡ history → TookTurn (StartTurn calls start) (record before { provider = p }) answers.SpanExists p new
+      by : (before : Course P S G) → Describe before.histories old → (history : Option SpanHistory) → before.histories start.span ≡ history → TurnsFrom (StartTurn calls start) (record before { provider = p }) answers.SpanExists p new
       by before describes None e = absurd (none-some found (sym (ap (option_map span_of) e) ∙ sym (describes start.span) ∙ there))
       by before describes (Some history) e = record { delivered = []; histories = before.histories; is = rw e (record { says = refl; delivers = refl; rest = refl }); describes = describes_over before.histories old new start.span found describes there put }
 
@@ -155,10 +155,10 @@ module _ {P S G : Type 0} (calls : Calls P S G) where
         answer = answer;
         delivered = [];
         after = record before { provider = q; histories = with_history before.histories start.span history };
-      })) → TakesTurn (StartTurn calls start) p old answer q new
+      })) → TurnsFromAny (StartTurn calls start) p old answer q new
   starts_free p q old new start answer history free put begins = λ before describes. by before describes (before.histories start.span) refl
     where
-      by : (before : Course P S G) → Describe before.histories old → (found : Option SpanHistory) → before.histories start.span ≡ found → TookTurn (StartTurn calls start) (record before { provider = p }) answer q new
+      by : (before : Course P S G) → Describe before.histories old → (found : Option SpanHistory) → before.histories start.span ≡ found → TurnsFrom (StartTurn calls start) (record before { provider = p }) answer q new
       by before describes None e = record { delivered = []; histories = with_history before.histories start.span history; is = rw e (begins before); describes = describes_put before.histories old new start.span history describes put }
       by before describes (Some h) e = absurd (none-some (span_of h) (sym free ∙ describes start.span ∙ ap (option_map span_of) e))
 
@@ -167,19 +167,19 @@ module _ {P S G : Type 0} (calls : Calls P S G) where
   Childs start parent turn = ChildTurn calls start (turn.before.histories parent) turn
 
   pub child_absent : (p : ProviderState P S G) (spans : NamedSpans) (start : Start) (parent : List ℕ) → None ≡ option_map (λ (s : PlainSpan). child_cx s.span_context) (named spans parent)
-      → TakesTurn (Childs start parent) p spans answers.NoSuchSpan p spans
+      → TurnsFromAny (Childs start parent) p spans answers.NoSuchSpan p spans
   child_absent p spans start parent none = λ before describes. by before describes (before.histories parent) refl
     where
-      by : (before : Course P S G) → Describe before.histories spans → (found : Option SpanHistory) → before.histories parent ≡ found → TookTurn (Childs start parent) (record before { provider = p }) answers.NoSuchSpan p spans
+      by : (before : Course P S G) → Describe before.histories spans → (found : Option SpanHistory) → before.histories parent ≡ found → TurnsFrom (Childs start parent) (record before { provider = p }) answers.NoSuchSpan p spans
       by before describes None e = record { delivered = []; histories = before.histories; is = rw e (record { says = refl; delivers = refl; rest = refl }); describes = describes }
       by before describes (Some h) e = absurd (none-some (child_cx (span_of h).span_context) (none ∙ ap (option_map (λ (s : PlainSpan). child_cx s.span_context)) (describes parent ∙ ap (option_map span_of) e)))
 
   pub child_there : (p q : ProviderState P S G) (old new : NamedSpans) (start : Start) (parent : List ℕ) (cx : PlainContext) (answer : Answer) → Some cx ≡ option_map (λ (s : PlainSpan). child_cx s.span_context) (named old parent)
-      → TakesTurn (StartTurn calls (record start { cx = cx })) p old answer q new → TakesTurn (Childs start parent) p old answer q new
+      → TurnsFromAny (StartTurn calls (record start { cx = cx })) p old answer q new → TurnsFromAny (Childs start parent) p old answer q new
   child_there p q old new start parent cx answer there takes = λ before describes. by before describes (before.histories parent) refl (takes before describes)
     where
-      by : (before : Course P S G) → Describe before.histories old → (found : Option SpanHistory) → before.histories parent ≡ found → TookTurn (StartTurn calls (record start { cx = cx })) (record before { provider = p }) answer q new
-          → TookTurn (Childs start parent) (record before { provider = p }) answer q new
+      by : (before : Course P S G) → Describe before.histories old → (found : Option SpanHistory) → before.histories parent ≡ found → TurnsFrom (StartTurn calls (record start { cx = cx })) (record before { provider = p }) answer q new
+          → TurnsFrom (Childs start parent) (record before { provider = p }) answer q new
       by before describes None e took = absurd (none-some cx (sym (ap (option_map (λ (s : PlainSpan). child_cx s.span_context)) (describes parent ∙ ap (option_map span_of) e)) ∙ sym there))
       by before describes (Some h) e took =
           let same : cx ≡ child_cx (span_of h).span_context = same_Some cx _ (there ∙ ap (option_map (λ (s : PlainSpan). child_cx s.span_context)) (describes parent ∙ ap (option_map span_of) e)) in
@@ -192,6 +192,6 @@ module _ {P S G : Type 0} (calls : Calls P S G) where
           }
 
   pub child_result : {E : Type 0} (result : Result Answer E) (p q : ProviderState P S G) (old new : NamedSpans) (start : Start) (parent : List ℕ) (cx : PlainContext) → Some cx ≡ option_map (λ (s : PlainSpan). child_cx s.span_context) (named old parent)
-      → IfOk result (λ answer. TakesTurn (StartTurn calls (record start { cx = cx })) p old answer q new) → IfOk result (λ answer. TakesTurn (Childs start parent) p old answer q new)
+      → IfOk result (λ answer. TurnsFromAny (StartTurn calls (record start { cx = cx })) p old answer q new) → IfOk result (λ answer. TurnsFromAny (Childs start parent) p old answer q new)
   child_result (Ok answer) p q old new start parent cx there takes = child_there p q old new start parent cx answer there takes
   child_result (Err e) p q old new start parent cx there takes = tt

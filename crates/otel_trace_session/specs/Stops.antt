@@ -13,7 +13,7 @@ use Rattle.otel_trace_session.specs.Actions.{calls_provider}
 use Rattle.otel_trace_session.specs.Calls.{Calls}
 use Rattle.otel_trace_session.specs.OpenSpans.{ChildMayStart, MayStart, NamedSpans, RemoteMayStart, SameSpans, named}
 use Rattle.otel_trace_session.specs.Shown.{session_batches, session_losses}
-use Rattle.otel_trace_session.specs.Turn.{TakesTurn}
+use Rattle.otel_trace_session.specs.Turn.{TurnsFromAny}
 use Rattle.otel_trace_session.specs.Turns.{IsCarriedOut, LosesNone, Runs, SessionState}
 use Rattle.otel_trace_session.specs.declared.session.RunError.{RunError}
 use Rattle.otel_trace_session.specs.declared.session.RunError.TheVariants as runs
@@ -49,7 +49,7 @@ module _ {P S G : Type 0} (calls : Calls P S G) where
 
   -- a command of a session was carried out, with this answer
   abbrev pub CarriesOut : SessionState P S G → Command → Answer → SessionState P S G → Type 0
-  CarriesOut old command answer new = TakesTurn (IsCarriedOut calls old.scope (action_of (plain_command command)))
+  CarriesOut old command answer new = TurnsFromAny (IsCarriedOut calls old.scope (action_of (plain_command command)))
       old.provider old.spans answer new.provider new.spans
 
   -- the same, and no batch was lost, but at a flush, a run or a shutdown

@@ -35,7 +35,7 @@ abbrev pub OnlyAnswers : {P S G : Type 0} → Answer → Turn P S G → Type 0
 OnlyAnswers said turn = AsksNobody said turn.before.histories turn
 
 -- a turn of which this is so was taken from a course to a provider and spans, which histories describe still
-pub record TookTurn {P S G : Type 0} (Is : Turn P S G → Type 0) (before : Course P S G) (answer : Answer)
+pub record TurnsFrom {P S G : Type 0} (Is : Turn P S G → Type 0) (before : Course P S G) (answer : Answer)
     (provider : ProviderState P S G) (spans : NamedSpans) : Type 0 where
   pub delivered : List Delivery
   pub histories : Histories
@@ -43,7 +43,7 @@ pub record TookTurn {P S G : Type 0} (Is : Turn P S G → Type 0) (before : Cour
   pub describes : Describe histories spans
 
 -- a turn of which this is so was taken from a provider and spans to others, whatever histories the spans had
-abbrev pub TakesTurn : {P S G : Type 0} → (Turn P S G → Type 0) → ProviderState P S G → NamedSpans → Answer
+abbrev pub TurnsFromAny : {P S G : Type 0} → (Turn P S G → Type 0) → ProviderState P S G → NamedSpans → Answer
     → ProviderState P S G → NamedSpans → Type 0
-TakesTurn {P} {S} {G} Is p old answer q new = (before : Course P S G) → Describe before.histories old
-    → TookTurn Is (record before { provider = p }) answer q new
+TurnsFromAny {P} {S} {G} Is p old answer q new = (before : Course P S G) → Describe before.histories old
+    → TurnsFrom Is (record before { provider = p }) answer q new

@@ -84,7 +84,8 @@ module _ {P S G : Type 0} (calls : Calls P S G) where
   AreTurns scope old [] [] new = new ≡ old
   AreTurns scope old [] (turn ∷ turns) new = ⊥
   AreTurns scope old (command ∷ commands) [] new = ⊥
-  AreTurns scope old (command ∷ commands) (turn ∷ turns) new = (turn.before ≡ old) × IsCarriedOut scope (action_of command) turn
+  AreTurns scope old (command ∷ commands) (turn ∷ turns) new = (turn.before ≡ old)
+      × IsCarriedOut scope (action_of command) turn
       × LosesNone command turn.before.provider.processors turn.after.provider.processors
       × AreTurns scope (replied turn.after) commands turns new
 

@@ -94,7 +94,7 @@ pub(crate) fn action_of(alloc: Global, command: Command) -> Action
         Command::Event { span, name, moment } => Action::Edit {
             span,
             edit: event_without_attributes(alloc, name, moment),
-        }
+        },
         Command::Status { span, status } => Action::Edit {
             span,
             edit: SpanEdit::SetStatus(status),

@@ -8,7 +8,7 @@ ghost use Rattle.otel_trace_session.specs.Actions.{action_of, plain_call};
 ghost use Rattle.otel_trace_session.specs.Calls.{calls_of};
 ghost use Rattle.otel_trace_session.specs.ProviderTurns.{CallGives, call_answer};
 ghost use Rattle.otel_trace_session.specs.Stops.{RefusesOne};
-ghost use Rattle.otel_trace_session.specs.Turn.{TakesTurn};
+ghost use Rattle.otel_trace_session.specs.Turn.{TurnsFromAny};
 ghost use Rattle.otel_trace_session.specs.Turns.{IsCarriedOut};
 
 use crate::actions::{Action, Origin, ProviderCall, action_of};
@@ -32,7 +32,7 @@ pub(crate) fn carry_out<P: KeepsBatches, S: ShouldSample, G: GivesIds>(
     command: Command,
 ) -> Result<Answer, AllocError>
     requires { root.now ≡ root_cx }
-    ensures ok { IfOk result (λ answer. TakesTurn (IsCarriedOut
+    ensures ok { IfOk result (λ answer. TurnsFromAny (IsCarriedOut
         (calls_of P.SpanProcessor P.DrainDue.own P.LeavesSpans.own P.KeepsBatches.own S.ShouldSample G.GivesIds)
         tracer.now (action_of (plain_command command))) provider.old spans.old answer provider.new spans.new) }
     ensures err { OnErr result (RefusesOne

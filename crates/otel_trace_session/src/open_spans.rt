@@ -22,7 +22,7 @@ ghost use Rattle.otel_trace_session.specs.OpenSpans.{
   start_answer,
 };
 ghost use Rattle.otel_trace_session.specs.SpanTurns.{ChildTurn, EndTurn, StartTurn, start_in};
-ghost use Rattle.otel_trace_session.specs.Turn.{TakesTurn};
+ghost use Rattle.otel_trace_session.specs.Turn.{TurnsFromAny};
 
 use crate::headers::answer_with_headers;
 use opentelemetry::{Context, Moment};
@@ -77,7 +77,7 @@ impl OpenSpans {
         name: String,
         now: Moment,
     ) -> Result<Answer, AllocError>
-        ensures ok { IfOk result (λ answer. TakesTurn (StartTurn
+        ensures ok { IfOk result (λ answer. TurnsFromAny (StartTurn
             (calls_of P.SpanProcessor P.DrainDue.own P.LeavesSpans.own P.KeepsBatches.own S.ShouldSample G.GivesIds)
             (start_in tracer.now cx.now (string_bytes span) (string_bytes name) now.0))
             provider.old self.old answer provider.new self.new) }
@@ -99,7 +99,7 @@ impl OpenSpans {
         name: String,
         now: Moment,
     ) -> Result<Answer, AllocError>
-        ensures ok { IfOk result (λ answer. TakesTurn (λ turn. ChildTurn (calls_of P.SpanProcessor P.DrainDue.own
+        ensures ok { IfOk result (λ answer. TurnsFromAny (λ turn. ChildTurn (calls_of P.SpanProcessor P.DrainDue.own
             P.LeavesSpans.own P.KeepsBatches.own S.ShouldSample G.GivesIds)
             (start_in tracer.now root_cx (string_bytes span) (string_bytes name) now.0)
             (turn.before.histories parent.now) turn) provider.old self.old answer provider.new self.new) }
@@ -160,7 +160,7 @@ impl OpenSpans {
         provider: &mut ProviderOf<P, S, G>,
         moment: Moment,
     ) -> Result<Answer, AllocError>
-        ensures ok { IfOk result (λ answer. TakesTurn (λ turn. EndTurn P.SpanProcessor span.now moment.0
+        ensures ok { IfOk result (λ answer. TurnsFromAny (λ turn. EndTurn P.SpanProcessor span.now moment.0
             (turn.before.histories span.now) turn) provider.old self.old answer provider.new self.new) }
         ensures err { OnErr result (SameSpans self.old self.new × (provider.new ≡ provider.old)) }
     {
@@ -189,7 +189,7 @@ fn start_under<P: KeepsBatches, S: ShouldSample, G: GivesIds>(
     name: String,
     now: Moment,
 ) -> Result<Answer, AllocError>
-    ensures ok { IfOk result (λ answer. TakesTurn (StartTurn
+    ensures ok { IfOk result (λ answer. TurnsFromAny (StartTurn
         (calls_of P.SpanProcessor P.DrainDue.own P.LeavesSpans.own P.KeepsBatches.own S.ShouldSample G.GivesIds)
         (start_in tracer.now cx.now (string_bytes span) (string_bytes name) now.0))
         provider.old (by_name spans.old.entries) answer provider.new (by_name spans.new.entries)) }

@@ -1,7 +1,7 @@
 -- What was drawn of all lines, and how far it was written.
 use Rattle.std.proofs.Common.{rules, ◌≡◌, Some, None, inr, subst, true}
 use Rattle.std.specs.Io.KnownBytes.{Appends}
-use Rattle.otel_otlp.specs.Streams.{AppendsBeginning}
+use Rattle.otel_export.specs.Streams.{AppendsBeginning}
 use Rattle.otel_trace_session.specs.Calls.{calls_of}
 use Rattle.otel_trace_session.specs.Closing.{LostNothing}
 use Rattle.otel_trace_run.proofs.Drawing.{draws_from}

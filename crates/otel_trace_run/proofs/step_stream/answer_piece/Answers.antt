@@ -1,8 +1,9 @@
 -- What answers the lines was written, or a beginning of it.
 use Rattle.std.proofs.Common.{subst}
 use Rattle.opentelemetry.proofs.Clauses.{always_on_err}
-use Rattle.otel_otlp.specs.Streams.{AppendsBeginning}
-use Rattle.otel_trace_run.proofs.StepStream.{answered_begins, appends_all}
+use Rattle.otel_export.specs.Streams.{AppendsBeginning}
+use Rattle.otel_export.proofs.StreamLemmas.{appends_all}
+use Rattle.otel_trace_run.proofs.StepStream.{answered_begins}
 use Rattle.otel_trace_run.proofs.step_stream.answer_piece.Goals as goal
 
 pub returns-in_err-write_whole-clause-err : goal.returns-in_err-write_whole-clause-err

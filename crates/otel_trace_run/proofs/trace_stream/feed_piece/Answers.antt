@@ -3,7 +3,7 @@ use Rattle.std.proofs.Common.{◌∙◌, ◌++◌, List, ℕ, ap, subst}
 use Rattle.otel_trace_lines.specs.ReplyForm.{texts}
 use Rattle.std.specs.Io.KnownBytes.{Appends}
 use Rattle.opentelemetry.proofs.Clauses.{always_on_err}
-use Rattle.otel_otlp.specs.Streams.{AppendsBeginning}
+use Rattle.otel_export.specs.Streams.{AppendsBeginning}
 use Rattle.otel_trace_run.proofs.trace_stream.feed_piece.Goals as goal
 
 pub returns-in_err-written-clause-err : goal.returns-in_err-written-clause-err

@@ -7,8 +7,9 @@ use Rattle.otel_trace_session.proofs.CloseLemmas.{EndsWell, ends_well}
 use Rattle.otel_trace_session.specs.Closing.{Closes, LostNothing}
 use Rattle.otel_trace_session.specs.Turns.{SessionState}
 use Rattle.std.specs.Io.KnownBytes.{Appends}
-use Rattle.otel_otlp.specs.Streams.{AppendsBeginning}
-use Rattle.otel_trace_run.proofs.TraceStream.{appends_all, closed_as, closed_some, some_broken}
+use Rattle.otel_export.specs.Streams.{AppendsBeginning}
+use Rattle.otel_export.proofs.StreamLemmas.{appends_all}
+use Rattle.otel_trace_run.proofs.TraceStream.{closed_as, closed_some, some_broken}
 use Rattle.otel_trace_run.proofs.trace_stream.trace_session.Goals as goal
 
 -- what closing did to a new text, in the form that the stream began with

@@ -14,7 +14,7 @@ use Rattle.otel_trace_session.specs.OpenSpans.{AnswersInject, ChildMayStart, Des
 use Rattle.otel_trace_session.specs.ProviderTurns.{Shuts, call_answer}
 use Rattle.otel_trace_session.specs.SpanTurns.{StartTurn, start_in}
 use Rattle.otel_trace_session.specs.Stops.{RefusesOne}
-use Rattle.otel_trace_session.specs.Turn.{TakesTurn}
+use Rattle.otel_trace_session.specs.Turn.{TurnsFromAny}
 use Rattle.otel_trace_session.specs.Turns.{IsCarriedOut}
 use Rattle.otel_trace_session.proofs.NamedLemmas.{on_err_both, refused_start_asks_none, refused_child_asks_none}
 use Rattle.otel_trace_session.proofs.CarryLemmas.{carries_call, carries_child, carries_edit, carries_end, carries_inject, carries_remote, carries_start, shuts_by}
@@ -27,24 +27,24 @@ returns-in-Start-clause-ok g c =
     let span = string_bytes c.in-Start.span in
     let name = string_bytes c.in-Start.name in
     if_ok_map c.start_in.result (λ answer h.
-    subst (λ (command : Command). TakesTurn (IsCarriedOut calls c.args.tracer.now (plain_command command)) c.args.provider.now c.args.spans.now answer c.start_in.new.provider c.start_in.new.self) (sym c.in-Start.is)
+    subst (λ (command : Command). TurnsFromAny (IsCarriedOut calls c.args.tracer.now (plain_command command)) c.args.provider.now c.args.spans.now answer c.start_in.new.provider c.start_in.new.self) (sym c.in-Start.is)
     (carries_start calls g.met.P.KeepsBatches.appends c.args.tracer.now c.args.provider.now c.start_in.new.provider c.args.spans.now c.start_in.new.self span name c.in-Start.moment.0 answer
-    (subst (λ (cx : PlainContext). TakesTurn (StartTurn calls (start_in c.args.tracer.now cx span name c.in-Start.moment.0)) c.args.provider.now c.args.spans.now answer c.start_in.new.provider c.start_in.new.self) c.requires h))) c.start_in.ensures.ok
+    (subst (λ (cx : PlainContext). TurnsFromAny (StartTurn calls (start_in c.args.tracer.now cx span name c.in-Start.moment.0)) c.args.provider.now c.args.spans.now answer c.start_in.new.provider c.start_in.new.self) c.requires h))) c.start_in.ensures.ok
 
 pub returns-in-Child-clause-ok : goal.returns-in-Child-clause-ok
 returns-in-Child-clause-ok g c =
     let calls = calls_of g.P.SpanProcessor g.P.DrainDue g.P.LeavesSpans g.P.KeepsBatches g.S.ShouldSample g.G.GivesIds in
     let start = start_in c.args.tracer.now root_cx (string_bytes c.in-Child.span) (string_bytes c.in-Child.name) c.in-Child.moment.0 in
     if_ok_map c.start_child.result (λ answer h.
-    subst (λ (command : Command). TakesTurn (IsCarriedOut calls c.args.tracer.now (plain_command command)) c.args.provider.now c.args.spans.now answer c.start_child.new.provider c.start_child.new.self) (sym c.in-Child.is)
+    subst (λ (command : Command). TurnsFromAny (IsCarriedOut calls c.args.tracer.now (plain_command command)) c.args.provider.now c.args.spans.now answer c.start_child.new.provider c.start_child.new.self) (sym c.in-Child.is)
     (carries_child calls g.met.P.KeepsBatches.appends c.args.tracer.now c.args.provider.now c.start_child.new.provider c.args.spans.now c.start_child.new.self (string_bytes c.in-Child.span) (string_bytes c.in-Child.parent) (string_bytes c.in-Child.name) c.in-Child.moment.0 answer
-    (subst (λ (parent : List ℕ). TakesTurn (Childs calls start parent) c.args.provider.now c.args.spans.now answer c.start_child.new.provider c.start_child.new.self) c.as_str.ensures.value h))) c.start_child.ensures.ok
+    (subst (λ (parent : List ℕ). TurnsFromAny (Childs calls start parent) c.args.provider.now c.args.spans.now answer c.start_child.new.provider c.start_child.new.self) c.as_str.ensures.value h))) c.start_child.ensures.ok
 
 pub returns-in_ok-cx-in-Remote-clause-ok : goal.returns-in_ok-cx-in-Remote-clause-ok
 returns-in_ok-cx-in-Remote-clause-ok g c =
     let calls = calls_of g.P.SpanProcessor g.P.DrainDue g.P.LeavesSpans g.P.KeepsBatches g.S.ShouldSample g.G.GivesIds in
     if_ok_map c.start_in-in-Remote.result (λ answer h.
-    subst (λ (command : Command). TakesTurn (IsCarriedOut calls c.args.tracer.now (plain_command command)) c.args.provider.now c.args.spans.now answer c.start_in-in-Remote.new.provider c.start_in-in-Remote.new.self) (sym c.in-Remote.is)
+    subst (λ (command : Command). TurnsFromAny (IsCarriedOut calls c.args.tracer.now (plain_command command)) c.args.provider.now c.args.spans.now answer c.start_in-in-Remote.new.provider c.start_in-in-Remote.new.self) (sym c.in-Remote.is)
     (carries_remote calls g.met.P.KeepsBatches.appends c.args.tracer.now c.args.provider.now c.start_in-in-Remote.new.provider c.args.spans.now c.start_in-in-Remote.new.self (string_bytes c.in-Remote.span) (string_bytes c.in-Remote.traceparent) (string_bytes c.in-Remote.name) c.in-Remote.moment.0
     c.in_ok-cx-in-Remote.cx answer c.in_ok-cx-in-Remote.ensures h)) c.start_in-in-Remote.ensures.ok
 
@@ -53,7 +53,7 @@ returns-in-Attr-clause-ok g c =
     let calls = calls_of g.P.SpanProcessor g.P.DrainDue g.P.LeavesSpans g.P.KeepsBatches g.S.ShouldSample g.G.GivesIds in
     let span = string_bytes c.in-Attr.span in
     if_ok_map c.edit.result (λ answer h.
-    subst (λ (command : Command). TakesTurn (IsCarriedOut calls c.args.tracer.now (plain_command command)) c.args.provider.now c.args.spans.now answer c.args.provider.now c.edit.new.self) (sym c.in-Attr.is)
+    subst (λ (command : Command). TurnsFromAny (IsCarriedOut calls c.args.tracer.now (plain_command command)) c.args.provider.now c.args.spans.now answer c.args.provider.now c.edit.new.self) (sym c.in-Attr.is)
     (carries_edit calls g.met.P.KeepsBatches.appends c.args.tracer.now (attr span (string_bytes c.in-Attr.key) (string_bytes c.in-Attr.value)) c.args.provider.now c.args.spans.now c.edit.new.self span _ answer (λ turn is. is)
     (subst (λ (edit : Edit). Edits c.args.spans.now span edit answer c.edit.new.self) c.text_attribute.ensures
     (subst (λ (called : List ℕ). Edits c.args.spans.now called (plain_edit c.text_attribute.result) answer c.edit.new.self) c.as_str-in-Attr.ensures.value h)))) c.edit.ensures.ok
@@ -63,7 +63,7 @@ returns-in-Event-clause-ok g c =
     let calls = calls_of g.P.SpanProcessor g.P.DrainDue g.P.LeavesSpans g.P.KeepsBatches g.S.ShouldSample g.G.GivesIds in
     let span = string_bytes c.in-Event.span in
     if_ok_map c.edit-in-Event.result (λ answer h.
-    subst (λ (command : Command). TakesTurn (IsCarriedOut calls c.args.tracer.now (plain_command command)) c.args.provider.now c.args.spans.now answer c.args.provider.now c.edit-in-Event.new.self) (sym c.in-Event.is)
+    subst (λ (command : Command). TurnsFromAny (IsCarriedOut calls c.args.tracer.now (plain_command command)) c.args.provider.now c.args.spans.now answer c.args.provider.now c.edit-in-Event.new.self) (sym c.in-Event.is)
     (carries_edit calls g.met.P.KeepsBatches.appends c.args.tracer.now (event span (string_bytes c.in-Event.name) c.in-Event.moment.0) c.args.provider.now c.args.spans.now c.edit-in-Event.new.self span _ answer (λ turn is. is)
     (subst (λ (edit : Edit). Edits c.args.spans.now span edit answer c.edit-in-Event.new.self) c.event_without_attributes.ensures
     (subst (λ (called : List ℕ). Edits c.args.spans.now called (plain_edit c.event_without_attributes.result) answer c.edit-in-Event.new.self) c.as_str-in-Event.ensures.value h)))) c.edit-in-Event.ensures.ok
@@ -73,7 +73,7 @@ returns-in-Status-clause-ok g c =
     let calls = calls_of g.P.SpanProcessor g.P.DrainDue g.P.LeavesSpans g.P.KeepsBatches g.S.ShouldSample g.G.GivesIds in
     let span = string_bytes c.in-Status.span in
     if_ok_map c.edit-in-Status.result (λ answer h.
-    subst (λ (command : Command). TakesTurn (IsCarriedOut calls c.args.tracer.now (plain_command command)) c.args.provider.now c.args.spans.now answer c.args.provider.now c.edit-in-Status.new.self) (sym c.in-Status.is)
+    subst (λ (command : Command). TurnsFromAny (IsCarriedOut calls c.args.tracer.now (plain_command command)) c.args.provider.now c.args.spans.now answer c.args.provider.now c.edit-in-Status.new.self) (sym c.in-Status.is)
     (carries_edit calls g.met.P.KeepsBatches.appends c.args.tracer.now (status span (plain_status c.in-Status.status)) c.args.provider.now c.args.spans.now c.edit-in-Status.new.self span _ answer (λ turn is. is)
     (subst (λ (called : List ℕ). Edits c.args.spans.now called (set_status (plain_status c.in-Status.status)) answer c.edit-in-Status.new.self) c.as_str-in-Status.ensures.value h))) c.edit-in-Status.ensures.ok
 
@@ -81,7 +81,7 @@ pub returns-in-Inject-clause-ok : goal.returns-in-Inject-clause-ok
 returns-in-Inject-clause-ok g c =
     let calls = calls_of g.P.SpanProcessor g.P.DrainDue g.P.LeavesSpans g.P.KeepsBatches g.S.ShouldSample g.G.GivesIds in
     if_ok_map c.inject.result (λ answer h.
-    subst (λ (command : Command). TakesTurn (IsCarriedOut calls c.args.tracer.now (plain_command command)) c.args.provider.now c.args.spans.now answer c.args.provider.now c.args.spans.now) (sym c.in-Inject.is)
+    subst (λ (command : Command). TurnsFromAny (IsCarriedOut calls c.args.tracer.now (plain_command command)) c.args.provider.now c.args.spans.now answer c.args.provider.now c.args.spans.now) (sym c.in-Inject.is)
     (carries_inject calls g.met.P.KeepsBatches.appends c.args.tracer.now c.args.provider.now c.args.spans.now (string_bytes c.in-Inject.span) answer
     (subst (λ (span : List ℕ). (histories : Histories) → Describe histories c.args.spans.now → AnswersInject (histories span) answer) c.as_str-in-Inject.ensures.value h))) c.inject.ensures
 
@@ -89,30 +89,30 @@ pub returns-in-End-clause-ok : goal.returns-in-End-clause-ok
 returns-in-End-clause-ok g c =
     let calls = calls_of g.P.SpanProcessor g.P.DrainDue g.P.LeavesSpans g.P.KeepsBatches g.S.ShouldSample g.G.GivesIds in
     if_ok_map c.end.result (λ answer h.
-    subst (λ (command : Command). TakesTurn (IsCarriedOut calls c.args.tracer.now (plain_command command)) c.args.provider.now c.args.spans.now answer c.end.new.provider c.end.new.self) (sym c.in-End.is)
+    subst (λ (command : Command). TurnsFromAny (IsCarriedOut calls c.args.tracer.now (plain_command command)) c.args.provider.now c.args.spans.now answer c.end.new.provider c.end.new.self) (sym c.in-End.is)
     (carries_end calls g.met.P.KeepsBatches.appends c.args.tracer.now c.args.provider.now c.end.new.provider c.args.spans.now c.end.new.self (string_bytes c.in-End.span) c.in-End.moment.0 answer
-    (subst (λ (span : List ℕ). TakesTurn (EndsNamed g.P.SpanProcessor span c.in-End.moment.0) c.args.provider.now c.args.spans.now answer c.end.new.provider c.end.new.self) c.as_str-in-End.ensures.value h))) c.end.ensures.ok
+    (subst (λ (span : List ℕ). TurnsFromAny (EndsNamed g.P.SpanProcessor span c.in-End.moment.0) c.args.provider.now c.args.spans.now answer c.end.new.provider c.end.new.self) c.as_str-in-End.ensures.value h))) c.end.ensures.ok
 
 pub returns-in-Flush-clause-ok : goal.returns-in-Flush-clause-ok
 returns-in-Flush-clause-ok g c =
     let calls = calls_of g.P.SpanProcessor g.P.DrainDue g.P.LeavesSpans g.P.KeepsBatches g.S.ShouldSample g.G.GivesIds in
-    subst (λ (answer : Answer). TakesTurn (IsCarriedOut calls c.args.tracer.now (plain_command c.args.command)) c.args.provider.now c.args.spans.now answer c.force_flush.new.self c.args.spans.now) (sym c.answer_to_call.ensures)
-    (subst (λ (command : Command). TakesTurn (IsCarriedOut calls c.args.tracer.now (plain_command command)) c.args.provider.now c.args.spans.now (call_answer c.force_flush.result) c.force_flush.new.self c.args.spans.now) (sym c.in-Flush.is)
+    subst (λ (answer : Answer). TurnsFromAny (IsCarriedOut calls c.args.tracer.now (plain_command c.args.command)) c.args.provider.now c.args.spans.now answer c.force_flush.new.self c.args.spans.now) (sym c.answer_to_call.ensures)
+    (subst (λ (command : Command). TurnsFromAny (IsCarriedOut calls c.args.tracer.now (plain_command command)) c.args.provider.now c.args.spans.now (call_answer c.force_flush.result) c.force_flush.new.self c.args.spans.now) (sym c.in-Flush.is)
     (carries_call calls g.met.P.KeepsBatches.appends c.args.tracer.now flush (Flushes g.P.SpanProcessor) c.args.provider.now c.force_flush.new.self c.args.spans.now c.force_flush.result (λ turn is. is) c.force_flush.ensures.flushes c.force_flush.ensures.told))
 
 pub returns-in-Run-clause-ok : goal.returns-in-Run-clause-ok
 returns-in-Run-clause-ok g c =
     let calls = calls_of g.P.SpanProcessor g.P.DrainDue g.P.LeavesSpans g.P.KeepsBatches g.S.ShouldSample g.G.GivesIds in
-    subst (λ (answer : Answer). TakesTurn (IsCarriedOut calls c.args.tracer.now (plain_command c.args.command)) c.args.provider.now c.args.spans.now answer c.run_processors.new.self c.args.spans.now) (sym c.answer_to_call-in-Run.ensures)
-    (subst (λ (command : Command). TakesTurn (IsCarriedOut calls c.args.tracer.now (plain_command command)) c.args.provider.now c.args.spans.now (call_answer c.run_processors.result) c.run_processors.new.self c.args.spans.now) (sym c.in-Run.is)
+    subst (λ (answer : Answer). TurnsFromAny (IsCarriedOut calls c.args.tracer.now (plain_command c.args.command)) c.args.provider.now c.args.spans.now answer c.run_processors.new.self c.args.spans.now) (sym c.answer_to_call-in-Run.ensures)
+    (subst (λ (command : Command). TurnsFromAny (IsCarriedOut calls c.args.tracer.now (plain_command command)) c.args.provider.now c.args.spans.now (call_answer c.run_processors.result) c.run_processors.new.self c.args.spans.now) (sym c.in-Run.is)
     (carries_call calls g.met.P.KeepsBatches.appends c.args.tracer.now (run c.in-Run.moment.0) (RunsDue g.P.SpanProcessor g.P.DrainDue c.in-Run.moment.0) c.args.provider.now c.run_processors.new.self c.args.spans.now c.run_processors.result (λ turn is. is)
     c.run_processors.ensures.runs c.run_processors.ensures.told))
 
 pub returns-in-Shutdown-clause-ok : goal.returns-in-Shutdown-clause-ok
 returns-in-Shutdown-clause-ok g c =
     let calls = calls_of g.P.SpanProcessor g.P.DrainDue g.P.LeavesSpans g.P.KeepsBatches g.S.ShouldSample g.G.GivesIds in
-    subst (λ (answer : Answer). TakesTurn (IsCarriedOut calls c.args.tracer.now (plain_command c.args.command)) c.args.provider.now c.args.spans.now answer c.shutdown.new.self c.args.spans.now) (sym c.answer_to_call-in-Shutdown.ensures)
-    (subst (λ (command : Command). TakesTurn (IsCarriedOut calls c.args.tracer.now (plain_command command)) c.args.provider.now c.args.spans.now (call_answer c.shutdown.result) c.shutdown.new.self c.args.spans.now) (sym c.in-Shutdown.is)
+    subst (λ (answer : Answer). TurnsFromAny (IsCarriedOut calls c.args.tracer.now (plain_command c.args.command)) c.args.provider.now c.args.spans.now answer c.shutdown.new.self c.args.spans.now) (sym c.answer_to_call-in-Shutdown.ensures)
+    (subst (λ (command : Command). TurnsFromAny (IsCarriedOut calls c.args.tracer.now (plain_command command)) c.args.provider.now c.args.spans.now (call_answer c.shutdown.result) c.shutdown.new.self c.args.spans.now) (sym c.in-Shutdown.is)
     (carries_call calls g.met.P.KeepsBatches.appends c.args.tracer.now shutdown (Shuts g.P.SpanProcessor) c.args.provider.now c.shutdown.new.self c.args.spans.now c.shutdown.result (λ turn is. is)
     (shuts_by calls c.args.provider.now c.shutdown.new.self c.shutdown.result c.shutdown.ensures.again c.shutdown.ensures.first) c.shutdown.ensures.told))
 

@@ -2,7 +2,7 @@ use Rattle.std.proofs.Common.{◌≡◌, ◌∙◌, sym, ap, Some, None, subst, 
 use Rattle.otel_pipeline.specs.SpanHistory.{PlainSpan, ended}
 use Rattle.otel_trace_lines.specs.declared.reply.Answer.TheVariants as answers
 use Rattle.otel_trace_session.specs.OpenSpans.{NamedSpans, SameSpans, named, by_name}
-use Rattle.otel_trace_session.specs.Turn.{TakesTurn}
+use Rattle.otel_trace_session.specs.Turn.{TurnsFromAny}
 use Rattle.opentelemetry.proofs.Clauses.{always_on_err}
 use Rattle.otel_trace_session.proofs.NamedLemmas.{PutsSpan, named-get, puts_span, put_same, same_entries, ended_has, puts_history, same_histories}
 use Rattle.otel_trace_session.proofs.TurnLemmas.{EndsNamed, ends_absent, ends_there}
@@ -13,7 +13,7 @@ returns-in_default-clause-ok g c =
     let spans = c.self.inside.spans in
     let new = c.get_mut.follows.lender-at-none in
     let absent : named (by_name spans.entries) c.args.span.now ≡ None = named-get spans c.args.span.now ∙ sym c.in_default.ensures.value in
-    subst (λ (old : NamedSpans). TakesTurn (EndsNamed g.P.SpanProcessor c.args.span.now c.args.moment.0) c.args.provider.now old answers.NoSuchSpan c.args.provider.now (by_name new.entries)) c.self.view_is
+    subst (λ (old : NamedSpans). TurnsFromAny (EndsNamed g.P.SpanProcessor c.args.span.now c.args.moment.0) c.args.provider.now old answers.NoSuchSpan c.args.provider.now (by_name new.entries)) c.self.view_is
     (ends_absent g.P.SpanProcessor c.args.provider.now (by_name spans.entries) (by_name new.entries) c.args.span.now c.args.moment.0 absent (same_entries spans.entries new.entries (ap (λ m. m.entries) c.get_mut.follows.holds-at-none)))
 
 pub returns-in_err-refused-clause-err : goal.returns-in_err-refused-clause-err
@@ -34,7 +34,7 @@ returns-clause-ok g c =
     let there : named (by_name spans.entries) c.args.span.now ≡ Some c.in-Some.found.now = named-get spans c.args.span.now ∙ sym c.in-Some.ensures.value in
     let put = puts_span spans new c.args.span.now c.end_with_timestamp.new.self ((c.get_mut.follows.holds c.end_with_timestamp.new.self).3 (search rules)) in
     let P : PlainSpan → Type 0 = λ v. PutsSpan (by_name spans.entries) c.args.span.now v (by_name new.entries) in
-    subst (λ (old : NamedSpans). TakesTurn (EndsNamed g.P.SpanProcessor c.args.span.now c.args.moment.0) c.args.provider.now old c.answer_to_end.result c.end_with_timestamp.new.provider (by_name new.entries)) c.self.view_is
+    subst (λ (old : NamedSpans). TurnsFromAny (EndsNamed g.P.SpanProcessor c.args.span.now c.args.moment.0) c.args.provider.now old c.answer_to_end.result c.end_with_timestamp.new.provider (by_name new.entries)) c.self.view_is
     (ends_there g.P.SpanProcessor c.args.provider.now c.end_with_timestamp.new.provider (by_name spans.entries) (by_name new.entries) c.args.span.now c.args.moment.0 c.in-Some.found.now c.answer_to_end.result there (record {
       refused = c.in_ok-refused.refused;
       delivers = c.in_ok-refused.ensures.ok.delivers;

@@ -2,7 +2,7 @@ use Rattle.std.proofs.Common.{IfOk, string_bytes, subst}
 use Rattle.otel_trace_session.specs.Calls.{calls_of}
 use Rattle.otel_trace_session.specs.OpenSpans.{NamedSpans, by_name}
 use Rattle.otel_trace_session.specs.SpanTurns.{StartTurn, start_in}
-use Rattle.otel_trace_session.specs.Turn.{TakesTurn}
+use Rattle.otel_trace_session.specs.Turn.{TurnsFromAny}
 use Rattle.otel_trace_session.proofs.NamedLemmas.{start_keeps_histories}
 use Rattle.otel_trace_session.proofs.open_spans.OpenSpans.start_in.Goals as goal
 
@@ -16,5 +16,5 @@ pub returns-clause-ok : goal.returns-clause-ok
 returns-clause-ok g c =
     let calls = calls_of g.P.SpanProcessor g.P.DrainDue g.P.LeavesSpans g.P.KeepsBatches g.S.ShouldSample g.G.GivesIds in
     let start = start_in c.args.tracer.now c.args.cx.now (string_bytes c.args.span) (string_bytes c.args.name) c.args.now.0 in
-    subst (λ (old : NamedSpans). IfOk c.start_under.result (λ answer. TakesTurn (StartTurn calls start) c.args.provider.now old answer c.start_under.new.provider (by_name c.start_under.new.spans.entries))) c.self.view_is
+    subst (λ (old : NamedSpans). IfOk c.start_under.result (λ answer. TurnsFromAny (StartTurn calls start) c.args.provider.now old answer c.start_under.new.provider (by_name c.start_under.new.spans.entries))) c.self.view_is
     c.start_under.ensures.ok

@@ -1,7 +1,7 @@
 -- A beginning was written.
 use Rattle.std.proofs.Common.{◌≤◌, length, take}
 use Rattle.std.specs.Io.KnownBytes.{Appends}
-use Rattle.otel_otlp.proofs.stream.write_whole.Given as goal
+use Rattle.otel_export.proofs.stream.write_whole.Given as goal
 
 abbrev pub invariant-loop : goal.invariant-loop
 invariant-loop g l = record {

@@ -1,9 +1,9 @@
 -- One write more, or none.
 use Rattle.std.proofs.Common.{◌+◌, ◌-◌, ◌≤◌, length, take, drop, arith, length-drop, length-take}
 use Rattle.std.proofs.KnownBytes.{Appends-kept}
-use Rattle.otel_otlp.proofs.Written.{wrote_beginning, write_more}
-use Rattle.otel_otlp.proofs.stream.write_whole.Goals as goal
-use Rattle.otel_otlp.proofs.stream.write_whole.Goals.{in-Ok, in-Err+else-ne}
+use Rattle.otel_export.proofs.StreamLemmas.{wrote_beginning, write_more}
+use Rattle.otel_export.proofs.stream.write_whole.Goals as goal
+use Rattle.otel_export.proofs.stream.write_whole.Goals.{in-Ok, in-Err+else-ne}
 
 pub returns-in-Ok-eq0-clause-err : goal.returns-in-Ok-eq0-clause-err
 returns-in-Ok-eq0-clause-err g c =

@@ -2,7 +2,7 @@
 
 ghost use Rattle.std.specs.Prelude.{OnErr, OnOk};
 ghost use Rattle.std.specs.Io.KnownBytes.{Appends};
-ghost use Rattle.otel_otlp.specs.Streams.{AppendsBeginning};
+ghost use Rattle.otel_export.specs.Streams.{AppendsBeginning};
 
 use std::io;
 use std::io::{ErrorKind, Write};
