@@ -1,6 +1,6 @@
 -- What each call of an exporter of lines does to the stream: it goes on holding the lines of the batches told.
 use Rattle.std.proofs.Common.{◌≡◌, ◌∙◌, ap, sym, subst, refl, ℕ, Bool, true, false, List, [], ◌∷◌, ◌++◌, Option, Some, None, Result, Ok, Err}
-use Rattle.std.proofs.Common.{MatchBool, map, inl, inr, append-nil, cc}
+use Rattle.std.proofs.Common.{MatchBool, map, inl, inr, append-nil}
 use Rattle.std.proofs.KnownBytes.{Appends-nil, Appends-trans}
 use Rattle.std.proofs.lemmas.List.Concat.{flat_map-append}
 use Rattle.std.specs.Io.KnownBytes.{Appends}

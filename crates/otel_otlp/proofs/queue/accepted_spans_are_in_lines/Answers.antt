@@ -3,6 +3,6 @@ use Rattle.std.proofs.Common.{refl}
 use Rattle.otel_otlp.proofs.QueueLemmas.{lines_hold}
 use Rattle.otel_otlp.proofs.queue.accepted_spans_are_in_lines.Goals as goal
 
-pub returns-clause : goal.returns-clause
-returns-clause g c = λ first xs os t lined h.
+pub returns : goal.returns
+returns g c = λ first xs os t lined h.
     lines_hold g.W.Write.contents _ (λ e batch answer f w. w) (λ e timeout answer f w. w) (λ e resource f w. w) (λ e. refl) first xs os t lined h
