@@ -4,7 +4,7 @@ use Rattle.std.specs.FinMap as fin
 use Rattle.opentelemetry.specs.PlainValues.{plain_value}
 use Rattle.otel_resource.specs.Resource.{PlainResource}
 use Rattle.otel_resource.proofs.AttributeLemmas.{get-by_key, plain_copied}
-use Rattle.otel_resource.proofs.resource.ResourceParts.get.Goals as goal
+use Rattle.otel_resource.proofs.resource.parts.ResourceParts.get.Goals as goal
 
 pub returns : goal.returns
 returns c =

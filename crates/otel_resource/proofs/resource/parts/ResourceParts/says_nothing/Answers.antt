@@ -3,7 +3,7 @@ use Rattle.std.proofs.lemmas.Bool.{eqb-true}
 use Rattle.otel_resource.specs.Resource.{PlainResource}
 use Rattle.otel_resource.proofs.AttributeLemmas.{nothing_in}
 use Rattle.otel_resource.proofs.SameLemmas.{nothing_said}
-use Rattle.otel_resource.proofs.resource.ResourceParts.says_nothing.Goals as goal
+use Rattle.otel_resource.proofs.resource.parts.ResourceParts.says_nothing.Goals as goal
 
 pub returns-then-is_empty : goal.returns-then-is_empty
 returns-then-is_empty c =

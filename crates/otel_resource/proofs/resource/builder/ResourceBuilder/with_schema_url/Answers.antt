@@ -2,7 +2,7 @@ use Rattle.std.proofs.Common.{◌≡◌, [], IfOk, string_bytes, sym, ap, subst,
 use Rattle.std.proofs.lemmas.Bool.{eqb-true}
 use Rattle.otel_resource.specs.Resource.{PlainResource, Attributes, merge, union, of_pairs, attributes_of}
 use Rattle.otel_resource.proofs.AttributeLemmas.{nothing_in, by_key-empty, union-empty_left, merge-nothing_left}
-use Rattle.otel_resource.proofs.resource.ResourceBuilder.with_schema_url.Goals as goal
+use Rattle.otel_resource.proofs.resource.builder.ResourceBuilder.with_schema_url.Goals as goal
 
 pub returns-then-is_empty-2-clause-ok : goal.returns-then-is_empty-2-clause-ok
 returns-then-is_empty-2-clause-ok c =

@@ -1,7 +1,7 @@
 use Rattle.std.proofs.Common.{◌≡◌, List, take}
 use Rattle.std.specs.List.{AllZip}
 use Rattle.otel_resource.specs.Resource.{PlainResource, merge, of_attributes, all_attributes}
-use Rattle.otel_resource.proofs.resource.with_detected.Given as goal
+use Rattle.otel_resource.proofs.resource.builder.with_detected.Given as goal
 
 abbrev pub invariant-loop-detector : goal.invariant-loop-detector
 invariant-loop-detector g l =

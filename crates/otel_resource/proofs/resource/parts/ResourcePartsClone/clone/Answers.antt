@@ -1,6 +1,6 @@
 use Rattle.std.proofs.Common.{◌∙◌}
 use Rattle.otel_resource.proofs.AttributeLemmas.{by_key-clone, same_resource}
-use Rattle.otel_resource.proofs.resource.ResourcePartsClone.clone.Goals as goal
+use Rattle.otel_resource.proofs.resource.parts.ResourcePartsClone.clone.Goals as goal
 
 pub returns : goal.returns
 returns c = record {

@@ -3,7 +3,7 @@ use Rattle.std.specs.FinMap as fin
 use Rattle.opentelemetry.specs.PlainValues.{plain_value}
 use Rattle.otel_resource.specs.Resource.{PlainResource}
 use Rattle.otel_resource.proofs.AttributeLemmas.{entries-by_key}
-use Rattle.otel_resource.proofs.resource.ResourceParts.iter.Goals as goal
+use Rattle.otel_resource.proofs.resource.parts.ResourceParts.iter.Goals as goal
 
 pub returns : goal.returns
 returns c =

@@ -4,7 +4,7 @@ use Rattle.opentelemetry.specs.Plain.{PlainKeyValue}
 use Rattle.opentelemetry.specs.PlainValues.{plain_value}
 use Rattle.otel_resource.specs.Resource.{PlainResource, by_key, with_pairs}
 use Rattle.otel_resource.proofs.AttributeLemmas.{same_resource, with_pairs-one}
-use Rattle.otel_resource.proofs.resource.ResourceBuilder.with_attribute.Goals as goal
+use Rattle.otel_resource.proofs.resource.builder.ResourceBuilder.with_attribute.Goals as goal
 
 pub returns : goal.returns
 returns c =

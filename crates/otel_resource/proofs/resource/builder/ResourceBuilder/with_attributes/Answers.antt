@@ -3,7 +3,7 @@ use Rattle.std.proofs.lemmas.Bool.{eqb-true}
 use Rattle.opentelemetry.specs.Plain.{PlainKeyValue}
 use Rattle.otel_resource.specs.Resource.{with_pairs}
 use Rattle.otel_resource.proofs.AttributeLemmas.{nothing_in, merge-nothing}
-use Rattle.otel_resource.proofs.resource.ResourceBuilder.with_attributes.Goals as goal
+use Rattle.otel_resource.proofs.resource.builder.ResourceBuilder.with_attributes.Goals as goal
 
 pub returns-then-is_empty-clause-ok : goal.returns-then-is_empty-clause-ok
 returns-then-is_empty-clause-ok c =

@@ -3,7 +3,7 @@ use Rattle.std.proofs.lemmas.List.{take_more}
 use Rattle.std.specs.List.{AllZip}
 use Rattle.otel_resource.specs.Resource.{PlainResource, merge, of_attributes, all_attributes}
 use Rattle.otel_resource.proofs.AttributeLemmas.{merge-nothing, merge_attributes-merge, all_attributes-push, all_zip_push}
-use Rattle.otel_resource.proofs.resource.with_detected.Goals as goal
+use Rattle.otel_resource.proofs.resource.builder.with_detected.Goals as goal
 
 pub loop-detector-init : goal.loop-detector-init
 loop-detector-init g c = ([], tt, sym (merge-nothing c.args.builder))

@@ -2,7 +2,7 @@ use Rattle.std.proofs.Common.{sym, ap, ◌∙◌}
 use Rattle.std.specs.FinMap as fin
 use Rattle.otel_resource.specs.Resource.{PlainResource}
 use Rattle.otel_resource.proofs.AttributeLemmas.{len-by_key}
-use Rattle.otel_resource.proofs.resource.ResourceParts.len.Goals as goal
+use Rattle.otel_resource.proofs.resource.parts.ResourceParts.len.Goals as goal
 
 pub returns : goal.returns
 returns c =
