@@ -1,10 +1,9 @@
--- A header without an equals sign says no entry.
+-- A member without an equals sign says no entry, and a header without one has such members alone.
 use Rattle.std.proofs.Common.{◌≡◌, ◌==◌, ℕ, List, [], ◌∷◌, All, None, take, refl, sym, ap, ◌∙◌, subst}
-use Rattle.std.specs.List.{cons_option, filter_map}
-use Rattle.std.proofs.lemmas.List.Elements.{All-head, All-tail, All-take}
+use Rattle.std.proofs.lemmas.List.Elements.{All-head, All-take}
 use Rattle.std.proofs.lemmas.List.Splits.{slice_split_none}
 use Rattle.opentelemetry.specs.Members.{HasNo, comma, equals_sign}
-use Rattle.otel_propagation.specs.BaggageHeader.{entries_of, entry_of_member, entry_of_parts, metadata_of, one_a_name, paired_entry}
+use Rattle.otel_propagation.specs.BaggageHeader.{entry_of_member, entry_of_parts, metadata_of, paired_entry}
 use Rattle.opentelemetry.specs.Members.{pieces_at, semicolon}
 use Rattle.otel_propagation.proofs.BaggagePieceLemmas.{lacks, pieces_lack}
 
@@ -33,15 +32,6 @@ no_entry member none = by (pieces_at semicolon member) (pieces_lack semicolon eq
     by [] all = refl
     by (pair ∷ properties) all = no_pair pair (metadata_of properties) (All-head (HasNo equals_sign) pair properties all)
 
-no_entries : (members : List (List ℕ)) → All (HasNo equals_sign) members → filter_map entry_of_member members ≡ []
-no_entries [] all = refl
-no_entries (member ∷ more) all = λ i. cons_option (no_entry member (All-head (HasNo equals_sign) member more all) i) (no_entries more (All-tail (HasNo equals_sign) member more all) i)
-
 -- the members that are looked at
 pub members_have_none : (header : List ℕ) → HasNo equals_sign header → All (HasNo equals_sign) (take 64 (pieces_at comma header))
 members_have_none header none = All-take (HasNo equals_sign) 64 (pieces_at comma header) (pieces_lack comma equals_sign header none)
-
--- so a header says none
-pub nothing_read : (header : List ℕ) → HasNo equals_sign header → entries_of header ≡ []
-unfolding entries_of
-nothing_read header none = ap one_a_name (no_entries (take 64 (pieces_at comma header)) (members_have_none header none))

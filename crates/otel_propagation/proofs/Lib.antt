@@ -7,11 +7,13 @@ pub mod BaggageTextLemmas
 pub mod BothLemmas
 pub mod CompositeLemmas
 pub mod ConfiguredLemmas
+pub mod MemberBounds
 pub mod NamedLemmas
 pub mod StrictBounds
 pub mod StrictBytes
 pub mod StrictGraphic
 pub mod StrictHeaders
+pub mod StrictNoEntries
 pub mod StrictPairs
 pub mod StrictPassing
 pub mod StrictReads

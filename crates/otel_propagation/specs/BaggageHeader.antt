@@ -86,14 +86,22 @@ abbrev pub one_a_name : PlainBaggage → PlainBaggage
 one_a_name [] = []
 one_a_name (e ∷ es) = last_of_name e es ∷ of_other_names e (one_a_name es)
 
+-- the baggage of a header whose members say entries so: of its first 64 members those that say one, one a name
+abbrev pub entries_said : (List ℕ → Option PlainBaggageEntry) → List ℕ → PlainBaggage
+entries_said says header = one_a_name (filter_map says (take 64 (pieces_at comma header)))
+
 -- the baggage of a header: of its first 64 members those that read, one a name
 unfoldable pub entries_of : List ℕ → PlainBaggage
-entries_of header = one_a_name (filter_map entry_of_member (take 64 (pieces_at comma header)))
+entries_of header = entries_said entry_of_member header
 
--- the baggage that a header says, if there is a header, and one of at most 8192 bytes
+-- the baggage that a header says to a reader, if there is a header, and one of at most 8192 bytes
+abbrev pub read_short : (List ℕ → PlainBaggage) → Option (List ℕ) → Option PlainBaggage
+read_short reads None = None
+read_short reads (Some header) = if nat_le (length header) 8192 then Some (reads header) else None
+
+-- what it says to a baggage propagator
 abbrev pub read_baggage : Option (List ℕ) → Option PlainBaggage
-read_baggage None = None
-read_baggage (Some header) = if nat_le (length header) 8192 then Some (entries_of header) else None
+read_baggage header = read_short entries_of header
 
 -- what a baggage propagator injects: the header; for an empty baggage nothing, which needs no memory
 pub record InjectsBaggage (cx : PlainContext) (old : Texts) (result : Result (Unit {0}) AllocError)

@@ -1,7 +1,7 @@
 -- What a walk over a baggage header reads and writes next.
-use Rattle.std.specs.Prelude.{ℕ, Bool, true, false, List, [], ◌∷◌, ◌++◌, Option, None, Some, String, string_bytes}
+use Rattle.std.specs.Prelude.{◌≢◌, ◌≤◌, ℕ, Bool, true, false, List, [], ◌∷◌, ◌++◌, Option, None, Some, String, string_bytes}
 use Rattle.std.specs.Borrow.{Bor}
-use Rattle.opentelemetry.specs.Baggage.{PlainBaggageEntry, entry_of}
+use Rattle.opentelemetry.specs.Baggage.{PlainBaggageEntry, entry_bytes, entry_of}
 use Rattle.opentelemetry.specs.Members.{pieces_at, semicolon}
 
 -- the properties that stand after a first semicolon; none where there is no semicolon
@@ -22,3 +22,8 @@ unless_first false separator = separator
 abbrev pub next_property : Bool → Option (List ℕ) → List ℕ
 next_property is_first None = []
 next_property is_first (Some text) = unless_first is_first (semicolon ∷ []) ++ text
+
+-- an entry that has a name and is no longer than so many bytes
+pub record IsNamedWithin (bound : ℕ) (e : PlainBaggageEntry) : Type 0 where
+  pub named : e.key ≢ []
+  pub short : entry_bytes e ≤ bound

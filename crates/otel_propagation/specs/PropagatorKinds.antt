@@ -3,7 +3,7 @@ use Rattle.std.specs.Prelude.{◌≡◌, ◌⊎◌, ℕ, List, [], ◌∷◌}
 use Rattle.opentelemetry.specs.Carrier.{Injection}
 use Rattle.otel_propagation.specs.BaggageHeader.{baggage_field, InjectsBaggage, ExtractsBaggage, BaggageIsInfallible}
 use Rattle.otel_propagation.specs.Composite.{Extraction, Infallible}
-use Rattle.otel_propagation.specs.StrictBaggage.{InjectsStrictBaggage, ExtractsStrictBaggage, StrictBaggageIsInfallible}
+use Rattle.otel_propagation.specs.StrictBaggage.{InjectsStrictBaggage, ExtractsStrictBaggage}
 use Rattle.otel_propagation.specs.Traceparent.{traceparent_field, tracestate_field}
 use Rattle.otel_propagation.specs.Traceparent.{InjectsTraceContext, ExtractsTraceContext, TraceContextIsInfallible}
 use Rattle.otel_propagation.specs.declared.propagation.propagator_kinds.PropagatorOf.{PropagatorOf}
@@ -27,7 +27,7 @@ ExtractsByKind custom (kinds.Custom c) = custom c
 abbrev pub InfallibleByKind : {C : Type 0} → (C → Infallible) → PropagatorOf C → Infallible
 InfallibleByKind custom (kinds.TraceContext _) = TraceContextIsInfallible
 InfallibleByKind custom (kinds.Baggage _) = BaggageIsInfallible
-InfallibleByKind custom (kinds.StrictBaggage _) = StrictBaggageIsInfallible
+InfallibleByKind custom (kinds.StrictBaggage _) = BaggageIsInfallible
 InfallibleByKind custom (kinds.Custom c) = custom c
 
 -- the names of its fields, where those of a custom one are these

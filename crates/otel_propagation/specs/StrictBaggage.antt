@@ -1,7 +1,7 @@
 -- What the strict baggage propagator reads and writes: the grammar of the header (W3C Baggage, section 3.3.1) and no
 -- more. A text is kept as it came, without the optional white space; nothing is percent-decoded.
-use Rattle.std.specs.Prelude.{◌≡◌, ◌≢◌, ℕ, Bool, false, ◌&&◌, ◌==◌, nat_le, List, [], ◌∷◌, ◌++◌, if◌then◌else◌}
-use Rattle.std.specs.Prelude.{Option, None, Some, Result, OnOk, OnErr, IsOk, is_some, length, take, map, unwrap_or}
+use Rattle.std.specs.Prelude.{◌≡◌, ◌≢◌, ℕ, Bool, false, ◌&&◌, ◌==◌, List, [], ◌∷◌, ◌++◌, if◌then◌else◌}
+use Rattle.std.specs.Prelude.{Option, None, Some, Result, OnOk, OnErr, IsOk, is_some, map, unwrap_or}
 use Rattle.std.specs.List.{filter, filter_map, flat_map, join_with_byte, list_all}
 use Rattle.std.specs.Option.{option_map}
 use Rattle.std.specs.Borrow.{Bor}
@@ -11,9 +11,8 @@ use Rattle.opentelemetry.specs.Baggage.{PlainBaggage, PlainBaggageEntry, entry_o
 use Rattle.opentelemetry.specs.Carrier.{Texts, SetsText, SameTexts}
 use Rattle.opentelemetry.specs.Members.{comma, equals_sign, pieces_at, semicolon}
 use Rattle.opentelemetry.specs.Plain.{PlainContext}
-use Rattle.opentelemetry.specs.PlainContexts.{current_span_context}
 use Rattle.opentelemetry.specs.Tracestate.{trimmed}
-use Rattle.otel_propagation.specs.BaggageHeader.{baggage_field, after_semicolon, one_a_name}
+use Rattle.otel_propagation.specs.BaggageHeader.{baggage_field, after_semicolon, entries_said, read_short}
 use Rattle.otel_propagation.specs.BaggagePieces.{unless_first}
 use Rattle.otel_propagation.specs.StrictGrammar.{is_octet, is_token, are_octets}
 
@@ -89,12 +88,11 @@ strict_entry_of_member member = strict_entry_of_parts (pieces_at semicolon membe
 
 -- the baggage of a header: of its first 64 members those of the grammar, one a name
 unfoldable pub strict_entries_of : List ℕ → PlainBaggage
-strict_entries_of header = one_a_name (filter_map strict_entry_of_member (take 64 (pieces_at comma header)))
+strict_entries_of header = entries_said strict_entry_of_member header
 
 -- the baggage that a header says, if there is a header, and one of at most 8192 bytes
 abbrev pub read_strict : Option (List ℕ) → Option PlainBaggage
-read_strict None = None
-read_strict (Some header) = if nat_le (length header) 8192 then Some (strict_entries_of header) else None
+read_strict header = read_short strict_entries_of header
 
 -- a byte of a value as a header has it: a percent sign and two upper-case digits, where it is no baggage octet
 abbrev pub written_octet : ℕ → List ℕ
@@ -140,12 +138,6 @@ pub record InjectsStrictBaggage (cx : PlainContext) (old : Texts) (result : Resu
 abbrev pub ExtractsStrictBaggage : PlainContext → Texts → PlainContext → Type 0
 ExtractsStrictBaggage cx texts found =
     found ≡ record cx { baggage = unwrap_or (read_strict (texts baggage_field)) cx.baggage }
-
--- reading needs no memory: no header is read, and there is neither a trace state nor a baggage to share
-pub record StrictBaggageIsInfallible (cx : PlainContext) (texts : Texts) : Type 0 where
-  pub shares_no_state : (current_span_context cx).trace_state ≡ []
-  pub shares_no_baggage : cx.baggage ≡ []
-  pub reads_nothing : read_strict (texts baggage_field) ≡ None
 
 -- a pair of texts that lie somewhere
 abbrev pub plain_pair : Bor (List ℕ) × Option (Bor (List ℕ)) → StrictPair

@@ -26,8 +26,8 @@ pub fn strict_headers_are_graphic()
 
 /// A header of the grammar with one entry a name, and at most 64 of them, reads as the entries that it spells.
 pub fn strict_headers_are_read()
-    ensures { (header : List ℕ) (es : PlainBaggage) → IsBaggageHeader header es → HasDistinctNames es → length es ≤ 64
-        → strict_entries_of header ≡ es }
+    ensures { (header : List ℕ) (es : PlainBaggage) → IsBaggageHeader header es → HasDistinctNames es
+        → length es ≤ 64 → strict_entries_of header ≡ es }
 {}
 
 /// Of any header only what is of the grammar is read: it is written as it was read.
@@ -37,8 +37,8 @@ pub fn strict_entries_are_written_as_read()
 
 /// Read and written back it is the same header, byte for byte and in order, without the optional white space.
 pub fn strict_headers_are_passed_on()
-    ensures { (header : List ℕ) (es : PlainBaggage) → IsBaggageHeader header es → HasDistinctNames es → length es ≤ 64
-        → strict_header_of (strict_entries_of header) ≡ without_blanks header }
+    ensures { (header : List ℕ) (es : PlainBaggage) → IsBaggageHeader header es → HasDistinctNames es
+        → length es ≤ 64 → strict_header_of (strict_entries_of header) ≡ without_blanks header }
 {}
 
 /// What a service extracts of such a header, if it is short enough to be read, and injects, is that header.

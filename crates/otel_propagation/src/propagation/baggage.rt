@@ -4,19 +4,14 @@
 ghost use Rattle.std.specs.Prelude.{◌≡◌, OnOk};
 ghost use Rattle.otel_propagation.specs.BaggageHeader.{Carries, InjectsBaggage, IsCarriedUnchanged, baggage_field};
 
-mod pieces;
 mod read;
 mod write;
 
+use super::members::{BAGGAGE_HEADER, extracted};
 use opentelemetry::Context;
 use opentelemetry::laws::baggages_keep_their_limits;
 use opentelemetry::propagation::{Extractor, FieldIter, Injector, TextMapPropagator};
 use std::alloc::{AllocError, Global};
-
-const BAGGAGE_HEADER: &str = "baggage";
-
-/// The longest header that is read, in bytes (W3C Baggage, section 3.3.2).
-const MAX_HEADER_BYTES: usize = 8192;
 
 /// Writes the baggage of contexts into carriers, and reads it from them.
 #[derive(Clone, Copy, Debug, Default)]
@@ -67,12 +62,7 @@ impl TextMapPropagator for BaggagePropagator {
         cx: &Context,
         extractor: &X,
     ) -> Result<Context, AllocError> {
-        match extractor.get(BAGGAGE_HEADER) {
-            Some(header) if header.len() <= MAX_HEADER_BYTES => {
-                cx.with_baggage(read::entries_of(alloc, header)?)
-            }
-            _ => cx.clone(),
-        }
+        extracted(self, alloc, cx, extractor)
     }
 
     fn fields(&self) -> FieldIter<'_> {

@@ -9,14 +9,10 @@ mod pairs;
 mod read;
 mod write;
 
+use super::members::{BAGGAGE_HEADER, extracted};
 use opentelemetry::Context;
 use opentelemetry::propagation::{Extractor, FieldIter, Injector, TextMapPropagator};
 use std::alloc::{AllocError, Global};
-
-const BAGGAGE_HEADER: &str = "baggage";
-
-/// The longest header that is read, in bytes (W3C Baggage, section 3.3.2).
-const MAX_HEADER_BYTES: usize = 8192;
 
 /// Writes the baggage of contexts into carriers, and reads it from them, as the grammar of the header has it.
 ///
@@ -34,15 +30,14 @@ impl StrictBaggagePropagator {
 
 impl TextMapPropagator for StrictBaggagePropagator {
     ghost use Rattle.std.specs.Prelude.{[], ◌∷◌};
-    ghost use Rattle.otel_propagation.specs.BaggageHeader.{baggage_field};
+    ghost use Rattle.otel_propagation.specs.BaggageHeader.{baggage_field, BaggageIsInfallible};
     ghost use Rattle.otel_propagation.specs.StrictBaggage.{InjectsStrictBaggage, ExtractsStrictBaggage};
-    ghost use Rattle.otel_propagation.specs.StrictBaggage.{StrictBaggageIsInfallible};
 
     ghost inject_gives = { λ _. InjectsStrictBaggage };
 
     ghost extract_gives = { λ _. ExtractsStrictBaggage };
 
-    ghost extract_is_infallible = { λ _. StrictBaggageIsInfallible };
+    ghost extract_is_infallible = { λ _. BaggageIsInfallible };
 
     ghost field_names = { λ _. baggage_field ∷ [] };
 
@@ -67,12 +62,7 @@ impl TextMapPropagator for StrictBaggagePropagator {
         cx: &Context,
         extractor: &X,
     ) -> Result<Context, AllocError> {
-        match extractor.get(BAGGAGE_HEADER) {
-            Some(header) if header.len() <= MAX_HEADER_BYTES => {
-                cx.with_baggage(read::entries_of(alloc, header)?)
-            }
-            _ => cx.clone(),
-        }
+        extracted(self, alloc, cx, extractor)
     }
 
     fn fields(&self) -> FieldIter<'_> {

@@ -1,87 +1,38 @@
-//! A header read into a baggage: its members in turn, and of each the name, the value and the properties.
+//! The entry of a member: its name, its value and its properties, percent-decoded.
 
-ghost use Rattle.std.specs.Prelude.{◌≡◌, ◌+◌, ◌<◌, ◌≤◌, ◌∷◌, [], None, Some, length, List, ℕ, MatchOption};
+ghost use Rattle.std.specs.Prelude.{◌≡◌, ◌∷◌, [], List, ℕ, MatchOption};
 ghost use Rattle.std.specs.Prelude.{IfOk, IsOk, OnOk, option_map, string_bytes, is_none, ◌&&◌};
 ghost use Rattle.std.specs.Cow.{cow_str_bytes};
-ghost use Rattle.std.specs.Option.{option_map_or};
 ghost use Rattle.std.specs.Str.{trim};
-ghost use Rattle.opentelemetry.specs.Baggage.{baggage_bytes, with_entry, BreaksLimit};
-ghost use Rattle.opentelemetry.specs.Members.{HasNo, equals_sign};
-ghost use Rattle.otel_propagation.specs.BaggageHeader.{entries_of, entry_of_member, metadata_of, paired_entry};
-ghost use Rattle.opentelemetry.specs.Members.{pieces_at};
-ghost use Rattle.otel_propagation.specs.BaggageHeader.{said_by};
-ghost use Rattle.opentelemetry.specs.Members.{semicolon};
+ghost use Rattle.opentelemetry.specs.Members.{HasNo, equals_sign, pieces_at};
+ghost use Rattle.otel_propagation.specs.BaggageHeader.{metadata_of, paired_entry, said_by};
 ghost use Rattle.otel_propagation.specs.BaggagePieces.{entry_with, next_property, properties_after};
 ghost use Rattle.opentelemetry.specs.Text.{TextGrows};
 
-use super::pieces::push_unless_first;
-use opentelemetry::baggage::{Baggage, BaggageError, BaggageMetadata, KeyValueMetadata};
+use super::BaggagePropagator;
+use crate::propagation::members::{ReadsMembers, split_properties};
+use crate::propagation::pieces::push_unless_first;
+use opentelemetry::baggage::{BaggageMetadata, KeyValueMetadata};
 use percent_encoding::{DecodeError, percent_decode_str};
 use std::alloc::{AllocError, Global};
 use std::borrow::CowStr;
 
-/// How many members of a header are looked at (W3C Baggage, section 3.3.2).
-const MAX_MEMBERS: usize = 64;
+impl ReadsMembers for BaggagePropagator {
+    ghost use Rattle.otel_propagation.specs.BaggageHeader.{entry_of_member};
 
-/// The baggage of a header. One member is read at a time, and none after the last that counts is looked for.
-pub fn entries_of(alloc: Global, header: &str) -> Result<Baggage, AllocError>
-    requires { length header.now ≤ 8192 }
-    ensures read { IfOk result (λ baggage. baggage ≡ entries_of header.now) }
-    ensures free { HasNo equals_sign header.now → IsOk result }
-{
-    let mut baggage = Baggage::new(alloc);
-    'members: for member in header.split(',').take(MAX_MEMBERS) {
-        put_member(&mut baggage, alloc, member)?;
-    }
-    Ok(baggage)
-}
+    ghost says = { entry_of_member };
 
-/// Puts what a member says, if it reads. There is room for it, so no limit forbids it.
-fn put_member(baggage: &mut Baggage, alloc: Global, member: &str) -> Result<(), AllocError>
-    requires few { length baggage.old < 64 }
-    requires small { baggage_bytes baggage.old + length member.now ≤ 8192 }
-    ensures put { OnOk result (baggage.new
-        ≡ option_map_or (λ entry. with_entry baggage.old entry) (entry_of_member member.now) baggage.old) }
-    ensures free { HasNo equals_sign member.now → IsOk result }
-{
-    match read_member(alloc, member)? {
-        Some(entry) => put(baggage, entry),
-        None => Ok(()),
-    }
-}
-
-/// Puts an entry that the limits allow.
-fn put(baggage: &mut Baggage, entry: KeyValueMetadata) -> Result<(), AllocError>
-    requires { ¬ (BreaksLimit baggage.old entry) }
-    ensures { OnOk result (baggage.new ≡ with_entry baggage.old entry) }
-{
-    match baggage.insert_with_metadata(entry.key, entry.value, entry.metadata) {
-        Ok(_replaced) => Ok(()),
-        Err(BaggageError::Memory) => Err(AllocError),
-        Err(BaggageError::Limit) => unreachable!(),
-    }
-}
-
-/// The entry that a member says, if it reads.
-fn read_member(alloc: Global, member: &str) -> Result<Option<KeyValueMetadata>, AllocError>
-    ensures read { IfOk result (λ entry. entry ≡ entry_of_member member.now) }
-    ensures free { HasNo equals_sign member.now → IsOk result }
-{
-    let (pair, properties) = split_properties(member);
-    let Some((name, value)) = read_pair(alloc, pair)? else {
-        return Ok(None);
-    };
-    let metadata = BaggageMetadata::new(read_metadata(alloc, properties)?);
-    Ok(Some(KeyValueMetadata::new(name, value, metadata)))
-}
-
-/// What stands before the first semicolon of a member, and what stands after it.
-fn split_properties(member: &str) -> (&str, Option<&str>)
-    ensures { pieces_at semicolon member.now ≡ result.0.now ∷ properties_after result.1 }
-{
-    match member.split_once(';') {
-        Some((pair, properties)) => (pair, Some(properties)),
-        None => (member, None),
+    fn read_member(
+        &self,
+        alloc: Global,
+        member: &str,
+    ) -> Result<Option<KeyValueMetadata>, AllocError> {
+        let (pair, properties) = split_properties(member);
+        let Some((name, value)) = read_pair(alloc, pair)? else {
+            return Ok(None);
+        };
+        let metadata = BaggageMetadata::new(read_metadata(alloc, properties)?);
+        Ok(Some(KeyValueMetadata::new(name, value, metadata)))
     }
 }
 

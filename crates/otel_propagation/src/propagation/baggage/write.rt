@@ -5,7 +5,7 @@ ghost use Rattle.opentelemetry.specs.Baggage.{entry_of};
 ghost use Rattle.opentelemetry.specs.Text.{TextGrows};
 ghost use Rattle.otel_propagation.specs.BaggageHeader.{after_semicolon, escaped, header_of, member_of, HasTexts};
 
-use super::pieces::push_unless_first;
+use crate::propagation::pieces::push_unless_first;
 use opentelemetry::baggage::Baggage;
 use percent_encoding::{AsciiSet, CONTROLS, ascii_set, utf8_percent_encode};
 use std::alloc::{AllocError, Global};

@@ -7,12 +7,13 @@ ghost use Rattle.std.specs.Option.{option_map};
 ghost use Rattle.opentelemetry.specs.Members.{pieces_at, semicolon};
 ghost use Rattle.opentelemetry.specs.Text.{TextGrows};
 ghost use Rattle.opentelemetry.specs.Tracestate.{trim_front, trimmed};
-ghost use Rattle.otel_propagation.specs.BaggagePieces.{next_property, unless_first};
+ghost use Rattle.otel_propagation.specs.BaggagePieces.{next_property};
 ghost use Rattle.otel_propagation.specs.StrictGrammar.{is_octet, is_token, is_token_byte, are_octets};
 ghost use Rattle.otel_propagation.specs.StrictBaggage.{are_properties, checked_key, checked_pair, plain_pair};
 ghost use Rattle.otel_propagation.specs.StrictBaggage.{properties_onto, spelled_pair};
 ghost use Rattle.otel_propagation.specs.StrictBaggage.{strict_pair, strict_property};
 
+use crate::propagation::pieces::push_unless_first;
 use std::alloc::AllocError;
 
 #[tactic(auto, unfolding(crate::specs::StrictGrammar::is_token_byte))]
@@ -183,18 +184,4 @@ fn push_pair(text: &mut String, key: &str, value: Option<&str>) -> Result<(), Al
     };
     text.push_str("=")?;
     text.push_str(value)
-}
-
-/// Writes what parts a text from those before it. The first has none there.
-pub fn push_unless_first(
-    text: &mut String,
-    is_first: bool,
-    separator: &str,
-) -> Result<(), AllocError>
-    ensures { OnOk result (TextGrows text.old (unless_first is_first separator.now) text.new) }
-{
-    if is_first {
-        return Ok(());
-    }
-    text.push_str(separator)
 }

@@ -6,7 +6,8 @@ ghost use Rattle.opentelemetry.specs.Text.{TextGrows};
 ghost use Rattle.otel_propagation.specs.StrictGrammar.{is_token};
 ghost use Rattle.otel_propagation.specs.StrictBaggage.{next_written, spelled_member, strict_header_of, written_entry};
 
-use super::pairs::{is_token, push_properties, push_unless_first};
+use super::pairs::{is_token, push_properties};
+use crate::propagation::pieces::push_unless_first;
 use opentelemetry::baggage::Baggage;
 use percent_encoding::{AsciiSet, CONTROLS, ascii_set, utf8_percent_encode};
 use std::alloc::{AllocError, Global};

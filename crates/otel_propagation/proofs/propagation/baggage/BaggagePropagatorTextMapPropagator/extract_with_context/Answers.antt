@@ -1,9 +1,6 @@
-use Rattle.std.proofs.Common.{arith, ap, sym, ◌∙◌}
-use Rattle.std.specs.Option.{option_copied}
-use Rattle.otel_propagation.proofs.BaggageNoEntries.{nothing_read}
+use Rattle.otel_propagation.specs.BaggageHeader.{entries_of}
 use Rattle.otel_propagation.proofs.propagation.baggage.BaggagePropagatorTextMapPropagator.extract_with_context.Goals as goal
 
-pub returns-in_ok-entries_of-in-Some-clause-infallible : goal.returns-in_ok-entries_of-in-Some-clause-infallible
-returns-in_ok-entries_of-in-Some-clause-infallible g c = λ infallible.
-    let reads = infallible.reads_no_entry c.in-Some.header.now (sym c.get.ensures ∙ ap option_copied c.in-Some.is) (omega arith) in
-    c.with_baggage.ensures.free infallible.shares_no_state (c.in_ok-entries_of-in-Some.ensures.read ∙ nothing_read c.in-Some.header.now reads)
+pub returns-clause-gives : goal.returns-clause-gives
+unfolding entries_of
+returns-clause-gives g c = c.extracted.ensures.gives

@@ -3,9 +3,10 @@ use Rattle.std.specs.Option.{option_map}
 use Rattle.opentelemetry.specs.Baggage.{entry_of}
 use Rattle.otel_propagation.specs.BaggageHeader.{metadata_of}
 use Rattle.otel_propagation.specs.BaggagePieces.{entry_with, properties_after}
-use Rattle.otel_propagation.proofs.BaggageNoEntries.{front_has_none, no_pair}
+use Rattle.otel_propagation.proofs.BaggageBounds.{member_within}
+use Rattle.otel_propagation.proofs.BaggageNoEntries.{front_has_none, no_entry, no_pair}
 use Rattle.otel_propagation.proofs.BaggagePieceLemmas.{member_says}
-use Rattle.otel_propagation.proofs.propagation.baggage.read.read_member.Goals as goal
+use Rattle.otel_propagation.proofs.propagation.baggage.read.BaggagePropagatorReadsMembers.read_member.Goals as goal
 
 pub returns-in_default-clause-read : goal.returns-in_default-clause-read
 returns-in_default-clause-read c =
@@ -35,4 +36,12 @@ returns-in_err-read_metadata-clause-free c none =
     let unread =
     sym (ap (option_map (entry_with [])) c.in-Some.is) ∙ c.in_ok-name.ensures.read []
     ∙ no_pair c.split_properties.result.0.now [] (front_has_none c.args.member.now _ _ c.split_properties.ensures none) in
+    absurd cc
+
+pub returns-clause-within : goal.returns-clause-within
+returns-clause-within c = member_within c.args.member.now c.new.result (sym (returns-clause-read c))
+
+pub returns-clause-none : goal.returns-clause-none
+returns-clause-none c none =
+    let unread = returns-clause-read c ∙ no_entry c.args.member.now none in
     absurd cc
