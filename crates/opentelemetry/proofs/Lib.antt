@@ -3,6 +3,7 @@ pub mod BoxedCalls
 pub mod Blanks
 pub mod Clauses
 pub mod Clones
+pub mod HeaderLemmas
 pub mod HexRead
 pub mod HexText
 pub mod Joins

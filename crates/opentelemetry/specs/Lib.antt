@@ -1,5 +1,6 @@
 pub mod Baggage
 pub mod Carrier
+pub mod Headers
 pub mod Hex
 pub mod Members
 pub mod Order

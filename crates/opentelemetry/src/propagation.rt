@@ -8,6 +8,7 @@ ghost use Rattle.std.specs.Iterator.{YieldsFirstBy, item_count};
 ghost use Rattle.opentelemetry.specs.Carrier.{Texts, Injection, SetsText, SameTexts, HasName};
 ghost use Rattle.opentelemetry.specs.Plain.{PlainContext};
 
+pub mod blanks;
 pub mod map_carrier;
 
 use crate::Context;

@@ -1,8 +1,6 @@
 -- Texts of digits between hyphens: cut in one way alone, and no white space around them.
-use Rattle.std.proofs.Common.{◌≡◌, ◌≢◌, inl, inr, ℕ, ◌%◌, ◌^◌, ◌<◌, Bool, true, false, cond, ◌&&◌, ◌⊎◌, eqb, Result, Ok, Err, IsOk, MatchResult, MatchOption, List, [], ◌∷◌, ◌++◌, length, map, get_or, All, Option, Some, None, IfSome, IsSome, codes, refl, sym, ap, subst, ◌∙◌, ⊎_elim, arith, append-nil, lit<}
-use Rattle.std.specs.Borrow.{Bor}
+use Rattle.std.proofs.Common.{◌≡◌, ◌≢◌, inl, inr, ℕ, ◌%◌, ◌^◌, ◌<◌, Bool, true, false, cond, ◌&&◌, ◌⊎◌, eqb, Result, Ok, Err, MatchOption, List, [], ◌∷◌, ◌++◌, length, map, get_or, All, Option, Some, None, IfSome, IsSome, codes, refl, sym, ap, subst, ◌∙◌, ⊎_elim, arith, append-nil, lit<}
 use Rattle.std.specs.Char.{is_whitespace}
-use Rattle.std.specs.Option.{option_copied, unwrap_or}
 use Rattle.std.specs.Str.{all_scalars, chars, drop_trailing_whitespace, encode_utf8_all, skip_leading_whitespace, trim}
 use Rattle.std.proofs.lemmas.Bool.{cond-false}
 use Rattle.std.proofs.lemmas.Str.{chars-encodes, encode_ascii}
@@ -136,11 +134,6 @@ trim_shown bs shown =
 
 -- ---- what is extracted
 
--- a header's text, with the empty one in its place
-pub text_or_empty : (header : Option (Bor (List ℕ))) (none : Bor (List ℕ)) → none.now ≡ [] → (unwrap_or header none).now ≡ header_text (option_copied header)
-text_or_empty None none is = is
-text_or_empty (Some text) none is = refl
-
 -- where a header says a span context, it is extracted
 pub extracted : (cx : PlainContext) (texts : Texts) (text : List ℕ) (parent made : PlainSpanContext) (state : List (List ℕ × List ℕ))
     → text ≡ header_text (texts traceparent_field) → IsTraceparent text parent → SaysState (texts tracestate_field) state
@@ -271,8 +264,3 @@ says_none text (inr unspelled) = inr (by (first_fault (members text)) refl)
 pub found_fault : (T N : Type 0) (found : Option TraceStateError) (fault answered : TraceStateError) → found ≡ Some fault → MatchOption found N (λ said. ◌≡◌ {A = Result T TraceStateError} (Err answered) (Err said)) → fault ≡ answered
 found_fault T N found fault answered is clause =
     let same : ◌≡◌ {A = Result T TraceStateError} (Err answered) (Err fault) = subst (λ f. MatchOption f N (λ said. ◌≡◌ {A = Result T TraceStateError} (Err answered) (Err said))) is clause in cc
-
--- what fails only for a reason that is not there is well
-pub ok_unless : {T E P : Type 0} (Q : T → Type 0) (r : Result T E) → MatchResult r Q (λ _. ¬ P) → P → IsOk r
-ok_unless Q (Ok _) clause holds = refl
-ok_unless Q (Err _) clause holds = absurd (clause holds)

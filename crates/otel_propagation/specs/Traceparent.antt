@@ -1,11 +1,13 @@
 -- The context of a span as headers (W3C Trace Context): which texts of `traceparent` say a span context (section 3.2),
 -- what a `tracestate` adds to it (section 3.3), and what is injected and extracted. Of the flags the sampled one
 -- travels.
-use Rattle.std.specs.Prelude.{◌≡◌, ◌⊎◌, ℕ, ◌<◌, ◌%◌, ◌^◌, true, List, [], ◌∷◌, ◌++◌, codes, Option, None, Some, unwrap_or}
+use Rattle.std.specs.Prelude.{◌≡◌, ◌⊎◌, ℕ, ◌<◌, ◌%◌, ◌^◌, true, List, [], ◌∷◌, ◌++◌, codes, Option, None, Some}
 use Rattle.std.specs.Prelude.{Result, OnOk, OnErr, IsOk}
 use Rattle.std.specs.Str.{trim}
 use Rattle.std.specs.declared.alloc.AllocError.{AllocError}
 use Rattle.opentelemetry.specs.Carrier.{Texts, IsOtherName, SetsText, SameTexts}
+use Rattle.opentelemetry.specs.Headers.{GivesSpan}
+pub use Rattle.opentelemetry.specs.Headers.{IsValid, header_text}
 use Rattle.opentelemetry.specs.Hex.{hex_text}
 use Rattle.opentelemetry.specs.Plain.{PlainContext, PlainSpanContext}
 use Rattle.opentelemetry.specs.PlainContexts.{current_span_context}
@@ -53,10 +55,6 @@ SaysState None state = state ≡ []
 SaysState (Some text) state =
     IsTracestate text state ⊎ (((pairs : List (List ℕ × List ℕ)) → ¬ (IsTracestate text pairs)) × (state ≡ []))
 
--- neither id is zero
-abbrev pub IsValid : PlainSpanContext → Type 0
-IsValid c = (0 < c.trace_id) × (0 < c.span_id)
-
 -- ids and flags as version 0 has them
 abbrev pub context_text : ℕ → ℕ → ℕ → List ℕ
 context_text trace_id span_id trace_flags =
@@ -82,10 +80,6 @@ pub record InjectsTraceContext (cx : PlainContext) (old : Texts) (result : Resul
   pub err : OnErr result (SameTexts old new
       ⊎ SetsText old new traceparent_field (traceparent_of (current_span_context cx)))
 
--- the text of a header; the empty one without it
-abbrev pub header_text : Option (List ℕ) → List ℕ
-header_text header = unwrap_or header []
-
 -- what it extracts: the span context that the header says, with the trace state beside it; where the header says none,
 -- the context as it was
 pub record ExtractsTraceContext (cx : PlainContext) (texts : Texts) (found : PlainContext) : Type 0 where
@@ -109,8 +103,7 @@ remote_copy c = record c { trace_flags = c.trace_flags % 2; is_remote = true }
 
 -- whatever is extracted from the texts has this span context, as another process has it
 abbrev pub CarriesSpan : Texts → PlainSpanContext → Type 0
-CarriesSpan texts c = (cx found : PlainContext) → ExtractsTraceContext cx texts found
-    → found ≡ record cx { span_context = Some (remote_copy c) }
+CarriesSpan texts c = GivesSpan (λ cx found. ExtractsTraceContext cx texts found) (remote_copy c)
 
 -- a span context as a program has it: ids of 128 and 64 bits, and a trace state of pairs of a key and a value
 pub record IsSpanContext (c : PlainSpanContext) : Type 0 where

@@ -1,5 +1,5 @@
 -- Texts of B3 headers: each is cut in one way alone, and says one span context at most.
-use Rattle.std.proofs.Common.{◌≡◌, ◌≢◌, ◌⊎◌, inl, inr, ⊎_elim, ℕ, suc, ◌<◌, List, [], ◌∷◌, ◌++◌, length, get_or, All, Option, Some, None, IfSome, MatchOption, Result, Ok, Err, OnErr, codes, refl, sym, ap, subst, ◌∙◌, arith, length-append, lit<}
+use Rattle.std.proofs.Common.{◌≡◌, ◌≢◌, ◌⊎◌, inl, inr, ⊎_elim, ℕ, suc, ◌<◌, List, [], ◌∷◌, ◌++◌, length, get_or, All, Option, Some, None, IfSome, Result, Ok, Err, OnErr, codes, refl, sym, ap, subst, ◌∙◌, arith, length-append, lit<}
 use lib.Seq.{get_or-append_seam}
 use Rattle.std.proofs.lemmas.List.Elements.{All-cons, All-head, All-nil, All-tail, All-weaker}
 use Rattle.opentelemetry.specs.Hex.{hex_text, IsHexDigit, IsHexText}
@@ -7,17 +7,9 @@ use Rattle.opentelemetry.specs.Plain.{PlainSpanContext}
 use Rattle.opentelemetry.specs.Carrier.{Texts}
 use Rattle.opentelemetry.proofs.HexRead.{hex_text_injective, hex_text_IsHexText}
 use Rattle.otel_propagator_b3.specs.B3.{flags_of, hyphen, joined, optional, state_mark, IsLone, IsMany, IsParent, IsSingle, IsSpanId, IsTraceId, SaysDecision, SaysMany, SaysState}
-use Rattle.std.specs.Borrow.{Bor}
-use Rattle.std.specs.Option.{option_copied, unwrap_or}
-use Rattle.opentelemetry.specs.Plain.{PlainContext}
-use Rattle.otel_propagator_b3.specs.B3Headers.{header_text, ExtractsB3, SaysSpan}
+use Rattle.otel_propagator_b3.specs.B3Headers.{SaysSpan}
 use Rattle.otel_propagator_b3.specs.declared.sampling_state.SamplingState.{SamplingState}
 use Rattle.otel_propagator_b3.specs.declared.sampling_state.SamplingState.TheVariants.{Accept, Deny, Defer, Debug}
-
--- what is said of a value there may be, said of other things
-pub match_weaker : {T P R : Type 0} {Q S : T → Type 0} (o : Option T) → (P → R) → ((t : T) → Q t → S t) → MatchOption o P Q → MatchOption o R S
-match_weaker None none some said = none said
-match_weaker (Some t) none some said = some t said
 
 -- what holds, holds where a call fails
 pub on_err_from : {T E P : Type 0} (r : Result T E) → P → OnErr r P
@@ -296,22 +288,3 @@ second_field text front span after rest bytes c is cut field some cut_again fiel
     let bytes_are : bytes ≡ joined is.span_text is.rest = cc in
     let parts = cut_once span is.span_text rest is.rest field_again (span_id_in_field is.span_text c.span_id is.is_span_id) (sym cut_again ∙ bytes_are) in
     (subst (λ t. IsSpanId t c.span_id) (sym parts.0) is.is_span_id, subst (λ r. SaysState r is.state) (sym parts.1) is.says)
-
--- a header's text, with the empty one in its place
-pub text_or_empty : (header : Option (Bor (List ℕ))) (none : Bor (List ℕ)) → none.now ≡ [] → (unwrap_or header none).now ≡ header_text (option_copied header)
-text_or_empty None none is = is
-text_or_empty (Some text) none is = refl
-
--- where texts say a span context, it is extracted
-pub extracted : (cx : PlainContext) (texts : Texts) (c : PlainSpanContext) → SaysSpan texts c → ExtractsB3 cx texts (record cx { span_context = Some c })
-extracted cx texts c says = record {
-  read = λ other also. ap (λ (m : PlainSpanContext). record cx { span_context = Some m }) (span_once texts c other says also);
-  as_it_was = λ none. absurd (none c says);
-}
-
--- where they say none, nothing is
-pub not_extracted : (cx : PlainContext) (texts : Texts) → ((c : PlainSpanContext) → ¬ (SaysSpan texts c)) → ExtractsB3 cx texts cx
-not_extracted cx texts none = record {
-  read = λ c says. absurd (none c says);
-  as_it_was = λ _. refl;
-}

@@ -5,7 +5,8 @@ use Rattle.opentelemetry.specs.Hex.{hex_text}
 use Rattle.opentelemetry.specs.Plain.{PlainContext, PlainSpanContext}
 use Rattle.opentelemetry.specs.PlainContexts.{current_span_context}
 use Rattle.otel_propagator_b3.specs.B3.{single_field, trace_id_field, span_id_field, sampled_field, flags_field, hyphen, joined, optional, state_of, state_mark, IsLone, IsMany, IsSingle, SaysMany}
-use Rattle.otel_propagator_b3.specs.B3Headers.{header_text, headers_of, many_headers, remote_copy, single_text, state_headers, CarriesSpan, InjectsB3, IsValid, LeavesRoom, SaysSpan, SetsInTurn}
+use Rattle.opentelemetry.specs.Headers.{header_text, IsValid}
+use Rattle.otel_propagator_b3.specs.B3Headers.{headers_of, many_headers, remote_copy, single_text, state_headers, CarriesSpan, InjectsB3, LeavesRoom, SaysSpan, SetsInTurn}
 use Rattle.otel_propagator_b3.specs.declared.encoding.B3Encoding.{B3Encoding}
 use Rattle.otel_propagator_b3.specs.declared.encoding.B3Encoding.TheVariants.{MultipleHeader, SingleHeader, SingleAndMultiHeader}
 use Rattle.otel_propagator_b3.specs.declared.sampling_state.SamplingState.{SamplingState}

@@ -1,9 +1,10 @@
 -- What a B3 propagator injects and extracts (OpenTelemetry specification, "B3 Requirements").
-use Rattle.std.specs.Prelude.{◌≡◌, ◌⊎◌, ℕ, ◌<◌, true, List, [], ◌∷◌, ◌++◌, codes, Option, Some}
-use Rattle.std.specs.Prelude.{None, unwrap_or, Result, OnOk, OnErr, IsOk, map, string_bytes}
+use Rattle.std.specs.Prelude.{◌≡◌, ◌⊎◌, ℕ, true, List, [], ◌∷◌, ◌++◌, codes}
+use Rattle.std.specs.Prelude.{None, Result, OnOk, OnErr, IsOk, map, string_bytes}
 use Rattle.std.specs.Prelude.{String}
 use Rattle.std.specs.declared.alloc.AllocError.{AllocError}
 use Rattle.opentelemetry.specs.Carrier.{Texts, SetsText, SameTexts}
+use Rattle.opentelemetry.specs.Headers.{ExtractsSaid, GivesSpan, IsValid, SharesNothingUnsaid, header_text}
 use Rattle.opentelemetry.specs.Hex.{hex_text}
 use Rattle.opentelemetry.specs.Plain.{PlainContext, PlainSpanContext}
 use Rattle.opentelemetry.specs.PlainContexts.{current_span_context}
@@ -62,10 +63,6 @@ name_of Flags = flags_field
 abbrev pub plain_headers : {D : Type 0} → List (Field × String D) → List (List ℕ × List ℕ)
 plain_headers headers = map (λ header. (name_of header.0, string_bytes header.1)) headers
 
--- neither id is zero
-abbrev pub IsValid : PlainSpanContext → Type 0
-IsValid c = (0 < c.trace_id) × (0 < c.span_id)
-
 -- headers were set, one after the other
 abbrev pub SetsInTurn : Texts → List (List ℕ × List ℕ) → Texts → Type 0
 SetsInTurn old [] new = SameTexts old new
@@ -87,10 +84,6 @@ pub record InjectsB3 (encoding : B3Encoding) (cx : PlainContext) (old : Texts) (
   pub nothing : ¬ (IsValid (current_span_context cx)) → IsOk result × SameTexts old new
   pub err : OnErr result (SetsSome old (headers_of encoding (current_span_context cx)) new)
 
--- the text of a header; the empty one without it
-abbrev pub header_text : Option (List ℕ) → List ℕ
-header_text header = unwrap_or header []
-
 -- texts say the span context of the single header; where that says none, that of the many, whose decision a single
 -- header without ids may say
 abbrev pub SaysSpan : Texts → PlainSpanContext → Type 0
@@ -99,14 +92,12 @@ SaysSpan texts c =
     ⊎ (((other : PlainSpanContext) → ¬ (IsSingle (header_text (texts single_field)) other)) × IsMany texts c)
 
 -- what it extracts: the span context that the texts say; where they say none, the context as it was
-pub record ExtractsB3 (cx : PlainContext) (texts : Texts) (found : PlainContext) : Type 0 where
-  pub read : (c : PlainSpanContext) → SaysSpan texts c → found ≡ record cx { span_context = Some c }
-  pub as_it_was : ((c : PlainSpanContext) → ¬ (SaysSpan texts c)) → found ≡ cx
+abbrev pub ExtractsB3 : PlainContext → Texts → PlainContext → Type 0
+ExtractsB3 cx texts found = ExtractsSaid (SaysSpan texts) cx found
 
--- reading wants no memory: there is no baggage to share, and where the texts say nothing, no trace state
-pub record B3IsInfallible (cx : PlainContext) (texts : Texts) : Type 0 where
-  pub shares_no_baggage : cx.baggage ≡ []
-  pub shares_no_state : ((c : PlainSpanContext) → ¬ (SaysSpan texts c)) → (current_span_context cx).trace_state ≡ []
+-- where reading wants no memory
+abbrev pub B3IsInfallible : PlainContext → Texts → Type 0
+B3IsInfallible cx texts = SharesNothingUnsaid (SaysSpan texts) cx
 
 -- a span context as another process has it: remote, without a trace state, and of the flags the sampling state
 abbrev pub remote_copy : PlainSpanContext → PlainSpanContext
@@ -114,8 +105,7 @@ remote_copy c = record c { trace_flags = flags_of (state_of c.trace_flags); is_r
 
 -- whatever is extracted from the texts has this span context, as another process has it
 abbrev pub CarriesSpan : Texts → PlainSpanContext → Type 0
-CarriesSpan texts c =
-    (cx found : PlainContext) → ExtractsB3 cx texts found → found ≡ record cx { span_context = Some (remote_copy c) }
+CarriesSpan texts c = GivesSpan (λ cx found. ExtractsB3 cx texts found) (remote_copy c)
 
 -- what was there says nothing in place of what is injected: the many headers write neither the single one, which is
 -- read first, nor each of those that say a sampling state

@@ -1,11 +1,11 @@
 -- Who decides where the headers left the decision open (OpenZipkin, "B3 Propagation", "Sampling State"): whoever reads
 -- them.
 use Rattle.std.specs.Prelude.{◌≡◌, ◌&&◌, nat_lt, if◌then◌else◌, Bool, true, false, Option, Some, None}
+use Rattle.opentelemetry.specs.Headers.{IsValid}
 use Rattle.opentelemetry.specs.Plain.{PlainContext, PlainSpanContext}
 use Rattle.opentelemetry.specs.PlainContexts.{current_span_context}
 use Rattle.otel_sampling.specs.Sampling.{SamplingQuestion}
 use Rattle.otel_propagator_b3.specs.B3.{state_of}
-use Rattle.otel_propagator_b3.specs.B3Headers.{IsValid}
 use Rattle.otel_propagator_b3.specs.declared.sampling_state.SamplingState.{SamplingState}
 use Rattle.otel_propagator_b3.specs.declared.sampling_state.SamplingState.TheVariants.{Accept, Deny, Defer, Debug}
 

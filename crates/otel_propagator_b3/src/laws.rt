@@ -3,10 +3,11 @@
 
 ghost use Rattle.std.specs.Prelude.{◌≡◌, ◌<◌, ◌%◌, ◌/◌, ◌^◌, ℕ, List, None};
 ghost use Rattle.opentelemetry.specs.Carrier.{Texts};
+ghost use Rattle.opentelemetry.specs.Headers.{IsValid};
 ghost use Rattle.opentelemetry.specs.Plain.{PlainContext, PlainSpanContext};
 ghost use Rattle.opentelemetry.specs.PlainContexts.{current_span_context};
 ghost use Rattle.otel_propagator_b3.specs.B3.{flags_of, state_of, IsMany, IsSingle};
-ghost use Rattle.otel_propagator_b3.specs.B3Headers.{CarriesSpan, InjectsB3, IsValid, LeavesRoom, SaysSpan};
+ghost use Rattle.otel_propagator_b3.specs.B3Headers.{CarriesSpan, InjectsB3, LeavesRoom, SaysSpan};
 ghost use Rattle.otel_propagator_b3.specs.Deferred.{HasDeferredParent};
 ghost use Rattle.otel_propagator_b3.specs.declared.deferred.B3Deferred.{B3Deferred};
 ghost use Rattle.otel_propagator_b3.specs.declared.encoding.B3Encoding.{B3Encoding};

@@ -1,19 +1,11 @@
 -- Texts of `uber-trace-id`: each says one span context at most.
-use Rattle.std.proofs.Common.{◌≡◌, ◌≢◌, ⊎_elim, ℕ, zero, suc, ◌<◌, ◌≤◌, ◌^◌, Bool, true, false, List, [], ◌∷◌, ◌++◌, length, All, Option, Some, None, Result, Ok, Err, IfSome, IsSome, IsOk, MatchResult, MatchOption, refl, sym, ap, subst, ◌∙◌, arith}
-use Rattle.std.specs.Borrow.{Bor}
-use Rattle.std.specs.Option.{option_copied, unwrap_or}
+use Rattle.std.proofs.Common.{◌≡◌, ◌≢◌, ⊎_elim, ℕ, zero, suc, ◌<◌, ◌≤◌, ◌^◌, Bool, true, false, List, [], ◌∷◌, ◌++◌, length, All, Option, Some, None, IfSome, IsSome, MatchOption, refl, sym, ap, subst, ◌∙◌, arith}
 use Rattle.std.proofs.Math.Nat.{pow-le-pow_right}
 use Rattle.std.proofs.lemmas.List.Elements.{All-head, All-tail}
 use Rattle.opentelemetry.specs.Hex.{hex_text, IsHexDigit, IsHexText}
-use Rattle.opentelemetry.specs.Plain.{PlainContext, PlainSpanContext}
-use Rattle.opentelemetry.specs.Carrier.{Texts}
+use Rattle.opentelemetry.specs.Plain.{PlainSpanContext}
 use Rattle.opentelemetry.proofs.HexRead.{hex_text_injective, hex_text_IsHexText}
-use Rattle.otel_propagator_jaeger.specs.UberTraceId.{colon_text, flags_read, header_text, ExtractsJaeger, IsNumber, IsUberTraceId, SaysContext, SaysField}
-
--- what is said of a value there may be, said of other things
-pub match_weaker : {T P R : Type 0} {Q S : T → Type 0} (o : Option T) → (P → R) → ((t : T) → Q t → S t) → MatchOption o P Q → MatchOption o R S
-match_weaker None none some said = none said
-match_weaker (Some t) none some said = some t said
+use Rattle.otel_propagator_jaeger.specs.UberTraceId.{colon_text, flags_read, IsNumber, IsUberTraceId, SaysContext, SaysField}
 
 -- ---- fields
 
@@ -119,26 +111,7 @@ read_once text a b (true, this) (true, that) = context_once true text a b this t
 read_once text a b (false, this) (true, that) = absurd (escaped_once 32 a.trace_id b.trace_id text this.after_trace that.after_trace this.trace_id that.trace_id)
 read_once text a b (true, this) (false, that) = absurd (escaped_once 32 b.trace_id a.trace_id text that.after_trace this.after_trace that.trace_id this.trace_id)
 
--- ---- what is extracted
-
--- a header's text, with the empty one in its place
-pub text_or_empty : (header : Option (Bor (List ℕ))) (none : Bor (List ℕ)) → none.now ≡ [] → (unwrap_or header none).now ≡ unwrap_or (option_copied header) []
-text_or_empty None none is = is
-text_or_empty (Some text) none is = refl
-
--- where the header says a span context, it is extracted
-pub extracted : (cx : PlainContext) (texts : Texts) (c : PlainSpanContext) → IsUberTraceId (header_text texts) c → ExtractsJaeger cx texts (record cx { span_context = Some c })
-extracted cx texts c says = record {
-  read = λ other also. ap (λ (m : PlainSpanContext). record cx { span_context = Some m }) (read_once (header_text texts) c other says also);
-  as_it_was = λ none. absurd (none c says);
-}
-
--- where it says none, nothing is
-pub not_extracted : (cx : PlainContext) (texts : Texts) → ((c : PlainSpanContext) → ¬ (IsUberTraceId (header_text texts) c)) → ExtractsJaeger cx texts cx
-not_extracted cx texts none = record {
-  read = λ c says. absurd (none c says);
-  as_it_was = λ _. refl;
-}
+-- ---- what is cut off
 
 -- after a percent sign, as read
 pub after_percent : (after rest stripped : List ℕ) → after ≡ 51 ∷ 65 ∷ rest → after ≡ 51 ∷ 65 ∷ stripped → stripped ≡ rest
@@ -170,11 +143,6 @@ pub flags_field : (escaped : Bool) (text after further last : List ℕ) (number 
 flags_field escaped text after further last number span parent c is says also third =
     let same = field_once escaped 16 further parent is.parent last is.flags_text third (third_field escaped text after further number span c is says also).1 in
     subst (λ t. IsNumber 2 t is.flags) (sym same.1) is.says_flags
-
--- what fails only for a reason that is not there is well
-pub ok_unless : {T E P : Type 0} (Q : T → Type 0) (r : Result T E) → MatchResult r Q (λ _. ¬ P) → P → IsOk r
-ok_unless Q (Ok _) clause holds = refl
-ok_unless Q (Err _) clause holds = absurd (clause holds)
 
 -- what is said neither way is not said
 pub neither : (text : List ℕ) (c : PlainSpanContext) → ¬ (SaysContext false text c) → ¬ (SaysContext true text c) → IsUberTraceId text c → ⊥

@@ -1,12 +1,12 @@
 -- What is injected is extracted.
-use Rattle.std.proofs.Common.{◌≡◌, ℕ, ◌<◌, ◌≤◌, ◌/◌, ◌%◌, ◌^◌, ◌==◌, if◌then◌else◌, Bool, true, false, List, [], ◌++◌, length, Option, Ok, codes, refl, sym, ap, subst, arith, lit<}
-use Rattle.std.specs.Option.{unwrap_or}
+use Rattle.std.proofs.Common.{◌≡◌, ℕ, ◌<◌, ◌≤◌, ◌/◌, ◌%◌, ◌^◌, ◌==◌, if◌then◌else◌, Bool, true, false, List, ◌++◌, length, Ok, codes, refl, sym, ap, subst, arith, lit<}
+use Rattle.opentelemetry.specs.Headers.{header_text, IsValid}
 use Rattle.opentelemetry.specs.Hex.{hex_text}
 use Rattle.opentelemetry.specs.Plain.{PlainContext, PlainSpanContext}
 use Rattle.opentelemetry.specs.PlainContexts.{current_span_context}
 use Rattle.opentelemetry.specs.Carrier.{Texts}
 use Rattle.opentelemetry.proofs.HexRead.{hex_text_IsHexText}
-use Rattle.otel_propagator_jaeger.specs.UberTraceId.{flags_digit, flags_written, header_text, remote_copy, uber_trace_id_of, CarriesSpan, InjectsJaeger, IsNumber, IsUberTraceId, IsValid, SaysField}
+use Rattle.otel_propagator_jaeger.specs.UberTraceId.{flags_digit, flags_written, remote_copy, uber_trace_id_field, uber_trace_id_of, CarriesSpan, InjectsJaeger, IsNumber, IsUberTraceId, SaysField}
 
 -- so many digits say their number
 number_said : (count most number : ℕ) → 0 < count → count ≤ most → number < 16 ^ count → IsNumber most (hex_text count number) number
@@ -78,5 +78,5 @@ pub injected_carries : (cx : PlainContext) (old new : Texts) → (current_span_c
     → InjectsJaeger cx old (Ok tt) new → CarriesSpan new (current_span_context cx)
 injected_carries cx old new trace_id span_id valid injects other found extracts =
     let c : PlainSpanContext = current_span_context cx in
-    let text : header_text new ≡ uber_trace_id_of c = ap (λ (given : Option (List ℕ)). unwrap_or given []) (injects.set valid).set in
+    let text : header_text (new uber_trace_id_field) ≡ uber_trace_id_of c = ap header_text (injects.set valid).set in
     extracts.read (remote_copy c) (subst (λ (t : List ℕ). IsUberTraceId t (remote_copy c)) (sym text) (header_says c valid trace_id span_id))

@@ -1,9 +1,10 @@
 -- The context of a span as the header `uber-trace-id` (Jaeger, "Client Libraries", "Propagation Format"): which texts
 -- say one, and what is injected and extracted. Of the flags of a trace the sampled bit and 4, for debug, travel.
 use Rattle.std.specs.Prelude.{◌≡◌, ℕ, ◌<◌, ◌≤◌, ◌/◌, ◌%◌, ◌^◌, ◌==◌, if◌then◌else◌, Bool, true, false, List, [], ◌++◌}
-use Rattle.std.specs.Prelude.{codes, length, Some, unwrap_or, Result, OnOk, OnErr, IsOk}
+use Rattle.std.specs.Prelude.{codes, length, Result, OnOk, OnErr, IsOk}
 use Rattle.std.specs.declared.alloc.AllocError.{AllocError}
 use Rattle.opentelemetry.specs.Carrier.{Texts, SetsText, SameTexts}
+use Rattle.opentelemetry.specs.Headers.{ExtractsSaid, GivesSpan, IsValid, SharesNothingUnsaid, header_text}
 use Rattle.opentelemetry.specs.Hex.{hex_text}
 use Rattle.opentelemetry.specs.Plain.{PlainContext, PlainSpanContext}
 use Rattle.opentelemetry.specs.PlainContexts.{current_span_context}
@@ -61,10 +62,6 @@ IsUberTraceId text c = (escaped : Bool) × SaysContext escaped text c
 abbrev pub flags_digit : ℕ → List ℕ
 flags_digit flags = if flags % 2 == 0 then codes "0" else if flags / 4 % 2 == 0 then codes "1" else codes "3"
 
--- neither id is zero
-abbrev pub IsValid : PlainSpanContext → Type 0
-IsValid c = (0 < c.trace_id) × (0 < c.span_id)
-
 -- the header of a span context, without a parent's id
 abbrev pub uber_trace_id_of : PlainSpanContext → List ℕ
 uber_trace_id_of c =
@@ -79,20 +76,17 @@ pub record InjectsJaeger (cx : PlainContext) (old : Texts) (result : Result (Uni
   pub nothing : ¬ (IsValid (current_span_context cx)) → IsOk result × SameTexts old new
   pub err : OnErr result (SameTexts old new)
 
--- the text of the header; the empty one without it
-abbrev pub header_text : Texts → List ℕ
-header_text texts = unwrap_or (texts uber_trace_id_field) []
+-- texts say a span context by the header
+abbrev pub SaysSpan : Texts → PlainSpanContext → Type 0
+SaysSpan texts c = IsUberTraceId (header_text (texts uber_trace_id_field)) c
 
 -- what it extracts: the span context that the header says; where it says none, the context as it was
-pub record ExtractsJaeger (cx : PlainContext) (texts : Texts) (found : PlainContext) : Type 0 where
-  pub read : (c : PlainSpanContext) → IsUberTraceId (header_text texts) c → found ≡ record cx { span_context = Some c }
-  pub as_it_was : ((c : PlainSpanContext) → ¬ (IsUberTraceId (header_text texts) c)) → found ≡ cx
+abbrev pub ExtractsJaeger : PlainContext → Texts → PlainContext → Type 0
+ExtractsJaeger cx texts found = ExtractsSaid (SaysSpan texts) cx found
 
--- reading wants no memory: there is no baggage to share, and where the header says nothing, no trace state
-pub record JaegerIsInfallible (cx : PlainContext) (texts : Texts) : Type 0 where
-  pub shares_no_baggage : cx.baggage ≡ []
-  pub shares_no_state : ((c : PlainSpanContext) → ¬ (IsUberTraceId (header_text texts) c))
-      → (current_span_context cx).trace_state ≡ []
+-- where reading wants no memory
+abbrev pub JaegerIsInfallible : PlainContext → Texts → Type 0
+JaegerIsInfallible cx texts = SharesNothingUnsaid (SaysSpan texts) cx
 
 -- a span context as another process has it: remote, without a trace state, and of its flags those that travel
 abbrev pub remote_copy : PlainSpanContext → PlainSpanContext
@@ -104,5 +98,4 @@ remote_copy c = record c {
 
 -- whatever is extracted from the texts has this span context, as another process has it
 abbrev pub CarriesSpan : Texts → PlainSpanContext → Type 0
-CarriesSpan texts c = (cx found : PlainContext) → ExtractsJaeger cx texts found
-    → found ≡ record cx { span_context = Some (remote_copy c) }
+CarriesSpan texts c = GivesSpan (λ cx found. ExtractsJaeger cx texts found) (remote_copy c)

@@ -3,10 +3,11 @@
 
 ghost use Rattle.std.specs.Prelude.{◌≡◌, ◌<◌, ◌%◌, ◌^◌, ℕ, List};
 ghost use Rattle.opentelemetry.specs.Carrier.{Texts};
+ghost use Rattle.opentelemetry.specs.Headers.{IsValid};
 ghost use Rattle.opentelemetry.specs.Plain.{PlainContext, PlainSpanContext};
 ghost use Rattle.opentelemetry.specs.PlainContexts.{current_span_context};
 ghost use Rattle.otel_propagator_jaeger.specs.UberTraceId.{flags_read, flags_written};
-ghost use Rattle.otel_propagator_jaeger.specs.UberTraceId.{CarriesSpan, InjectsJaeger, IsUberTraceId, IsValid};
+ghost use Rattle.otel_propagator_jaeger.specs.UberTraceId.{CarriesSpan, InjectsJaeger, IsUberTraceId};
 
 /// A text of `uber-trace-id` says one span context at most.
 pub fn uber_trace_ids_read_once()

@@ -1,14 +1,15 @@
 //! The text form of a trace state (W3C Trace Context, section 3.3): which keys and values are well formed, and what
 //! stands between the commas of a text. None of these calls takes memory.
 
-ghost use Rattle.std.specs.Prelude.{◌≡◌, ◌<◌, [], ◌∷◌, List, Some, None, length, reverse, ◌==◌};
+ghost use Rattle.std.specs.Prelude.{◌≡◌, ◌<◌, [], ◌∷◌, List, Some, None, length, ◌==◌};
 ghost use Rattle.std.specs.Prelude.{MatchOption, IfSome};
 ghost use Rattle.std.specs.List.{filter, list_all, position_or_len, slice_split};
 ghost use Rattle.opentelemetry.specs.Tracestate.{is_key_start, is_key_byte, is_key, is_value_byte, is_value};
-ghost use Rattle.opentelemetry.specs.Tracestate.{ends_with_space, trim_front, trimmed, is_equals, pair_of, pair_fault};
+ghost use Rattle.opentelemetry.specs.Tracestate.{ends_with_space, is_equals, pair_of, pair_fault};
 ghost use Rattle.opentelemetry.specs.Tracestate.{first_fault, is_some_text, members};
 
 use super::TraceStateError;
+use crate::propagation::blanks::trim_blanks;
 
 fn is_key_start(byte: u8) -> bool
     ensures { result ≡ is_key_start byte }
@@ -107,44 +108,6 @@ fn piece_fault(piece: &str) -> Option<TraceStateError>
         Some((key, value)) => pair_fault(key, value),
         None => Some(TraceStateError::List),
     }
-}
-
-fn without_first_blank(text: &str) -> Option<&str>
-    ensures { MatchOption result
-        (trim_front text.now ≡ text.now)
-        (λ rest. (trim_front text.now ≡ trim_front rest.now) × (length rest.now < length text.now)) }
-{
-    match text.strip_prefix(' ') {
-        Some(rest) => Some(rest),
-        None => text.strip_prefix('\t'),
-    }
-}
-
-fn without_last_blank(text: &str) -> Option<&str>
-    ensures { MatchOption result
-        (trim_front (reverse text.now) ≡ reverse text.now)
-        (λ rest. (trim_front (reverse text.now) ≡ trim_front (reverse rest.now))
-        × (length rest.now < length text.now)) }
-{
-    match text.strip_suffix(' ') {
-        Some(rest) => Some(rest),
-        None => text.strip_suffix('\t'),
-    }
-}
-
-/// A text without the spaces and tabs around it.
-pub fn trim_blanks(text: &str) -> &str
-    ensures { result.now ≡ trimmed text.now }
-{
-    let mut front = text;
-    'front: while let Some(rest) = without_first_blank(front) {
-        front = rest;
-    }
-    let mut back = front;
-    'back: while let Some(rest) = without_last_blank(back) {
-        back = rest;
-    }
-    back
 }
 
 /// What stands before the first comma, and what stands after it, where there is one.

@@ -10,7 +10,8 @@ ghost use Rattle.opentelemetry.specs.Tracestate.{next_member_text, pair_of, trac
 ghost use Rattle.opentelemetry.specs.Tracestate.{without_key};
 
 use super::TraceStateError;
-use super::grammar::{cut_at_comma, pair_fault, split_member, trim_blanks};
+use super::grammar::{cut_at_comma, pair_fault, split_member};
+use crate::propagation::blanks::trim_blanks;
 use std::alloc::{AllocError, Global};
 
 /// The first fault of a list of pairs.

@@ -1,12 +1,11 @@
 //! The pairs of a baggage header, `key=value` or a key alone, which members and properties begin with: how they are
 //! read, and how properties are written. Reading a pair takes no memory.
 
-ghost use Rattle.std.specs.Prelude.{◌≡◌, ◌<◌, ◌&&◌, length, reverse, is_none, is_some, IfOk, OnOk, MatchOption};
+ghost use Rattle.std.specs.Prelude.{◌≡◌, ◌&&◌, is_none, is_some, IfOk, OnOk};
 ghost use Rattle.std.specs.List.{filter_map, list_all};
 ghost use Rattle.std.specs.Option.{option_map};
 ghost use Rattle.opentelemetry.specs.Members.{pieces_at, semicolon};
 ghost use Rattle.opentelemetry.specs.Text.{TextGrows};
-ghost use Rattle.opentelemetry.specs.Tracestate.{trim_front, trimmed};
 ghost use Rattle.otel_propagation.specs.BaggagePieces.{next_property};
 ghost use Rattle.otel_propagation.specs.StrictGrammar.{is_octet, is_token, is_token_byte, are_octets};
 ghost use Rattle.otel_propagation.specs.StrictBaggage.{are_properties, checked_key, checked_pair, plain_pair};
@@ -14,6 +13,7 @@ ghost use Rattle.otel_propagation.specs.StrictBaggage.{properties_onto, spelled_
 ghost use Rattle.otel_propagation.specs.StrictBaggage.{strict_pair, strict_property};
 
 use crate::propagation::pieces::push_unless_first;
+use opentelemetry::propagation::blanks::trim_blanks;
 use std::alloc::AllocError;
 
 #[tactic(auto, unfolding(crate::specs::StrictGrammar::is_token_byte))]
@@ -60,44 +60,6 @@ fn are_octets(text: &str) -> bool
     ensures { result ≡ are_octets text.now }
 {
     text.as_bytes().iter().all(|byte| is_octet(*byte))
-}
-
-fn without_first_blank(text: &str) -> Option<&str>
-    ensures { MatchOption result
-        (trim_front text.now ≡ text.now)
-        (λ rest. (trim_front text.now ≡ trim_front rest.now) × (length rest.now < length text.now)) }
-{
-    match text.strip_prefix(' ') {
-        Some(rest) => Some(rest),
-        None => text.strip_prefix('\t'),
-    }
-}
-
-fn without_last_blank(text: &str) -> Option<&str>
-    ensures { MatchOption result
-        (trim_front (reverse text.now) ≡ reverse text.now)
-        (λ rest. (trim_front (reverse text.now) ≡ trim_front (reverse rest.now))
-        × (length rest.now < length text.now)) }
-{
-    match text.strip_suffix(' ') {
-        Some(rest) => Some(rest),
-        None => text.strip_suffix('\t'),
-    }
-}
-
-/// A text without the spaces and tabs around it.
-fn trim_blanks(text: &str) -> &str
-    ensures { result.now ≡ trimmed text.now }
-{
-    let mut front = text;
-    'front: while let Some(rest) = without_first_blank(front) {
-        front = rest;
-    }
-    let mut back = front;
-    'back: while let Some(rest) = without_last_blank(back) {
-        back = rest;
-    }
-    back
 }
 
 /// A key alone, where it is a token.

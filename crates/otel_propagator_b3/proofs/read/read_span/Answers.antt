@@ -1,10 +1,10 @@
 use Rattle.std.proofs.Common.{◌≡◌, List, ℕ, ⊎_elim, inr, refl, sym, subst, ap, ◌∙◌}
 use Rattle.std.specs.Borrow.{Bor}
 use Rattle.opentelemetry.specs.Carrier.{Texts}
+use Rattle.opentelemetry.specs.Headers.{header_text}
 use Rattle.opentelemetry.specs.Plain.{PlainSpanContext}
+use Rattle.opentelemetry.proofs.HeaderLemmas.{match_weaker, text_or_empty}
 use Rattle.otel_propagator_b3.specs.B3.{single_field, IsSingle}
-use Rattle.otel_propagator_b3.specs.B3Headers.{header_text}
-use Rattle.otel_propagator_b3.proofs.B3Lemmas.{match_weaker, text_or_empty}
 use Rattle.otel_propagator_b3.proofs.read.read_span.Goals as goal
 
 pub returns-in-None : goal.returns-in-None

@@ -2,7 +2,8 @@ use Rattle.std.proofs.Common.{◌≡◌, true, false, sym, subst, ◌∙◌, ap}
 use Rattle.std.specs.Option.{option_copied}
 use Rattle.opentelemetry.specs.Hex.{IsHexText}
 use Rattle.otel_propagator_b3.specs.B3.{SaysState}
-use Rattle.otel_propagator_b3.proofs.B3Lemmas.{match_weaker, rest_read, rest_says}
+use Rattle.opentelemetry.proofs.HeaderLemmas.{match_weaker}
+use Rattle.otel_propagator_b3.proofs.B3Lemmas.{rest_read, rest_says}
 use Rattle.otel_propagator_b3.proofs.read.read_state.Goals as goal
 
 pub returns-then-not-is_parent : goal.returns-then-not-is_parent

@@ -1,5 +1,6 @@
 use Rattle.std.proofs.Common.{true}
-use Rattle.otel_propagator_jaeger.proofs.JaegerLemmas.{match_weaker, neither}
+use Rattle.opentelemetry.proofs.HeaderLemmas.{match_weaker}
+use Rattle.otel_propagator_jaeger.proofs.JaegerLemmas.{neither}
 use Rattle.otel_propagator_jaeger.proofs.read.read_header.Goals as goal
 
 pub returns-in-None : goal.returns-in-None

@@ -4,7 +4,8 @@ use Rattle.std.proofs.lemmas.Result.{IfOk-weaker, MatchResult-weaker}
 use Rattle.opentelemetry.specs.Carrier.{Texts}
 use Rattle.opentelemetry.specs.Plain.{PlainContext, PlainSpanContext}
 use Rattle.otel_propagation.specs.Traceparent.{header_text, traceparent_field, ExtractsTraceContext, IsTraceparent, SaysState}
-use Rattle.otel_propagation.proofs.TraceparentLemmas.{extracted, not_extracted, ok_unless, text_or_empty}
+use Rattle.opentelemetry.proofs.HeaderLemmas.{ok_unless, text_or_empty}
+use Rattle.otel_propagation.proofs.TraceparentLemmas.{extracted, not_extracted}
 use Rattle.otel_propagation.proofs.propagation.trace_context.TraceContextPropagatorTextMapPropagator.extract_with_context.Goals as goal
 
 pub returns-in_default-clause-gives : goal.returns-in_default-clause-gives

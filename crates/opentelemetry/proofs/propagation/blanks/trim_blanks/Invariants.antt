@@ -1,7 +1,7 @@
 use Rattle.std.proofs.Common.{◌≡◌, length, reverse}
 use Rattle.std.specs.Str.{IsUtf8}
 use Rattle.opentelemetry.specs.Tracestate.{trim_front}
-use Rattle.opentelemetry.proofs.trace.trace_state.grammar.trim_blanks.Given as goal
+use Rattle.opentelemetry.proofs.propagation.blanks.trim_blanks.Given as goal
 
 abbrev pub invariant-front : goal.invariant-front
 invariant-front l = record { is_text : IsUtf8 l.front; same : trim_front l.front ≡ trim_front l.text }

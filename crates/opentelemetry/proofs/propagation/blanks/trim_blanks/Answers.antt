@@ -1,7 +1,7 @@
 use Rattle.std.proofs.Common.{◌∙◌, sym, ap, reverse}
 use Rattle.std.proofs.lemmas.List.{reverse-reverse}
 use Rattle.opentelemetry.specs.Tracestate.{trim_front}
-use Rattle.otel_propagation.proofs.propagation.strict_baggage.pairs.trim_blanks.Goals as goal
+use Rattle.opentelemetry.proofs.propagation.blanks.trim_blanks.Goals as goal
 
 pub returns : goal.returns
 returns c =

@@ -1,7 +1,7 @@
 use Rattle.std.proofs.Common.{lit<, None}
 use Rattle.std.proofs.lemmas.Str.Pattern.{strip_suffix_char}
 use Rattle.opentelemetry.proofs.Blanks.{last_tab}
-use Rattle.opentelemetry.proofs.trace.trace_state.grammar.without_last_blank.Goals as goal
+use Rattle.opentelemetry.proofs.propagation.blanks.without_last_blank.Goals as goal
 
 pub returns-in-None : goal.returns-in-None
 returns-in-None c = last_tab c.args.text.now c.strip_suffix-in-None.result

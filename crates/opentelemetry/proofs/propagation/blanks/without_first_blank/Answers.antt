@@ -1,7 +1,7 @@
 use Rattle.std.proofs.Common.{lit<, None}
 use Rattle.std.proofs.lemmas.Str.Pattern.{strip_prefix_char}
 use Rattle.opentelemetry.proofs.Blanks.{first_tab}
-use Rattle.opentelemetry.proofs.trace.trace_state.grammar.without_first_blank.Goals as goal
+use Rattle.opentelemetry.proofs.propagation.blanks.without_first_blank.Goals as goal
 
 pub returns-in-None : goal.returns-in-None
 returns-in-None c = first_tab c.args.text.now c.strip_prefix-in-None.result
