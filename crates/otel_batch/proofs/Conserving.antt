@@ -16,7 +16,7 @@ use Rattle.otel_batch.specs.declared.machine.step.Step.{Step}
 use Rattle.otel_batch.specs.declared.machine.step.Step.TheVariants as step
 use Rattle.otel_export.specs.declared.trace.export.SpanExporter.{Ghosts}
 use Rattle.otel_export.proofs.Tellings.{tells_append, tells_same}
-use Rattle.otel_batch.proofs.Holding.{AreHeldIn, held_at_slots, held_at_first, permitted-holds, accepts-held}
+use Rattle.otel_batch.proofs.HeldSpanLemmas.{AreHeldIn, held_at_slots, held_at_first, permitted-holds, accepts-held}
 use Rattle.otel_batch.proofs.TableFacts.{permitted-leaves, dropped_after}
 
 -- the sizes of a step's batches stand before those of the steps after it

@@ -10,7 +10,7 @@ use Rattle.otel_export.specs.declared.trace.export.SpanExporter.{Ghosts}
 use Rattle.otel_batch.proofs.Runs.{run-sound}
 use Rattle.otel_batch.proofs.Conserving.{run-conserves, run-drops, run-loses_none}
 use Rattle.otel_batch.proofs.Silence.{run-silent, run-stays_silent}
-use Rattle.otel_batch.proofs.Knowing.{gone-waits, run-knows}
+use Rattle.otel_batch.proofs.PendingRequestLemmas.{gone-waits, run-knows}
 use Rattle.otel_batch.proofs.Draining.{run-completes}
 use Rattle.otel_batch.proofs.Bounding.{run-bounds, run-fits}
 use Rattle.otel_batch.proofs.Answering.{run-answers}

@@ -11,7 +11,7 @@ use Rattle.otel_batch.specs.declared.machine.step.Step.{Step}
 use Rattle.otel_export.specs.declared.trace.export.SpanExporter.{Ghosts}
 use Rattle.otel_batch.proofs.Conserving.{run-conserves, run-conserves_from}
 use Rattle.otel_batch.proofs.Draining.{conserves-count}
-use Rattle.otel_batch.proofs.Holding.{AreHeldIn, held_at_first}
+use Rattle.otel_batch.proofs.HeldSpanLemmas.{AreHeldIn, held_at_first}
 use Rattle.otel_batch.proofs.Silence.{closes, run-stays_silent}
 
 module _ {E : Type 0} (calls : Ghosts E) where

@@ -1,4 +1,4 @@
-use Rattle.otel_batch.proofs.Knowing.{run-knows}
+use Rattle.otel_batch.proofs.PendingRequestLemmas.{run-knows}
 use Rattle.otel_batch.proofs.laws.runs_lose_no_request.Goals as goal
 
 pub returns : goal.returns
