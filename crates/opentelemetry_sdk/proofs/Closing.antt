@@ -24,7 +24,7 @@ use Rattle.otel_batch.specs.declared.machine.step.Outcome.{Outcome}
 use Rattle.otel_batch.specs.declared.machine.step.Outcome.TheVariants as outcome
 use Rattle.otel_batch.specs.declared.machine.step.Step.{Step}
 use Rattle.otel_export.specs.declared.trace.export.SpanExporter.{Ghosts}
-use Rattle.otel_batch.proofs.Draining.{is_busy}
+use Rattle.otel_batch.proofs.BusyLemmas.{is_busy}
 use Rattle.otel_batch.specs.WorkedOff.{GoesBy, next_of_worker, own_refusal, refusal_next}
 use Rattle.opentelemetry_sdk.specs.QueueRequests.{ShutdownAnswers}
 use Rattle.opentelemetry_sdk.proofs.Asking.{finishing_why, flushing, next_none, requests_in}

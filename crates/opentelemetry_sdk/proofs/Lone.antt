@@ -23,7 +23,7 @@ use Rattle.otel_batch.specs.declared.machine.step.Outcome.{Outcome}
 use Rattle.otel_batch.specs.declared.machine.step.Outcome.TheVariants as outcome
 use Rattle.otel_batch.specs.declared.machine.step.Step.{Step}
 use Rattle.otel_export.specs.declared.trace.export.SpanExporter.{Ghosts}
-use Rattle.otel_batch.proofs.Draining.{ltb_tells}
+use Rattle.otel_batch.proofs.NumberLemmas.{ltb_tells}
 use Rattle.otel_batch.specs.WorkedOff.{GoesBy, next_of_worker}
 use Rattle.opentelemetry_sdk.proofs.Worker.{has_next, next_permitted}
 

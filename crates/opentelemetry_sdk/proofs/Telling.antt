@@ -22,7 +22,7 @@ use Rattle.otel_batch.specs.declared.machine.step.Outcome.TheVariants as outcome
 use Rattle.otel_batch.specs.declared.machine.step.Step.{Step}
 use Rattle.otel_export.specs.declared.trace.export.SpanExporter.{Ghosts}
 use Rattle.otel_batch.proofs.Answering.{kept_error, refusal_kept}
-use Rattle.otel_batch.proofs.Draining.{is_busy}
+use Rattle.otel_batch.proofs.BusyLemmas.{is_busy}
 use Rattle.otel_batch.specs.WorkedOff.{GoesBy, error_next, next_of_worker, own_error}
 use Rattle.opentelemetry_sdk.proofs.Lone.{IsAlone, next_alone}
 use Rattle.opentelemetry_sdk.proofs.Asking.{finishing_why, next_none, of_worker, requests_in, shutting}

@@ -26,7 +26,8 @@ use Rattle.otel_export.specs.declared.trace.export.SpanExporter.{Ghosts}
 use Rattle.otel_batch.proofs.SlotSums.{one_flush, one_shutdown}
 use Rattle.otel_batch.proofs.Soundness.{awaits}
 use Rattle.otel_batch.proofs.TableFacts.{is_producers, LeavesWorker, permitted-alone, slots_of}
-use Rattle.otel_batch.proofs.Draining.{is_busy, take_busy, tick_busy, clear_busy, load_busy, close_busy, at_load}
+use Rattle.otel_batch.proofs.BusyLemmas.{is_busy, take_busy, tick_busy, clear_busy, load_busy, close_busy}
+use Rattle.otel_batch.proofs.Draining.{at_load}
 use Rattle.otel_batch.proofs.Bounding.{none-first}
 
 -- whether a drain found no memory, after one more outcome

@@ -18,9 +18,9 @@ use Rattle.otel_batch.specs.declared.machine.state.Worker.TheVariants as worker
 use Rattle.otel_batch.specs.declared.machine.step.Outcome.{Outcome}
 use Rattle.otel_batch.specs.declared.machine.step.Outcome.TheVariants as outcome
 use Rattle.otel_batch.specs.declared.machine.step.Step.TheVariants as step
-use Rattle.otel_batch.proofs.Chunks.{first_is_some}
+use Rattle.otel_batch.proofs.SpanQueueLemmas.{first_is_some}
 use Rattle.otel_batch.proofs.Soundness.{asked_worker, awaited_worker, sound_pulled}
-use Rattle.otel_batch.proofs.Putting.{goes_sound, stepped}
+use Rattle.otel_batch.proofs.StepLemmas.{goes_sound, stepped}
 
 -- the worker, that pulled, hands over what it has in hand
 sound_handing : (s : Counts) → s.control.worker ≡ worker.Pulling → 0 < s.hand → IsSound s →

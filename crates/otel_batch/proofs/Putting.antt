@@ -1,16 +1,13 @@
 -- What a put of the first producer does, as the steps of the table that it stands for.
-use Rattle.std.proofs.Common.{◌≡◌, refl, sym, ap, ℕ, ◌+◌, ◌-◌, ◌<◌, ◌^◌, Bool, true, false, List, [], ◌∷◌, ◌++◌, length, Option, Some, None, slice_get, slice_set, nat_le, ◌==◌, if◌then◌else◌, arith}
+use Rattle.std.proofs.Common.{◌≡◌, refl, sym, ap, ℕ, ◌+◌, ◌-◌, ◌<◌, ◌^◌, Bool, true, false, List, [], ◌∷◌, ◌++◌, length, Some, slice_get, slice_set, nat_le, ◌==◌, if◌then◌else◌, arith}
 use Rattle.std.proofs.lemmas.Grind.{common_steps}
-use Rattle.circular_buffer.proofs.Places.{slice_get-set_same}
 use Rattle.otel_export.specs.PlainSpanData.{PlainSpanData, is_sampled}
 use Rattle.otel_export.specs.StoredBatches.{one_more}
 use Rattle.otel_export.specs.declared.trace.export.SpanExporter.{Ghosts}
 use Rattle.otel_batch.specs.Slots.{span_held, is_holding, number_held, slot_counts, slot_asks, slot_waits}
-use Rattle.otel_batch.specs.MachineState.{Control, Machine, counts}
+use Rattle.otel_batch.specs.MachineState.{Machine, counts}
 use Rattle.otel_batch.specs.SoundMachine.{IsSound}
 use Rattle.otel_batch.specs.ProducerSteps.{after_send}
-use Rattle.otel_batch.specs.PermittedStep.{IsPermitted}
-use Rattle.otel_batch.specs.MovedSpans.{MovesSpans}
 use Rattle.otel_batch.specs.MachineRun.{IsStep}
 use Rattle.otel_batch.specs.WorkedOff.{GoesBy, OffersSpan, next_of_producer, producers_next}
 use Rattle.otel_batch.specs.declared.machine.state.Slot.{Slot}
@@ -21,45 +18,9 @@ use Rattle.otel_batch.specs.declared.machine.step.Outcome.{Outcome}
 use Rattle.otel_batch.specs.declared.machine.step.Outcome.TheVariants as outcome
 use Rattle.otel_batch.specs.declared.machine.step.Step.{Step}
 use Rattle.otel_batch.specs.declared.machine.step.Step.TheVariants as step
-use Rattle.otel_batch.proofs.SlotSums.{slice_get-within}
 use Rattle.otel_batch.proofs.Soundness.{sound_slot, sound_may_post, sound_posted, sound_reset}
-use Rattle.otel_batch.proofs.Requests.{permitted-keeps, permitted-goes_on}
-
--- a slot that is put where one is
-put_get : (l : List Slot) (old new : Slot) → slice_get l 0 ≡ Some old → slice_get (slice_set l 0 new) 0 ≡ Some new
-put_get l old new at = slice_get-set_same l 0 new (slice_get-within l 0 old at)
-
--- the slot is again what it was
-put_twice : (l : List Slot) (old x : Slot) → slice_get l 0 ≡ Some old → slice_set (slice_set l 0 x) 0 old ≡ l
-put_twice [] old x at = absurd (let no : None ≡ Some old = at in cc)
-put_twice (y ∷ ys) old x at = let is : y ≡ old = cc in ap (λ z. z ∷ ys) (sym is)
-
-put_thrice : (l : List Slot) (old x y : Slot) → slice_get l 0 ≡ Some old →
-    slice_set (slice_set (slice_set l 0 x) 0 y) 0 old ≡ l
-put_thrice [] old x y at = absurd (let no : None ≡ Some old = at in cc)
-put_thrice (z ∷ zs) old x y at = let is : z ≡ old = cc in ap (λ w. w ∷ zs) (sym is)
-
-put_four : (l : List Slot) (old x y z : Slot) → slice_get l 0 ≡ Some old →
-    slice_set (slice_set (slice_set (slice_set l 0 x) 0 y) 0 z) 0 old ≡ l
-put_four [] old x y z at = absurd (let no : None ≡ Some old = at in cc)
-put_four (v ∷ vs) old x y z at = let is : v ≡ old = cc in ap (λ w. w ∷ vs) (sym is)
-
-put_five : (l : List Slot) (old x y z u : Slot) → slice_get l 0 ≡ Some old →
-    slice_set (slice_set (slice_set (slice_set (slice_set l 0 x) 0 y) 0 z) 0 u) 0 old ≡ l
-put_five [] old x y z u at = absurd (let no : None ≡ Some old = at in cc)
-put_five (v ∷ vs) old x y z u at = let is : v ≡ old = cc in ap (λ w. w ∷ vs) (sym is)
-
-module _ {E : Type 0} (calls : Ghosts E) where
-  -- a step that is permitted, moves spans as it says, and keeps a sound machine sound
-  pub stepped : (s : Machine E) (x : Step) (o : Outcome) (t : Machine E) → IsSound (counts s) →
-      IsPermitted (counts s) x o (counts t) → MovesSpans calls s x o t → IsSound (counts t) → IsStep calls s x o t
-  stepped s x o t sound permitted moved after = record {
-    permitted = permitted;
-    moved = moved;
-    requests = permitted-keeps (counts s) x o (counts t) permitted sound;
-    goes_on = λ next stays. permitted-goes_on (counts s) x o (counts t) permitted next stays;
-    sound = after;
-  }
+use Rattle.otel_batch.proofs.SlotWriteLemmas.{put_get, put_twice, put_thrice, put_four, put_five}
+use Rattle.otel_batch.proofs.StepLemmas.{stepped}
 
 -- the slot after a send that was accepted accounts for nothing, whether the producer wants an export or not
 open_slot : (b : Bool) → (slot_counts (if b then slot.Asking else slot.Idle) ≡ 0)
@@ -415,17 +376,3 @@ module _ {E : Type 0} (calls : Ghosts E) (s : Machine E) (span : PlainSpanData)
         ),
       )
       at refl
-
--- a run by next steps ends in a sound machine
-module _ {E : Type 0} (calls : Ghosts E) where
-  pub goes_sound : (next : Control → Option Step) (s : Machine E) (xs : List Step) (os : List Outcome) (t : Machine E) →
-      IsSound (counts s) → GoesBy calls next s xs os t → IsSound (counts t)
-  goes_sound next s [] [] t sound goes = rw goes sound
-  goes_sound next s (x ∷ xs) (o ∷ os) t sound goes = goes_sound next goes.1 xs os t goes.2.sound goes.3
-  goes_sound next s [] (o ∷ os) t sound goes = absurd goes
-  goes_sound next s (x ∷ xs) [] t sound goes = absurd goes
-
-  pub offers_sound : (s : Machine E) (span : PlainSpanData) (t : Machine E) → OffersSpan calls s span t →
-      IsSound (counts t)
-  offers_sound s span t put = goes_sound next_of_producer put.holding put.works.steps put.outcomes t
-      (rw put.offers.2 put.offers.1.sound) put.works.goes

@@ -5,7 +5,7 @@ use Rattle.otel_batch.specs.SoundMachine.{IsSound}
 use Rattle.otel_batch.specs.WorkedOff.{PullsBatch}
 use Rattle.otel_batch.specs.declared.machine.state.Worker.TheVariants as worker
 use Rattle.otel_batch.specs.declared.machine.step.Step.TheVariants as step
-use Rattle.otel_batch.proofs.Putting.{stepped}
+use Rattle.otel_batch.proofs.StepLemmas.{stepped}
 use Rattle.otel_batch.proofs.Pulling.{filled, pulls_full, pulls_once, pulls_sound}
 use Rattle.otel_batch.proofs.machine.batch_machine.BatchMachine.pull_batch.Goals as goal
 

@@ -8,7 +8,8 @@ use Rattle.otel_batch.specs.MachineState.{Machine, counts}
 use Rattle.otel_batch.specs.SoundMachine.{IsSound}
 use Rattle.otel_batch.specs.WorkedOff.{OffersSpan}
 use Rattle.otel_batch.specs.declared.machine.state.Message.TheVariants.{Export}
-use Rattle.otel_batch.proofs.Putting.{offers_sound, puts_asked, puts_closed, puts_crowded, puts_full}
+use Rattle.otel_batch.proofs.StepLemmas.{offers_sound}
+use Rattle.otel_batch.proofs.Putting.{puts_asked, puts_closed, puts_crowded, puts_full}
 use Rattle.otel_batch.proofs.Putting.{puts_posted, puts_quietly, puts_unsampled, taken}
 use Rattle.otel_batch.proofs.machine.batch_machine.BatchMachine.put.Goals as goal
 

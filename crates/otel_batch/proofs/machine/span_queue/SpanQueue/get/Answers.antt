@@ -1,6 +1,6 @@
 use Rattle.std.proofs.Common.{slice_get, ap, ◌∙◌, arith}
 use Rattle.circular_buffer.specs.Buffer.{Buffer}
-use Rattle.otel_batch.proofs.Chunks.{read_head, read_rest}
+use Rattle.otel_batch.proofs.SpanQueueLemmas.{read_head, read_rest}
 use Rattle.otel_batch.proofs.machine.span_queue.SpanQueue.get.Goals as goal
 
 pub returns-then-index-in_head : goal.returns-then-index-in_head

@@ -1,7 +1,7 @@
 use Rattle.std.proofs.Common.{◌-◌, drop, set, slice_get, sym, ap, ◌∙◌, subst, arith}
 use Rattle.circular_buffer.specs.Buffer.{Buffer, buffer}
 use Rattle.otel_batch.specs.SpanQueue.{circle, items_of, IsQueueTo, TakesAt}
-use Rattle.otel_batch.proofs.Chunks.{first_is_some, take_is_ready, queue_take}
+use Rattle.otel_batch.proofs.SpanQueueLemmas.{first_is_some, take_is_ready, queue_take}
 use Rattle.otel_batch.proofs.machine.span_queue.SpanQueue.pop_front.Goals as goal
 
 pub unreachable-requires : goal.unreachable-requires

@@ -2,7 +2,7 @@ use Rattle.std.proofs.Common.{arith, ◌+◌, [], ◌∷◌, ◌++◌, set, sym,
 use Rattle.std.proofs.lemmas.Bool.{false≢true}
 use Rattle.circular_buffer.specs.Buffer.{Buffer, buffer}
 use Rattle.otel_batch.specs.SpanQueue.{circle, items_of, IsQueueTo}
-use Rattle.otel_batch.proofs.Chunks.{tail_put, next_put}
+use Rattle.otel_batch.proofs.SpanQueueLemmas.{tail_put, next_put}
 use Rattle.otel_batch.proofs.machine.span_queue.SpanQueue.try_push_back.Goals as goal
 
 pub invariant_of-self : goal.invariant_of-self

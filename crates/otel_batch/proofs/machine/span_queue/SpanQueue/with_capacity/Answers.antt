@@ -1,6 +1,6 @@
 use Rattle.std.proofs.Common.{[], ap, ◌∙◌}
 use Rattle.circular_buffer.specs.Buffer.{Buffer, buffer}
-use Rattle.otel_batch.proofs.Chunks.{first_queue}
+use Rattle.otel_batch.proofs.SpanQueueLemmas.{first_queue}
 use Rattle.otel_batch.proofs.machine.span_queue.SpanQueue.with_capacity.Goals as goal
 
 pub invariant_of-result : goal.invariant_of-result
