@@ -42,13 +42,13 @@ use Rattle.otel_batch.proofs.Runs.{run-sound}
 use Rattle.otel_batch.proofs.Silence.{run-stays_silent}
 use Rattle.otel_batch.specs.WorkedOff.{CollectsAnswer, WorksOff, is_idle_worker, next_of_worker, own_error, own_refusal}
 use Rattle.opentelemetry_sdk.specs.QueueRequests.{ClosesIfOk, IsAtRest, MakesRequest, Requests, ShutdownAnswers, queue_telling}
-use Rattle.opentelemetry_sdk.proofs.Going.{goes_runs}
+use Rattle.opentelemetry_sdk.proofs.SteppingLemmas.{goes_runs}
 use Rattle.opentelemetry_sdk.proofs.Ending.{EndsIdle, QueuesNone, SpanGoes, one_slot}
-use Rattle.opentelemetry_sdk.proofs.Lone.{IsAlone, goes_alone}
+use Rattle.opentelemetry_sdk.proofs.LoneProducerLemmas.{IsAlone, goes_alone}
 use Rattle.opentelemetry_sdk.proofs.Telling.{TellsError, goes_tells}
-use Rattle.opentelemetry_sdk.proofs.Asking.{Kind, flushing, goes_open, no_request, requests_in, shutting}
+use Rattle.opentelemetry_sdk.proofs.RequestKindLemmas.{Kind, flushing, goes_open, no_request, requests_in, shutting}
 use Rattle.opentelemetry_sdk.proofs.Closing.{TellsShutdown, goes_tells_shutdown}
-use Rattle.opentelemetry_sdk.proofs.Resting.{goes_hands_on, goes_idle, goes_on_waiting, hands_on_told, heard_in, idle_rests, rest_empty}
+use Rattle.opentelemetry_sdk.proofs.WorkerRunLemmas.{goes_hands_on, goes_idle, goes_on_waiting, hands_on_told, heard_in, idle_rests, rest_empty}
 
 -- after a call the queue is at rest again, no span more is heard, and no drop is counted
 pub record RestsAgain {E : Type 0} (calls : Ghosts E) (s t : Machine E) : Type 0 where

@@ -27,8 +27,8 @@ use Rattle.otel_export.specs.declared.trace.export.SpanExporter.{Ghosts}
 use Rattle.otel_batch.proofs.BusyLemmas.{is_busy}
 use Rattle.otel_batch.specs.WorkedOff.{GoesBy, next_of_worker, own_refusal, refusal_next}
 use Rattle.opentelemetry_sdk.specs.QueueRequests.{ShutdownAnswers}
-use Rattle.opentelemetry_sdk.proofs.Asking.{finishing_why, flushing, next_none, requests_in}
-use Rattle.opentelemetry_sdk.proofs.Lone.{IsAlone, next_alone}
+use Rattle.opentelemetry_sdk.proofs.RequestKindLemmas.{finishing_why, flushing, next_none, requests_in}
+use Rattle.opentelemetry_sdk.proofs.LoneProducerLemmas.{IsAlone, next_alone}
 use Rattle.opentelemetry_sdk.proofs.Worker.{has_next, next_permitted}
 
 -- whether the drain that the worker is in was refused memory, and what the producer's answer says of it, if it has one

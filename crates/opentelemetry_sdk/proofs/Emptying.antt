@@ -23,7 +23,7 @@ use Rattle.otel_batch.specs.declared.machine.step.Step.{Step}
 use Rattle.otel_export.specs.declared.trace.export.SpanExporter.{Ghosts}
 use Rattle.otel_batch.specs.WorkedOff.{GoesBy, WorksOff, next_of_worker}
 use Rattle.opentelemetry_sdk.specs.QueueRequests.{IsAtRest}
-use Rattle.opentelemetry_sdk.proofs.Lone.{EndsDrain, IsAlone, next_alone}
+use Rattle.opentelemetry_sdk.proofs.LoneProducerLemmas.{EndsDrain, IsAlone, next_alone}
 use Rattle.opentelemetry_sdk.proofs.Worker.{has_next, next_permitted}
 
 abbrev pub is_no_memory : Outcome → Bool

@@ -1,10 +1,10 @@
-pub mod Going
+pub mod SteppingLemmas
 pub mod Producer
 pub mod Worker
 pub mod Ending
-pub mod Lone
-pub mod Asking
-pub mod Resting
+pub mod LoneProducerLemmas
+pub mod RequestKindLemmas
+pub mod WorkerRunLemmas
 pub mod Telling
 pub mod Closing
 pub mod Calls

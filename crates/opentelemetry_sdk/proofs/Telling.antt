@@ -24,8 +24,8 @@ use Rattle.otel_export.specs.declared.trace.export.SpanExporter.{Ghosts}
 use Rattle.otel_batch.proofs.Answering.{kept_error, refusal_kept}
 use Rattle.otel_batch.proofs.BusyLemmas.{is_busy}
 use Rattle.otel_batch.specs.WorkedOff.{GoesBy, error_next, next_of_worker, own_error}
-use Rattle.opentelemetry_sdk.proofs.Lone.{IsAlone, next_alone}
-use Rattle.opentelemetry_sdk.proofs.Asking.{finishing_why, next_none, of_worker, requests_in, shutting}
+use Rattle.opentelemetry_sdk.proofs.LoneProducerLemmas.{IsAlone, next_alone}
+use Rattle.opentelemetry_sdk.proofs.RequestKindLemmas.{finishing_why, next_none, of_worker, requests_in, shutting}
 use Rattle.opentelemetry_sdk.proofs.Worker.{has_next, next_permitted}
 
 -- the drain that the worker is in has this error so far, and so has the answer of the producer, if it has one

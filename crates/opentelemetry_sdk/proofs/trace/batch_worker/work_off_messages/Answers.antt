@@ -1,6 +1,6 @@
 use Rattle.std.proofs.Common.{◌∙◌, [], ◌∷◌, ◌++◌, None, ap, refl, sym}
 use Rattle.otel_batch.specs.WorkedOff.{last_error, next_of_worker}
-use Rattle.opentelemetry_sdk.proofs.Going.{goes_joined, last_joined}
+use Rattle.opentelemetry_sdk.proofs.SteppingLemmas.{goes_joined, last_joined}
 use Rattle.opentelemetry_sdk.proofs.Worker.{goes_lessens}
 use Rattle.opentelemetry_sdk.proofs.trace.batch_worker.work_off_messages.Goals as goal
 
