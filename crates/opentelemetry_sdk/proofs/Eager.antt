@@ -18,7 +18,7 @@ use Rattle.otel_export.specs.declared.trace.export.SpanExporter.{Ghosts}
 use Rattle.otel_batch.specs.WorkedOff.{OffersSpan, WorksOff, next_of_producer, next_of_worker}
 use Rattle.opentelemetry_sdk.specs.EagerExports.{LeavesAtRest}
 use Rattle.opentelemetry_sdk.specs.QueueRequests.{IsAtRest, queue_telling}
-use Rattle.opentelemetry_sdk.proofs.Calls.{counts_one, heard_last, takes_none}
+use Rattle.opentelemetry_sdk.proofs.TakenSpanLemmas.{counts_one, heard_last, takes_none}
 use Rattle.opentelemetry_sdk.proofs.Ending.{EndsIdle, ends_idle}
 use Rattle.opentelemetry_sdk.proofs.Fewer.{KeepsSizes, TakesOff, goes_keep_sizes, goes_take_off, sizes_then, step_keeps_sizes}
 

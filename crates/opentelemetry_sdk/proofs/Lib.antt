@@ -7,7 +7,10 @@ pub mod RequestKindLemmas
 pub mod WorkerRunLemmas
 pub mod Telling
 pub mod Closing
-pub mod Calls
+pub mod RestsAgainLemmas
+pub mod TakenSpanLemmas
+pub mod AnsweredRequestLemmas
+pub mod RequestCallLemmas
 pub mod Fewer
 pub mod Emptying
 pub mod Eager

@@ -3,7 +3,7 @@ use Rattle.otel_batch.specs.MachineState.{counts, slot_at}
 use Rattle.otel_batch.specs.MachineRun.{Run}
 use Rattle.otel_batch.specs.declared.machine.step.Step.TheVariants as step
 use Rattle.otel_batch.proofs.Soundness.{slot_waits-one}
-use Rattle.opentelemetry_sdk.proofs.Calls.{collects, is_answered_at}
+use Rattle.opentelemetry_sdk.proofs.AnsweredRequestLemmas.{collects, is_answered_at}
 use Rattle.opentelemetry_sdk.proofs.trace.batch_worker.answer_request.Goals as goal
 
 pub unreachable-requires : goal.unreachable-requires

@@ -3,7 +3,8 @@ use Rattle.otel_batch.specs.MachineState.{counts}
 use Rattle.otel_batch.specs.MachineRun.{IsStep}
 use Rattle.otel_batch.specs.declared.machine.step.Outcome.TheVariants as outcome
 use Rattle.otel_batch.specs.declared.machine.step.Step.TheVariants as step
-use Rattle.opentelemetry_sdk.proofs.Calls.{RestsAgain, ready_open, tells_nothing, ticked_rests, ticks}
+use Rattle.opentelemetry_sdk.proofs.RestsAgainLemmas.{RestsAgain, ready_open, ticked_rests, ticks}
+use Rattle.opentelemetry_sdk.proofs.TakenSpanLemmas.{tells_nothing}
 use Rattle.opentelemetry_sdk.proofs.trace.batch_worker.drain_by_tick.Goals as goal
 
 -- the timer's step

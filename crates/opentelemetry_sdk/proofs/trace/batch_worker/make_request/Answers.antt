@@ -1,5 +1,5 @@
 use Rattle.opentelemetry_sdk.specs.QueueRequests.{MakesRequest}
-use Rattle.opentelemetry_sdk.proofs.Calls.{made_answered, made_closed, made_refused}
+use Rattle.opentelemetry_sdk.proofs.RequestCallLemmas.{made_answered, made_closed, made_refused}
 use Rattle.opentelemetry_sdk.proofs.trace.batch_worker.make_request.Goals.{in-Requested, in-Closed, in_default}
 use Rattle.opentelemetry_sdk.proofs.trace.batch_worker.make_request.Goals as goal
 

@@ -1,7 +1,7 @@
 use Rattle.otel_batch.specs.MachineRun.{IsStep}
 use Rattle.otel_batch.specs.declared.machine.step.Step.TheVariants as step
 use Rattle.opentelemetry_sdk.proofs.Ending.{EndsIdle, ends_idle}
-use Rattle.opentelemetry_sdk.proofs.Calls.{ends_rest, takes_span}
+use Rattle.opentelemetry_sdk.proofs.TakenSpanLemmas.{ends_rest, takes_span}
 use Rattle.opentelemetry_sdk.proofs.trace.batch_worker.offer_span.Goals as goal
 
 -- what the end leaves

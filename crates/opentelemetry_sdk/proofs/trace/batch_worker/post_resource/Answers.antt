@@ -1,5 +1,5 @@
 use Rattle.std.proofs.Common.{refl}
-use Rattle.opentelemetry_sdk.proofs.Calls.{resource_rests}
+use Rattle.opentelemetry_sdk.proofs.RestsAgainLemmas.{resource_rests}
 use Rattle.opentelemetry_sdk.proofs.trace.batch_worker.post_resource.Goals as goal
 
 pub returns-clause-posts : goal.returns-clause-posts

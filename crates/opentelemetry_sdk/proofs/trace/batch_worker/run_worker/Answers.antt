@@ -1,5 +1,6 @@
 use Rattle.std.proofs.Common.{◌≡◌}
-use Rattle.opentelemetry_sdk.proofs.Calls.{RestsAgain, idle_worked, tells_nothing}
+use Rattle.opentelemetry_sdk.proofs.RestsAgainLemmas.{RestsAgain, idle_worked}
+use Rattle.opentelemetry_sdk.proofs.TakenSpanLemmas.{tells_nothing}
 use Rattle.opentelemetry_sdk.proofs.trace.batch_worker.run_worker.Goals as goal
 
 -- what the worker leaves
