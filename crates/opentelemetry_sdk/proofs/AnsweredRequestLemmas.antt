@@ -2,6 +2,7 @@
 use Rattle.std.proofs.Common.{◌≡◌, ◌⊎◌, ◌∙◌, inl, inr, refl, ap, sym, ℕ, zero, suc, ◌||◌, true, false, List, [], ◌∷◌, ◌++◌, Some, Result, Ok, Err, OnOk, length, slice_get, slice_set, sum_by, arith}
 use Rattle.std.proofs.Math.ListN.{length-set}
 use Rattle.circular_buffer.proofs.Places.{slice_get-set_same}
+use Rattle.std.proofs.lemmas.List.{nil_from_length}
 use Rattle.std.proofs.lemmas.List.Sums.{sum_by-append}
 use Rattle.otel_export.specs.declared.error.OTelSdkError.{OTelSdkError}
 use Rattle.otel_batch.specs.Slots.{is_answered, slot_waits}
@@ -101,14 +102,9 @@ pub record AnsweredRests {E : Type 0} (calls : Ghosts E) (asked : Request) (s : 
   pub emptied : OnOk answer (t.waiting ≡ [])
   pub flush : asked ≡ request.Flush → t.control.closed ≡ s.control.closed
 
--- a list with no element
-none_left : {X : Type 0} (xs : List X) → length xs ≡ 0 → xs ≡ []
-none_left [] e = refl
-none_left (x ∷ xs) e = absurd (omega (arith, e))
-
 on_ok_left : {X : Type 0} (answer : Result (Unit {0}) OTelSdkError) (xs : List X) → OnOk answer (length xs ≡ 0) →
     OnOk answer (xs ≡ [])
-on_ok_left (Ok u) xs h = none_left xs h
+on_ok_left (Ok u) xs h = nil_from_length xs h
 on_ok_left (Err x) xs h = tt
 
 module _ {E : Type 0} (calls : Ghosts E) where
@@ -152,7 +148,7 @@ module _ {E : Type 0} (calls : Ghosts E) where
             left = λ shut.
                 let gone : is_gone m.control.worker ≡ true =
                 sym after.awaited.gone ∙ (sym (ap (λ c. c.control.closed) row.1) ∙ shut) in
-                collects.moved.waiting ∙ none_left m.waiting (is_done.gone gone);
+                collects.moved.waiting ∙ nil_from_length m.waiting (is_done.gone gone);
           };
           heard = rw (← same_heard calls s posted at.keeps, same_heard calls m t collects.moved) heard;
           dropped = ap (λ c. c.control.dropped) row.1 ∙ (on.dropped ∙ at.dropped);

@@ -1,5 +1,5 @@
 -- What an eager end leaves of the queue, from what its parts leave: the exports of full batches, and the offer.
-use Rattle.std.proofs.Common.{◌≡◌, ◌⊎◌, ◌∙◌, inl, inr, refl, ap, sym, ℕ, ◌+◌, ◌<◌, ◌≤◌, ◌&&◌, ◌||◌, ◌==◌, not, Bool, true, false, List, [], ◌∷◌, ◌++◌, Option, Some, None, Ok, length, nat_le, append_assoc, if◌then◌else◌, arith}
+use Rattle.std.proofs.Common.{◌≡◌, ◌⊎◌, ◌∙◌, inl, inr, refl, ap, sym, ℕ, ◌<◌, ◌≤◌, ◌&&◌, ◌||◌, ◌==◌, not, Bool, true, false, List, [], ◌∷◌, ◌++◌, Option, Some, None, Ok, length, append_assoc, if◌then◌else◌, arith}
 use Rattle.std.proofs.lemmas.Bool.Decides.{eqb_tells, leb_tells}
 use Rattle.std.specs.declared.alloc.AllocError.{AllocError}
 use Rattle.otel_export.specs.PlainSpanData.{PlainSpanData, is_sampled}
@@ -9,7 +9,6 @@ use Rattle.otel_batch.specs.MachineState.{Control, Machine, counts}
 use Rattle.otel_batch.specs.SoundMachine.{IsSound}
 use Rattle.otel_batch.specs.MachineRun.{IsStep}
 use Rattle.otel_batch.specs.MovedSpans.{Keeps}
-use Rattle.otel_batch.specs.WorkerSteps.{TickRow}
 use Rattle.otel_batch.specs.Drains.{has_full_batch, largest_batch}
 use Rattle.otel_batch.specs.declared.machine.step.Outcome.{Outcome}
 use Rattle.otel_batch.specs.declared.machine.step.Outcome.TheVariants as outcome
@@ -54,10 +53,6 @@ same_largest s t sizes = rw (sizes.queue_size, sizes.batch_size) refl
 pub or_false : (b : Bool) → (b || false) ≡ b
 or_false true = refl
 or_false false = refl
-
-pub neither : (a b : Bool) → (a || b) ≡ false → (a ≡ false) × (b ≡ false)
-neither true b e = absurd (cc)
-neither false b e = (refl, e)
 
 -- fewer spans wait than a batch has, so the queue has room
 pub has_room : {E : Type 0} (m : Machine E) → IsSound (counts m) → has_full_batch m ≡ false →

@@ -19,7 +19,7 @@ use Rattle.otel_batch.proofs.Working.{permitted-lessens}
 use Rattle.otel_batch.specs.WorkedOff.{GoesBy, is_idle_worker, next_of_worker}
 
 -- either of two tests fails where both do
-neither : (a b : Bool) → (a || b) ≡ false → (a ≡ false) × (b ≡ false)
+pub neither : (a b : Bool) → (a || b) ≡ false → (a ≡ false) × (b ≡ false)
 neither true b e = absurd (cc)
 neither false b e = (refl, e)
 

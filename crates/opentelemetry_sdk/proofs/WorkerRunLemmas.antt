@@ -1,6 +1,7 @@
 -- What the worker's run leaves: what was heard, what was dropped, and a queue at rest.
 use Rattle.std.proofs.Common.{◌≡◌, ◌⊎◌, ◌∙◌, inl, inr, refl, ap, sym, ℕ, zero, suc, ◌||◌, ◌&&◌, ◌==◌, Bool, true, false, List, [], ◌∷◌, ◌++◌, Option, Some, None, length, slice_get, append_assoc, append-nil, arith}
 use Rattle.std.proofs.lemmas.Bool.Decides.{eqb_tells}
+use Rattle.std.proofs.lemmas.List.{nil_from_length}
 use Rattle.std.proofs.lemmas.List.Concat.{flat_map-append}
 use Rattle.otel_export.specs.declared.error.OTelSdkError.{OTelSdkError}
 use Rattle.otel_export.specs.PlainSpanData.{PlainSpanData, spans_in}
@@ -246,12 +247,8 @@ module _ {E : Type 0} (calls : Ghosts E) where
 pub rest_empty : {E : Type 0} (m : Machine E) → IsSound (counts m) →
     is_ready m.control.worker || is_gone m.control.worker ≡ true → m.hand ≡ []
 rest_empty m sound rests =
-    empty_list m.hand (sound.drain.hand_empty (fills_none m.control.worker rests))
+    nil_from_length m.hand (sound.drain.hand_empty (fills_none m.control.worker rests))
   where
-    empty_list : (spans : List PlainSpanData) → length spans ≡ 0 → spans ≡ []
-    empty_list [] e = refl
-    empty_list (x ∷ xs) e = absurd (omega (arith, e))
-
     fills_none : (w : Worker) → is_ready w || is_gone w ≡ true → is_filling w ≡ false
     fills_none worker.Ready h = refl
     fills_none worker.Gone h = refl

@@ -2,7 +2,8 @@ use Rattle.std.proofs.Common.{◌≡◌, ◌∙◌, ◌||◌, refl, sym, true, f
 use Rattle.otel_batch.specs.Drains.{has_full_batch}
 use Rattle.opentelemetry_sdk.specs.QueueRequests.{queue_telling}
 use Rattle.opentelemetry_sdk.proofs.TakenSpanLemmas.{takes_none}
-use Rattle.opentelemetry_sdk.proofs.Eager.{eager_told, has_room, largest_left, neither, offer_ends, offer_sizes, or_false, room_drops_none, same_largest, sizes_left}
+use Rattle.opentelemetry_sdk.proofs.Worker.{neither}
+use Rattle.opentelemetry_sdk.proofs.Eager.{eager_told, has_room, largest_left, offer_ends, offer_sizes, or_false, room_drops_none, same_largest, sizes_left}
 use Rattle.opentelemetry_sdk.proofs.trace.batch_worker.offer_eagerly.Goals as goal
 
 pub returns-then-is_full-clause-ends : goal.returns-then-is_full-clause-ends
