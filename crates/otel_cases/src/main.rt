@@ -6,7 +6,9 @@ mod batch;
 mod exports;
 mod processors;
 mod programs;
+mod span_fields;
 mod spans;
+mod starts;
 mod xray;
 
 use otel_case_rows::answer_text::AnswerText;
@@ -32,6 +34,7 @@ impl Cases for AllCases {
         otel_value_cases::answer(alloc, row, out)
             || batch::answer(alloc, row, out)
             || spans::answer(alloc, row, out)
+            || starts::answer(alloc, row, out)
             || xray::answer(alloc, row, out)
             || processors::answer(alloc, row, out)
             || answer_whole(alloc, row, out)

@@ -1,34 +1,32 @@
-//! Spans: what one records of its start and its edits, and who a start in a context makes it. A span starts at moment
-//! 7, its events happen at 8, and it ends at 9.
+//! Spans: what one records of its start and its edits. A span starts at moment 7, its events happen at 8, and it ends
+//! at 9.
 
-use opentelemetry::propagation::{Extractor, Injector, MapCarrier, TextMapPropagator};
-use opentelemetry::trace::{Event, Link, SpanBuilder, SpanContext};
-use opentelemetry::{Array, Context, Key, KeyValue, Moment, SpanId, Value};
+use crate::span_fields::{attributes_of, builder_of, edit_of, exception_of, halves_of};
+use opentelemetry::trace::{Event, Link};
+use opentelemetry::{Context, KeyValue, Moment};
 use otel_case_rows::answer_text::AnswerText;
-use otel_case_rows::fields::{Row, RowError, pair_of, small_number_of};
-use otel_case_rows::values::{status_of, texts_of};
+use otel_case_rows::fields::{Row, RowError, small_number_of};
 use otel_export::error::OTelSdkError;
 use otel_export::trace::{InMemorySpanExporter, SpanData};
 use otel_pipeline::trace::provider::provider_over;
-use otel_pipeline::trace::{Exception, ProviderOf, SimpleSpanProcessor, Span, SpanEdit};
-use otel_propagation::propagation::TraceContextPropagator;
+use otel_pipeline::trace::{ProviderOf, SimpleSpanProcessor, Span, SpanEdit};
 use otel_resource::resource::Resource;
 use otel_sampling::trace::{ConfigOf, RandomIdGenerator, SamplerOf, SpanLimits};
 use otel_trace_lines::reply_text::write_batches;
-use otel_trace_run::program::{NoSampler, TraceSampler};
+use otel_trace_run::program::TraceSampler;
 use std::alloc::{AllocError, Global};
 
-type RowProvider = ProviderOf<
+/// The provider that a row starts its spans under.
+pub type RowProvider = ProviderOf<
     SimpleSpanProcessor<InMemorySpanExporter>,
     TraceSampler,
     RandomIdGenerator,
 >;
 
-/// Answers a row whose word is one of these; false where it is none.
+/// Answers a row whose word is `span`; false where it is another one.
 pub fn answer(alloc: Global, row: &Row, out: &mut AnswerText) -> bool {
     match row.word.as_str() {
         "span" => answer_span(alloc, row, out),
-        "start" => out.put_by(starts_of(alloc, row), show_started),
         _ => return false,
     }
     true
@@ -54,7 +52,7 @@ fn show_in(mut provider: RowProvider, row: &Row, out: &mut AnswerText) {
 }
 
 /// A provider over one exporter in memory, with the ids of seed 0.
-fn provider_of(
+pub fn provider_of(
     alloc: Global,
     span_limits: SpanLimits,
     sampler: TraceSampler,
@@ -127,79 +125,6 @@ fn start_given(alloc: Global, row: &Row, provider: &mut RowProvider) -> Result<S
     Ok(tracer.build_with_context(builder, &Context::new(), provider, Moment(7))?)
 }
 
-/// The builder that the fields in front of `start` fill.
-fn builder_of(alloc: Global, row: &Row) -> Result<SpanBuilder, RowError> {
-    check_given(row)?;
-    let builder = SpanBuilder::from_name(name_given(alloc, row)?);
-    let builder = builder.with_attributes(attributes_given(alloc, row)?);
-    let builder = builder.with_events(events_given(alloc, row)?);
-    Ok(builder.with_links(links_given(alloc, row)?))
-}
-
-/// The word of a field, and what stands after its first colon.
-fn halves_of(field: &str) -> (&str, &str) {
-    field.split_once(':').unwrap_or((field, ""))
-}
-
-/// Whether each field in front of `start` gives the builder something, and there is a `start`.
-fn check_given(row: &Row) -> Result<(), RowError> {
-    for field in row.fields.iter().skip(1) {
-        match halves_of(field.as_str()).0 {
-            "name" | "attribute" | "event" | "link" => {}
-            "start" => return Ok(()),
-            _ => break,
-        }
-    }
-    Err(RowError::Field)
-}
-
-fn name_given(alloc: Global, row: &Row) -> Result<String, AllocError> {
-    for field in row.fields.iter() {
-        match halves_of(field.as_str()) {
-            ("name", rest) => return String::from_str(alloc, rest),
-            ("start", _) => break,
-            _ => {}
-        }
-    }
-    Ok(String::new(alloc))
-}
-
-fn attributes_given(alloc: Global, row: &Row) -> Result<Vec<KeyValue>, RowError> {
-    let mut attributes = Vec::new(alloc);
-    for field in row.fields.iter() {
-        match halves_of(field.as_str()) {
-            ("attribute", rest) => attributes.push(attribute_of(alloc, rest)?)?,
-            ("start", _) => break,
-            _ => {}
-        }
-    }
-    Ok(attributes)
-}
-
-fn events_given(alloc: Global, row: &Row) -> Result<Vec<Event>, RowError> {
-    let mut events = Vec::new(alloc);
-    for field in row.fields.iter() {
-        match halves_of(field.as_str()) {
-            ("event", rest) => events.push(event_of(alloc, rest)?)?,
-            ("start", _) => break,
-            _ => {}
-        }
-    }
-    Ok(events)
-}
-
-fn links_given(alloc: Global, row: &Row) -> Result<Vec<Link>, RowError> {
-    let mut links = Vec::new(alloc);
-    for field in row.fields.iter() {
-        match halves_of(field.as_str()) {
-            ("link", rest) => links.push(link_of(alloc, rest)?)?,
-            ("start", _) => break,
-            _ => {}
-        }
-    }
-    Ok(links)
-}
-
 /// Makes the edits after `start`, and answers how many processors refused the span where one of them ends it.
 fn edit_all(
     alloc: Global,
@@ -235,84 +160,6 @@ fn change(alloc: Global, span: &mut Span, field: &str) -> Result<(), RowError> {
         _ => edit(span, edit_of(alloc, field)?)?,
     }
     Ok(())
-}
-
-/// The error of `MESSAGE:TYPE:STACKTRACE`, of which the last two may be absent.
-fn exception_of(alloc: Global, text: &str) -> Result<Exception, AllocError> {
-    let (message, rest) = halves_of(text);
-    let (exception_type, stacktrace) = halves_of(rest);
-    let mut exception = Exception::new(String::from_str(alloc, message)?);
-    if !exception_type.is_empty() {
-        exception = exception.with_type(String::from_str(alloc, exception_type)?);
-    }
-    if !stacktrace.is_empty() {
-        exception = exception.with_stacktrace(String::from_str(alloc, stacktrace)?);
-    }
-    Ok(exception)
-}
-
-/// The edit that a field writes.
-fn edit_of(alloc: Global, field: &str) -> Result<SpanEdit, RowError> {
-    let (word, rest) = halves_of(field);
-    match word {
-        "attribute" => Ok(SpanEdit::SetAttribute(attribute_of(alloc, rest)?)),
-        "texts" => Ok(SpanEdit::SetAttribute(list_attribute_of(alloc, rest)?)),
-        "event" => Ok(SpanEdit::AddEvent(event_of(alloc, rest)?)),
-        "link" => Ok(SpanEdit::AddLink(link_of(alloc, rest)?)),
-        "name" => Ok(SpanEdit::UpdateName(String::from_str(alloc, rest)?)),
-        "status" => Ok(SpanEdit::SetStatus(status_of(alloc, rest)?)),
-        _ => Err(RowError::Field),
-    }
-}
-
-/// The attribute of `KEY=VALUE`.
-fn attribute_of(alloc: Global, text: &str) -> Result<KeyValue, RowError> {
-    let (key, value) = pair_of(text)?;
-    let key = Key::new(String::from_str(alloc, key)?);
-    Ok(KeyValue::new(key, Value::String(String::from_str(alloc, value)?)))
-}
-
-/// The attribute of `KEY=TEXT,..`, whose value is a list.
-fn list_attribute_of(alloc: Global, text: &str) -> Result<KeyValue, RowError> {
-    let (key, items) = pair_of(text)?;
-    let key = Key::new(String::from_str(alloc, key)?);
-    Ok(KeyValue::new(key, Value::Array(Array::String(texts_of(alloc, items)?))))
-}
-
-/// The attributes of `KEY=VALUE,..`.
-fn attributes_of(alloc: Global, text: &str) -> Result<Vec<KeyValue>, RowError> {
-    let mut attributes = Vec::new(alloc);
-    for part in text.split(',') {
-        if !part.is_empty() {
-            attributes.push(attribute_of(alloc, part)?)?;
-        }
-    }
-    Ok(attributes)
-}
-
-/// The event of `NAME:KEY=VALUE,..:COUNT`, of which the last two may be absent.
-fn event_of(alloc: Global, text: &str) -> Result<Event, RowError> {
-    let (name, rest) = halves_of(text);
-    let (attributes, count) = halves_of(rest);
-    let count = count_of(count)?;
-    let name = String::from_str(alloc, name)?;
-    Ok(Event::new(name, Moment(8), attributes_of(alloc, attributes)?, count))
-}
-
-/// The link of `KEY=VALUE,..:COUNT`, of which both may be absent. It points to the empty span context.
-fn link_of(alloc: Global, text: &str) -> Result<Link, RowError> {
-    let (attributes, count) = halves_of(text);
-    let count = count_of(count)?;
-    let attributes = attributes_of(alloc, attributes)?;
-    Ok(Link::new(SpanContext::empty_context(), attributes, count))
-}
-
-/// The number that a text writes; zero where it is empty.
-fn count_of(text: &str) -> Result<u32, RowError> {
-    if text.is_empty() {
-        return Ok(0);
-    }
-    small_number_of(text)
 }
 
 /// Makes an edit: one that brings a count as a value, the others by their own calls.
@@ -415,129 +262,4 @@ fn show_attributes(attributes: &[KeyValue], dropped: u32, out: &mut AnswerText) 
         write!(out, "{key}={value}");
     }
     write!(out, "] {dropped}");
-}
-
-/// What `start SAMPLER CONTEXT TRACESTATE` shows: it starts a span in a context and another one as a root. Who the
-/// first one is, whether it records, and the span id of the second one.
-#[derive(Drop)]
-struct Started {
-    is_recording: bool,
-    context: SpanContext,
-    next_id: SpanId,
-}
-
-fn starts_of(alloc: Global, row: &Row) -> Result<Started, RowError> {
-    let cx = context_of(alloc, row)?;
-    let sampler = sampler_of(alloc, row.field(0))?;
-    let mut provider = provider_of(alloc, SpanLimits::default(), sampler)?;
-    let started = start_both(alloc, &cx, &mut provider);
-    let _ = provider.close();
-    Ok(started?)
-}
-
-/// The sampler of this name.
-fn sampler_of(alloc: Global, name: &str) -> Result<TraceSampler, RowError> {
-    match name {
-        "always_on" => Ok(SamplerOf::AlwaysOn),
-        "always_off" => Ok(SamplerOf::AlwaysOff),
-        "parentbased_always_on" => Ok(parent_based(alloc, SamplerOf::AlwaysOn)?),
-        "parentbased_always_off" => Ok(parent_based(alloc, SamplerOf::AlwaysOff)?),
-        _ => Err(RowError::Field),
-    }
-}
-
-fn parent_based(alloc: Global, delegate: SamplerOf<NoSampler>) -> Result<TraceSampler, AllocError> {
-    Ok(SamplerOf::ParentBased(Box::new(alloc, delegate)?))
-}
-
-/// The context of a field: `-`, in which nothing is active, `empty`, in which the empty span context is, `suppressed`,
-/// in which telemetry is, or that which a `traceparent` says, with a `tracestate` in the next field.
-fn context_of(alloc: Global, row: &Row) -> Result<Context, RowError> {
-    match row.field(1) {
-        "-" => Ok(Context::new()),
-        "empty" => Ok(Context::new().with_span_context(SpanContext::empty_context())?),
-        "suppressed" => Ok(Context::new().with_telemetry_suppressed()?),
-        _ => said(received(alloc, row)?),
-    }
-}
-
-/// The context, if a span is active in it.
-fn said(cx: Context) -> Result<Context, RowError> {
-    if cx.has_active_span() {
-        Ok(cx)
-    } else {
-        Err(RowError::Field)
-    }
-}
-
-/// The context that the headers of a row bring.
-fn received(alloc: Global, row: &Row) -> Result<Context, AllocError> {
-    let mut carrier = MapCarrier::new(alloc);
-    if let Some(parent) = row.owned(alloc, 1)? {
-        carrier.set("traceparent", parent)?;
-    }
-    if let Some(state) = row.owned(alloc, 2)? {
-        carrier.set("tracestate", state)?;
-    }
-    TraceContextPropagator::new().extract_with_context(alloc, &Context::new(), &carrier)
-}
-
-fn start_both(
-    alloc: Global,
-    cx: &Context,
-    provider: &mut RowProvider,
-) -> Result<Started, AllocError> {
-    let span = start_in(alloc, cx, provider)?;
-    let is_recording = span.is_recording();
-    let context: Result<SpanContext, AllocError> = span.span_context().clone();
-    span.abandon();
-    let next = start_in(alloc, &Context::new(), provider)?;
-    let next_id = next.span_context().span_id();
-    next.abandon();
-    let context = context?;
-    Ok(Started {
-        is_recording,
-        context,
-        next_id,
-    })
-}
-
-/// Starts a span without a name in a context.
-fn start_in(alloc: Global, cx: &Context, provider: &mut RowProvider) -> Result<Span, AllocError> {
-    let tracer = provider.tracer(String::new(alloc))?;
-    tracer.start_with_context(String::new(alloc), cx, provider, Moment(7))
-}
-
-/// Shows who a span is, whether it records, the trace state that goes on from it, and the id of the next span.
-fn show_started(started: &Started, out: &mut AnswerText) {
-    out.push_str(if started.is_recording {
-        "started"
-    } else {
-        "dropped"
-    });
-    show_identity(&started.context, out);
-    out.put_by(carrier_of(out.alloc(), &started.context), show_state);
-    write!(out, " next {}", started.next_id);
-}
-
-fn show_identity(context: &SpanContext, out: &mut AnswerText) {
-    let (trace_id, span_id) = (context.trace_id(), context.span_id());
-    let flags = context.trace_flags();
-    write!(out, " 00-{trace_id}-{span_id}-{flags} state ");
-}
-
-/// What goes on from a span.
-fn carrier_of(alloc: Global, context: &SpanContext) -> Result<MapCarrier, AllocError> {
-    let cx = Context::new().with_span_context(context.clone()?)?;
-    let mut carrier = MapCarrier::new(alloc);
-    TraceContextPropagator::new().inject_context(alloc, &cx, &mut carrier)?;
-    Ok(carrier)
-}
-
-/// Shows the trace state of a carrier; `-` where it is empty.
-fn show_state(carrier: &MapCarrier, out: &mut AnswerText) {
-    match carrier.get("tracestate") {
-        Some(state) if !state.is_empty() => out.push_str(state),
-        _ => out.push('-'),
-    }
 }
