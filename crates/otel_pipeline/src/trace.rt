@@ -2,6 +2,7 @@
 
 pub mod close_report;
 pub mod drain_due;
+mod each_processor;
 pub mod exception;
 pub mod leaves_spans;
 mod limits;

@@ -1,7 +1,7 @@
 use Rattle.std.proofs.Common.{◌≡◌, arith, ◌∙◌, sym, rules}
 use Rattle.otel_pipeline.proofs.EachLemmas.{asked_next, rest_more, err_answer, ok_answer, with_answer}
-use Rattle.otel_pipeline.proofs.trace.provider.run_each.Goals as goal
-use Rattle.otel_pipeline.proofs.trace.provider.run_each.Goals.{then-is_err, else-is_err}
+use Rattle.otel_pipeline.proofs.trace.each_processor.run_each.Goals as goal
+use Rattle.otel_pipeline.proofs.trace.each_processor.run_each.Goals.{then-is_err, else-is_err}
 
 pub loop-processor-preserved : goal.loop-processor-preserved
 loop-processor-preserved g c =

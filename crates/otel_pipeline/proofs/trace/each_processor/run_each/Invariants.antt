@@ -1,7 +1,7 @@
 use Rattle.std.proofs.Common.{◌≡◌, take, drop, ◌≤◌}
 use Rattle.otel_pipeline.specs.Each.{AsksAll}
 use Rattle.otel_pipeline.specs.Provider.{RunsProcessor}
-use Rattle.otel_pipeline.proofs.trace.provider.run_each.Given as goal
+use Rattle.otel_pipeline.proofs.trace.each_processor.run_each.Given as goal
 
 abbrev pub invariant-loop-processor : goal.invariant-loop-processor
 invariant-loop-processor g l = record {

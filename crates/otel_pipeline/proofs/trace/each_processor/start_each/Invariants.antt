@@ -1,7 +1,7 @@
 use Rattle.std.proofs.Common.{◌≡◌, map, take, drop}
 use Rattle.otel_pipeline.specs.Starting.{PassesThrough}
 use Rattle.otel_pipeline.specs.SpanHistory.{IsEdited}
-use Rattle.otel_pipeline.proofs.trace.provider.start_each.Given as goal
+use Rattle.otel_pipeline.proofs.trace.each_processor.start_each.Given as goal
 
 abbrev pub invariant-loop-processor : goal.invariant-loop-processor
 invariant-loop-processor g l = record {

@@ -2,7 +2,7 @@ use Rattle.std.proofs.Common.{◌≡◌, ◌+◌, ◌-◌, take, drop, ◌≤◌
 use Rattle.otel_export.specs.PlainSpanData.{PlainSpanData}
 use Rattle.otel_pipeline.specs.Each.{AsksAll}
 use Rattle.otel_pipeline.specs.Ending.{TakesAndTells}
-use Rattle.otel_pipeline.proofs.trace.provider.end_copies.Given as goal
+use Rattle.otel_pipeline.proofs.trace.each_processor.end_copies.Given as goal
 
 abbrev pub invariant-loop-processor : goal.invariant-loop-processor
 invariant-loop-processor g l = record {

@@ -1,6 +1,6 @@
 use Rattle.std.proofs.Common.{[], refl, arith, rules}
 use Rattle.otel_pipeline.proofs.EachLemmas.{first_next, rest_more}
-use Rattle.otel_pipeline.proofs.trace.provider.flush_each.Goals as goal
+use Rattle.otel_pipeline.proofs.trace.each_processor.flush_each.Goals as goal
 
 pub loop-processor-init : goal.loop-processor-init
 loop-processor-init g c = record { asked = ([], refl, tt); rest = refl }

@@ -1,7 +1,7 @@
 use Rattle.std.proofs.Common.{◌∙◌, [], refl, rules, arith}
 use Rattle.otel_pipeline.proofs.SpanLaws.{edited_again}
 use Rattle.otel_pipeline.proofs.EachLemmas.{map_kept, passes_next, rest_more}
-use Rattle.otel_pipeline.proofs.trace.provider.start_each.Goals as goal
+use Rattle.otel_pipeline.proofs.trace.each_processor.start_each.Goals as goal
 
 pub loop-processor-init : goal.loop-processor-init
 loop-processor-init g c = record { edits = ([], refl); told = refl; passed = refl; rest = refl }

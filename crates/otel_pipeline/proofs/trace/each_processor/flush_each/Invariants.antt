@@ -1,7 +1,7 @@
 use Rattle.std.proofs.Common.{◌≡◌, take, drop}
 use Rattle.otel_pipeline.specs.Each.{AsksFirst}
 use Rattle.otel_pipeline.specs.Provider.{FlushesProcessor}
-use Rattle.otel_pipeline.proofs.trace.provider.flush_each.Given as goal
+use Rattle.otel_pipeline.proofs.trace.each_processor.flush_each.Given as goal
 
 abbrev pub invariant-loop-processor : goal.invariant-loop-processor
 invariant-loop-processor g l = record {

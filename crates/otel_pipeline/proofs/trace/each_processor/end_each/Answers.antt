@@ -3,7 +3,7 @@ use Rattle.std.specs.declared.alloc.AllocError.{AllocError}
 use Rattle.std.proofs.lemmas.List.{length-take-le}
 use Rattle.otel_pipeline.specs.Ending.{TakesAndTells}
 use Rattle.otel_pipeline.proofs.EachLemmas.{asked_last, with_answer}
-use Rattle.otel_pipeline.proofs.trace.provider.end_each.Goals as goal
+use Rattle.otel_pipeline.proofs.trace.each_processor.end_each.Goals as goal
 
 pub returns-in-Ok : goal.returns-in-Ok
 returns-in-Ok g c =

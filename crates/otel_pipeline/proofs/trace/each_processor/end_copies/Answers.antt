@@ -2,8 +2,8 @@ use Rattle.std.proofs.Common.{◌≡◌, ℕ, suc, ◌-◌, ◌+◌, [], ◌∷�
 use Rattle.otel_export.specs.PlainSpanData.{PlainSpanData}
 use Rattle.otel_pipeline.specs.Ending.{TakesAndTells}
 use Rattle.otel_pipeline.proofs.EachLemmas.{asked_next, rest_more, err_answer, ok_answer, with_answer, last_copy}
-use Rattle.otel_pipeline.proofs.trace.provider.end_copies.Goals as goal
-use Rattle.otel_pipeline.proofs.trace.provider.end_copies.Goals.{then-is_err, else-is_err}
+use Rattle.otel_pipeline.proofs.trace.each_processor.end_copies.Goals as goal
+use Rattle.otel_pipeline.proofs.trace.each_processor.end_copies.Goals.{then-is_err, else-is_err}
 
 pub loop-processor-preserved : goal.loop-processor-preserved
 loop-processor-preserved g c =

@@ -2,7 +2,7 @@ use Rattle.std.proofs.Common.{◌≡◌, take, drop, ◌≤◌}
 use Rattle.std.specs.Duration.{as_nanos}
 use Rattle.otel_pipeline.specs.Each.{AsksAll}
 use Rattle.otel_pipeline.specs.Provider.{ShutsProcessor}
-use Rattle.otel_pipeline.proofs.trace.provider.shutdown_each.Given as goal
+use Rattle.otel_pipeline.proofs.trace.each_processor.shutdown_each.Given as goal
 
 abbrev pub invariant-loop-processor : goal.invariant-loop-processor
 invariant-loop-processor g l = record {
