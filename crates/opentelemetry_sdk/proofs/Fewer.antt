@@ -1,9 +1,8 @@
 -- The worker adds no span to those that wait. Where it hands none over its exporter is told nothing, and all goes on
 -- waiting. No step changes the size of the queue or of a batch.
-use Rattle.std.proofs.Common.{◌≡◌, ◌∙◌, refl, ap, sym, ℕ, ◌+◌, ◌≤◌, true, List, [], ◌∷◌, ◌++◌, Option, length, length-append, arith}
+use Rattle.std.proofs.Common.{◌≡◌, ◌∙◌, refl, ap, ℕ, ◌+◌, ◌≤◌, true, List, [], ◌∷◌, ◌++◌, Option, length, length-append, arith}
 use Rattle.otel_batch.specs.MachineState.{Control, Machine, counts}
 use Rattle.otel_batch.specs.SoundMachine.{IsSound}
-use Rattle.otel_batch.specs.MachineRun.{Run}
 use Rattle.otel_batch.specs.MovedSpans.{MovesSpans}
 use Rattle.otel_batch.specs.PermittedStep.{IsPermitted}
 use Rattle.otel_batch.specs.Drains.{is_workers}

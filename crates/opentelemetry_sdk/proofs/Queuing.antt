@@ -1,5 +1,5 @@
 -- An end that only queues its span drops none where the processor is eager: the span is not sampled, or the queue closed.
-use Rattle.std.proofs.Common.{◌≡◌, ◌∙◌, refl, ◌&&◌, not, Bool, true, false, Ok}
+use Rattle.std.proofs.Common.{◌≡◌, refl, ◌&&◌, not, Bool, true, false, Ok}
 use Rattle.otel_export.specs.PlainSpanData.{PlainSpanData, is_sampled}
 use Rattle.otel_batch.specs.MachineState.{Machine}
 use Rattle.otel_export.specs.declared.trace.export.SpanExporter.{Ghosts}

@@ -1,6 +1,6 @@
 -- What a batch queue with one producer does at an end where its processor is eager: a full batch is exported where the
 -- span ends that fills it, and not only where somebody calls the worker.
-use Rattle.std.specs.Prelude.{◌≡◌, ◌+◌, ◌<◌, ◌≤◌, ◌||◌, ℕ, Bool, false, List, Result, Ok, Err, MatchBool, length}
+use Rattle.std.specs.Prelude.{◌≡◌, ◌+◌, ◌<◌, ◌≤◌, ◌||◌, ℕ, Bool, false, Result, Ok, Err, MatchBool, length}
 use Rattle.otel_export.specs.declared.error.OTelSdkError.{OTelSdkError}
 use Rattle.otel_export.specs.declared.trace.export.SpanExporter.{Ghosts}
 use Rattle.otel_export.specs.PlainSpanData.{PlainSpanData}

@@ -1,10 +1,10 @@
 -- Where a span keeps no further event, it matters not which event comes: it is counted, or nothing happens.
-use Rattle.std.proofs.Common.{◌≡◌, ◌≤◌, ◌<◌, ℕ, Bool, true, false, List, [], Option, Some, None, IfSome, length, nat_lt, nat_le, refl, arith}
+use Rattle.std.proofs.Common.{◌≡◌, ℕ, true, false, List, [], Option, Some, None, IfSome, length, nat_lt, nat_le, refl, arith}
 use Rattle.std.proofs.lemmas.Bool.Decides.{nat_tests}
-use Rattle.opentelemetry.specs.Plain.{PlainEvent, PlainSpanContext}
+use Rattle.opentelemetry.specs.Plain.{PlainEvent}
 use Rattle.otel_sampling.specs.declared.trace.span_limit.SpanLimits.{SpanLimits}
 use Rattle.otel_export.specs.PlainSpanData.{PlainSpanData}
-use Rattle.otel_pipeline.specs.SpanHistory.{PlainSpan, add_event, edited, edited_data, edited_if, keeps_no_event, plain_span}
+use Rattle.otel_pipeline.specs.SpanHistory.{PlainSpan, add_event, edited, edited_data, edited_if, keeps_no_event}
 use Rattle.otel_pipeline.specs.Exceptions.{RecordsError, exception_event, exception_of}
 
 full_data : (limits : SpanLimits) (these those : PlainEvent) (recorded : PlainSpanData)
