@@ -1,6 +1,6 @@
 -- What each call of an exporter of lines does to the stream: it goes on holding the lines of the batches told.
 use Rattle.std.proofs.Common.{◌≡◌, ◌∙◌, ap, sym, subst, refl, ℕ, Bool, true, false, List, [], ◌∷◌, ◌++◌, Option, Some, None, Result, Ok, Err}
-use Rattle.std.proofs.Common.{MatchBool, map, inl, inr, append-nil}
+use Rattle.std.proofs.Common.{MatchBool, inl, inr, append-nil}
 use Rattle.std.proofs.KnownBytes.{Appends-nil, Appends-trans}
 use Rattle.std.proofs.lemmas.List.Concat.{flat_map-append}
 use Rattle.std.specs.Io.KnownBytes.{Appends}
@@ -9,7 +9,7 @@ use Rattle.otel_export.specs.PlainSpanData.{PlainSpanData}
 use Rattle.otel_export.specs.Telling.{and_then_told}
 use Rattle.otel_export.specs.declared.error.OTelSdkError.{OTelSdkError}
 use Rattle.otel_export.specs.declared.error.OTelSdkError.TheVariants as errors
-use Rattle.otel_otlp.specs.LineExporter.{HoldsLines, LineExporter, LineStream, LinedBatch, Sends, Shuts, TakesResource, Writes, WritesBatch, WritesOf}
+use Rattle.otel_otlp.specs.LineExporter.{HoldsLines, LineExporter, LineStream, LinedBatch, Sends, Shuts, TakesResource, Writes, WritesOf}
 use Rattle.otel_otlp.specs.LineExporter.{lines_in, new_exporter, next_line, written_after}
 use Rattle.otel_otlp.specs.Otlp.{otlp_line}
 
@@ -27,8 +27,8 @@ module _ {W : Type 0} (contents : W → Option (List ℕ)) where
       let line : LinedBatch = record { resource = resource; batch = batch } in
       let uncut = subst (λ (b : Bool). Appends (contents old.writer) (contents new.writer) (next_line b resource batch)) h.2 sent.0 in
       let lines : lines_in (lined ++ line ∷ []) ≡ lines_in lined ++ otlp_line resource batch =
-          flat_map-append (λ (l : LinedBatch). otlp_line l.resource l.batch) lined (line ∷ [])
-          ∙ ap (λ (l : List ℕ). lines_in lined ++ l) (append-nil (otlp_line resource batch)) in (
+      flat_map-append (λ (l : LinedBatch). otlp_line l.resource l.batch) lined (line ∷ [])
+      ∙ ap (λ (l : List ℕ). lines_in lined ++ l) (append-nil (otlp_line resource batch)) in (
         h.0,
         h.1,
         sent.1,
@@ -73,9 +73,12 @@ module _ {W : Type 0} (contents : W → Option (List ℕ)) where
   pub export_carries : (e : LineExporter W) (batch : List PlainSpanData) (answer : Result (Unit {0}) OTelSdkError) (f : LineExporter W)
       → Writes contents e batch answer f → Carries e f
   export_carries e batch answer f w =
-      carries_same e f (record e { stream = f.stream; written = f.written }) w.rest (refl, λ h.
-      subst (λ (x : Option (List LinedBatch)). HoldsLines contents e.begun f.stream x) (sym w.written)
-      (batch_holds e.is_shut e.begun e.stream f.stream e.resource batch answer e.written h w.stream))
+      carries_same e f (record e { stream = f.stream; written = f.written }) w.rest (
+        refl,
+        λ h.
+            subst (λ (x : Option (List LinedBatch)). HoldsLines contents e.begun f.stream x) (sym w.written)
+            (batch_holds e.is_shut e.begun e.stream f.stream e.resource batch answer e.written h w.stream),
+      )
 
   pub shutdown_carries : (e : LineExporter W) (answer : Result (Unit {0}) OTelSdkError) (f : LineExporter W) → Shuts e answer f → Carries e f
   shutdown_carries e answer f h = carries_same e f (record e { is_shut = true }) h.1 (refl, λ k. k)

@@ -23,8 +23,8 @@ told_from_none : (batches told : List (List PlainSpanData)) (before after : Opti
     → before ≡ Some [] → after ≡ Some told → Tells before batches after → batches ≡ told
 told_from_none batches told before after none some tells =
     let here : Tells (Some []) batches (Some told) =
-        subst (λ (x : Option (List (List PlainSpanData))). Tells (Some []) batches x) some
-        (subst (λ (x : Option (List (List PlainSpanData))). Tells x batches after) none tells) in cc
+    subst (λ (x : Option (List (List PlainSpanData))). Tells (Some []) batches x) some
+    (subst (λ (x : Option (List (List PlainSpanData))). Tells x batches after) none tells) in cc
 
 module _ {W : Type 0} (contents : W → Option (List ℕ)) (calls : Ghosts (LineExporter W))
     (exports : (e : LineExporter W) (batch : List PlainSpanData) (answer : _) (f : LineExporter W) → calls.export_gives e batch answer f → Writes contents e batch answer f)
@@ -55,8 +55,8 @@ module _ {W : Type 0} (contents : W → Option (List ℕ)) (calls : Ghosts (Line
       → Appends (contents first) (contents e.stream.writer) (lines_in lined)
   held_since first e lined begun written holds =
       let here : HoldsLines contents (first ∷ []) e.stream (Some lined) =
-          subst (λ (x : Option (List LinedBatch)). HoldsLines contents (first ∷ []) e.stream x) written
-          (subst (λ (x : List W). HoldsLines contents x e.stream e.written) begun holds) in
+      subst (λ (x : Option (List LinedBatch)). HoldsLines contents (first ∷ []) e.stream x) written
+      (subst (λ (x : List W). HoldsLines contents x e.stream e.written) begun holds) in
       let one : first ≡ here.0 = cc in
       subst (λ (x : W). Appends (contents x) (contents e.stream.writer) (lines_in lined)) (sym one) here.3
 
@@ -67,8 +67,8 @@ module _ {W : Type 0} (contents : W → Option (List ℕ)) (calls : Ghosts (Line
       let carried = run_carries h.begun xs os t h.ran in
       let began = subst (Holds contents) (sym h.is_new) (new_holds contents first h.resource) in
       let all : whole.batches ≡ batches_in lined =
-          told_from_none whole.batches (batches_in lined) (calls.told h.begun.exporter) (calls.told t.exporter)
-          (told h.begun.exporter ∙ ap told_by h.is_new) (told t.exporter ∙ ap (option_map batches_in) h.written) whole.told in record {
+      told_from_none whole.batches (batches_in lined) (calls.told h.begun.exporter) (calls.told t.exporter)
+      (told h.begun.exporter ∙ ap told_by h.is_new) (told t.exporter ∙ ap (option_map batches_in) h.written) whole.told in record {
         conserved = whole.conserved ∙ ap (λ (l : List (List PlainSpanData)). spans_in l ++ (t.hand ++ t.waiting)) all;
         lines = held_since first t.exporter lined (carried.0 ∙ ap (λ (e : LineExporter W). e.begun) h.is_new) h.written (carried.1 began);
       }

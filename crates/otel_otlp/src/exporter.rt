@@ -6,9 +6,9 @@ ghost use Rattle.otel_otlp.specs.LineExporter.{HoldsLines, IsInternalFailure, Se
 ghost use Rattle.otel_otlp.specs.LineExporter.{next_line};
 
 use crate::request::write_request;
-use otel_export::stream::write_whole;
 use otel_export::error::{OTelSdkError, OTelSdkResult};
 use otel_export::history::History;
+use otel_export::stream::write_whole;
 use otel_export::trace::{SpanData, SpanExporter};
 use otel_resource::resource::Resource;
 use std::alloc::{AllocError, Global};

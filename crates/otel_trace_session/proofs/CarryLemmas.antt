@@ -11,7 +11,7 @@ use Rattle.otel_pipeline.specs.SpanHistory.{SpanHistory, Edit, begun, over, data
 use Rattle.otel_pipeline.proofs.Following.{EachFollows-same, delivered_follows}
 use Rattle.otel_trace_lines.specs.declared.reply.Answer.{Answer}
 use Rattle.otel_trace_lines.specs.declared.reply.Answer.TheVariants as answers
-use Rattle.otel_trace_session.specs.Actions.{PlainAction, PlainCall, at_root, under, from_header, starts, edits, injects, ends, calls_provider}
+use Rattle.otel_trace_session.specs.Actions.{PlainAction, PlainCall, at_root, under, from_header, start_span, edit_span, inject_span, end_span, call_provider}
 use Rattle.otel_trace_session.specs.Calls.{Calls}
 use Rattle.otel_trace_session.specs.Headers.{SaysContext, child_cx}
 use Rattle.otel_trace_session.specs.OpenSpans.{AnswersInject, Describe, Histories, NamedSpans, edited_in}
@@ -62,47 +62,47 @@ module _ {P S G : Type 0} (calls : Calls P S G) (law : OnlyAppends calls.process
 
   -- a start, as a root, a child, or where a header says
   pub carries_start : (p q : ProviderState P S G) (old new : NamedSpans) (span name : List ℕ) (moment : ℕ) (answer : Answer)
-      → TurnsFromAny (StartTurn calls (start_in scope root_cx span name moment)) p old answer q new → TurnsFromAny (IsCarriedOut calls scope (starts at_root span name moment)) p old answer q new
+      → TurnsFromAny (StartTurn calls (start_in scope root_cx span name moment)) p old answer q new → TurnsFromAny (IsCarriedOut calls scope (start_span at_root span name moment)) p old answer q new
   carries_start p q old new span name moment answer = took_also _ _ p q old new answer
-      (λ turn h. carried (starts at_root span name moment) turn (start_follows calls (turn.before.histories span) (start_in scope root_cx span name moment) turn h) h)
+      (λ turn h. carried (start_span at_root span name moment) turn (start_follows calls (turn.before.histories span) (start_in scope root_cx span name moment) turn h) h)
 
   pub carries_child : (p q : ProviderState P S G) (old new : NamedSpans) (span parent name : List ℕ) (moment : ℕ) (answer : Answer)
-      → TurnsFromAny (Childs calls (start_in scope root_cx span name moment) parent) p old answer q new → TurnsFromAny (IsCarriedOut calls scope (starts (under parent) span name moment)) p old answer q new
+      → TurnsFromAny (Childs calls (start_in scope root_cx span name moment) parent) p old answer q new → TurnsFromAny (IsCarriedOut calls scope (start_span (under parent) span name moment)) p old answer q new
   carries_child p q old new span parent name moment answer = took_also _ _ p q old new answer
-      (λ turn h. carried (starts (under parent) span name moment) turn (child_follows calls (turn.before.histories parent) (start_in scope root_cx span name moment) turn h) h)
+      (λ turn h. carried (start_span (under parent) span name moment) turn (child_follows calls (turn.before.histories parent) (start_in scope root_cx span name moment) turn h) h)
 
   pub carries_remote : (p q : ProviderState P S G) (old new : NamedSpans) (span header name : List ℕ) (moment : ℕ) (cx : PlainContext) (answer : Answer) → SaysContext header cx
-      → TurnsFromAny (StartTurn calls (start_in scope cx span name moment)) p old answer q new → TurnsFromAny (IsCarriedOut calls scope (starts (from_header header) span name moment)) p old answer q new
+      → TurnsFromAny (StartTurn calls (start_in scope cx span name moment)) p old answer q new → TurnsFromAny (IsCarriedOut calls scope (start_span (from_header header) span name moment)) p old answer q new
   carries_remote p q old new span header name moment cx answer says = took_also _ _ p q old new answer
-      (λ turn h. carried (starts (from_header header) span name moment) turn (start_follows calls (turn.before.histories span) (start_in scope cx span name moment) turn h) (record { cx = cx; says = says; starts = h }))
+      (λ turn h. carried (start_span (from_header header) span name moment) turn (start_follows calls (turn.before.histories span) (start_in scope cx span name moment) turn h) (record { cx = cx; says = says; starts = h }))
 
   -- an edit
-  pub carries_edit : (p : ProviderState P S G) (old new : NamedSpans) (span : List ℕ) (edit : Edit) (answer : Answer) → Edits old span edit answer new → TurnsFromAny (IsCarriedOut calls scope (edits span edit)) p old answer p new
+  pub carries_edit : (p : ProviderState P S G) (old new : NamedSpans) (span : List ℕ) (edit : Edit) (answer : Answer) → Edits old span edit answer new → TurnsFromAny (IsCarriedOut calls scope (edit_span span edit)) p old answer p new
   carries_edit p old new span edit answer made = λ before describes.
       let edited = made before.histories describes in
       let turn : Turn P S G = record { before = record before { provider = p }; answer = answer; delivered = []; after = record before { provider = p; histories = edited_in before.histories span edit } } in
       let h : EditTurn span edit turn = record { says = edited.0; delivers = refl; rest = refl } in
-      record { delivered = []; histories = edited_in before.histories span edit; is = carried (edits span edit) turn (nobody_follows calls _ _ turn h) h; describes = edited.1 }
+      record { delivered = []; histories = edited_in before.histories span edit; is = carried (edit_span span edit) turn (nobody_follows calls _ _ turn h) h; describes = edited.1 }
 
   -- the headers of a span
   pub carries_inject : (p : ProviderState P S G) (spans : NamedSpans) (span : List ℕ) (answer : Answer) → ((histories : Histories) → Describe histories spans → AnswersInject (histories span) answer)
-      → TurnsFromAny (IsCarriedOut calls scope (injects span)) p spans answer p spans
+      → TurnsFromAny (IsCarriedOut calls scope (inject_span span)) p spans answer p spans
   carries_inject p spans span answer says = λ before describes.
       let turn : Turn P S G = record { before = record before { provider = p }; answer = answer; delivered = []; after = record before { provider = p } } in
-      record { delivered = []; histories = before.histories; is = carried (injects span) turn (follows_none calls turn refl refl) (record { says = says before.histories describes; delivers = refl; rest = refl }); describes = describes }
+      record { delivered = []; histories = before.histories; is = carried (inject_span span) turn (follows_none calls turn refl refl) (record { says = says before.histories describes; delivers = refl; rest = refl }); describes = describes }
 
   -- an end
   pub carries_end : (p q : ProviderState P S G) (old new : NamedSpans) (span : List ℕ) (moment : ℕ) (answer : Answer)
-      → TurnsFromAny (EndsNamed calls.processor span moment) p old answer q new → TurnsFromAny (IsCarriedOut calls scope (ends span moment)) p old answer q new
+      → TurnsFromAny (EndsNamed calls.processor span moment) p old answer q new → TurnsFromAny (IsCarriedOut calls scope (end_span span moment)) p old answer q new
   carries_end p q old new span moment answer = took_also _ _ p q old new answer
-      (λ turn h. carried (ends span moment) turn (end_follows calls (turn.before.histories span) span moment turn h) h)
+      (λ turn h. carried (end_span span moment) turn (end_follows calls (turn.before.histories span) span moment turn h) h)
 
   -- a call of the provider
   pub carries_call : (call : PlainCall) (p q : ProviderState P S G) (spans : NamedSpans) (said : Result (Unit {0}) OTelSdkError)
-      → CallGives calls call p said q → EachFollows calls.processor [] p.processors q.processors → TurnsFromAny (IsCarriedOut calls scope (calls_provider call)) p spans (call_answer said) q spans
+      → CallGives calls call p said q → EachFollows calls.processor [] p.processors q.processors → TurnsFromAny (IsCarriedOut calls scope (call_provider call)) p spans (call_answer said) q spans
   carries_call call p q spans said gives follows = λ before describes.
       let turn : Turn P S G = record { before = record before { provider = p }; answer = call_answer said; delivered = []; after = record before { provider = q } } in
-      record { delivered = []; histories = before.histories; is = carried (calls_provider call) turn follows (record { said = said; gives = gives; says = refl; delivers = refl; rest = refl }); describes = describes }
+      record { delivered = []; histories = before.histories; is = carried (call_provider call) turn follows (record { said = said; gives = gives; says = refl; delivers = refl; rest = refl }); describes = describes }
 
 -- a shutdown, by what is promised of a second one and of a first one
 pub shuts_by : {P S G : Type 0} (calls : Calls P S G) (p q : ProviderState P S G) (said : Result (Unit {0}) OTelSdkError)

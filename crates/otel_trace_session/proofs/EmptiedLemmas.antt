@@ -11,7 +11,7 @@ use Rattle.otel_pipeline.specs.declared.trace.span_processor.SpanProcessor.{Ghos
 use Rattle.otel_trace_lines.specs.Commands.{PlainCommand}
 use Rattle.otel_trace_lines.specs.PlainReply.{PlainReply}
 use Rattle.otel_trace_lines.specs.declared.reply.Answer.TheVariants as answers
-use Rattle.otel_trace_session.specs.Actions.{PlainAction, PlainCall, action_of, flushes, runs_at, shuts_down, starts, edits, injects, ends, calls_provider}
+use Rattle.otel_trace_session.specs.Actions.{PlainAction, PlainCall, action_of, call_flush, call_run, call_shutdown, start_span, edit_span, inject_span, end_span, call_provider}
 use Rattle.otel_trace_session.specs.Calls.{Calls}
 use Rattle.otel_trace_session.specs.ProviderTurns.{AsksProvider, CallGives, EmptiesIfOk, call_answer}
 use Rattle.otel_trace_session.specs.Shown.{EmptiedAfter}
@@ -65,17 +65,17 @@ module _ {P S G : Type 0} (calls : Calls P S G) where
   shutdown_leaves_none false old new said h e = first_shutdown_leaves_none calls.processor old new 5_000_000_000 said h e
 
   -- after one command
-  call_empties : (call : PlainCall) (turn : Turn P S G) → AsksProvider (CallGives calls call) turn → EmptiesIfOk calls.processor (calls_provider call) turn.answer turn.after.provider.processors
-  call_empties flushes turn h is e = flush_leaves_none calls.processor turn.before.provider turn.after.provider h.said h.gives (sym h.says ∙ e)
-  call_empties (runs_at moment) turn h is e = absurd (search (rules, is))
-  call_empties shuts_down turn h is e = shutdown_leaves_none turn.before.provider.is_shut turn.before.provider turn.after.provider h.said h.gives (sym h.says ∙ e)
+  call_empties : (call : PlainCall) (turn : Turn P S G) → AsksProvider (CallGives calls call) turn → EmptiesIfOk calls.processor (call_provider call) turn.answer turn.after.provider.processors
+  call_empties call_flush turn h is e = flush_leaves_none calls.processor turn.before.provider turn.after.provider h.said h.gives (sym h.says ∙ e)
+  call_empties (call_run moment) turn h is e = absurd (search (rules, is))
+  call_empties call_shutdown turn h is e = shutdown_leaves_none turn.before.provider.is_shut turn.before.provider turn.after.provider h.said h.gives (sym h.says ∙ e)
 
   one_empties : (scope : PlainScope) (action : PlainAction) (turn : Turn P S G) → TakesAction calls scope action turn → EmptiesIfOk calls.processor action turn.answer turn.after.provider.processors
-  one_empties scope (starts origin span name moment) turn h is e = absurd (search (rules, is))
-  one_empties scope (edits span edit) turn h is e = absurd (search (rules, is))
-  one_empties scope (injects span) turn h is e = absurd (search (rules, is))
-  one_empties scope (ends span moment) turn h is e = absurd (search (rules, is))
-  one_empties scope (calls_provider call) turn h is e = call_empties call turn h is e
+  one_empties scope (start_span origin span name moment) turn h is e = absurd (search (rules, is))
+  one_empties scope (edit_span span edit) turn h is e = absurd (search (rules, is))
+  one_empties scope (inject_span span) turn h is e = absurd (search (rules, is))
+  one_empties scope (end_span span moment) turn h is e = absurd (search (rules, is))
+  one_empties scope (call_provider call) turn h is e = call_empties call turn h is e
 
   -- after all, by the last of them
   all_empty : (scope : PlainScope) (old new : Course P S G) (commands : List PlainCommand) (turns : List (Turn P S G)) (before : List PlainCommand) (last : PlainCommand) (others : List PlainReply) (reply : PlainReply)

@@ -15,14 +15,14 @@ use Rattle.otel_trace_lines.specs.Commands.{PlainCommand, plain_commands}
 use Rattle.otel_trace_lines.specs.PlainReply.{PlainReply}
 use Rattle.otel_trace_lines.specs.declared.command.Command.{Command}
 use Rattle.otel_trace_lines.specs.declared.reply.Answer.{Answer}
-use Rattle.otel_trace_session.specs.Actions.{PlainAction, PlainCall, PlainOrigin, action_of, at_root, under, from_header, flushes, runs_at, shuts_down}
-use Rattle.otel_trace_session.specs.Actions.{starts, edits, injects, ends, calls_provider}
+use Rattle.otel_trace_session.specs.Actions.{PlainAction, PlainCall, PlainOrigin, action_of, at_root, under, from_header, call_flush, call_run, call_shutdown}
+use Rattle.otel_trace_session.specs.Actions.{start_span, edit_span, inject_span, end_span, call_provider}
 use Rattle.otel_trace_session.specs.Calls.{Calls, batches_of_first, losses_of_first}
 use Rattle.otel_trace_session.specs.OpenSpans.{Describe, Histories}
 use Rattle.otel_trace_session.specs.ProviderTurns.{AsksProvider, CallGives, Shuts, ShutsOr}
 use Rattle.otel_trace_session.specs.SpanTurns.{ChildTurn, EndTurn, Start, StartTurn, StartsAfter, StartsFrom, request_of, start_in}
 use Rattle.otel_trace_session.specs.Turn.{AsksNobody, Course, Turn}
-use Rattle.otel_trace_session.specs.Turns.{AreTurns, IsTurn, TakesAction, Runs, SessionState, TookTurns, course_of, replied, reply_of}
+use Rattle.otel_trace_session.specs.Turns.{AreTurns, TakesAction, Runs, SessionState, TookTurns, course_of, replied, reply_of}
 
 abbrev Batches : Type 0
 Batches = List (List PlainSpanData)
@@ -149,21 +149,21 @@ module _ {P S G : Type 0} (calls : Calls P S G) (law : RecallsNothingElse calls)
 
   call_again : (call : PlainCall) (turn : Turn P S G) (rs : List P) → FirstRecalled calls.keeps.recalled bs turn.before.provider.processors rs
       → AsksProvider (CallGives calls call) turn → Again (AsksProvider (CallGives calls call)) turn rs
-  call_again flushes turn rs h k = asks_again _ (λ old rs said new. flushes_again calls.processor calls.timer calls.keeps.kept calls.keeps.lost calls.keeps.recalled law bs old rs said new) turn rs h k
-  call_again (runs_at moment) turn rs h k = asks_again _ (λ old rs said new. runs_again calls.processor calls.timer calls.keeps.kept calls.keeps.lost calls.keeps.recalled law bs moment old rs said new) turn rs h k
-  call_again shuts_down turn rs h k = asks_again _ (λ old rs said new. shuts_as_asked old rs said new) turn rs h k
+  call_again call_flush turn rs h k = asks_again _ (λ old rs said new. flushes_again calls.processor calls.timer calls.keeps.kept calls.keeps.lost calls.keeps.recalled law bs old rs said new) turn rs h k
+  call_again (call_run moment) turn rs h k = asks_again _ (λ old rs said new. runs_again calls.processor calls.timer calls.keeps.kept calls.keeps.lost calls.keeps.recalled law bs moment old rs said new) turn rs h k
+  call_again call_shutdown turn rs h k = asks_again _ (λ old rs said new. shuts_as_asked old rs said new) turn rs h k
 
   turn_again : (scope : PlainScope) (action : PlainAction) (turn : Turn P S G) (rs : List P) → FirstRecalled calls.keeps.recalled bs turn.before.provider.processors rs
       → TakesAction calls scope action turn → Again (TakesAction calls scope action) turn rs
-  turn_again scope (starts origin span name moment) turn rs h k = origin_again scope origin span name moment turn rs h k
-  turn_again scope (edits span edit) turn rs h k = nobody_again _ _ turn rs h k
-  turn_again scope (injects span) turn rs h k = (
+  turn_again scope (start_span origin span name moment) turn rs h k = origin_again scope origin span name moment turn rs h k
+  turn_again scope (edit_span span edit) turn rs h k = nobody_again _ _ turn rs h k
+  turn_again scope (inject_span span) turn rs h k = (
     rs,
     subst (λ (c : Course P S G). FirstRecalled calls.keeps.recalled bs c.provider.processors rs) (sym k.rest) h,
     record { says = k.says; delivers = k.delivers; rest = ap (λ (c : Course P S G). shift c rs) k.rest },
   )
-  turn_again scope (ends span moment) turn rs h k = end_again span moment (turn.before.histories span) turn rs h k
-  turn_again scope (calls_provider call) turn rs h k = call_again call turn rs h k
+  turn_again scope (end_span span moment) turn rs h k = end_again span moment (turn.before.histories span) turn rs h k
+  turn_again scope (call_provider call) turn rs h k = call_again call turn rs h k
 
   -- what the first processor keeps and lost
   pub kept_again : (ps rs : List P) → FirstRecalled calls.keeps.recalled bs ps rs → batches_of_first calls.keeps rs ≡ bs ++ batches_of_first calls.keeps ps

@@ -14,8 +14,8 @@ use Rattle.otel_pipeline.proofs.Following.{EachFollows-same, EachFollows-append,
 use Rattle.otel_trace_lines.specs.Commands.{PlainCommand}
 use Rattle.otel_trace_lines.specs.declared.reply.Answer.{Answer}
 use Rattle.otel_trace_lines.specs.declared.reply.Answer.TheVariants as answers
-use Rattle.otel_trace_session.specs.Actions.{PlainAction, PlainCall, PlainOrigin, action_of, is_shutdown, at_root, under, from_header, flushes, runs_at, shuts_down}
-use Rattle.otel_trace_session.specs.Actions.{starts, edits, injects, ends, calls_provider}
+use Rattle.otel_trace_session.specs.Actions.{PlainAction, PlainCall, PlainOrigin, action_of, is_shutdown, at_root, under, from_header, call_flush, call_run, call_shutdown}
+use Rattle.otel_trace_session.specs.Actions.{start_span, edit_span, inject_span, end_span, call_provider}
 use Rattle.otel_trace_session.specs.Calls.{Calls}
 use Rattle.otel_trace_session.specs.Headers.{child_cx}
 use Rattle.otel_trace_session.specs.OpenSpans.{Histories}
@@ -63,20 +63,20 @@ module _ {P S G : Type 0} (calls : Calls P S G) where
   origin_closes_none scope (under parent) span name moment turn h = child_closes_none (turn.before.histories parent) (start_in scope root_cx span name moment) turn h
   origin_closes_none scope (from_header header) span name moment turn h = start_closes_none (turn.before.histories span) (start_in scope h.cx span name moment) turn h.starts
 
-  call_closes_none : (call : PlainCall) (turn : Turn P S G) → is_shutdown (calls_provider call) ≡ false → AsksProvider (CallGives calls call) turn → StaysIn turn
-  call_closes_none flushes turn e h =
+  call_closes_none : (call : PlainCall) (turn : Turn P S G) → is_shutdown (call_provider call) ≡ false → AsksProvider (CallGives calls call) turn → StaysIn turn
+  call_closes_none call_flush turn e h =
       stays_asked calls.processor (FlushesProcessor calls.processor) (λ p r q flushes. flushes.is_open) turn.before.provider.processors turn.after.provider.processors (error_count h.gives.asked.0) (h.gives.asked.0, refl, h.gives.asked.2)
-  call_closes_none (runs_at moment) turn e h =
+  call_closes_none (call_run moment) turn e h =
       stays_asked calls.processor (RunsProcessor calls.processor calls.timer moment) (λ p r q runs. runs.is_open) turn.before.provider.processors turn.after.provider.processors h.gives.failed h.gives.asked
-  call_closes_none shuts_down turn e h = cc
+  call_closes_none call_shutdown turn e h = cc
 
   -- over any action but a shutdown
   one_closes_none : (scope : PlainScope) (action : PlainAction) (turn : Turn P S G) → is_shutdown action ≡ false → TakesAction calls scope action turn → StaysIn turn
-  one_closes_none scope (starts origin span name moment) turn e h = origin_closes_none scope origin span name moment turn h
-  one_closes_none scope (edits span edit) turn e h = nobody_closes_none _ _ turn h
-  one_closes_none scope (injects span) turn e h = told_stays turn (ap (λ (c : Course P S G). map calls.processor.told c.provider.processors) h.rest)
-  one_closes_none scope (ends span moment) turn e h = end_closes_none (turn.before.histories span) span moment turn h
-  one_closes_none scope (calls_provider call) turn e h = call_closes_none call turn e h
+  one_closes_none scope (start_span origin span name moment) turn e h = origin_closes_none scope origin span name moment turn h
+  one_closes_none scope (edit_span span edit) turn e h = nobody_closes_none _ _ turn h
+  one_closes_none scope (inject_span span) turn e h = told_stays turn (ap (λ (c : Course P S G). map calls.processor.told c.provider.processors) h.rest)
+  one_closes_none scope (end_span span moment) turn e h = end_closes_none (turn.before.histories span) span moment turn h
+  one_closes_none scope (call_provider call) turn e h = call_closes_none call turn e h
 
   -- a start delivers nothing
   start_delivers_none : (found : Option SpanHistory) (asked : Start) (turn : Turn P S G) → StartsAfter calls found asked turn → turn.delivered ≡ []
@@ -99,11 +99,11 @@ module _ {P S G : Type 0} (calls : Calls P S G) where
 
   -- at a shut provider no action delivers anything
   shut_delivers_none : (scope : PlainScope) (action : PlainAction) (turn : Turn P S G) → turn.before.provider.is_shut ≡ true → TakesAction calls scope action turn → turn.delivered ≡ []
-  shut_delivers_none scope (starts origin span name moment) turn shut h = origin_delivers_none scope origin span name moment turn h
-  shut_delivers_none scope (edits span edit) turn shut h = h.delivers
-  shut_delivers_none scope (injects span) turn shut h = h.delivers
-  shut_delivers_none scope (ends span moment) turn shut h = shut_end_delivers_none (turn.before.histories span) span moment turn shut h
-  shut_delivers_none scope (calls_provider call) turn shut h = h.delivers
+  shut_delivers_none scope (start_span origin span name moment) turn shut h = origin_delivers_none scope origin span name moment turn h
+  shut_delivers_none scope (edit_span span edit) turn shut h = h.delivers
+  shut_delivers_none scope (inject_span span) turn shut h = h.delivers
+  shut_delivers_none scope (end_span span moment) turn shut h = shut_end_delivers_none (turn.before.histories span) span moment turn shut h
+  shut_delivers_none scope (call_provider call) turn shut h = h.delivers
 
   shut_by : (again : Result (Unit {0}) OTelSdkError) (is_shut : Bool) (old new : ProviderState P S G) (said : Result (Unit {0}) OTelSdkError)
       → old.is_shut ≡ is_shut → MatchBool is_shut ((said ≡ again) × (new ≡ old)) (ShutsDown calls.processor old 5_000_000_000 said new) → new.is_shut ≡ true
@@ -111,17 +111,17 @@ module _ {P S G : Type 0} (calls : Calls P S G) where
   shut_by again false old new said e h = ap (λ (p : ProviderState P S G). p.is_shut) h.rest
 
   -- after a shutdown the provider is shut
-  call_shuts : (call : PlainCall) (turn : Turn P S G) → is_shutdown (calls_provider call) ≡ true → AsksProvider (CallGives calls call) turn → turn.after.provider.is_shut ≡ true
-  call_shuts flushes turn e h = cc
-  call_shuts (runs_at moment) turn e h = cc
-  call_shuts shuts_down turn e h = shut_by (shut_answer turn.before.provider.is_disabled turn.before.provider.processors) turn.before.provider.is_shut turn.before.provider turn.after.provider h.said refl h.gives
+  call_shuts : (call : PlainCall) (turn : Turn P S G) → is_shutdown (call_provider call) ≡ true → AsksProvider (CallGives calls call) turn → turn.after.provider.is_shut ≡ true
+  call_shuts call_flush turn e h = cc
+  call_shuts (call_run moment) turn e h = cc
+  call_shuts call_shutdown turn e h = shut_by (shut_answer turn.before.provider.is_disabled turn.before.provider.processors) turn.before.provider.is_shut turn.before.provider turn.after.provider h.said refl h.gives
 
   shutdown_shuts : (scope : PlainScope) (action : PlainAction) (turn : Turn P S G) → is_shutdown action ≡ true → TakesAction calls scope action turn → (turn.after.provider.is_shut ≡ true) × (turn.delivered ≡ [])
-  shutdown_shuts scope (starts origin span name moment) turn e h = cc
-  shutdown_shuts scope (edits span edit) turn e h = cc
-  shutdown_shuts scope (injects span) turn e h = cc
-  shutdown_shuts scope (ends span moment) turn e h = cc
-  shutdown_shuts scope (calls_provider call) turn e h = (call_shuts call turn e h, h.delivers)
+  shutdown_shuts scope (start_span origin span name moment) turn e h = cc
+  shutdown_shuts scope (edit_span span edit) turn e h = cc
+  shutdown_shuts scope (inject_span span) turn e h = cc
+  shutdown_shuts scope (end_span span moment) turn e h = cc
+  shutdown_shuts scope (call_provider call) turn e h = (call_shuts call turn e h, h.delivers)
 
   -- a shut provider stays shut over any action
   stays_shut : (b : Bool) (scope : PlainScope) (action : PlainAction) (turn : Turn P S G) → is_shutdown action ≡ b → turn.before.provider.is_shut ≡ true → TakesAction calls scope action turn → turn.after.provider.is_shut ≡ true

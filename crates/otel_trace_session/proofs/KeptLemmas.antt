@@ -2,7 +2,7 @@
 use Rattle.std.proofs.Common.{◌≡◌, ℕ, List, [], ◌∷◌, Result, Option, Some, None, Bool, true, false, IsFalse, ◌||◌, MatchBool, refl, ap, rules}
 use Rattle.std.specs.declared.alloc.AllocError.{AllocError}
 use Rattle.opentelemetry.specs.Plain.{PlainContext, PlainScope}
-use Rattle.opentelemetry.specs.PlainContexts.{empty_span_context, root_cx}
+use Rattle.opentelemetry.specs.PlainContexts.{root_cx}
 use Rattle.otel_export.specs.declared.error.OTelSdkError.{OTelSdkError}
 use Rattle.otel_sampling.specs.declared.trace.sampler.SamplingDecision.{SamplingDecision}
 use Rattle.otel_sampling.specs.declared.trace.sampler.SamplingDecision.TheVariants as decisions
@@ -20,8 +20,8 @@ use Rattle.otel_pipeline.specs.declared.trace.drain_due.DrainDue as timing
 use Rattle.otel_kept.specs.declared.keeps_batches.KeepsBatches as keeping
 use Rattle.otel_trace_lines.specs.declared.reply.Answer.{Answer}
 use Rattle.otel_trace_lines.specs.declared.reply.Answer.TheVariants as answers
-use Rattle.otel_trace_session.specs.Actions.{PlainAction, PlainCall, PlainOrigin, at_root, under, from_header, flushes, runs_at, shuts_down}
-use Rattle.otel_trace_session.specs.Actions.{starts, edits, injects, ends, calls_provider, ends_span, may_lose}
+use Rattle.otel_trace_session.specs.Actions.{PlainAction, PlainCall, PlainOrigin, at_root, under, from_header, call_flush, call_run, call_shutdown}
+use Rattle.otel_trace_session.specs.Actions.{start_span, edit_span, inject_span, end_span, call_provider, ends_span, may_lose}
 use Rattle.otel_trace_session.specs.Calls.{Calls, batches_of_first, losses_of_first}
 use Rattle.otel_trace_session.specs.Headers.{child_cx}
 use Rattle.otel_trace_session.specs.OpenSpans.{Histories}
@@ -131,23 +131,23 @@ module _ {P S G : Type 0} (calls : Calls P S G) (law : OnlyAppends calls.process
   origin_loses scope (from_header header) span name moment turn h = starts_lose (turn.before.histories span) (start_in scope h.cx span name moment) turn h.starts
 
   call_grows : (call : PlainCall) (turn : Turn P S G) → AsksProvider (CallGives calls call) turn → GrowsIn turn
-  call_grows flushes turn h = first_flushed calls.processor calls.timer calls.keeps law turn.before.provider.processors turn.after.provider.processors h.gives.asked.0 h.gives.asked.2
-  call_grows (runs_at moment) turn h = first_ran calls.processor calls.timer calls.keeps law moment turn.before.provider.processors turn.after.provider.processors h.gives.asked.0 h.gives.asked.2
-  call_grows shuts_down turn h = shutdown_grows (shut_answer turn.before.provider.is_disabled turn.before.provider.processors) turn.before.provider.is_shut turn.before.provider turn.after.provider h.said h.gives
+  call_grows call_flush turn h = first_flushed calls.processor calls.timer calls.keeps law turn.before.provider.processors turn.after.provider.processors h.gives.asked.0 h.gives.asked.2
+  call_grows (call_run moment) turn h = first_ran calls.processor calls.timer calls.keeps law moment turn.before.provider.processors turn.after.provider.processors h.gives.asked.0 h.gives.asked.2
+  call_grows call_shutdown turn h = shutdown_grows (shut_answer turn.before.provider.is_disabled turn.before.provider.processors) turn.before.provider.is_shut turn.before.provider turn.after.provider h.said h.gives
 
   -- over a turn batches come only after those that are kept
   pub turn_grows : (scope : PlainScope) (action : PlainAction) (turn : Turn P S G) → TakesAction calls scope action turn → GrowsIn turn
-  turn_grows scope (starts origin span name moment) turn h = (origin_loses scope origin span name moment turn h).0
-  turn_grows scope (edits span edit) turn h = (nobody_loses _ _ turn h).0
-  turn_grows scope (injects span) turn h = (inject_loses span turn h).0
-  turn_grows scope (ends span moment) turn h = end_grows (turn.before.histories span) span moment turn h
-  turn_grows scope (calls_provider call) turn h = call_grows call turn h
+  turn_grows scope (start_span origin span name moment) turn h = (origin_loses scope origin span name moment turn h).0
+  turn_grows scope (edit_span span edit) turn h = (nobody_loses _ _ turn h).0
+  turn_grows scope (inject_span span) turn h = (inject_loses span turn h).0
+  turn_grows scope (end_span span moment) turn h = end_grows (turn.before.histories span) span moment turn h
+  turn_grows scope (call_provider call) turn h = call_grows call turn h
 
   -- and where it is neither an end nor a call of the provider none is lost
   pub turn_loses_none : (scope : PlainScope) (action : PlainAction) (turn : Turn P S G) → TakesAction calls scope action turn → ends_span action ≡ false → IsFalse (may_lose action)
       → losses_of_first calls.keeps turn.after.provider.processors ≡ losses_of_first calls.keeps turn.before.provider.processors
-  turn_loses_none scope (starts origin span name moment) turn h e _ = (origin_loses scope origin span name moment turn h).1
-  turn_loses_none scope (edits span edit) turn h e _ = (nobody_loses _ _ turn h).1
-  turn_loses_none scope (injects span) turn h e _ = (inject_loses span turn h).1
-  turn_loses_none scope (ends span moment) turn h e _ = cc
-  turn_loses_none scope (calls_provider call) turn h e keeps = absurd (search (rules, keeps))
+  turn_loses_none scope (start_span origin span name moment) turn h e _ = (origin_loses scope origin span name moment turn h).1
+  turn_loses_none scope (edit_span span edit) turn h e _ = (nobody_loses _ _ turn h).1
+  turn_loses_none scope (inject_span span) turn h e _ = (inject_loses span turn h).1
+  turn_loses_none scope (end_span span moment) turn h e _ = cc
+  turn_loses_none scope (call_provider call) turn h e keeps = absurd (search (rules, keeps))

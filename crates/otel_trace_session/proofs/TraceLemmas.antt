@@ -3,7 +3,7 @@ use Rattle.std.proofs.Common.{◌≡◌, ℕ, Bool, true, false, if◌then◌els
 use Rattle.std.proofs.lemmas.Option.{none-some, same_Some}
 use Rattle.std.specs.Option.{option_map}
 use Rattle.opentelemetry.specs.Plain.{PlainScope, PlainSpanContext}
-use Rattle.opentelemetry.specs.PlainContexts.{empty_span_context, root_cx}
+use Rattle.opentelemetry.specs.PlainContexts.{root_cx}
 use Rattle.otel_sampling.specs.Agreement.{Agrees}
 use Rattle.otel_pipeline.specs.Hops.{GoesByParents}
 use Rattle.otel_pipeline.specs.Provider.{unstarted_context, ProviderState}
@@ -15,8 +15,8 @@ use Rattle.otel_trace_lines.specs.Commands.{PlainCommand}
 use Rattle.otel_trace_lines.specs.PlainReply.{PlainReply}
 use Rattle.otel_trace_lines.specs.declared.reply.Answer.{Answer}
 use Rattle.otel_trace_lines.specs.declared.reply.Answer.TheVariants as answers
-use Rattle.otel_trace_session.specs.Actions.{PlainAction, PlainCall, PlainOrigin, action_of, is_shutdown, at_root, under, from_header, flushes, runs_at, shuts_down}
-use Rattle.otel_trace_session.specs.Actions.{starts, edits, injects, ends, calls_provider}
+use Rattle.otel_trace_session.specs.Actions.{PlainAction, PlainCall, PlainOrigin, action_of, is_shutdown, at_root, under, from_header, call_flush, call_run, call_shutdown}
+use Rattle.otel_trace_session.specs.Actions.{start_span, edit_span, inject_span, end_span, call_provider}
 use Rattle.otel_trace_session.specs.Calls.{Calls}
 use Rattle.otel_trace_session.specs.Headers.{child_cx}
 use Rattle.otel_trace_session.specs.OpenSpans.{Describe, Histories, NamedSpans, edited_history, edited_in, is_name, with_history}
@@ -100,7 +100,7 @@ true_is_no false e f = cc
 
 -- a child that was not started joins no trace
 not_made : (root : PlainSpanContext) (is_in : List ℕ → Bool) (histories : Histories) (span parent name : List ℕ) (moment : ℕ) (answer : Answer) → made_span answer ≡ false → EachAgrees root is_in histories
-    → EachAgrees root (with_child is_in (starts (under parent) span name moment) answer) histories
+    → EachAgrees root (with_child is_in (start_span (under parent) span name moment) answer) histories
 not_made root is_in histories span parent name moment answer none agree q e = by (which (is_in q) (is_name q span) (is_in parent) (made_span answer) e)
   where
     by : (is_in q ≡ true) ⊎ ((is_name q span ≡ true) × (is_in parent ≡ true) × (made_span answer ≡ true)) → (h : SpanHistory) × (histories q ≡ Some h) × Agrees root (context_of h)
@@ -110,7 +110,7 @@ not_made root is_in histories span parent name moment answer none agree q e = by
 -- one that was started, of what its parent and it came to be
 joined : (root : PlainSpanContext) (is_in : List ℕ → Bool) (histories : Histories) (span parent name : List ℕ) (moment : ℕ) (answer : Answer) (father new : SpanHistory)
     → histories parent ≡ Some father → histories span ≡ Some new → (Agrees root (context_of father) → Agrees root (context_of new)) → EachAgrees root is_in histories
-    → EachAgrees root (with_child is_in (starts (under parent) span name moment) answer) histories
+    → EachAgrees root (with_child is_in (start_span (under parent) span name moment) answer) histories
 joined root is_in histories span parent name moment answer father new is_father is_new also agree q e = by (which (is_in q) (is_name q span) (is_in parent) (made_span answer) e)
   where
     by : (is_in q ≡ true) ⊎ ((is_name q span ≡ true) × (is_in parent ≡ true) × (made_span answer ≡ true)) → (h : SpanHistory) × (histories q ≡ Some h) × Agrees root (context_of h)
@@ -155,11 +155,11 @@ module _ {P S G : Type 0} (calls : Calls P S G) where
 
   -- over any action
   one_persists : (scope : PlainScope) (action : PlainAction) (turn : Turn P S G) → TakesAction calls scope action turn → PersistsIn turn
-  one_persists scope (starts origin span name moment) turn h = origin_persists scope origin span name moment turn h
-  one_persists scope (edits span edit) turn h = edit_persists _ span _ turn h
-  one_persists scope (injects span) turn h = same_persists turn (ap (λ (c : Course P S G). c.histories) h.rest)
-  one_persists scope (ends span moment) turn h = end_persists (turn.before.histories span) span moment turn refl h
-  one_persists scope (calls_provider call) turn h = same_persists turn (ap (λ (c : Course P S G). c.histories) h.rest)
+  one_persists scope (start_span origin span name moment) turn h = origin_persists scope origin span name moment turn h
+  one_persists scope (edit_span span edit) turn h = edit_persists _ span _ turn h
+  one_persists scope (inject_span span) turn h = same_persists turn (ap (λ (c : Course P S G). c.histories) h.rest)
+  one_persists scope (end_span span moment) turn h = end_persists (turn.before.histories span) span moment turn refl h
+  one_persists scope (call_provider call) turn h = same_persists turn (ap (λ (c : Course P S G). c.histories) h.rest)
 
   -- the provider stays as open as it was, with its sampler
   abbrev Stays : ProviderState P S G → ProviderState P S G → Type 0
@@ -194,23 +194,23 @@ module _ {P S G : Type 0} (calls : Calls P S G) where
   origin_stays scope (under parent) span name moment turn h = child_stays (turn.before.histories parent) (start_in scope root_cx span name moment) turn h
   origin_stays scope (from_header header) span name moment turn h = start_stays (turn.before.histories span) (start_in scope h.cx span name moment) turn h.starts
 
-  call_stays : (call : PlainCall) (turn : Turn P S G) → is_shutdown (calls_provider call) ≡ false → AsksProvider (CallGives calls call) turn → Stays turn.before.provider turn.after.provider
-  call_stays flushes turn e h = stays turn.before.provider turn.after.provider (record turn.before.provider { processors = turn.after.provider.processors }) h.gives.rest (refl, refl)
-  call_stays (runs_at moment) turn e h = stays turn.before.provider turn.after.provider (record turn.before.provider { processors = turn.after.provider.processors }) h.gives.rest (refl, refl)
-  call_stays shuts_down turn e h = cc
+  call_stays : (call : PlainCall) (turn : Turn P S G) → is_shutdown (call_provider call) ≡ false → AsksProvider (CallGives calls call) turn → Stays turn.before.provider turn.after.provider
+  call_stays call_flush turn e h = stays turn.before.provider turn.after.provider (record turn.before.provider { processors = turn.after.provider.processors }) h.gives.rest (refl, refl)
+  call_stays (call_run moment) turn e h = stays turn.before.provider turn.after.provider (record turn.before.provider { processors = turn.after.provider.processors }) h.gives.rest (refl, refl)
+  call_stays call_shutdown turn e h = cc
 
   -- over any action but a shutdown
   pub one_stays : (scope : PlainScope) (action : PlainAction) (turn : Turn P S G) → is_shutdown action ≡ false → TakesAction calls scope action turn → Stays turn.before.provider turn.after.provider
-  one_stays scope (starts origin span name moment) turn e h = origin_stays scope origin span name moment turn h
-  one_stays scope (edits span edit) turn e h = nobody_stays _ _ turn h
-  one_stays scope (injects span) turn e h = stays turn.before.provider turn.after.provider turn.before.provider (ap (λ (c : Course P S G). c.provider) h.rest) (refl, refl)
-  one_stays scope (ends span moment) turn e h = end_stays (turn.before.histories span) span moment turn h
-  one_stays scope (calls_provider call) turn e h = call_stays call turn e h
+  one_stays scope (start_span origin span name moment) turn e h = origin_stays scope origin span name moment turn h
+  one_stays scope (edit_span span edit) turn e h = nobody_stays _ _ turn h
+  one_stays scope (inject_span span) turn e h = stays turn.before.provider turn.after.provider turn.before.provider (ap (λ (c : Course P S G). c.provider) h.rest) (refl, refl)
+  one_stays scope (end_span span moment) turn e h = end_stays (turn.before.histories span) span moment turn h
+  one_stays scope (call_provider call) turn e h = call_stays call turn e h
 
   -- a child joins the traces of its parent
   taken_joins : (found : Option SpanHistory) (scope : PlainScope) (root : PlainSpanContext) (is_in : List ℕ → Bool) (last : Histories) (turn : Turn P S G) (span parent name : List ℕ) (moment : ℕ) (father : SpanHistory)
       → GoesByParents calls.sampler turn.before.provider.sampler → turn.before.provider.is_shut ≡ false → turn.before.histories parent ≡ Some father → Persists turn.before.histories last → Persists turn.after.histories last → EachAgrees root is_in last
-      → StartsAfter calls found (start_in scope (child_cx (span_of father).span_context) span name moment) turn → EachAgrees root (with_child is_in (starts (under parent) span name moment) turn.answer) last
+      → StartsAfter calls found (start_in scope (child_cx (span_of father).span_context) span name moment) turn → EachAgrees root (with_child is_in (start_span (under parent) span name moment) turn.answer) last
   taken_joins (Some history) scope root is_in last turn span parent name moment father by_parents is_open there before after agree h =
       not_made root is_in last span parent name moment turn.answer (ap made_span h.says) agree
   taken_joins None scope root is_in last turn span parent name moment father by_parents is_open there before after agree h =
@@ -224,7 +224,7 @@ module _ {P S G : Type 0} (calls : Calls P S G) where
 
   child_joins : (found : Option SpanHistory) (scope : PlainScope) (root : PlainSpanContext) (is_in : List ℕ → Bool) (last : Histories) (turn : Turn P S G) (span parent name : List ℕ) (moment : ℕ)
       → GoesByParents calls.sampler turn.before.provider.sampler → turn.before.provider.is_shut ≡ false → turn.before.histories parent ≡ found → Persists turn.before.histories last → Persists turn.after.histories last → EachAgrees root is_in last
-      → ChildTurn calls (start_in scope root_cx span name moment) found turn → EachAgrees root (with_child is_in (starts (under parent) span name moment) turn.answer) last
+      → ChildTurn calls (start_in scope root_cx span name moment) found turn → EachAgrees root (with_child is_in (start_span (under parent) span name moment) turn.answer) last
   child_joins None scope root is_in last turn span parent name moment by_parents is_open e before after agree h =
       not_made root is_in last span parent name moment turn.answer (ap made_span h.says) agree
   child_joins (Some father) scope root is_in last turn span parent name moment by_parents is_open e before after agree h =
@@ -232,7 +232,7 @@ module _ {P S G : Type 0} (calls : Calls P S G) where
 
   origin_joins : (scope : PlainScope) (root : PlainSpanContext) (is_in : List ℕ → Bool) (last : Histories) (origin : PlainOrigin) (span name : List ℕ) (moment : ℕ) (turn : Turn P S G)
       → GoesByParents calls.sampler turn.before.provider.sampler → turn.before.provider.is_shut ≡ false → Persists turn.before.histories last → Persists turn.after.histories last → EachAgrees root is_in last
-      → StartsFrom calls scope origin span name moment turn → EachAgrees root (with_child is_in (starts origin span name moment) turn.answer) last
+      → StartsFrom calls scope origin span name moment turn → EachAgrees root (with_child is_in (start_span origin span name moment) turn.answer) last
   origin_joins scope root is_in last at_root span name moment turn by_parents is_open before after agree h = agree
   origin_joins scope root is_in last (under parent) span name moment turn by_parents is_open before after agree h =
       child_joins (turn.before.histories parent) scope root is_in last turn span parent name moment by_parents is_open refl before after agree h
@@ -241,12 +241,12 @@ module _ {P S G : Type 0} (calls : Calls P S G) where
   one_joins : (scope : PlainScope) (root : PlainSpanContext) (is_in : List ℕ → Bool) (last : Histories) (action : PlainAction) (turn : Turn P S G)
       → GoesByParents calls.sampler turn.before.provider.sampler → turn.before.provider.is_shut ≡ false → Persists turn.before.histories last → Persists turn.after.histories last → EachAgrees root is_in last
       → TakesAction calls scope action turn → EachAgrees root (with_child is_in action turn.answer) last
-  one_joins scope root is_in last (starts origin span name moment) turn by_parents is_open before after agree h =
+  one_joins scope root is_in last (start_span origin span name moment) turn by_parents is_open before after agree h =
       origin_joins scope root is_in last origin span name moment turn by_parents is_open before after agree h
-  one_joins scope root is_in last (edits span edit) turn by_parents is_open before after agree h = agree
-  one_joins scope root is_in last (injects span) turn by_parents is_open before after agree h = agree
-  one_joins scope root is_in last (ends span moment) turn by_parents is_open before after agree h = agree
-  one_joins scope root is_in last (calls_provider call) turn by_parents is_open before after agree h = agree
+  one_joins scope root is_in last (edit_span span edit) turn by_parents is_open before after agree h = agree
+  one_joins scope root is_in last (inject_span span) turn by_parents is_open before after agree h = agree
+  one_joins scope root is_in last (end_span span moment) turn by_parents is_open before after agree h = agree
+  one_joins scope root is_in last (call_provider call) turn by_parents is_open before after agree h = agree
 
   -- commands one after another
   all_persist : (scope : PlainScope) (old new : Course P S G) (commands : List PlainCommand) (turns : List (Turn P S G)) → AreTurns calls scope old commands turns new → Persists old.histories new.histories

@@ -20,19 +20,19 @@ pub data PlainOrigin : Type 0 where
 
 -- a call of the provider: a flush, a run at a moment, a shutdown
 pub data PlainCall : Type 0 where
-  flushes : PlainCall
-  runs_at : ℕ → PlainCall
-  shuts_down : PlainCall
+  call_flush : PlainCall
+  call_run : ℕ → PlainCall
+  call_shutdown : PlainCall
 
 pub data PlainAction : Type 0 where
   -- where the span starts, its name in commands, its own name, the moment
-  starts : PlainOrigin → List ℕ → List ℕ → ℕ → PlainAction
+  start_span : PlainOrigin → List ℕ → List ℕ → ℕ → PlainAction
   -- the span's name in commands, the edit
-  edits : List ℕ → Edit → PlainAction
-  injects : List ℕ → PlainAction
+  edit_span : List ℕ → Edit → PlainAction
+  inject_span : List ℕ → PlainAction
   -- the span's name in commands, the moment
-  ends : List ℕ → ℕ → PlainAction
-  calls_provider : PlainCall → PlainAction
+  end_span : List ℕ → ℕ → PlainAction
+  call_provider : PlainCall → PlainAction
 
 -- an event without attributes
 abbrev pub bare_event : List ℕ → ℕ → Edit
@@ -41,37 +41,37 @@ bare_event name moment =
 
 -- what a command does
 abbrev pub action_of : PlainCommand → PlainAction
-action_of (start span name moment) = starts at_root span name moment
-action_of (child span parent name moment) = starts (under parent) span name moment
-action_of (remote span header name moment) = starts (from_header header) span name moment
-action_of (attr span key value) = edits span (set_attribute (record { key = key; value = text value }))
-action_of (event span name moment) = edits span (bare_event name moment)
-action_of (status span how) = edits span (set_status how)
-action_of (inject span) = injects span
-action_of (end span moment) = ends span moment
-action_of flush = calls_provider flushes
-action_of (run moment) = calls_provider (runs_at moment)
-action_of shutdown = calls_provider shuts_down
+action_of (start span name moment) = start_span at_root span name moment
+action_of (child span parent name moment) = start_span (under parent) span name moment
+action_of (remote span header name moment) = start_span (from_header header) span name moment
+action_of (attr span key value) = edit_span span (set_attribute (record { key = key; value = text value }))
+action_of (event span name moment) = edit_span span (bare_event name moment)
+action_of (status span how) = edit_span span (set_status how)
+action_of (inject span) = inject_span span
+action_of (end span moment) = end_span span moment
+action_of flush = call_provider call_flush
+action_of (run moment) = call_provider (call_run moment)
+action_of shutdown = call_provider call_shutdown
 
 -- whether an action may end a span
 abbrev pub ends_span : PlainAction → Bool
-ends_span (ends span moment) = true
+ends_span (end_span span moment) = true
 ends_span _ = false
 
 -- whether an action has the provider hand on what waits, where batches may be lost that no reply tells
 abbrev pub may_lose : PlainAction → Bool
-may_lose (calls_provider call) = true
+may_lose (call_provider call) = true
 may_lose _ = false
 
 -- whether it has each processor hand on all that waits
 abbrev pub empties : PlainAction → Bool
-empties (calls_provider flushes) = true
-empties (calls_provider shuts_down) = true
+empties (call_provider call_flush) = true
+empties (call_provider call_shutdown) = true
 empties _ = false
 
 -- whether it shuts the provider down
 abbrev pub is_shutdown : PlainAction → Bool
-is_shutdown (calls_provider shuts_down) = true
+is_shutdown (call_provider call_shutdown) = true
 is_shutdown _ = false
 
 -- an action without where its texts lie
@@ -81,14 +81,14 @@ plain_origin (origins.Parent name) = under (string_bytes name)
 plain_origin (origins.Header header) = from_header (string_bytes header)
 
 abbrev pub plain_call : ProviderCall → PlainCall
-plain_call calls.Flush = flushes
-plain_call (calls.Run moment) = runs_at moment.0
-plain_call calls.Shutdown = shuts_down
+plain_call calls.Flush = call_flush
+plain_call (calls.Run moment) = call_run moment.0
+plain_call calls.Shutdown = call_shutdown
 
 abbrev pub plain_action : Action → PlainAction
 plain_action (actions.Start origin span name moment) =
-    starts (plain_origin origin) (string_bytes span) (string_bytes name) moment.0
-plain_action (actions.Edit span edit) = edits (string_bytes span) (plain_edit edit)
-plain_action (actions.Inject span) = injects (string_bytes span)
-plain_action (actions.End span moment) = ends (string_bytes span) moment.0
-plain_action (actions.Call call) = calls_provider (plain_call call)
+    start_span (plain_origin origin) (string_bytes span) (string_bytes name) moment.0
+plain_action (actions.Edit span edit) = edit_span (string_bytes span) (plain_edit edit)
+plain_action (actions.Inject span) = inject_span (string_bytes span)
+plain_action (actions.End span moment) = end_span (string_bytes span) moment.0
+plain_action (actions.Call call) = call_provider (plain_call call)

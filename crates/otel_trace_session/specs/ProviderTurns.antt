@@ -1,11 +1,11 @@
 -- The turns of commands of the provider: a flush, a run and a shutdown.
-use Rattle.std.specs.Prelude.{◌≡◌, ℕ, Bool, List, [], Result, Ok, Err, MatchBool, IsTrue, All}
+use Rattle.std.specs.Prelude.{◌≡◌, List, [], Result, Ok, Err, MatchBool, IsTrue, All}
 use Rattle.otel_export.specs.declared.error.OTelSdkError.{OTelSdkError}
 use Rattle.otel_pipeline.specs.Provider.{Flushes, ProviderState, RunsDue, ShutsDown, shut_answer}
 use Rattle.otel_pipeline.specs.declared.trace.span_processor.SpanProcessor.{Ghosts}
 use Rattle.otel_trace_lines.specs.declared.reply.Answer.{Answer}
 use Rattle.otel_trace_lines.specs.declared.reply.Answer.TheVariants as answers
-use Rattle.otel_trace_session.specs.Actions.{PlainAction, PlainCall, empties, flushes, runs_at, shuts_down}
+use Rattle.otel_trace_session.specs.Actions.{PlainAction, PlainCall, empties, call_flush, call_run, call_shutdown}
 use Rattle.otel_trace_session.specs.Calls.{Calls}
 use Rattle.otel_trace_session.specs.Turn.{Turn}
 
@@ -43,9 +43,9 @@ module _ {P S G : Type 0} (calls : Calls P S G) where
   -- what a call of the provider gives
   abbrev pub CallGives : PlainCall → ProviderState P S G → Result (Unit {0}) OTelSdkError → ProviderState P S G
       → Type 0
-  CallGives flushes = Flushes calls.processor
-  CallGives (runs_at moment) = RunsDue calls.processor calls.timer moment
-  CallGives shuts_down = Shuts calls.processor
+  CallGives call_flush = Flushes calls.processor
+  CallGives (call_run moment) = RunsDue calls.processor calls.timer moment
+  CallGives call_shutdown = Shuts calls.processor
 
 -- after an action that is answered by Ok, and has each processor hand on what waits, no span waits at any of them
 abbrev pub EmptiesIfOk : {P : Type 0} → Ghosts P → PlainAction → Answer → List P → Type 0

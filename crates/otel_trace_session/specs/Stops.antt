@@ -8,8 +8,8 @@ use Rattle.otel_trace_lines.specs.PlainReply.{PlainReply}
 use Rattle.otel_trace_lines.specs.declared.command.Command.{Command}
 use Rattle.otel_trace_lines.specs.declared.reply.Answer.{Answer}
 use Rattle.otel_pipeline.specs.SpanHistory.{PlainSpan}
-use Rattle.otel_trace_session.specs.Actions.{PlainAction, PlainOrigin, action_of, at_root, under, from_header, starts}
-use Rattle.otel_trace_session.specs.Actions.{calls_provider}
+use Rattle.otel_trace_session.specs.Actions.{PlainAction, PlainOrigin, action_of, at_root, under, from_header, start_span}
+use Rattle.otel_trace_session.specs.Actions.{call_provider}
 use Rattle.otel_trace_session.specs.Calls.{Calls}
 use Rattle.otel_trace_session.specs.OpenSpans.{ChildMayStart, MayStart, NamedSpans, RemoteMayStart, SameSpans, named}
 use Rattle.otel_trace_session.specs.Shown.{session_batches, session_losses}
@@ -30,9 +30,9 @@ module _ {P S G : Type 0} (calls : Calls P S G) where
 
   -- what an action that is refused may have done to it: nothing, but for a start. Its own calls are not refused
   abbrev pub MayAsk : ProviderState P S G → NamedSpans → PlainAction → ProviderState P S G → Type 0
-  MayAsk p spans (starts origin span name moment) q =
+  MayAsk p spans (start_span origin span name moment) q =
       MayStartFrom p spans origin name moment (named spans span) q
-  MayAsk p spans (calls_provider call) q = ⊥
+  MayAsk p spans (call_provider call) q = ⊥
   MayAsk p spans _ q = q ≡ p
 
   -- an action was refused: each name has the span that it had, and no processor was asked

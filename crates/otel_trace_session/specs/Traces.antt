@@ -4,7 +4,7 @@ use Rattle.opentelemetry.specs.Plain.{PlainSpanContext}
 use Rattle.otel_sampling.specs.Agreement.{Agrees}
 use Rattle.otel_pipeline.specs.SpanHistory.{PlainSpan}
 use Rattle.otel_trace_lines.specs.Commands.{PlainCommand}
-use Rattle.otel_trace_session.specs.Actions.{PlainAction, action_of, is_shutdown, starts, under}
+use Rattle.otel_trace_session.specs.Actions.{PlainAction, action_of, is_shutdown, start_span, under}
 use Rattle.otel_trace_session.specs.OpenSpans.{NamedSpans, is_name, named}
 use Rattle.otel_trace_lines.specs.PlainReply.{PlainReply}
 use Rattle.otel_trace_lines.specs.declared.reply.Answer.{Answer}
@@ -18,7 +18,7 @@ made_span _ = false
 
 -- the names of spans of a trace, with that of a child of one of them where an action started it
 abbrev pub with_child : (List ℕ → Bool) → PlainAction → Answer → List ℕ → Bool
-with_child is_in (starts (under parent) span name moment) answer =
+with_child is_in (start_span (under parent) span name moment) answer =
     λ q. is_in q || (is_name q span && (is_in parent && made_span answer))
 with_child is_in _ answer = is_in
 

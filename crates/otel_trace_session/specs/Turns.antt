@@ -9,8 +9,8 @@ use Rattle.otel_kept.specs.declared.keeps_batches.KeepsBatches as keeping
 use Rattle.otel_trace_lines.specs.Commands.{PlainCommand, plain_commands}
 use Rattle.otel_trace_lines.specs.PlainReply.{PlainReply}
 use Rattle.otel_trace_lines.specs.declared.command.Command.{Command}
-use Rattle.otel_trace_session.specs.Actions.{PlainAction, action_of, may_lose, starts, edits, injects, ends}
-use Rattle.otel_trace_session.specs.Actions.{calls_provider}
+use Rattle.otel_trace_session.specs.Actions.{PlainAction, action_of, may_lose, start_span, edit_span, inject_span, end_span}
+use Rattle.otel_trace_session.specs.Actions.{call_provider}
 use Rattle.otel_trace_session.specs.Calls.{Calls, batches_of_first, losses_of_first}
 use Rattle.otel_trace_session.specs.OpenSpans.{Describe, Histories, NamedSpans}
 use Rattle.otel_trace_session.specs.ProviderTurns.{AsksProvider, CallGives}
@@ -48,11 +48,11 @@ delivered_in turns = flat_map (λ turn. turn.delivered) turns
 module _ {P S G : Type 0} (calls : Calls P S G) where
   -- the turn of an action under a scope
   abbrev pub TakesAction : PlainScope → PlainAction → Turn P S G → Type 0
-  TakesAction scope (starts origin span name moment) turn = StartsFrom calls scope origin span name moment turn
-  TakesAction scope (edits span edit) turn = EditTurn span edit turn
-  TakesAction scope (injects span) turn = InjectTurn span turn
-  TakesAction scope (ends span moment) turn = EndTurn calls.processor span moment (turn.before.histories span) turn
-  TakesAction scope (calls_provider call) turn = AsksProvider (CallGives calls call) turn
+  TakesAction scope (start_span origin span name moment) turn = StartsFrom calls scope origin span name moment turn
+  TakesAction scope (edit_span span edit) turn = EditTurn span edit turn
+  TakesAction scope (inject_span span) turn = InjectTurn span turn
+  TakesAction scope (end_span span moment) turn = EndTurn calls.processor span moment (turn.before.histories span) turn
+  TakesAction scope (call_provider call) turn = AsksProvider (CallGives calls call) turn
 
   -- an action was carried out in a turn: each processor follows what it delivered, and batches came only after those
   -- that the first one keeps
