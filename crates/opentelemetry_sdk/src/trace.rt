@@ -18,7 +18,7 @@ pub use otel_export::trace::{
 };
 pub use otel_kept::KeepsBatches;
 pub use otel_pipeline::trace::{
-    CloseReport, DrainDue, Exception, LeavesSpans, OverExporter, ProviderBuilderOf, ProviderOf,
+    CloseReport, Timed, Exception, CountsLeftSpans, FromExporter, ProviderBuilderOf, ProviderOf,
     SdkTracer, SimpleSpanProcessor, Span, SpanEdit, SpanProcessor,
 };
 pub use otel_sampling::trace::{

@@ -10,7 +10,7 @@ use opentelemetry::baggage::Baggage;
 use opentelemetry::{Context, Key, KeyValue, Value};
 use otel_export::error::OTelSdkResult;
 use otel_export::trace::SpanData;
-use otel_pipeline::trace::{LeavesSpans, Span, SpanProcessor};
+use otel_pipeline::trace::{CountsLeftSpans, Span, SpanProcessor};
 use otel_resource::resource::Resource;
 use std::alloc::{AllocError, Global};
 use std::marker::Model;
@@ -123,7 +123,7 @@ impl<K: KeyFilter> SpanProcessor for BaggageSpanProcessor<K> {
     }
 }
 
-impl<K: KeyFilter> LeavesSpans for BaggageSpanProcessor<K> {
+impl<K: KeyFilter> CountsLeftSpans for BaggageSpanProcessor<K> {
     ghost use Rattle.std.specs.Prelude.{false, true, refl};
     ghost use Rattle.otel_pipeline.specs.LeftSpans.{none_left};
 

@@ -7,7 +7,7 @@ use opentelemetry::{Key, KeyValue, Moment, SpanId, TraceFlags, TraceId, Value};
 use opentelemetry_sdk::error::{OTelSdkError, OTelSdkResult};
 use opentelemetry_sdk::resource::Resource;
 use opentelemetry_sdk::trace::{
-    BatchConfig, BatchConfigBuilder, BatchSpanProcessor, DrainDue, SimpleSpanProcessor, SpanData,
+    BatchConfig, BatchConfigBuilder, BatchSpanProcessor, Timed, SimpleSpanProcessor, SpanData,
     SpanExporter, SpanProcessor,
 };
 use otel_case_rows::answer_text::AnswerText;

@@ -9,7 +9,7 @@
 use opentelemetry::{Context, Value};
 use opentelemetry_sdk::Resource;
 use opentelemetry_sdk::error::OTelSdkResult;
-use opentelemetry_sdk::trace::{LeavesSpans, Span, SpanData, SpanProcessor};
+use opentelemetry_sdk::trace::{CountsLeftSpans, Span, SpanData, SpanProcessor};
 use std::alloc::AllocError;
 use std::time::Duration;
 
@@ -62,7 +62,7 @@ impl<P: SpanProcessor> SpanProcessor for FilteringProcessor<P> {
     }
 }
 
-impl<P: LeavesSpans> LeavesSpans for FilteringProcessor<P> {
+impl<P: CountsLeftSpans> CountsLeftSpans for FilteringProcessor<P> {
     ghost closed_over = { λ p. P.closed_over p.inner };
 
     ghost open_over = { λ p. P.open_over p.inner };

@@ -4,7 +4,7 @@ use opentelemetry::trace::{SpanBuilder, SpanKind};
 use opentelemetry::{Context, Key, KeyValue, Moment, Value};
 use opentelemetry_sdk::Resource;
 use opentelemetry_sdk::trace::{
-    BatchStrings, ConfigOf, InMemorySpanExporter, LeavesSpans, ProviderOf, RandomIdGenerator,
+    BatchStrings, ConfigOf, InMemorySpanExporter, CountsLeftSpans, ProviderOf, RandomIdGenerator,
     SdkTracer, ShouldSample, Span, SpanData, SpanLimits, SpanProcessor,
 };
 use std::alloc::{AllocError, Global};
@@ -136,7 +136,7 @@ fn trace_all<P: SpanProcessor + Shows, S: ShouldSample + Drop>(
 }
 
 /// The same of a provider under this sampler over one processor, which is then closed.
-pub fn traced_in<P: LeavesSpans + Shows, S: ShouldSample + Drop>(
+pub fn traced_in<P: CountsLeftSpans + Shows, S: ShouldSample + Drop>(
     alloc: Global,
     sampler: S,
     processor: P,
@@ -153,7 +153,7 @@ pub fn traced_in<P: LeavesSpans + Shows, S: ShouldSample + Drop>(
 }
 
 /// The same in an empty context.
-pub fn traced<P: LeavesSpans + Shows, S: ShouldSample + Drop>(
+pub fn traced<P: CountsLeftSpans + Shows, S: ShouldSample + Drop>(
     alloc: Global,
     sampler: S,
     processor: P,

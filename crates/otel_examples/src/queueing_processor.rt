@@ -19,7 +19,7 @@ ghost use Rattle.std.specs.Prelude.{◌≡◌, []};
 use opentelemetry::Context;
 use opentelemetry_sdk::Resource;
 use opentelemetry_sdk::error::OTelSdkResult;
-use opentelemetry_sdk::trace::{LeavesSpans, Span, SpanData, SpanExporter, SpanProcessor};
+use opentelemetry_sdk::trace::{CountsLeftSpans, Span, SpanData, SpanExporter, SpanProcessor};
 use std::alloc::{AllocError, Global};
 use std::mem;
 use std::time::Duration;
@@ -103,7 +103,7 @@ impl<E: SpanExporter> SpanProcessor for QueueingProcessor<E> {
     }
 }
 
-impl<E: SpanExporter> LeavesSpans for QueueingProcessor<E> {
+impl<E: SpanExporter> CountsLeftSpans for QueueingProcessor<E> {
     ghost use Rattle.std.specs.Prelude.{None, Some, true, if◌then◌else◌, length, refl};
     ghost use Rattle.otel_pipeline.specs.LeftSpans.{left_unless_shut};
 

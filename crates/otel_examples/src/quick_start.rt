@@ -6,7 +6,7 @@
 use opentelemetry::{Key, KeyValue, Moment, Value};
 use opentelemetry_sdk::error::OTelSdkError;
 use opentelemetry_sdk::trace::{
-    CloseReport, ConfigStrings, IdSource, KeepsBatches, OverExporter, ProviderOf, Sampler, Span,
+    CloseReport, ConfigStrings, IdSource, KeepsBatches, FromExporter, ProviderOf, Sampler, Span,
     SpanProcessor,
 };
 use std::alloc::{AllocError, Global};
@@ -40,7 +40,7 @@ fn trace_request<P: SpanProcessor>(
 }
 
 /// A provider with an eager batch processor over this exporter, as strings configure it.
-fn provider_with<P: OverExporter>(
+fn provider_with<P: FromExporter>(
     alloc: Global,
     strings: &ConfigStrings,
     exporter: P::Exporter,
@@ -52,7 +52,7 @@ fn provider_with<P: OverExporter>(
 }
 
 /// The same by the default configuration.
-fn default_provider<P: OverExporter>(
+fn default_provider<P: FromExporter>(
     alloc: Global,
     exporter: P::Exporter,
 ) -> Result<ProviderOf<P, Sampler, IdSource>, AllocError> {
@@ -68,7 +68,7 @@ fn kept<P: KeepsBatches>(provider: &ProviderOf<P, Sampler, IdSource>) -> usize {
 
 /// Traces a request under a provider with a batch processor over this exporter. The answer is how many batches that
 /// keeps before a flush and after it, and what the provider reports when it is closed.
-fn export_request<P: OverExporter + KeepsBatches>(
+fn export_request<P: FromExporter + KeepsBatches>(
     alloc: Global,
     exporter: P::Exporter,
 ) -> Result<(usize, usize, CloseReport), OTelSdkError> {

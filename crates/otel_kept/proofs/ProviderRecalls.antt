@@ -22,7 +22,7 @@ use Rattle.otel_pipeline.specs.Provider.{unstarted_context, ProviderState, Flush
 use Rattle.otel_pipeline.specs.StartRequest.{StartRequest}
 use Rattle.otel_pipeline.specs.Starting.{TakesPart, PassesThrough, Records, DecidesStart, Starts, StartsOpen}
 use Rattle.otel_pipeline.specs.declared.trace.span_processor.SpanProcessor.{Ghosts}
-use Rattle.otel_pipeline.specs.declared.trace.drain_due.DrainDue as timing
+use Rattle.otel_pipeline.specs.declared.trace.timed.Timed as timing
 use Rattle.otel_kept.specs.RecalledBatches.{FirstRecalled, Recalls, heard_after}
 use Rattle.otel_export.specs.RecalledBatches.{told_after}
 use Rattle.otel_export.specs.RecalledKinds.{tells_after}

@@ -9,7 +9,7 @@ use Rattle.otel_export.specs.PlainSpanData.{PlainSpanData, is_sampled}
 use Rattle.otel_export.specs.declared.trace.export.SpanExporter as exporting
 use Rattle.otel_pipeline.specs.SpanHistory.{PlainSpan}
 use Rattle.otel_pipeline.specs.SimpleProcessor.{SimpleProcessor, SimpleEnds, ExportsIf}
-use Rattle.otel_pipeline.specs.declared.trace.drain_due.DrainDue as timing
+use Rattle.otel_pipeline.specs.declared.trace.timed.Timed as timing
 use Rattle.otel_pipeline.specs.declared.trace.span_processor.SpanProcessor.{Ghosts}
 
 -- a call of a processor takes back no batch, and a start loses none

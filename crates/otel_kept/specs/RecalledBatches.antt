@@ -7,8 +7,8 @@ use Rattle.otel_export.specs.PlainSpanData.{PlainSpanData, spans_in}
 use Rattle.otel_export.specs.RecalledBatches.{GivesAfter, told_after}
 use Rattle.otel_pipeline.specs.ProcessorTelling.{ProcessorTelling}
 use Rattle.otel_pipeline.specs.SpanHistory.{PlainSpan}
-use Rattle.otel_pipeline.specs.declared.trace.drain_due.DrainDue as timing
-use Rattle.otel_pipeline.specs.declared.trace.leaves_spans.LeavesSpans as leaving
+use Rattle.otel_pipeline.specs.declared.trace.timed.Timed as timing
+use Rattle.otel_pipeline.specs.declared.trace.counts_left_spans.CountsLeftSpans as leaving
 use Rattle.otel_pipeline.specs.declared.trace.span_processor.SpanProcessor.{Ghosts}
 
 -- what a processor tells where its exporter heard these spans first

@@ -6,11 +6,11 @@ ghost use Rattle.otel_kept.specs.ProcessorKeeps.{OnlyAppends};
 ghost use Rattle.otel_kept.specs.RecalledBatches.{LeavesAsMany, Recalls};
 
 use otel_export::trace::SpanData;
-use otel_pipeline::trace::{DrainDue, LeavesSpans};
+use otel_pipeline::trace::{Timed, CountsLeftSpans};
 
 /// A processor whose exporter may keep its batches. At a start, an end, a flush, a shutdown or a drain batches may only
 /// come after those that are kept.
-pub trait KeepsBatches: DrainDue + LeavesSpans {
+pub trait KeepsBatches: Timed + CountsLeftSpans {
     /// The batches that are kept; none where the exporter keeps none.
     ghost kept: { Self → List (List PlainSpanData) };
 
@@ -32,11 +32,11 @@ pub trait KeepsBatches: DrainDue + LeavesSpans {
         ensures none { kept self.new ≡ [] };
 
     /// None of these calls takes back a batch, and a start of a span loses none.
-    ghost appends: { OnlyAppends Self.SpanProcessor Self.DrainDue.own kept lost };
+    ghost appends: { OnlyAppends Self.SpanProcessor Self.Timed.own kept lost };
 
     /// To forget batches changes nothing that a later call does, but for what is kept and heard.
-    ghost recalls: { Recalls Self.SpanProcessor Self.DrainDue.own kept lost recalled };
+    ghost recalls: { Recalls Self.SpanProcessor Self.Timed.own kept lost recalled };
 
     /// Nor how many spans it leaves and dropped.
-    ghost leaves: { LeavesAsMany Self.LeavesSpans.own recalled };
+    ghost leaves: { LeavesAsMany Self.CountsLeftSpans.own recalled };
 }

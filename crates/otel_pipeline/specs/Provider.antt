@@ -10,8 +10,8 @@ use Rattle.otel_pipeline.specs.ProcessorTelling.{TakesNothing}
 use Rattle.otel_pipeline.specs.Each.{AsksAll, AsksFirst}
 use Rattle.otel_pipeline.specs.declared.trace.close_report.CloseReport.{CloseReport}
 use Rattle.otel_pipeline.specs.declared.trace.span_processor.SpanProcessor.{Ghosts}
-use Rattle.otel_pipeline.specs.declared.trace.drain_due.DrainDue as timing
-use Rattle.otel_pipeline.specs.declared.trace.leaves_spans.LeavesSpans as leaving
+use Rattle.otel_pipeline.specs.declared.trace.timed.Timed as timing
+use Rattle.otel_pipeline.specs.declared.trace.counts_left_spans.CountsLeftSpans as leaving
 
 -- a provider: its processors, what each start asks and is handed, whether it is shut, and whether it was disabled
 pub record ProviderState (P S G : Type 0) : Type 0 where

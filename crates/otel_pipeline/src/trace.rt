@@ -1,12 +1,12 @@
 //! The pipeline: a tracer starts a span, edits fill it, its end hands it to each processor of the provider.
 
 pub mod close_report;
-pub mod drain_due;
+pub mod timed;
 mod each_processor;
 pub mod exception;
-pub mod leaves_spans;
+pub mod counts_left_spans;
 mod limits;
-pub mod over_exporter;
+pub mod from_exporter;
 pub mod provider;
 pub mod provider_builder;
 mod recorded;
@@ -18,10 +18,10 @@ pub mod tracer;
 mod value_length;
 
 pub use close_report::CloseReport;
-pub use drain_due::DrainDue;
+pub use timed::Timed;
 pub use exception::Exception;
-pub use leaves_spans::LeavesSpans;
-pub use over_exporter::OverExporter;
+pub use counts_left_spans::CountsLeftSpans;
+pub use from_exporter::FromExporter;
 pub use provider::ProviderOf;
 pub use provider_builder::ProviderBuilderOf;
 pub(crate) use recorded::Recorded;

@@ -19,8 +19,8 @@ use Rattle.otel_export.specs.declared.trace.exporter_box.ExporterOf.TheVariants 
 use Rattle.otel_export.specs.KeptBatches.{exporter_keeps, exporter_loses}
 use Rattle.otel_pipeline.specs.Provider.{ProviderState}
 use Rattle.otel_pipeline.specs.SimpleProcessor.{first_simple}
-use Rattle.otel_pipeline.specs.declared.trace.drain_due.DrainDue as timing
-use Rattle.otel_pipeline.specs.declared.trace.leaves_spans.LeavesSpans as leaving
+use Rattle.otel_pipeline.specs.declared.trace.timed.Timed as timing
+use Rattle.otel_pipeline.specs.declared.trace.counts_left_spans.CountsLeftSpans as leaving
 use Rattle.otel_kept.specs.declared.keeps_batches.KeepsBatches as keeping
 use Rattle.otel_pipeline.specs.declared.trace.span_processor.SpanProcessor.{Ghosts}
 use Rattle.opentelemetry_sdk.specs.BatchProcessor.{first_processor}

@@ -172,7 +172,7 @@ pub(crate) fn export_input<P: KeepsBatches, S: ShouldSample, G: GivesIds, R: Rea
     output: &mut W,
 ) -> RunEnd
     ensures { ExportsUnder
-        (calls_of P.SpanProcessor P.DrainDue.own P.LeavesSpans.own P.KeepsBatches.own S.ShouldSample G.GivesIds)
+        (calls_of P.SpanProcessor P.Timed.own P.CountsLeftSpans.own P.KeepsBatches.own S.ShouldSample G.GivesIds)
         resource provider
         (streams (R.remaining input.old) (R.remaining input.new) (W.contents output.old) (W.contents output.new))
         result }

@@ -144,7 +144,7 @@ pub(crate) fn draw_input<
     output: &mut W,
 ) -> RunEnd
     ensures { DrawsUnder
-        (calls_of P.SpanProcessor P.DrainDue.own P.LeavesSpans.own P.KeepsBatches.own S.ShouldSample G.GivesIds)
+        (calls_of P.SpanProcessor P.Timed.own P.CountsLeftSpans.own P.KeepsBatches.own S.ShouldSample G.GivesIds)
         (D.paints painter.now) provider
         (streams (R.remaining input.old) (R.remaining input.new) (W.contents output.old) (W.contents output.new))
         result }
@@ -184,7 +184,7 @@ fn draw_lines<P: KeepsBatches, S: ShouldSample, G: GivesIds, D: SpanPainter, R: 
     input: &mut R,
 ) -> Option<Drawn>
     ensures { IfSome result (λ drawn. DrawsLines
-        (calls_of P.SpanProcessor P.DrainDue.own P.LeavesSpans.own P.KeepsBatches.own S.ShouldSample G.GivesIds)
+        (calls_of P.SpanProcessor P.Timed.own P.CountsLeftSpans.own P.KeepsBatches.own S.ShouldSample G.GivesIds)
         (D.paints painter.now) session.old (R.remaining input.old) (R.remaining input.new)
         drawn.bad_line drawn.picture.items session.new) }
 {
@@ -216,7 +216,7 @@ fn exported_by<P: KeepsBatches, S: ShouldSample, G: GivesIds>(
     commands: Vec<Command>,
 ) -> Option<Vec<SpanData>>
     ensures { IfSome result (λ spans. RunsOut
-        (calls_of P.SpanProcessor P.DrainDue.own P.LeavesSpans.own P.KeepsBatches.own S.ShouldSample G.GivesIds)
+        (calls_of P.SpanProcessor P.Timed.own P.CountsLeftSpans.own P.KeepsBatches.own S.ShouldSample G.GivesIds)
         session.old commands.items spans.items session.new) }
 {
     let mut replies = Vec::new(alloc);
@@ -242,7 +242,7 @@ fn shut_down<P: KeepsBatches, S: ShouldSample, G: GivesIds>(
     session: &mut Session<P, S, G>,
 ) -> Option<Vec<Reply>>
     ensures { IfSome result (λ replies. RunsShutdown
-        (calls_of P.SpanProcessor P.DrainDue.own P.LeavesSpans.own P.KeepsBatches.own S.ShouldSample G.GivesIds)
+        (calls_of P.SpanProcessor P.Timed.own P.CountsLeftSpans.own P.KeepsBatches.own S.ShouldSample G.GivesIds)
         session.old replies.items session.new) }
 {
     let mut commands = Vec::new(alloc);

@@ -43,7 +43,7 @@ use otel_export::trace::{ExporterOf, InMemorySpanExporter, SpanData, SpanExporte
 use otel_kept::KeepsBatches;
 use otel_export::stream::write_whole;
 use otel_pipeline::trace::provider::provider_over;
-use otel_pipeline::trace::{DrainDue, ProviderOf, SimpleSpanProcessor, SpanProcessor};
+use otel_pipeline::trace::{Timed, ProviderOf, SimpleSpanProcessor, SpanProcessor};
 use otel_resource::resource::Resource;
 use otel_sampling::trace::{
     ConfigOf, GivesIds, RandomIdGenerator, SamplerOf, SamplingDecision, SamplingResult,
@@ -164,7 +164,7 @@ pub fn run_program<R: Read, W: Write, F: Write>(
     // One session.
     ensures trace { (asked : Asked) → AsksFor (map string_bytes words.now) asked → EndsTracing
         (memory_calls ⟦<TraceProcessor as SpanProcessor>⟧
-        (record { due_gives = ⟦<TraceProcessor as DrainDue>⟧.due_gives })
+        (record { due_gives = ⟦<TraceProcessor as Timed>⟧.due_gives })
         ⟦<TraceSampler as ShouldSample>⟧ ⟦<RandomIdGenerator as GivesIds>⟧) asked
         (streams (R.remaining input.old) (R.remaining input.new) (W.contents output.old) (W.contents output.new))
         (faults.new ≡ faults.old) (Appends (F.contents faults.old) (F.contents faults.new)) result }
@@ -173,7 +173,7 @@ pub fn run_program<R: Read, W: Write, F: Write>(
     ensures otlp { (asked : Asked) (given : List (List ℕ)) → AsksForOtlp (map string_bytes words.now) asked given →
         EndsExporting
         (memory_calls ⟦<TraceProcessor as SpanProcessor>⟧
-        (record { due_gives = ⟦<TraceProcessor as DrainDue>⟧.due_gives })
+        (record { due_gives = ⟦<TraceProcessor as Timed>⟧.due_gives })
         ⟦<TraceSampler as ShouldSample>⟧ ⟦<RandomIdGenerator as GivesIds>⟧) asked given
         (streams (R.remaining input.old) (R.remaining input.new) (W.contents output.old) (W.contents output.new))
         (faults.new ≡ faults.old) (Appends (F.contents faults.old) (F.contents faults.new)) result }
@@ -182,7 +182,7 @@ pub fn run_program<R: Read, W: Write, F: Write>(
     ensures picture { (asked : Asked) (form : PictureForm) → AsksForPicture (map string_bytes words.now) asked form →
         EndsDrawing
         (memory_calls ⟦<TraceProcessor as SpanProcessor>⟧
-        (record { due_gives = ⟦<TraceProcessor as DrainDue>⟧.due_gives })
+        (record { due_gives = ⟦<TraceProcessor as Timed>⟧.due_gives })
         ⟦<TraceSampler as ShouldSample>⟧ ⟦<RandomIdGenerator as GivesIds>⟧) asked
         (⟦<PictureForm as SpanPainter>⟧.paints form)
         (streams (R.remaining input.old) (R.remaining input.new) (W.contents output.old) (W.contents output.new))
@@ -227,7 +227,7 @@ fn run_otlp<R: Read, W: Write>(
 ) -> RunEnd
     ensures { Exports
         (memory_calls ⟦<TraceProcessor as SpanProcessor>⟧
-        (record { due_gives = ⟦<TraceProcessor as DrainDue>⟧.due_gives })
+        (record { due_gives = ⟦<TraceProcessor as Timed>⟧.due_gives })
         ⟦<TraceSampler as ShouldSample>⟧ ⟦<RandomIdGenerator as GivesIds>⟧)
         asked (map string_bytes given.now)
         (streams (R.remaining input.old) (R.remaining input.new) (W.contents output.old) (W.contents output.new))
@@ -266,7 +266,7 @@ fn run_picture<R: Read, W: Write>(
 ) -> RunEnd
     ensures { DrawsTo
         (memory_calls ⟦<TraceProcessor as SpanProcessor>⟧
-        (record { due_gives = ⟦<TraceProcessor as DrainDue>⟧.due_gives })
+        (record { due_gives = ⟦<TraceProcessor as Timed>⟧.due_gives })
         ⟦<TraceSampler as ShouldSample>⟧ ⟦<RandomIdGenerator as GivesIds>⟧)
         asked (⟦<PictureForm as SpanPainter>⟧.paints form)
         (streams (R.remaining input.old) (R.remaining input.new) (W.contents output.old) (W.contents output.new))

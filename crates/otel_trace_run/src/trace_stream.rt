@@ -37,7 +37,7 @@ pub fn trace_input<P: KeepsBatches, S: ShouldSample, G: GivesIds, F: ReplyForm, 
     output: &mut W,
 ) -> RunEnd
     ensures { TracesUnder
-        (calls_of P.SpanProcessor P.DrainDue.own P.LeavesSpans.own P.KeepsBatches.own S.ShouldSample G.GivesIds)
+        (calls_of P.SpanProcessor P.Timed.own P.CountsLeftSpans.own P.KeepsBatches.own S.ShouldSample G.GivesIds)
         (F.form form.old) provider
         (streams (R.remaining input.old) (R.remaining input.new) (W.contents output.old) (W.contents output.new))
         result }
@@ -62,7 +62,7 @@ fn trace_session<P: KeepsBatches, S: ShouldSample, G: GivesIds, F: ReplyForm, R:
     output: &mut W,
 ) -> RunEnd
     ensures { Traces
-        (calls_of P.SpanProcessor P.DrainDue.own P.LeavesSpans.own P.KeepsBatches.own S.ShouldSample G.GivesIds)
+        (calls_of P.SpanProcessor P.Timed.own P.CountsLeftSpans.own P.KeepsBatches.own S.ShouldSample G.GivesIds)
         (F.form form.old) session
         (streams (R.remaining input.old) (R.remaining input.new) (W.contents output.old) (W.contents output.new))
         result }
@@ -94,12 +94,12 @@ fn feed_pieces<P: KeepsBatches, S: ShouldSample, G: GivesIds, F: ReplyForm, R: R
     output: &mut W,
 ) -> io::Result<RunEnd>
     ensures ok { IfOk result (λ end. FedAs
-        (calls_of P.SpanProcessor P.DrainDue.own P.LeavesSpans.own P.KeepsBatches.own S.ShouldSample G.GivesIds)
+        (calls_of P.SpanProcessor P.Timed.own P.CountsLeftSpans.own P.KeepsBatches.own S.ShouldSample G.GivesIds)
         (F.form form.old) session.old session.new
         (streams (R.remaining input.old) (R.remaining input.new) (W.contents output.old) (W.contents output.new))
         end) }
     ensures err { OnErr result (CarriesOutSome
-        (calls_of P.SpanProcessor P.DrainDue.own P.LeavesSpans.own P.KeepsBatches.own S.ShouldSample G.GivesIds)
+        (calls_of P.SpanProcessor P.Timed.own P.CountsLeftSpans.own P.KeepsBatches.own S.ShouldSample G.GivesIds)
         (F.form form.old) session.old (R.remaining input.old)
         (AppendsBeginning (W.contents output.old) (W.contents output.new))) }
     ensures form { F.form form.new ≡ F.form form.old }
@@ -137,11 +137,11 @@ fn feed_piece<P: KeepsBatches, S: ShouldSample, G: GivesIds, F: ReplyForm, W: Wr
     output: &mut W,
 ) -> io::Result<Result<(), FeedError>>
     ensures ok { IfOk result (λ fed. FeedsPiece
-        (calls_of P.SpanProcessor P.DrainDue.own P.LeavesSpans.own P.KeepsBatches.own S.ShouldSample G.GivesIds)
+        (calls_of P.SpanProcessor P.Timed.own P.CountsLeftSpans.own P.KeepsBatches.own S.ShouldSample G.GivesIds)
         (F.form form.old) session.old lines.now fed (Appends (W.contents output.old) (W.contents output.new))
         session.new) }
     ensures err { OnErr result ((fed : Result (Unit {0}) FeedError) × FeedsPiece
-        (calls_of P.SpanProcessor P.DrainDue.own P.LeavesSpans.own P.KeepsBatches.own S.ShouldSample G.GivesIds)
+        (calls_of P.SpanProcessor P.Timed.own P.CountsLeftSpans.own P.KeepsBatches.own S.ShouldSample G.GivesIds)
         (F.form form.old) session.old lines.now fed
         (AppendsBeginning (W.contents output.old) (W.contents output.new)) session.new) }
     ensures form { F.form form.new ≡ F.form form.old }

@@ -16,7 +16,7 @@ use Rattle.otel_pipeline.specs.SpanHistory.{PlainSpan, SpanStart, SpanHistory, b
 use Rattle.otel_pipeline.specs.StartRequest.{StartRequest}
 use Rattle.otel_pipeline.specs.Starting.{PassesThrough, DecidesStart, StartsOpen}
 use Rattle.otel_pipeline.specs.declared.trace.span_processor.SpanProcessor.{Ghosts}
-use Rattle.otel_pipeline.specs.declared.trace.drain_due.DrainDue as timing
+use Rattle.otel_pipeline.specs.declared.trace.timed.Timed as timing
 use Rattle.otel_kept.specs.declared.keeps_batches.KeepsBatches as keeping
 use Rattle.otel_trace_lines.specs.declared.reply.Answer.{Answer}
 use Rattle.otel_trace_lines.specs.declared.reply.Answer.TheVariants as answers

@@ -5,8 +5,8 @@ use Rattle.otel_sampling.specs.declared.trace.sampler.ShouldSample as sampling
 use Rattle.otel_sampling.specs.declared.trace.id_generator.GivesIds as drawing
 use Rattle.otel_export.specs.PlainSpanData.{PlainSpanData}
 use Rattle.otel_pipeline.specs.declared.trace.span_processor.SpanProcessor.{Ghosts}
-use Rattle.otel_pipeline.specs.declared.trace.drain_due.DrainDue as timing
-use Rattle.otel_pipeline.specs.declared.trace.leaves_spans.LeavesSpans as leaving
+use Rattle.otel_pipeline.specs.declared.trace.timed.Timed as timing
+use Rattle.otel_pipeline.specs.declared.trace.counts_left_spans.CountsLeftSpans as leaving
 use Rattle.otel_kept.specs.declared.keeps_batches.KeepsBatches as keeping
 
 -- what is said of the calls of a session's processors, of its sampler and of its source of ids

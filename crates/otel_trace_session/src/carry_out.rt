@@ -33,10 +33,10 @@ pub(crate) fn carry_out<P: KeepsBatches, S: ShouldSample, G: GivesIds>(
 ) -> Result<Answer, AllocError>
     requires { root.now ≡ root_cx }
     ensures ok { IfOk result (λ answer. TurnsFromAny (IsCarriedOut
-        (calls_of P.SpanProcessor P.DrainDue.own P.LeavesSpans.own P.KeepsBatches.own S.ShouldSample G.GivesIds)
+        (calls_of P.SpanProcessor P.Timed.own P.CountsLeftSpans.own P.KeepsBatches.own S.ShouldSample G.GivesIds)
         tracer.now (action_of (plain_command command))) provider.old spans.old answer provider.new spans.new) }
     ensures err { OnErr result (RefusesOne
-        (calls_of P.SpanProcessor P.DrainDue.own P.LeavesSpans.own P.KeepsBatches.own S.ShouldSample G.GivesIds)
+        (calls_of P.SpanProcessor P.Timed.own P.CountsLeftSpans.own P.KeepsBatches.own S.ShouldSample G.GivesIds)
         provider.old spans.old (action_of (plain_command command)) provider.new spans.new) }
 {
     match action_of(alloc, command) {
@@ -68,7 +68,7 @@ fn call_provider<P: KeepsBatches, S: ShouldSample, G: GivesIds>(
     call: ProviderCall,
 ) -> OTelSdkResult
     ensures gives { CallGives
-        (calls_of P.SpanProcessor P.DrainDue.own P.LeavesSpans.own P.KeepsBatches.own S.ShouldSample G.GivesIds)
+        (calls_of P.SpanProcessor P.Timed.own P.CountsLeftSpans.own P.KeepsBatches.own S.ShouldSample G.GivesIds)
         (plain_call call) provider.old result provider.new }
     ensures told { EachFollows P.SpanProcessor [] provider.old.processors provider.new.processors }
 {

@@ -22,60 +22,60 @@ use otel_sampling::trace::{GivesIds, ShouldSample};
 /// A run, and another from where it ends, are one run.
 pub fn runs_join<P: KeepsBatches, S: ShouldSample, G: GivesIds>()
     ensures { RunsJoin
-        (calls_of P.SpanProcessor P.DrainDue.own P.LeavesSpans.own P.KeepsBatches.own S.ShouldSample G.GivesIds) }
+        (calls_of P.SpanProcessor P.Timed.own P.CountsLeftSpans.own P.KeepsBatches.own S.ShouldSample G.GivesIds) }
 {}
 
 /// Each processor follows all that was delivered, in order; and one that was open hears all of it, also where commands
 /// shut it down, since nothing is delivered after that.
 pub fn runs_are_heard<P: KeepsBatches, S: ShouldSample, G: GivesIds>()
     ensures follows { RunsAreFollowed
-        (calls_of P.SpanProcessor P.DrainDue.own P.LeavesSpans.own P.KeepsBatches.own S.ShouldSample G.GivesIds) }
+        (calls_of P.SpanProcessor P.Timed.own P.CountsLeftSpans.own P.KeepsBatches.own S.ShouldSample G.GivesIds) }
     ensures heard { RunsAreHeard
-        (calls_of P.SpanProcessor P.DrainDue.own P.LeavesSpans.own P.KeepsBatches.own S.ShouldSample G.GivesIds) }
+        (calls_of P.SpanProcessor P.Timed.own P.CountsLeftSpans.own P.KeepsBatches.own S.ShouldSample G.GivesIds) }
 {}
 
 /// At a provider that is open, under a sampler that goes by parents, each trace is sampled whole.
 pub fn runs_keep_traces_whole<P: KeepsBatches, S: ShouldSample, G: GivesIds>()
     ensures { TracesAreWhole
-        (calls_of P.SpanProcessor P.DrainDue.own P.LeavesSpans.own P.KeepsBatches.own S.ShouldSample G.GivesIds) }
+        (calls_of P.SpanProcessor P.Timed.own P.CountsLeftSpans.own P.KeepsBatches.own S.ShouldSample G.GivesIds) }
 {}
 
 /// A name that has a span keeps one with its span context.
 pub fn runs_keep_contexts<P: KeepsBatches, S: ShouldSample, G: GivesIds>()
     ensures { ContextsAreKept
-        (calls_of P.SpanProcessor P.DrainDue.own P.LeavesSpans.own P.KeepsBatches.own S.ShouldSample G.GivesIds) }
+        (calls_of P.SpanProcessor P.Timed.own P.CountsLeftSpans.own P.KeepsBatches.own S.ShouldSample G.GivesIds) }
 {}
 
 /// The replies show all batches that the first processor's exporter took meanwhile, in order and each once.
 pub fn runs_show_each_span_once<P: KeepsBatches, S: ShouldSample, G: GivesIds>()
     ensures { RepliesShowAll
-        (calls_of P.SpanProcessor P.DrainDue.own P.LeavesSpans.own P.KeepsBatches.own S.ShouldSample G.GivesIds) }
+        (calls_of P.SpanProcessor P.Timed.own P.CountsLeftSpans.own P.KeepsBatches.own S.ShouldSample G.GivesIds) }
 {}
 
 /// Once the provider is shut down, what the replies have shown and what is left are all batches that came meanwhile.
 pub fn closes_show_the_rest<P: KeepsBatches, S: ShouldSample, G: GivesIds>()
     ensures { ClosesShowRest
-        (calls_of P.SpanProcessor P.DrainDue.own P.LeavesSpans.own P.KeepsBatches.own S.ShouldSample G.GivesIds) }
+        (calls_of P.SpanProcessor P.Timed.own P.CountsLeftSpans.own P.KeepsBatches.own S.ShouldSample G.GivesIds) }
 {}
 
 /// After a flush or a shutdown that came last and was answered by Ok no span waits.
 pub fn flushed_runs_leave_none_waiting<P: KeepsBatches, S: ShouldSample, G: GivesIds>()
     ensures { FlushesEmpty
-        (calls_of P.SpanProcessor P.DrainDue.own P.LeavesSpans.own P.KeepsBatches.own S.ShouldSample G.GivesIds) }
+        (calls_of P.SpanProcessor P.Timed.own P.CountsLeftSpans.own P.KeepsBatches.own S.ShouldSample G.GivesIds) }
 {}
 
 /// A session that has forgotten what its replies have shown carries commands out as it would, had it forgotten nothing:
 /// with the same replies; and it closes so.
 pub fn forgetting_changes_nothing<P: KeepsBatches, S: ShouldSample, G: GivesIds>()
     ensures runs { ForgetfulRunsAreWhole
-        (calls_of P.SpanProcessor P.DrainDue.own P.LeavesSpans.own P.KeepsBatches.own S.ShouldSample G.GivesIds) }
+        (calls_of P.SpanProcessor P.Timed.own P.CountsLeftSpans.own P.KeepsBatches.own S.ShouldSample G.GivesIds) }
     ensures closes { ForgetfulClosesAreWhole
-        (calls_of P.SpanProcessor P.DrainDue.own P.LeavesSpans.own P.KeepsBatches.own S.ShouldSample G.GivesIds) }
+        (calls_of P.SpanProcessor P.Timed.own P.CountsLeftSpans.own P.KeepsBatches.own S.ShouldSample G.GivesIds) }
 {}
 
 /// Texts that are fed one after another are one text, where the first of them ends as a line does: its replies are
 /// theirs, and its lines are counted through.
 pub fn feeds_join<P: KeepsBatches, S: ShouldSample, G: GivesIds>()
     ensures { FeedsJoin
-        (calls_of P.SpanProcessor P.DrainDue.own P.LeavesSpans.own P.KeepsBatches.own S.ShouldSample G.GivesIds) }
+        (calls_of P.SpanProcessor P.Timed.own P.CountsLeftSpans.own P.KeepsBatches.own S.ShouldSample G.GivesIds) }
 {}

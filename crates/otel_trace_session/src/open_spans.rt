@@ -78,11 +78,11 @@ impl OpenSpans {
         now: Moment,
     ) -> Result<Answer, AllocError>
         ensures ok { IfOk result (λ answer. TurnsFromAny (StartTurn
-            (calls_of P.SpanProcessor P.DrainDue.own P.LeavesSpans.own P.KeepsBatches.own S.ShouldSample G.GivesIds)
+            (calls_of P.SpanProcessor P.Timed.own P.CountsLeftSpans.own P.KeepsBatches.own S.ShouldSample G.GivesIds)
             (start_in tracer.now cx.now (string_bytes span) (string_bytes name) now.0))
             provider.old self.old answer provider.new self.new) }
         ensures asks { OnErr result (MayStart
-            (calls_of P.SpanProcessor P.DrainDue.own P.LeavesSpans.own P.KeepsBatches.own S.ShouldSample G.GivesIds)
+            (calls_of P.SpanProcessor P.Timed.own P.CountsLeftSpans.own P.KeepsBatches.own S.ShouldSample G.GivesIds)
             provider.old cx.now (string_bytes name) now.0 (named self.old (string_bytes span)) provider.new) }
         ensures err { OnErr result (SameSpans self.old self.new) }
     {
@@ -99,12 +99,12 @@ impl OpenSpans {
         name: String,
         now: Moment,
     ) -> Result<Answer, AllocError>
-        ensures ok { IfOk result (λ answer. TurnsFromAny (λ turn. ChildTurn (calls_of P.SpanProcessor P.DrainDue.own
-            P.LeavesSpans.own P.KeepsBatches.own S.ShouldSample G.GivesIds)
+        ensures ok { IfOk result (λ answer. TurnsFromAny (λ turn. ChildTurn (calls_of P.SpanProcessor P.Timed.own
+            P.CountsLeftSpans.own P.KeepsBatches.own S.ShouldSample G.GivesIds)
             (start_in tracer.now root_cx (string_bytes span) (string_bytes name) now.0)
             (turn.before.histories parent.now) turn) provider.old self.old answer provider.new self.new) }
         ensures asks { OnErr result (ChildMayStart
-            (calls_of P.SpanProcessor P.DrainDue.own P.LeavesSpans.own P.KeepsBatches.own S.ShouldSample G.GivesIds)
+            (calls_of P.SpanProcessor P.Timed.own P.CountsLeftSpans.own P.KeepsBatches.own S.ShouldSample G.GivesIds)
             provider.old (named self.old parent.now) (string_bytes name) now.0
             (named self.old (string_bytes span)) provider.new) }
         ensures err { OnErr result (SameSpans self.old self.new) }
@@ -190,11 +190,11 @@ fn start_under<P: KeepsBatches, S: ShouldSample, G: GivesIds>(
     now: Moment,
 ) -> Result<Answer, AllocError>
     ensures ok { IfOk result (λ answer. TurnsFromAny (StartTurn
-        (calls_of P.SpanProcessor P.DrainDue.own P.LeavesSpans.own P.KeepsBatches.own S.ShouldSample G.GivesIds)
+        (calls_of P.SpanProcessor P.Timed.own P.CountsLeftSpans.own P.KeepsBatches.own S.ShouldSample G.GivesIds)
         (start_in tracer.now cx.now (string_bytes span) (string_bytes name) now.0))
         provider.old (by_name spans.old.entries) answer provider.new (by_name spans.new.entries)) }
     ensures asks { OnErr result (MayStart
-        (calls_of P.SpanProcessor P.DrainDue.own P.LeavesSpans.own P.KeepsBatches.own S.ShouldSample G.GivesIds)
+        (calls_of P.SpanProcessor P.Timed.own P.CountsLeftSpans.own P.KeepsBatches.own S.ShouldSample G.GivesIds)
         provider.old cx.now (string_bytes name) now.0 (named (by_name spans.old.entries) (string_bytes span))
         provider.new) }
     ensures err { OnErr result (SameSpans (by_name spans.old.entries) (by_name spans.new.entries)) }

@@ -200,10 +200,10 @@ impl<P: KeepsBatches, S: ShouldSample, G: GivesIds> Session<P, S, G> {
     /// counted in the reply.
     pub fn run(&mut self, commands: Vec<Command>, replies: &mut Vec<Reply>) -> Result<(), RunError>
         ensures ok { OnOk result (Gains replies.old.items replies.new.items (λ added. Runs
-            (calls_of P.SpanProcessor P.DrainDue.own P.LeavesSpans.own P.KeepsBatches.own S.ShouldSample G.GivesIds)
+            (calls_of P.SpanProcessor P.Timed.own P.CountsLeftSpans.own P.KeepsBatches.own S.ShouldSample G.GivesIds)
             self.old commands.items added self.new)) }
         ensures err { IfErr result (λ error. Gains replies.old.items replies.new.items (λ added. RunStops
-            (calls_of P.SpanProcessor P.DrainDue.own P.LeavesSpans.own P.KeepsBatches.own S.ShouldSample G.GivesIds)
+            (calls_of P.SpanProcessor P.Timed.own P.CountsLeftSpans.own P.KeepsBatches.own S.ShouldSample G.GivesIds)
             error self.old commands.items added self.new)) }
     {
         let mut queue = VecDeque::from_vec(commands);
@@ -232,7 +232,7 @@ impl<P: KeepsBatches, S: ShouldSample, G: GivesIds> Session<P, S, G> {
     /// was carried out, and after `Memory` at most one. What that one exported is left for the next reply.
     pub fn feed(&mut self, text: &[u8], output: &mut Vec<u8>) -> Result<(), FeedError>
         ensures { Writes reply_lines output.old.items output.new.items (λ replies. Feeds
-            (calls_of P.SpanProcessor P.DrainDue.own P.LeavesSpans.own P.KeepsBatches.own S.ShouldSample G.GivesIds)
+            (calls_of P.SpanProcessor P.Timed.own P.CountsLeftSpans.own P.KeepsBatches.own S.ShouldSample G.GivesIds)
             self.old text.now result replies self.new) }
     {
         let mut lines = ReplyLines::new(self.alloc);
@@ -247,7 +247,7 @@ impl<P: KeepsBatches, S: ShouldSample, G: GivesIds> Session<P, S, G> {
         output: &mut Vec<u8>,
     ) -> Result<(), FeedError>
         ensures writes { Writes (F.form form.old) output.old.items output.new.items (λ replies. Feeds
-            (calls_of P.SpanProcessor P.DrainDue.own P.LeavesSpans.own P.KeepsBatches.own S.ShouldSample G.GivesIds)
+            (calls_of P.SpanProcessor P.Timed.own P.CountsLeftSpans.own P.KeepsBatches.own S.ShouldSample G.GivesIds)
             self.old text.now result replies self.new) }
         ensures form { F.form form.new ≡ F.form form.old }
     {
@@ -264,7 +264,7 @@ impl<P: KeepsBatches, S: ShouldSample, G: GivesIds> Session<P, S, G> {
     /// Ok and the lines found no memory or the first processor's exporter has lost a batch since the session began.
     pub fn close(self, output: &mut Vec<u8>) -> OTelSdkResult
         ensures { Closes
-            (calls_of P.SpanProcessor P.DrainDue.own P.LeavesSpans.own P.KeepsBatches.own S.ShouldSample G.GivesIds)
+            (calls_of P.SpanProcessor P.Timed.own P.CountsLeftSpans.own P.KeepsBatches.own S.ShouldSample G.GivesIds)
             reply_lines self output.old.items result output.new.items }
     {
         let mut lines = ReplyLines::new(self.alloc);
@@ -274,7 +274,7 @@ impl<P: KeepsBatches, S: ShouldSample, G: GivesIds> Session<P, S, G> {
     /// The same, with the batches that no reply has shown in a form, and with what the processors leave behind.
     pub fn close_in<F: ReplyForm>(self, form: &mut F, output: &mut Vec<u8>) -> ClosedSession
         ensures closes { ClosesAs
-            (calls_of P.SpanProcessor P.DrainDue.own P.LeavesSpans.own P.KeepsBatches.own S.ShouldSample G.GivesIds)
+            (calls_of P.SpanProcessor P.Timed.own P.CountsLeftSpans.own P.KeepsBatches.own S.ShouldSample G.GivesIds)
             (F.form form.old) self output.old.items result output.new.items }
         ensures form { F.form form.new ≡ F.form form.old }
     {
@@ -309,11 +309,11 @@ impl<P: KeepsBatches, S: ShouldSample, G: GivesIds> Session<P, S, G> {
         output: &mut Vec<u8>,
     ) -> Result<(), FeedError>
         ensures ok { OnOk result (Writes (F.form form.old) output.old.items output.new.items (λ replies. Runs
-            (calls_of P.SpanProcessor P.DrainDue.own P.LeavesSpans.own P.KeepsBatches.own S.ShouldSample G.GivesIds)
+            (calls_of P.SpanProcessor P.Timed.own P.CountsLeftSpans.own P.KeepsBatches.own S.ShouldSample G.GivesIds)
             self.old commands.items replies self.new)) }
         ensures err { IfErr result (λ error. Writes (F.form form.old) output.old.items output.new.items
             (λ replies. FeedStops
-            (calls_of P.SpanProcessor P.DrainDue.own P.LeavesSpans.own P.KeepsBatches.own S.ShouldSample G.GivesIds)
+            (calls_of P.SpanProcessor P.Timed.own P.CountsLeftSpans.own P.KeepsBatches.own S.ShouldSample G.GivesIds)
             error self.old commands.items replies self.new)) }
         ensures form { F.form form.new ≡ F.form form.old }
     {
@@ -348,10 +348,10 @@ impl<P: KeepsBatches, S: ShouldSample, G: GivesIds> Session<P, S, G> {
     /// carried out, and that is the answer. Where there was no memory, it was refused.
     fn answer(&mut self, command: Command) -> Result<Answer, RunError>
         ensures ok { IfOk result (λ answer. Answers
-            (calls_of P.SpanProcessor P.DrainDue.own P.LeavesSpans.own P.KeepsBatches.own S.ShouldSample G.GivesIds)
+            (calls_of P.SpanProcessor P.Timed.own P.CountsLeftSpans.own P.KeepsBatches.own S.ShouldSample G.GivesIds)
             self.old command answer self.new) }
         ensures err { IfErr result (λ error. AnswerStops
-            (calls_of P.SpanProcessor P.DrainDue.own P.LeavesSpans.own P.KeepsBatches.own S.ShouldSample G.GivesIds)
+            (calls_of P.SpanProcessor P.Timed.own P.CountsLeftSpans.own P.KeepsBatches.own S.ShouldSample G.GivesIds)
             error self.old command self.new) }
         ensures rest { self.new ≡ record self.old { provider = self.new.provider; spans = self.new.spans } }
         ensures keeps { Grows (session_batches P.KeepsBatches.own self.old)

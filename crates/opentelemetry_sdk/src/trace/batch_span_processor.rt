@@ -21,7 +21,7 @@ use otel_batch::machine::{BatchMachine, Request};
 use otel_batch::trace::BatchConfig;
 use otel_export::error::{OTelSdkError, OTelSdkResult};
 use otel_export::trace::{SpanData, SpanExporter, StoresBatches};
-use otel_pipeline::trace::{DrainDue, LeavesSpans, Span, SpanProcessor};
+use otel_pipeline::trace::{Timed, CountsLeftSpans, Span, SpanProcessor};
 use otel_resource::resource::Resource;
 use std::alloc::{AllocError, Global};
 use std::marker::Model;
@@ -272,7 +272,7 @@ impl<E: SpanExporter> SpanProcessor for BatchSpanProcessor<E> {
     }
 }
 
-impl<E: SpanExporter> DrainDue for BatchSpanProcessor<E> {
+impl<E: SpanExporter> Timed for BatchSpanProcessor<E> {
     ghost use Rattle.opentelemetry_sdk.specs.BatchProcessor.{BatchDue};
 
     ghost due_gives = { BatchDue E.SpanExporter };
@@ -285,7 +285,7 @@ impl<E: SpanExporter> DrainDue for BatchSpanProcessor<E> {
     }
 }
 
-impl<E: SpanExporter> LeavesSpans for BatchSpanProcessor<E> {
+impl<E: SpanExporter> CountsLeftSpans for BatchSpanProcessor<E> {
     ghost use Rattle.std.specs.Prelude.{true, length, refl};
     ghost use Rattle.otel_pipeline.specs.LeftSpans.{left_unless_shut};
 

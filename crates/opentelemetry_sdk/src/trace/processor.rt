@@ -7,7 +7,7 @@ use otel_export::error::OTelSdkResult;
 use otel_export::trace::{ExporterBox, SpanData, SpanExporter, StoresBatches};
 use otel_kept::KeepsBatches;
 use otel_pipeline::trace::{
-    DrainDue, LeavesSpans, OverExporter, SimpleSpanProcessor, Span, SpanProcessor,
+    Timed, CountsLeftSpans, FromExporter, SimpleSpanProcessor, Span, SpanProcessor,
 };
 use otel_resource::resource::Resource;
 use otel_sampling::trace::BatchStrings;
@@ -101,7 +101,7 @@ impl<E: SpanExporter, C: SpanProcessor> SpanProcessor for ProcessorOf<E, C> {
     }
 }
 
-impl<E: SpanExporter, C: SpanProcessor> DrainDue for ProcessorOf<E, C> {
+impl<E: SpanExporter, C: SpanProcessor> Timed for ProcessorOf<E, C> {
     ghost use Rattle.opentelemetry_sdk.specs.BatchProcessor.{BatchDue};
     ghost use Rattle.opentelemetry_sdk.specs.ProcessorKinds.{NothingDue, ProcessorGives};
 
@@ -119,7 +119,7 @@ impl<E: SpanExporter, C: SpanProcessor> DrainDue for ProcessorOf<E, C> {
 }
 
 /// Nothing is asked of a processor of the caller's own: it counts as one that leaves and drops none.
-impl<E: SpanExporter, C: SpanProcessor> LeavesSpans for ProcessorOf<E, C> {
+impl<E: SpanExporter, C: SpanProcessor> CountsLeftSpans for ProcessorOf<E, C> {
     ghost use Rattle.std.specs.Prelude.{None};
     ghost use Rattle.otel_batch.specs.MachineState.{stranded_in};
     ghost use Rattle.opentelemetry_sdk.specs.ProcessorKinds.{closed_over_by_kind, dropped_over_by_kind};
@@ -257,7 +257,7 @@ impl<E: StoresBatches, C: SpanProcessor> KeepsBatches for ProcessorOf<E, C> {
     }
 }
 
-impl<E: SpanExporter, C: SpanProcessor> OverExporter for ProcessorOf<E, C> {
+impl<E: SpanExporter, C: SpanProcessor> FromExporter for ProcessorOf<E, C> {
     ghost use Rattle.std.specs.Prelude.{◌≡◌};
     ghost use Rattle.otel_batch.specs.PlainBatchConfig.{PlainBatchConfig, IsBatchConfigOf};
     ghost use Rattle.otel_pipeline.specs.SimpleProcessor.{first_simple};

@@ -9,7 +9,7 @@ ghost use Rattle.otel_pipeline.specs.Provider.{FlushesProcessor, RunsProcessor, 
 ghost use Rattle.otel_pipeline.specs.Starting.{PassesThrough};
 ghost use Rattle.otel_pipeline.specs.SpanHistory.{IsEdited, ended_at};
 
-use crate::trace::{DrainDue, LeavesSpans, Span, SpanProcessor};
+use crate::trace::{Timed, CountsLeftSpans, Span, SpanProcessor};
 use opentelemetry::{Context, Moment};
 use otel_export::error::OTelSdkResult;
 use otel_export::trace::SpanData;
@@ -97,8 +97,8 @@ pub(crate) fn flush_each<P: SpanProcessor>(processors: &mut [P]) -> OTelSdkResul
 }
 
 /// Each is told the time, also after one failed. The answer is how many failed.
-pub(crate) fn run_each<P: DrainDue>(processors: &mut [P], now: Moment) -> usize
-    ensures { AsksAll (RunsProcessor P.SpanProcessor P.DrainDue.own now.0) processors.old processors.new result }
+pub(crate) fn run_each<P: Timed>(processors: &mut [P], now: Moment) -> usize
+    ensures { AsksAll (RunsProcessor P.SpanProcessor P.Timed.own now.0) processors.old processors.new result }
 {
     let mut failed = 0;
     for processor in processors.iter_mut() {
@@ -123,8 +123,8 @@ pub(crate) fn shutdown_each<P: SpanProcessor>(processors: &mut [P], timeout: Dur
 }
 
 /// How many spans those of these processors that closed left behind.
-pub(crate) fn stranded_by<P: LeavesSpans>(processors: &[P]) -> u128
-    ensures { result ≡ sum_by (λ p. unwrap_or (P.LeavesSpans.closed_over p) 0) processors.now }
+pub(crate) fn stranded_by<P: CountsLeftSpans>(processors: &[P]) -> u128
+    ensures { result ≡ sum_by (λ p. unwrap_or (P.CountsLeftSpans.closed_over p) 0) processors.now }
 {
     let mut count = 0;
     for processor in processors {
@@ -135,8 +135,8 @@ pub(crate) fn stranded_by<P: LeavesSpans>(processors: &[P]) -> u128
 }
 
 /// How many spans wait in those of these processors that are open.
-pub(crate) fn left_open_by<P: LeavesSpans>(processors: &[P]) -> u128
-    ensures { result ≡ sum_by P.LeavesSpans.open_over processors.now }
+pub(crate) fn left_open_by<P: CountsLeftSpans>(processors: &[P]) -> u128
+    ensures { result ≡ sum_by P.CountsLeftSpans.open_over processors.now }
 {
     let mut count = 0;
     for processor in processors {
@@ -146,8 +146,8 @@ pub(crate) fn left_open_by<P: LeavesSpans>(processors: &[P]) -> u128
 }
 
 /// How many spans these processors dropped.
-pub(crate) fn dropped_by<P: LeavesSpans>(processors: &[P]) -> u128
-    ensures { result ≡ sum_by P.LeavesSpans.dropped_over processors.now }
+pub(crate) fn dropped_by<P: CountsLeftSpans>(processors: &[P]) -> u128
+    ensures { result ≡ sum_by P.CountsLeftSpans.dropped_over processors.now }
 {
     let mut count = 0;
     for processor in processors {

@@ -19,7 +19,7 @@ use crate::trace::each_processor::{
     copies_of, dropped_by, end_each, flush_each, left_open_by, run_each, shutdown_each, start_each,
     stranded_by,
 };
-use crate::trace::{CloseReport, DrainDue, LeavesSpans, SdkTracer, Span, SpanProcessor};
+use crate::trace::{CloseReport, Timed, CountsLeftSpans, SdkTracer, Span, SpanProcessor};
 use opentelemetry::trace::SpanBuilder;
 use opentelemetry::{Context, InstrumentationScope, Moment, SpanId, TraceId};
 use otel_export::error::{OTelSdkError, OTelSdkResult};
@@ -238,15 +238,15 @@ impl<P: SpanProcessor, S: Drop, G: Drop> ProviderOf<P, S, G> {
     }
 }
 
-impl<P: LeavesSpans, S: Drop, G: Drop> ProviderOf<P, S, G> {
+impl<P: CountsLeftSpans, S: Drop, G: Drop> ProviderOf<P, S, G> {
     /// Spends the provider. Where it is still open it is shut down. The report has the answer of the shutdown and how many
     /// spans are left in the queues of the processors.
     pub fn close(mut self) -> CloseReport
         ensures shut { OnTrue self.is_shut ((result.result ≡ Ok tt)
-            × ReportsLeft P.LeavesSpans.own self.processors result) }
+            × ReportsLeft P.CountsLeftSpans.own self.processors result) }
         ensures open { OnFalse self.is_shut ((after : _)
             × ShutsDown P.SpanProcessor self 5_000_000_000 result.result after
-            × ReportsLeft P.LeavesSpans.own after.processors result) }
+            × ReportsLeft P.CountsLeftSpans.own after.processors result) }
     {
         if self.is_shut {
             return self.report(Ok(()));
@@ -258,7 +258,7 @@ impl<P: LeavesSpans, S: Drop, G: Drop> ProviderOf<P, S, G> {
     /// Spends the provider, and reports this answer and what the processors leave.
     fn report(self, answer: OTelSdkResult) -> CloseReport
         ensures answer { result.result ≡ answer }
-        ensures left { ReportsLeft P.LeavesSpans.own self.processors result }
+        ensures left { ReportsLeft P.CountsLeftSpans.own self.processors result }
     {
         let ProviderOf {
             processors,
@@ -276,21 +276,21 @@ impl<P: LeavesSpans, S: Drop, G: Drop> ProviderOf<P, S, G> {
     }
 }
 
-impl<P: LeavesSpans, S, G> ProviderOf<P, S, G> {
+impl<P: CountsLeftSpans, S, G> ProviderOf<P, S, G> {
     /// How many spans the processors dropped because their queues were full, those of all processors together.
     pub fn dropped_count(&self) -> u128
-        ensures { result ≡ sum_by P.LeavesSpans.dropped_over self.now.processors }
+        ensures { result ≡ sum_by P.CountsLeftSpans.dropped_over self.now.processors }
     {
         dropped_by(&self.processors)
     }
 }
 
-impl<P: DrainDue, S: Drop, G: Drop> ProviderOf<P, S, G> {
+impl<P: Timed, S: Drop, G: Drop> ProviderOf<P, S, G> {
     /// Tells every processor the time, also after one failed, and also where the provider is shut, so that each does what
     /// is due: a batch processor drains its queue, and no other kind does anything. Failures are an `InternalFailure`
     /// that counts them. Whoever runs the provider calls it now and then, with later and later moments.
     pub fn run_processors(&mut self, now: Moment) -> OTelSdkResult
-        ensures runs { RunsDue P.SpanProcessor P.DrainDue.own now.0 self.old result self.new }
+        ensures runs { RunsDue P.SpanProcessor P.Timed.own now.0 self.old result self.new }
 
         // No span is delivered.
         ensures told { EachFollows P.SpanProcessor [] self.old.processors self.new.processors }

@@ -11,7 +11,7 @@ ghost use Rattle.otel_pipeline.specs.ProviderBuilder as building;
 ghost use Rattle.otel_pipeline.specs.ProviderBuilder.{BeginsBy, Builds, Opens, RefusesResource, TakesResource, with_limits};
 
 use crate::trace::provider::{provider_of_none, provider_over};
-use crate::trace::{OverExporter, ProviderOf, SpanProcessor};
+use crate::trace::{FromExporter, ProviderOf, SpanProcessor};
 use otel_resource::resource::Resource;
 use otel_sampling::trace::{
     BatchStrings, ConfigOf, ConfigStrings, IdSource, IdSourceOf, RandomIdGenerator, Sampler,
@@ -99,7 +99,7 @@ impl<P, S, G> ProviderOf<P, S, G> {
     }
 }
 
-impl<P: OverExporter, S, G> ProviderBuilderOf<P, S, G> {
+impl<P: FromExporter, S, G> ProviderBuilderOf<P, S, G> {
     /// Adds a processor that hands each sampled span to this exporter when it ends.
     pub fn with_simple_exporter(self, exporter: P::Exporter) -> Result<Self, AllocFailed<Self>>
         ensures { MatchResult result

@@ -4,7 +4,7 @@
 ghost use Rattle.std.specs.Prelude.{◌≡◌, ◌∷◌, [], IfOk};
 ghost use Rattle.otel_pipeline.specs.SimpleProcessor.{first_simple};
 
-use crate::trace::{LeavesSpans, Span, SpanProcessor};
+use crate::trace::{CountsLeftSpans, Span, SpanProcessor};
 use opentelemetry::Context;
 use otel_export::error::OTelSdkResult;
 use otel_export::trace::{SpanData, SpanExporter, StoresBatches};
@@ -118,7 +118,7 @@ impl<E: SpanExporter> SpanProcessor for SimpleSpanProcessor<E> {
     }
 }
 
-impl<E: SpanExporter> LeavesSpans for SimpleSpanProcessor<E> {
+impl<E: SpanExporter> CountsLeftSpans for SimpleSpanProcessor<E> {
     ghost use Rattle.std.specs.Prelude.{true, not, refl};
     ghost use Rattle.otel_pipeline.specs.LeftSpans.{none_left};
 

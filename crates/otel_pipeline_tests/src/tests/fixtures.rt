@@ -5,7 +5,7 @@ use opentelemetry::{Context, Key, KeyValue, Moment, TraceId, Value};
 use otel_export::error::{OTelSdkError, OTelSdkResult};
 use otel_export::trace::SpanData;
 use otel_pipeline::trace::provider::provider_over;
-use otel_pipeline::trace::{DrainDue, LeavesSpans, ProviderOf, SdkTracer, Span, SpanProcessor};
+use otel_pipeline::trace::{Timed, CountsLeftSpans, ProviderOf, SdkTracer, Span, SpanProcessor};
 use otel_resource::resource::Resource;
 use otel_sampling::trace::{
     ConfigOf, GivesIds, RandomIdGenerator, SamplingDecision, SamplingResult, ShouldSample,
@@ -96,7 +96,7 @@ impl SpanProcessor for Writer {
     }
 }
 
-impl DrainDue for Writer {
+impl Timed for Writer {
     ghost due_gives = { λ _ _ _ _. Unit {0} };
 
     fn drain_due(&mut self, _now: Moment) -> OTelSdkResult {
@@ -104,7 +104,7 @@ impl DrainDue for Writer {
     }
 }
 
-impl LeavesSpans for Writer {
+impl CountsLeftSpans for Writer {
     ghost use Rattle.std.specs.Prelude.{false};
 
     ghost leaves_told = { λ _. false };

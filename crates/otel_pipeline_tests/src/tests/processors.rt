@@ -5,7 +5,7 @@ use super::fixtures::{
 };
 use opentelemetry::Moment;
 use otel_export::error::OTelSdkResult;
-use otel_pipeline::trace::{DrainDue, ProviderOf, Span, SpanProcessor};
+use otel_pipeline::trace::{Timed, ProviderOf, Span, SpanProcessor};
 use otel_sampling::trace::{GivesIds, SamplingDecision, ShouldSample};
 use std::alloc::Global;
 use std::process::Abort;
@@ -46,7 +46,7 @@ fn text_of(rt: &impl Abort, alloc: Global, answer: OTelSdkResult) -> String {
 }
 
 /// What a flush, a moment, a shutdown and a second one answer.
-fn requested<P: DrainDue, S: Drop, G: Drop>(
+fn requested<P: Timed, S: Drop, G: Drop>(
     rt: &impl Abort,
     alloc: Global,
     provider: &mut ProviderOf<P, S, G>,
@@ -59,7 +59,7 @@ fn requested<P: DrainDue, S: Drop, G: Drop>(
 }
 
 /// What the processors of a provider refused and answered.
-fn asked_of<P: DrainDue, S: ShouldSample, G: GivesIds>(
+fn asked_of<P: Timed, S: ShouldSample, G: GivesIds>(
     rt: &impl Abort,
     alloc: Global,
     provider: &mut ProviderOf<P, S, G>,

@@ -3,7 +3,7 @@
 use super::fixtures::{Board, SETUP, Writer, empty_board, writer_after};
 use opentelemetry::Value;
 use otel_export::error::OTelSdkResult;
-use otel_pipeline::trace::{LeavesSpans, ProviderBuilderOf, ProviderOf};
+use otel_pipeline::trace::{CountsLeftSpans, ProviderBuilderOf, ProviderOf};
 use otel_resource::resource::Resource;
 use otel_sampling::trace::{
     BatchStrings, ConfigOf, IdSourceOf, RandomIdGenerator, SamplerOf, SpanLimits,
@@ -47,7 +47,7 @@ fn with_writers<S: Drop, G: Drop>(
 }
 
 /// How the provider closes that the builder makes; the builder where it makes none.
-fn built<P: LeavesSpans, S: Drop, G: Drop>(
+fn built<P: CountsLeftSpans, S: Drop, G: Drop>(
     builder: ProviderBuilderOf<P, S, G>,
 ) -> Result<OTelSdkResult, ProviderBuilderOf<P, S, G>> {
     match builder.build() {
@@ -64,7 +64,7 @@ fn builder_of_two(rt: &impl Abort, alloc: Global, board: &Board) -> TestBuilder 
 }
 
 /// What stands on a board where the builder was refused, and where it builds again and the provider is closed.
-fn built_twice<P: LeavesSpans, S: Drop, G: Drop>(
+fn built_twice<P: CountsLeftSpans, S: Drop, G: Drop>(
     rt: &impl Abort,
     builder: ProviderBuilderOf<P, S, G>,
     board: &Board,

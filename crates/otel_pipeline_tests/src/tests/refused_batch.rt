@@ -6,7 +6,7 @@ use opentelemetry::Moment;
 use opentelemetry_sdk::trace::Processor;
 use otel_export::trace::{ExporterBox, InMemorySpanExporter};
 use otel_kept::KeepsBatches;
-use otel_pipeline::trace::{DrainDue, OverExporter, ProviderBuilderOf, ProviderOf, SpanProcessor};
+use otel_pipeline::trace::{Timed, FromExporter, ProviderBuilderOf, ProviderOf, SpanProcessor};
 use otel_resource::resource::Resource;
 use otel_sampling::trace::{ConfigStrings, GivesIds, IdSource, Sampler, ShouldSample};
 use std::alloc::Global;
@@ -43,7 +43,7 @@ fn begin_again<P>(rt: &impl Abort, alloc: Global) -> ProviderBuilderOf<P, Sample
 }
 
 /// Adds a batch processor over the first exporter, or over the second where that finds no memory.
-fn with_batch_again<P: OverExporter, S: Drop, G: Drop>(
+fn with_batch_again<P: FromExporter, S: Drop, G: Drop>(
     rt: &impl Abort,
     builder: ProviderBuilderOf<P, S, G>,
     first: P::Exporter,
@@ -115,7 +115,7 @@ fn export<P: SpanProcessor, S: ShouldSample, G: GivesIds>(
 }
 
 /// The timer is started and runs out twice; then the provider is flushed. The answer is whether that was well.
-fn drain<P: DrainDue, S: Drop, G: Drop>(provider: &mut ProviderOf<P, S, G>) -> bool {
+fn drain<P: Timed, S: Drop, G: Drop>(provider: &mut ProviderOf<P, S, G>) -> bool {
     for seconds in [0, 5, 10] {
         let _ = provider.run_processors(Moment(seconds * 1_000_000_000));
     }
@@ -153,7 +153,7 @@ fn exported<P: KeepsBatches, S: ShouldSample, G: GivesIds>(
 }
 
 /// What comes of a span at a provider with a batch processor, whose builder is handed two resources.
-fn exported_in_a_batch<P: OverExporter + KeepsBatches, S: ShouldSample, G: GivesIds>(
+fn exported_in_a_batch<P: FromExporter + KeepsBatches, S: ShouldSample, G: GivesIds>(
     rt: &impl Abort,
     alloc: Global,
     builder: ProviderBuilderOf<P, S, G>,
@@ -166,7 +166,7 @@ fn exported_in_a_batch<P: OverExporter + KeepsBatches, S: ShouldSample, G: Gives
 }
 
 /// The same with a processor that exports at once, and no resource.
-fn exported_at_once<P: OverExporter + KeepsBatches, S: ShouldSample, G: GivesIds>(
+fn exported_at_once<P: FromExporter + KeepsBatches, S: ShouldSample, G: GivesIds>(
     rt: &impl Abort,
     alloc: Global,
     builder: ProviderBuilderOf<P, S, G>,
@@ -180,7 +180,7 @@ fn exported_at_once<P: OverExporter + KeepsBatches, S: ShouldSample, G: GivesIds
 }
 
 /// What comes of two spans, one at each of both providers.
-fn exported_by_each<P: OverExporter + KeepsBatches>(
+fn exported_by_each<P: FromExporter + KeepsBatches>(
     rt: &impl Abort,
     alloc: Global,
     exporters: (P::Exporter, P::Exporter),

@@ -9,7 +9,7 @@ use Rattle.otel_trace_run.proofs.picture.draw_input.Goals as goal
 
 pub returns-in_default-write_whole : goal.returns-in_default-write_whole
 returns-in_default-write_whole g c =
-    let calls = calls_of g.P.SpanProcessor g.P.DrainDue g.P.LeavesSpans g.P.KeepsBatches g.S.ShouldSample g.G.GivesIds in
+    let calls = calls_of g.P.SpanProcessor g.P.Timed g.P.CountsLeftSpans g.P.KeepsBatches g.S.ShouldSample g.G.GivesIds in
     let lost : LostNothing c.close_in-closed.result true = search rules in
     let d = draws_from calls g.met.P.KeepsBatches.appends (g.D.SpanPainter.paints c.args.painter.now) c.args.provider c.in-Ok.session
     c.draw_lines-drawn.new.session _ _ c.in-Some.drawn.bad_line c.in-Some.drawn.bad_line c.in-Some.drawn.picture.items
@@ -26,7 +26,7 @@ returns-in_default-write_whole g c =
 
 pub returns-in-None : goal.returns-in-None
 returns-in-None g c =
-    let calls = calls_of g.P.SpanProcessor g.P.DrainDue g.P.LeavesSpans g.P.KeepsBatches g.S.ShouldSample g.G.GivesIds in
+    let calls = calls_of g.P.SpanProcessor g.P.Timed g.P.CountsLeftSpans g.P.KeepsBatches g.S.ShouldSample g.G.GivesIds in
     let lost : LostNothing c.close_in-closed.result true = search rules in
     let none : c.in-Some.drawn.bad_line ≡ None = search rules in
     let d = draws_from calls g.met.P.KeepsBatches.appends (g.D.SpanPainter.paints c.args.painter.now) c.args.provider c.in-Ok.session
@@ -45,7 +45,7 @@ returns-in-None g c =
 
 pub returns : goal.returns
 returns g c =
-    let calls = calls_of g.P.SpanProcessor g.P.DrainDue g.P.LeavesSpans g.P.KeepsBatches g.S.ShouldSample g.G.GivesIds in
+    let calls = calls_of g.P.SpanProcessor g.P.Timed g.P.CountsLeftSpans g.P.KeepsBatches g.S.ShouldSample g.G.GivesIds in
     let lost : LostNothing c.close_in-closed.result true = search rules in
     let bad : c.in-Some.drawn.bad_line ≡ Some c.in-Some-bad_line.line = search rules in
     let d = draws_from calls g.met.P.KeepsBatches.appends (g.D.SpanPainter.paints c.args.painter.now) c.args.provider c.in-Ok.session

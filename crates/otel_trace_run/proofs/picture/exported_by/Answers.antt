@@ -10,7 +10,7 @@ use Rattle.otel_trace_run.proofs.picture.exported_by.Goals as goal
 
 pub returns-in-Ok-spans_of : goal.returns-in-Ok-spans_of
 returns-in-Ok-spans_of g c =
-    let calls = calls_of g.P.SpanProcessor g.P.DrainDue g.P.LeavesSpans g.P.KeepsBatches g.S.ShouldSample g.G.GivesIds in
+    let calls = calls_of g.P.SpanProcessor g.P.Timed g.P.CountsLeftSpans g.P.KeepsBatches g.S.ShouldSample g.G.GivesIds in
     let first = c.run.new.replies.items in
     let looked : c.any.result ≡ list_any (λ (reply : PlainReply). counts_refusals reply.answer) c.deref.result.now =
     any_from_yields_List (λ (reply : PlainReply). counts_refusals reply.answer) _ _ c.any.result c.any.ensures.ran

@@ -23,7 +23,7 @@ piece_fed calls form now old new bytes lines fed Written same are h =
 
 pub loop-init : goal.loop-init
 loop-init g c =
-    let calls = calls_of g.P.SpanProcessor g.P.DrainDue g.P.LeavesSpans g.P.KeepsBatches g.S.ShouldSample g.G.GivesIds in
+    let calls = calls_of g.P.SpanProcessor g.P.Timed g.P.CountsLeftSpans g.P.KeepsBatches g.S.ShouldSample g.G.GivesIds in
     let form = g.F.ReplyForm.form c.args.form.now in
     let begun = c.args.session.now in
     let empty : c.new-pieces.result.rest ≡ [] = ap (λ (p : PlainPieces). p.rest) c.new-pieces.ensures in (
@@ -35,7 +35,7 @@ loop-init g c =
 
 pub returns-in_err-goes_on-clause-err : goal.returns-in_err-goes_on-clause-err
 returns-in_err-goes_on-clause-err g c =
-    let calls = calls_of g.P.SpanProcessor g.P.DrainDue g.P.LeavesSpans g.P.KeepsBatches g.S.ShouldSample g.G.GivesIds in
+    let calls = calls_of g.P.SpanProcessor g.P.Timed g.P.CountsLeftSpans g.P.KeepsBatches g.S.ShouldSample g.G.GivesIds in
     let form = g.F.ReplyForm.form c.args.form.now in
     always_on_err c.from_residual.result
     (begun_whole calls form (c.args.session.now) _ _ _ (begun_reading calls form g.met.P.KeepsBatches.recalls (c.args.session.now) c.has_histories.ensures.0 c.has_histories.ensures.1
@@ -43,7 +43,7 @@ returns-in_err-goes_on-clause-err g c =
 
 pub returns-in_err-feed_piece-clause-err : goal.returns-in_err-feed_piece-clause-err
 returns-in_err-feed_piece-clause-err g c =
-    let calls = calls_of g.P.SpanProcessor g.P.DrainDue g.P.LeavesSpans g.P.KeepsBatches g.S.ShouldSample g.G.GivesIds in
+    let calls = calls_of g.P.SpanProcessor g.P.Timed g.P.CountsLeftSpans g.P.KeepsBatches g.S.ShouldSample g.G.GivesIds in
     let form = g.F.ReplyForm.form c.args.form.now in
     let h = c.in_err-feed_piece.ensures.err in
     let next = c.feed_piece.new.session in
@@ -54,7 +54,7 @@ returns-in_err-feed_piece-clause-err g c =
 
 pub returns-in-Err-Line-clause-ok : goal.returns-in-Err-Line-clause-ok
 returns-in-Err-Line-clause-ok g c =
-    let calls = calls_of g.P.SpanProcessor g.P.DrainDue g.P.LeavesSpans g.P.KeepsBatches g.S.ShouldSample g.G.GivesIds in
+    let calls = calls_of g.P.SpanProcessor g.P.Timed g.P.CountsLeftSpans g.P.KeepsBatches g.S.ShouldSample g.G.GivesIds in
     let form = g.F.ReplyForm.form c.args.form.now in
     let begun = c.args.session.now in
     let fed = c.in_ok-feed_piece.field-0 in
@@ -70,7 +70,7 @@ returns-in-Err-Line-clause-ok g c =
 
 pub returns-in-Err-Memory : goal.returns-in-Err-Memory
 returns-in-Err-Memory g c =
-    let calls = calls_of g.P.SpanProcessor g.P.DrainDue g.P.LeavesSpans g.P.KeepsBatches g.S.ShouldSample g.G.GivesIds in
+    let calls = calls_of g.P.SpanProcessor g.P.Timed g.P.CountsLeftSpans g.P.KeepsBatches g.S.ShouldSample g.G.GivesIds in
     let form = g.F.ReplyForm.form c.args.form.now in
     let fed = c.in_ok-feed_piece.field-0 in
     let next = c.feed_piece.new.session in
@@ -84,7 +84,7 @@ returns-in-Err-Memory g c =
 
 pub returns-then-not-goes_on-clause-ok : goal.returns-then-not-goes_on-clause-ok
 returns-then-not-goes_on-clause-ok g c =
-    let calls = calls_of g.P.SpanProcessor g.P.DrainDue g.P.LeavesSpans g.P.KeepsBatches g.S.ShouldSample g.G.GivesIds in
+    let calls = calls_of g.P.SpanProcessor g.P.Timed g.P.CountsLeftSpans g.P.KeepsBatches g.S.ShouldSample g.G.GivesIds in
     let form = g.F.ReplyForm.form c.args.form.now in
     let fed = c.in_ok-feed_piece.field-0 in
     let next = c.feed_piece.new.session in
@@ -95,7 +95,7 @@ returns-then-not-goes_on-clause-ok g c =
 
 pub returns-in-None-clause-ok : goal.returns-in-None-clause-ok
 returns-in-None-clause-ok g c =
-    let calls = calls_of g.P.SpanProcessor g.P.DrainDue g.P.LeavesSpans g.P.KeepsBatches g.S.ShouldSample g.G.GivesIds in
+    let calls = calls_of g.P.SpanProcessor g.P.Timed g.P.CountsLeftSpans g.P.KeepsBatches g.S.ShouldSample g.G.GivesIds in
     let form = g.F.ReplyForm.form c.args.form.now in
     let fed = c.in_ok-feed_piece.field-0 in
     let next = c.feed_piece.new.session in
@@ -105,7 +105,7 @@ returns-in-None-clause-ok g c =
 
 pub loop-preserved : goal.loop-preserved
 loop-preserved g c =
-    let calls = calls_of g.P.SpanProcessor g.P.DrainDue g.P.LeavesSpans g.P.KeepsBatches g.S.ShouldSample g.G.GivesIds in
+    let calls = calls_of g.P.SpanProcessor g.P.Timed g.P.CountsLeftSpans g.P.KeepsBatches g.S.ShouldSample g.G.GivesIds in
     let form = g.F.ReplyForm.form c.args.form.now in
     let fed = c.in_ok-feed_piece.field-0 in
     let next = c.feed_piece.new.session in
@@ -119,7 +119,7 @@ loop-preserved g c =
 
 pub returns-clause-ok : goal.returns-clause-ok
 returns-clause-ok g c =
-    let calls = calls_of g.P.SpanProcessor g.P.DrainDue g.P.LeavesSpans g.P.KeepsBatches g.S.ShouldSample g.G.GivesIds in
+    let calls = calls_of g.P.SpanProcessor g.P.Timed g.P.CountsLeftSpans g.P.KeepsBatches g.S.ShouldSample g.G.GivesIds in
     let form = g.F.ReplyForm.form c.args.form.now in
     begun_turning calls form g.met.P.KeepsBatches.recalls (c.args.session.now) c.has_histories.ensures.0 c.has_histories.ensures.1
     (c.loop.session) _ _ _ _ c.loop.pieces.rest c.loop.before c.loop.invariant.1

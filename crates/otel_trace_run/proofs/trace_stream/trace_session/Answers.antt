@@ -20,13 +20,13 @@ closed_anew calls form now session before text answer same none h =
 
 pub returns-in_default : goal.returns-in_default
 returns-in_default g c =
-    let calls = calls_of g.P.SpanProcessor g.P.DrainDue g.P.LeavesSpans g.P.KeepsBatches g.S.ShouldSample g.G.GivesIds in
+    let calls = calls_of g.P.SpanProcessor g.P.Timed g.P.CountsLeftSpans g.P.KeepsBatches g.S.ShouldSample g.G.GivesIds in
     let form = g.F.ReplyForm.form c.args.form.now in
     some_broken calls form g.met.P.KeepsBatches.recalls (c.args.session) _ _ _ c.in_default.ensures.err (g.R.Read.remaining c.feed_pieces-fed.new.input)
 
 pub returns-in_default-write_whole : goal.returns-in_default-write_whole
 returns-in_default-write_whole g c =
-    let calls = calls_of g.P.SpanProcessor g.P.DrainDue g.P.LeavesSpans g.P.KeepsBatches g.S.ShouldSample g.G.GivesIds in
+    let calls = calls_of g.P.SpanProcessor g.P.Timed g.P.CountsLeftSpans g.P.KeepsBatches g.S.ShouldSample g.G.GivesIds in
     let form = g.F.ReplyForm.form c.args.form.now in
     let now = c.feed_pieces-fed.new.session in
     let closing = c.close_in-closed.new.output.items in
@@ -36,7 +36,7 @@ returns-in_default-write_whole g c =
 
 pub returns-then-not-lost_nothing : goal.returns-then-not-lost_nothing
 returns-then-not-lost_nothing g c =
-    let calls = calls_of g.P.SpanProcessor g.P.DrainDue g.P.LeavesSpans g.P.KeepsBatches g.S.ShouldSample g.G.GivesIds in
+    let calls = calls_of g.P.SpanProcessor g.P.Timed g.P.CountsLeftSpans g.P.KeepsBatches g.S.ShouldSample g.G.GivesIds in
     let form = g.F.ReplyForm.form c.args.form.now in
     let now = c.feed_pieces-fed.new.session in
     let closing = c.close_in-closed.new.output.items in
@@ -46,7 +46,7 @@ returns-then-not-lost_nothing g c =
 
 pub returns : goal.returns
 returns g c =
-    let calls = calls_of g.P.SpanProcessor g.P.DrainDue g.P.LeavesSpans g.P.KeepsBatches g.S.ShouldSample g.G.GivesIds in
+    let calls = calls_of g.P.SpanProcessor g.P.Timed g.P.CountsLeftSpans g.P.KeepsBatches g.S.ShouldSample g.G.GivesIds in
     let form = g.F.ReplyForm.form c.args.form.now in
     let now = c.feed_pieces-fed.new.session in
     let closed = c.close_in-closed.result in

@@ -23,7 +23,7 @@ use Rattle.otel_trace_session.proofs.carry_out.carry_out.Goals as goal
 
 pub returns-in-Root-clause-ok : goal.returns-in-Root-clause-ok
 returns-in-Root-clause-ok g c =
-    let calls = calls_of g.P.SpanProcessor g.P.DrainDue g.P.LeavesSpans g.P.KeepsBatches g.S.ShouldSample g.G.GivesIds in
+    let calls = calls_of g.P.SpanProcessor g.P.Timed g.P.CountsLeftSpans g.P.KeepsBatches g.S.ShouldSample g.G.GivesIds in
     let span = string_bytes c.in-Start.span in
     let name = string_bytes c.in-Start.name in
     let moment = c.in-Start.moment.0 in
@@ -36,7 +36,7 @@ returns-in-Root-clause-ok g c =
 
 pub returns-in-Parent-clause-ok : goal.returns-in-Parent-clause-ok
 returns-in-Parent-clause-ok g c =
-    let calls = calls_of g.P.SpanProcessor g.P.DrainDue g.P.LeavesSpans g.P.KeepsBatches g.S.ShouldSample g.G.GivesIds in
+    let calls = calls_of g.P.SpanProcessor g.P.Timed g.P.CountsLeftSpans g.P.KeepsBatches g.S.ShouldSample g.G.GivesIds in
     let span = string_bytes c.in-Start.span in
     let name = string_bytes c.in-Start.name in
     let moment = c.in-Start.moment.0 in
@@ -50,7 +50,7 @@ returns-in-Parent-clause-ok g c =
 
 pub returns-in_ok-cx-in-Header-clause-ok : goal.returns-in_ok-cx-in-Header-clause-ok
 returns-in_ok-cx-in-Header-clause-ok g c =
-    let calls = calls_of g.P.SpanProcessor g.P.DrainDue g.P.LeavesSpans g.P.KeepsBatches g.S.ShouldSample g.G.GivesIds in
+    let calls = calls_of g.P.SpanProcessor g.P.Timed g.P.CountsLeftSpans g.P.KeepsBatches g.S.ShouldSample g.G.GivesIds in
     let span = string_bytes c.in-Start.span in
     let name = string_bytes c.in-Start.name in
     let moment = c.in-Start.moment.0 in
@@ -64,7 +64,7 @@ returns-in_ok-cx-in-Header-clause-ok g c =
 
 pub returns-in_ok-cx-in-Header-clause-err : goal.returns-in_ok-cx-in-Header-clause-err
 returns-in_ok-cx-in-Header-clause-err g c =
-    let calls = calls_of g.P.SpanProcessor g.P.DrainDue g.P.LeavesSpans g.P.KeepsBatches g.S.ShouldSample g.G.GivesIds in
+    let calls = calls_of g.P.SpanProcessor g.P.Timed g.P.CountsLeftSpans g.P.KeepsBatches g.S.ShouldSample g.G.GivesIds in
     let span = string_bytes c.in-Start.span in
     let name = string_bytes c.in-Start.name in
     let moment = c.in-Start.moment.0 in
@@ -81,7 +81,7 @@ returns-in_ok-cx-in-Header-clause-err g c =
 
 pub returns-in-Edit-clause-ok : goal.returns-in-Edit-clause-ok
 returns-in-Edit-clause-ok g c =
-    let calls = calls_of g.P.SpanProcessor g.P.DrainDue g.P.LeavesSpans g.P.KeepsBatches g.S.ShouldSample g.G.GivesIds in
+    let calls = calls_of g.P.SpanProcessor g.P.Timed g.P.CountsLeftSpans g.P.KeepsBatches g.S.ShouldSample g.G.GivesIds in
     let span = string_bytes c.in-Edit.span in
     let edit = plain_edit c.in-Edit.edit in
     let does : edit_span span edit ≡ action_of (plain_command c.args.command) = ap plain_action (sym c.in-Edit.is) ∙ c.action_of.ensures in
@@ -92,7 +92,7 @@ returns-in-Edit-clause-ok g c =
 
 pub returns-in-Inject-clause-ok : goal.returns-in-Inject-clause-ok
 returns-in-Inject-clause-ok g c =
-    let calls = calls_of g.P.SpanProcessor g.P.DrainDue g.P.LeavesSpans g.P.KeepsBatches g.S.ShouldSample g.G.GivesIds in
+    let calls = calls_of g.P.SpanProcessor g.P.Timed g.P.CountsLeftSpans g.P.KeepsBatches g.S.ShouldSample g.G.GivesIds in
     let span = string_bytes c.in-Inject.span in
     let does : inject_span span ≡ action_of (plain_command c.args.command) = ap plain_action (sym c.in-Inject.is) ∙ c.action_of.ensures in
     if_ok_map c.inject.result (λ answer h.
@@ -102,7 +102,7 @@ returns-in-Inject-clause-ok g c =
 
 pub returns-in-End-clause-ok : goal.returns-in-End-clause-ok
 returns-in-End-clause-ok g c =
-    let calls = calls_of g.P.SpanProcessor g.P.DrainDue g.P.LeavesSpans g.P.KeepsBatches g.S.ShouldSample g.G.GivesIds in
+    let calls = calls_of g.P.SpanProcessor g.P.Timed g.P.CountsLeftSpans g.P.KeepsBatches g.S.ShouldSample g.G.GivesIds in
     let span = string_bytes c.in-End.span in
     let moment = c.in-End.moment.0 in
     let does : end_span span moment ≡ action_of (plain_command c.args.command) = ap plain_action (sym c.in-End.is) ∙ c.action_of.ensures in
@@ -113,7 +113,7 @@ returns-in-End-clause-ok g c =
 
 pub returns-in-Call-clause-ok : goal.returns-in-Call-clause-ok
 returns-in-Call-clause-ok g c =
-    let calls = calls_of g.P.SpanProcessor g.P.DrainDue g.P.LeavesSpans g.P.KeepsBatches g.S.ShouldSample g.G.GivesIds in
+    let calls = calls_of g.P.SpanProcessor g.P.Timed g.P.CountsLeftSpans g.P.KeepsBatches g.S.ShouldSample g.G.GivesIds in
     let call = plain_call c.in-Call.call in
     let does : call_provider call ≡ action_of (plain_command c.args.command) = ap plain_action (sym c.in-Call.is) ∙ c.action_of.ensures in
     subst (λ (answer : Answer). TurnsFromAny (IsCarriedOut calls c.args.tracer.now (action_of (plain_command c.args.command))) c.args.provider.now c.args.spans.now answer c.call_provider.new.provider c.args.spans.now) (sym c.answer_to_call.ensures)

@@ -5,4 +5,4 @@ use Rattle.otel_trace_session.proofs.laws.flushed_runs_leave_none_waiting.Goals 
 
 pub returns : goal.returns
 returns g c = λ old new histories commands replies took.
-    all_emptied (calls_of g.P.SpanProcessor g.P.DrainDue g.P.LeavesSpans g.P.KeepsBatches g.S.ShouldSample g.G.GivesIds) old.scope (course_of old histories) (course_of new took.after) commands took.turns replies took.replied_to took.are_turns
+    all_emptied (calls_of g.P.SpanProcessor g.P.Timed g.P.CountsLeftSpans g.P.KeepsBatches g.S.ShouldSample g.G.GivesIds) old.scope (course_of old histories) (course_of new took.after) commands took.turns replies took.replied_to took.are_turns

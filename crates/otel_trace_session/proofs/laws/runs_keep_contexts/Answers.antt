@@ -5,4 +5,4 @@ use Rattle.otel_trace_session.proofs.laws.runs_keep_contexts.Goals as goal
 
 pub returns : goal.returns
 returns g c = λ old new histories commands replies describes took.
-    contexts_kept (calls_of g.P.SpanProcessor g.P.DrainDue g.P.LeavesSpans g.P.KeepsBatches g.S.ShouldSample g.G.GivesIds) old.scope (course_of old histories) (course_of new took.after) commands took.turns old.spans new.spans describes took.describes took.are_turns
+    contexts_kept (calls_of g.P.SpanProcessor g.P.Timed g.P.CountsLeftSpans g.P.KeepsBatches g.S.ShouldSample g.G.GivesIds) old.scope (course_of old histories) (course_of new took.after) commands took.turns old.spans new.spans describes took.describes took.are_turns

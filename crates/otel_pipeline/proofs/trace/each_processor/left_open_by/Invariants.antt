@@ -4,6 +4,6 @@ use Rattle.otel_pipeline.proofs.trace.each_processor.left_open_by.Given as goal
 
 abbrev pub invariant-loop-processor : goal.invariant-loop-processor
 invariant-loop-processor g l = record {
-  counted : l.count ≡ sum_by g.P.LeavesSpans.open_over (take l.processor-index l.processors);
+  counted : l.count ≡ sum_by g.P.CountsLeftSpans.open_over (take l.processor-index l.processors);
   few : l.count ≤ l.processor-index * 18_446_744_073_709_551_615;
 }

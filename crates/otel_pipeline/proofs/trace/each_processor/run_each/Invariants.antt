@@ -5,7 +5,7 @@ use Rattle.otel_pipeline.proofs.trace.each_processor.run_each.Given as goal
 
 abbrev pub invariant-loop-processor : goal.invariant-loop-processor
 invariant-loop-processor g l = record {
-  asked : AsksAll (RunsProcessor g.P.SpanProcessor g.P.DrainDue l.fn.now.0) (take l.processor-index l.fn.processors) (take l.processor-index l.processors) l.failed;
+  asked : AsksAll (RunsProcessor g.P.SpanProcessor g.P.Timed l.fn.now.0) (take l.processor-index l.fn.processors) (take l.processor-index l.processors) l.failed;
   rest : drop l.processor-index l.processors ≡ drop l.processor-index l.fn.processors;
   few : l.failed ≤ l.processor-index;
 }

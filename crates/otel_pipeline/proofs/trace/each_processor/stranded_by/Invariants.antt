@@ -5,6 +5,6 @@ use Rattle.otel_pipeline.proofs.trace.each_processor.stranded_by.Given as goal
 
 abbrev pub invariant-loop-processor : goal.invariant-loop-processor
 invariant-loop-processor g l = record {
-  counted : l.count ≡ sum_by (λ p. unwrap_or (g.P.LeavesSpans.closed_over p) 0) (take l.processor-index l.processors);
+  counted : l.count ≡ sum_by (λ p. unwrap_or (g.P.CountsLeftSpans.closed_over p) 0) (take l.processor-index l.processors);
   few : l.count ≤ l.processor-index * 18_446_744_073_709_551_615;
 }

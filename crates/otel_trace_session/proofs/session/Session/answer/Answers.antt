@@ -14,7 +14,7 @@ never e = cc
 
 pub returns-then-lost_batches-lost-clause-keeps : goal.returns-then-lost_batches-lost-clause-keeps
 returns-then-lost_batches-lost-clause-keeps g c =
-    let calls = calls_of g.P.SpanProcessor g.P.DrainDue g.P.LeavesSpans g.P.KeepsBatches g.S.ShouldSample g.G.GivesIds in
+    let calls = calls_of g.P.SpanProcessor g.P.Timed g.P.CountsLeftSpans g.P.KeepsBatches g.S.ShouldSample g.G.GivesIds in
     let inside = c.self.inside in
     let session : SessionState g.row.P.Denot g.row.S.Denot g.row.G.Denot = record { provider = inside.provider; scope = inside.tracer; spans = inside.spans; shown = inside.shown; lost_before = inside.lost_before } in
     let new = record session { provider = c.carry_out.new.provider; spans = c.carry_out.new.spans } in
@@ -23,7 +23,7 @@ returns-then-lost_batches-lost-clause-keeps g c =
 
 pub returns-clause-keeps : goal.returns-clause-keeps
 returns-clause-keeps g c =
-    let calls = calls_of g.P.SpanProcessor g.P.DrainDue g.P.LeavesSpans g.P.KeepsBatches g.S.ShouldSample g.G.GivesIds in
+    let calls = calls_of g.P.SpanProcessor g.P.Timed g.P.CountsLeftSpans g.P.KeepsBatches g.S.ShouldSample g.G.GivesIds in
     let inside = c.self.inside in
     let session : SessionState g.row.P.Denot g.row.S.Denot g.row.G.Denot = record { provider = inside.provider; scope = inside.tracer; spans = inside.spans; shown = inside.shown; lost_before = inside.lost_before } in
     let new = record session { provider = c.carry_out.new.provider; spans = c.carry_out.new.spans } in
@@ -34,7 +34,7 @@ returns-clause-keeps g c =
 
 pub returns-clause-ok : goal.returns-clause-ok
 returns-clause-ok g c =
-    let calls = calls_of g.P.SpanProcessor g.P.DrainDue g.P.LeavesSpans g.P.KeepsBatches g.S.ShouldSample g.G.GivesIds in
+    let calls = calls_of g.P.SpanProcessor g.P.Timed g.P.CountsLeftSpans g.P.KeepsBatches g.S.ShouldSample g.G.GivesIds in
     let inside = c.self.inside in
     let session : SessionState g.row.P.Denot g.row.S.Denot g.row.G.Denot = record { provider = inside.provider; scope = inside.tracer; spans = inside.spans; shown = inside.shown; lost_before = inside.lost_before } in
     let new = record session { provider = c.carry_out.new.provider; spans = c.carry_out.new.spans } in

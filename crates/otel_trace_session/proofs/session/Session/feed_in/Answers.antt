@@ -19,7 +19,7 @@ returns-in_err-script-clause-writes g c =
 
 pub returns-in_err-run_and_write-clause-writes : goal.returns-in_err-run_and_write-clause-writes
 returns-in_err-run_and_write-clause-writes g c =
-    let calls = calls_of g.P.SpanProcessor g.P.DrainDue g.P.LeavesSpans g.P.KeepsBatches g.S.ShouldSample g.G.GivesIds in
+    let calls = calls_of g.P.SpanProcessor g.P.Timed g.P.CountsLeftSpans g.P.KeepsBatches g.S.ShouldSample g.G.GivesIds in
     let p = err_from_is_err_and c.from_residual-in_err-run_and_write.result c.from_residual-in_err-run_and_write.ensures.1 in
     let wrote = c.in_err-run_and_write.ensures.err in
     rw (p.1, p.2) (record {

@@ -10,12 +10,12 @@ use Rattle.otel_trace_session.proofs.session.Session.run.Goals as goal
 
 pub loop-command-init : goal.loop-command-init
 loop-command-init g c =
-    let calls = calls_of g.P.SpanProcessor g.P.DrainDue g.P.LeavesSpans g.P.KeepsBatches g.S.ShouldSample g.G.GivesIds in
+    let calls = calls_of g.P.SpanProcessor g.P.Timed g.P.CountsLeftSpans g.P.KeepsBatches g.S.ShouldSample g.G.GivesIds in
     ([], sym (append-nil _), ran_nothing calls c.args.self.now c.args.commands.items c.from_vec-queue.result.items c.from_vec-queue.ensures.items)
 
 pub returns-in_err-answer-clause-err : goal.returns-in_err-answer-clause-err
 returns-in_err-answer-clause-err g c =
-    let calls = calls_of g.P.SpanProcessor g.P.DrainDue g.P.LeavesSpans g.P.KeepsBatches g.S.ShouldSample g.G.GivesIds in
+    let calls = calls_of g.P.SpanProcessor g.P.Timed g.P.CountsLeftSpans g.P.KeepsBatches g.S.ShouldSample g.G.GivesIds in
     let i = c.loop-command.invariant in
     let error = c.in_err-answer.field-0.0 in
     let p = err_from_is_err_and c.from_residual.result c.from_residual.ensures.1 in
@@ -31,7 +31,7 @@ returns-in_err-answer-clause-err g c =
 
 pub returns-in_err-push_reply-clause-err : goal.returns-in_err-push_reply-clause-err
 returns-in_err-push_reply-clause-err g c =
-    let calls = calls_of g.P.SpanProcessor g.P.DrainDue g.P.LeavesSpans g.P.KeepsBatches g.S.ShouldSample g.G.GivesIds in
+    let calls = calls_of g.P.SpanProcessor g.P.Timed g.P.CountsLeftSpans g.P.KeepsBatches g.S.ShouldSample g.G.GivesIds in
     let i = c.loop-command.invariant in
     let p = err_from_is_err_and c.from_residual-in_err-push_reply.result c.from_residual-in_err-push_reply.ensures.1 in
     rw (p.1, p.2) (
@@ -46,7 +46,7 @@ returns-in_err-push_reply-clause-err g c =
 
 pub loop-command-preserved : goal.loop-command-preserved
 loop-command-preserved g c =
-    let calls = calls_of g.P.SpanProcessor g.P.DrainDue g.P.LeavesSpans g.P.KeepsBatches g.S.ShouldSample g.G.GivesIds in
+    let calls = calls_of g.P.SpanProcessor g.P.Timed g.P.CountsLeftSpans g.P.KeepsBatches g.S.ShouldSample g.G.GivesIds in
     let i = c.loop-command.invariant in
     let reply : PlainReply = record { exported = unshown g.P.KeepsBatches c.answer.new.self; answer = c.in_ok-answer.answer } in (
       i.0 ++ reply ∷ [],
@@ -57,6 +57,6 @@ loop-command-preserved g c =
 
 pub returns-clause-ok : goal.returns-clause-ok
 returns-clause-ok g c =
-    let calls = calls_of g.P.SpanProcessor g.P.DrainDue g.P.LeavesSpans g.P.KeepsBatches g.S.ShouldSample g.G.GivesIds in
+    let calls = calls_of g.P.SpanProcessor g.P.Timed g.P.CountsLeftSpans g.P.KeepsBatches g.S.ShouldSample g.G.GivesIds in
     let i = c.loop-command.invariant in
     (i.0, i.1, ran_all calls c.args.self.now c.loop-command.self c.args.commands.items c.loop-command.queue.items i.0 (search rules) i.2)

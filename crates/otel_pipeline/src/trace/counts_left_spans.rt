@@ -8,7 +8,7 @@ use crate::trace::SpanProcessor;
 
 /// A processor that says how many spans it leaves behind, and how many it dropped. One that has no queue answers `None`
 /// and 0.
-pub trait LeavesSpans: SpanProcessor {
+pub trait CountsLeftSpans: SpanProcessor {
     /// How many spans it closed over. The default says that it never closes over any.
     ghost closed_over: { Self → Option ℕ } = { λ _. None };
 
@@ -43,7 +43,7 @@ pub trait LeavesSpans: SpanProcessor {
 }
 
 /// Nothing is asked of a boxed processor: it counts as one that leaves and drops none, whatever it tells.
-impl LeavesSpans for Box<dyn SpanProcessor> {
+impl CountsLeftSpans for Box<dyn SpanProcessor> {
     ghost use Rattle.std.specs.Prelude.{false};
 
     ghost leaves_told = { λ _. false };

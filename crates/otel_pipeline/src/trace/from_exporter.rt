@@ -9,7 +9,7 @@ use otel_sampling::trace::BatchStrings;
 use std::alloc::{AllocError, Global};
 
 /// A processor of several kinds, which can be made over an exporter: one that exports at once, or one after a queue.
-pub trait OverExporter: SpanProcessor {
+pub trait FromExporter: SpanProcessor {
     type Exporter: Drop;
 
     /// The processor that exports each span at once.

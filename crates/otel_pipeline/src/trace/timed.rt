@@ -10,7 +10,7 @@ use opentelemetry::Moment;
 use otel_export::error::OTelSdkResult;
 
 /// A processor that does what is due when it is told the time.
-pub trait DrainDue: SpanProcessor {
+pub trait Timed: SpanProcessor {
     /// What it does then: the processor before it, the moment, the answer, and the processor after it.
     ghost due_gives: { Self → ℕ → Result (Unit {0}) OTelSdkError → Self → Type 0 };
 
