@@ -1,10 +1,5 @@
 //! The pipeline: configuration, ids, samplers, spans, processors, exporters and the provider.
 
-pub mod batch_span_processor;
-mod batch_worker;
-pub mod processor;
-
-pub use batch_span_processor::{BatchSpanProcessor, BatchSpanProcessorBuilder};
 pub use otel_batch::machine::BatchMachine;
 pub use otel_batch::trace::{
     BatchConfig, BatchConfigBuilder, OTEL_BSP_EXPORT_TIMEOUT, OTEL_BSP_EXPORT_TIMEOUT_DEFAULT,
@@ -16,10 +11,12 @@ pub use otel_export::trace::{
     ExporterBox, ExporterOf, InMemorySpanExporter, SpanData, SpanEvents, SpanExporter, SpanLinks,
     StoresBatches,
 };
-pub use otel_kept::KeepsBatches;
 pub use otel_pipeline::trace::{
-    CloseReport, Timed, Exception, CountsLeftSpans, FromExporter, ProviderBuilderOf, ProviderOf,
-    SdkTracer, SimpleSpanProcessor, Span, SpanEdit, SpanProcessor,
+    CloseReport, CountsLeftSpans, Exception, FromExporter, KeepsBatches, ProviderBuilderOf,
+    ProviderOf, SdkTracer, SimpleSpanProcessor, Span, SpanEdit, SpanProcessor, Timed,
+};
+pub use otel_processors::trace::{
+    BatchSpanProcessor, BatchSpanProcessorBuilder, Processor, ProcessorOf,
 };
 pub use otel_sampling::trace::{
     BatchStrings, Config, ConfigOf, ConfigStrings, GivesIds, IdGenerator, IdSource, IdSourceOf,
@@ -27,7 +24,6 @@ pub use otel_sampling::trace::{
     SamplingDecision, SamplingResult, Setting, SettingFault, ShouldSample, SpanLimits,
     XrayIdGenerator,
 };
-pub use processor::{Processor, ProcessorOf};
 
 /// The provider of the SDK.
 pub type SdkTracerProvider = ProviderOf<Processor, Sampler, IdSource>;

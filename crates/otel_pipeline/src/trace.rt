@@ -1,12 +1,12 @@
 //! The pipeline: a tracer starts a span, edits fill it, its end hands it to each processor of the provider.
 
 pub mod close_report;
-pub mod timed;
+pub mod counts_left_spans;
 mod each_processor;
 pub mod exception;
-pub mod counts_left_spans;
-mod limits;
 pub mod from_exporter;
+pub mod keeps_batches;
+mod limits;
 pub mod provider;
 pub mod provider_builder;
 mod recorded;
@@ -14,14 +14,15 @@ pub mod simple_span_processor;
 pub mod span;
 pub mod span_edit;
 pub mod span_processor;
+pub mod timed;
 pub mod tracer;
 mod value_length;
 
 pub use close_report::CloseReport;
-pub use timed::Timed;
-pub use exception::Exception;
 pub use counts_left_spans::CountsLeftSpans;
+pub use exception::Exception;
 pub use from_exporter::FromExporter;
+pub use keeps_batches::KeepsBatches;
 pub use provider::ProviderOf;
 pub use provider_builder::ProviderBuilderOf;
 pub(crate) use recorded::Recorded;
@@ -29,4 +30,5 @@ pub use simple_span_processor::SimpleSpanProcessor;
 pub use span::Span;
 pub use span_edit::SpanEdit;
 pub use span_processor::SpanProcessor;
+pub use timed::Timed;
 pub use tracer::SdkTracer;

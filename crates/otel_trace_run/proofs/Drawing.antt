@@ -10,7 +10,7 @@ use Rattle.std.specs.List.{list_any}
 use Rattle.otel_export.specs.PlainSpanData.{PlainSpanData, spans_in}
 use Rattle.otel_export.specs.declared.error.OTelSdkError.{OTelSdkError}
 use Rattle.otel_export.specs.declared.error.OTelSdkError.TheVariants as errors
-use Rattle.otel_kept.specs.ProcessorKeeps.{OnlyAppends}
+use Rattle.otel_pipeline.specs.ProcessorKeeps.{OnlyAppends}
 use Rattle.otel_pipeline.specs.Provider.{ProviderState, ShutsDown, shut_answer}
 use Rattle.otel_trace_lines.specs.Commands.{plain_commands, shutdown}
 use Rattle.otel_trace_lines.specs.PlainReply.{NoneRefused, PlainReply, counts_refusals}

@@ -26,7 +26,7 @@ use Rattle.otel_trace_session.specs.declared.session.FeedError.{FeedError}
 use Rattle.otel_trace_session.specs.declared.session.FeedError.TheVariants as feeds
 use Rattle.otel_trace_session.proofs.Forgetting.{RecallsNothingElse}
 use Rattle.otel_trace_session.proofs.RunLemmas.{runs_join}
-use Rattle.otel_kept.specs.RecalledBatches.{LeavesAsMany}
+use Rattle.otel_pipeline.specs.RecalledBatches.{LeavesAsMany}
 use Rattle.otel_trace_session.proofs.CloseLemmas.{EndsWell}
 use Rattle.otel_trace_session.proofs.Streaming.{runs_whole, streams_finish, streams_forget, streams_more, streams_nothing}
 use Rattle.otel_export.specs.Streams.{AppendsBeginning}

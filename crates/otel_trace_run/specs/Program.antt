@@ -21,14 +21,14 @@ use Rattle.otel_pipeline.specs.Provider.{ProviderState}
 use Rattle.otel_pipeline.specs.SimpleProcessor.{first_simple}
 use Rattle.otel_pipeline.specs.declared.trace.timed.Timed as timing
 use Rattle.otel_pipeline.specs.declared.trace.counts_left_spans.CountsLeftSpans as leaving
-use Rattle.otel_kept.specs.declared.keeps_batches.KeepsBatches as keeping
+use Rattle.otel_pipeline.specs.declared.trace.keeps_batches.KeepsBatches as keeping
 use Rattle.otel_pipeline.specs.declared.trace.span_processor.SpanProcessor.{Ghosts}
-use Rattle.opentelemetry_sdk.specs.BatchProcessor.{first_processor}
-use Rattle.opentelemetry_sdk.specs.KeptByKinds.{processor_keeps, processor_loses}
-use Rattle.opentelemetry_sdk.specs.ProcessorKinds.{closed_over_by_kind, dropped_over_by_kind, open_over_by_kind}
-use Rattle.opentelemetry_sdk.specs.RecalledByKinds.{processor_recalled}
-use Rattle.opentelemetry_sdk.specs.declared.trace.processor.ProcessorOf.{ProcessorOf}
-use Rattle.opentelemetry_sdk.specs.declared.trace.processor.ProcessorOf.TheVariants as kinds
+use Rattle.otel_processors.specs.BatchProcessor.{first_processor}
+use Rattle.otel_processors.specs.KeptByKinds.{processor_keeps, processor_loses}
+use Rattle.otel_processors.specs.ProcessorKinds.{closed_over_by_kind, dropped_over_by_kind, open_over_by_kind}
+use Rattle.otel_processors.specs.RecalledByKinds.{processor_recalled}
+use Rattle.otel_processors.specs.declared.trace.processor.ProcessorOf.{ProcessorOf}
+use Rattle.otel_processors.specs.declared.trace.processor.ProcessorOf.TheVariants as kinds
 use Rattle.otel_trace_lines.specs.ReplyForm.{reply_lines}
 use Rattle.otel_trace_session.specs.Calls.{Calls, calls_of}
 use Rattle.otel_trace_run.specs.OtlpRuns.{ExportsAll, otlp_form}

@@ -39,11 +39,10 @@ use opentelemetry::{Context, KeyValue, TraceId};
 use opentelemetry_sdk::trace::{BatchSpanProcessor, ProcessorOf};
 use otel_batch::trace::BatchConfigBuilder;
 use otel_export::error::OTelSdkResult;
-use otel_export::trace::{ExporterOf, InMemorySpanExporter, SpanData, SpanExporter};
-use otel_kept::KeepsBatches;
 use otel_export::stream::write_whole;
+use otel_export::trace::{ExporterOf, InMemorySpanExporter, SpanData, SpanExporter};
 use otel_pipeline::trace::provider::provider_over;
-use otel_pipeline::trace::{Timed, ProviderOf, SimpleSpanProcessor, SpanProcessor};
+use otel_pipeline::trace::{KeepsBatches, ProviderOf, SimpleSpanProcessor, SpanProcessor, Timed};
 use otel_resource::resource::Resource;
 use otel_sampling::trace::{
     ConfigOf, GivesIds, RandomIdGenerator, SamplerOf, SamplingDecision, SamplingResult,

@@ -18,9 +18,8 @@ ghost use Rattle.otel_trace_session.specs.declared.session.FeedError.{FeedError}
 use crate::counted::{bad_line_after, lines_counted};
 use crate::pieces::Pieces;
 use crate::run_end::RunEnd;
-use otel_kept::KeepsBatches;
 use otel_export::stream::write_whole;
-use otel_pipeline::trace::ProviderOf;
+use otel_pipeline::trace::{KeepsBatches, ProviderOf};
 use otel_sampling::trace::{GivesIds, ShouldSample};
 use otel_trace_lines::ReplyForm;
 use otel_trace_session::{FeedError, Session};

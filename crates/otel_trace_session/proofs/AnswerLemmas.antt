@@ -1,7 +1,7 @@
 -- What one command of a session comes to, whatever its answer.
 use Rattle.std.proofs.Common.{◌≡◌, ◌∙◌, Bool, true, false, List, refl, ap}
 use Rattle.otel_export.specs.KeptBatches.{Grows, appends_none}
-use Rattle.otel_kept.specs.ProcessorKeeps.{OnlyAppends}
+use Rattle.otel_pipeline.specs.ProcessorKeeps.{OnlyAppends}
 use Rattle.otel_trace_lines.specs.Commands.{PlainCommand, start, child, remote, attr, event, status, inject, end, flush, run, shutdown, is_end, plain_command}
 use Rattle.otel_trace_lines.specs.declared.command.Command.{Command}
 use Rattle.otel_trace_lines.specs.declared.reply.Answer.{Answer}

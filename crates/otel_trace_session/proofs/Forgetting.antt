@@ -9,8 +9,8 @@ use Rattle.otel_export.specs.PlainSpanData.{PlainSpanData}
 use Rattle.otel_export.specs.KeptBatches.{Grows}
 use Rattle.otel_pipeline.specs.Provider.{ProviderState, ShutsDown, shut_answer}
 use Rattle.otel_pipeline.specs.SpanHistory.{SpanHistory, begun, over, data_of}
-use Rattle.otel_kept.specs.RecalledBatches.{FirstRecalled, Recalls}
-use Rattle.otel_kept.proofs.ProviderRecalls.{delivers_again, first_once, flushes_again, follows_again, runs_again, shuts_again, starts_again, told_again}
+use Rattle.otel_pipeline.specs.RecalledBatches.{FirstRecalled, Recalls}
+use Rattle.otel_pipeline.proofs.ProviderRecalls.{delivers_again, first_once, flushes_again, follows_again, runs_again, shuts_again, starts_again, told_again}
 use Rattle.otel_trace_lines.specs.Commands.{PlainCommand, plain_commands}
 use Rattle.otel_trace_lines.specs.PlainReply.{PlainReply}
 use Rattle.otel_trace_lines.specs.declared.command.Command.{Command}

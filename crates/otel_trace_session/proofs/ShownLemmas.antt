@@ -9,7 +9,7 @@ use Rattle.otel_trace_lines.specs.Commands.{PlainCommand}
 use Rattle.otel_trace_lines.specs.PlainReply.{PlainReply}
 use Rattle.otel_trace_session.specs.Calls.{Calls, batches_of_first}
 use Rattle.otel_trace_session.specs.OpenSpans.{Histories}
-use Rattle.otel_kept.specs.ProcessorKeeps.{OnlyAppends}
+use Rattle.otel_pipeline.specs.ProcessorKeeps.{OnlyAppends}
 use Rattle.otel_trace_session.specs.Laws.{ClosesShowRest}
 use Rattle.otel_trace_session.specs.Shown.{Shows, exported_in, session_batches}
 use Rattle.otel_trace_session.proofs.KeptLemmas.{shutdown_grows}

@@ -8,7 +8,7 @@ use Rattle.std.specs.Str.Lines.{lines}
 use Rattle.std.proofs.lemmas.List.{length-append, map-append}
 use Rattle.otel_export.specs.declared.error.OTelSdkError.{OTelSdkError}
 use Rattle.otel_export.specs.PlainSpanData.{PlainSpanData}
-use Rattle.otel_kept.specs.RecalledBatches.{FirstRecalled, LeavesAsMany}
+use Rattle.otel_pipeline.specs.RecalledBatches.{FirstRecalled, LeavesAsMany}
 use Rattle.otel_trace_lines.specs.Commands.{PlainCommand, plain_command, plain_commands}
 use Rattle.otel_trace_lines.specs.Lines.{TextSpells}
 use Rattle.otel_trace_lines.specs.PlainReply.{PlainReply, NoneRefused}

@@ -4,7 +4,7 @@ use Rattle.std.specs.Prelude.{Bool, IsTrue, sum_by}
 use Rattle.otel_export.specs.declared.error.OTelSdkError.{OTelSdkError}
 use Rattle.otel_export.specs.declared.error.OTelSdkError.TheVariants as errors
 use Rattle.otel_pipeline.specs.Provider.{ProviderState}
-use Rattle.otel_kept.specs.declared.keeps_batches.KeepsBatches as keeping
+use Rattle.otel_pipeline.specs.declared.trace.keeps_batches.KeepsBatches as keeping
 use Rattle.otel_trace_lines.specs.ReplyForm.{Form}
 use Rattle.otel_trace_session.specs.Calls.{Calls, losses_of_first}
 use Rattle.otel_trace_session.specs.Fed.{FeedsUpTo, Writes}

@@ -1,8 +1,8 @@
 -- A session that has forgotten batches which its replies have shown, beside itself had it never forgotten any.
 use Rattle.std.specs.Prelude.{◌≡◌, ◌+◌, ℕ, List, Option, length}
 use Rattle.otel_export.specs.PlainSpanData.{PlainSpanData}
-use Rattle.otel_kept.specs.RecalledBatches.{FirstRecalled}
-use Rattle.otel_kept.specs.declared.keeps_batches.KeepsBatches as keeping
+use Rattle.otel_pipeline.specs.RecalledBatches.{FirstRecalled}
+use Rattle.otel_pipeline.specs.declared.trace.keeps_batches.KeepsBatches as keeping
 use Rattle.otel_trace_lines.specs.PlainReply.{PlainReply}
 use Rattle.otel_trace_lines.specs.declared.command.Command.{Command}
 use Rattle.otel_trace_session.specs.Calls.{Calls}

@@ -1,13 +1,12 @@
 //! The first processor of a session's provider: the batches that its exporter keeps are what replies show.
 
 ghost use Rattle.std.specs.Prelude.{◌≡◌, [], drop, map};
-ghost use Rattle.otel_kept.specs.RecalledBatches.{FirstRecalled};
+ghost use Rattle.otel_pipeline.specs.RecalledBatches.{FirstRecalled};
 ghost use Rattle.otel_trace_session.specs.Calls.{batches_of_first, losses_of_first};
 
 use crate::exported::batches_since;
 use otel_export::trace::SpanData;
-use otel_kept::KeepsBatches;
-use otel_pipeline::trace::ProviderOf;
+use otel_pipeline::trace::{KeepsBatches, ProviderOf};
 
 /// The batches that the first of these processors keeps.
 pub(crate) fn kept_by_first<P: KeepsBatches>(processors: &[P]) -> &[Vec<SpanData>]

@@ -16,7 +16,7 @@ ghost use Rattle.otel_trace_session.specs.Laws.{
   TracesAreWhole,
 };
 
-use otel_kept::KeepsBatches;
+use otel_pipeline::trace::KeepsBatches;
 use otel_sampling::trace::{GivesIds, ShouldSample};
 
 /// A run, and another from where it ends, are one run.

@@ -26,8 +26,7 @@ ghost use Rattle.otel_trace_session.specs.Turn.{TurnsFromAny};
 
 use crate::headers::answer_with_headers;
 use opentelemetry::{Context, Moment};
-use otel_kept::KeepsBatches;
-use otel_pipeline::trace::{ProviderOf, SdkTracer, Span, SpanEdit, SpanProcessor};
+use otel_pipeline::trace::{KeepsBatches, ProviderOf, SdkTracer, Span, SpanEdit, SpanProcessor};
 use otel_sampling::trace::{GivesIds, ShouldSample};
 use otel_trace_lines::{Answer, SpanIdentity};
 use std::alloc::{AllocError, Global};

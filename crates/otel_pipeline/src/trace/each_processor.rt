@@ -9,7 +9,7 @@ ghost use Rattle.otel_pipeline.specs.Provider.{FlushesProcessor, RunsProcessor, 
 ghost use Rattle.otel_pipeline.specs.Starting.{PassesThrough};
 ghost use Rattle.otel_pipeline.specs.SpanHistory.{IsEdited, ended_at};
 
-use crate::trace::{Timed, CountsLeftSpans, Span, SpanProcessor};
+use crate::trace::{CountsLeftSpans, Span, SpanProcessor, Timed};
 use opentelemetry::{Context, Moment};
 use otel_export::error::OTelSdkResult;
 use otel_export::trace::SpanData;

@@ -19,7 +19,7 @@ use crate::trace::each_processor::{
     copies_of, dropped_by, end_each, flush_each, left_open_by, run_each, shutdown_each, start_each,
     stranded_by,
 };
-use crate::trace::{CloseReport, Timed, CountsLeftSpans, SdkTracer, Span, SpanProcessor};
+use crate::trace::{CloseReport, CountsLeftSpans, SdkTracer, Span, SpanProcessor, Timed};
 use opentelemetry::trace::SpanBuilder;
 use opentelemetry::{Context, InstrumentationScope, Moment, SpanId, TraceId};
 use otel_export::error::{OTelSdkError, OTelSdkResult};

@@ -5,7 +5,7 @@ use opentelemetry::{Context, Key, KeyValue, Moment, TraceId, Value};
 use otel_export::error::{OTelSdkError, OTelSdkResult};
 use otel_export::trace::SpanData;
 use otel_pipeline::trace::provider::provider_over;
-use otel_pipeline::trace::{Timed, CountsLeftSpans, ProviderOf, SdkTracer, Span, SpanProcessor};
+use otel_pipeline::trace::{CountsLeftSpans, ProviderOf, SdkTracer, Span, SpanProcessor, Timed};
 use otel_resource::resource::Resource;
 use otel_sampling::trace::{
     ConfigOf, GivesIds, RandomIdGenerator, SamplingDecision, SamplingResult, ShouldSample,

@@ -5,7 +5,7 @@ use super::fixtures::{
 };
 use opentelemetry::Moment;
 use otel_export::error::OTelSdkResult;
-use otel_pipeline::trace::{Timed, ProviderOf, Span, SpanProcessor};
+use otel_pipeline::trace::{ProviderOf, Span, SpanProcessor, Timed};
 use otel_sampling::trace::{GivesIds, SamplingDecision, ShouldSample};
 use std::alloc::Global;
 use std::process::Abort;

@@ -5,8 +5,9 @@ use super::fixtures::{AGAIN, SETUP, attribute_of, recorded, start_again};
 use opentelemetry::Moment;
 use opentelemetry_sdk::trace::Processor;
 use otel_export::trace::{ExporterBox, InMemorySpanExporter};
-use otel_kept::KeepsBatches;
-use otel_pipeline::trace::{Timed, FromExporter, ProviderBuilderOf, ProviderOf, SpanProcessor};
+use otel_pipeline::trace::{
+    FromExporter, KeepsBatches, ProviderBuilderOf, ProviderOf, SpanProcessor, Timed,
+};
 use otel_resource::resource::Resource;
 use otel_sampling::trace::{ConfigStrings, GivesIds, IdSource, Sampler, ShouldSample};
 use std::alloc::Global;

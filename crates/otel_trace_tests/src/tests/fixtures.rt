@@ -4,9 +4,8 @@ use opentelemetry::Context;
 use opentelemetry_sdk::trace::ProcessorOf;
 use otel_export::error::{OTelSdkError, OTelSdkResult};
 use otel_export::trace::{ExporterBox, InMemorySpanExporter, SpanData};
-use otel_kept::KeepsBatches;
 use otel_pipeline::trace::provider::provider_over;
-use otel_pipeline::trace::{SimpleSpanProcessor, Span, SpanProcessor};
+use otel_pipeline::trace::{KeepsBatches, SimpleSpanProcessor, Span, SpanProcessor};
 use otel_resource::resource::Resource;
 use otel_sampling::trace::{
     ConfigOf, GivesIds, RandomIdGenerator, Sampler, ShouldSample, SpanLimits,

@@ -3,7 +3,7 @@
 use super::fixtures::{AGAIN, SETUP, close, exporting, feed, refusing, session_over, text_of};
 use otel_export::error::OTelSdkError;
 use otel_export::trace::SpanData;
-use otel_kept::KeepsBatches;
+use otel_pipeline::trace::KeepsBatches;
 use otel_sampling::trace::{GivesIds, ShouldSample};
 use otel_trace_lines::{Answer, Reply, parse};
 use otel_trace_session::Session;

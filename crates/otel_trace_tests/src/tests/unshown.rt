@@ -1,7 +1,7 @@
 //! Spans that were exported, and that no reply has shown, since another processor refused each of them.
 
 use super::fixtures::{SETUP, close, exporting, feed, refusing, session_over, text_of};
-use otel_kept::KeepsBatches;
+use otel_pipeline::trace::KeepsBatches;
 use otel_sampling::trace::{GivesIds, ShouldSample};
 use otel_trace_session::Session;
 use std::alloc::{AllocError, Global};

@@ -1,3 +1,0 @@
-pub mod ProcessorKeeps
-pub mod RecalledBatches
-pub mod RecalledBySimple

@@ -1,0 +1,5 @@
+//! The batch processor, and the kinds of processors that a provider holds.
+#![tactic(auto)]
+
+pub mod laws;
+pub mod trace;
