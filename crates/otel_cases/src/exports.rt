@@ -7,7 +7,7 @@ use otel_case_rows::values::{attributes_of, given_text};
 use otel_export::trace::SpanData;
 use otel_otlp::write_request;
 use otel_picture::svg::write_svg;
-use otel_picture::text::{COLUMNS, write_text};
+use otel_picture::write_text::{COLUMNS, write_text};
 use otel_resource::resource::Resource;
 use std::alloc::Global;
 
@@ -15,7 +15,7 @@ use std::alloc::Global;
 pub fn answer(alloc: Global, row: &Row, out: &mut AnswerText) -> bool {
     match row.word.as_str() {
         "otlp" => out.put_by(request_of(alloc, row), put_written),
-        "picture" => out.put_by(picture_of(alloc, row), put_written),
+        "picture" => out.put_by(make_picture(alloc, row), put_written),
         "picture-chain" => out.put_by(picture_of_chain(alloc, row), put_ends),
         "svg" => out.put_by(svg_of(alloc, row), put_written),
         _ => return false,
@@ -47,7 +47,7 @@ fn resource_of(alloc: Global, text: &str) -> Result<Resource, RowError> {
 }
 
 /// The picture of spans in so many columns.
-fn picture_of(alloc: Global, row: &Row) -> Result<Vec<u8>, RowError> {
+fn make_picture(alloc: Global, row: &Row) -> Result<Vec<u8>, RowError> {
     let columns = small_number_of(row.field(0))?;
     let mut written = Vec::new(alloc);
     write_text(

@@ -7,8 +7,8 @@ use opentelemetry::{Key, KeyValue, Moment, SpanId, TraceFlags, TraceId, Value};
 use opentelemetry_sdk::error::{OTelSdkError, OTelSdkResult};
 use opentelemetry_sdk::resource::Resource;
 use opentelemetry_sdk::trace::{
-    BatchConfig, BatchConfigBuilder, BatchSpanProcessor, Timed, SimpleSpanProcessor, SpanData,
-    SpanExporter, SpanProcessor,
+    BatchConfig, BatchConfigBuilder, BatchSpanProcessor, SimpleSpanProcessor, SpanData,
+    SpanExporter, SpanProcessor, Timed,
 };
 use otel_case_rows::answer_text::AnswerText;
 use otel_case_rows::fields::{Row, RowError, number_of};

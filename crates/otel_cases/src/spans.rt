@@ -13,7 +13,7 @@ use otel_pipeline::trace::{ProviderOf, SimpleSpanProcessor, Span, SpanEdit};
 use otel_resource::resource::Resource;
 use otel_sampling::trace::{ConfigOf, RandomIdGenerator, SamplerOf, SpanLimits};
 use otel_trace_lines::reply_text::write_batches;
-use otel_trace_run::program::TraceSampler;
+use otel_trace_run::provider::TraceSampler;
 use std::alloc::{AllocError, Global};
 
 /// The provider that a row starts its spans under.
@@ -43,7 +43,7 @@ fn answer_span(alloc: Global, row: &Row, out: &mut AnswerText) {
 
 /// The provider of a row's limits.
 fn provider_by(alloc: Global, row: &Row) -> Result<RowProvider, RowError> {
-    Ok(provider_of(alloc, limits_of(row.field(0))?, SamplerOf::AlwaysOn)?)
+    Ok(make_provider(alloc, limits_of(row.field(0))?, SamplerOf::AlwaysOn)?)
 }
 
 fn show_in(mut provider: RowProvider, row: &Row, out: &mut AnswerText) {
@@ -52,7 +52,7 @@ fn show_in(mut provider: RowProvider, row: &Row, out: &mut AnswerText) {
 }
 
 /// A provider over one exporter in memory, with the ids of seed 0.
-pub fn provider_of(
+pub fn make_provider(
     alloc: Global,
     span_limits: SpanLimits,
     sampler: TraceSampler,

@@ -1,6 +1,6 @@
 //! Starts of spans in contexts: who they are, and what goes on from them. A span starts at moment 7.
 
-use crate::spans::{RowProvider, provider_of};
+use crate::spans::{RowProvider, make_provider};
 use opentelemetry::propagation::{Extractor, Injector, MapCarrier, TextMapPropagator};
 use opentelemetry::trace::SpanContext;
 use opentelemetry::{Context, Moment, SpanId};
@@ -9,7 +9,7 @@ use otel_case_rows::fields::{Row, RowError};
 use otel_pipeline::trace::Span;
 use otel_propagation::propagation::TraceContextPropagator;
 use otel_sampling::trace::{SamplerOf, SpanLimits};
-use otel_trace_run::program::{NoSampler, TraceSampler};
+use otel_trace_run::provider::{NoSampler, TraceSampler};
 use std::alloc::{AllocError, Global};
 
 /// Answers a row whose word is `start`; false where it is another one.
@@ -33,7 +33,7 @@ struct Started {
 fn starts_of(alloc: Global, row: &Row) -> Result<Started, RowError> {
     let cx = context_of(alloc, row)?;
     let sampler = sampler_of(alloc, row.field(0))?;
-    let mut provider = provider_of(alloc, SpanLimits::default(), sampler)?;
+    let mut provider = make_provider(alloc, SpanLimits::default(), sampler)?;
     let started = start_both(alloc, &cx, &mut provider);
     let _ = provider.close();
     Ok(started?)

@@ -8,7 +8,7 @@ use otel_pipeline::trace::provider::provider_over;
 use otel_pipeline::trace::{ProviderOf, SimpleSpanProcessor};
 use otel_resource::resource::Resource;
 use otel_sampling::trace::{ConfigOf, SamplerOf, SpanLimits, XrayIdGenerator};
-use otel_trace_run::program::TraceSampler;
+use otel_trace_run::provider::TraceSampler;
 use std::alloc::{AllocError, Global};
 
 type XrayProvider = ProviderOf<
@@ -30,14 +30,14 @@ pub fn answer(alloc: Global, row: &Row, out: &mut AnswerText) -> bool {
 fn started(alloc: Global, row: &Row) -> Result<TraceId, RowError> {
     let seed = row.number(0)?;
     let start = Moment(row.number(1)?);
-    let mut provider = provider_of(alloc, seed);
+    let mut provider = make_provider(alloc, seed);
     let trace_id = start_root(alloc, &mut provider, start);
     let _ = provider.close();
     Ok(trace_id?)
 }
 
 /// A provider of no processors.
-fn provider_of(alloc: Global, seed: u64) -> XrayProvider {
+fn make_provider(alloc: Global, seed: u64) -> XrayProvider {
     let config = ConfigOf {
         sampler: SamplerOf::AlwaysOn,
         id_generator: XrayIdGenerator::new(seed),

@@ -8,9 +8,9 @@
 #![tactic(auto)]
 
 pub mod bar;
+mod escapes;
 pub mod laws;
 pub mod rows;
 pub mod svg;
-pub mod text;
-mod texts;
 pub mod traces;
+pub mod write_text;

@@ -5,10 +5,10 @@
 ghost use Rattle.std.specs.Prelude.{◌≡◌, ◌<◌, ◌++◌, ℕ, All, List, OnErr, OnOk, length, vec_len};
 
 use crate::bar::{Bar, Scale};
+use crate::escapes::{push_duration, push_escaped, push_in_room, push_shown};
 use crate::rows::{Family, Row, rows};
-use crate::text::{push_error, push_moments};
-use crate::texts::{push_duration, push_escaped, push_in_room, push_shown};
 use crate::traces::{begins_trace, family_of, places_of};
+use crate::write_text::{push_error, push_moments};
 use opentelemetry::trace::Status;
 use opentelemetry::{KeyValue, TraceId};
 use otel_export::trace::SpanData;

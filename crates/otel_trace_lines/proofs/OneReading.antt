@@ -4,11 +4,11 @@ use Rattle.std.specs.Str.Lines.{lines}
 use Rattle.std.specs.Str.Parse.{digits_value}
 use Rattle.opentelemetry.specs.Plain.{PlainStatus, unset, error, ok}
 use Rattle.otel_trace_lines.specs.Commands.{PlainCommand, start, child, remote, attr, event, status, inject, end, flush, run, shutdown}
-use Rattle.otel_trace_lines.specs.Lines.{IsMoment, IsStatus, LineForm, field, last_field, time, outcome, rest_of_line, IsOfForm, form_of, Reads, IsBad, Spell, TextSpells}
+use Rattle.otel_trace_lines.specs.Lines.{IsDecimal64, IsStatus, LineForm, field, last_field, time, outcome, rest_of_line, IsOfForm, form_of, Reads, IsBad, Spell, TextSpells}
 use Rattle.otel_trace_lines.proofs.Fields.{same_field, no_last_field}
 
 -- digits have one moment
-same_moment : (digits others : List ℕ) (moment other : ℕ) → IsMoment digits moment → IsMoment others other → digits ≡ others → moment ≡ other
+same_moment : (digits others : List ℕ) (moment other : ℕ) → IsDecimal64 digits moment → IsDecimal64 others other → digits ≡ others → moment ≡ other
 same_moment digits others moment other h k e = h.1 ∙ ap (λ ds. digits_value 10 ds) e ∙ sym k.1
 
 -- a text is one status

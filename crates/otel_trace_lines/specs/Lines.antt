@@ -13,9 +13,9 @@ use Rattle.otel_trace_lines.specs.Commands.{PlainCommand, start, child, remote, 
 abbrev pub IsField : List ℕ → Type 0
 IsField bytes = (0 < length bytes) × All (λ b. b ≢ 32) bytes
 
--- a moment is a numeral of decimal digits alone, in range of 64 bits
-abbrev pub IsMoment : List ℕ → ℕ → Type 0
-IsMoment digits moment = IsNumeral 10 digits × (moment ≡ digits_value 10 digits) × (moment < 2 ^ 64)
+-- a numeral of decimal digits alone writes this number, in range of 64 bits
+abbrev pub IsDecimal64 : List ℕ → ℕ → Type 0
+IsDecimal64 digits number = IsNumeral 10 digits × (number ≡ digits_value 10 digits) × (number < 2 ^ 64)
 
 -- a status is `ok`, or `error`, a space and the description, which may be empty; no text is a status that nobody set
 abbrev pub IsStatus : List ℕ → PlainStatus → Type 0
@@ -29,7 +29,7 @@ pub data LineForm : Type 0 where
   field : List ℕ → LineForm → LineForm
   -- a field with nothing after it
   last_field : List ℕ → LineForm
-  -- a moment
+  -- a moment, in decimal digits
   time : ℕ → LineForm
   -- a status
   outcome : PlainStatus → LineForm
@@ -41,7 +41,7 @@ abbrev pub IsOfForm : List ℕ → LineForm → Type 0
 IsOfForm text (field front after) =
     IsField front × ((rest : List ℕ) × (text ≡ front ++ 32 ∷ rest) × IsOfForm rest after)
 IsOfForm text (last_field last) = IsField last × (text ≡ last)
-IsOfForm text (time moment) = IsMoment text moment
+IsOfForm text (time moment) = IsDecimal64 text moment
 IsOfForm text (outcome how) = IsStatus text how
 IsOfForm text (rest_of_line rest) = text ≡ rest
 

@@ -8,7 +8,7 @@ ghost use Rattle.otel_trace_lines.specs.Lines.{
   FieldsGive,
   IsCommand,
   IsField,
-  IsMoment,
+  IsDecimal64,
   IsOfForm,
   LineGives,
   SpellsNothing,
@@ -327,18 +327,18 @@ pub fn first_field(text: &str) -> Option<(&str, &str)>
 /// The moment that digits write; none where it is out of range, or where anything but digits stands there.
 fn moment_of(digits: &str) -> Option<Moment>
     ensures { MatchOption result
-        ((moment : ℕ) → IsMoment digits.now moment → ⊥)
-        (λ moment. IsMoment digits.now moment.0) }
+        ((moment : ℕ) → IsDecimal64 digits.now moment → ⊥)
+        (λ moment. IsDecimal64 digits.now moment.0) }
 {
-    let nanoseconds = number_of(digits)?;
+    let nanoseconds = parse_decimal(digits)?;
     Some(Moment(nanoseconds))
 }
 
 /// The number of 64 bits that digits write; none where it is out of range, or where anything but digits stands there.
-pub fn number_of(digits: &str) -> Option<u64>
+pub fn parse_decimal(digits: &str) -> Option<u64>
     ensures { MatchOption result
-        ((number : ℕ) → IsMoment digits.now number → ⊥)
-        (λ number. IsMoment digits.now number) }
+        ((number : ℕ) → IsDecimal64 digits.now number → ⊥)
+        (λ number. IsDecimal64 digits.now number) }
 {
     if digits.starts_with('+') {
         return None;

@@ -35,8 +35,8 @@ read_on_from before now after given rest read lines next first second joined =
 -- a text in front of all that there is: it ends as a line does, or nothing stands after it
 pub record IsCut (input : Option (List ℕ)) (text : List ℕ) : Type 0 where
   pub after : List ℕ
-  pub all : AreAll input (text ++ later)
-  pub ends : (later ≡ []) ⊎ IsEmptyOrEndsWith text 10
+  pub all : AreAll input (text ++ after)
+  pub ends : (after ≡ []) ⊎ IsEmptyOrEndsWith text 10
 
 -- what was given is such a text, whatever was read after it
 pub cut_given : (before after : Option (List ℕ)) (given rest : List ℕ) → Consumes before after (given ++ rest) → IsEmptyOrEndsWith given 10 → IsCut before given

@@ -22,11 +22,8 @@ use Rattle.otel_trace_run.specs.PictureRuns.{Draws, DrawsAll, DrawsLines, DrawsS
 use Rattle.otel_sampling.specs.declared.trace.sampler.SamplerOf.{SamplerOf}
 use Rattle.otel_trace_run.specs.Program.{BeginsDrawing, DrawsAsked, IsProviderOf, MemoryProcessor}
 use Rattle.otel_trace_run.specs.Streams.{AreAll, EndsAs, Streams}
-use Rattle.otel_trace_run.specs.declared.program.Asked.{Asked}
-use Rattle.otel_trace_run.specs.Arguments.{AsksForPicture}
-use Rattle.otel_trace_run.proofs.PictureWords.{picture_once}
+use Rattle.otel_trace_run.specs.declared.mode.Asked.{Asked}
 use Rattle.otel_export.proofs.StreamLemmas.{appends_all}
-use Rattle.otel_trace_run.specs.declared.picture.PictureForm.{PictureForm}
 use Rattle.otel_trace_run.specs.declared.run_end.RunEnd.{RunEnd}
 use Rattle.otel_trace_run.specs.declared.run_end.RunEnd.TheVariants as ends
 use Rattle.otel_trace_session.specs.Calls.{Calls, batches_of_first, losses_of_first}
@@ -183,16 +180,6 @@ module _ {C D E : Type 0} (calls : Calls (MemoryProcessor C D) (SamplerOf E) (Li
   pub drawing_begun : (Paints : Painting) (asked : Asked) (s : Streams) (bad_line : Option ℕ)
       → DrawsAsked calls asked Paints s bad_line → BeginsDrawing calls asked Paints s
   drawing_begun Paints asked s bad_line (provider, of, h) = inr (provider, of, drawn_begun calls Paints provider s bad_line h)
-
-  -- what is asked once is asked by any such words
-  pub draws_once : (Painted : PictureForm → Painting) (words : List (List ℕ)) (asked other : Asked) (form also : PictureForm)
-      (s : Streams) (end : RunEnd) → AsksForPicture words asked form → AsksForPicture words other also
-      → EndsAs (DrawsAsked calls other (Painted also) s) (BeginsDrawing calls other (Painted also) s) s end
-      → EndsAs (DrawsAsked calls asked (Painted form) s) (BeginsDrawing calls asked (Painted form) s) s end
-  draws_once Painted words asked other form also s end h k run =
-      let same = picture_once words other asked also form k h in
-      subst (λ (f : PictureForm). EndsAs (DrawsAsked calls asked (Painted f) s) (BeginsDrawing calls asked (Painted f) s) s end) same.1
-      (subst (λ (a : Asked). EndsAs (DrawsAsked calls a (Painted also) s) (BeginsDrawing calls a (Painted also) s) s end) same.0 run)
 
 -- what none of the replies counts that were looked at
 pub none_counted : (replies : List PlainReply) → list_any (λ (reply : PlainReply). counts_refusals reply.answer) replies ≡ false

@@ -13,15 +13,13 @@ use Rattle.otel_trace_lines.specs.PlainReply.{PlainReply}
 use Rattle.otel_trace_lines.specs.ReplyForm.{texts}
 use Rattle.otel_otlp.specs.Otlp.{otlp_line, otlp_lines, otlp_text}
 use Rattle.otel_pipeline.specs.Provider.{ProviderState}
-use Rattle.otel_trace_run.specs.Arguments.{AsksForOtlp}
 use Rattle.otel_trace_run.specs.OtlpRuns.{ExportsAll, exported_since, otlp_form}
 use Rattle.otel_trace_run.specs.Program.{BeginsExporting, ExportsAsked, IsProviderOf, MemoryProcessor, strings_given}
 use Rattle.otel_trace_run.specs.Streams.{EndsAs, Streams}
 use Rattle.otel_trace_run.specs.TraceRuns.{TracesBegun, TracesWhole}
-use Rattle.otel_trace_run.specs.declared.program.Asked.{Asked}
+use Rattle.otel_trace_run.specs.declared.mode.Asked.{Asked}
 use Rattle.otel_trace_run.specs.declared.run_end.RunEnd.{RunEnd}
 use Rattle.otel_trace_run.specs.declared.run_end.RunEnd.TheVariants as ends
-use Rattle.otel_trace_run.proofs.OtlpWords.{otlp_once}
 use Rattle.otel_trace_run.proofs.TraceStream.{all_begun}
 use Rattle.otel_trace_session.specs.Calls.{Calls, batches_of_first}
 use Rattle.otel_trace_session.specs.Closing.{Closes, or_no_memory}
@@ -106,17 +104,6 @@ module _ {C D E : Type 0} (calls : Calls (MemoryProcessor C D) (SamplerOf E) (Li
   exports_asked provider s ends.Failed is of h = inr (resource, is, provider, of, h)
 
 module _ {C D E : Type 0} (calls : Calls (MemoryProcessor C D) (SamplerOf E) (List ℕ)) where
-  -- what is asked once is asked by any such words
-  pub exports_once : (words : List (List ℕ)) (asked other : Asked) (given more : List (List ℕ)) (s : Streams) (end : RunEnd)
-      → AsksForOtlp words asked given → AsksForOtlp words other more
-      → EndsAs (ExportsAsked calls other more s) (BeginsExporting calls other more s) s end
-      → EndsAs (ExportsAsked calls asked given s) (BeginsExporting calls asked given s) s end
-  exports_once words asked other given more s end h k run =
-      let same = otlp_once words other asked more given k h in
-      subst (λ (a : Asked). EndsAs (ExportsAsked calls a given s) (BeginsExporting calls a given s) s end) same.0
-      (subst (λ (g : List (List ℕ)). EndsAs (ExportsAsked calls other g s) (BeginsExporting calls other g s) s end)
-      same.1 run)
-
   -- what was exported whole is a beginning
   pub exporting_begun : (asked : Asked) (given : List (List ℕ)) (s : Streams) (bad_line : Option ℕ)
       → ExportsAsked calls asked given s bad_line → BeginsExporting calls asked given s

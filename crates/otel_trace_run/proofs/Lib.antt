@@ -1,8 +1,7 @@
 pub mod Cut
 pub mod Drawing
 pub mod Exporting
-pub mod OtlpWords
-pub mod PictureWords
+pub mod ModeWords
 pub mod ProgramLemmas
 pub mod ReadPieces
 pub mod StepStream

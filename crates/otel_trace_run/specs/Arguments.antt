@@ -1,93 +1,107 @@
 -- What the arguments of the program ask for, and what is said of wrong ones and of a bad line.
-use Rattle.std.specs.Prelude.{◌≡◌, ◌≤◌, ℕ, List, [], ◌∷◌, ◌++◌, codes, length}
+use Rattle.std.specs.Prelude.{◌≡◌, ◌≤◌, ℕ, List, [], ◌∷◌, ◌++◌, codes, length, map, string_bytes}
 use Rattle.std.specs.Fmt.{decimal}
-use Rattle.otel_trace_lines.specs.Lines.{IsMoment}
+use Rattle.otel_trace_lines.specs.Lines.{IsDecimal64}
 use Rattle.otel_trace_steps.specs.declared.steps.Sizes.{Sizes}
+use Rattle.otel_trace_run.specs.declared.mode.Asked.{Asked}
+use Rattle.otel_trace_run.specs.declared.mode.AskedProcessor.{AskedProcessor}
+use Rattle.otel_trace_run.specs.declared.mode.AskedProcessor.TheVariants as asks
+use Rattle.otel_trace_run.specs.declared.mode.Mode.{Mode}
+use Rattle.otel_trace_run.specs.declared.mode.Mode.TheVariants as modes
 use Rattle.otel_trace_run.specs.declared.picture.PictureForm.{PictureForm}
 use Rattle.otel_trace_run.specs.declared.picture.PictureForm.TheVariants as forms
-use Rattle.otel_trace_run.specs.declared.program.Asked.{Asked}
-use Rattle.otel_trace_run.specs.declared.program.AskedProcessor.{AskedProcessor}
-use Rattle.otel_trace_run.specs.declared.program.AskedProcessor.TheVariants as asks
 
--- the words of a processor: `simple`, or `batch Q B`
+-- the words of a processor: `simple`, or `batch Q B`. Sizes are written in decimal digits alone, in range of 64 bits
 abbrev pub NamesProcessor : List (List ℕ) → AskedProcessor → Type 0
 NamesProcessor words asks.Simple = words ≡ codes "simple" ∷ []
 NamesProcessor words (asks.Batch queue batch) =
-    (q : List ℕ) × (b : List ℕ) × IsMoment q queue × IsMoment b batch × (words ≡ codes "batch" ∷ q ∷ b ∷ [])
-
--- the words `trace SEED` and those of a processor. Seed and sizes are written as a moment is: in decimal digits alone,
--- in range of 64 bits
-pub record AsksFor (words : List (List ℕ)) (asked : Asked) : Type 0 where
-  pub digits : List ℕ
-  pub kind : List (List ℕ)
-  pub seed : IsMoment digits asked.seed
-  pub processor : NamesProcessor kind asked.processor
-  pub words_are : words ≡ codes "trace" ∷ digits ∷ kind
+    (q : List ℕ) × (b : List ℕ) × IsDecimal64 q queue × IsDecimal64 b batch × (words ≡ codes "batch" ∷ q ∷ b ∷ [])
 
 -- the words of a processor, and after them one more word at most
 abbrev pub NamesGiven : List (List ℕ) → AskedProcessor → List (List ℕ) → Type 0
 NamesGiven words asks.Simple given = (length given ≤ 1) × (words ≡ codes "simple" ∷ given)
 NamesGiven words (asks.Batch queue batch) given = (length given ≤ 1)
-    × (q : List ℕ) × (b : List ℕ) × IsMoment q queue × IsMoment b batch × (words ≡ codes "batch" ∷ q ∷ b ∷ given)
+    × (q : List ℕ) × (b : List ℕ) × IsDecimal64 q queue × IsDecimal64 b batch × (words ≡ codes "batch" ∷ q ∷ b ∷ given)
 
--- the words `otlp SEED`, those of a processor, and an attributes string, if one is given
-pub record AsksForOtlp (words : List (List ℕ)) (asked : Asked) (given : List (List ℕ)) : Type 0 where
+-- the words `SEED` and those of a processor, where the seed is written as sizes are
+pub record NamesAsked (words : List (List ℕ)) (asked : Asked) : Type 0 where
+  pub digits : List ℕ
+  pub kind : List (List ℕ)
+  pub seed : IsDecimal64 digits asked.seed
+  pub processor : NamesProcessor kind asked.processor
+  pub words_are : words ≡ digits ∷ kind
+
+-- the same, and after them one more word at most
+pub record NamesAskedGiven (words : List (List ℕ)) (asked : Asked) (given : List (List ℕ)) : Type 0 where
   pub digits : List ℕ
   pub after : List (List ℕ)
-  pub seed : IsMoment digits asked.seed
+  pub seed : IsDecimal64 digits asked.seed
   pub named : NamesGiven after asked.processor given
-  pub words_are : words ≡ codes "otlp" ∷ digits ∷ after
+  pub words_are : words ≡ digits ∷ after
 
 -- the columns that a word gives, 20 at least and 400 at most, or 72 where none does
 abbrev pub GivesColumns : List (List ℕ) → ℕ → Type 0
 GivesColumns [] columns = columns ≡ 72
-GivesColumns (digits ∷ more) columns = IsMoment digits columns × (20 ≤ columns) × (columns ≤ 400)
+GivesColumns (digits ∷ more) columns = IsDecimal64 digits columns × (20 ≤ columns) × (columns ≤ 400)
 
--- the words `picture SEED`, those of a processor, and a number of columns, if one is given
-pub record AsksForText (words : List (List ℕ)) (asked : Asked) (columns : ℕ) : Type 0 where
-  pub digits : List ℕ
-  pub after : List (List ℕ)
+-- the words of a provider, and a number of columns, if one is given
+pub record NamesText (words : List (List ℕ)) (asked : Asked) (columns : ℕ) : Type 0 where
   pub given : List (List ℕ)
-  pub seed : IsMoment digits asked.seed
-  pub named : NamesGiven after asked.processor given
+  pub named : NamesAskedGiven words asked given
   pub wide : GivesColumns given columns
-  pub words_are : words ≡ codes "picture" ∷ digits ∷ after
-
--- the words `svg SEED` and those of a processor
-pub record AsksForSvg (words : List (List ℕ)) (asked : Asked) : Type 0 where
-  pub digits : List ℕ
-  pub kind : List (List ℕ)
-  pub seed : IsMoment digits asked.seed
-  pub processor : NamesProcessor kind asked.processor
-  pub words_are : words ≡ codes "svg" ∷ digits ∷ kind
-
--- the words of a picture, by its form
-abbrev pub AsksForPicture : List (List ℕ) → Asked → PictureForm → Type 0
-AsksForPicture words asked (forms.Text columns) = AsksForText words asked columns
-AsksForPicture words asked forms.Svg = AsksForSvg words asked
-
--- words that ask for no trace
-abbrev pub AsksForNoTrace : List (List ℕ) → Type 0
-AsksForNoTrace words = (asked : Asked) → AsksFor words asked → ⊥
 
 -- three numbers write these sizes
 abbrev pub WriteSizes : List ℕ → List ℕ → List ℕ → Sizes → Type 0
 WriteSizes queue batch producers sizes =
-    IsMoment queue sizes.queue × IsMoment batch sizes.batch × IsMoment producers sizes.producers
+    IsDecimal64 queue sizes.queue × IsDecimal64 batch sizes.batch × IsDecimal64 producers sizes.producers
 
--- the words `steps Q B P`, where the sizes are written as a moment is
-pub record AsksForSteps (words : List (List ℕ)) (sizes : Sizes) : Type 0 where
+-- the words `Q B P`
+pub record NamesSizes (words : List (List ℕ)) (sizes : Sizes) : Type 0 where
   pub queue : List ℕ
   pub batch : List ℕ
   pub producers : List ℕ
   pub written : WriteSizes queue batch producers sizes
-  pub words_are : words ≡ codes "steps" ∷ queue ∷ batch ∷ producers ∷ []
+  pub words_are : words ≡ queue ∷ batch ∷ producers ∷ []
 
--- words of no mode
+-- what the arguments ask for, as plain values
+pub data PlainMode : Type 0 where
+  trace : Asked → PlainMode
+  steps : Sizes → PlainMode
+  -- with the attributes string, if one is given
+  otlp : Asked → List (List ℕ) → PlainMode
+  picture : Asked → PictureForm → PlainMode
+
+abbrev pub plain_mode : Mode → PlainMode
+plain_mode (modes.Trace asked) = trace asked
+plain_mode (modes.Steps sizes) = steps sizes
+plain_mode (modes.Otlp asked given) = otlp asked (map string_bytes given.now)
+plain_mode (modes.Picture asked form) = picture asked form
+
+-- the word of a mode
+abbrev pub word_of : PlainMode → List ℕ
+word_of (trace asked) = codes "trace"
+word_of (steps sizes) = codes "steps"
+word_of (otlp asked given) = codes "otlp"
+word_of (picture asked (forms.Text columns)) = codes "picture"
+word_of (picture asked forms.Svg) = codes "svg"
+
+-- what stands after the word of a mode
+abbrev pub Names : List (List ℕ) → PlainMode → Type 0
+Names words (trace asked) = NamesAsked words asked
+Names words (steps sizes) = NamesSizes words sizes
+Names words (otlp asked given) = NamesAskedGiven words asked given
+Names words (picture asked (forms.Text columns)) = NamesText words asked columns
+Names words (picture asked forms.Svg) = NamesAsked words asked
+
+-- words ask for a mode: its own word, and what names the rest of it
+pub record Asks (words : List (List ℕ)) (mode : PlainMode) : Type 0 where
+  pub after : List (List ℕ)
+  pub names : Names after mode
+  pub words_are : words ≡ word_of mode ∷ after
+
+-- words that ask for no mode
 abbrev pub AsksForNothing : List (List ℕ) → Type 0
-AsksForNothing words = AsksForNoTrace words × ((sizes : Sizes) → AsksForSteps words sizes → ⊥)
-    × ((asked : Asked) (given : List (List ℕ)) → AsksForOtlp words asked given → ⊥)
-    × ((asked : Asked) (form : PictureForm) → AsksForPicture words asked form → ⊥)
+AsksForNothing words = (mode : PlainMode) → Asks words mode → ⊥
 
 -- what is said of wrong words
 abbrev pub usage_text : List ℕ

@@ -9,35 +9,27 @@ use Rattle.otel_sampling.specs.Limits.{default_limits}
 use Rattle.otel_resource.specs.Resource.{PlainResource}
 use Rattle.otel_sampling.specs.Sampler.{plan, always_on, parent_based}
 use Rattle.otel_sampling.specs.declared.trace.sampler.SamplerOf.{SamplerOf}
-use Rattle.otel_sampling.specs.declared.trace.sampler.ShouldSample as sampling
-use Rattle.otel_sampling.specs.declared.trace.id_generator.GivesIds as drawing
 use Rattle.otel_batch.specs.PlainBatchConfig.{PlainBatchConfig, cut_to_queue, default_batch_config}
-use Rattle.otel_export.specs.RecalledBatches.{exporter_recalled}
 use Rattle.otel_export.specs.StoredBatches.{StoredBatches}
 use Rattle.otel_export.specs.declared.trace.exporter_box.ExporterOf.{ExporterOf}
 use Rattle.otel_export.specs.declared.trace.exporter_box.ExporterOf.TheVariants as exporters
-use Rattle.otel_export.specs.KeptBatches.{exporter_keeps, exporter_loses}
 use Rattle.otel_pipeline.specs.Provider.{ProviderState}
 use Rattle.otel_pipeline.specs.SimpleProcessor.{first_simple}
-use Rattle.otel_pipeline.specs.declared.trace.timed.Timed as timing
-use Rattle.otel_pipeline.specs.declared.trace.counts_left_spans.CountsLeftSpans as leaving
-use Rattle.otel_pipeline.specs.declared.trace.keeps_batches.KeepsBatches as keeping
-use Rattle.otel_pipeline.specs.declared.trace.span_processor.SpanProcessor.{Ghosts}
 use Rattle.otel_processors.specs.BatchProcessor.{first_processor}
-use Rattle.otel_processors.specs.KeptByKinds.{processor_keeps, processor_loses}
-use Rattle.otel_processors.specs.ProcessorKinds.{closed_over_by_kind, dropped_over_by_kind, open_over_by_kind}
-use Rattle.otel_processors.specs.RecalledByKinds.{processor_recalled}
 use Rattle.otel_processors.specs.declared.trace.processor.ProcessorOf.{ProcessorOf}
 use Rattle.otel_processors.specs.declared.trace.processor.ProcessorOf.TheVariants as kinds
 use Rattle.otel_trace_lines.specs.ReplyForm.{reply_lines}
-use Rattle.otel_trace_session.specs.Calls.{Calls, calls_of}
+use Rattle.otel_trace_session.specs.Calls.{Calls}
+use Rattle.otel_trace_run.specs.Arguments.{PlainMode, otlp, picture, steps, trace}
 use Rattle.otel_trace_run.specs.OtlpRuns.{ExportsAll, otlp_form}
 use Rattle.otel_trace_run.specs.PictureRuns.{DrawsAll, DrawsSome, Painting}
+use Rattle.otel_trace_run.specs.StepRuns.{StepsBegun, StepsSized}
 use Rattle.otel_trace_run.specs.Streams.{EndsAs, EndsWith, Streams}
 use Rattle.otel_trace_run.specs.TraceRuns.{TracesBegun, TracesWhole}
-use Rattle.otel_trace_run.specs.declared.program.Asked.{Asked}
-use Rattle.otel_trace_run.specs.declared.program.AskedProcessor.{AskedProcessor}
-use Rattle.otel_trace_run.specs.declared.program.AskedProcessor.TheVariants as asks
+use Rattle.otel_trace_run.specs.declared.mode.Asked.{Asked}
+use Rattle.otel_trace_run.specs.declared.mode.AskedProcessor.{AskedProcessor}
+use Rattle.otel_trace_run.specs.declared.mode.AskedProcessor.TheVariants as asks
+use Rattle.otel_trace_run.specs.declared.picture.PictureForm.{PictureForm}
 use Rattle.otel_trace_run.specs.declared.run_end.RunEnd.{RunEnd}
 
 -- what the program's processors are: one that exports into memory, each span as it ends or in batches, or one of any
@@ -72,27 +64,6 @@ pub record SamplesRoots {P E : Type 0} (seed : ℕ) (processor : P) (provider : 
 abbrev pub IsProviderOf : {C D E : Type 0} → (is_eager : Bool) → Asked
     → ProviderState (MemoryProcessor C D) (SamplerOf E) (List ℕ) → Type 0
 IsProviderOf is_eager asked provider = SamplesRoots asked.seed (processor_of is_eager asked.processor) provider
-
--- what a processor in the place of that one keeps: the batches of its exporter in memory
-abbrev pub memory_batches : {C D : Type 0} → keeping.Ghosts (MemoryProcessor C D)
-memory_batches = record {
-  kept = processor_keeps exporter_keeps;
-  lost = processor_loses exporter_loses;
-  recalled = processor_recalled exporter_recalled;
-}
-
--- how many spans it leaves and dropped
-abbrev pub memory_queues : {C D : Type 0} → leaving.Ghosts (MemoryProcessor C D)
-memory_queues = record {
-  closed_over = closed_over_by_kind;
-  open_over = open_over_by_kind;
-  dropped_over = dropped_over_by_kind;
-}
-
--- what is said of the calls of such a processor, and of the sampler and the source of ids beside it
-abbrev pub memory_calls : {C D E : Type 0} → Ghosts (MemoryProcessor C D) → timing.Ghosts (MemoryProcessor C D)
-    → sampling.Ghosts (SamplerOf E) → drawing.Ghosts (List ℕ) → Calls (MemoryProcessor C D) (SamplerOf E) (List ℕ)
-memory_calls processor timer sampler ids = calls_of processor timer memory_queues memory_batches sampler ids
 
 -- the strings that describe the resource: an attributes string, if one is given
 abbrev pub strings_given : List (List ℕ) → PlainResourceStrings
@@ -138,23 +109,26 @@ module _ {C D E : Type 0} (calls : Calls (MemoryProcessor C D) (SamplerOf E) (Li
       ⊎ ((provider : ProviderState (MemoryProcessor C D) (SamplerOf E) (List ℕ))
       × IsProviderOf true asked provider × DrawsSome calls Paints provider s)
 
-  -- a run of the mode `trace`, by its status, and by what is said of the faults where it has none and where it has one
-  abbrev pub EndsTracing : Streams → Type 0 → (List ℕ → Type 0) → ℕ → Type 0
-  EndsTracing s Silent Says status = EndsWith (TracesAsked s) (BeginsAsked s) Silent Says s status
+module _ {C D E : Type 0} (calls : Calls (MemoryProcessor C D) (SamplerOf E) (List ℕ))
+    (paints : PictureForm → Painting) where
+  -- the output was given all that a mode has for the whole input
+  abbrev pub GivesWhole : PlainMode → Streams → Option ℕ → Type 0
+  GivesWhole (trace asked) s bad_line = TracesAsked calls asked s bad_line
+  GivesWhole (steps sizes) s bad_line = StepsSized sizes s bad_line
+  GivesWhole (otlp asked given) s bad_line = ExportsAsked calls asked given s bad_line
+  GivesWhole (picture asked form) s bad_line = DrawsAsked calls asked (paints form) s bad_line
 
-  -- a run of the mode `otlp`
-  abbrev pub EndsExporting : List (List ℕ) → Streams → Type 0 → (List ℕ → Type 0) → ℕ → Type 0
-  EndsExporting given s Silent Says status =
-      EndsWith (ExportsAsked given s) (BeginsExporting given s) Silent Says s status
+  -- the output was given a beginning of that
+  abbrev pub GivesBeginning : PlainMode → Streams → Type 0
+  GivesBeginning (trace asked) s = BeginsAsked calls asked s
+  GivesBeginning (steps sizes) s = StepsBegun sizes s
+  GivesBeginning (otlp asked given) s = BeginsExporting calls asked given s
+  GivesBeginning (picture asked form) s = BeginsDrawing calls asked (paints form) s
 
-  -- a run of the modes `picture` and `svg`
-  abbrev pub EndsDrawing : Painting → Streams → Type 0 → (List ℕ → Type 0) → ℕ → Type 0
-  EndsDrawing Paints s Silent Says status = EndsWith (DrawsAsked Paints s) (BeginsDrawing Paints s) Silent Says s status
+  -- what a run of a mode did, by how it ended
+  abbrev pub RunsTo : PlainMode → Streams → RunEnd → Type 0
+  RunsTo mode s end = EndsAs (GivesWhole mode s) (GivesBeginning mode s) s end
 
-  -- what such a run did, by how it ended
-  abbrev pub DrawsTo : Painting → Streams → RunEnd → Type 0
-  DrawsTo Paints s end = EndsAs (DrawsAsked Paints s) (BeginsDrawing Paints s) s end
-
-  -- what a run of the mode `otlp` did, by how it ended
-  abbrev pub Exports : List (List ℕ) → Streams → RunEnd → Type 0
-  Exports given s end = EndsAs (ExportsAsked given s) (BeginsExporting given s) s end
+  -- a run of a mode, by its status, and by what is said of the faults where it has none and where it has one
+  abbrev pub Runs : PlainMode → Streams → Type 0 → (List ℕ → Type 0) → ℕ → Type 0
+  Runs mode s Silent Says status = EndsWith (GivesWhole mode s) (GivesBeginning mode s) Silent Says s status

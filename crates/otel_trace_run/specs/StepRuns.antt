@@ -4,7 +4,7 @@ use Rattle.std.specs.Io.KnownBytes.{Appends}
 use Rattle.otel_batch.specs.MachineState.{Machine}
 use Rattle.otel_export.specs.StoredBatches.{StoredBatches}
 use Rattle.otel_export.specs.Streams.{AppendsBeginning}
-use Rattle.otel_trace_run.specs.Streams.{AreAll, EndsAs, EndsWith, Streams}
+use Rattle.otel_trace_run.specs.Streams.{AreAll, EndsAs, Streams}
 use Rattle.otel_trace_run.specs.declared.run_end.RunEnd.{RunEnd}
 use Rattle.otel_trace_steps.specs.StepAnswers.{AnswersLines, BeginsAnswers, machine_of}
 use Rattle.otel_trace_steps.specs.declared.steps.Sizes.{Sizes}
@@ -45,7 +45,3 @@ StepsOn start after s end = EndsAs (StepsTo start after s) (StepsSome start s) s
 -- what a run over a batch queue did, by how it ended
 abbrev pub Steps : Machine StoredBatches → Streams → RunEnd → Type 0
 Steps start s end = EndsAs (StepsAll start s) (StepsSome start s) s end
-
--- a run of the mode `steps`, by its status, and by what is said of the faults where it has none and where it has one
-abbrev pub EndsStepping : Sizes → Streams → Type 0 → (List ℕ → Type 0) → ℕ → Type 0
-EndsStepping sizes s Silent Says status = EndsWith (StepsSized sizes s) (StepsBegun sizes s) Silent Says s status

@@ -1,11 +1,13 @@
 //! `run_program` is all of the program `otel_trace` but the words and streams that it is given.
 #![tactic(auto)]
 
-mod counted;
+mod line_count;
+pub mod mode;
 mod otlp;
 pub mod picture;
 mod pieces;
 pub mod program;
+pub mod provider;
 pub mod run_end;
 mod step_stream;
 mod trace_stream;

@@ -1,16 +1,14 @@
 //! The mode `otlp`: each batch that a session exports is a line of the OpenTelemetry protocol's JSON, and no reply is
 //! written.
 
-ghost use Rattle.std.specs.Prelude.{◌≡◌, ◌++◌, [], IfOk, IsOk, List, MatchOption, OnErr, OnOk, ℕ, length, map, string_bytes, take};
+ghost use Rattle.std.specs.Prelude.{◌≡◌, ◌++◌, [], IfOk, IsOk, OnErr, OnOk, length, map, string_bytes, take};
 ghost use Rattle.otel_resource.specs.DetectedResource.{IsDetected};
 ghost use Rattle.otel_otlp.specs.Otlp.{otlp_lines};
-ghost use Rattle.otel_trace_run.specs.Arguments.{AsksForOtlp, NamesGiven};
 ghost use Rattle.otel_trace_run.specs.OtlpRuns.{ExportsUnder, otlp_form};
 ghost use Rattle.otel_trace_run.specs.Program.{strings_given};
 ghost use Rattle.otel_trace_run.specs.Streams.{streams};
 ghost use Rattle.otel_trace_session.specs.Calls.{calls_of};
 
-use crate::program::{Asked, AskedProcessor};
 use crate::run_end::RunEnd;
 use crate::trace_stream::trace_input;
 use otel_export::trace::SpanData;
@@ -18,7 +16,6 @@ use otel_otlp::write_request;
 use otel_pipeline::trace::{KeepsBatches, ProviderOf};
 use otel_resource::resource::{Resource, ResourceStrings};
 use otel_sampling::trace::{GivesIds, ShouldSample};
-use otel_trace_lines::lines::number_of;
 use otel_trace_lines::{Answer, ReplyForm};
 use std::alloc::{AllocError, Global};
 use std::io::{Read, Write};
@@ -101,44 +98,6 @@ impl ReplyForm for OtlpLines {
 
     fn minds_drops(&self) -> bool {
         true
-    }
-}
-
-/// What the words of the mode `otlp` ask for, and the attributes string after them, if one is given; none where the
-/// words are others.
-pub(crate) fn otlp_of(words: &[String]) -> Option<(Asked, &[String])>
-    ensures { MatchOption result
-        ((asked : Asked) (given : List (List ℕ)) → AsksForOtlp (map string_bytes words.now) asked given → ⊥)
-        (λ found. AsksForOtlp (map string_bytes words.now) found.0 (map string_bytes found.1.now)) }
-{
-    match words {
-        [mode, seed, after @ ..] if mode.as_str() == "otlp" => match given_after(after) {
-            Some((processor, given)) => {
-                let seed = number_of(seed.as_str())?;
-                Some((Asked { seed, processor }, given))
-            }
-            None => None,
-        },
-        _ => None,
-    }
-}
-
-/// The processor that is named, and after it one more word at most; none where the words are others.
-pub(crate) fn given_after(words: &[String]) -> Option<(AskedProcessor, &[String])>
-    ensures { MatchOption result
-        ((asked : AskedProcessor) (given : List (List ℕ)) → NamesGiven (map string_bytes words.now) asked given → ⊥)
-        (λ found. NamesGiven (map string_bytes words.now) found.0 (map string_bytes found.1.now)) }
-{
-    match words {
-        [kind, given @ ..] if kind.as_str() == "simple" && given.len() < 2 => {
-            Some((AskedProcessor::Simple, given))
-        }
-        [kind, queue, batch, given @ ..] if kind.as_str() == "batch" && given.len() < 2 => {
-            let queue = number_of(queue.as_str())? as usize;
-            let batch = number_of(batch.as_str())? as usize;
-            Some((AskedProcessor::Batch { queue, batch }, given))
-        }
-        _ => None,
     }
 }
 

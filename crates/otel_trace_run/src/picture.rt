@@ -1,27 +1,23 @@
 //! The modes `picture` and `svg`: at the end of the input all spans that a session exported over it are drawn, and no
 //! reply is written. So these modes hold the input and its spans, and their memory grows with both.
 
-ghost use Rattle.std.specs.Prelude.{◌≡◌, ◌++◌, ◌≤◌, IfOk, IfSome, MatchOption, OnOk, List, ℕ, map, string_bytes};
+ghost use Rattle.std.specs.Prelude.{◌≡◌, ◌++◌, IfOk, IfSome, OnOk, List, ℕ, map};
 ghost use Rattle.otel_export.specs.PlainSpanData.{PlainSpanData, spans_in};
 ghost use Rattle.otel_trace_lines.specs.Commands.{plain_commands};
-ghost use Rattle.otel_trace_run.specs.Arguments.{AsksForSvg, AsksForText, GivesColumns};
 ghost use Rattle.otel_trace_run.specs.PictureRuns.{DrawsLines, DrawsUnder};
 ghost use Rattle.otel_trace_run.specs.PictureRuns.{ReadsScript, RunsOut, RunsShutdown, says_shut};
 ghost use Rattle.otel_trace_run.specs.Streams.{streams};
 ghost use Rattle.otel_trace_session.specs.Calls.{calls_of};
 ghost use Rattle.otel_trace_session.specs.Shown.{exported_in};
 
-use crate::otlp::given_after;
-use crate::program::{Asked, processor_named};
 use crate::run_end::RunEnd;
 use otel_export::error::OTelSdkError;
 use otel_export::stream::write_whole;
 use otel_export::trace::SpanData;
 use otel_picture::svg::write_svg;
-use otel_picture::text::{COLUMNS, write_text};
+use otel_picture::write_text::write_text;
 use otel_pipeline::trace::{KeepsBatches, ProviderOf};
 use otel_sampling::trace::{GivesIds, ShouldSample};
-use otel_trace_lines::lines::number_of;
 use otel_trace_lines::{Answer, Command, Reply, ReplyLines, Script, parse};
 use otel_trace_session::Session;
 use std::alloc::{AllocError, Global};
@@ -72,58 +68,6 @@ impl SpanPainter for PictureForm {
 struct Drawn {
     picture: Vec<u8>,
     bad_line: Option<u64>,
-}
-
-/// What the words of the mode `picture` ask for, and how many columns; none where the words are others.
-pub(crate) fn text_asked(words: &[String]) -> Option<(Asked, u32)>
-    ensures { MatchOption result
-        ((asked : Asked) (columns : ℕ) → AsksForText (map string_bytes words.now) asked columns → ⊥)
-        (λ found. AsksForText (map string_bytes words.now) found.0 found.1) }
-{
-    match words {
-        [mode, seed, after @ ..] if mode.as_str() == "picture" => match given_after(after) {
-            Some((processor, given)) => {
-                let seed = number_of(seed.as_str())?;
-                let columns = columns_in(given)?;
-                Some((Asked { seed, processor }, columns))
-            }
-            None => None,
-        },
-        _ => None,
-    }
-}
-
-/// What the words of the mode `svg` ask for; none where the words are others.
-pub(crate) fn svg_asked(words: &[String]) -> Option<Asked>
-    ensures { MatchOption result
-        ((asked : Asked) → AsksForSvg (map string_bytes words.now) asked → ⊥)
-        (λ asked. AsksForSvg (map string_bytes words.now) asked) }
-{
-    match words {
-        [mode, seed, kind @ ..] if mode.as_str() == "svg" => Some(Asked {
-            seed: number_of(seed.as_str())?,
-            processor: processor_named(kind)?,
-        }),
-        _ => None,
-    }
-}
-
-/// The columns that the first word gives, or 72 where there is none; none where it gives none.
-fn columns_in(given: &[String]) -> Option<u32>
-    ensures { MatchOption result
-        ((columns : ℕ) → GivesColumns (map string_bytes given.now) columns → ⊥)
-        (λ columns. GivesColumns (map string_bytes given.now) columns) }
-{
-    match given {
-        [] => Some(COLUMNS),
-        [columns, ..] => {
-            let number = number_of(columns.as_str())?;
-            if number < 20 || number > 400 {
-                return None;
-            }
-            Some(number as u32)
-        }
-    }
 }
 
 /// Carries out the lines of an input by one session under a provider, and writes the picture of all spans that it
@@ -189,7 +133,7 @@ fn draw_lines<P: KeepsBatches, S: ShouldSample, G: GivesIds, D: SpanPainter, R: 
 {
     let script = read_script(alloc, input).ok()?;
     let spans = exported_by(alloc, session, script.commands)?;
-    let picture = picture_of(alloc, painter, &spans).ok()?;
+    let picture = paint_picture(alloc, painter, &spans).ok()?;
     Some(Drawn {
         picture,
         bad_line: script.bad_line,
@@ -291,7 +235,7 @@ fn push_batches(spans: &mut Vec<SpanData>, batches: Vec<Vec<SpanData>>) -> Resul
 }
 
 /// The picture of spans.
-fn picture_of<D: SpanPainter>(
+fn paint_picture<D: SpanPainter>(
     alloc: Global,
     painter: &D,
     spans: &[SpanData],

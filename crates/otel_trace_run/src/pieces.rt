@@ -177,11 +177,11 @@ fn read_at<R: Read>(reader: &mut R, buffer: &mut [u8], at: usize) -> io::Result<
     ensures ok { IfOk result (Brings (R.remaining reader.old) (R.remaining reader.new) buffer.new at) }
     ensures err { OnErr result (Keeps (R.remaining reader.old) (R.remaining reader.new)) }
 {
-    read_untroubled(reader, &mut buffer[at..])
+    read_uninterrupted(reader, &mut buffer[at..])
 }
 
 /// Reads once, and again where that was interrupted.
-fn read_untroubled<R: Read>(reader: &mut R, buffer: &mut [u8]) -> io::Result<usize>
+fn read_uninterrupted<R: Read>(reader: &mut R, buffer: &mut [u8]) -> io::Result<usize>
     ensures bound { ReadsAtMost result buffer.new }
     ensures ok { IfOk result (λ n. Consumes (R.remaining reader.old) (R.remaining reader.new) (take n buffer.new)) }
     ensures end { IfOk result (λ n. n ≡ 0 → 0 < length buffer.old → IsAtEnd (R.remaining reader.new)) }

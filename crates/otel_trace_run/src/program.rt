@@ -1,59 +1,33 @@
 //! What the program does with its arguments and its three streams. It feeds its lines to one session as they come and
 //! closes that, or has them step one batch queue, and at the end says what was wrong.
 
-ghost use Rattle.std.specs.Prelude.{◌≡◌, ◌≢◌, ◌⊎◌, ◌≤◌, ℕ, List, Some, None, IfOk, IfSome, OnOk, MatchOption, false, true, map, string_bytes};
+ghost use Rattle.std.specs.Prelude.{◌≡◌, ◌≢◌, ◌⊎◌, ◌≤◌, map, string_bytes};
 ghost use Rattle.std.specs.Io.KnownBytes.{Appends};
 ghost use Rattle.otel_trace_run.specs.Arguments.{
-  AsksFor,
-  AsksForNoTrace,
+  Asks,
   AsksForNothing,
-  AsksForOtlp,
-  AsksForPicture,
-  AsksForSteps,
-  NamesProcessor,
-  WriteSizes,
+  PlainMode,
   bad_line_text,
+  otlp,
+  picture,
+  plain_mode,
+  trace,
   usage_text,
 };
-ghost use Rattle.otel_trace_run.specs.Program.{
-  DrawsTo,
-  EndsDrawing,
-  EndsExporting,
-  EndsTracing,
-  Exports,
-  IsProviderOf,
-  SamplesRoots,
-  memory_calls,
-  processor_of,
-};
-ghost use Rattle.otel_trace_run.specs.StepRuns.{EndsStepping};
+ghost use Rattle.otel_trace_run.specs.Program.{Runs, RunsTo};
 ghost use Rattle.otel_trace_run.specs.Streams.{Reports, streams};
 
-use crate::otlp::{export_input, otlp_of, resource_of};
-use crate::picture::{PictureForm, SpanPainter, draw_input, svg_asked, text_asked};
+use crate::mode::{Asked, Mode, parse_mode};
+use crate::otlp::{export_input, resource_of};
+use crate::picture::{PictureForm, SpanPainter, draw_input};
+use crate::provider::{SessionProvider, TraceProvider, make_provider};
 use crate::run_end::RunEnd;
 use crate::step_stream::step_input;
 use crate::trace_stream::trace_input;
-use opentelemetry::trace::{Link, SpanKind, TraceState};
-use opentelemetry::{Context, KeyValue, TraceId};
-use opentelemetry_sdk::trace::{BatchSpanProcessor, ProcessorOf};
-use otel_batch::trace::BatchConfigBuilder;
-use otel_export::error::OTelSdkResult;
 use otel_export::stream::write_whole;
-use otel_export::trace::{ExporterOf, InMemorySpanExporter, SpanData, SpanExporter};
-use otel_pipeline::trace::provider::provider_over;
-use otel_pipeline::trace::{KeepsBatches, ProviderOf, SimpleSpanProcessor, SpanProcessor, Timed};
-use otel_resource::resource::Resource;
-use otel_sampling::trace::{
-    ConfigOf, GivesIds, RandomIdGenerator, SamplerOf, SamplingDecision, SamplingResult,
-    ShouldSample, SpanLimits,
-};
 use otel_trace_lines::ReplyLines;
-use otel_trace_lines::lines::number_of;
-use otel_trace_steps::Sizes;
-use std::alloc::{AllocError, Global};
+use std::alloc::Global;
 use std::io::{Read, Write};
-use std::time::Duration;
 
 const USAGE: &str = "usage: otel_trace trace SEED simple | trace SEED batch Q B | steps Q B P\n";
 
@@ -65,83 +39,6 @@ const FAILED: u8 = 1;
 
 /// The exit status of a bad line or of wrong arguments.
 const REFUSED: u8 = 2;
-
-/// What the program's processors export to.
-type TraceExporter = ExporterOf<InMemorySpanExporter, NoExporter>;
-
-/// What the program's provider holds.
-pub type TraceProcessor = ProcessorOf<TraceExporter, SimpleSpanProcessor<NoExporter>>;
-
-/// What stands for an exporter of another's own, and after a processor of another's own, of which the program has
-/// none: it takes each batch and forgets it.
-#[derive(Drop)]
-pub struct NoExporter;
-
-impl SpanExporter for NoExporter {
-    ghost told = { λ _. None };
-
-    fn export(&mut self, _batch: Vec<SpanData>) -> OTelSdkResult {
-        Ok(())
-    }
-
-    fn shutdown_with_timeout(&mut self, _timeout: Duration) -> OTelSdkResult {
-        Ok(())
-    }
-
-    fn set_resource(&mut self, _resource: &Resource) {}
-}
-
-/// What stands for a sampler of another's own, of which the program has none: it drops every span.
-#[derive(Drop)]
-pub struct NoSampler;
-
-impl ShouldSample for NoSampler {
-    ghost use Rattle.std.specs.Prelude.{[]};
-    ghost use Rattle.otel_sampling.specs.declared.trace.sampler.SamplingDecision.TheVariants as decisions;
-
-    ghost answer = { λ _ _. record { decision = decisions.Drop; attributes = []; trace_state = [] } };
-
-    fn should_sample(
-        &self,
-        _parent_context: Option<&Context>,
-        _trace_id: TraceId,
-        _name: &str,
-        _span_kind: &SpanKind,
-        _attributes: &[KeyValue],
-        _links: &[Link],
-    ) -> Result<SamplingResult, AllocError> {
-        Ok(SamplingResult {
-            decision: SamplingDecision::Drop,
-            attributes: None,
-            trace_state: TraceState::new(),
-        })
-    }
-}
-
-/// What the program's provider asks about each span.
-pub type TraceSampler = SamplerOf<NoSampler>;
-
-/// A provider as the program's is, over processors of any kind.
-type ProviderOver<P> = ProviderOf<P, TraceSampler, RandomIdGenerator>;
-
-/// The program's provider.
-type TraceProvider = ProviderOver<TraceProcessor>;
-
-/// What the mode `trace` is asked for.
-#[derive(Clone, Copy, Debug, PartialEq, Eq)]
-pub struct Asked {
-    pub seed: u64,
-    pub processor: AskedProcessor,
-}
-
-/// The processor that the mode `trace` is asked for.
-#[derive(Clone, Copy, Debug, PartialEq, Eq)]
-pub enum AskedProcessor {
-    /// It exports each span as it ends.
-    Simple,
-    /// So many spans may wait in its queue, and a batch has so many at most.
-    Batch { queue: usize, batch: usize },
-}
 
 /// Runs the program over any reader and writers, and answers its exit status: 0 at the end of the input; 2 for a bad
 /// line or wrong arguments; 1 where reading, writing or the closing fails, memory is missing or a batch was lost, also
@@ -159,59 +56,54 @@ pub fn run_program<R: Read, W: Write, F: Write>(
     ensures usage { (result ≤ 2) × (AsksForNothing (map string_bytes words.now) →
         (input.new ≡ input.old) × (output.new ≡ output.old) × (result ≢ 0)
         × (result ≡ 2 → Appends (F.contents faults.old) (F.contents faults.new) usage_text)) }
-
-    // One session.
-    ensures trace { (asked : Asked) → AsksFor (map string_bytes words.now) asked → EndsTracing
-        (memory_calls ⟦<TraceProcessor as SpanProcessor>⟧
-        (record { due_gives = ⟦<TraceProcessor as Timed>⟧.due_gives })
-        ⟦<TraceSampler as ShouldSample>⟧ ⟦<RandomIdGenerator as GivesIds>⟧) asked
-        (streams (R.remaining input.old) (R.remaining input.new) (W.contents output.old) (W.contents output.new))
-        (faults.new ≡ faults.old) (Appends (F.contents faults.old) (F.contents faults.new)) result }
-
-    // One session, whose batches are written in place of its replies.
-    ensures otlp { (asked : Asked) (given : List (List ℕ)) → AsksForOtlp (map string_bytes words.now) asked given →
-        EndsExporting
-        (memory_calls ⟦<TraceProcessor as SpanProcessor>⟧
-        (record { due_gives = ⟦<TraceProcessor as Timed>⟧.due_gives })
-        ⟦<TraceSampler as ShouldSample>⟧ ⟦<RandomIdGenerator as GivesIds>⟧) asked given
-        (streams (R.remaining input.old) (R.remaining input.new) (W.contents output.old) (W.contents output.new))
-        (faults.new ≡ faults.old) (Appends (F.contents faults.old) (F.contents faults.new)) result }
-
-    // One session, whose spans are drawn at the end.
-    ensures picture { (asked : Asked) (form : PictureForm) → AsksForPicture (map string_bytes words.now) asked form →
-        EndsDrawing
-        (memory_calls ⟦<TraceProcessor as SpanProcessor>⟧
-        (record { due_gives = ⟦<TraceProcessor as Timed>⟧.due_gives })
-        ⟦<TraceSampler as ShouldSample>⟧ ⟦<RandomIdGenerator as GivesIds>⟧) asked
-        (⟦<PictureForm as SpanPainter>⟧.paints form)
-        (streams (R.remaining input.old) (R.remaining input.new) (W.contents output.old) (W.contents output.new))
-        (faults.new ≡ faults.old) (Appends (F.contents faults.old) (F.contents faults.new)) result }
-
-    // One batch queue.
-    ensures steps { (sizes : Sizes) → AsksForSteps (map string_bytes words.now) sizes → EndsStepping sizes
+    ensures runs { (mode : PlainMode) → Asks (map string_bytes words.now) mode → Runs
+        ⟦<TraceProvider as SessionProvider>⟧.calls ⟦<PictureForm as SpanPainter>⟧.paints mode
         (streams (R.remaining input.old) (R.remaining input.new) (W.contents output.old) (W.contents output.new))
         (faults.new ≡ faults.old) (Appends (F.contents faults.old) (F.contents faults.new)) result }
 {
-    if let Some(sizes) = sizes_of(words) {
-        let end = step_input(alloc, sizes, input, output);
-        return status_of(alloc, end, faults);
-    }
-    if let Some((asked, given)) = otlp_of(words) {
-        let end = run_otlp(alloc, asked, given, input, output);
-        return status_of(alloc, end, faults);
-    }
-    if let Some((asked, form)) = picture_of(words) {
-        let end = run_picture(alloc, asked, form, input, output);
-        return status_of(alloc, end, faults);
-    }
-    match provider_for(alloc, words) {
+    match parse_mode(words) {
         None => refuse(faults, USAGE),
-        Some(Ok(provider)) => {
-            let mut lines = ReplyLines::new(alloc);
-            let end = trace_input(alloc, provider, &mut lines, input, output);
+        Some(mode) => {
+            let end = run_mode(alloc, mode, input, output);
             status_of(alloc, end, faults)
         }
-        Some(Err(_)) => FAILED,
+    }
+}
+
+/// Runs a mode, and says how that ended.
+fn run_mode<R: Read, W: Write>(alloc: Global, mode: Mode, input: &mut R, output: &mut W) -> RunEnd
+    ensures { RunsTo
+        ⟦<TraceProvider as SessionProvider>⟧.calls ⟦<PictureForm as SpanPainter>⟧.paints (plain_mode mode.entry)
+        (streams (R.remaining input.old) (R.remaining input.new) (W.contents output.old) (W.contents output.new))
+        result }
+{
+    match mode {
+        Mode::Trace(asked) => run_trace(alloc, asked, input, output),
+        Mode::Steps(sizes) => step_input(alloc, sizes, input, output),
+        Mode::Otlp(asked, given) => run_otlp(alloc, asked, given, input, output),
+        Mode::Picture(asked, form) => run_picture(alloc, asked, form, input, output),
+    }
+}
+
+/// Runs a session whose replies are written, under the provider that is asked for; a failure where there is no memory
+/// for it.
+fn run_trace<R: Read, W: Write>(
+    alloc: Global,
+    asked: Asked,
+    input: &mut R,
+    output: &mut W,
+) -> RunEnd
+    ensures { RunsTo
+        ⟦<TraceProvider as SessionProvider>⟧.calls ⟦<PictureForm as SpanPainter>⟧.paints (trace asked)
+        (streams (R.remaining input.old) (R.remaining input.new) (W.contents output.old) (W.contents output.new))
+        result }
+{
+    match make_provider(alloc, asked, false) {
+        Ok(provider) => {
+            let mut lines = ReplyLines::new(alloc);
+            trace_input(alloc, provider, &mut lines, input, output)
+        }
+        Err(_) => RunEnd::Failed,
     }
 }
 
@@ -224,34 +116,19 @@ fn run_otlp<R: Read, W: Write>(
     input: &mut R,
     output: &mut W,
 ) -> RunEnd
-    ensures { Exports
-        (memory_calls ⟦<TraceProcessor as SpanProcessor>⟧
-        (record { due_gives = ⟦<TraceProcessor as Timed>⟧.due_gives })
-        ⟦<TraceSampler as ShouldSample>⟧ ⟦<RandomIdGenerator as GivesIds>⟧)
-        asked (map string_bytes given.now)
+    ensures { RunsTo
+        ⟦<TraceProvider as SessionProvider>⟧.calls ⟦<PictureForm as SpanPainter>⟧.paints
+        (otlp asked (map string_bytes given.now))
         (streams (R.remaining input.old) (R.remaining input.new) (W.contents output.old) (W.contents output.new))
         result }
 {
     let Ok(resource) = resource_of(alloc, given) else {
         return RunEnd::Failed;
     };
-    match provider_of(alloc, asked, true) {
+    match make_provider(alloc, asked, true) {
         Ok(provider) => export_input(alloc, provider, resource, input, output),
         Err(_) => RunEnd::Failed,
     }
-}
-
-/// What the words of the modes `picture` and `svg` ask for; none where the words are others.
-fn picture_of(words: &[String]) -> Option<(Asked, PictureForm)>
-    ensures { MatchOption result
-        ((asked : Asked) (form : PictureForm) → AsksForPicture (map string_bytes words.now) asked form → ⊥)
-        (λ found. AsksForPicture (map string_bytes words.now) found.0 found.1) }
-{
-    if let Some((asked, columns)) = text_asked(words) {
-        return Some((asked, PictureForm::Text { columns }));
-    }
-    let asked = svg_asked(words)?;
-    Some((asked, PictureForm::Svg))
 }
 
 /// Runs a session whose spans are drawn, under the provider that is asked for; a failure where there is no memory for
@@ -263,87 +140,15 @@ fn run_picture<R: Read, W: Write>(
     input: &mut R,
     output: &mut W,
 ) -> RunEnd
-    ensures { DrawsTo
-        (memory_calls ⟦<TraceProcessor as SpanProcessor>⟧
-        (record { due_gives = ⟦<TraceProcessor as Timed>⟧.due_gives })
-        ⟦<TraceSampler as ShouldSample>⟧ ⟦<RandomIdGenerator as GivesIds>⟧)
-        asked (⟦<PictureForm as SpanPainter>⟧.paints form)
+    ensures { RunsTo
+        ⟦<TraceProvider as SessionProvider>⟧.calls ⟦<PictureForm as SpanPainter>⟧.paints (picture asked form)
         (streams (R.remaining input.old) (R.remaining input.new) (W.contents output.old) (W.contents output.new))
         result }
 {
-    match provider_of(alloc, asked, true) {
+    match make_provider(alloc, asked, true) {
         Ok(provider) => draw_input(alloc, provider, &form, input, output),
         Err(_) => RunEnd::Failed,
     }
-}
-
-/// The provider that the arguments ask for, or that there is no memory for it; none where they ask for nothing.
-fn provider_for(alloc: Global, words: &[String]) -> Option<Result<TraceProvider, AllocError>>
-    ensures { MatchOption result
-        (AsksForNoTrace (map string_bytes words.now))
-        (λ made. (asked : Asked) × AsksFor (map string_bytes words.now) asked
-        × IfOk made (IsProviderOf false asked)) }
-{
-    let asked = asked_of(words)?;
-    Some(provider_of(alloc, asked, false))
-}
-
-/// What the words of the mode `trace` ask for; none where the words are others.
-fn asked_of(words: &[String]) -> Option<Asked>
-    ensures { MatchOption result
-        (AsksForNoTrace (map string_bytes words.now))
-        (λ asked. AsksFor (map string_bytes words.now) asked) }
-{
-    match words {
-        [mode, seed, kind @ ..] if mode.as_str() == "trace" => Some(Asked {
-            seed: number_of(seed.as_str())?,
-            processor: processor_named(kind)?,
-        }),
-        _ => None,
-    }
-}
-
-/// The processor of `simple` or `batch Q B`; none where the words are others.
-pub(crate) fn processor_named(words: &[String]) -> Option<AskedProcessor>
-    ensures { MatchOption result
-        ((asked : AskedProcessor) → NamesProcessor (map string_bytes words.now) asked → ⊥)
-        (λ asked. NamesProcessor (map string_bytes words.now) asked) }
-{
-    match words {
-        [kind] if kind.as_str() == "simple" => Some(AskedProcessor::Simple),
-        [kind, queue, batch] if kind.as_str() == "batch" => Some(AskedProcessor::Batch {
-            queue: number_of(queue.as_str())? as usize,
-            batch: number_of(batch.as_str())? as usize,
-        }),
-        _ => None,
-    }
-}
-
-/// The sizes of `steps Q B P`; none where the words are others.
-fn sizes_of(words: &[String]) -> Option<Sizes>
-    ensures { MatchOption result
-        ((sizes : Sizes) → AsksForSteps (map string_bytes words.now) sizes → ⊥)
-        (λ sizes. AsksForSteps (map string_bytes words.now) sizes) }
-{
-    match words {
-        [mode, queue, batch, producers] if mode.as_str() == "steps" => {
-            sizes_in(queue.as_str(), batch.as_str(), producers.as_str())
-        }
-        _ => None,
-    }
-}
-
-/// The sizes that three numbers write; none where one is no number.
-fn sizes_in(queue: &str, batch: &str, producers: &str) -> Option<Sizes>
-    ensures { MatchOption result
-        ((sizes : Sizes) → WriteSizes queue.now batch.now producers.now sizes → ⊥)
-        (λ sizes. WriteSizes queue.now batch.now producers.now sizes) }
-{
-    Some(Sizes {
-        queue: number_of(queue)? as usize,
-        batch: number_of(batch)? as usize,
-        producers: number_of(producers)? as usize,
-    })
 }
 
 /// Names a bad line, and answers the status for how a run ended.
@@ -376,60 +181,5 @@ fn name_bad_line<F: Write>(alloc: Global, line: u64, faults: &mut F) -> u8
     match format!(in alloc; "line {line}: cannot read\n") {
         Ok(text) => refuse(faults, text.as_str()),
         Err(_) => FAILED,
-    }
-}
-
-/// The provider that is asked for. Where nobody reads how many spans a queue drops, its batch processor is eager.
-fn provider_of(alloc: Global, asked: Asked, is_eager: bool) -> Result<TraceProvider, AllocError>
-    ensures { IfOk result (IsProviderOf is_eager asked) }
-{
-    let processor = processor_asked(alloc, asked.processor, is_eager)?;
-    provider_with(alloc, asked.seed, processor)
-}
-
-/// A provider of one processor, that samples each root, and each child as its parent is.
-fn provider_with<P: SpanProcessor>(
-    alloc: Global,
-    seed: u64,
-    processor: P,
-) -> Result<ProviderOver<P>, AllocError>
-    ensures { IfOk result (SamplesRoots seed processor) }
-{
-    let mut processors = Vec::new(alloc);
-    processors.push(processor)?;
-    let config = ConfigOf {
-        sampler: SamplerOf::ParentBased(Box::new(alloc, SamplerOf::AlwaysOn)?),
-        id_generator: RandomIdGenerator::new(seed),
-        span_limits: SpanLimits::default(),
-        resource: Resource::builder_empty(alloc).build(),
-    };
-    Ok(provider_over(processors, config))
-}
-
-/// The processor that is asked for, over a new exporter in memory.
-fn processor_asked(
-    alloc: Global,
-    asked: AskedProcessor,
-    is_eager: bool,
-) -> Result<TraceProcessor, AllocError>
-    ensures { IfOk result (λ processor. processor ≡ processor_of is_eager asked) }
-{
-    let exporter = ExporterOf::Memory(InMemorySpanExporter::new(alloc));
-    match asked {
-        AskedProcessor::Simple => Ok(ProcessorOf::Simple(SimpleSpanProcessor::new(
-            alloc, exporter,
-        ))),
-        AskedProcessor::Batch { queue, batch } => {
-            let config = BatchConfigBuilder::default()
-                .with_max_queue_size(queue)
-                .with_max_export_batch_size(batch)
-                .build();
-            let processor = if is_eager {
-                BatchSpanProcessor::new_eager(alloc, exporter, config)?
-            } else {
-                BatchSpanProcessor::new(alloc, exporter, config)?
-            };
-            Ok(ProcessorOf::Batch(processor))
-        }
     }
 }

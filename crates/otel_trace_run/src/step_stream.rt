@@ -8,7 +8,7 @@ ghost use Rattle.otel_trace_run.specs.StepRuns.{Steps, StepsOn};
 ghost use Rattle.otel_trace_run.specs.Streams.{streams};
 ghost use Rattle.otel_trace_steps.specs.StepAnswers.{AnswersLines, BeginsAnswers, machine_of};
 
-use crate::counted::{bad_line_after, lines_counted};
+use crate::line_count::{bad_line_after, lines_counted};
 use crate::pieces::Pieces;
 use crate::run_end::RunEnd;
 use otel_batch::machine::BatchMachine;

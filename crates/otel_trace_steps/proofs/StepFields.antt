@@ -4,14 +4,14 @@ use Rattle.std.proofs.lemmas.List.Elements.{All-from_get_or, All-from_recursion}
 use Rattle.std.proofs.lemmas.Str.Parse.{not_in_digits, numerals_by_value, tells_digits}
 use Rattle.std.specs.Str.Parse.{AllDigits}
 use Rattle.otel_batch.specs.declared.machine.step.Step.TheVariants as steps
-use Rattle.otel_trace_lines.specs.Lines.{IsField, IsMoment}
+use Rattle.otel_trace_lines.specs.Lines.{IsField, IsDecimal64}
 use Rattle.otel_trace_steps.specs.StepLines.{Finds, IsWord, ReadsOrder, SomeOffer, TakesFields, TakesName, TakesProducer}
 use Rattle.otel_trace_steps.specs.declared.steps.step_lines.Order.{Order}
 use Rattle.otel_trace_steps.specs.declared.steps.step_lines.Order.TheVariants as orders
 use Rattle.otel_trace_lines.proofs.Fields.{same_field, no_last_field}
 
 -- a number has no space
-pub number_is_field : (digits : List ℕ) (n : ℕ) → IsMoment digits n → IsField digits
+pub number_is_field : (digits : List ℕ) (n : ℕ) → IsDecimal64 digits n → IsField digits
 number_is_field digits n h =
     (h.0.0, All-from_get_or (λ b. b ≢ 32) digits 0 (not_in_digits (numerals_by_value (AllDigits 10) tells_digits) digits 32 h.0.1 (λ r. omega (arith, r.0))))
 

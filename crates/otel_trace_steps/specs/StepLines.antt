@@ -6,7 +6,7 @@ use Rattle.opentelemetry.specs.declared.trace.span_kind.SpanKind.TheVariants as 
 use Rattle.otel_resource.specs.Resource.{empty_resource}
 use Rattle.otel_export.specs.PlainSpanData.{PlainSpanData}
 use Rattle.otel_batch.specs.declared.machine.step.Step.TheVariants as steps
-use Rattle.otel_trace_lines.specs.Lines.{IsField, IsMoment}
+use Rattle.otel_trace_lines.specs.Lines.{IsField, IsDecimal64}
 use Rattle.otel_trace_steps.specs.declared.steps.step_lines.Order.{Order}
 use Rattle.otel_trace_steps.specs.declared.steps.step_lines.Order.TheVariants as orders
 
@@ -68,11 +68,11 @@ IsOffer word p name _ = ⊥
 
 -- a word and a producer's number
 abbrev pub TakesProducer : List ℕ → List ℕ → Order → Type 0
-TakesProducer word digits order = (p : ℕ) × IsMoment digits p × IsOfProducer word p order
+TakesProducer word digits order = (p : ℕ) × IsDecimal64 digits p × IsOfProducer word p order
 
 -- a word, a producer's number and a name
 abbrev pub TakesName : List ℕ → List ℕ → List ℕ → Order → Type 0
-TakesName word digits name order = (p : ℕ) × IsMoment digits p × IsField name × IsOffer word p name order
+TakesName word digits name order = (p : ℕ) × IsDecimal64 digits p × IsField name × IsOffer word p name order
 
 -- a word and what stands after its space
 abbrev pub TakesFields : List ℕ → List ℕ → Order → Type 0

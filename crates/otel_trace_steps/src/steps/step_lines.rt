@@ -10,7 +10,7 @@ use opentelemetry::{InstrumentationScope, Moment, SpanId, TraceFlags, TraceId};
 use otel_batch::machine::Step;
 use otel_export::trace::{SpanData, SpanEvents, SpanLinks};
 use otel_resource::resource::Resource;
-use otel_trace_lines::lines::{first_field, number_of};
+use otel_trace_lines::lines::{first_field, parse_decimal};
 use std::alloc::{AllocError, Global};
 
 /// What a line asks for.
@@ -73,7 +73,7 @@ fn order_with_fields(alloc: Global, word: &str, fields: &str) -> Result<Option<O
 fn order_of_producer(word: &str, digits: &str) -> Option<Order>
     ensures { Finds (TakesProducer word.now digits.now) result }
 {
-    let producer = number_of(digits)? as usize;
+    let producer = parse_decimal(digits)? as usize;
     let step = match word {
         "send" => Step::Send(producer),
         "undo" => Step::Undo(producer),
@@ -103,7 +103,7 @@ fn offer_of(
         "offer-unsampled" => TraceFlags::new(0),
         _ => return Ok(None),
     };
-    let Some(producer) = number_of(digits) else {
+    let Some(producer) = parse_decimal(digits) else {
         return Ok(None);
     };
     if name.is_empty() || name.contains(' ') {

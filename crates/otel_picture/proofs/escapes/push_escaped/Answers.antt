@@ -5,7 +5,7 @@ use Rattle.std.proofs.lemmas.Iterator.Consumers.{YieldsList-end}
 use Rattle.std.proofs.lemmas.List.{map-id}
 use Rattle.otel_picture.specs.Texts.{escaped_char, escaped_text}
 use Rattle.otel_picture.proofs.Growing.{one_more}
-use Rattle.otel_picture.proofs.texts.push_escaped.Goals as goal
+use Rattle.otel_picture.proofs.escapes.push_escaped.Goals as goal
 
 pub loop-c-preserved : goal.loop-c-preserved
 loop-c-preserved c =

@@ -2,8 +2,8 @@
 use Rattle.std.proofs.Common.{rules, ◌≡◌, ◌-◌, ◌∙◌, arith, codes, drop, length, string_bytes, sym, take}
 use Rattle.std.proofs.lemmas.List.{length-map}
 use Rattle.std.specs.Cmp.Lexicographic.{bytes_decides}
-use Rattle.otel_trace_run.proofs.OtlpWords.{one_first, three_first}
-use Rattle.otel_trace_run.proofs.otlp.given_after.Goals as goal
+use Rattle.otel_trace_run.proofs.ModeWords.{one_first, three_first}
+use Rattle.otel_trace_run.proofs.mode.processor_and_rest.Goals as goal
 
 pub returns-in-len1-up : goal.returns-in-len1-up
 returns-in-len1-up c =

@@ -3,8 +3,8 @@
 ghost use Rattle.std.specs.Prelude.{◌≡◌, ◌<◌, ◌++◌, ℕ, All, List, OnErr, OnOk, length, vec_len};
 
 use crate::bar::{Bar, Scale};
+use crate::escapes::{push_duration, push_in_room, push_shown, push_times};
 use crate::rows::{Family, Row, rows};
-use crate::texts::{push_duration, push_in_room, push_shown, push_times};
 use crate::traces::{begins_trace, family_of, places_of};
 use opentelemetry::trace::Status;
 use opentelemetry::{SpanId, TraceId};

@@ -1,0 +1,166 @@
+//! The provider of the program's sessions: one processor over an exporter in memory, ids that come from a seed, and a
+//! sampler that takes each root.
+
+ghost use Rattle.std.specs.Prelude.{◌≡◌, IfOk, None};
+ghost use Rattle.otel_trace_run.specs.Program.{IsProviderOf, SamplesRoots, processor_of};
+ghost use Rattle.otel_trace_session.specs.Calls.{Calls, calls_of};
+
+use crate::mode::{Asked, AskedProcessor};
+use opentelemetry::trace::{Link, SpanKind, TraceState};
+use opentelemetry::{Context, KeyValue, TraceId};
+use opentelemetry_sdk::trace::{BatchSpanProcessor, ProcessorOf};
+use otel_batch::trace::BatchConfigBuilder;
+use otel_export::error::OTelSdkResult;
+use otel_export::trace::{ExporterOf, InMemorySpanExporter, SpanData, SpanExporter};
+use otel_pipeline::trace::provider::provider_over;
+use otel_pipeline::trace::{KeepsBatches, ProviderOf, SimpleSpanProcessor, SpanProcessor};
+use otel_resource::resource::Resource;
+use otel_sampling::trace::{
+    ConfigOf, GivesIds, RandomIdGenerator, SamplerOf, SamplingDecision, SamplingResult,
+    ShouldSample, SpanLimits,
+};
+use std::alloc::{AllocError, Global};
+use std::time::Duration;
+
+/// What the program's processors export to.
+type TraceExporter = ExporterOf<InMemorySpanExporter, NoExporter>;
+
+/// What the program's provider holds.
+pub type TraceProcessor = ProcessorOf<TraceExporter, SimpleSpanProcessor<NoExporter>>;
+
+/// What the program's provider asks about each span.
+pub type TraceSampler = SamplerOf<NoSampler>;
+
+/// A provider as the program's is, over processors of any kind.
+type ProviderOver<P> = ProviderOf<P, TraceSampler, RandomIdGenerator>;
+
+/// The program's provider.
+pub type TraceProvider = ProviderOver<TraceProcessor>;
+
+/// A provider under which a session can run.
+pub trait SessionProvider {
+    type Processor;
+
+    type Sampler;
+
+    type Ids;
+
+    /// What is said of the calls of its processors, of its sampler and of its source of ids.
+    ghost calls: { Calls Self.Processor Self.Sampler Self.Ids };
+}
+
+impl<P: KeepsBatches, S: ShouldSample, G: GivesIds> SessionProvider for ProviderOf<P, S, G> {
+    type Processor = P;
+
+    type Sampler = S;
+
+    type Ids = G;
+
+    ghost calls = { calls_of P.SpanProcessor P.Timed.own P.CountsLeftSpans.own P.KeepsBatches.own
+        S.ShouldSample G.GivesIds };
+}
+
+/// What stands for an exporter of another's own, and after a processor of another's own, of which the program has
+/// none: it takes each batch and forgets it.
+#[derive(Drop)]
+pub struct NoExporter;
+
+impl SpanExporter for NoExporter {
+    ghost told = { λ _. None };
+
+    fn export(&mut self, _batch: Vec<SpanData>) -> OTelSdkResult {
+        Ok(())
+    }
+
+    fn shutdown_with_timeout(&mut self, _timeout: Duration) -> OTelSdkResult {
+        Ok(())
+    }
+
+    fn set_resource(&mut self, _resource: &Resource) {}
+}
+
+/// What stands for a sampler of another's own, of which the program has none: it drops every span.
+#[derive(Drop)]
+pub struct NoSampler;
+
+impl ShouldSample for NoSampler {
+    ghost use Rattle.std.specs.Prelude.{[]};
+    ghost use Rattle.otel_sampling.specs.declared.trace.sampler.SamplingDecision.TheVariants as decisions;
+
+    ghost answer = { λ _ _. record { decision = decisions.Drop; attributes = []; trace_state = [] } };
+
+    fn should_sample(
+        &self,
+        _parent_context: Option<&Context>,
+        _trace_id: TraceId,
+        _name: &str,
+        _span_kind: &SpanKind,
+        _attributes: &[KeyValue],
+        _links: &[Link],
+    ) -> Result<SamplingResult, AllocError> {
+        Ok(SamplingResult {
+            decision: SamplingDecision::Drop,
+            attributes: None,
+            trace_state: TraceState::new(),
+        })
+    }
+}
+
+/// The provider that is asked for. Where nobody reads how many spans a queue drops, its batch processor is eager.
+pub(crate) fn make_provider(
+    alloc: Global,
+    asked: Asked,
+    is_eager: bool,
+) -> Result<TraceProvider, AllocError>
+    ensures { IfOk result (IsProviderOf is_eager asked) }
+{
+    let processor = make_processor(alloc, asked.processor, is_eager)?;
+    make_provider_over(alloc, asked.seed, processor)
+}
+
+/// A provider of one processor, that samples each root, and each child as its parent is.
+fn make_provider_over<P: SpanProcessor>(
+    alloc: Global,
+    seed: u64,
+    processor: P,
+) -> Result<ProviderOver<P>, AllocError>
+    ensures { IfOk result (SamplesRoots seed processor) }
+{
+    let mut processors = Vec::new(alloc);
+    processors.push(processor)?;
+    let config = ConfigOf {
+        sampler: SamplerOf::ParentBased(Box::new(alloc, SamplerOf::AlwaysOn)?),
+        id_generator: RandomIdGenerator::new(seed),
+        span_limits: SpanLimits::default(),
+        resource: Resource::builder_empty(alloc).build(),
+    };
+    Ok(provider_over(processors, config))
+}
+
+/// The processor that is asked for, over a new exporter in memory.
+fn make_processor(
+    alloc: Global,
+    asked: AskedProcessor,
+    is_eager: bool,
+) -> Result<TraceProcessor, AllocError>
+    ensures { IfOk result (λ processor. processor ≡ processor_of is_eager asked) }
+{
+    let exporter = ExporterOf::Memory(InMemorySpanExporter::new(alloc));
+    match asked {
+        AskedProcessor::Simple => Ok(ProcessorOf::Simple(SimpleSpanProcessor::new(
+            alloc, exporter,
+        ))),
+        AskedProcessor::Batch { queue, batch } => {
+            let config = BatchConfigBuilder::default()
+                .with_max_queue_size(queue)
+                .with_max_export_batch_size(batch)
+                .build();
+            let processor = if is_eager {
+                BatchSpanProcessor::new_eager(alloc, exporter, config)?
+            } else {
+                BatchSpanProcessor::new(alloc, exporter, config)?
+            };
+            Ok(ProcessorOf::Batch(processor))
+        }
+    }
+}
