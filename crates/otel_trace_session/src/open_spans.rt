@@ -1,7 +1,8 @@
 //! The spans of a session by name. They must be spent: each is abandoned when the session closes.
 
-ghost use Rattle.std.specs.Prelude.{◌≡◌, [], IfOk, OnErr, string_bytes, if◌then◌else◌};
+ghost use Rattle.std.specs.Prelude.{◌≡◌, [], IfOk, OnErr, codes, string_bytes, if◌then◌else◌};
 ghost use Rattle.std.specs.Option.{option_map};
+ghost use Rattle.opentelemetry.specs.Plain.{scope_named};
 ghost use Rattle.opentelemetry.specs.PlainContexts.{root_cx};
 ghost use Rattle.otel_pipeline.specs.SpanEdits.{plain_edit};
 ghost use Rattle.otel_trace_session.specs.Calls.{calls_of};
@@ -33,6 +34,19 @@ use std::alloc::{AllocError, Global};
 use std::collections::BTreeMap;
 use std::collections::btree_map::Entry;
 use std::marker::Model;
+
+/// The name of the library whose spans a session makes.
+const SCOPE_NAME: &str = "otel_trace";
+
+/// The tracer under whose scope they start.
+pub(crate) fn tracer_of<P, S, G>(
+    alloc: Global,
+    provider: &ProviderOf<P, S, G>,
+) -> Result<SdkTracer, AllocError>
+    ensures { IfOk result (λ tracer. tracer ≡ scope_named (codes "otel_trace")) }
+{
+    provider.tracer(String::from_str(alloc, SCOPE_NAME)?)
+}
 
 /// Spans by name.
 pub(crate) struct OpenSpans {

@@ -2,8 +2,7 @@
 //! the histories of its spans, apart from the code that fills them.
 
 ghost use Rattle.std.specs.Prelude.{◌≡◌, ◌++◌, ◌∷◌, [], length, map, IfErr, IfOk};
-ghost use Rattle.std.specs.Prelude.{◌↔◌, IsTrue, OnOk, OnErr, codes};
-ghost use Rattle.opentelemetry.specs.Plain.{scope_named};
+ghost use Rattle.std.specs.Prelude.{◌↔◌, IsTrue, OnOk, OnErr};
 ghost use Rattle.opentelemetry.specs.PlainContexts.{root_cx};
 ghost use Rattle.otel_export.specs.KeptBatches.{Grows};
 ghost use Rattle.otel_trace_lines.specs.ReplyForm.{reply_lines};
@@ -20,7 +19,7 @@ use crate::carry_out::carry_out;
 use crate::closing::{close_answer, shut_down};
 use crate::exported::copied_batches;
 use crate::first_processor::{forget_first, kept_by_first, lost_by_first, unshown_by_first};
-use crate::open_spans::OpenSpans;
+use crate::open_spans::{OpenSpans, tracer_of};
 use opentelemetry::Context;
 use otel_export::error::OTelSdkResult;
 use otel_export::trace::SpanData;
@@ -117,9 +116,6 @@ impl ClosedSession {
     }
 }
 
-/// The name of the library whose spans a session makes.
-const SCOPE_NAME: &str = "otel_trace";
-
 /// Commands against one provider. It must be spent by `close` or `close_in`.
 pub struct Session<P, S, G> {
     provider: ProviderOf<P, S, G>,
@@ -149,15 +145,6 @@ impl<P, S, G> Model for Session<P, S, G> {
     } };
 
     ghost invariant = { λ a. a.root ≡ root_cx };
-}
-
-fn tracer_of<P, S, G>(
-    alloc: Global,
-    provider: &ProviderOf<P, S, G>,
-) -> Result<SdkTracer, AllocError>
-    ensures { IfOk result (λ tracer. tracer ≡ scope_named (codes "otel_trace")) }
-{
-    provider.tracer(String::from_str(alloc, SCOPE_NAME)?)
 }
 
 impl<P: KeepsBatches, S: ShouldSample, G: GivesIds> Session<P, S, G> {

@@ -1,6 +1,5 @@
 -- A picture of a provider that is not named.
-use Rattle.std.proofs.Common.{rules, ◌≡◌, ◌∙◌, Option, None, MatchOption, ap, codes, map, string_bytes, subst, sym}
-use Rattle.otel_trace_run.specs.Arguments.{Asks, AsksForNothing, plain_mode}
+use Rattle.std.proofs.Common.{rules, ◌≡◌, ◌∙◌, None, ap, map, string_bytes, sym}
 use Rattle.otel_trace_run.proofs.ModeWords.{no_picture}
 use Rattle.otel_trace_run.proofs.mode.parse_mode.Goals as goal
 

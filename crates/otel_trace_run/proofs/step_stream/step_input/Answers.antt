@@ -1,11 +1,11 @@
 -- How a run ended by whether the exporter lost a batch; where no machine was made, nothing was done.
-use Rattle.std.proofs.Common.{◌≡◌, arith, subst}
+use Rattle.std.proofs.Common.{subst}
 use Rattle.otel_batch.specs.MachineState.{Machine}
 use Rattle.otel_export.specs.StoredBatches.{StoredBatches}
 use Rattle.otel_trace_run.specs.StepRuns.{StepsSome}
 use Rattle.otel_trace_steps.specs.StepAnswers.{machine_of}
 use Rattle.otel_trace_run.specs.Streams.{streams}
-use Rattle.otel_trace_run.proofs.StepStream.{begun_none, ended_begun, ended_whole}
+use Rattle.otel_trace_run.proofs.StepStream.{begun_none, ended_begun}
 use Rattle.otel_trace_run.proofs.step_stream.step_input.Goals as goal
 
 pub returns-in-Err : goal.returns-in-Err
