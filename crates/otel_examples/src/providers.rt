@@ -4,7 +4,7 @@ use opentelemetry::trace::{SpanBuilder, SpanKind};
 use opentelemetry::{Context, Key, KeyValue, Moment, Value};
 use opentelemetry_sdk::Resource;
 use opentelemetry_sdk::trace::{
-    BatchStrings, ConfigOf, InMemorySpanExporter, CountsLeftSpans, ProviderOf, RandomIdGenerator,
+    BatchStrings, ConfigOf, CountsLeftSpans, InMemorySpanExporter, ProviderOf, RandomIdGenerator,
     SdkTracer, ShouldSample, Span, SpanData, SpanLimits, SpanProcessor,
 };
 use std::alloc::{AllocError, Global};

@@ -6,7 +6,7 @@
 use opentelemetry::{Key, KeyValue, Moment, Value};
 use opentelemetry_sdk::error::OTelSdkError;
 use opentelemetry_sdk::trace::{
-    CloseReport, ConfigStrings, IdSource, KeepsBatches, FromExporter, ProviderOf, Sampler, Span,
+    CloseReport, ConfigStrings, FromExporter, IdSource, KeepsBatches, ProviderOf, Sampler, Span,
     SpanProcessor,
 };
 use std::alloc::{AllocError, Global};
