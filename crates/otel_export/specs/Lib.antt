@@ -4,8 +4,6 @@ pub mod SameSpanData
 pub mod StoredBatches
 pub mod ExporterKinds
 pub mod KeptBatches
-pub mod RecalledBatches
-pub mod RecalledKinds
 pub mod RestsOr
 pub mod Streams
 pub mod Telling

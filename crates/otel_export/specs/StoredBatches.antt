@@ -3,10 +3,19 @@ use Rattle.otel_export.specs.declared.error.OTelSdkError.{OTelSdkError}
 use Rattle.otel_export.specs.declared.error.OTelSdkError.TheVariants as errors
 use Rattle.otel_export.specs.PlainSpanData.{PlainSpanData}
 
--- the batches that are kept, and how many others were handed over
+-- the batches that were taken, those after them, which are kept, and how many others were handed over
 pub record StoredBatches : Type 0 where
+  pub taken : List (List PlainSpanData)
   pub batches : List (List PlainSpanData)
   pub lost : ℕ
+
+-- none of each
+abbrev pub none_stored : StoredBatches
+none_stored = record { taken = []; batches = []; lost = 0 }
+
+-- all that are kept are taken
+abbrev pub all_taken : StoredBatches → StoredBatches
+all_taken stored = record stored { taken = stored.taken ++ stored.batches; batches = [] }
 
 -- one more batch was lost
 abbrev pub one_more : ℕ → ℕ
@@ -16,6 +25,10 @@ one_more lost = min (lost + 1) (2 ^ 64 - 1)
 abbrev pub told_unless_lost : ℕ → List (List PlainSpanData) → Option (List (List PlainSpanData))
 told_unless_lost zero batches = Some batches
 told_unless_lost (suc _) batches = None
+
+-- what is told: the batches that were taken and those that are kept
+abbrev pub stored_told : StoredBatches → Option (List (List PlainSpanData))
+stored_told stored = told_unless_lost stored.lost (stored.taken ++ stored.batches)
 
 -- an export into memory: Ok appends the batch; when memory runs out the batches stay, and one more is lost
 abbrev pub StoresBatch : StoredBatches → List PlainSpanData → Result (Unit {0}) OTelSdkError → StoredBatches → Type 0

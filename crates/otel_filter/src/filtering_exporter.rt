@@ -9,6 +9,7 @@ use crate::span_filter::SpanFilter;
 use otel_export::error::OTelSdkResult;
 use otel_export::trace::{SpanData, SpanExporter, StoresBatches};
 use otel_resource::resource::Resource;
+use std::alloc::Global;
 use std::time::Duration;
 
 /// Passes on the spans of each batch that its filter keeps, as one batch and in their order. A batch of which nothing
@@ -71,36 +72,18 @@ impl<E: SpanExporter, F: SpanFilter> SpanExporter for FilteringExporter<E, F> {
 }
 
 impl<E: StoresBatches, F: SpanFilter> StoresBatches for FilteringExporter<E, F> {
-    ghost use Rattle.std.specs.Prelude.{refl};
-    ghost use Rattle.std.proofs.Common.{sym, ◌∙◌};
-    ghost use Rattle.otel_filter.specs.FilteredStore.{filtered_recalled, kept_appends, kept_recalls};
-    ghost use Rattle.otel_filter.specs.FilteredStore.{others_recall, same_parts};
+    ghost use Rattle.std.specs.Prelude.{◌≡◌};
+    ghost use Rattle.otel_filter.specs.FilteredStore.{kept_adds};
 
-    ghost kept = { λ e. E.kept e.exporter };
+    ghost stored = { λ e. E.stored e.exporter };
 
-    ghost lost = { λ e. E.lost e.exporter };
-
-    ghost recalled = { filtered_recalled E.recalled };
+    ghost take_gives = { λ e f. E.take_gives e.exporter f.exporter × (f.filter ≡ e.filter) };
 
     ghost appends = { record {
-      exports = λ old batch answer new given. kept_appends E.appends F.keeps old batch answer new given;
+      exports = λ old batch answer new given. kept_adds E.appends F.keeps old batch answer new given;
       shuts = λ old timeout answer new given.
           E.appends.shuts old.exporter timeout answer new.exporter given.given;
       passes = λ old resource new given. E.appends.passes old.exporter resource new.exporter given.given;
-    } };
-
-    ghost recalls = { record {
-      exports = λ bs batch answer. kept_recalls E.recalls bs F.keeps batch answer;
-      shuts = λ bs timeout answer. others_recall E.recalls bs _ (E.recalls.shuts bs timeout answer);
-      passes = λ bs resource. others_recall E.recalls bs _ (E.recalls.passes bs resource);
-      told = λ bs e r h. refl;
-      kept = λ bs e r h. E.recalls.kept bs e.exporter r.exporter h.0;
-      lost = λ bs e r h. E.recalls.lost bs e.exporter r.exporter h.0;
-      once = λ bs e r s h g. same_parts r s
-          (E.recalls.once bs e.exporter r.exporter s.exporter h.0 g.0) (g.1 ∙ sym h.1);
-      none = λ e. (E.recalls.none e.exporter, refl);
-      more = λ bs cs e r s h g.
-          (E.recalls.more bs cs e.exporter r.exporter s.exporter h.0 g.0, g.1 ∙ h.1);
     } };
 
     fn batches(&self) -> &[Vec<SpanData>] {
@@ -111,7 +94,7 @@ impl<E: StoresBatches, F: SpanFilter> StoresBatches for FilteringExporter<E, F> 
         self.exporter.lost_batches()
     }
 
-    fn forget_batches(&mut self) {
-        self.exporter.forget_batches();
+    fn take_batches(&mut self, alloc: Global) -> Vec<Vec<SpanData>> {
+        self.exporter.take_batches(alloc)
     }
 }

@@ -10,4 +10,3 @@ pub mod Uncounted
 pub mod Starting
 pub mod Unlimited
 pub mod Following
-pub mod ProviderRecalls

@@ -5,8 +5,9 @@ use Rattle.std.specs.declared.alloc.AllocError.{AllocError}
 use Rattle.std.proofs.Common.{ap}
 use Rattle.otel_export.specs.declared.error.OTelSdkError.{OTelSdkError}
 use Rattle.otel_export.specs.PlainSpanData.{PlainSpanData}
+use Rattle.otel_export.specs.StoredBatches.{StoredBatches}
 use Rattle.otel_export.specs.declared.trace.export.SpanExporter.{Ghosts}
-use Rattle.otel_export.specs.KeptBatches.{ExporterAppends, Grows, appends_more, nothing_more}
+use Rattle.otel_export.specs.KeptBatches.{ExporterAppends, OnlyAdds, adds_more, adds_none}
 use Rattle.otel_batch.specs.MachineState.{Control, Machine, counts, is_crowded}
 use Rattle.otel_batch.specs.Drains.{has_full_batch}
 use Rattle.otel_batch.specs.MachineRun.{Run}
@@ -24,14 +25,14 @@ use Rattle.otel_processors.specs.BatchProcessor.{DrainsByTimer, TellsTime, Works
 use Rattle.otel_processors.specs.EagerExports.{Drains, DrainsIfFull, ExportsFullBatch, OffersEagerly, WorksIfFull}
 use Rattle.otel_processors.specs.QueueRequests.{Requests}
 
-module _ {E : Type 0} (calls : Ghosts E) (keeps : E → List (List PlainSpanData))
-    (appends : ExporterAppends calls keeps) where
-  stays : (s t : Machine E) → t.exporter ≡ s.exporter → Grows (keeps s.exporter) (keeps t.exporter)
-  stays s t e = nothing_more keeps s.exporter t.exporter e
+module _ {E : Type 0} (calls : Ghosts E) (stored : E → StoredBatches)
+    (appends : ExporterAppends calls stored) where
+  stays : (s t : Machine E) → t.exporter ≡ s.exporter → OnlyAdds (stored s.exporter) (stored t.exporter)
+  stays s t e = adds_none (stored s.exporter) (stored t.exporter) (ap stored e)
 
   -- one step of the queue
   moved_appends : (s : Machine E) (x : Step) (o : Outcome) (t : Machine E) → MovesSpans calls s x o t
-      → Grows (keeps s.exporter) (keeps t.exporter)
+      → OnlyAdds (stored s.exporter) (stored t.exporter)
   moved_appends s (step.Send p) outcome.Accepted t m = stays s t m.exporter
   moved_appends s step.Pull outcome.Pulled t m = stays s t m.exporter
   moved_appends s step.HandOver (outcome.HandedOver k e) t m =
@@ -42,117 +43,117 @@ module _ {E : Type 0} (calls : Ghosts E) (keeps : E → List (List PlainSpanData
   moved_appends s _ _ t m = stays s t m.exporter
 
   run_appends : (s : Machine E) (xs : List Step) (os : List Outcome) (t : Machine E) → Run calls s xs os t
-      → Grows (keeps s.exporter) (keeps t.exporter)
+      → OnlyAdds (stored s.exporter) (stored t.exporter)
   run_appends s [] [] t run = stays s t (ap (λ m. m.exporter) run)
-  run_appends s (x ∷ xs) (o ∷ os) t run = appends_more (keeps s.exporter) (keeps run.0.exporter) (keeps t.exporter)
+  run_appends s (x ∷ xs) (o ∷ os) t run = adds_more (stored s.exporter) (stored run.0.exporter) (stored t.exporter)
       (moved_appends s x o run.0 run.1.moved) (run_appends run.0 xs os t run.2)
   run_appends s [] (o ∷ os) t run = absurd run
   run_appends s (x ∷ xs) [] t run = absurd run
 
   goes_appends : (next : Control → Option Step) (s : Machine E) (xs : List Step) (os : List Outcome) (t : Machine E)
-      → GoesBy calls next s xs os t → Grows (keeps s.exporter) (keeps t.exporter)
+      → GoesBy calls next s xs os t → OnlyAdds (stored s.exporter) (stored t.exporter)
   goes_appends next s [] [] t goes = stays s t (ap (λ m. m.exporter) goes)
   goes_appends next s (x ∷ xs) (o ∷ os) t goes =
-      appends_more (keeps s.exporter) (keeps goes.1.exporter) (keeps t.exporter)
+      adds_more (stored s.exporter) (stored goes.1.exporter) (stored t.exporter)
       (moved_appends s x o goes.1 goes.2.moved) (goes_appends next goes.1 xs os t goes.3)
   goes_appends next s [] (o ∷ os) t goes = absurd goes
   goes_appends next s (x ∷ xs) [] t goes = absurd goes
 
   -- a call that leaves a batch processor as it was keeps what is kept and loses nothing
-  pub batch_stays : {B : Type 0} (loses : E → ℕ) (p q : BatchProcessor E) → (q ≡ p) × B
-      → Grows (keeps p.machine.exporter) (keeps q.machine.exporter)
-      × (loses q.machine.exporter ≡ loses p.machine.exporter)
-  batch_stays loses p q h = (
-    nothing_more (λ (r : BatchProcessor E). keeps r.machine.exporter) p q h.0,
-    ap (λ (r : BatchProcessor E). loses r.machine.exporter) h.0,
+  pub batch_stays : {B : Type 0} (p q : BatchProcessor E) → (q ≡ p) × B
+      → OnlyAdds (stored p.machine.exporter) (stored q.machine.exporter)
+      × ((stored q.machine.exporter).lost ≡ (stored p.machine.exporter).lost)
+  batch_stays p q h = (
+    stays p.machine q.machine (ap (λ (r : BatchProcessor E). r.machine.exporter) h.0),
+    ap (λ (r : BatchProcessor E). (stored r.machine.exporter).lost) h.0,
   )
 
   works_appends : (s : Machine E) (answer : Result (Unit {0}) OTelSdkError) (t : Machine E)
-      → WorkerWorks calls s answer t → Grows (keeps s.exporter) (keeps t.exporter)
+      → WorkerWorks calls s answer t → OnlyAdds (stored s.exporter) (stored t.exporter)
   works_appends s answer t h = goes_appends _ s h.works.steps h.outcomes t h.works.goes
 
   answers_appends : (asked : Request) (s : Machine E) (answer : Result (Unit {0}) OTelSdkError) (t : Machine E)
-      → AnswersRequest calls asked s answer t → Grows (keeps s.exporter) (keeps t.exporter)
+      → AnswersRequest calls asked s answer t → OnlyAdds (stored s.exporter) (stored t.exporter)
   answers_appends asked s answer t h =
       let done = h.answers in
-      let collected = appends_more (keeps h.posted.exporter) (keeps done.answered.exporter) (keeps t.exporter)
+      let collected = adds_more (stored h.posted.exporter) (stored done.answered.exporter) (stored t.exporter)
       (goes_appends _ h.posted done.works.steps done.outcomes done.answered done.works.goes)
       (run_appends done.answered (step.Collect 0 ∷ []) (outcome.Collected answer ∷ []) t done.collects) in
-      appends_more (keeps s.exporter) (keeps h.posted.exporter) (keeps t.exporter)
+      adds_more (stored s.exporter) (stored h.posted.exporter) (stored t.exporter)
       (run_appends s (step_of asked 0 ∷ []) (outcome.Requested ∷ []) h.posted h.posts) collected
 
   pub requests_appends : (asked : Request) (s : Machine E) (answer : Result (Unit {0}) OTelSdkError) (t : Machine E)
-      → Requests calls asked s answer t → Grows (keeps s.exporter) (keeps t.exporter)
+      → Requests calls asked s answer t → OnlyAdds (stored s.exporter) (stored t.exporter)
   requests_appends asked s answer t = by_state _ _ s.control.closed (is_crowded (counts s))
     where
       by_state : (A B : Type 0) (closed crowded : Bool)
           → MatchBool closed (A × (t ≡ s)) (MatchBool crowded (B × (t ≡ s)) (AnswersRequest calls asked s answer t))
-          → Grows (keeps s.exporter) (keeps t.exporter)
+          → OnlyAdds (stored s.exporter) (stored t.exporter)
       by_state A B true crowded h = stays s t (ap (λ m. m.exporter) h.1)
       by_state A B false true h = stays s t (ap (λ m. m.exporter) h.1)
       by_state A B false false h = answers_appends asked s answer t h
 
   ticks_appends : (s : Machine E) (answer : Result (Unit {0}) OTelSdkError) (t : Machine E)
-      → TicksAndWorks calls s answer t → Grows (keeps s.exporter) (keeps t.exporter)
-  ticks_appends s answer t h = appends_more (keeps s.exporter) (keeps h.ticked.exporter) (keeps t.exporter)
+      → TicksAndWorks calls s answer t → OnlyAdds (stored s.exporter) (stored t.exporter)
+  ticks_appends s answer t h = adds_more (stored s.exporter) (stored h.ticked.exporter) (stored t.exporter)
       (run_appends s (step.Tick ∷ []) (outcome.Ticked ∷ []) h.ticked h.ticks) (works_appends h.ticked answer t h.works)
 
   tells_appends : (now : ℕ) (p : BatchProcessor E) (worked answer : Result (Unit {0}) OTelSdkError)
       (q : BatchProcessor E) → TellsTime calls now p worked answer q
-      → Grows (keeps p.machine.exporter) (keeps q.machine.exporter)
+      → OnlyAdds (stored p.machine.exporter) (stored q.machine.exporter)
   tells_appends now p worked answer q = by_last p.last
     where
       by_time : (due : Bool) → MatchBool due (DrainsByTimer calls now p answer q) ((answer ≡ worked) × (q ≡ p))
-          → Grows (keeps p.machine.exporter) (keeps q.machine.exporter)
+          → OnlyAdds (stored p.machine.exporter) (stored q.machine.exporter)
       by_time true h = ticks_appends p.machine answer q.machine h.drains
       by_time false h = stays p.machine q.machine (ap (λ r. r.machine.exporter) h.1)
 
       by_last : (last : Option ℕ) → MatchOption last
           ((answer ≡ worked) × (q ≡ record p { last = Some now }))
           (λ l. MatchBool (nat_le (l + p.delay) now) (DrainsByTimer calls now p answer q) ((answer ≡ worked) × (q ≡ p)))
-          → Grows (keeps p.machine.exporter) (keeps q.machine.exporter)
+          → OnlyAdds (stored p.machine.exporter) (stored q.machine.exporter)
       by_last None h = stays p.machine q.machine (ap (λ r. r.machine.exporter) h.1)
       by_last (Some l) h = by_time (nat_le (l + p.delay) now) h
 
   pub due_appends : (p : BatchProcessor E) (now : ℕ) (answer : Result (Unit {0}) OTelSdkError) (q : BatchProcessor E)
-      → BatchDue calls p now answer q → Grows (keeps p.machine.exporter) (keeps q.machine.exporter)
+      → BatchDue calls p now answer q → OnlyAdds (stored p.machine.exporter) (stored q.machine.exporter)
   due_appends p now answer q = by_state _ p.machine.control.closed
     where
       by_state : (A : Type 0) (closed : Bool) → MatchBool closed (A × (q ≡ p)) (WorksAndTellsTime calls now p answer q)
-          → Grows (keeps p.machine.exporter) (keeps q.machine.exporter)
+          → OnlyAdds (stored p.machine.exporter) (stored q.machine.exporter)
       by_state A true h = stays p.machine q.machine (ap (λ r. r.machine.exporter) h.1)
-      by_state A false h = appends_more (keeps p.machine.exporter) (keeps h.idle.machine.exporter)
-          (keeps q.machine.exporter) (works_appends p.machine h.worked h.idle.machine h.works.works)
+      by_state A false h = adds_more (stored p.machine.exporter) (stored h.idle.machine.exporter)
+          (stored q.machine.exporter) (works_appends p.machine h.worked h.idle.machine h.works.works)
           (tells_appends now h.idle h.worked answer q h.tells)
 
   full_works_append : (s : Machine E) (answer : Result (Unit {0}) OTelSdkError) (t : Machine E)
-      → WorksIfFull calls s answer t → Grows (keeps s.exporter) (keeps t.exporter)
+      → WorksIfFull calls s answer t → OnlyAdds (stored s.exporter) (stored t.exporter)
   full_works_append s answer t = by_full (has_full_batch s)
     where
       by_full : (full : Bool) → MatchBool full (WorkerWorks calls s answer t) ((answer ≡ Ok tt) × (t ≡ s))
-          → Grows (keeps s.exporter) (keeps t.exporter)
+          → OnlyAdds (stored s.exporter) (stored t.exporter)
       by_full true h = works_appends s answer t h
       by_full false h = stays s t (ap (λ m. m.exporter) h.1)
 
   full_drains_append : (s : Machine E) (refused : Bool) (answer : Result (Unit {0}) OTelSdkError) (t : Machine E)
-      → DrainsIfFull calls s refused answer t → Grows (keeps s.exporter) (keeps t.exporter)
+      → DrainsIfFull calls s refused answer t → OnlyAdds (stored s.exporter) (stored t.exporter)
   full_drains_append s refused answer t = by_full (has_full_batch s)
     where
       by_full : (full : Bool) → MatchBool full (Drains calls s refused answer t)
-          ((refused ≡ false) × (answer ≡ Ok tt) × (t ≡ s)) → Grows (keeps s.exporter) (keeps t.exporter)
+          ((refused ≡ false) × (answer ≡ Ok tt) × (t ≡ s)) → OnlyAdds (stored s.exporter) (stored t.exporter)
       by_full true h = ticks_appends s answer t h.drain
       by_full false h = stays s t (ap (λ m. m.exporter) h.2)
 
   exports_append : (s : Machine E) (refused : Bool) (failed : ℕ) (t : Machine E)
-      → ExportsFullBatch calls s refused failed t → Grows (keeps s.exporter) (keeps t.exporter)
-  exports_append s refused failed t h = appends_more (keeps s.exporter) (keeps h.idle.exporter) (keeps t.exporter)
+      → ExportsFullBatch calls s refused failed t → OnlyAdds (stored s.exporter) (stored t.exporter)
+  exports_append s refused failed t h = adds_more (stored s.exporter) (stored h.idle.exporter) (stored t.exporter)
       (full_works_append s h.worked h.idle h.works) (full_drains_append h.idle refused h.drained t h.drains)
 
   eagerly_appends : (s : Machine E) (span : PlainSpanData) (refused : Bool) (failed : ℕ) (t : Machine E)
-      → OffersEagerly calls s span refused failed t → Grows (keeps s.exporter) (keeps t.exporter)
+      → OffersEagerly calls s span refused failed t → OnlyAdds (stored s.exporter) (stored t.exporter)
   eagerly_appends s span refused failed t h =
-      appends_more (keeps s.exporter) (keeps h.queued.exporter) (keeps t.exporter)
-      (appends_more (keeps s.exporter) (keeps h.roomy.exporter) (keeps h.queued.exporter)
+      adds_more (stored s.exporter) (stored h.queued.exporter) (stored t.exporter)
+      (adds_more (stored s.exporter) (stored h.roomy.exporter) (stored h.queued.exporter)
       (exports_append s h.refused_before h.failed_before h.roomy h.makes_room)
       (stays h.roomy h.queued h.offers.exporter))
       (by_full (has_full_batch h.roomy) h.exports)
@@ -160,17 +161,17 @@ module _ {E : Type 0} (calls : Ghosts E) (keeps : E → List (List PlainSpanData
       by_full : (full : Bool) → MatchBool full
           ((h.refused_after ≡ false) × (h.failed_after ≡ 0) × (t ≡ h.queued))
           (ExportsFullBatch calls h.queued h.refused_after h.failed_after t)
-          → Grows (keeps h.queued.exporter) (keeps t.exporter)
+          → OnlyAdds (stored h.queued.exporter) (stored t.exporter)
       by_full true given = stays h.queued t (ap (λ m. m.exporter) given.2)
       by_full false given = exports_append h.queued h.refused_after h.failed_after t given
 
   pub ends_appends : (p : BatchProcessor E) (span : PlainSpanData) (answer : Result (Unit {0}) AllocError)
       (q : BatchProcessor E) → BatchEnds calls p span answer q
-      → Grows (keeps p.machine.exporter) (keeps q.machine.exporter)
+      → OnlyAdds (stored p.machine.exporter) (stored q.machine.exporter)
   ends_appends p span answer q h = by_kind (ends_eagerly p span) h.ends
     where
       by_kind : (eagerly : Bool)
           → MatchBool eagerly (EndsEagerly calls p span h.refused q) (EndsByQueue calls p span h.refused q)
-          → Grows (keeps p.machine.exporter) (keeps q.machine.exporter)
+          → OnlyAdds (stored p.machine.exporter) (stored q.machine.exporter)
       by_kind true ends = eagerly_appends p.machine span h.refused ends.failed q.machine ends.offers
       by_kind false ends = stays p.machine q.machine ends.offers.exporter

@@ -1,61 +1,53 @@
--- What a processor of any kind keeps of its batches and how many it lost, and that none of its calls takes back a batch.
-use Rattle.std.specs.Prelude.{◌≡◌, ℕ, List, [], refl}
-use Rattle.otel_export.specs.PlainSpanData.{PlainSpanData}
-use Rattle.otel_export.specs.KeptBatches.{Grows}
+-- What a processor of any kind keeps of its batches, and that none of its calls takes back a batch.
+use Rattle.std.specs.Prelude.{◌≡◌, [], refl}
+use Rattle.otel_export.specs.KeptBatches.{OnlyAdds}
+use Rattle.otel_export.specs.StoredBatches.{StoredBatches, none_stored}
 use Rattle.otel_pipeline.specs.SimpleProcessor.{SimpleProcessor}
 use Rattle.otel_processors.specs.BatchProcessor.{BatchProcessor}
 use Rattle.otel_processors.specs.ProcessorKinds.{ProcessorGives}
 use Rattle.otel_processors.specs.declared.trace.processor.ProcessorOf.{ProcessorOf}
 use Rattle.otel_processors.specs.declared.trace.processor.ProcessorOf.TheVariants as kinds
 
--- what a processor of any kind keeps, and how many it lost; none where it is of the caller's own, or its exporter is
-abbrev pub processor_keeps : {E C : Type 0} → (E → List (List PlainSpanData)) → ProcessorOf E C
-    → List (List PlainSpanData)
-processor_keeps keeps (kinds.Simple simple) = keeps simple.exporter
-processor_keeps keeps (kinds.Batch batch) = keeps batch.machine.exporter
-processor_keeps keeps (kinds.Custom _) = []
+module _ {E C : Type 0} (stored : E → StoredBatches) where
+  -- what a processor of any kind has stored; nothing where it is of the caller's own, or its exporter is
+  abbrev pub processor_stored : ProcessorOf E C → StoredBatches
+  processor_stored (kinds.Simple simple) = stored simple.exporter
+  processor_stored (kinds.Batch batch) = stored batch.machine.exporter
+  processor_stored (kinds.Custom _) = none_stored
 
-abbrev pub processor_loses : {E C : Type 0} → (E → ℕ) → ProcessorOf E C → ℕ
-processor_loses loses (kinds.Simple simple) = loses simple.exporter
-processor_loses loses (kinds.Batch batch) = loses batch.machine.exporter
-processor_loses loses (kinds.Custom _) = 0
+  module _ (simple : SimpleProcessor E → SimpleProcessor E → Type 0)
+      (batch : BatchProcessor E → BatchProcessor E → Type 0) (custom : C → C → Type 0) where
+    -- a call of a processor of any kind
+    pub processor_appends :
+        ((a b : SimpleProcessor E) → simple a b → OnlyAdds (stored a.exporter) (stored b.exporter))
+        → ((a b : BatchProcessor E) → batch a b → OnlyAdds (stored a.machine.exporter) (stored b.machine.exporter))
+        → (old new : ProcessorOf E C) → ProcessorGives simple batch custom old new
+        → OnlyAdds (processor_stored old) (processor_stored new)
+    processor_appends one other (kinds.Simple a) (kinds.Simple b) h = one a b h
+    processor_appends one other (kinds.Simple a) (kinds.Batch b) h = absurd h
+    processor_appends one other (kinds.Simple a) (kinds.Custom b) h = absurd h
+    processor_appends one other (kinds.Batch a) (kinds.Simple b) h = absurd h
+    processor_appends one other (kinds.Batch a) (kinds.Batch b) h = other a b h
+    processor_appends one other (kinds.Batch a) (kinds.Custom b) h = absurd h
+    processor_appends one other (kinds.Custom a) (kinds.Simple b) h = absurd h
+    processor_appends one other (kinds.Custom a) (kinds.Batch b) h = absurd h
+    processor_appends one other (kinds.Custom a) (kinds.Custom b) h = (refl, ([], refl))
 
--- a call of a processor of any kind
-pub processor_appends : {E C : Type 0} (keeps : E → List (List PlainSpanData))
-    (simple : SimpleProcessor E → SimpleProcessor E → Type 0) (batch : BatchProcessor E → BatchProcessor E → Type 0)
-    (custom : C → C → Type 0)
-    → ((a b : SimpleProcessor E) → simple a b → Grows (keeps a.exporter) (keeps b.exporter))
-    → ((a b : BatchProcessor E) → batch a b → Grows (keeps a.machine.exporter) (keeps b.machine.exporter))
-    → (old new : ProcessorOf E C) → ProcessorGives simple batch custom old new
-    → Grows (processor_keeps keeps old) (processor_keeps keeps new)
-processor_appends keeps simple batch custom one other (kinds.Simple a) (kinds.Simple b) h = one a b h
-processor_appends keeps simple batch custom one other (kinds.Simple a) (kinds.Batch b) h = absurd h
-processor_appends keeps simple batch custom one other (kinds.Simple a) (kinds.Custom b) h = absurd h
-processor_appends keeps simple batch custom one other (kinds.Batch a) (kinds.Simple b) h = absurd h
-processor_appends keeps simple batch custom one other (kinds.Batch a) (kinds.Batch b) h = other a b h
-processor_appends keeps simple batch custom one other (kinds.Batch a) (kinds.Custom b) h = absurd h
-processor_appends keeps simple batch custom one other (kinds.Custom a) (kinds.Simple b) h = absurd h
-processor_appends keeps simple batch custom one other (kinds.Custom a) (kinds.Batch b) h = absurd h
-processor_appends keeps simple batch custom one other (kinds.Custom a) (kinds.Custom b) h = ([], refl)
-
--- the same where none is lost either
-pub processor_stays : {E C : Type 0} (keeps : E → List (List PlainSpanData)) (loses : E → ℕ)
-    (simple : SimpleProcessor E → SimpleProcessor E → Type 0) (batch : BatchProcessor E → BatchProcessor E → Type 0)
-    (custom : C → C → Type 0)
-    → ((a b : SimpleProcessor E) → simple a b
-    → Grows (keeps a.exporter) (keeps b.exporter) × (loses b.exporter ≡ loses a.exporter))
-    → ((a b : BatchProcessor E) → batch a b → Grows (keeps a.machine.exporter) (keeps b.machine.exporter)
-    × (loses b.machine.exporter ≡ loses a.machine.exporter))
-    → (old new : ProcessorOf E C) → ProcessorGives simple batch custom old new
-    → Grows (processor_keeps keeps old) (processor_keeps keeps new)
-    × (processor_loses loses new ≡ processor_loses loses old)
-processor_stays keeps loses simple batch custom one other (kinds.Simple a) (kinds.Simple b) h = one a b h
-processor_stays keeps loses simple batch custom one other (kinds.Simple a) (kinds.Batch b) h = absurd h
-processor_stays keeps loses simple batch custom one other (kinds.Simple a) (kinds.Custom b) h = absurd h
-processor_stays keeps loses simple batch custom one other (kinds.Batch a) (kinds.Simple b) h = absurd h
-processor_stays keeps loses simple batch custom one other (kinds.Batch a) (kinds.Batch b) h = other a b h
-processor_stays keeps loses simple batch custom one other (kinds.Batch a) (kinds.Custom b) h = absurd h
-processor_stays keeps loses simple batch custom one other (kinds.Custom a) (kinds.Simple b) h = absurd h
-processor_stays keeps loses simple batch custom one other (kinds.Custom a) (kinds.Batch b) h = absurd h
-processor_stays keeps loses simple batch custom one other (kinds.Custom a) (kinds.Custom b) h =
-    (([], refl), refl)
+    -- the same where none is lost either
+    pub processor_stays :
+        ((a b : SimpleProcessor E) → simple a b → OnlyAdds (stored a.exporter) (stored b.exporter)
+        × ((stored b.exporter).lost ≡ (stored a.exporter).lost))
+        → ((a b : BatchProcessor E) → batch a b → OnlyAdds (stored a.machine.exporter) (stored b.machine.exporter)
+        × ((stored b.machine.exporter).lost ≡ (stored a.machine.exporter).lost))
+        → (old new : ProcessorOf E C) → ProcessorGives simple batch custom old new
+        → OnlyAdds (processor_stored old) (processor_stored new)
+        × ((processor_stored new).lost ≡ (processor_stored old).lost)
+    processor_stays one other (kinds.Simple a) (kinds.Simple b) h = one a b h
+    processor_stays one other (kinds.Simple a) (kinds.Batch b) h = absurd h
+    processor_stays one other (kinds.Simple a) (kinds.Custom b) h = absurd h
+    processor_stays one other (kinds.Batch a) (kinds.Simple b) h = absurd h
+    processor_stays one other (kinds.Batch a) (kinds.Batch b) h = other a b h
+    processor_stays one other (kinds.Batch a) (kinds.Custom b) h = absurd h
+    processor_stays one other (kinds.Custom a) (kinds.Simple b) h = absurd h
+    processor_stays one other (kinds.Custom a) (kinds.Batch b) h = absurd h
+    processor_stays one other (kinds.Custom a) (kinds.Custom b) h = ((refl, ([], refl)), refl)

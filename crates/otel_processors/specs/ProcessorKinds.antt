@@ -18,6 +18,14 @@ ProcessorGives simple batch custom old new = elim old [
   | kinds.Custom a ↦ elim new [ kinds.Simple _ ↦ ⊥ | kinds.Batch _ ↦ ⊥ | kinds.Custom b ↦ custom a b ]
 ]
 
+-- a processor whose exporter's batches were taken is as it was, but for its exporter
+abbrev pub ProcessorTakes : {E C : Type 0} → (E → E → Type 0) → ProcessorOf E C → ProcessorOf E C → Type 0
+ProcessorTakes takes = ProcessorGives
+    (λ a b. (b ≡ record a { exporter = b.exporter }) × takes a.exporter b.exporter)
+    (λ a b. (b ≡ record a { machine = record a.machine { exporter = b.machine.exporter } })
+    × takes a.machine.exporter b.machine.exporter)
+    (λ a b. b ≡ a)
+
 -- a processor for which nothing was due is as it was
 pub record NothingDue {P E : Type 0} (old : P) (answer : Result (Unit {0}) E) (new : P) : Type 0 where
   pub ok : answer ≡ Ok tt

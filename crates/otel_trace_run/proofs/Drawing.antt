@@ -1,13 +1,14 @@
 -- A session that carries out commands and then a shutdown closes as in the mode `trace`, and its replies show all spans
 -- that it exported.
 use Rattle.std.proofs.Common.{◌≡◌, ◌++◌, ◌∙◌, ◌==◌, ℕ, Bool, true, false, List, [], ◌∷◌, Option, None, Result, Ok, Err, IsTrue, MatchBool, ◌||◌}
-use Rattle.std.proofs.Common.{All, sum_by, inl, inr, ap, append-nil, append_assoc, arith, drop, map, refl, subst, sym, not, if◌then◌else◌}
+use Rattle.std.proofs.Common.{All, sum_by, inl, inr, ap, append-nil, append_assoc, arith, map, refl, subst, sym, not, if◌then◌else◌}
 use Rattle.std.proofs.lemmas.Bool.{eq-eqb}
 use Rattle.std.proofs.lemmas.List.{map-append}
 use Rattle.std.proofs.lemmas.List.Concat.{flat_map-append}
 use Rattle.std.specs.Io.KnownBytes.{IsAtEnd}
 use Rattle.std.specs.List.{list_any}
 use Rattle.otel_export.specs.PlainSpanData.{PlainSpanData, spans_in}
+use Rattle.otel_export.specs.StoredBatches.{StoredBatches}
 use Rattle.otel_export.specs.declared.error.OTelSdkError.{OTelSdkError}
 use Rattle.otel_export.specs.declared.error.OTelSdkError.TheVariants as errors
 use Rattle.otel_pipeline.specs.ProcessorKeeps.{OnlyAppends}
@@ -33,9 +34,11 @@ use Rattle.otel_trace_session.specs.OpenSpans.{Histories}
 use Rattle.otel_trace_session.specs.ProviderTurns.{ShutsIfOpen, call_answer}
 use Rattle.otel_trace_session.specs.Shown.{exported_in}
 use Rattle.otel_trace_session.specs.Turn.{Course, Turn}
-use Rattle.otel_trace_session.specs.Turns.{AreTurns, Runs, SessionState, course_of, replied, reply_of, session_under}
+use Rattle.otel_trace_session.specs.Turns.{AreTurns, BeginsUnder, Runs, SessionState, course_of, reply_of}
 use Rattle.otel_trace_session.proofs.CloseLemmas.{ends_well, none_lost}
-use Rattle.otel_trace_session.proofs.ShownLemmas.{closes_rest}
+use Rattle.otel_trace_session.specs.Taking.{TakesShown}
+use Rattle.otel_trace_session.proofs.TakingLemmas.{taken_all, taken_dropped, taken_open}
+use Rattle.otel_trace_run.proofs.Exporting.{nothing_described, since_begun}
 
 -- an answer without an error
 abbrev well : Result (Unit {0}) OTelSdkError
@@ -55,37 +58,34 @@ module _ {P S G : Type 0} (calls : Calls P S G) where
   shut_by again old new (Err errors.OutOfMemory) false e says h = let no : ⊥ = cc in absurd no
   shut_by again old new (Err (errors.Timeout time)) false e says h = let no : ⊥ = cc in absurd no
 
-  -- how a session stands after a shutdown
+  -- how a session stands after a shutdown whose reply took the batches that it shows
   record StandsShut (old : SessionState P S G) (replies : List PlainReply) (new : SessionState P S G) : Type 0 where
-    pub shuts : ShutsIfOpen calls.processor old.provider (Ok tt) new.provider
+    pub closed : ProviderState P S G
+    pub shuts : ShutsIfOpen calls.processor old.provider (Ok tt) closed
+    pub takes : TakesShown calls.processor calls.queues calls.keeps closed new.provider
     pub is_shut : new.provider.is_shut ≡ true
-    pub shows : exported_in replies ≡ drop old.shown (batches_of_first calls.keeps new.provider.processors)
+    pub shows : exported_in replies ≡ batches_of_first calls.keeps closed.processors
 
   stands_shut : (old new : SessionState P S G) (histories after : Histories) (turns : List (Turn P S G))
       → AreTurns calls old.scope (course_of old histories) (shutdown ∷ []) turns (course_of new after)
       → All (λ reply. IsTrue (says_shut reply.answer)) (map (reply_of calls) turns)
       → StandsShut old (map (reply_of calls) turns) new
   stands_shut old new histories after [] h says = absurd h
-  stands_shut old new histories after (turn ∷ turn2 ∷ turns) h says = absurd h.3
+  stands_shut old new histories after (turn ∷ turn2 ∷ turns) h says = absurd h.3.2
   stands_shut old new histories after (turn ∷ []) h says =
-      let course : course_of new after ≡ replied calls turn.after = h.3 in
-      let begins : turn.before ≡ course_of old histories = h.0 in
       let asks = h.1.is_turn in
-      let there : turn.after.provider ≡ new.provider = sym (ap (λ (c : Course P S G). c.provider) course) in
-      let from : turn.before.provider ≡ old.provider = ap (λ (c : Course P S G). c.provider) begins in
-      let at : turn.before.shown ≡ old.shown = ap (λ (c : Course P S G). c.shown) begins in
+      let from : turn.before.provider ≡ old.provider = ap (λ (c : Course P S G). c.provider) h.0 in
+      let there : h.3.0.provider ≡ new.provider = sym (ap (λ (c : Course P S G). c.provider) h.3.2) in
       let answered : IsTrue (says_shut (call_answer asks.said)) =
       subst (λ answer. IsTrue (says_shut answer)) asks.says (says 0 (reply_of calls turn) (omega arith)) in
       let done = shut_by (shut_answer turn.before.provider.is_disabled turn.before.provider.processors) turn.before.provider turn.after.provider asks.said turn.before.provider.is_shut refl answered asks.gives in
-      let moved : ShutsIfOpen calls.processor old.provider (Ok tt) new.provider =
-      subst (λ (p : ProviderState P S G). ShutsIfOpen calls.processor p (Ok tt) new.provider) from
-      (subst (λ (p : ProviderState P S G). ShutsIfOpen calls.processor turn.before.provider (Ok tt) p) there done.0) in
+      let takes = subst (λ (p : ProviderState P S G). TakesShown calls.processor calls.queues calls.keeps turn.after.provider p) there h.3.1.takes in
       record {
-        shuts = moved;
-        is_shut = subst (λ (p : ProviderState P S G). p.is_shut ≡ true) there done.1;
-        shows = append-nil _
-            ∙ ap (λ (n : ℕ). drop n (batches_of_first calls.keeps turn.after.provider.processors)) at
-            ∙ ap (λ (p : ProviderState P S G). drop old.shown (batches_of_first calls.keeps p.processors)) there;
+        closed = turn.after.provider;
+        shuts = subst (λ (p : ProviderState P S G). ShutsIfOpen calls.processor p (Ok tt) turn.after.provider) from done.0;
+        takes = takes;
+        is_shut = ap (λ (p : ProviderState P S G). p.is_shut) takes.rest ∙ done.1;
+        shows = append-nil _;
       }
 
   -- what closing a session does whose provider is shut
@@ -100,41 +100,44 @@ none_lost_answer : (lost before : ℕ) → lost ≡ before
 none_lost_answer lost before e = rw (eq-eqb lost before e) refl
 
 module _ {P S G : Type 0} (calls : Calls P S G)
-    (law : OnlyAppends calls.processor calls.timer calls.keeps.kept calls.keeps.lost) where
+    (law : OnlyAppends calls.processor calls.timer calls.keeps.stored) where
   -- the lines of a text were carried out, and a session that then closed well exported these spans
-  pub draws : (Paints : Painting) (provider : ProviderState P S G) (after : SessionState P S G)
-      (input input_after : Option (List ℕ)) (bad_line : Option ℕ) (picture left : List ℕ)
-      → (lines : DrawsLines calls Paints (session_under calls.keeps provider) input input_after bad_line picture after)
+  pub draws : (Paints : Painting) (provider : ProviderState P S G) (begun after : SessionState P S G)
+      (input input_after : Option (List ℕ)) (bad_line : Option ℕ) (picture left : List ℕ) → BeginsUnder calls provider begun
+      → (lines : DrawsLines calls Paints begun input input_after bad_line picture after)
       → (closed : Closes calls reply_lines after [] (Ok tt) left)
       → sum_by calls.queues.open_over closed.provider.processors ≡ 0
       → sum_by calls.queues.dropped_over closed.provider.processors ≡ 0
       → Draws calls Paints provider lines.reads.bytes bad_line picture
-  draws Paints provider after input input_after bad_line picture left lines closed left_open dropped =
-      let begun = session_under calls.keeps provider in
+  draws Paints provider begun after input input_after bad_line picture left begins lines closed left_open dropped =
       let ran = lines.ran in
       let middle = ran.middle in
-      let took = ran.ran.took (λ _. None) (λ q. refl) in
+      let took = ran.ran.took (λ _. None) (nothing_described begun.spans begins.spans) in
       let last = ran.shut.ran.took took.after took.describes in
       let shut = subst (λ (replies : List PlainReply). StandsShut calls middle replies after) (sym last.replied_to)
       (stands_shut calls middle after took.after last.after last.turns last.are_turns
       (subst (λ (replies : List PlainReply). All (λ reply. IsTrue (says_shut reply.answer)) replies) last.replied_to ran.shut.says)) in
       let same : closed.provider ≡ after.provider =
       stays_shut calls after.provider closed.provider closed.shutdown after.provider.is_shut shut.is_shut closed.shuts in
-      let kept : losses_of_first calls.keeps after.provider.processors ≡ middle.lost_before =
-      ap (λ (p : ProviderState P S G). losses_of_first calls.keeps p.processors) (sym same)
+      let kept : losses_of_first calls.keeps shut.closed.processors ≡ middle.lost_before =
+      sym (ap (λ (s : StoredBatches). s.lost) (taken_all calls shut.closed.processors after.provider.processors shut.takes.first))
+      ∙ ap (λ (p : ProviderState P S G). losses_of_first calls.keeps p.processors) (sym same)
       ∙ none_lost calls reply_lines after [] left closed ∙ ran.shut.ran.lost_before in
-      let none_open : sum_by calls.queues.open_over after.provider.processors ≡ 0 =
-      ap (λ (p : ProviderState P S G). sum_by calls.queues.open_over p.processors) (sym same) ∙ left_open in
-      let none_dropped : sum_by calls.queues.dropped_over after.provider.processors ≡ 0 =
-      ap (λ (p : ProviderState P S G). sum_by calls.queues.dropped_over p.processors) (sym same) ∙ dropped in
+      let none_open : sum_by calls.queues.open_over shut.closed.processors ≡ 0 =
+      sym (taken_open calls shut.closed.processors after.provider.processors shut.takes.first)
+      ∙ ap (λ (p : ProviderState P S G). sum_by calls.queues.open_over p.processors) (sym same) ∙ left_open in
+      let none_dropped : sum_by calls.queues.dropped_over shut.closed.processors ≡ 0 =
+      sym (taken_dropped calls shut.closed.processors after.provider.processors shut.takes.first)
+      ∙ ap (λ (p : ProviderState P S G). sum_by calls.queues.dropped_over p.processors) (sym same) ∙ dropped in
       let replied = texts reply_lines ran.replies in
-      let all : exported_in (ran.replies ++ ran.last) ≡ exported_since calls provider after.provider =
+      let all : exported_in (ran.replies ++ ran.last) ≡ exported_since calls provider shut.closed =
       flat_map-append (λ (reply : PlainReply). reply.exported) ran.replies ran.last
       ∙ ap (λ bs. exported_in ran.replies ++ bs) shut.shows
-      ∙ closes_rest calls law begun middle after.provider (λ _. None) (plain_commands lines.commands) ran.replies (Ok tt) took
-      shut.shuts (omega arith) in
+      ∙ since_begun calls law provider begun middle shut.closed (plain_commands lines.commands) ran.replies (Ok tt) begins took shut.shuts in
       record {
         replied = _;
+        begun = begun;
+        begins = begins;
         finishes = record {
           written = replied;
           after = middle;
@@ -145,11 +148,11 @@ module _ {P S G : Type 0} (calls : Calls P S G)
             these = record { commands = lines.commands; spelled = lines.reads.spelled; ran = ran.ran };
           };
           closes = record {
-            provider = after.provider;
+            provider = shut.closed;
             shutdown = Ok tt;
             shuts = shut.shuts;
             writes = inl (record {
-              answers = none_lost_answer (losses_of_first calls.keeps after.provider.processors) middle.lost_before kept;
+              answers = none_lost_answer (losses_of_first calls.keeps shut.closed.processors) middle.lost_before kept;
               written = refl;
             });
           };
@@ -238,17 +241,15 @@ module _ {P S G : Type 0} (calls : Calls P S G) where
       }
 
 module _ {P S G : Type 0} (calls : Calls P S G)
-    (law : OnlyAppends calls.processor calls.timer calls.keeps.kept calls.keeps.lost) where
+    (law : OnlyAppends calls.processor calls.timer calls.keeps.stored) where
   -- what was drawn of an input by a new session that then closed well
   pub draws_from : (Paints : Painting) (provider : ProviderState P S G) (session after : SessionState P S G)
       (input input_after : Option (List ℕ)) (bad_line bad : Option ℕ) (picture before left : List ℕ)
-      (closed : ClosedSession) → session ≡ session_under calls.keeps provider
+      (closed : ClosedSession) → BeginsUnder calls provider session
       → DrawsLines calls Paints session input input_after bad_line picture after → bad_line ≡ bad → before ≡ []
       → LostNothing closed true → ClosesAs calls reply_lines after before closed left
       → (bytes : List ℕ) × AreAll input bytes × IsAtEnd input_after × Draws calls Paints provider bytes bad picture
   draws_from Paints provider session after input input_after bad_line bad picture before left ended new lines is none lost closed =
-      let these =
-      subst (λ (s : SessionState P S G). DrawsLines calls Paints s input input_after bad picture after) new
-      (subst (λ (b : Option ℕ). DrawsLines calls Paints session input input_after b picture after) is lines) in
+      let these = subst (λ (b : Option ℕ). DrawsLines calls Paints session input input_after b picture after) is lines in
       let ends = ends_well calls reply_lines after before left ended true none lost closed in
-      (these.reads.bytes, these.reads.all, these.reads.at_end, draws calls law Paints provider after input input_after bad picture left these ends.closes ends.leaves_none (ends.drops_none refl))
+      (these.reads.bytes, these.reads.all, these.reads.at_end, draws calls law Paints provider session after input input_after bad picture left new these ends.closes ends.leaves_none (ends.drops_none refl))

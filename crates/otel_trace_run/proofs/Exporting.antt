@@ -1,6 +1,7 @@
 -- The lines of replies, and of what is left at a close, are those of all batches that a session exported.
 use Rattle.std.proofs.Common.{◌≡◌, ◌++◌, ◌∙◌, ℕ, List, [], ◌∷◌, Option, Some, None, Result, Ok, Err, inl, inr, ap, arith, drop, length, true}
 use Rattle.std.proofs.Common.{append_assoc, length-append, map, refl, subst, sym}
+use Rattle.std.proofs.Math.Seq.{drop-append_seam}
 use Rattle.std.specs.Io.KnownBytes.{Appends}
 use Rattle.otel_resource.specs.DetectedResource.{IsDetected}
 use Rattle.otel_resource.specs.Resource.{PlainResource}
@@ -8,7 +9,8 @@ use Rattle.otel_sampling.specs.declared.trace.sampler.SamplerOf.{SamplerOf}
 use Rattle.otel_export.specs.declared.error.OTelSdkError.{OTelSdkError}
 use Rattle.otel_export.specs.PlainSpanData.{PlainSpanData}
 use Rattle.otel_pipeline.specs.ProcessorKeeps.{OnlyAppends}
-use Rattle.otel_trace_lines.specs.Commands.{plain_commands}
+use Rattle.otel_export.specs.StoredBatches.{StoredBatches}
+use Rattle.otel_trace_lines.specs.Commands.{PlainCommand, plain_commands}
 use Rattle.otel_trace_lines.specs.PlainReply.{PlainReply}
 use Rattle.otel_trace_lines.specs.ReplyForm.{texts}
 use Rattle.otel_otlp.specs.Otlp.{otlp_line, otlp_lines, otlp_text}
@@ -20,12 +22,15 @@ use Rattle.otel_trace_run.specs.TraceRuns.{TracesBegun, TracesWhole}
 use Rattle.otel_trace_run.specs.declared.mode.Asked.{Asked}
 use Rattle.otel_trace_run.specs.declared.run_end.RunEnd.{RunEnd}
 use Rattle.otel_trace_run.specs.declared.run_end.RunEnd.TheVariants as ends
-use Rattle.otel_trace_run.proofs.TraceStream.{all_begun}
-use Rattle.otel_trace_session.specs.Calls.{Calls, batches_of_first}
+use Rattle.otel_trace_run.proofs.TraceStream.{whole_begun}
+use Rattle.otel_trace_session.specs.Calls.{Calls, batches_of_first, stored_of_first}
 use Rattle.otel_trace_session.specs.Closing.{Closes, or_no_memory}
-use Rattle.otel_trace_session.specs.Shown.{exported_in}
-use Rattle.otel_trace_session.specs.Turns.{SessionState, session_under}
+use Rattle.otel_trace_session.specs.Shown.{all_stored, exported_in, session_stored}
+use Rattle.otel_trace_session.specs.Turns.{BeginsUnder, SessionState, TookTurns}
+use Rattle.otel_trace_session.specs.OpenSpans.{Describe, NamedSpans}
+use Rattle.otel_trace_session.specs.ProviderTurns.{ShutsIfOpen}
 use Rattle.otel_trace_session.proofs.ShownLemmas.{closes_rest}
+use Rattle.otel_trace_session.proofs.TakingLemmas.{taken_all}
 
 -- lines of batches, and of others after them
 lines_joined : (resource : PlainResource) (first second : List (List PlainSpanData))
@@ -48,12 +53,34 @@ never_well : (said : Result (Unit {0}) OTelSdkError) → Ok tt ≡ or_no_memory 
 never_well (Ok done) e = cc
 never_well (Err error) e = cc
 
+-- no history describes no spans
+pub nothing_described : (spans : NamedSpans) → spans ≡ [] → Describe (λ _. None) spans
+nothing_described spans none = subst (λ (s : NamedSpans). Describe (λ _. None) s) (sym none) (λ q. refl)
+
+module _ {P S G : Type 0} (calls : Calls P S G) (law : OnlyAppends calls.processor calls.timer calls.keeps.stored) where
+  -- what the replies of a new session showed, and what is left once its provider is shut down, is all that was stored
+  -- since
+  pub since_begun : (provider : ProviderState P S G) (begun after : SessionState P S G) (closed : ProviderState P S G)
+      (commands : List PlainCommand) (replies : List PlainReply) (said : Result (Unit {0}) OTelSdkError)
+      → BeginsUnder calls provider begun → TookTurns calls begun (λ _. None) commands replies after
+      → ShutsIfOpen calls.processor after.provider said closed
+      → exported_in replies ++ batches_of_first calls.keeps closed.processors ≡ exported_since calls provider closed
+  since_begun provider begun after closed commands replies said begins took shuts =
+      let before = all_stored (stored_of_first calls.keeps provider.processors) in
+      let rest = exported_in replies ++ batches_of_first calls.keeps closed.processors in
+      let taken : (session_stored calls.keeps begun).taken ≡ before =
+      ap (λ (s : StoredBatches). s.taken) (taken_all calls provider.processors begun.provider.processors begins.takes.first) in
+      let all : all_stored (stored_of_first calls.keeps closed.processors) ≡ before ++ rest =
+      closes_rest calls law begun after closed (λ _. None) commands replies said took shuts
+      ∙ ap (λ (l : List (List PlainSpanData)). l ++ rest) taken in
+      sym (ap (λ (l : List (List PlainSpanData)). drop (length before) l) all ∙ drop-append_seam before rest)
+
 module _ {P S G : Type 0} (calls : Calls P S G)
-    (law : OnlyAppends calls.processor calls.timer calls.keeps.kept calls.keeps.lost) (resource : PlainResource) where
+    (law : OnlyAppends calls.processor calls.timer calls.keeps.stored) (resource : PlainResource) where
   -- what a close that went well appended
   closing_lines : (session : SessionState P S G) (before now : List ℕ)
       → (closed : Closes calls (otlp_form resource) session before (Ok tt) now)
-      → now ≡ before ++ otlp_lines resource (drop session.shown (batches_of_first calls.keeps closed.provider.processors))
+      → now ≡ before ++ otlp_lines resource (batches_of_first calls.keeps closed.provider.processors)
   closing_lines session before now closed = elim closed.writes [
     | inl h ↦ h.written
     | inr h ↦ absurd (never_well closed.shutdown h.answers)
@@ -62,18 +89,16 @@ module _ {P S G : Type 0} (calls : Calls P S G)
   exports_all : (provider : ProviderState P S G) (s : Streams) (bad_line : Option ℕ)
       → TracesWhole calls (otlp_form resource) provider s bad_line → ExportsAll calls resource provider s bad_line
   exports_all provider s bad_line h =
-      let f = h.finishes in
-      let begun = session_under calls.keeps provider in
-      let took = f.feeds.these.ran.took (λ _. None) (λ q. refl) in
-      let left = drop f.after.shown (batches_of_first calls.keeps f.closes.provider.processors) in
-      let all : exported_in f.feeds.replies ++ left ≡ exported_since calls provider f.closes.provider =
-      closes_rest calls law begun f.after f.closes.provider (λ _. None) (plain_commands f.feeds.these.commands)
-      f.feeds.replies f.closes.shutdown took f.closes.shuts (omega arith) in
-      let text : h.text ≡ otlp_lines resource (exported_since calls provider f.closes.provider) =
-      closing_lines f.after f.written h.text f.closes
+      let f = h.2.finishes in
+      let took = f.feeds.these.ran.took (λ _. None) (nothing_described h.0.spans h.1.spans) in
+      let left = batches_of_first calls.keeps f.closes.provider.processors in
+      let all = since_begun calls law provider h.0 f.after f.closes.provider (plain_commands f.feeds.these.commands)
+      f.feeds.replies f.closes.shutdown h.1 took f.closes.shuts in
+      let text : h.2.text ≡ otlp_lines resource (exported_since calls provider f.closes.provider) =
+      closing_lines f.after f.written h.2.text f.closes
       ∙ ap (λ bs. bs ++ otlp_lines resource left) (f.feeds.written ∙ texts_are_lines resource f.feeds.replies)
       ∙ sym (lines_joined resource (exported_in f.feeds.replies) left) ∙ ap (otlp_lines resource) all in
-      record { traces = h; lines = subst (Appends s.output s.output_after) text h.written; drops_none = f.drops_none refl }
+      record { traces = h; lines = subst (Appends s.output s.output_after) text h.2.written; drops_none = f.drops_none refl }
 
   pub exports_as : (provider : ProviderState P S G) (s : Streams) (end : RunEnd)
       → EndsAs (TracesWhole calls (otlp_form resource) provider s) (TracesBegun calls (otlp_form resource) provider s) s end
@@ -108,4 +133,4 @@ module _ {C D E : Type 0} (calls : Calls (MemoryProcessor C D) (SamplerOf E) (Li
   pub exporting_begun : (asked : Asked) (given : List (List ℕ)) (s : Streams) (bad_line : Option ℕ)
       → ExportsAsked calls asked given s bad_line → BeginsExporting calls asked given s
   exporting_begun asked given s bad_line (resource, is, provider, of, h) =
-      inr (resource, is, provider, of, all_begun calls (otlp_form resource) (session_under calls.keeps provider) s bad_line h.traces)
+      inr (resource, is, provider, of, whole_begun calls (otlp_form resource) provider s bad_line h.traces)

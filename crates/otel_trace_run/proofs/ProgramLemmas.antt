@@ -11,9 +11,8 @@ use Rattle.otel_trace_run.proofs.Drawing.{drawing_begun}
 use Rattle.otel_trace_run.proofs.Exporting.{exporting_begun}
 use Rattle.otel_trace_run.proofs.ModeWords.{mode_once}
 use Rattle.otel_trace_run.proofs.StepStream.{all_begun as steps_begun}
-use Rattle.otel_trace_run.proofs.TraceStream.{all_begun}
+use Rattle.otel_trace_run.proofs.TraceStream.{whole_begun}
 use Rattle.otel_trace_session.specs.Calls.{Calls}
-use Rattle.otel_trace_session.specs.Turns.{session_under}
 use Rattle.otel_trace_steps.specs.StepAnswers.{machine_of}
 use Rattle.otel_trace_run.specs.declared.mode.Asked.{Asked}
 use Rattle.otel_trace_run.specs.declared.picture.PictureForm.{PictureForm}
@@ -64,7 +63,7 @@ module _ {C D E : Type 0} (calls : Calls (MemoryProcessor C D) (SamplerOf E) (Li
 
   -- what such a provider's session wrote whole is a beginning
   asked_begun : (asked : Asked) (s : Streams) (bad_line : Option ℕ) → TracesAsked calls asked s bad_line → BeginsAsked calls asked s
-  asked_begun asked s bad_line h = inr (h.0, h.1, all_begun calls reply_lines (session_under calls.keeps h.0) s bad_line h.2)
+  asked_begun asked s bad_line h = inr (h.0, h.1, whole_begun calls reply_lines h.0 s bad_line h.2)
 
 module _ {C D E : Type 0} (calls : Calls (MemoryProcessor C D) (SamplerOf E) (List ℕ)) (paints : PictureForm → Painting) where
   -- what a mode gave whole is a beginning

@@ -19,21 +19,19 @@ use Rattle.otel_trace_lines.specs.declared.command.Command.{Command}
 use Rattle.otel_trace_session.specs.Calls.{Calls}
 use Rattle.otel_trace_session.specs.Closing.{Closes}
 use Rattle.otel_trace_session.specs.Fed.{Feeds, FeedsSome, FeedsUpTo}
-use Rattle.otel_trace_session.specs.Forgotten.{HasForgotten, Streams as Follows}
-use Rattle.otel_trace_session.specs.OpenSpans.{Describe, Histories}
-use Rattle.otel_trace_session.specs.Turns.{Runs, SessionState}
+use Rattle.otel_pipeline.specs.Provider.{ProviderState}
+use Rattle.otel_trace_session.specs.Turns.{BeginsUnder, Runs, SessionState}
 use Rattle.otel_trace_session.specs.declared.session.FeedError.{FeedError}
 use Rattle.otel_trace_session.specs.declared.session.FeedError.TheVariants as feeds
-use Rattle.otel_trace_session.proofs.Forgetting.{RecallsNothingElse}
 use Rattle.otel_trace_session.proofs.RunLemmas.{runs_join}
-use Rattle.otel_pipeline.specs.RecalledBatches.{LeavesAsMany}
 use Rattle.otel_trace_session.proofs.CloseLemmas.{EndsWell}
-use Rattle.otel_trace_session.proofs.Streaming.{runs_whole, streams_finish, streams_forget, streams_more, streams_nothing}
+use Rattle.otel_trace_session.proofs.Streaming.{feeds_join, feeds_nothing}
+use Rattle.otel_trace_session.proofs.FeedLemmas.{finishes}
 use Rattle.otel_export.specs.Streams.{AppendsBeginning}
 use Rattle.otel_export.proofs.StreamLemmas.{appends_after, appends_all, appends_longer}
 use Rattle.otel_trace_run.specs.Pieces.{GivesLines, KeepsAll, PlainPieces}
 use Rattle.otel_trace_run.specs.Streams.{EndsAs, Streams, streams}
-use Rattle.otel_trace_run.specs.TraceRuns.{BeginsToSpell, CarriesOutSome, FeedsPieces, FeedsPiece, FedAs, TracesAll, TracesSome}
+use Rattle.otel_trace_run.specs.TraceRuns.{BeginsToSpell, CarriesOutSome, FeedsPieces, FeedsPiece, FedAs, Traces, TracesAll, TracesBegun, TracesSome, TracesUnder, TracesWhole}
 use Rattle.otel_trace_run.specs.declared.run_end.RunEnd.{RunEnd}
 use Rattle.otel_trace_run.specs.declared.run_end.RunEnd.TheVariants as ends
 use Rattle.otel_trace_run.proofs.Cut.{IsCut, cut_given, cut_last, cut_piece, ends_joined, holds_of_all, nothing_ends, read_on_from}
@@ -98,7 +96,7 @@ module _ {P S G : Type 0} (calls : Calls P S G) (form : Form) (begun : SessionSt
     pub replies : List PlainReply
     pub read : Consumes s.input s.input_after (given ++ rest)
     pub ends : IsEmptyOrEndsWith given 10
-    pub follows : Follows calls begun given None replies now
+    pub fed : FeedsUpTo calls begun given None replies now
     pub none_refused : NoneRefused replies
     pub written : Appends s.output s.output_after (texts form replies)
     pub counted : number ≡ length (lines given)
@@ -121,7 +119,7 @@ module _ {P S G : Type 0} (calls : Calls P S G) (form : Form) where
     | inr w ↦ ([], form.rest [], ap (λ bs. bs ++ form.rest []) (sym w.written))
   ]
 
-module _ {P S G : Type 0} (calls : Calls P S G) (form : Form) (law : RecallsNothingElse calls) (begun : SessionState P S G) (histories : Histories) (describes : Describe histories begun.spans) where
+module _ {P S G : Type 0} (calls : Calls P S G) (form : Form) (begun : SessionState P S G) where
   -- none was given yet
   pub traced_none : (input output : Option (List ℕ)) → HasTraced calls form begun begun (streams input input output output) [] 0
   traced_none input output = record {
@@ -129,7 +127,7 @@ module _ {P S G : Type 0} (calls : Calls P S G) (form : Form) (law : RecallsNoth
     replies = [];
     read = Consumes-nil input;
     ends = nothing_ends;
-    follows = streams_nothing calls law begun;
+    fed = feeds_nothing calls begun;
     none_refused = tt;
     written = Appends-nil output;
     counted = refl;
@@ -154,8 +152,8 @@ module _ {P S G : Type 0} (calls : Calls P S G) (form : Form) (law : RecallsNoth
   pub begun_so_far : (now : SessionState P S G) (input here after output output_after : Option (List ℕ)) (rest more : List ℕ) (number : ℕ) → HasTraced calls form begun now (streams input here output output_after) rest number
       → IsCut input more → (h : HasTraced calls form begun now (streams input here output output_after) rest number) → h.given ≡ more → CarriesOutSome calls form begun input (Appends output output_after)
   begun_so_far now input here after output output_after rest more number _ cut h e =
-      some_traced input (Appends output output_after) more h.follows.feeds.commands h.replies h.follows.whole cut
-      (begins_text more (plain_commands h.follows.feeds.commands) None (subst (λ (bs : List ℕ). TextSpells bs (plain_commands h.follows.feeds.commands) None) e h.follows.feeds.spelled)) h.follows.feeds.ran h.none_refused h.written
+      some_traced input (Appends output output_after) more h.fed.commands h.replies now cut
+      (begins_text more (plain_commands h.fed.commands) None (subst (λ (bs : List ℕ). TextSpells bs (plain_commands h.fed.commands) None) e h.fed.spelled)) h.fed.ran h.none_refused h.written
 
   -- reading gives up
   pub begun_reading : (now : SessionState P S G) (input here after output output_after : Option (List ℕ)) (rest : List ℕ) (number : ℕ) (piece : PlainPieces) → HasTraced calls form begun now (streams input here output output_after) rest number
@@ -176,14 +174,11 @@ module _ {P S G : Type 0} (calls : Calls P S G) (form : Form) (law : RecallsNoth
       → (h : HasTraced calls form begun now (streams input here output reached) rest number) → GivesLines here after rest goes_on piece → BeginsToSpell piece.lines (plain_commands commands) → Runs calls now commands more middle → NoneRefused more
       → Written (texts form (h.replies ++ more)) → CarriesOutSome calls form begun input Written
   some_more now middle input here after output reached rest number goes_on piece Written commands more h g begins ran none written =
-      let took = h.follows.feeds.ran.took histories describes in
-      let there = subst (λ (s : SessionState P S G). Describe took.after s.spans) h.follows.forgot.rest took.describes in
-      let whole = runs_whole calls law h.follows.whole now middle took.after commands more h.follows.forgot there ran in
-      let before = h.follows.feeds.commands in
-      some_traced input Written (h.given ++ piece.lines) (before ++ commands) (h.replies ++ more) whole.after (cut_piece input here after h.given rest goes_on piece h.read h.ends g)
+      let before = h.fed.commands in
+      some_traced input Written (h.given ++ piece.lines) (before ++ commands) (h.replies ++ more) middle (cut_piece input here after h.given rest goes_on piece h.read h.ends g)
       (subst (λ (cs : List PlainCommand). BeginsToSpell (h.given ++ piece.lines) cs) (sym (map-append plain_command before commands))
-      (begins_joined h.given piece.lines (plain_commands before) (plain_commands commands) h.ends h.follows.feeds.spelled begins))
-      (runs_join calls begun h.follows.whole whole.after before commands h.replies more h.follows.feeds.ran whole.ran)
+      (begins_joined h.given piece.lines (plain_commands before) (plain_commands commands) h.ends h.fed.spelled begins))
+      (runs_join calls begun now middle before commands h.replies more h.fed.ran ran)
       (none_refused_joined h.replies more h.none_refused none) written
 
   -- those in front of the one that was stopped were
@@ -213,7 +208,7 @@ module _ {P S G : Type 0} (calls : Calls P S G) (form : Form) (law : RecallsNoth
       → HasTraced calls form begun now (streams input here output reached) rest number → GivesLines here after rest goes_on piece → FeedsPiece calls form now piece.lines fed Written next
       → ((first second : List ℕ) → Appends output reached first → Written second → After (first ++ second)) → CarriesOutSome calls form begun input After
   begun_feeding now next input here after output reached rest number goes_on piece fed Written After h g k later =
-      let ran = fed_commands now k.middle piece.lines fed k.replies k.feeds in
+      let ran = fed_commands now next piece.lines fed k.replies k.feeds in
       some_more now ran.1 input here after output reached rest number goes_on piece After ran.0 k.replies h g ran.2 ran.3 k.none_refused
       (subst After (replies_joined form h.replies k.replies) (later (texts form h.replies) (texts form k.replies) h.written k.written))
 
@@ -232,11 +227,9 @@ module _ {P S G : Type 0} (calls : Calls P S G) (form : Form) (law : RecallsNoth
       (λ first second first_h second_h. appends_after output reached output_after first second first_h second_h)
 
   -- the pieces so far, and one more
-  follows_more : (now next middle : SessionState P S G) (given lines_now : List ℕ) (bad_line : Option ℕ) (replies more : List PlainReply) → IsEmptyOrEndsWith given 10 → Follows calls begun given None replies now
-      → FeedsUpTo calls now lines_now bad_line more middle → HasForgotten calls.keeps middle next → Follows calls begun (given ++ lines_now) (option_map (λ n. length (lines given) + n) bad_line) (replies ++ more) next
-  follows_more now next middle given lines_now bad_line replies more ends h k forgot =
-      streams_forget calls law begun middle next (given ++ lines_now) (option_map (λ n. length (lines given) + n) bad_line) (replies ++ more)
-      (streams_more calls law begun now middle histories given lines_now bad_line replies more describes ends h k) forgot
+  fed_more : (now next : SessionState P S G) (given lines_now : List ℕ) (bad_line : Option ℕ) (replies more : List PlainReply) → IsEmptyOrEndsWith given 10 → FeedsUpTo calls begun given None replies now
+      → FeedsUpTo calls now lines_now bad_line more next → FeedsUpTo calls begun (given ++ lines_now) (option_map (λ n. length (lines given) + n) bad_line) (replies ++ more) next
+  fed_more now next given lines_now bad_line replies more ends h k = feeds_join calls begun now next given lines_now bad_line replies more ends h k
 
   -- a piece more is carried out
   pub traced_more : {T : Type 0} (now next : SessionState P S G) (input here after output reached output_after : Option (List ℕ)) (rest : List ℕ) (number count : ℕ) (goes_on : Bool) (piece : PlainPieces) (fed : Result T FeedError) (x : T)
@@ -249,7 +242,7 @@ module _ {P S G : Type 0} (calls : Calls P S G) (form : Form) (law : RecallsNoth
         replies = h.replies ++ k.replies;
         read = read_on_from input here after h.given rest g.read piece.lines piece.rest h.read g.consumed g.joined;
         ends = ends_joined h.given piece.lines h.ends ends;
-        follows = follows_more now next k.middle h.given piece.lines None h.replies k.replies h.ends h.follows (subst (λ (r : Result T FeedError). Feeds calls now piece.lines r k.replies k.middle) well k.feeds) k.forgot;
+        fed = fed_more now next h.given piece.lines None h.replies k.replies h.ends h.fed (subst (λ (r : Result T FeedError). Feeds calls now piece.lines r k.replies next) well k.feeds);
         none_refused = none_refused_joined h.replies k.replies h.none_refused k.none_refused;
         written = subst (Appends output output_after) (replies_joined form h.replies k.replies) (Appends-trans output reached output_after (texts form h.replies) (texts form k.replies) h.written k.written);
         counted =
@@ -268,7 +261,7 @@ module _ {P S G : Type 0} (calls : Calls P S G) (form : Form) (law : RecallsNoth
           bytes = h.given ++ piece.lines;
           replies = h.replies ++ k.replies;
           all = last.0;
-          follows = follows_more now next k.middle h.given piece.lines None h.replies k.replies h.ends h.follows (subst (λ (r : Result T FeedError). Feeds calls now piece.lines r k.replies k.middle) well k.feeds) k.forgot;
+          fed = fed_more now next h.given piece.lines None h.replies k.replies h.ends h.fed (subst (λ (r : Result T FeedError). Feeds calls now piece.lines r k.replies next) well k.feeds);
           none_refused = none_refused_joined h.replies k.replies h.none_refused k.none_refused;
           written = subst (Appends output output_after) (replies_joined form h.replies k.replies) (Appends-trans output reached output_after (texts form h.replies) (texts form k.replies) h.written k.written);
         },
@@ -276,12 +269,9 @@ module _ {P S G : Type 0} (calls : Calls P S G) (form : Form) (law : RecallsNoth
       )
 
   -- after a bad line a text may go on
-  follows_longer : (now : SessionState P S G) (text later : List ℕ) (line : ℕ) (replies : List PlainReply) → IsEmptyOrEndsWith text 10 → Follows calls begun text (Some line) replies now → Follows calls begun (text ++ later) (Some line) replies now
-  follows_longer now text later line replies ends h = record {
-    whole = h.whole;
-    feeds = record { commands = h.feeds.commands; spelled = bad_text_joined text later (plain_commands h.feeds.commands) line ends h.feeds.spelled; ran = h.feeds.ran };
-    forgot = h.forgot;
-  }
+  fed_longer : (now : SessionState P S G) (text later : List ℕ) (line : ℕ) (replies : List PlainReply) → IsEmptyOrEndsWith text 10 → FeedsUpTo calls begun text (Some line) replies now → FeedsUpTo calls begun (text ++ later) (Some line) replies now
+  fed_longer now text later line replies ends h =
+      record { commands = h.commands; spelled = bad_text_joined text later (plain_commands h.commands) line ends h.spelled; ran = h.ran }
 
   -- a line of a piece is bad
   pub traced_bad : {T : Type 0} (now next : SessionState P S G) (input here after output reached output_after : Option (List ℕ)) (rest : List ℕ) (number line : ℕ) (goes_on : Bool) (piece : PlainPieces) (fed : Result T FeedError)
@@ -291,28 +281,28 @@ module _ {P S G : Type 0} (calls : Calls P S G) (form : Form) (law : RecallsNoth
       let cut = cut_piece input here after h.given rest goes_on piece h.read h.ends g in
       let text = h.given ++ piece.lines in
       let all = h.replies ++ k.replies in
-      let follows : Follows calls begun text (Some (number + line)) all next =
-      subst (λ (n : ℕ). Follows calls begun text (Some (n + line)) all next) (sym h.counted) (follows_more now next k.middle h.given piece.lines (Some line) h.replies k.replies h.ends h.follows (subst (λ (r : Result T FeedError). Feeds calls now piece.lines r k.replies k.middle) is k.feeds) k.forgot) in
+      let fed_all : FeedsUpTo calls begun text (Some (number + line)) all next =
+      subst (λ (n : ℕ). FeedsUpTo calls begun text (Some (n + line)) all next) (sym h.counted) (fed_more now next h.given piece.lines (Some line) h.replies k.replies h.ends h.fed (subst (λ (r : Result T FeedError). Feeds calls now piece.lines r k.replies next) is k.feeds)) in
       record {
         bytes = text ++ cut.after;
         replies = all;
         all = cut.all;
-        follows = holds_of_all (λ bs. Follows calls begun bs (Some (number + line)) all next) input text cut (λ later ends h. follows_longer next text later (number + line) all ends h) follows;
+        fed = holds_of_all (λ bs. FeedsUpTo calls begun bs (Some (number + line)) all next) input text cut (λ later ends h. fed_longer next text later (number + line) all ends h) fed_all;
         none_refused = none_refused_joined h.replies k.replies h.none_refused k.none_refused;
         written = subst (Appends output output_after) (replies_joined form h.replies k.replies) (Appends-trans output reached output_after (texts form h.replies) (texts form k.replies) h.written k.written);
       }
 
-module _ {P S G : Type 0} (calls : Calls P S G) (form : Form) (law : RecallsNothingElse calls) (begun : SessionState P S G) where
+module _ {P S G : Type 0} (calls : Calls P S G) (form : Form) (begun : SessionState P S G) where
   -- what was fed is a beginning
   fed_some : (now : SessionState P S G) (s : Streams) (bad_line : Option ℕ) → FeedsPieces calls form begun now s bad_line → CarriesOutSome calls form begun s.input (Appends s.output s.output_after)
   fed_some now s bad_line h = record {
     bytes = h.bytes;
-    commands = h.follows.feeds.commands;
+    commands = h.fed.commands;
     replies = h.replies;
-    after = h.follows.whole;
+    after = now;
     all = h.all;
-    begins = begins_text h.bytes (plain_commands h.follows.feeds.commands) bad_line h.follows.feeds.spelled;
-    ran = h.follows.feeds.ran;
+    begins = begins_text h.bytes (plain_commands h.fed.commands) bad_line h.fed.spelled;
+    ran = h.fed.ran;
     none_refused = h.none_refused;
     written = h.written;
   }
@@ -364,13 +354,14 @@ module _ {P S G : Type 0} (calls : Calls P S G) (form : Form) (law : RecallsNoth
 
   -- what was fed and closed well, all of it written
   pub all_closed : (now : SessionState P S G) (input after output reached output_after : Option (List ℕ)) (bad_line : Option ℕ) (closing : List ℕ) → FeedsPieces calls form begun now (streams input after output reached) bad_line
-      → LeavesAsMany calls.queues calls.keeps.recalled → EndsWell calls form now form.minds_drops closing → Appends reached output_after closing → TracesAll calls form begun (streams input after output output_after) bad_line
+      → EndsWell calls form now form.minds_drops closing → Appends reached output_after closing → TracesAll calls form begun (streams input after output output_after) bad_line
   unfolding closes_after
-  all_closed now input after output reached output_after bad_line closing h leaves k written = record {
+  all_closed now input after output reached output_after bad_line closing h k written = record {
     bytes = h.bytes;
     text = texts form h.replies ++ closing;
     all = h.all;
-    finishes = streams_finish calls law form begun now h.bytes bad_line h.replies (texts form h.replies ++ closing) leaves h.follows h.none_refused (closes_after now (Ok tt) (texts form h.replies) closing k.closes) k.leaves_none k.drops_none;
+    finishes = finishes calls form begun now h.bytes bad_line (texts form h.replies) (texts form h.replies ++ closing) (record { replies = h.replies; written = refl; none_refused = h.none_refused; these = h.fed })
+        (closes_after now (Ok tt) (texts form h.replies) closing k.closes) k.leaves_none k.drops_none;
     written = Appends-trans output reached output_after (texts form h.replies) closing h.written written;
   }
 
@@ -383,11 +374,11 @@ module _ {P S G : Type 0} (calls : Calls P S G) (form : Form) (law : RecallsNoth
 
   -- a session was fed and closed well, and all was written
   pub closed_as : (now : SessionState P S G) (input after output reached output_after : Option (List ℕ)) (end : RunEnd) (closing : List ℕ) → FedAs calls form begun now (streams input after output reached) end
-      → LeavesAsMany calls.queues calls.keeps.recalled → EndsWell calls form now form.minds_drops closing → Appends reached output_after closing
+      → EndsWell calls form now form.minds_drops closing → Appends reached output_after closing
       → EndsAs (TracesAll calls form begun (streams input after output output_after)) (TracesSome calls form begun (streams input after output output_after)) (streams input after output output_after) end
-  closed_as now input after output reached output_after ends.Done closing h leaves k written = (all_closed now input after output reached output_after None closing h.0 leaves k written, h.1)
-  closed_as now input after output reached output_after (ends.BadLine line) closing h leaves k written = all_closed now input after output reached output_after (Some line) closing h leaves k written
-  closed_as now input after output reached output_after ends.Failed closing h leaves k written = some_closed input output reached output_after now (Ok tt) closing h k.closes (appends_all reached output_after closing written) after
+  closed_as now input after output reached output_after ends.Done closing h k written = (all_closed now input after output reached output_after None closing h.0 k written, h.1)
+  closed_as now input after output reached output_after (ends.BadLine line) closing h k written = all_closed now input after output reached output_after (Some line) closing h k written
+  closed_as now input after output reached output_after ends.Failed closing h k written = some_closed input output reached output_after now (Ok tt) closing h k.closes (appends_all reached output_after closing written) after
 
   -- how feeding ends at a bad line
   pub fed_bad : (now : SessionState P S G) (s : Streams) (line : ℕ) (end : RunEnd) → (end ≡ ends.Failed) ⊎ (end ≡ ends.BadLine line) → FeedsPieces calls form begun now s (Some line) → CarriesOutSome calls form begun s.input (Appends s.output s.output_after)
@@ -417,22 +408,6 @@ module _ {P S G : Type 0} (calls : Calls P S G) (form : Form) (begun : SessionSt
         );
       }
 
-  -- no session was made
-  pub none_begun : (input output : Option (List ℕ)) → TracesSome calls form begun (streams input input output output)
-  none_begun input output =
-      let cut = cut_given input input [] [] (Consumes-nil input) nothing_ends in
-      record {
-        bytes = [] ++ cut.after;
-        commands = [];
-        replies = [];
-        after = begun;
-        all = cut.all;
-        begins = record { front = []; left = lines cut.after; parts = refl; spelled = tt };
-        ran = nothing_ran calls begun [] refl;
-        none_refused = tt;
-        written = ([], ([], form.rest [], refl, Appends-nil output));
-      }
-
   -- what was written whole is a beginning
   pub begun_whole : (input output output_after : Option (List ℕ)) → CarriesOutSome calls form begun input (Appends output output_after) → CarriesOutSome calls form begun input (AppendsBeginning output output_after)
   begun_whole input output output_after h = record {
@@ -446,3 +421,15 @@ module _ {P S G : Type 0} (calls : Calls P S G) (form : Form) (begun : SessionSt
     none_refused = h.none_refused;
     written = appends_all output output_after (texts form h.replies) h.written;
   }
+
+module _ {P S G : Type 0} (calls : Calls P S G) (form : Form) where
+  -- what a new session did is what was done under its provider
+  pub traced_under : (provider : ProviderState P S G) (begun : SessionState P S G) (s : Streams) (end : RunEnd) → BeginsUnder calls provider begun
+      → Traces calls form begun s end → TracesUnder calls form provider s end
+  traced_under provider begun s ends.Done begins h = ((begun, begins, h.0), h.1)
+  traced_under provider begun s (ends.BadLine line) begins h = (begun, begins, h)
+  traced_under provider begun s ends.Failed begins h = inr (begun, begins, h)
+
+  -- what was given whole under a provider is a beginning
+  pub whole_begun : (provider : ProviderState P S G) (s : Streams) (bad_line : Option ℕ) → TracesWhole calls form provider s bad_line → TracesBegun calls form provider s
+  whole_begun provider s bad_line (begun, begins, h) = inr (begun, begins, all_begun calls form begun s bad_line h)

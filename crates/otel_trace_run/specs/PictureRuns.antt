@@ -19,7 +19,7 @@ use Rattle.otel_trace_run.specs.declared.run_end.RunEnd.{RunEnd}
 use Rattle.otel_trace_session.specs.Calls.{Calls}
 use Rattle.otel_trace_session.specs.Closing.{Finishes}
 use Rattle.otel_trace_session.specs.Shown.{exported_in}
-use Rattle.otel_trace_session.specs.Turns.{Runs, SessionState, session_under}
+use Rattle.otel_trace_session.specs.Turns.{BeginsUnder, Runs, SessionState}
 
 -- what is said of spans and what was painted of them
 abbrev pub Painting : Type 1
@@ -73,7 +73,9 @@ module _ {P S G : Type 0} (calls : Calls P S G) (Paints : Painting)
   -- painted of all spans that it exported, in order; none was dropped at a full queue
   pub record Draws (bytes : List ℕ) (bad_line : Option ℕ) (picture : List ℕ) : Type 0 where
     pub replied : List ℕ
-    pub finishes : Finishes calls reply_lines (session_under calls.keeps provider) bytes bad_line replied
+    pub begun : SessionState P S G
+    pub begins : BeginsUnder calls provider begun
+    pub finishes : Finishes calls reply_lines begun bytes bad_line replied
     pub drops_none : sum_by calls.queues.dropped_over finishes.closes.provider.processors ≡ 0
     pub drawn : Paints (spans_in (exported_since calls provider finishes.closes.provider)) picture
 

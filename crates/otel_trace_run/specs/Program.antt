@@ -10,7 +10,7 @@ use Rattle.otel_resource.specs.Resource.{PlainResource}
 use Rattle.otel_sampling.specs.Sampler.{plan, always_on, parent_based}
 use Rattle.otel_sampling.specs.declared.trace.sampler.SamplerOf.{SamplerOf}
 use Rattle.otel_batch.specs.PlainBatchConfig.{PlainBatchConfig, cut_to_queue, default_batch_config}
-use Rattle.otel_export.specs.StoredBatches.{StoredBatches}
+use Rattle.otel_export.specs.StoredBatches.{StoredBatches, none_stored}
 use Rattle.otel_export.specs.declared.trace.exporter_box.ExporterOf.{ExporterOf}
 use Rattle.otel_export.specs.declared.trace.exporter_box.ExporterOf.TheVariants as exporters
 use Rattle.otel_pipeline.specs.Provider.{ProviderState}
@@ -39,7 +39,7 @@ MemoryProcessor C D = ProcessorOf (ExporterOf StoredBatches C) D
 
 -- an exporter in memory that has no batch yet
 abbrev pub new_memory : {C : Type 0} → ExporterOf StoredBatches C
-new_memory = exporters.Memory (record { batches = []; lost = 0 })
+new_memory = exporters.Memory none_stored
 
 -- the processor that is asked for, over such an exporter: an open simple one, or a batch processor of these sizes in
 -- whose queue nothing waits, eager or not. A batch has no more spans than may wait

@@ -1,5 +1,5 @@
 -- What the mode `trace` does with its streams, with its replies in a form.
-use Rattle.std.specs.Prelude.{◌≡◌, ◌++◌, ℕ, List, Option, Some, None, Result}
+use Rattle.std.specs.Prelude.{◌≡◌, ◌⊎◌, ◌++◌, ℕ, List, [], Option, Some, None, Result}
 use Rattle.std.specs.Io.KnownBytes.{Appends, IsAtEnd}
 use Rattle.std.specs.Str.Lines.{lines}
 use Rattle.otel_export.specs.PlainSpanData.{PlainSpanData}
@@ -15,9 +15,8 @@ use Rattle.otel_trace_run.specs.declared.run_end.RunEnd.{RunEnd}
 use Rattle.otel_trace_run.specs.declared.run_end.RunEnd.TheVariants as ends
 use Rattle.otel_trace_session.specs.Calls.{Calls}
 use Rattle.otel_trace_session.specs.Closing.{Finishes}
-use Rattle.otel_trace_session.specs.Fed.{Feeds}
-use Rattle.otel_trace_session.specs.Forgotten.{HasForgotten, Streams as Follows}
-use Rattle.otel_trace_session.specs.Turns.{Runs, SessionState, session_under}
+use Rattle.otel_trace_session.specs.Fed.{Feeds, FeedsUpTo}
+use Rattle.otel_trace_session.specs.Turns.{BeginsUnder, Runs, SessionState}
 use Rattle.otel_trace_session.specs.declared.session.FeedError.{FeedError}
 
 -- a beginning of the lines of a text spells these commands
@@ -57,12 +56,14 @@ module _ {P S G : Type 0} (calls : Calls P S G) (form : Form) where
       (λ text. (batches : List (List PlainSpanData))
       × AppendsBeginning s.output s.output_after (text ++ form.rest batches))
 
-  -- the same of a session under a provider
+  -- the same of a session under a provider; nothing was written where there was no memory for the session
   abbrev pub TracesWhole : ProviderState P S G → Streams → Option ℕ → Type 0
-  TracesWhole provider s bad_line = TracesAll (session_under calls.keeps provider) s bad_line
+  TracesWhole provider s bad_line =
+      (begun : SessionState P S G) × BeginsUnder calls provider begun × TracesAll begun s bad_line
 
   abbrev pub TracesBegun : ProviderState P S G → Streams → Type 0
-  TracesBegun provider s = TracesSome (session_under calls.keeps provider) s
+  TracesBegun provider s = Appends s.output s.output_after []
+      ⊎ ((begun : SessionState P S G) × BeginsUnder calls provider begun × TracesSome begun s)
 
   -- what a session did, by how it ended
   abbrev pub Traces : SessionState P S G → Streams → RunEnd → Type 0
@@ -72,14 +73,11 @@ module _ {P S G : Type 0} (calls : Calls P S G) (form : Form) where
   abbrev pub TracesUnder : ProviderState P S G → Streams → RunEnd → Type 0
   TracesUnder provider s end = EndsAs (TracesWhole provider s) (TracesBegun provider s) s end
 
-  -- a piece was fed to a session, which then forgot what it had shown; of the text of its replies the output was given
-  -- what Written says
+  -- a piece was fed to a session; of the text of its replies the output was given what Written says
   pub record FeedsPiece {T : Type 0} (old : SessionState P S G) (piece : List ℕ) (fed : Result T FeedError)
       (Written : List ℕ → Type 0) (new : SessionState P S G) : Type 0 where
     pub replies : List PlainReply
-    pub middle : SessionState P S G
-    pub feeds : Feeds calls old piece fed replies middle
-    pub forgot : HasForgotten calls.keeps middle new
+    pub feeds : Feeds calls old piece fed replies new
     pub none_refused : NoneRefused replies
     pub written : Written (texts form replies)
 
@@ -89,7 +87,7 @@ module _ {P S G : Type 0} (calls : Calls P S G) (form : Form) where
     pub bytes : List ℕ
     pub replies : List PlainReply
     pub all : AreAll s.input bytes
-    pub follows : Follows calls begun bytes bad_line replies now
+    pub fed : FeedsUpTo calls begun bytes bad_line replies now
     pub none_refused : NoneRefused replies
     pub written : Appends s.output s.output_after (texts form replies)
 

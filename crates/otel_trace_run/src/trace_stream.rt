@@ -1,5 +1,5 @@
 //! The mode `trace` as a stream: lines are carried out as they come, and their replies are written, in a form, and sent
-//! on before more is read. A session then forgets what it has shown.
+//! on before more is read.
 
 ghost use Rattle.std.specs.Prelude.{◌≡◌, IfOk, OnErr, Result};
 ghost use Rattle.std.specs.Io.KnownBytes.{Appends};
@@ -103,7 +103,6 @@ fn feed_pieces<P: KeepsBatches, S: ShouldSample, G: GivesIds, F: ReplyForm, R: R
         (AppendsBeginning (W.contents output.old) (W.contents output.new))) }
     ensures form { F.form form.new ≡ F.form form.old }
 {
-    session.has_histories();
     let mut pieces = Pieces::new(alloc);
     let mut before: u64 = 0;
     for _ in 0..u64::MAX {
@@ -126,8 +125,7 @@ fn feed_pieces<P: KeepsBatches, S: ShouldSample, G: GivesIds, F: ReplyForm, R: R
     Ok(RunEnd::Failed)
 }
 
-/// Feeds lines to a session, writes and sends on its replies, and has it forget what they show. `text` is room for
-/// them.
+/// Feeds lines to a session, and writes and sends on its replies. `text` is room for them.
 fn feed_piece<P: KeepsBatches, S: ShouldSample, G: GivesIds, F: ReplyForm, W: Write>(
     session: &mut Session<P, S, G>,
     form: &mut F,
@@ -147,8 +145,6 @@ fn feed_piece<P: KeepsBatches, S: ShouldSample, G: GivesIds, F: ReplyForm, W: Wr
 {
     text.clear();
     let fed = session.feed_in(form, lines, text);
-    let written = write_whole(output, text);
-    session.forget_shown();
-    written?;
+    write_whole(output, text)?;
     Ok(fed)
 }

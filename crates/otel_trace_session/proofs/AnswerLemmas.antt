@@ -1,6 +1,6 @@
 -- What one command of a session comes to, whatever its answer.
-use Rattle.std.proofs.Common.{◌≡◌, ◌∙◌, Bool, true, false, List, refl, ap}
-use Rattle.otel_export.specs.KeptBatches.{Grows, appends_none}
+use Rattle.std.proofs.Common.{◌≡◌, ◌∙◌, Bool, true, false, refl}
+use Rattle.otel_export.specs.KeptBatches.{OnlyAdds}
 use Rattle.otel_pipeline.specs.ProcessorKeeps.{OnlyAppends}
 use Rattle.otel_trace_lines.specs.Commands.{PlainCommand, start, child, remote, attr, event, status, inject, end, flush, run, shutdown, is_end, plain_command}
 use Rattle.otel_trace_lines.specs.declared.command.Command.{Command}
@@ -8,10 +8,10 @@ use Rattle.otel_trace_lines.specs.declared.reply.Answer.{Answer}
 use Rattle.otel_trace_session.specs.Actions.{action_of, ends_span}
 use Rattle.otel_trace_session.specs.Calls.{Calls}
 use Rattle.otel_trace_session.specs.OpenSpans.{HaveHistories}
-use Rattle.otel_trace_session.specs.Shown.{session_batches, session_losses}
+use Rattle.otel_trace_session.specs.Shown.{session_losses, session_stored}
 use Rattle.otel_trace_session.specs.Stops.{Answers, CarriesOut, Refuses}
 use Rattle.otel_trace_session.specs.Turns.{SessionState}
-use Rattle.otel_trace_session.proofs.KeptLemmas.{turn_loses_none}
+use Rattle.otel_trace_session.proofs.KeptLemmas.{adds_nothing, turn_loses_none}
 use Rattle.otel_trace_session.proofs.NamedLemmas.{described}
 
 -- a command ends a span where its action does
@@ -30,19 +30,19 @@ same_end shutdown = refl
 
 module _ {P S G : Type 0} (calls : Calls P S G) where
   -- a command that was carried out, and one that was refused, takes back no batch
-  pub carried_grows : (old new : SessionState P S G) (command : Command) (answer : Answer) → HaveHistories old.spans → CarriesOut calls old command answer new → Grows (session_batches calls.keeps old) (session_batches calls.keeps new)
+  pub carried_grows : (old new : SessionState P S G) (command : Command) (answer : Answer) → HaveHistories old.spans → CarriesOut calls old command answer new → OnlyAdds (session_stored calls.keeps old) (session_stored calls.keeps new)
   carried_grows old new command answer have carries =
       let first = described old.spans have in
-      (carries (record { provider = old.provider; histories = first.0; shown = 0 }) first.1).is.grows
+      (carries (record { provider = old.provider; histories = first.0 }) first.1).is.adds
 
-  pub refused_grows : (old new : SessionState P S G) (command : Command) → Refuses calls old command new → Grows (session_batches calls.keeps old) (session_batches calls.keeps new)
-  refused_grows old new command h = appends_none _ _ (ap (λ (ps : List P). session_batches calls.keeps (record old { provider = record old.provider { processors = ps } })) h.processors)
+  pub refused_grows : (old new : SessionState P S G) (command : Command) → Refuses calls old command new → OnlyAdds (session_stored calls.keeps old) (session_stored calls.keeps new)
+  refused_grows old new command h = adds_nothing calls.keeps old.provider.processors new.provider.processors h.processors
 
   -- one that was carried out, where an end of a span lost no batch
-  pub answers_one : (law : OnlyAppends calls.processor calls.timer calls.keeps.kept calls.keeps.lost) (old new : SessionState P S G) (command : Command) (answer : Answer) (ends_span : Bool) → HaveHistories old.spans → CarriesOut calls old command answer new
+  pub answers_one : (law : OnlyAppends calls.processor calls.timer calls.keeps.stored) (old new : SessionState P S G) (command : Command) (answer : Answer) (ends_span : Bool) → HaveHistories old.spans → CarriesOut calls old command answer new
       → is_end (plain_command command) ≡ ends_span → (ends_span ≡ true → session_losses calls.keeps new ≡ session_losses calls.keeps old) → Answers calls old command answer new
   answers_one law old new command answer true have carries is none = record { carried = carries; loses_none = λ _. none refl }
   answers_one law old new command answer false have carries is none =
       let first = described old.spans have in
-      let took = carries (record { provider = old.provider; histories = first.0; shown = 0 }) first.1 in
+      let took = carries (record { provider = old.provider; histories = first.0 }) first.1 in
       record { carried = carries; loses_none = turn_loses_none calls law old.scope (action_of (plain_command command)) _ took.is.is_turn (same_end (plain_command command) ∙ is) }

@@ -55,10 +55,10 @@ module _ {P S G : Type 0} (calls : Calls P S G) where
       subst (λ (ds : List Delivery). EachFollows calls.processor ds turn.before.provider.processors turn.after.provider.processors) (sym h.delivers)
       (delivered_follows calls.processor turn.before.provider.is_shut moment (Some (data_of from edits from.start_time)) turn.before.provider.processors turn.after.provider.processors h.refused h.delivered)
 
-module _ {P S G : Type 0} (calls : Calls P S G) (law : OnlyAppends calls.processor calls.timer calls.keeps.kept calls.keeps.lost) (scope : PlainScope) where
+module _ {P S G : Type 0} (calls : Calls P S G) (law : OnlyAppends calls.processor calls.timer calls.keeps.stored) (scope : PlainScope) where
   -- an action was carried out in its turn
   carried : (action : PlainAction) (turn : Turn P S G) → FollowsIn calls turn → TakesAction calls scope action turn → IsCarriedOut calls scope action turn
-  carried action turn follows h = record { is_turn = h; follows = follows; grows = turn_grows calls law scope action turn h }
+  carried action turn follows h = record { is_turn = h; follows = follows; adds = turn_grows calls law scope action turn h }
 
   -- a start, as a root, a child, or where a header says
   pub carries_start : (p q : ProviderState P S G) (old new : NamedSpans) (span name : List ℕ) (moment : ℕ) (answer : Answer)

@@ -1,5 +1,5 @@
 -- What closing a session does, by the answers of its parts.
-use Rattle.std.proofs.Common.{◌≡◌, ◌==◌, ◌++◌, ◌||◌, ◌⊎◌, ◌∙◌, ℕ, Bool, true, false, not, if◌then◌else◌, List, [], Result, Ok, Err, IsOk, OnOk, OnErr, is_err, drop, inl, inr, refl, ap, arith}
+use Rattle.std.proofs.Common.{◌≡◌, ◌==◌, ◌++◌, ◌||◌, ◌⊎◌, ◌∙◌, ℕ, Bool, true, false, not, if◌then◌else◌, List, [], Result, Ok, Err, IsOk, OnOk, OnErr, is_err, inl, inr, refl, ap, arith}
 use Rattle.std.proofs.lemmas.Bool.Decides.{nat_tests}
 use Rattle.std.specs.declared.alloc.AllocError.{AllocError}
 use Rattle.opentelemetry.proofs.Clauses.{fails_on_err}
@@ -10,7 +10,6 @@ use Rattle.otel_trace_session.specs.Calls.{Calls, batches_of_first, losses_of_fi
 use Rattle.std.proofs.Common.{IsTrue, subst, sum_by, sym}
 use Rattle.otel_trace_session.specs.declared.session.ClosedSession.{ClosedSession}
 use Rattle.otel_trace_session.specs.Closing.{Closes, ClosesAs, LostNothing, WritesLast, WritesNone, or_no_memory}
-use Rattle.otel_trace_session.specs.ProviderTurns.{ShutsIfOpen}
 use Rattle.otel_trace_session.specs.Shown.{has_lost}
 use Rattle.otel_trace_session.specs.Turns.{SessionState}
 
@@ -36,8 +35,8 @@ as_many lost before e = grind (arith, nat_tests)
 pub writes_rest : {P S G : Type 0} (calls : Calls P S G) (form : Form) (session : SessionState P S G) (provider : ProviderState P S G)
     (shutdown : Result (Unit {0}) OTelSdkError) (written : Result (Unit {0}) AllocError) (lost : Bool) (answer : Result (Unit {0}) OTelSdkError) (before now : List ℕ)
     → lost ≡ has_lost calls.keeps (record session { provider = provider })
-    → OnOk written (now ≡ before ++ form.rest (drop session.shown (batches_of_first calls.keeps provider.processors))) → OnErr written (now ≡ before)
-    → (form.rest (drop session.shown (batches_of_first calls.keeps provider.processors)) ≡ [] → IsOk written)
+    → OnOk written (now ≡ before ++ form.rest (batches_of_first calls.keeps provider.processors)) → OnErr written (now ≡ before)
+    → (form.rest (batches_of_first calls.keeps provider.processors) ≡ [] → IsOk written)
     → answer ≡ (if lost || is_err written then or_no_memory shutdown else shutdown)
     → WritesLast calls.keeps form (record session { provider = provider }) shutdown before answer now
     ⊎ WritesNone calls.keeps form (record session { provider = provider }) shutdown before answer now

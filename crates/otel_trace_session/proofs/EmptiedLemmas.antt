@@ -1,5 +1,5 @@
 -- After a flush or a shutdown that is answered by Ok no span waits.
-use Rattle.std.proofs.Common.{◌≡◌, ℕ, Bool, true, false, List, [], ◌∷◌, ◌++◌, Result, Ok, Err, MatchBool, OnOk, All, length, length-append, map, refl, ap, subst, sym, ◌∙◌, arith, rules}
+use Rattle.std.proofs.Common.{◌≡◌, ℕ, Bool, true, false, List, [], ◌∷◌, ◌++◌, Result, Ok, Err, MatchBool, OnOk, length, length-append, map, refl, ap, subst, sym, ◌∙◌, arith, rules}
 use Rattle.std.proofs.lemmas.List.{same_from_push}
 use Rattle.std.proofs.lemmas.List.Elements.{All-cons, All-nil}
 use Rattle.opentelemetry.specs.Plain.{PlainScope}
@@ -16,11 +16,8 @@ use Rattle.otel_trace_session.specs.Calls.{Calls}
 use Rattle.otel_trace_session.specs.ProviderTurns.{AsksProvider, CallGives, EmptiesIfOk, call_answer}
 use Rattle.otel_trace_session.specs.Shown.{EmptiedAfter}
 use Rattle.otel_trace_session.specs.Turn.{Course, Turn}
-use Rattle.otel_trace_session.specs.Turns.{AreTurns, TakesAction, replied, reply_of}
-
--- none waits at any processor
-abbrev NoneWaits : {P : Type 0} → Ghosts P → List P → Type 0
-NoneWaits calls processors = All (λ p. (calls.told p).waiting ≡ 0) processors
+use Rattle.otel_trace_session.specs.Turns.{AreTurns, TakesAction, reply_of}
+use Rattle.otel_trace_session.proofs.TakingLemmas.{NoneWaits, replied_empty}
 
 -- no answer is an error where there is no first one
 none_failed : {E : Type 0} (rs : List (Result (Unit {0}) E)) → first_failure rs ≡ Ok tt → error_count rs ≡ 0
@@ -85,15 +82,16 @@ module _ {P S G : Type 0} (calls : Calls P S G) where
   all_empty scope old new (command ∷ []) (turn ∷ []) before last others reply h e f =
       subst (λ (c : PlainCommand). EmptiesIfOk calls.processor (action_of c) reply.answer new.provider.processors) (same_from_push [] before command last e).1
       (subst (λ (r : PlainReply). EmptiesIfOk calls.processor (action_of command) r.answer new.provider.processors) (same_from_push [] others (reply_of calls turn) reply f).1
-      (subst (λ (c : Course P S G). EmptiesIfOk calls.processor (action_of command) turn.answer c.provider.processors) (sym h.3) (one_empties scope (action_of command) turn h.1.is_turn)))
-  all_empty scope old new (command ∷ []) (turn ∷ next ∷ turns) before last others reply h e f = absurd h.3
-  all_empty scope old new (command ∷ following ∷ commands) (turn ∷ []) before last others reply h e f = absurd h.3
+      (subst (λ (c : Course P S G). EmptiesIfOk calls.processor (action_of command) turn.answer c.provider.processors) (sym h.3.2)
+      (λ is said. replied_empty calls turn.after h.3.0 h.3.1 (one_empties scope (action_of command) turn h.1.is_turn is said))))
+  all_empty scope old new (command ∷ []) (turn ∷ next ∷ turns) before last others reply h e f = absurd h.3.2
+  all_empty scope old new (command ∷ following ∷ commands) (turn ∷ []) before last others reply h e f = absurd h.3.2
   all_empty scope old new (command ∷ following ∷ commands) (turn ∷ next ∷ turns) [] last others reply h e f = absurd (omega (arith, ap length e))
   all_empty scope old new (command ∷ following ∷ commands) (turn ∷ next ∷ turns) (first ∷ before) last [] reply h e f = absurd (omega (arith, ap length f))
   all_empty scope old new (command ∷ following ∷ commands) (turn ∷ next ∷ turns) (first ∷ before) last (other ∷ others) reply h e f =
       let commands_after : following ∷ commands ≡ before ++ last ∷ [] = cc in
       let replies_after : map (reply_of calls) (next ∷ turns) ≡ others ++ reply ∷ [] = cc in
-      all_empty scope (replied calls turn.after) new (following ∷ commands) (next ∷ turns) before last others reply h.3 commands_after replies_after
+      all_empty scope h.3.0 new (following ∷ commands) (next ∷ turns) before last others reply h.3.2 commands_after replies_after
 
   pub all_emptied : (scope : PlainScope) (old new : Course P S G) (commands : List PlainCommand) (turns : List (Turn P S G)) (replies : List PlainReply) → replies ≡ map (reply_of calls) turns → AreTurns calls scope old commands turns new
       → EmptiedAfter calls.processor commands replies new.provider.processors

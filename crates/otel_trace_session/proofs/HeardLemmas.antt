@@ -22,7 +22,8 @@ use Rattle.otel_trace_session.specs.OpenSpans.{Histories}
 use Rattle.otel_trace_session.specs.SpanTurns.{ChildTurn, EndTurn, Start, StartsAfter, StartsFrom, start_in}
 use Rattle.otel_trace_session.specs.ProviderTurns.{AsksProvider, CallGives}
 use Rattle.otel_trace_session.specs.Turn.{AsksNobody, Course, Turn}
-use Rattle.otel_trace_session.specs.Turns.{AreTurns, TakesAction, delivered_in, replied}
+use Rattle.otel_trace_session.specs.Turns.{AreTurns, TakesAction, delivered_in}
+use Rattle.otel_trace_session.proofs.TakingLemmas.{replied_follows, replied_hears, replied_shut}
 use Rattle.otel_trace_session.proofs.TraceLemmas.{one_stays}
 
 -- an end at a shut provider delivers nothing
@@ -137,7 +138,7 @@ module _ {P S G : Type 0} (calls : Calls P S G) where
   all_follow scope old new (command ∷ commands) (turn ∷ turns) h =
       subst (λ (c : Course P S G). EachFollows calls.processor (delivered_in (turn ∷ turns)) c.provider.processors new.provider.processors) h.0
       (EachFollows-append calls.processor turn.delivered (delivered_in turns) turn.before.provider.processors turn.after.provider.processors new.provider.processors h.1.follows
-      (all_follow scope (replied calls turn.after) new commands turns h.3))
+      (replied_follows calls turn.after h.3.0 h.3.1 (delivered_in turns) new.provider.processors (all_follow scope h.3.0 new commands turns h.3.2)))
 
   -- nothing is delivered from a shut provider on
   none_after : (scope : PlainScope) (old new : Course P S G) (commands : List PlainCommand) (turns : List (Turn P S G)) → old.provider.is_shut ≡ true → AreTurns calls scope old commands turns new → delivered_in turns ≡ []
@@ -148,7 +149,7 @@ module _ {P S G : Type 0} (calls : Calls P S G) where
       let is_shut = ap (λ (c : Course P S G). c.provider.is_shut) h.0 ∙ shut in
       let first : turn.delivered ≡ [] = shut_delivers_none scope (action_of command) turn is_shut h.1.is_turn in
       let still = stays_shut (is_shutdown (action_of command)) scope (action_of command) turn refl is_shut h.1.is_turn in
-      ap (λ (l : List Delivery). l ++ delivered_in turns) first ∙ none_after scope (replied calls turn.after) new commands turns still h.3
+      ap (λ (l : List Delivery). l ++ delivered_in turns) first ∙ none_after scope h.3.0 new commands turns (replied_shut calls turn.after h.3.0 h.3.1 ∙ still) h.3.2
 
   -- each processor that was open hears all that is delivered
   pub all_heard : (scope : PlainScope) (old new : Course P S G) (commands : List PlainCommand) (turns : List (Turn P S G)) → AreTurns calls scope old commands turns new
@@ -158,7 +159,7 @@ module _ {P S G : Type 0} (calls : Calls P S G) where
   all_heard scope old new (command ∷ commands) [] h = absurd h
   all_heard scope old new (command ∷ commands) (turn ∷ turns) h =
       subst (λ (c : Course P S G). EachOpenHears calls.processor (delivered_in (turn ∷ turns)) c.provider.processors new.provider.processors) h.0
-      (by (is_shutdown (action_of command)) refl (all_heard scope (replied calls turn.after) new commands turns h.3))
+      (by (is_shutdown (action_of command)) refl (replied_hears calls turn.after h.3.0 h.3.1 (delivered_in turns) new.provider.processors (all_heard scope h.3.0 new commands turns h.3.2)))
     where
       by : (b : Bool) → is_shutdown (action_of command) ≡ b → EachOpenHears calls.processor (delivered_in turns) turn.after.provider.processors new.provider.processors
           → EachOpenHears calls.processor (turn.delivered ++ delivered_in turns) turn.before.provider.processors new.provider.processors
@@ -168,7 +169,7 @@ module _ {P S G : Type 0} (calls : Calls P S G) where
           hears_on calls.processor turn.delivered (delivered_in turns) turn.before.provider.processors turn.after.provider.processors new.provider.processors first stays rest
       by true e _ =
           let shut = shutdown_shuts scope (action_of command) turn e h.1.is_turn in
-          let none : turn.delivered ++ delivered_in turns ≡ [] = ap (λ (l : List Delivery). l ++ delivered_in turns) shut.1 ∙ none_after scope (replied calls turn.after) new commands turns shut.0 h.3 in
+          let none : turn.delivered ++ delivered_in turns ≡ [] = ap (λ (l : List Delivery). l ++ delivered_in turns) shut.1 ∙ none_after scope h.3.0 new commands turns (replied_shut calls turn.after h.3.0 h.3.1 ∙ shut.0) h.3.2 in
           let follows = subst (λ (c : Course P S G). EachFollows calls.processor (delivered_in (turn ∷ turns)) c.provider.processors new.provider.processors) (sym h.0) (all_follow scope old new (command ∷ commands) (turn ∷ turns) h) in
           let nothing = subst (λ (l : List Delivery). EachFollows calls.processor l turn.before.provider.processors new.provider.processors) none follows in
           subst (λ (l : List Delivery). EachOpenHears calls.processor l turn.before.provider.processors new.provider.processors) (sym none) (hears_no_delivery calls.processor turn.before.provider.processors new.provider.processors nothing)

@@ -9,7 +9,7 @@ pub mod KeptLemmas
 pub mod NamedLemmas
 pub mod RunLemmas
 pub mod ShownLemmas
+pub mod Streaming
+pub mod TakingLemmas
 pub mod TraceLemmas
 pub mod TurnLemmas
-pub mod Forgetting
-pub mod Streaming

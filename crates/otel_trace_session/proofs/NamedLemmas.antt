@@ -131,7 +131,7 @@ described_have histories spans describes = λ name span there.
 pub took_histories : {P S G : Type 0} (Is : Turn P S G → Type 0) (p q : ProviderState P S G) (old new : NamedSpans) (answer : Answer) → HaveHistories old → TurnsFromAny Is p old answer q new → HaveHistories new
 took_histories Is p q old new answer have takes =
     let first = described old have in
-    let took = takes (record { provider = p; histories = first.0; shown = 0 }) first.1 in
+    let took = takes (record { provider = p; histories = first.0 }) first.1 in
     described_have took.histories new took.describes
 
 -- be it that the turn was taken or refused

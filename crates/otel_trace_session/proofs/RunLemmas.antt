@@ -1,5 +1,5 @@
 -- Runs of the commands of a session: how they are joined, and how one stops.
-use Rattle.std.proofs.Common.{◌≡◌, List, [], ◌∷◌, ◌++◌, refl, sym, ◌∙◌, ap, subst, append_assoc, append-nil, drop, length, map, inl}
+use Rattle.std.proofs.Common.{◌≡◌, List, [], ◌∷◌, ◌++◌, refl, sym, ◌∙◌, ap, subst, append_assoc, append-nil, map, inl}
 use Rattle.std.proofs.lemmas.List.{map-append}
 use Rattle.opentelemetry.specs.Plain.{PlainScope}
 use Rattle.otel_trace_lines.specs.Commands.{PlainCommand, plain_command, plain_commands}
@@ -8,10 +8,12 @@ use Rattle.otel_trace_lines.specs.declared.command.Command.{Command}
 use Rattle.otel_trace_lines.specs.declared.reply.Answer.{Answer}
 use Rattle.otel_trace_session.specs.Calls.{Calls}
 use Rattle.otel_trace_session.specs.Fed.{WhyUnwritten, feed_error}
-use Rattle.otel_trace_session.specs.Shown.{session_batches, unshown}
+use Rattle.otel_trace_session.specs.Shown.{session_batches}
 use Rattle.otel_trace_session.specs.Stops.{AnswerStops, Answers, HasNoReply, RunsBeginning, WhyUntold}
+use Rattle.otel_trace_session.specs.OpenSpans.{Describe, NamedSpans}
+use Rattle.otel_trace_session.specs.Taking.{TakesShown}
 use Rattle.otel_trace_session.specs.Turn.{Course, Turn}
-use Rattle.otel_trace_session.specs.Turns.{AreTurns, Runs, SessionState, course_of, replied, reply_of}
+use Rattle.otel_trace_session.specs.Turns.{AreTurns, Runs, SessionState, course_of, reply_of}
 use Rattle.otel_trace_session.specs.declared.session.RunError.{RunError}
 use Rattle.otel_trace_session.specs.declared.session.RunError.TheVariants as runs
 
@@ -22,7 +24,7 @@ module _ {P S G : Type 0} (calls : Calls P S G) where
   turns_join scope old middle new [] ds [] us h k = subst (λ (c : Course P S G). AreTurns calls scope c ds us new) h k
   turns_join scope old middle new [] ds (t ∷ ts) us h k = absurd h
   turns_join scope old middle new (c ∷ cs) ds [] us h k = absurd h
-  turns_join scope old middle new (c ∷ cs) ds (t ∷ ts) us h k = (h.0, h.1, h.2, turns_join scope (replied calls t.after) middle new cs ds ts us h.3 k)
+  turns_join scope old middle new (c ∷ cs) ds (t ∷ ts) us h k = (h.0, h.1, h.2, (h.3.0, h.3.1, turns_join scope h.3.0 middle new cs ds ts us h.3.2 k))
 
   -- a run, and another from where it ends
   pub runs_join : (old middle new : SessionState P S G) (cs ds : List Command) (rs qs : List PlainReply) → Runs calls old cs rs middle → Runs calls middle ds qs new → Runs calls old (cs ++ ds) (rs ++ qs) new
@@ -46,24 +48,25 @@ module _ {P S G : Type 0} (calls : Calls P S G) where
   pub runs_nothing : (session : SessionState P S G) → Runs calls session [] [] session
   runs_nothing session = record { scope = refl; lost_before = refl; took = λ histories describes. record { turns = []; after = histories; are_turns = refl; replied_to = refl; describes = describes } }
 
-  -- a session whose replies have shown all that is kept
-  abbrev pub marked : SessionState P S G → SessionState P S G
-  marked session = record session { shown = length (session_batches calls.keeps session) }
+  -- from an answer to where a session stands after its reply, which took the batches that it shows
+  pub record TookShown (answered new : SessionState P S G) : Type 0 where
+    pub takes : TakesShown calls.processor calls.queues calls.keeps answered.provider new.provider
+    pub rest : new ≡ record answered { provider = new.provider }
 
-  -- one command, with a reply that shows what was left to show
-  pub runs_one : (old new : SessionState P S G) (command : Command) (answer : Answer) → Answers calls old command answer new → new ≡ record old { provider = new.provider; spans = new.spans }
-      → Runs calls old (command ∷ []) (record { exported = unshown calls.keeps new; answer = answer } ∷ []) (marked new)
-  runs_one old new command answer answers rest = record {
-    scope = ap (λ (s : SessionState P S G). s.scope) rest;
-    lost_before = ap (λ (s : SessionState P S G). s.lost_before) rest;
+  -- one command, with a reply that shows what is kept after it
+  pub runs_one : (old answered new : SessionState P S G) (command : Command) (answer : Answer) → Answers calls old command answer answered → answered ≡ record old { provider = answered.provider; spans = answered.spans }
+      → TookShown answered new → Runs calls old (command ∷ []) (record { exported = session_batches calls.keeps answered; answer = answer } ∷ []) new
+  runs_one old answered new command answer answers rest took_shown = record {
+    scope = ap (λ (s : SessionState P S G). s.scope) took_shown.rest ∙ ap (λ (s : SessionState P S G). s.scope) rest;
+    lost_before = ap (λ (s : SessionState P S G). s.lost_before) took_shown.rest ∙ ap (λ (s : SessionState P S G). s.lost_before) rest;
     took = λ histories describes.
         let took = answers.carried (course_of old histories) describes in
-        let turn : Turn P S G = record { before = course_of old histories; answer = answer; delivered = took.delivered; after = record (course_of old histories) { provider = new.provider; histories = took.histories } } in record {
+        let turn : Turn P S G = record { before = course_of old histories; answer = answer; delivered = took.delivered; after = record (course_of old histories) { provider = answered.provider; histories = took.histories } } in record {
           turns = turn ∷ [];
           after = took.histories;
-          are_turns = (refl, took.is, answers.loses_none, refl);
-          replied_to = ap (λ (s : SessionState P S G). (record { exported = drop s.shown (session_batches calls.keeps new); answer = answer }) ∷ []) rest;
-          describes = took.describes;
+          are_turns = (refl, took.is, answers.loses_none, (course_of new took.histories, record { takes = took_shown.takes; histories = refl }, refl));
+          replied_to = refl;
+          describes = subst (λ (spans : NamedSpans). Describe took.histories spans) (sym (ap (λ (s : SessionState P S G). s.spans) took_shown.rest)) took.describes;
         };
   }
 
@@ -82,15 +85,14 @@ module _ {P S G : Type 0} (calls : Calls P S G) where
   ran_all old new commands left replies none ran =
       subst (λ (l : List Command). Runs calls old l replies new) (sym (ran.parts ∙ ap (λ (l : List Command). ran.done ++ l) none ∙ append-nil ran.done)) ran.ran
 
-  -- one more, with its reply, which marks what it shows
+  -- one more, with its reply, which takes what it shows
   pub ran_more : (old middle answered new : SessionState P S G) (commands queue left : List Command) (replies : List PlainReply) (command : Command) (answer : Answer)
-      → queue ≡ command ∷ left → Ran old commands queue replies middle → Answers calls middle command answer answered → answered ≡ record middle { provider = answered.provider; spans = answered.spans } → new ≡ marked answered
-      → Ran old commands left (replies ++ record { exported = unshown calls.keeps answered; answer = answer } ∷ []) new
-  ran_more old middle answered new commands queue left replies command answer popped ran answers rest e = record {
+      → queue ≡ command ∷ left → Ran old commands queue replies middle → Answers calls middle command answer answered → answered ≡ record middle { provider = answered.provider; spans = answered.spans } → TookShown answered new
+      → Ran old commands left (replies ++ record { exported = session_batches calls.keeps answered; answer = answer } ∷ []) new
+  ran_more old middle answered new commands queue left replies command answer popped ran answers rest took = record {
     done = ran.done ++ command ∷ [];
     parts = ran.parts ∙ ap (λ (l : List Command). ran.done ++ l) popped ∙ sym (append_assoc ran.done (command ∷ []) left);
-    ran = subst (λ (s : SessionState P S G). Runs calls old (ran.done ++ command ∷ []) (replies ++ record { exported = unshown calls.keeps answered; answer = answer } ∷ []) s) (sym e)
-        (runs_join old middle (marked answered) ran.done (command ∷ []) replies (record { exported = unshown calls.keeps answered; answer = answer } ∷ []) ran.ran (runs_one middle answered command answer answers rest));
+    ran = runs_join old middle new ran.done (command ∷ []) replies (record { exported = session_batches calls.keeps answered; answer = answer } ∷ []) ran.ran (runs_one middle answered new command answer answers rest took);
   }
 
   -- a command that has no answer has no reply

@@ -24,7 +24,8 @@ use Rattle.otel_trace_session.specs.SpanTurns.{ChildTurn, EndTurn, Start, Starts
 use Rattle.otel_trace_session.specs.ProviderTurns.{AsksProvider, CallGives}
 use Rattle.otel_trace_session.specs.Traces.{ChildrenAgree, KeepsContexts, made_span, with_child, with_children}
 use Rattle.otel_trace_session.specs.Turn.{AsksNobody, Course, Turn}
-use Rattle.otel_trace_session.specs.Turns.{AreTurns, TakesAction, replied, reply_of}
+use Rattle.otel_trace_session.specs.Turns.{AreTurns, Replied, TakesAction, reply_of}
+use Rattle.otel_trace_session.proofs.TakingLemmas.{replied_sampler, replied_shut}
 use Rattle.otel_trace_session.proofs.NamedLemmas.{by_history, is_itself, same_name}
 
 -- the span context of a history
@@ -248,13 +249,17 @@ module _ {P S G : Type 0} (calls : Calls P S G) where
   one_joins scope root is_in last (end_span span moment) turn by_parents is_open before after agree h = agree
   one_joins scope root is_in last (call_provider call) turn by_parents is_open before after agree h = agree
 
+  -- what persists from where a session stands after a reply
+  from_next : (course next new : Course P S G) → Replied calls course next → Persists next.histories new.histories → Persists course.histories new.histories
+  from_next course next new replied h = subst (λ (histories : Histories). Persists histories new.histories) replied.histories h
+
   -- commands one after another
   all_persist : (scope : PlainScope) (old new : Course P S G) (commands : List PlainCommand) (turns : List (Turn P S G)) → AreTurns calls scope old commands turns new → Persists old.histories new.histories
   all_persist scope old new [] [] h = persists_same old.histories new.histories (ap (λ (c : Course P S G). c.histories) h)
   all_persist scope old new [] (turn ∷ turns) h = absurd h
   all_persist scope old new (command ∷ commands) [] h = absurd h
   all_persist scope old new (command ∷ commands) (turn ∷ turns) h = subst (λ (c : Course P S G). Persists c.histories new.histories) h.0
-      (persists_on turn.before.histories turn.after.histories new.histories (one_persists scope (action_of command) turn h.1.is_turn) (all_persist scope (replied calls turn.after) new commands turns h.3))
+      (persists_on turn.before.histories turn.after.histories new.histories (one_persists scope (action_of command) turn h.1.is_turn) (from_next turn.after h.3.0 new h.3.1 (all_persist scope h.3.0 new commands turns h.3.2)))
 
   all_join : (scope : PlainScope) (root : PlainSpanContext) (is_in : List ℕ → Bool) (old new : Course P S G) (commands : List PlainCommand) (turns : List (Turn P S G))
       → GoesByParents calls.sampler old.provider.sampler → old.provider.is_shut ≡ false → EachAgrees root is_in new.histories
@@ -263,10 +268,11 @@ module _ {P S G : Type 0} (calls : Calls P S G) where
   all_join scope root is_in old new [] (turn ∷ turns) by_parents is_open agree h = absurd h
   all_join scope root is_in old new (command ∷ commands) [] by_parents is_open agree h = absurd h
   all_join scope root is_in old new (command ∷ commands) (turn ∷ turns) by_parents is_open agree h = by (is_shutdown (action_of command)) refl
-      (λ next still stays_open joins. all_join scope root next (replied calls turn.after) new commands turns still stays_open joins h.3)
+      (λ next still stays_open joins. all_join scope root next h.3.0 new commands turns (subst (GoesByParents calls.sampler) (sym (replied_sampler calls turn.after h.3.0 h.3.1)) still)
+      (replied_shut calls turn.after h.3.0 h.3.1 ∙ stays_open) joins h.3.2)
     where
       after : Persists turn.after.histories new.histories
-      after = all_persist scope (replied calls turn.after) new commands turns h.3
+      after = from_next turn.after h.3.0 new h.3.1 (all_persist scope h.3.0 new commands turns h.3.2)
 
       goes : GoesByParents calls.sampler turn.before.provider.sampler
       goes = subst (λ (c : Course P S G). GoesByParents calls.sampler c.provider.sampler) (sym h.0) by_parents

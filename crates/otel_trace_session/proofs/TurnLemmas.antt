@@ -116,7 +116,7 @@ module _ {P S G : Type 0} (processor : Ghosts P) where
   end_found p q before old new span moment (begun from edits) answer e describes h = record {
     delivered = end_delivers p.is_shut (data_of from edits moment) h.refused;
     histories = with_history before.histories span (over from.span_context from.limits);
-    is = rw e (record { refused = h.refused; delivered = h.delivers; says = h.says; delivers = refl; provider = h.rest; histories = refl; shown = refl });
+    is = rw e (record { refused = h.refused; delivered = h.delivers; says = h.says; delivers = refl; provider = h.rest; histories = refl });
     describes = describes_put before.histories old new span (over from.span_context from.limits) describes h.put;
   }
 

@@ -1,9 +1,10 @@
 -- What a session calls: its processors, its sampler and its source of ids, by what contracts say of their calls.
-use Rattle.std.specs.Prelude.{ℕ, List, [], slice_get}
+use Rattle.std.specs.Prelude.{ℕ, List, slice_get}
 use Rattle.std.specs.Option.{option_map_or}
 use Rattle.otel_sampling.specs.declared.trace.sampler.ShouldSample as sampling
 use Rattle.otel_sampling.specs.declared.trace.id_generator.GivesIds as drawing
 use Rattle.otel_export.specs.PlainSpanData.{PlainSpanData}
+use Rattle.otel_export.specs.StoredBatches.{StoredBatches, none_stored}
 use Rattle.otel_pipeline.specs.declared.trace.span_processor.SpanProcessor.{Ghosts}
 use Rattle.otel_pipeline.specs.declared.trace.timed.Timed as timing
 use Rattle.otel_pipeline.specs.declared.trace.counts_left_spans.CountsLeftSpans as leaving
@@ -24,10 +25,13 @@ abbrev pub calls_of : {P S G : Type 0} → Ghosts P → timing.Ghosts P → leav
 calls_of processor timer queues keeps sampler ids =
     record { processor = processor; timer = timer; queues = queues; keeps = keeps; sampler = sampler; ids = ids }
 
--- the batches that the first of these processors keeps
-abbrev pub batches_of_first : {P : Type 0} → keeping.Ghosts P → List P → List (List PlainSpanData)
-batches_of_first keeps processors = option_map_or keeps.kept (slice_get processors 0) []
+-- what the first of these processors has stored: the batches that it keeps, those that were taken, and how many it lost
+-- when memory ran out
+abbrev pub stored_of_first : {P : Type 0} → keeping.Ghosts P → List P → StoredBatches
+stored_of_first keeps processors = option_map_or keeps.stored (slice_get processors 0) none_stored
 
--- how many batches the first of these processors lost when memory runs out
+abbrev pub batches_of_first : {P : Type 0} → keeping.Ghosts P → List P → List (List PlainSpanData)
+batches_of_first keeps processors = (stored_of_first keeps processors).batches
+
 abbrev pub losses_of_first : {P : Type 0} → keeping.Ghosts P → List P → ℕ
-losses_of_first keeps processors = option_map_or keeps.lost (slice_get processors 0) 0
+losses_of_first keeps processors = (stored_of_first keeps processors).lost

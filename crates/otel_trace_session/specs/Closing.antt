@@ -9,7 +9,7 @@ use Rattle.otel_trace_lines.specs.ReplyForm.{Form}
 use Rattle.otel_trace_session.specs.Calls.{Calls, losses_of_first}
 use Rattle.otel_trace_session.specs.Fed.{FeedsUpTo, Writes}
 use Rattle.otel_trace_session.specs.ProviderTurns.{ShutsIfOpen}
-use Rattle.otel_trace_session.specs.Shown.{has_lost, unshown}
+use Rattle.otel_trace_session.specs.Shown.{has_lost, session_batches}
 use Rattle.otel_trace_session.specs.Turns.{SessionState}
 use Rattle.otel_trace_session.specs.declared.session.ClosedSession.{ClosedSession}
 
@@ -30,13 +30,13 @@ module _ {P S G : Type 0} (keeps : keeping.Ghosts P) (form : Form) (closed : Ses
   -- lost since the session began
   pub record WritesLast (answer : Result (Unit {0}) OTelSdkError) (now : List ℕ) : Type 0 where
     pub answers : answer ≡ (if has_lost keeps closed then or_no_memory shutdown else shutdown)
-    pub written : now ≡ before ++ form.rest (unshown keeps closed)
+    pub written : now ≡ before ++ form.rest (session_batches keeps closed)
 
   -- there was no memory for their text, so there is some, and nothing is appended
   pub record WritesNone (answer : Result (Unit {0}) OTelSdkError) (now : List ℕ) : Type 0 where
     pub answers : answer ≡ or_no_memory shutdown
     pub written : now ≡ before
-    pub is_some : form.rest (unshown keeps closed) ≢ []
+    pub is_some : form.rest (session_batches keeps closed) ≢ []
 
 module _ {P S G : Type 0} (calls : Calls P S G) (form : Form) where
   -- the provider is shut down where it is open, and the batches that no reply has shown are appended, those exported by

@@ -1,5 +1,5 @@
 -- The laws of the turns that the commands of a session take, over the definitions alone.
-use Rattle.std.specs.Prelude.{◌≡◌, ◌≤◌, ◌+◌, ◌++◌, ℕ, List, Option, None, Result, false, drop, length}
+use Rattle.std.specs.Prelude.{◌≡◌, ◌+◌, ◌++◌, ℕ, List, Option, None, Result, false, length}
 use Rattle.std.specs.Prelude.{option_map}
 use Rattle.std.specs.Io.{IsEmptyOrEndsWith}
 use Rattle.std.specs.Str.Lines.{lines}
@@ -8,16 +8,13 @@ use Rattle.otel_pipeline.specs.Deliveries.{EachFollows, EachOpenHears}
 use Rattle.otel_pipeline.specs.Hops.{GoesByParents}
 use Rattle.otel_trace_lines.specs.Commands.{PlainCommand}
 use Rattle.otel_trace_lines.specs.PlainReply.{PlainReply}
-use Rattle.otel_trace_lines.specs.ReplyForm.{Form}
 use Rattle.otel_trace_lines.specs.declared.command.Command.{Command}
 use Rattle.otel_pipeline.specs.Provider.{ProviderState}
-use Rattle.otel_trace_session.specs.Calls.{Calls, batches_of_first}
-use Rattle.otel_trace_session.specs.Closing.{Closes}
+use Rattle.otel_trace_session.specs.Calls.{Calls, batches_of_first, stored_of_first}
 use Rattle.otel_trace_session.specs.Fed.{FeedsUpTo}
-use Rattle.otel_trace_session.specs.Forgotten.{HasForgotten, RunsWhole}
 use Rattle.otel_trace_session.specs.OpenSpans.{Describe, Histories}
 use Rattle.otel_trace_session.specs.ProviderTurns.{ShutsIfOpen}
-use Rattle.otel_trace_session.specs.Shown.{EmptiedAfter, Shows, exported_in, session_batches}
+use Rattle.otel_trace_session.specs.Shown.{EmptiedAfter, Shows, all_stored, exported_in, session_stored}
 use Rattle.otel_trace_session.specs.Traces.{ChildrenAgree, KeepsContexts}
 use Rattle.otel_trace_session.specs.Turns.{Runs, SessionState, TookTurns, delivered_in}
 
@@ -64,27 +61,15 @@ module _ {P S G : Type 0} (calls : Calls P S G) where
   ClosesShowRest = (old new : SessionState P S G) (closed : ProviderState P S G) (histories : Histories)
       (commands : List PlainCommand) (replies : List PlainReply) (said : Result (Unit {0}) OTelSdkError)
       → TookTurns calls old histories commands replies new → ShutsIfOpen calls.processor new.provider said closed
-      → old.shown ≤ length (session_batches calls.keeps old)
-      → exported_in replies ++ drop new.shown (batches_of_first calls.keeps closed.processors)
-      ≡ drop old.shown (batches_of_first calls.keeps closed.processors)
+      → all_stored (stored_of_first calls.keeps closed.processors)
+      ≡ (session_stored calls.keeps old).taken
+      ++ (exported_in replies ++ batches_of_first calls.keeps closed.processors)
 
   -- after a flush or a shutdown that came last and was answered by Ok no span waits
   abbrev pub FlushesEmpty : Type 0
   FlushesEmpty = (old new : SessionState P S G) (histories : Histories) (commands : List PlainCommand)
       (replies : List PlainReply) → TookTurns calls old histories commands replies new
       → EmptiedAfter calls.processor commands replies new.provider.processors
-
-  -- what a session carries out that has forgotten batches, it carries out, had it forgotten nothing
-  abbrev pub ForgetfulRunsAreWhole : Type 0
-  ForgetfulRunsAreWhole = (whole now after : SessionState P S G) (histories : Histories) (commands : List Command)
-      (replies : List PlainReply) → HasForgotten calls.keeps whole now → Describe histories now.spans
-      → Runs calls now commands replies after → RunsWhole calls whole commands replies after
-
-  -- it closes as it would, had it forgotten nothing, in any form
-  abbrev pub ForgetfulClosesAreWhole : Type 0
-  ForgetfulClosesAreWhole = (form : Form) (whole now : SessionState P S G) (before text : List ℕ)
-      (answer : Result (Unit {0}) OTelSdkError) → HasForgotten calls.keeps whole now
-      → Closes calls form now before answer text → Closes calls form whole before answer text
 
   -- a text, and another that is fed after it, are one text, where the first one ends as a line does
   abbrev pub FeedsJoin : Type 0

@@ -9,7 +9,7 @@ pub mod ProviderTurns
 pub mod Shown
 pub mod SpanTurns
 pub mod Stops
+pub mod Taking
 pub mod Traces
 pub mod Turn
 pub mod Turns
-pub mod Forgotten

@@ -44,7 +44,6 @@ module _ {P S G : Type 0} (calls : Calls P S G) where
     pub says : turn.answer ≡ start_answer (span_of history)
     pub delivers : turn.delivered ≡ []
     pub histories : turn.after.histories ≡ with_history turn.before.histories start.span history
-    pub shown : turn.after.shown ≡ turn.before.shown
 
   -- a start, by the history that its name has: it is given one once
   abbrev pub StartsAfter : Option SpanHistory → Start → Turn P S G → Type 0
@@ -97,7 +96,6 @@ module _ {P S G : Type 0} (processor : Ghosts P) where
     pub provider : turn.after.provider ≡ record turn.before.provider { processors = turn.after.provider.processors }
     pub histories : turn.after.histories
         ≡ with_history turn.before.histories span (over from.span_context from.limits)
-    pub shown : turn.after.shown ≡ turn.before.shown
 
   -- an end, by the history that the name has
   abbrev pub EndTurn : List ℕ → ℕ → Option SpanHistory → Turn P S G → Type 0

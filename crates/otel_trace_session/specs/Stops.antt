@@ -1,7 +1,7 @@
 -- Why the commands of a session were not carried out to their end: one was refused, or has no reply.
 use Rattle.std.specs.Prelude.{◌≡◌, ◌⊎◌, ◌∷◌, ◌++◌, ℕ, List, Option, true}
 use Rattle.opentelemetry.specs.PlainContexts.{root_cx}
-use Rattle.otel_export.specs.KeptBatches.{Grows}
+use Rattle.otel_export.specs.KeptBatches.{OnlyAdds}
 use Rattle.otel_pipeline.specs.Provider.{ProviderState}
 use Rattle.otel_trace_lines.specs.Commands.{is_end, plain_command}
 use Rattle.otel_trace_lines.specs.PlainReply.{PlainReply}
@@ -12,7 +12,7 @@ use Rattle.otel_trace_session.specs.Actions.{PlainAction, PlainOrigin, action_of
 use Rattle.otel_trace_session.specs.Actions.{call_provider}
 use Rattle.otel_trace_session.specs.Calls.{Calls}
 use Rattle.otel_trace_session.specs.OpenSpans.{ChildMayStart, MayStart, NamedSpans, RemoteMayStart, SameSpans, named}
-use Rattle.otel_trace_session.specs.Shown.{session_batches, session_losses}
+use Rattle.otel_trace_session.specs.Shown.{session_losses, session_stored}
 use Rattle.otel_trace_session.specs.Turn.{TurnsFromAny}
 use Rattle.otel_trace_session.specs.Turns.{IsCarriedOut, LosesNone, Runs, SessionState}
 use Rattle.otel_trace_session.specs.declared.session.RunError.{RunError}
@@ -70,18 +70,17 @@ module _ {P S G : Type 0} (calls : Calls P S G) where
   AnswerStops runs.Memory old command new = Refuses old command new
   AnswerStops runs.BatchLost old command new = LosesBatch old command new
 
-  -- why a command has no reply, by the error: it has no answer, or the reply found no memory
+  -- why a command has no reply, by the error: it has no answer, or there was no memory for a reply, and nothing was done
   abbrev pub WhyUntold : RunError → SessionState P S G → Command → SessionState P S G → Type 0
-  WhyUntold runs.Memory old command new =
-      Refuses old command new ⊎ ((answer : Answer) × Answers old command answer new)
+  WhyUntold runs.Memory old command new = Refuses old command new ⊎ (new ≡ old)
   WhyUntold runs.BatchLost old command new = LosesBatch old command new
 
-  -- a command has no reply, and this is why; what it exported is left to show
+  -- a command has no reply, and this is why; what it exported is kept for the next one
   pub record HasNoReply (Why : SessionState P S G → Command → SessionState P S G → Type 0) (old : SessionState P S G)
       (command : Command) (new : SessionState P S G) : Type 0 where
     pub why : Why old command new
     pub rest : new ≡ record old { provider = new.provider; spans = new.spans }
-    pub keeps_batches : Grows (session_batches calls.keeps old) (session_batches calls.keeps new)
+    pub keeps_batches : OnlyAdds (session_stored calls.keeps old) (session_stored calls.keeps new)
 
   -- a beginning of the commands was carried out, each with its reply, and the one after it has none
   pub record RunsBeginning (Why : SessionState P S G → Command → SessionState P S G → Type 0)

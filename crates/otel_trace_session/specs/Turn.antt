@@ -1,16 +1,14 @@
 -- A turn: what one command did. It speaks of each span as its history, a start and the edits since.
-use Rattle.std.specs.Prelude.{◌≡◌, ℕ, List, []}
+use Rattle.std.specs.Prelude.{◌≡◌, List, []}
 use Rattle.otel_pipeline.specs.Deliveries.{Delivery}
 use Rattle.otel_pipeline.specs.Provider.{ProviderState}
 use Rattle.otel_trace_lines.specs.declared.reply.Answer.{Answer}
 use Rattle.otel_trace_session.specs.OpenSpans.{Describe, Histories, NamedSpans}
 
--- where the commands of a session stand: its provider, the history of the span of each name, and how many batches its
--- replies have shown
+-- where the commands of a session stand: its provider, and the history of the span of each name
 pub record Course (P S G : Type 0) : Type 0 where
   pub provider : ProviderState P S G
   pub histories : Histories
-  pub shown : ℕ
 
 -- what one command did: where it found the session, its answer, what was delivered, and where it left the session
 pub record Turn (P S G : Type 0) : Type 0 where

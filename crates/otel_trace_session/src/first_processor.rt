@@ -1,12 +1,12 @@
 //! The first processor of a session's provider: the batches that its exporter keeps are what replies show.
 
-ghost use Rattle.std.specs.Prelude.{◌≡◌, [], drop, map};
-ghost use Rattle.otel_pipeline.specs.RecalledBatches.{FirstRecalled};
+ghost use Rattle.std.specs.Prelude.{◌≡◌, map};
 ghost use Rattle.otel_trace_session.specs.Calls.{batches_of_first, losses_of_first};
+ghost use Rattle.otel_trace_session.specs.Taking.{TakesShown};
 
-use crate::exported::batches_since;
 use otel_export::trace::SpanData;
 use otel_pipeline::trace::{KeepsBatches, ProviderOf};
+use std::alloc::Global;
 
 /// The batches that the first of these processors keeps.
 pub(crate) fn kept_by_first<P: KeepsBatches>(processors: &[P]) -> &[Vec<SpanData>]
@@ -28,23 +28,17 @@ pub(crate) fn lost_by_first<P: KeepsBatches>(processors: &[P]) -> u64
     }
 }
 
-/// The batches that the first of these processors keeps after those that were shown.
-pub(crate) fn unshown_by_first<P: KeepsBatches>(processors: &[P], shown: usize) -> &[Vec<SpanData>]
-    ensures { map (λ batch. batch.items) result.now
-        ≡ drop shown (batches_of_first P.KeepsBatches.own processors.now) }
+/// Hands out the batches that the first processor keeps. All else is as it was.
+pub(crate) fn take_of_first<P: KeepsBatches, S, G>(
+    alloc: Global,
+    provider: &mut ProviderOf<P, S, G>,
+) -> Vec<Vec<SpanData>>
+    ensures taken { map (λ batch. batch.items) result.items
+        ≡ batches_of_first P.KeepsBatches.own provider.old.processors }
+    ensures takes { TakesShown P.SpanProcessor P.CountsLeftSpans.own P.KeepsBatches.own provider.old provider.new }
 {
-    batches_since(kept_by_first(processors), shown)
-}
-
-/// The exporter of the first processor forgets the batches that it keeps. All else is as it was.
-pub(crate) fn forget_first<P: KeepsBatches, S, G>(provider: &mut ProviderOf<P, S, G>)
-    ensures recalled { FirstRecalled P.KeepsBatches.own.recalled
-        (batches_of_first P.KeepsBatches.own provider.old.processors)
-        provider.new.processors provider.old.processors }
-    ensures none { batches_of_first P.KeepsBatches.own provider.new.processors ≡ [] }
-    ensures rest { provider.new ≡ record provider.old { processors = provider.new.processors } }
-{
-    if let Some(first) = provider.first_processor_mut() {
-        first.forget_batches();
+    match provider.first_processor_mut() {
+        Some(first) => first.take_batches(alloc),
+        None => Vec::new(alloc),
     }
 }

@@ -7,8 +7,6 @@ ghost use Rattle.otel_trace_session.specs.Laws.{
   ContextsAreKept,
   FeedsJoin,
   FlushesEmpty,
-  ForgetfulClosesAreWhole,
-  ForgetfulRunsAreWhole,
   RepliesShowAll,
   RunsAreFollowed,
   RunsAreHeard,
@@ -61,15 +59,6 @@ pub fn closes_show_the_rest<P: KeepsBatches, S: ShouldSample, G: GivesIds>()
 /// After a flush or a shutdown that came last and was answered by Ok no span waits.
 pub fn flushed_runs_leave_none_waiting<P: KeepsBatches, S: ShouldSample, G: GivesIds>()
     ensures { FlushesEmpty
-        (calls_of P.SpanProcessor P.Timed.own P.CountsLeftSpans.own P.KeepsBatches.own S.ShouldSample G.GivesIds) }
-{}
-
-/// A session that has forgotten what its replies have shown carries commands out as it would, had it forgotten nothing:
-/// with the same replies; and it closes so.
-pub fn forgetting_changes_nothing<P: KeepsBatches, S: ShouldSample, G: GivesIds>()
-    ensures runs { ForgetfulRunsAreWhole
-        (calls_of P.SpanProcessor P.Timed.own P.CountsLeftSpans.own P.KeepsBatches.own S.ShouldSample G.GivesIds) }
-    ensures closes { ForgetfulClosesAreWhole
         (calls_of P.SpanProcessor P.Timed.own P.CountsLeftSpans.own P.KeepsBatches.own S.ShouldSample G.GivesIds) }
 {}
 

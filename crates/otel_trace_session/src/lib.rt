@@ -4,7 +4,6 @@
 mod actions;
 mod carry_out;
 mod closing;
-mod exported;
 mod first_processor;
 mod headers;
 pub mod laws;

@@ -4,21 +4,20 @@
 ghost use Rattle.std.specs.Prelude.{◌≡◌, ◌++◌, ◌∷◌, [], length, map, IfErr, IfOk};
 ghost use Rattle.std.specs.Prelude.{◌↔◌, IsTrue, OnOk, OnErr};
 ghost use Rattle.opentelemetry.specs.PlainContexts.{root_cx};
-ghost use Rattle.otel_export.specs.KeptBatches.{Grows};
+ghost use Rattle.otel_export.specs.KeptBatches.{OnlyAdds};
 ghost use Rattle.otel_trace_lines.specs.ReplyForm.{reply_lines};
 ghost use Rattle.otel_trace_session.specs.Calls.{calls_of};
 ghost use Rattle.otel_trace_session.specs.Closing.{Closes, ClosesAs, LostNothing};
-ghost use Rattle.otel_trace_session.specs.Forgotten.{HasForgotten};
 ghost use Rattle.otel_trace_session.specs.Fed.{FeedStops, Feeds, Writes};
 ghost use Rattle.otel_trace_session.specs.OpenSpans.{Describe, Histories};
-ghost use Rattle.otel_trace_session.specs.Shown.{session_batches, session_losses, unshown};
+ghost use Rattle.otel_trace_session.specs.Shown.{session_batches, session_losses, session_stored};
 ghost use Rattle.otel_trace_session.specs.Stops.{AnswerStops, Answers, Gains, RunStops};
-ghost use Rattle.otel_trace_session.specs.Turns.{Runs, session_under};
+ghost use Rattle.otel_trace_session.specs.Taking.{TakesShown};
+ghost use Rattle.otel_trace_session.specs.Turns.{BeginsUnder, Runs};
 
 use crate::carry_out::carry_out;
 use crate::closing::{close_answer, shut_down};
-use crate::exported::copied_batches;
-use crate::first_processor::{forget_first, kept_by_first, lost_by_first, unshown_by_first};
+use crate::first_processor::{kept_by_first, lost_by_first, take_of_first};
 use crate::open_spans::{OpenSpans, tracer_of};
 use opentelemetry::Context;
 use otel_export::error::OTelSdkResult;
@@ -123,7 +122,6 @@ pub struct Session<P, S, G> {
     // Where a root span starts.
     root: Context,
     spans: OpenSpans,
-    shown: usize,
     // How many batches of the first processor had found no memory when the session began.
     lost_before: u64,
     alloc: Global,
@@ -132,6 +130,7 @@ pub struct Session<P, S, G> {
 impl<P, S, G> Model for Session<P, S, G> {
     ghost use Rattle.std.specs.Prelude.{◌≡◌};
     ghost use Rattle.opentelemetry.specs.PlainContexts.{root_cx};
+    ghost use Rattle.otel_trace_session.specs.Taking.{TakesShown};
     ghost use Rattle.otel_trace_session.specs.Turns.{SessionState};
 
     ghost Value = { SessionState P S G };
@@ -140,7 +139,6 @@ impl<P, S, G> Model for Session<P, S, G> {
       provider = a.provider;
       scope = a.tracer;
       spans = a.spans;
-      shown = a.shown;
       lost_before = a.lost_before;
     } };
 
@@ -148,27 +146,28 @@ impl<P, S, G> Model for Session<P, S, G> {
 }
 
 impl<P: KeepsBatches, S: ShouldSample, G: GivesIds> Session<P, S, G> {
-    /// A session with no spans. It shows no batch that is kept already, and counts none that was lost already. Where
-    /// there is no memory for its scope, the provider comes back.
+    /// A session with no spans. It takes the batches that are kept already, so that no reply shows them, and counts none
+    /// that was lost already. Where there is no memory for its scope, the provider comes back.
     pub fn new(
         alloc: Global,
-        provider: ProviderOf<P, S, G>,
+        mut provider: ProviderOf<P, S, G>,
     ) -> Result<Session<P, S, G>, AllocFailed<ProviderOf<P, S, G>>>
-        ensures ok { IfOk result (λ session. session ≡ session_under P.KeepsBatches.own provider) }
+        ensures ok { IfOk result (λ session. BeginsUnder
+            (calls_of P.SpanProcessor P.Timed.own P.CountsLeftSpans.own P.KeepsBatches.own S.ShouldSample G.GivesIds)
+            provider session) }
         ensures err { IfErr result (λ failed. failed.value ≡ provider) }
     {
         let tracer = match tracer_of(alloc, &provider) {
             Ok(tracer) => tracer,
             Err(_) => return Err(AllocFailed { value: provider }),
         };
-        let shown = kept_by_first(provider.processors()).len();
         let lost_before = lost_by_first(provider.processors());
+        let _ = take_of_first(alloc, &mut provider);
         Ok(Session {
             provider,
             tracer,
             root: Context::new(),
             spans: OpenSpans::new(alloc),
-            shown,
             lost_before,
             alloc,
         })
@@ -181,9 +180,10 @@ impl<P: KeepsBatches, S: ShouldSample, G: GivesIds> Session<P, S, G> {
         self.spans.have_histories();
     }
 
-    /// Carries commands out in order and appends a reply for each. On an error a beginning of the commands was carried
-    /// out, each with its reply; the one after it has none, and the error says why. A processor that refused a span is
-    /// counted in the reply.
+    /// Carries commands out in order and appends a reply for each, which takes the batches that it shows. On an error a
+    /// beginning of the commands was carried out, each with its reply; the one after it has none, and the error says
+    /// why. Where there is no memory for its reply, it was not carried out. A processor that refused a span is counted
+    /// in the reply.
     pub fn run(&mut self, commands: Vec<Command>, replies: &mut Vec<Reply>) -> Result<(), RunError>
         ensures ok { OnOk result (Gains replies.old.items replies.new.items (λ added. Runs
             (calls_of P.SpanProcessor P.Timed.own P.CountsLeftSpans.own P.KeepsBatches.own S.ShouldSample G.GivesIds)
@@ -194,21 +194,11 @@ impl<P: KeepsBatches, S: ShouldSample, G: GivesIds> Session<P, S, G> {
     {
         let mut queue = VecDeque::from_vec(commands);
         while let Some(command) = queue.pop_front() {
+            replies.reserve(1)?;
             let answer = self.answer(command)?;
-            self.push_reply(answer, replies)?;
-            self.mark_shown();
+            let exported = self.take_shown();
+            replies.push_reserved(Reply { exported, answer });
         }
-        Ok(())
-    }
-
-    /// Appends the reply of an answer, with copies of the batches that no reply has shown, or nothing.
-    fn push_reply(&self, answer: Answer, replies: &mut Vec<Reply>) -> Result<(), AllocError>
-        ensures ok { OnOk result (replies.new.items ≡ replies.old.items
-            ++ (record { exported = unshown P.KeepsBatches.own self.now; answer = answer }) ∷ []) }
-        ensures err { OnErr result (replies.new.items ≡ replies.old.items) }
-    {
-        let exported = copied_batches(self.alloc, self.unshown())?;
-        replies.push(Reply { exported, answer })?;
         Ok(())
     }
 
@@ -269,15 +259,13 @@ impl<P: KeepsBatches, S: ShouldSample, G: GivesIds> Session<P, S, G> {
             tracer: _,
             root: _,
             spans,
-            shown,
             lost_before,
             alloc: _,
         } = self;
         spans.abandon();
         let shutdown = shut_down(&mut provider);
         let has_lost = lost_by_first(provider.processors()) != lost_before;
-        let unshown = unshown_by_first(provider.processors(), shown);
-        let written = form.write_rest(output, unshown);
+        let written = form.write_rest(output, kept_by_first(provider.processors()));
         let dropped = provider.dropped_count();
         ClosedSession {
             answer: close_answer(shutdown, has_lost, written),
@@ -310,12 +298,12 @@ impl<P: KeepsBatches, S: ShouldSample, G: GivesIds> Session<P, S, G> {
                 return Err(FeedError::Refused);
             }
             self.write_answer(form, answer, output)?;
-            self.mark_shown();
+            let _ = self.take_shown();
         }
         Ok(())
     }
 
-    /// Writes the reply of an answer, with the batches that no reply has shown, or nothing.
+    /// Writes the reply of an answer, with the batches that are kept, or nothing.
     fn write_answer<F: ReplyForm>(
         &self,
         form: &mut F,
@@ -323,11 +311,11 @@ impl<P: KeepsBatches, S: ShouldSample, G: GivesIds> Session<P, S, G> {
         output: &mut Vec<u8>,
     ) -> Result<(), AllocError>
         ensures ok { OnOk result (output.new.items ≡ output.old.items ++ (F.form form.old).reply
-            (record { exported = unshown P.KeepsBatches.own self.now; answer = answer })) }
+            (record { exported = session_batches P.KeepsBatches.own self.now; answer = answer })) }
         ensures err { OnErr result (output.new.items ≡ output.old.items) }
         ensures form { F.form form.new ≡ F.form form.old }
     {
-        form.write_reply(output, self.unshown(), answer)
+        form.write_reply(output, kept_by_first(self.provider.processors()), answer)
     }
 
     /// Carries one command out. Where the first processor's exporter lost the batch of a span that it ended, it was
@@ -340,8 +328,8 @@ impl<P: KeepsBatches, S: ShouldSample, G: GivesIds> Session<P, S, G> {
             (calls_of P.SpanProcessor P.Timed.own P.CountsLeftSpans.own P.KeepsBatches.own S.ShouldSample G.GivesIds)
             error self.old command self.new) }
         ensures rest { self.new ≡ record self.old { provider = self.new.provider; spans = self.new.spans } }
-        ensures keeps { Grows (session_batches P.KeepsBatches.own self.old)
-            (session_batches P.KeepsBatches.own self.new) }
+        ensures keeps { OnlyAdds (session_stored P.KeepsBatches.own self.old)
+            (session_stored P.KeepsBatches.own self.new) }
     {
         self.spans.have_histories();
         let ends_span = command.ends_span();
@@ -360,13 +348,6 @@ impl<P: KeepsBatches, S: ShouldSample, G: GivesIds> Session<P, S, G> {
         Ok(answer)
     }
 
-    /// The batches that the first processor's exporter keeps and no reply has shown.
-    fn unshown(&self) -> &[Vec<SpanData>]
-        ensures { map (λ batch. batch.items) result.now ≡ unshown P.KeepsBatches.own self.now }
-    {
-        unshown_by_first(self.provider.processors(), self.shown)
-    }
-
     /// How many batches of the first processor found no memory.
     pub fn lost_batches(&self) -> u64
         ensures { result ≡ session_losses P.KeepsBatches.own self.now }
@@ -374,23 +355,13 @@ impl<P: KeepsBatches, S: ShouldSample, G: GivesIds> Session<P, S, G> {
         lost_by_first(self.provider.processors())
     }
 
-    /// Forgets what replies have shown: where they have shown every batch that the first processor's exporter keeps,
-    /// that gives all of them up; else nothing happens. No later reply, answer or delivery is another for it.
-    pub fn forget_shown(&mut self)
-        ensures forgets { HasForgotten P.KeepsBatches.own self.old self.new }
-        ensures frees { self.old.shown ≡ length (session_batches P.KeepsBatches.own self.old)
-            → session_batches P.KeepsBatches.own self.new ≡ [] }
+    /// Takes the batches that the first processor's exporter keeps: a reply shows them.
+    fn take_shown(&mut self) -> Vec<Vec<SpanData>>
+        ensures taken { map (λ batch. batch.items) result.items ≡ session_batches P.KeepsBatches.own self.old }
+        ensures takes { TakesShown P.SpanProcessor P.CountsLeftSpans.own P.KeepsBatches.own
+            self.old.provider self.new.provider }
+        ensures rest { self.new ≡ record self.old { provider = self.new.provider } }
     {
-        if self.shown == kept_by_first(self.provider.processors()).len() {
-            forget_first(&mut self.provider);
-            self.shown = 0;
-        }
-    }
-
-    /// A reply has shown what the first processor exported so far.
-    fn mark_shown(&mut self)
-        ensures { self.new ≡ record self.old { shown = length (session_batches P.KeepsBatches.own self.old) } }
-    {
-        self.shown = kept_by_first(self.provider.processors()).len();
+        take_of_first(self.alloc, &mut self.provider)
     }
 }

@@ -2,7 +2,7 @@
 use Rattle.std.specs.Prelude.{◌≡◌, ◌⊎◌, ℕ, ◌+◌, List, [], ◌∷◌, ◌++◌, Option, Some, None, Ok}
 use Rattle.std.specs.Str.Lines.{lines}
 use Rattle.otel_batch.specs.PlainBatchConfig.{PlainBatchConfig, default_batch_config, cut_to_queue}
-use Rattle.otel_export.specs.StoredBatches.{StoredBatches, StoresBatch, told_unless_lost}
+use Rattle.otel_export.specs.StoredBatches.{StoredBatches, StoresBatch, none_stored, stored_told}
 use Rattle.otel_batch.specs.MachineState.{Machine, first_machine}
 use Rattle.otel_batch.specs.MachineRun.{IsStep}
 use Rattle.otel_batch.specs.declared.machine.step.Outcome.{Outcome}
@@ -19,12 +19,12 @@ abbrev pub machine_of : Sizes → Machine StoredBatches
 machine_of sizes =
     let config : PlainBatchConfig =
     record default_batch_config { max_queue_size = sizes.queue; max_export_batch_size = sizes.batch } in
-    first_machine (record { batches = []; lost = 0 }) (cut_to_queue config) sizes.producers
+    first_machine none_stored (cut_to_queue config) sizes.producers
 
 -- what an exporter in memory does at each call: an export stores its batch, and the others do nothing
 abbrev pub memory_calls : Ghosts StoredBatches
 memory_calls = record {
-  told = λ m. told_unless_lost m.lost m.batches;
+  told = stored_told;
   export_gives = StoresBatch;
   shutdown_gives = λ m _ answer after. (answer ≡ Ok tt) × (after ≡ m);
   flush_gives = λ m answer after. (answer ≡ Ok tt) × (after ≡ m);

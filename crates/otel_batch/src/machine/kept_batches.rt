@@ -1,17 +1,20 @@
-//! The batches that the exporter of a batch queue keeps, which a caller may forget once they were shown.
+//! The batches that the exporter of a batch queue keeps, which a caller may take.
 
-ghost use Rattle.std.specs.Prelude.{◌≡◌, []};
+ghost use Rattle.std.specs.Prelude.{◌≡◌, map};
+ghost use Rattle.otel_export.specs.StoredBatches.{all_taken};
 
 use crate::machine::BatchMachine;
-use otel_export::trace::StoresBatches;
+use otel_export::trace::{SpanData, StoresBatches};
 
 impl<E: StoresBatches> BatchMachine<E> {
-    /// Forgets the batches that the exporter keeps. All else is as it was.
-    pub fn forget_batches(&mut self)
+    /// Hands out the batches that the exporter keeps. All else is as it was.
+    pub fn take_batches(&mut self) -> Vec<Vec<SpanData>>
+        ensures taken { map (λ batch. batch.items) result.items ≡ (E.stored self.old.exporter).batches }
         ensures rest { self.new ≡ record self.old { exporter = self.new.exporter } }
-        ensures recalled { E.recalled (E.kept self.old.exporter) self.new.exporter self.old.exporter }
-        ensures none { E.kept self.new.exporter ≡ [] }
+        ensures stored { E.stored self.new.exporter ≡ all_taken (E.stored self.old.exporter) }
+        ensures told { E.SpanExporter.told self.new.exporter ≡ E.SpanExporter.told self.old.exporter }
+        ensures gives { E.take_gives self.old.exporter self.new.exporter }
     {
-        self.exporter.forget_batches();
+        self.exporter.take_batches(self.alloc)
     }
 }

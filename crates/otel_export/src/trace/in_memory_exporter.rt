@@ -2,19 +2,25 @@
 
 ghost use Rattle.std.specs.Prelude.{◌≡◌, [], Some, map};
 ghost use Rattle.std.specs.Option.{option_map};
+ghost use Rattle.otel_export.specs.StoredBatches.{all_taken, none_stored};
 
 use crate::error::{OTelSdkError, OTelSdkResult};
+use crate::history::History;
 use crate::trace::{SpanData, SpanExporter};
 use otel_resource::resource::Resource;
 use std::alloc::Global;
 use std::marker::Model;
+use std::mem;
 use std::time::Duration;
 
-/// Keeps each batch that it was handed, in order. It tells them until one found no memory.
+/// Keeps each batch that it was handed, in order, until it is taken. It tells those that were taken too, until one found
+/// no memory.
 #[derive(Debug, Drop)]
 pub struct InMemorySpanExporter {
     batches: Vec<Vec<SpanData>>,
+    taken: History<Vec<SpanData>>,
     lost_batches: u64,
+    alloc: Global,
 }
 
 impl Model for InMemorySpanExporter {
@@ -23,33 +29,49 @@ impl Model for InMemorySpanExporter {
 
     ghost Value = { StoredBatches };
 
-    ghost view = { λ a. record { batches = map (λ batch. batch.items) a.batches.items; lost = a.lost_batches } };
+    ghost view = { λ a. record {
+      taken = map (λ batch. batch.items) a.taken.items;
+      batches = map (λ batch. batch.items) a.batches.items;
+      lost = a.lost_batches;
+    } };
 }
 
 impl InMemorySpanExporter {
     pub fn new(alloc: Global) -> InMemorySpanExporter
-        ensures kept { result ≡ record { batches = []; lost = 0 } }
+        ensures kept { result ≡ none_stored }
         ensures told { ⟦<InMemorySpanExporter as SpanExporter>⟧.told result ≡ Some [] }
     {
         InMemorySpanExporter {
             batches: Vec::new(alloc),
+            taken: History::new(),
             lost_batches: 0,
+            alloc,
         }
     }
 
-    /// The batches, the oldest first.
+    /// The batches that were not taken, the oldest first.
     pub fn batches(&self) -> &[Vec<SpanData>]
         ensures { map (λ batch. batch.items) result.now ≡ self.now.batches }
     {
         &self.batches
     }
 
+    /// Hands these batches out. It goes on telling them.
+    pub fn take_batches(&mut self) -> Vec<Vec<SpanData>>
+        ensures taken { map (λ batch. batch.items) result.items ≡ self.old.batches }
+        ensures rest { self.new ≡ all_taken self.old }
+    {
+        self.taken.extend(&self.batches);
+        mem::replace(&mut self.batches, Vec::new(self.alloc))
+    }
+
     /// Forgets the batches. What it tells begins anew, unless the telling has ended.
     pub fn reset(&mut self)
-        ensures kept { self.new ≡ record self.old { batches = [] } }
+        ensures kept { self.new ≡ record self.old { taken = []; batches = [] } }
         ensures told { ⟦<InMemorySpanExporter as SpanExporter>⟧.told self.new
             ≡ option_map (λ _. []) (⟦<InMemorySpanExporter as SpanExporter>⟧.told self.old) }
     {
+        self.taken = History::new();
         self.batches.clear();
     }
 
@@ -64,9 +86,9 @@ impl InMemorySpanExporter {
 
 impl SpanExporter for InMemorySpanExporter {
     ghost use Rattle.std.specs.Prelude.{◌≡◌, Ok};
-    ghost use Rattle.otel_export.specs.StoredBatches.{StoresBatch, told_unless_lost};
+    ghost use Rattle.otel_export.specs.StoredBatches.{StoresBatch, stored_told};
 
-    ghost told = { λ m. told_unless_lost m.lost m.batches };
+    ghost told = { stored_told };
 
     ghost export_gives = { StoresBatch };
 

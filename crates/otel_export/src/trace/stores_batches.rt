@@ -1,76 +1,51 @@
-//! The batches that an exporter keeps, which a caller can read again.
+//! The batches that an exporter keeps, which a caller can read and take.
 
-ghost use Rattle.std.specs.Prelude.{◌≡◌, ℕ, List, [], map};
+ghost use Rattle.std.specs.Prelude.{◌≡◌, map};
 ghost use Rattle.otel_export.specs.KeptBatches.{ExporterAppends};
-ghost use Rattle.otel_export.specs.PlainSpanData.{PlainSpanData};
-ghost use Rattle.otel_export.specs.RecalledBatches.{ExporterRecalls};
+ghost use Rattle.otel_export.specs.StoredBatches.{StoredBatches, all_taken};
 
 use crate::trace::{ExporterOf, InMemorySpanExporter, SpanData, SpanExporter};
+use std::alloc::Global;
 
-/// An exporter that may keep its batches. None of its calls takes back a batch.
+/// An exporter that may keep its batches until they are taken. None of its calls takes back a batch.
 pub trait StoresBatches: SpanExporter {
-    /// The batches that are kept; none where it keeps none.
-    ghost kept: { Self → List (List PlainSpanData) };
+    /// The batches that are kept, those that were taken, and how many were lost; none of each where it keeps none.
+    ghost stored: { Self → StoredBatches };
 
+    /// The batches that are kept, the oldest first.
     fn batches(&self) -> &[Vec<SpanData>]
-        ensures { map (λ batch. batch.items) result.now ≡ kept self.now };
+        ensures { map (λ batch. batch.items) result.now ≡ (stored self.now).batches };
 
     /// How many batches were handed to it and found no memory.
-    ghost lost: { Self → ℕ };
-
     fn lost_batches(&self) -> u64
-        ensures { result ≡ lost self.now };
+        ensures { result ≡ (stored self.now).lost };
 
-    /// The second is the first with these batches in front of those that it keeps, and nothing else is another.
-    ghost recalled: { List (List PlainSpanData) → Self → Self → Type 0 };
+    /// What a taking does beside that.
+    ghost take_gives: { Self → Self → Type 0 } = { λ _ _. Unit {0} };
 
-    /// Forgets the batches that are kept.
-    fn forget_batches(&mut self)
-        ensures recalled { recalled (kept self.old) self.new self.old }
-        ensures none { kept self.new ≡ [] };
+    /// Hands out the batches that are kept. It goes on telling them.
+    fn take_batches(&mut self, alloc: Global) -> Vec<Vec<SpanData>>
+        ensures taken { map (λ batch. batch.items) result.items ≡ (stored self.old).batches }
+        ensures stored { stored self.new ≡ all_taken (stored self.old) }
+        ensures told { Self.SpanExporter.told self.new ≡ Self.SpanExporter.told self.old }
+        ensures gives { take_gives self.old self.new };
 
-    ghost appends: { ExporterAppends Self.SpanExporter kept };
-
-    /// To forget batches changes nothing that a later call does, but for what is kept and told.
-    ghost recalls: { ExporterRecalls Self.SpanExporter kept lost recalled };
+    ghost appends: { ExporterAppends Self.SpanExporter stored };
 }
 
 impl<C: SpanExporter> StoresBatches for ExporterOf<InMemorySpanExporter, C> {
-    ghost use Rattle.std.specs.Prelude.{refl};
-    ghost use Rattle.otel_export.specs.KeptBatches.{exporter_appends, exporter_keeps, exporter_loses};
-    ghost use Rattle.otel_export.specs.KeptBatches.{exporter_passes, exporter_shuts};
-    ghost use Rattle.otel_export.specs.RecalledBatches.{exporter_recalled, exporter_recalls, memory_exports};
-    ghost use Rattle.otel_export.specs.RecalledBatches.{memory_stays, stored_after};
-    ghost use Rattle.otel_export.specs.RecalledKinds.{more_recalled, none_recalled, recalled_keeps, recalled_loses};
-    ghost use Rattle.otel_export.specs.RecalledKinds.{recalled_once, recalled_tells};
+    ghost use Rattle.otel_export.specs.ExporterKinds.{ExporterGives};
+    ghost use Rattle.otel_export.specs.KeptBatches.{adds_none, either_adds, exporter_stored, memory_adds};
+    ghost use Rattle.otel_export.specs.StoredBatches.{all_taken};
 
-    ghost kept = { exporter_keeps };
+    ghost stored = { exporter_stored };
 
-    ghost lost = { exporter_loses };
-
-    ghost recalled = { exporter_recalled };
+    ghost take_gives = { ExporterGives (λ m n. n ≡ all_taken m) (λ c d. d ≡ c) };
 
     ghost appends = { record {
-      exports = exporter_appends C.export_gives;
-      shuts = λ old timeout answer new given.
-          exporter_shuts (λ c r d. C.shutdown_gives c timeout r d) old answer new given;
-      passes = λ old resource new given.
-          exporter_passes (λ c d. C.resource_gives c resource d) old new given;
-    } };
-
-    ghost recalls = { record {
-      exports = λ bs batch answer. exporter_recalls bs _ _
-          (λ m r n after stored. memory_exports bs batch answer m r n after stored);
-      shuts = λ bs timeout answer. exporter_recalls bs _ _
-          (λ m r n after h. (r, memory_stays bs m r n after h.1, (h.0, refl)));
-      passes = λ bs resource. exporter_recalls bs _ _
-          (λ m r n after h. (r, memory_stays bs m r n after h, refl));
-      told = λ bs e r h. recalled_tells C.told bs e r h;
-      kept = λ bs e r h. recalled_keeps bs e r h;
-      lost = λ bs e r h. recalled_loses bs e r h;
-      once = λ bs e r s h g. recalled_once bs e r s h g;
-      none = none_recalled;
-      more = λ bs cs e r s h g. more_recalled bs cs e r s h g;
+      exports = λ old batch answer new. either_adds _ _ (memory_adds batch answer) old new;
+      shuts = λ old timeout answer new. either_adds _ _ (λ m n h. adds_none m n h.1) old new;
+      passes = λ old resource new. either_adds _ _ (λ m n h. adds_none m n h) old new;
     } };
 
     fn batches(&self) -> &[Vec<SpanData>] {
@@ -88,10 +63,10 @@ impl<C: SpanExporter> StoresBatches for ExporterOf<InMemorySpanExporter, C> {
     }
 
     /// One of the caller's own keeps none.
-    fn forget_batches(&mut self) {
+    fn take_batches(&mut self, alloc: Global) -> Vec<Vec<SpanData>> {
         match self {
-            ExporterOf::Memory(memory) => memory.reset(),
-            ExporterOf::Custom(_) => {}
+            ExporterOf::Memory(memory) => memory.take_batches(),
+            ExporterOf::Custom(_) => Vec::new(alloc),
         }
     }
 }

@@ -1,42 +1,37 @@
 //! The batches that the exporter of a processor keeps, which the replies of a session show.
 
-ghost use Rattle.std.specs.Prelude.{◌≡◌, ℕ, List, [], map};
-ghost use Rattle.otel_export.specs.PlainSpanData.{PlainSpanData};
-ghost use Rattle.otel_pipeline.specs.ProcessorKeeps.{OnlyAppends};
-ghost use Rattle.otel_pipeline.specs.RecalledBatches.{LeavesAsMany, Recalls};
+ghost use Rattle.std.specs.Prelude.{◌≡◌, map};
+ghost use Rattle.otel_export.specs.StoredBatches.{StoredBatches};
+ghost use Rattle.otel_pipeline.specs.ProcessorKeeps.{OnlyAppends, TakesBatches};
 
 use crate::trace::{CountsLeftSpans, Timed};
 use otel_export::trace::SpanData;
+use std::alloc::Global;
 
-/// A processor whose exporter may keep its batches. At a start, an end, a flush, a shutdown or a drain batches may only
-/// come after those that are kept.
+/// A processor whose exporter may keep its batches until they are taken. At a start, an end, a flush, a shutdown or a
+/// drain batches may only come after those that are kept.
 pub trait KeepsBatches: Timed + CountsLeftSpans {
-    /// The batches that are kept; none where the exporter keeps none.
-    ghost kept: { Self → List (List PlainSpanData) };
+    /// The batches that are kept, those that were taken, and how many were lost; none of each where the exporter keeps
+    /// none.
+    ghost stored: { Self → StoredBatches };
 
+    /// The batches that are kept, the oldest first.
     fn batches(&self) -> &[Vec<SpanData>]
-        ensures { map (λ batch. batch.items) result.now ≡ kept self.now };
+        ensures { map (λ batch. batch.items) result.now ≡ (stored self.now).batches };
 
     /// How many batches were handed to such an exporter and found no memory.
-    ghost lost: { Self → ℕ };
-
     fn lost_batches(&self) -> u64
-        ensures { result ≡ lost self.now };
+        ensures { result ≡ (stored self.now).lost };
 
-    /// The second is the first with these batches in front of those that are kept, and nothing else is another.
-    ghost recalled: { List (List PlainSpanData) → Self → Self → Type 0 };
+    /// What a taking does beside that.
+    ghost take_gives: { Self → Self → Type 0 } = { λ _ _. Unit {0} };
 
-    /// Forgets the batches that are kept.
-    fn forget_batches(&mut self)
-        ensures recalled { recalled (kept self.old) self.new self.old }
-        ensures none { kept self.new ≡ [] };
+    /// Hands out the batches that are kept. Nothing that it tells is another for it.
+    fn take_batches(&mut self, alloc: Global) -> Vec<Vec<SpanData>>
+        ensures taken { map (λ batch. batch.items) result.items ≡ (stored self.old).batches }
+        ensures takes { TakesBatches Self.SpanProcessor Self.CountsLeftSpans.own stored self.old self.new }
+        ensures gives { take_gives self.old self.new };
 
-    /// None of these calls takes back a batch, and a start of a span loses none.
-    ghost appends: { OnlyAppends Self.SpanProcessor Self.Timed.own kept lost };
-
-    /// To forget batches changes nothing that a later call does, but for what is kept and heard.
-    ghost recalls: { Recalls Self.SpanProcessor Self.Timed.own kept lost recalled };
-
-    /// Nor how many spans it leaves and dropped.
-    ghost leaves: { LeavesAsMany Self.CountsLeftSpans.own recalled };
+    /// None of its calls takes back a batch, and a start of a span loses none.
+    ghost appends: { OnlyAppends Self.SpanProcessor Self.Timed.own stored };
 }

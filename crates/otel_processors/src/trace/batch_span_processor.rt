@@ -207,17 +207,20 @@ impl<E: SpanExporter> BatchSpanProcessor<E> {
 }
 
 impl<E: StoresBatches> BatchSpanProcessor<E> {
-    ghost use Rattle.std.specs.Prelude.{[]};
-    ghost use Rattle.otel_processors.specs.RecalledByBatch.{batch_before};
+    ghost use Rattle.std.specs.Prelude.{map};
+    ghost use Rattle.otel_export.specs.StoredBatches.{all_taken};
 
-    /// Forgets the batches that the exporter keeps. All else is as it was.
-    pub fn forget_batches(&mut self)
-        ensures rest { self.new ≡ batch_before self.old self.new.machine.exporter }
-        ensures recalled { E.recalled (E.kept self.old.machine.exporter) self.new.machine.exporter
-            self.old.machine.exporter }
-        ensures none { E.kept self.new.machine.exporter ≡ [] }
+    /// Hands out the batches that the exporter keeps. All else is as it was.
+    pub fn take_batches(&mut self) -> Vec<Vec<SpanData>>
+        ensures taken { map (λ batch. batch.items) result.items ≡ (E.stored self.old.machine.exporter).batches }
+        ensures rest { self.new ≡ record self.old {
+          machine = record self.old.machine { exporter = self.new.machine.exporter };
+        } }
+        ensures stored { E.stored self.new.machine.exporter ≡ all_taken (E.stored self.old.machine.exporter) }
+        ensures told { E.SpanExporter.told self.new.machine.exporter ≡ E.SpanExporter.told self.old.machine.exporter }
+        ensures gives { E.take_gives self.old.machine.exporter self.new.machine.exporter }
     {
-        self.machine.forget_batches();
+        self.machine.take_batches()
     }
 }
 

@@ -167,68 +167,31 @@ impl<E: SpanExporter, C: SpanProcessor> CountsLeftSpans for ProcessorOf<E, C> {
 impl<E: StoresBatches, C: SpanProcessor> KeepsBatches for ProcessorOf<E, C> {
     ghost use Rattle.otel_pipeline.specs.ProcessorKeeps.{simple_appends, simple_rests, simple_stays};
     ghost use Rattle.otel_processors.specs.KeptByBatch.{batch_stays, due_appends, ends_appends, requests_appends};
-    ghost use Rattle.otel_processors.specs.KeptByKinds.{processor_appends, processor_keeps, processor_loses};
-    ghost use Rattle.otel_processors.specs.KeptByKinds.{processor_stays};
-    ghost use Rattle.otel_pipeline.specs.RecalledBySimple.{simple_ends_over, simple_same, simple_shuts_over};
-    ghost use Rattle.otel_processors.specs.RecalledCalls.{asks_over, batch_same};
-    ghost use Rattle.otel_processors.specs.RecalledDue.{due_over};
-    ghost use Rattle.otel_processors.specs.RecalledEnds.{ends_over};
-    ghost use Rattle.otel_processors.specs.RecalledByKinds.{processor_leaves, processor_once, processor_recalled};
-    ghost use Rattle.otel_processors.specs.RecalledByKinds.{processor_recalls};
-    ghost use Rattle.otel_processors.specs.RecalledLaws.{processor_heard, processor_kept, processor_lost};
-    ghost use Rattle.otel_processors.specs.RecalledLaws.{processor_more, processor_none};
+    ghost use Rattle.otel_processors.specs.KeptByKinds.{processor_appends, processor_stays, processor_stored};
+    ghost use Rattle.otel_processors.specs.ProcessorKinds.{ProcessorTakes};
     ghost use Rattle.otel_batch.specs.declared.machine.state.Request.TheVariants as request;
 
-    ghost kept = { processor_keeps E.kept };
+    ghost stored = { processor_stored E.stored };
 
-    ghost lost = { processor_loses E.lost };
-
-    ghost recalled = { processor_recalled E.recalled };
+    ghost take_gives = { ProcessorTakes E.take_gives };
 
     ghost appends = { record {
-      starts = λ p span cx edited q given. processor_stays E.kept E.lost _ _ _
-          (λ a b h. simple_stays E.kept E.lost a b h)
-          (λ a b h. batch_stays E.SpanExporter E.kept E.appends E.lost a b h) p q given;
-      ends = λ p span answer q given. processor_appends E.kept _ _ _
-          (λ a b h. simple_appends E.kept E.SpanExporter E.appends.exports a span answer b h)
-          (λ a b h. ends_appends E.SpanExporter E.kept E.appends a span answer b h) p q given;
-      flushes = λ p answer q given. processor_appends E.kept _ _ _ (λ a b h. simple_rests E.kept a b h.1)
-          (λ a b h. requests_appends E.SpanExporter E.kept E.appends request.Flush a.machine answer b.machine
-          h.requests) p q given;
-      shuts = λ p timeout answer q given. processor_appends E.kept _ _ _
+      starts = λ p span cx edited q. processor_stays E.stored _ _ _
+          (λ a b h. simple_stays E.stored a b h)
+          (λ a b h. batch_stays E.SpanExporter E.stored E.appends a b h) p q;
+      ends = λ p span answer q. processor_appends E.stored _ _ _
+          (λ a b h. simple_appends E.stored E.SpanExporter E.appends.exports a span answer b h)
+          (λ a b h. ends_appends E.SpanExporter E.stored E.appends a span answer b h) p q;
+      flushes = λ p answer q. processor_appends E.stored _ _ _ (λ a b h. simple_rests E.stored a b h.1)
+          (λ a b h. requests_appends E.SpanExporter E.stored E.appends request.Flush a.machine answer b.machine
+          h.requests) p q;
+      shuts = λ p timeout answer q. processor_appends E.stored _ _ _
           (λ a b h. E.appends.shuts a.exporter timeout answer b.exporter h.gives)
-          (λ a b h. requests_appends E.SpanExporter E.kept E.appends request.Shutdown a.machine answer b.machine
-          h.requests) p q given;
-      runs = λ p now answer q given. processor_appends E.kept _ _ _ (λ a b h. simple_rests E.kept a b h.rest)
-          (λ a b h. due_appends E.SpanExporter E.kept E.appends a now answer b h) p q given;
+          (λ a b h. requests_appends E.SpanExporter E.stored E.appends request.Shutdown a.machine answer b.machine
+          h.requests) p q;
+      runs = λ p now answer q. processor_appends E.stored _ _ _ (λ a b h. simple_rests E.stored a b h.rest)
+          (λ a b h. due_appends E.SpanExporter E.stored E.appends a now answer b h) p q;
     } };
-
-    ghost recalls = { record {
-      starts = λ bs span cx edited. processor_recalls E.recalled bs _ _ _
-          (λ a b e after h. let g = simple_same E.SpanExporter E.recalls bs a b e after h.0 in (g.0, g.1, (g.2, h.1)))
-          (λ a b e after h. let g = batch_same E.SpanExporter E.recalls bs a b e after h.0 in (g.0, g.1, (g.2, h.1)));
-      ends = λ bs span answer. processor_recalls E.recalled bs _ _ _
-          (λ a b e after h. simple_ends_over E.SpanExporter E.recalls bs span answer a b e after h)
-          (λ a b e after h. ends_over E.SpanExporter E.recalls bs span answer a b e after h);
-      flushes = λ bs answer. processor_recalls E.recalled bs _ _ _
-          (λ a b e after h. let g = simple_same E.SpanExporter E.recalls bs a b e after h.1 in (g.0, g.1, (h.0, g.2)))
-          (λ a b e after h. asks_over E.SpanExporter E.recalls bs request.Flush answer a b e after h);
-      shuts = λ bs timeout answer. processor_recalls E.recalled bs _ _ _
-          (λ a b e after h. simple_shuts_over E.SpanExporter E.recalls bs timeout answer a b e after h)
-          (λ a b e after h. asks_over E.SpanExporter E.recalls bs request.Shutdown answer a b e after h);
-      runs = λ bs now answer. processor_recalls E.recalled bs _ _ _
-          (λ a b e after h. let g = simple_same E.SpanExporter E.recalls bs a b e after h.rest in
-          (g.0, g.1, record { ok = h.ok; rest = g.2 }))
-          (λ a b e after h. due_over E.SpanExporter E.recalls bs now answer a b e after h);
-      told = λ bs p r h. processor_heard E.SpanExporter E.recalls C.told bs p r h;
-      kept = λ bs p r h. processor_kept E.SpanExporter E.recalls bs p r h;
-      lost = λ bs p r h. processor_lost E.SpanExporter E.recalls bs p r h;
-      once = λ bs p r s h g. processor_once E.recalled bs (λ e f k. E.recalls.once bs e f k) p r s h g;
-      none = λ p. processor_none E.SpanExporter E.recalls p;
-      more = λ bs cs p r s h g. processor_more E.SpanExporter E.recalls bs cs p r s h g;
-    } };
-
-    ghost leaves = { λ bs p r h. processor_leaves E.recalled bs p r h };
 
     fn batches(&self) -> &[Vec<SpanData>] {
         match self {
@@ -247,11 +210,11 @@ impl<E: StoresBatches, C: SpanProcessor> KeepsBatches for ProcessorOf<E, C> {
     }
 
     /// One of the caller's own keeps none.
-    fn forget_batches(&mut self) {
+    fn take_batches(&mut self, alloc: Global) -> Vec<Vec<SpanData>> {
         match self {
-            ProcessorOf::Simple(simple) => simple.forget_batches(),
-            ProcessorOf::Batch(batch) => batch.forget_batches(),
-            ProcessorOf::Custom(_) => {}
+            ProcessorOf::Simple(simple) => simple.take_batches(),
+            ProcessorOf::Batch(batch) => batch.take_batches(),
+            ProcessorOf::Custom(_) => Vec::new(alloc),
         }
     }
 }

@@ -31,7 +31,7 @@ fn feed_ends<P: KeepsBatches, S: ShouldSample, G: GivesIds>(
     }
 }
 
-/// Starts so many spans at once, ends each by itself, has the session forget what was shown, and feeds a last text.
+/// Starts so many spans at once, ends each by itself, and feeds a last text.
 fn feed_all<P: KeepsBatches, S: ShouldSample, G: GivesIds>(
     rt: &impl Abort,
     alloc: Global,
@@ -42,7 +42,6 @@ fn feed_all<P: KeepsBatches, S: ShouldSample, G: GivesIds>(
     let starts = start_lines(alloc, count).expect(rt, SETUP);
     feed(rt, alloc, session, starts.as_str(), output);
     feed_ends(rt, alloc, session, count, output);
-    session.forget_shown();
     feed(rt, alloc, session, last, output);
 }
 

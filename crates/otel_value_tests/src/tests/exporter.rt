@@ -111,6 +111,26 @@ fn is_reset(alloc: Global) -> Result<bool, AllocError> {
     )
 }
 
+/// How many batches are taken of one that is kept, and then of one more; none where memory ran out.
+fn taken_in_turn(alloc: Global) -> Result<(usize, usize, usize), AllocError> {
+    let mut exporter = Box::new(alloc, InMemorySpanExporter::new(alloc))?;
+    let is_kept = exporter.export(spans_from(alloc, &[7])?).is_ok();
+    let first = exporter.take_batches().len();
+    let is_kept_too = exporter.export(spans_from(alloc, &[8])?).is_ok();
+    let second = exporter.take_batches().len();
+    if is_kept && is_kept_too {
+        Ok((first, second, exporter.batches().len()))
+    } else {
+        Err(AllocError)
+    }
+}
+
+#[test]
+fn each_batch_is_taken_once(rt: HostRuntime) -> Result<(), Fail> {
+    assert_eq!(rt; taken_in_turn(rt.alloc())?, (1, 1, 0));
+    Ok(())
+}
+
 /// A batch is lost where there is no memory for it (`rt try --test --fail-alloc N`).
 #[test]
 fn a_reset_forgets_the_batches_and_not_how_many_were_lost(rt: HostRuntime) -> Result<(), Fail> {

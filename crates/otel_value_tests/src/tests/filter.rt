@@ -45,8 +45,8 @@ fn end<E: StoresBatches>(alloc: Global, exporter: &mut E) -> bool {
     is_flushed && is_shut
 }
 
-/// What is kept of three batches, whether they and the other calls were answered by Ok, and what is left of them once
-/// they are forgotten. Where one was lost there was no memory for it.
+/// What is kept of three batches, whether they and the other calls were answered by Ok, and how many are taken and left
+/// then. Where one was lost there was no memory for it.
 fn kept_of_three<E: StoresBatches>(alloc: Global, exporter: &mut E) -> Result<String, AllocError> {
     let first = export(alloc, exporter, &[4, 9, 5, 3, 7])?;
     let second = export(alloc, exporter, &[1, 2])?;
@@ -56,9 +56,9 @@ fn kept_of_three<E: StoresBatches>(alloc: Global, exporter: &mut E) -> Result<St
         return Err(AllocError);
     }
     let kept = moments_of(alloc, exporter.batches())?;
-    exporter.forget_batches();
+    let taken = exporter.take_batches(alloc).len();
     let left = exporter.batches().len();
-    format!(in alloc; "{kept} {first} {second} {third} {is_ended} {left}")
+    format!(in alloc; "{kept} {first} {second} {third} {is_ended} {taken} {left}")
 }
 
 fn exported(alloc: Global) -> Result<String, AllocError> {
@@ -115,7 +115,7 @@ fn a_flush_of_a_filter_reaches_the_exporter_inside(rt: HostRuntime) -> Result<()
 fn the_spans_that_a_filter_keeps_are_exported_in_order(rt: HostRuntime) -> Result<(), Fail> {
     assert_eq!(rt;
         exported(rt.alloc())?.as_str(),
-        "[9 5 7 ][6 ] true true true true 0"
+        "[9 5 7 ][6 ] true true true true 2 0"
     );
     Ok(())
 }

@@ -6,19 +6,17 @@ use Rattle.opentelemetry.proofs.Clauses.{always_on_err}
 use Rattle.otel_export.specs.Streams.{AppendsBeginning}
 use Rattle.otel_trace_run.proofs.trace_stream.feed_piece.Goals as goal
 
-pub returns-in_err-written-clause-err : goal.returns-in_err-written-clause-err
-returns-in_err-written-clause-err g c =
+pub returns-in_err-write_whole-clause-err : goal.returns-in_err-write_whole-clause-err
+returns-in_err-write_whole-clause-err g c =
     let fed = c.feed_in-fed.ensures.writes in
     let text = c.deref.ensures.value ∙ fed.written ∙ ap (λ (t : List ℕ). t ++ texts (g.F.ReplyForm.form c.args.form.now) fed.replies) c.clear.ensures.items in
     always_on_err c.from_residual.result (
       c.feed_in-fed.result,
       record {
         replies = fed.replies;
-        middle = c.feed_in-fed.new.self;
         feeds = fed.these;
-        forgot = c.forget_shown.ensures.forgets;
         none_refused = fed.none_refused;
-        written = subst (AppendsBeginning _ _) text c.in_err-written.ensures.err;
+        written = subst (AppendsBeginning _ _) text c.in_err-write_whole.ensures.err;
       },
     )
 
@@ -28,9 +26,7 @@ returns-clause-ok g c =
     let text = c.deref.ensures.value ∙ fed.written ∙ ap (λ (t : List ℕ). t ++ texts (g.F.ReplyForm.form c.args.form.now) fed.replies) c.clear.ensures.items in
     record {
       replies = fed.replies;
-      middle = c.feed_in-fed.new.self;
       feeds = fed.these;
-      forgot = c.forget_shown.ensures.forgets;
       none_refused = fed.none_refused;
-      written = subst (Appends _ _) text c.in_ok-written.ensures.ok;
+      written = subst (Appends _ _) text c.in_ok-write_whole.ensures.ok;
     }

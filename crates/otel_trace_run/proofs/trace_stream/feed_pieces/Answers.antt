@@ -30,7 +30,7 @@ loop-init g c =
       refl,
       subst (λ (rest : List ℕ). HasTraced calls form begun begun
           (streams (g.R.Read.remaining c.args.input.now) (g.R.Read.remaining c.args.input.now) (g.W.Write.contents c.args.output.now) (g.W.Write.contents c.args.output.now)) rest 0)
-          (sym empty) (traced_none calls form g.met.P.KeepsBatches.recalls begun c.has_histories.ensures.0 c.has_histories.ensures.1 (g.R.Read.remaining c.args.input.now) (g.W.Write.contents c.args.output.now)),
+          (sym empty) (traced_none calls form begun (g.R.Read.remaining c.args.input.now) (g.W.Write.contents c.args.output.now)),
     )
 
 pub returns-in_err-goes_on-clause-err : goal.returns-in_err-goes_on-clause-err
@@ -38,7 +38,7 @@ returns-in_err-goes_on-clause-err g c =
     let calls = calls_of g.P.SpanProcessor g.P.Timed g.P.CountsLeftSpans g.P.KeepsBatches g.S.ShouldSample g.G.GivesIds in
     let form = g.F.ReplyForm.form c.args.form.now in
     always_on_err c.from_residual.result
-    (begun_whole calls form (c.args.session.now) _ _ _ (begun_reading calls form g.met.P.KeepsBatches.recalls (c.args.session.now) c.has_histories.ensures.0 c.has_histories.ensures.1
+    (begun_whole calls form (c.args.session.now) _ _ _ (begun_reading calls form (c.args.session.now)
     (c.loop.session) _ _ _ _ _ c.loop.pieces.rest c.loop.before c.read_on.new.self c.loop.invariant.1 c.in_err-goes_on.ensures.err))
 
 pub returns-in_err-feed_piece-clause-err : goal.returns-in_err-feed_piece-clause-err
@@ -49,7 +49,7 @@ returns-in_err-feed_piece-clause-err g c =
     let next = c.feed_piece.new.session in
     let piece = piece_fed calls form _ (c.loop.session) next _ _ h.0 _ c.loop.invariant.0 c.lines.ensures h.1 in
     always_on_err c.from_residual-in_err-feed_piece.result
-    (begun_breaking calls form g.met.P.KeepsBatches.recalls (c.args.session.now) c.has_histories.ensures.0 c.has_histories.ensures.1
+    (begun_breaking calls form (c.args.session.now)
     (c.loop.session) next _ _ _ _ _ _ c.loop.pieces.rest c.loop.before c.in_ok-goes_on.goes_on c.read_on.new.self h.0 c.loop.invariant.1 c.in_ok-goes_on.ensures.ok piece)
 
 pub returns-in-Err-Line-clause-ok : goal.returns-in-Err-Line-clause-ok
@@ -62,10 +62,10 @@ returns-in-Err-Line-clause-ok g c =
     let piece = piece_fed calls form _ (c.loop.session) next _ _ fed _ c.loop.invariant.0 c.lines.ensures c.in_ok-feed_piece.ensures.ok in
     let bad : fed ≡ Err (feeds.Line c.in-Err-Line.line) = search rules in
     let s = streams (g.R.Read.remaining c.args.input.now) (g.R.Read.remaining c.read_on.new.reader) (g.W.Write.contents c.args.output.now) (g.W.Write.contents c.feed_piece.new.output) in
-    fed_bad calls form g.met.P.KeepsBatches.recalls begun next s (c.loop.before + c.in-Err-Line.line) c.bad_line_after.result (subst (λ (n : ℕ). (c.bad_line_after.result ≡ ends.Failed) ⊎ (c.bad_line_after.result ≡ ends.BadLine (c.loop.before + n))) c.in-Err-Line.line-is c.bad_line_after.ensures)
-    (traced_bad calls form g.met.P.KeepsBatches.recalls begun c.has_histories.ensures.0 c.has_histories.ensures.1
+    fed_bad calls form begun next s (c.loop.before + c.in-Err-Line.line) c.bad_line_after.result (subst (λ (n : ℕ). (c.bad_line_after.result ≡ ends.Failed) ⊎ (c.bad_line_after.result ≡ ends.BadLine (c.loop.before + n))) c.in-Err-Line.line-is c.bad_line_after.ensures)
+    (traced_bad calls form begun
     (c.loop.session) next _ _ _ _ _ _ c.loop.pieces.rest c.loop.before c.in-Err-Line.line c.in_ok-goes_on.goes_on c.read_on.new.self fed c.loop.invariant.1 c.in_ok-goes_on.ensures.ok bad piece)
-    (begun_failing calls form g.met.P.KeepsBatches.recalls begun c.has_histories.ensures.0 c.has_histories.ensures.1
+    (begun_failing calls form begun
     (c.loop.session) next _ _ _ _ _ _ c.loop.pieces.rest c.loop.before c.in_ok-goes_on.goes_on c.read_on.new.self fed c.loop.invariant.1 c.in_ok-goes_on.ensures.ok piece)
 
 pub returns-in-Err-Memory : goal.returns-in-Err-Memory
@@ -76,7 +76,7 @@ returns-in-Err-Memory g c =
     let next = c.feed_piece.new.session in
     let piece = piece_fed calls form _ (c.loop.session) next _ _ fed _ c.loop.invariant.0 c.lines.ensures c.in_ok-feed_piece.ensures.ok in
     record {
-      ok = begun_failing calls form g.met.P.KeepsBatches.recalls (c.args.session.now) c.has_histories.ensures.0 c.has_histories.ensures.1
+      ok = begun_failing calls form (c.args.session.now)
           (c.loop.session) next _ _ _ _ _ _ c.loop.pieces.rest c.loop.before c.in_ok-goes_on.goes_on c.read_on.new.self fed c.loop.invariant.1 c.in_ok-goes_on.ensures.ok piece;
       err = tt;
       form = c.feed_piece.ensures.form ∙ c.loop.invariant.0;
@@ -90,7 +90,7 @@ returns-then-not-goes_on-clause-ok g c =
     let next = c.feed_piece.new.session in
     let last : c.in_ok-goes_on.goes_on ≡ false = search rules in
     let piece = piece_fed calls form _ (c.loop.session) next _ _ fed _ c.loop.invariant.0 c.lines.ensures c.in_ok-feed_piece.ensures.ok in
-    traced_all calls form g.met.P.KeepsBatches.recalls (c.args.session.now) c.has_histories.ensures.0 c.has_histories.ensures.1
+    traced_all calls form (c.args.session.now)
     (c.loop.session) next _ _ _ _ _ _ c.loop.pieces.rest c.loop.before c.in_ok-goes_on.goes_on c.read_on.new.self fed _ c.loop.invariant.1 c.in_ok-goes_on.ensures.ok last c.in-Ok.is piece
 
 pub returns-in-None-clause-ok : goal.returns-in-None-clause-ok
@@ -100,7 +100,7 @@ returns-in-None-clause-ok g c =
     let fed = c.in_ok-feed_piece.field-0 in
     let next = c.feed_piece.new.session in
     let piece = piece_fed calls form _ (c.loop.session) next _ _ fed _ c.loop.invariant.0 c.lines.ensures c.in_ok-feed_piece.ensures.ok in
-    begun_failing calls form g.met.P.KeepsBatches.recalls (c.args.session.now) c.has_histories.ensures.0 c.has_histories.ensures.1
+    begun_failing calls form (c.args.session.now)
     (c.loop.session) next _ _ _ _ _ _ c.loop.pieces.rest c.loop.before c.in_ok-goes_on.goes_on c.read_on.new.self fed c.loop.invariant.1 c.in_ok-goes_on.ensures.ok piece
 
 pub loop-preserved : goal.loop-preserved
@@ -113,7 +113,7 @@ loop-preserved g c =
     let piece = piece_fed calls form _ (c.loop.session) next _ _ fed _ c.loop.invariant.0 c.lines.ensures c.in_ok-feed_piece.ensures.ok in
     let counted : c.in-Some.count ≡ c.loop.before + length (lines c.read_on.new.self.lines) = c.in-Some.ensures ∙ ap (λ (bs : List ℕ). c.loop.before + length (lines bs)) c.lines-in-loop.ensures in (
       c.feed_piece.ensures.form ∙ c.loop.invariant.0,
-      traced_more calls form g.met.P.KeepsBatches.recalls (c.args.session.now) c.has_histories.ensures.0 c.has_histories.ensures.1
+      traced_more calls form (c.args.session.now)
           (c.loop.session) next _ _ _ _ _ _ c.loop.pieces.rest c.loop.before c.in-Some.count c.in_ok-goes_on.goes_on c.read_on.new.self fed _ c.loop.invariant.1 c.in_ok-goes_on.ensures.ok more c.in-Ok.is piece counted,
     )
 
@@ -121,5 +121,5 @@ pub returns-clause-ok : goal.returns-clause-ok
 returns-clause-ok g c =
     let calls = calls_of g.P.SpanProcessor g.P.Timed g.P.CountsLeftSpans g.P.KeepsBatches g.S.ShouldSample g.G.GivesIds in
     let form = g.F.ReplyForm.form c.args.form.now in
-    begun_turning calls form g.met.P.KeepsBatches.recalls (c.args.session.now) c.has_histories.ensures.0 c.has_histories.ensures.1
+    begun_turning calls form (c.args.session.now)
     (c.loop.session) _ _ _ _ c.loop.pieces.rest c.loop.before c.loop.invariant.1

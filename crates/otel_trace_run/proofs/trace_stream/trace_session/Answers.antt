@@ -22,7 +22,7 @@ pub returns-in_default : goal.returns-in_default
 returns-in_default g c =
     let calls = calls_of g.P.SpanProcessor g.P.Timed g.P.CountsLeftSpans g.P.KeepsBatches g.S.ShouldSample g.G.GivesIds in
     let form = g.F.ReplyForm.form c.args.form.now in
-    some_broken calls form g.met.P.KeepsBatches.recalls (c.args.session) _ _ _ c.in_default.ensures.err (g.R.Read.remaining c.feed_pieces-fed.new.input)
+    some_broken calls form (c.args.session) _ _ _ c.in_default.ensures.err (g.R.Read.remaining c.feed_pieces-fed.new.input)
 
 pub returns-in_default-write_whole : goal.returns-in_default-write_whole
 returns-in_default-write_whole g c =
@@ -30,7 +30,7 @@ returns-in_default-write_whole g c =
     let form = g.F.ReplyForm.form c.args.form.now in
     let now = c.feed_pieces-fed.new.session in
     let closing = c.close_in-closed.new.output.items in
-    closed_some calls form g.met.P.KeepsBatches.recalls (c.args.session) now _ _ _ _ _ c.in-Ok.end c.close_in-closed.result.answer closing c.in-Ok.ensures.ok
+    closed_some calls form (c.args.session) now _ _ _ _ _ c.in-Ok.end c.close_in-closed.result.answer closing c.in-Ok.ensures.ok
     (closed_anew calls form _ now _ closing c.close_in-closed.result.answer c.feed_pieces-fed.ensures.form c.clear.ensures.items c.close_in-closed.ensures.closes.closes)
     (subst (AppendsBeginning _ _) c.deref.ensures.value c.in_default-write_whole.ensures.err)
 
@@ -40,7 +40,7 @@ returns-then-not-lost_nothing g c =
     let form = g.F.ReplyForm.form c.args.form.now in
     let now = c.feed_pieces-fed.new.session in
     let closing = c.close_in-closed.new.output.items in
-    closed_some calls form g.met.P.KeepsBatches.recalls (c.args.session) now _ _ _ _ _ c.in-Ok.end c.close_in-closed.result.answer closing c.in-Ok.ensures.ok
+    closed_some calls form (c.args.session) now _ _ _ _ _ c.in-Ok.end c.close_in-closed.result.answer closing c.in-Ok.ensures.ok
     (closed_anew calls form _ now _ closing c.close_in-closed.result.answer c.feed_pieces-fed.ensures.form c.clear.ensures.items c.close_in-closed.ensures.closes.closes)
     (appends_all _ _ closing (subst (Appends _ _) c.deref.ensures.value c.in-Ok-write_whole.ensures.ok))
 
@@ -55,7 +55,6 @@ returns g c =
     let minds = c.minds_drops.ensures ∙ ap (λ (f : Form). f.minds_drops) c.close_in-closed.ensures.form in
     let lost = subst (λ (minds_drops : Bool). LostNothing closed minds_drops) minds kept in
     let well = ends_well calls _ now _ closing closed _ c.clear.ensures.items lost c.close_in-closed.ensures.closes in
-    closed_as calls form g.met.P.KeepsBatches.recalls (c.args.session) now _ _ _ _ _ c.in-Ok.end closing c.in-Ok.ensures.ok
-    g.met.P.KeepsBatches.leaves
+    closed_as calls form (c.args.session) now _ _ _ _ _ c.in-Ok.end closing c.in-Ok.ensures.ok
     (subst (λ (f : Form). EndsWell calls f now f.minds_drops closing) c.feed_pieces-fed.ensures.form well)
     (subst (Appends _ _) c.deref.ensures.value c.in-Ok-write_whole.ensures.ok)

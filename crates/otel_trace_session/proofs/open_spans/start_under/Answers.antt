@@ -39,7 +39,6 @@ returns-in-Ok-clause-ok g c =
       says = c.answer_to_start-answer.ensures ∙ ap start_answer begun.1;
       delivers = refl;
       histories = refl;
-      shown = refl;
     })
 
 pub returns-in-Occupied-clause-ok : goal.returns-in-Occupied-clause-ok

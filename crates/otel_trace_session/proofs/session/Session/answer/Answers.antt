@@ -1,8 +1,8 @@
 use Rattle.std.proofs.Common.{◌≡◌, ◌∙◌, ap, sym, subst, true, false}
 use Rattle.otel_trace_lines.specs.Commands.{is_end, plain_command}
-use Rattle.otel_export.specs.KeptBatches.{Grows}
+use Rattle.otel_export.specs.KeptBatches.{OnlyAdds}
 use Rattle.otel_trace_session.specs.Calls.{calls_of}
-use Rattle.otel_trace_session.specs.Shown.{session_batches, session_losses}
+use Rattle.otel_trace_session.specs.Shown.{session_losses, session_stored}
 use Rattle.otel_trace_session.specs.Stops.{Answers}
 use Rattle.otel_trace_session.specs.Turns.{SessionState}
 use Rattle.otel_trace_session.proofs.AnswerLemmas.{answers_one, carried_grows}
@@ -16,27 +16,27 @@ pub returns-then-lost_batches-lost-clause-keeps : goal.returns-then-lost_batches
 returns-then-lost_batches-lost-clause-keeps g c =
     let calls = calls_of g.P.SpanProcessor g.P.Timed g.P.CountsLeftSpans g.P.KeepsBatches g.S.ShouldSample g.G.GivesIds in
     let inside = c.self.inside in
-    let session : SessionState g.row.P.Denot g.row.S.Denot g.row.G.Denot = record { provider = inside.provider; scope = inside.tracer; spans = inside.spans; shown = inside.shown; lost_before = inside.lost_before } in
+    let session : SessionState g.row.P.Denot g.row.S.Denot g.row.G.Denot = record { provider = inside.provider; scope = inside.tracer; spans = inside.spans; lost_before = inside.lost_before } in
     let new = record session { provider = c.carry_out.new.provider; spans = c.carry_out.new.spans } in
-    subst (λ (old : SessionState g.row.P.Denot g.row.S.Denot g.row.G.Denot). Grows (session_batches g.P.KeepsBatches old) (session_batches g.P.KeepsBatches new)) c.self.view_is
+    subst (λ (old : SessionState g.row.P.Denot g.row.S.Denot g.row.G.Denot). OnlyAdds (session_stored g.P.KeepsBatches old) (session_stored g.P.KeepsBatches new)) c.self.view_is
     (carried_grows calls session new c.args.command c.in_ok-answer.answer c.have_histories.ensures c.in_ok-answer.ensures.ok)
 
 pub returns-clause-keeps : goal.returns-clause-keeps
 returns-clause-keeps g c =
     let calls = calls_of g.P.SpanProcessor g.P.Timed g.P.CountsLeftSpans g.P.KeepsBatches g.S.ShouldSample g.G.GivesIds in
     let inside = c.self.inside in
-    let session : SessionState g.row.P.Denot g.row.S.Denot g.row.G.Denot = record { provider = inside.provider; scope = inside.tracer; spans = inside.spans; shown = inside.shown; lost_before = inside.lost_before } in
+    let session : SessionState g.row.P.Denot g.row.S.Denot g.row.G.Denot = record { provider = inside.provider; scope = inside.tracer; spans = inside.spans; lost_before = inside.lost_before } in
     let new = record session { provider = c.carry_out.new.provider; spans = c.carry_out.new.spans } in
     let is : c.else-ends_span.self ≡ new = elim c.else-ends_span.branch [ else-ends_span-via-then-ends_span+else-lost_batches-lost w ↦ w.self-is | else-ends_span-via-else-ends_span w ↦ w.self-is ] in
-    subst (λ (after : SessionState g.row.P.Denot g.row.S.Denot g.row.G.Denot). Grows (session_batches g.P.KeepsBatches c.args.self.now) (session_batches g.P.KeepsBatches after)) (sym is)
-    (subst (λ (old : SessionState g.row.P.Denot g.row.S.Denot g.row.G.Denot). Grows (session_batches g.P.KeepsBatches old) (session_batches g.P.KeepsBatches new)) c.self.view_is
+    subst (λ (after : SessionState g.row.P.Denot g.row.S.Denot g.row.G.Denot). OnlyAdds (session_stored g.P.KeepsBatches c.args.self.now) (session_stored g.P.KeepsBatches after)) (sym is)
+    (subst (λ (old : SessionState g.row.P.Denot g.row.S.Denot g.row.G.Denot). OnlyAdds (session_stored g.P.KeepsBatches old) (session_stored g.P.KeepsBatches new)) c.self.view_is
     (carried_grows calls session new c.args.command c.in_ok-answer.answer c.have_histories.ensures c.in_ok-answer.ensures.ok))
 
 pub returns-clause-ok : goal.returns-clause-ok
 returns-clause-ok g c =
     let calls = calls_of g.P.SpanProcessor g.P.Timed g.P.CountsLeftSpans g.P.KeepsBatches g.S.ShouldSample g.G.GivesIds in
     let inside = c.self.inside in
-    let session : SessionState g.row.P.Denot g.row.S.Denot g.row.G.Denot = record { provider = inside.provider; scope = inside.tracer; spans = inside.spans; shown = inside.shown; lost_before = inside.lost_before } in
+    let session : SessionState g.row.P.Denot g.row.S.Denot g.row.G.Denot = record { provider = inside.provider; scope = inside.tracer; spans = inside.spans; lost_before = inside.lost_before } in
     let new = record session { provider = c.carry_out.new.provider; spans = c.carry_out.new.spans } in
     let is : c.else-ends_span.self ≡ new = elim c.else-ends_span.branch [ else-ends_span-via-then-ends_span+else-lost_batches-lost w ↦ w.self-is | else-ends_span-via-else-ends_span w ↦ w.self-is ] in
     let ends : is_end (plain_command c.args.command) ≡ c.ends_span-ends_span.result = sym c.ends_span-ends_span.ensures in

@@ -1,4 +1,4 @@
-use Rattle.std.proofs.Common.{◌≡◌, ◌==◌, ◌++◌, ◌∙◌, ap, not, ℕ, List, OnOk, drop, subst}
+use Rattle.std.proofs.Common.{◌≡◌, ◌==◌, ◌++◌, ◌∙◌, ap, not, ℕ, List, OnOk, subst}
 use Rattle.std.proofs.lemmas.Bool.{OnTrue_at}
 use Rattle.otel_export.specs.PlainSpanData.{PlainSpanData}
 use Rattle.otel_trace_session.specs.Calls.{batches_of_first, calls_of, losses_of_first}
@@ -12,15 +12,15 @@ pub returns-clause-closes : goal.returns-clause-closes
 returns-clause-closes g c =
     let calls = calls_of g.P.SpanProcessor g.P.Timed g.P.CountsLeftSpans g.P.KeepsBatches g.S.ShouldSample g.G.GivesIds in
     let inside = c.self.inside in
-    let session : SessionState g.row.P.Denot g.row.S.Denot g.row.G.Denot = record { provider = inside.provider; scope = inside.tracer; spans = inside.spans; shown = inside.shown; lost_before = inside.lost_before } in
+    let session : SessionState g.row.P.Denot g.row.S.Denot g.row.G.Denot = record { provider = inside.provider; scope = inside.tracer; spans = inside.spans; lost_before = inside.lost_before } in
     let form = g.F.ReplyForm.form c.args.form.now in
     let before = c.args.output.now.items in
     let now = c.write_rest-written.new.output.items in
     let losses = c.lost_by_first.ensures ∙ ap (λ (processors : List g.row.P.Denot). losses_of_first g.P.KeepsBatches processors) c.processors.ensures in
     let lost = ap (λ (n : ℕ). not (n == inside.lost_before)) losses in
-    let batches = c.unshown_by_first-unshown.ensures ∙ ap (λ (processors : List g.row.P.Denot). drop inside.shown (batches_of_first g.P.KeepsBatches processors)) c.processors-2.ensures in
-    let text = subst (λ (unshown : List (List PlainSpanData)).
-    OnOk c.write_rest-written.result (now ≡ before ++ form.rest unshown)) batches c.write_rest-written.ensures.ok in
+    let batches = c.kept_by_first.ensures ∙ ap (λ (processors : List g.row.P.Denot). batches_of_first g.P.KeepsBatches processors) c.processors-2.ensures in
+    let text = subst (λ (kept : List (List PlainSpanData)).
+    OnOk c.write_rest-written.result (now ≡ before ++ form.rest kept)) batches c.write_rest-written.ensures.ok in
     let answer = c.close_answer.result in
     let closed : ClosedSession = record { answer = answer; left_open = c.close.result.left_open; dropped = c.dropped_count-dropped.result } in
     subst (λ (s : SessionState g.row.P.Denot g.row.S.Denot g.row.G.Denot). ClosesAs calls form s before closed now) c.self.view_is

@@ -3,7 +3,7 @@ use Rattle.std.proofs.lemmas.Result.{err_from_is_err_and}
 use Rattle.otel_trace_lines.specs.PlainReply.{PlainReply}
 use Rattle.otel_trace_session.specs.Calls.{calls_of}
 use Rattle.otel_trace_session.specs.Fed.{WhyUnwritten, feed_error}
-use Rattle.otel_trace_session.specs.Shown.{unshown}
+use Rattle.otel_trace_session.specs.Shown.{session_batches}
 use Rattle.otel_trace_session.specs.declared.session.FeedError.TheVariants as feeds
 use Rattle.otel_trace_session.proofs.FeedLemmas.{none_refused_more, written_in, written_more, written_same}
 use Rattle.otel_trace_session.proofs.RunLemmas.{ran_nothing, ran_all, ran_more, ran_stopped, stops_feed}
@@ -73,15 +73,15 @@ loop-command-preserved g c =
     let before = c.loop-command.output.items in
     let now = c.write_answer.new.output.items in
     let answer = c.in_ok-answer.answer in
-    let reply : PlainReply = record { exported = unshown g.P.KeepsBatches c.answer.new.self; answer = answer } in
+    let reply : PlainReply = record { exported = session_batches g.P.KeepsBatches c.answer.new.self; answer = answer } in
     let wrote = written_in form _ reply before now same c.in_ok-write_answer.ensures.ok in (
       c.write_answer.ensures.form ∙ same,
       record {
         replies = i.replies ++ reply ∷ [];
         written = written_more form i.replies reply c.args.output.now.items before now i.written wrote;
         none_refused = none_refused_more i.replies reply i.none_refused (sym c.counts_refusals.ensures ∙ c.if-counts_refusals.false);
-        these = ran_more calls c.args.self.now c.loop-command.self c.answer.new.self c.mark_shown.new.self c.args.commands.items c.loop-command.queue.items c.pop_front.new.self.items i.replies c.in-Some.command answer
-            c.in-Some.ensures.items i.these c.in_ok-answer.ensures.ok c.answer.ensures.rest c.mark_shown.ensures;
+        these = ran_more calls c.args.self.now c.loop-command.self c.answer.new.self c.take_shown.new.self c.args.commands.items c.loop-command.queue.items c.pop_front.new.self.items i.replies c.in-Some.command answer
+            c.in-Some.ensures.items i.these c.in_ok-answer.ensures.ok c.answer.ensures.rest (record { takes = c.take_shown.ensures.takes; rest = c.take_shown.ensures.rest });
       },
     )
 
