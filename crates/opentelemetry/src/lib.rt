@@ -1,3 +1,4 @@
+// SPDX-License-Identifier: Apache-2.0
 //! The values of the OpenTelemetry API that the trace pipeline stands on: what crosses the border of a process or
 //! of a library.
 #![tactic(auto)]

@@ -1,3 +1,4 @@
+// SPDX-License-Identifier: Apache-2.0
 //! OpenTelemetry's SDK for traces under the paths of the Rust crate: the names of what the crates below it hold.
 #![tactic(auto)]
 

@@ -1,3 +1,4 @@
+// SPDX-License-Identifier: Apache-2.0
 //! A processor that writes the baggage of a span's context into the span when it starts.
 #![tactic(auto)]
 

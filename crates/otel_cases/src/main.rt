@@ -1,3 +1,4 @@
+// SPDX-License-Identifier: Apache-2.0
 //! The program `otel_cases`: each line of its input asks one question of the libraries, and its output has the answers
 //! in turn. docs/CASES.md has the words.
 #![tactic(auto)]

@@ -1,3 +1,4 @@
+// SPDX-License-Identifier: Apache-2.0
 //! The program `otel_example_runs` tries the examples, which lie in the folder that it runs in. Each has three files:
 //! `NAME.txt` is a script, `NAME.args` the arguments of `otel_trace` for it, one a line, and `NAME.out` what is written
 //! then. What the same script writes under `NAME.KIND.args` is `NAME.KIND`. The program runs each script, in the order

@@ -1,3 +1,4 @@
+// SPDX-License-Identifier: Apache-2.0
 //! Examples: an exporter, two processors, a sampler and a filter of a baggage's keys of one's own, each whole in a file
 //! and ended by a test that uses it in a provider, and the quick start of the README. All of it is compiled for the
 //! tests alone.

@@ -4,6 +4,8 @@ use Rattle.std.specs.Prelude.{List, [], ◌∷◌, ◌++◌, string_bytes, codes
 use Rattle.std.specs.Fmt.{decimal}
 use Rattle.std.specs.Duration.{as_nanos}
 use Rattle.std.specs.declared.time.Duration.{Duration}
+use Rattle.std.specs.declared.io.ErrorKind.{ErrorKind}
+use Rattle.std.specs.declared.io.ErrorKind.TheVariants as streams
 use Rattle.otel_export.specs.declared.error.OTelSdkError.{OTelSdkError}
 use Rattle.otel_export.specs.declared.error.OTelSdkError.TheVariants.{AlreadyShutdown, Timeout}
 use Rattle.otel_export.specs.declared.error.OTelSdkError.TheVariants.{InternalFailure, OutOfMemory}
@@ -64,3 +66,10 @@ error_text AlreadyShutdown = codes "Shutdown already invoked"
 error_text (Timeout d) = codes "Operation timed out after " ++ duration_text d
 error_text (InternalFailure reason) = codes "Operation failed: " ++ string_bytes reason
 error_text OutOfMemory = codes "Operation found no memory"
+
+-- the kind of the stream's error that one becomes
+abbrev pub kind_of : OTelSdkError → ErrorKind
+kind_of AlreadyShutdown = streams.NotConnected
+kind_of (Timeout _) = streams.TimedOut
+kind_of (InternalFailure _) = streams.Other
+kind_of OutOfMemory = streams.OutOfMemory

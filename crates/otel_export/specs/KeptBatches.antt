@@ -23,14 +23,12 @@ pub adds_none : (old new : StoredBatches) → new ≡ old → OnlyAdds old new
 adds_none old new same =
     subst (λ (x : StoredBatches). OnlyAdds old x) (sym same) (refl, ([], sym (append-nil old.batches)))
 
+pub grows_more : {X : Type 0} (one two three : List X) → Grows one two → Grows two three → Grows one three
+grows_more {X} one two three h k =
+    (h.0 ++ k.0, k.1 ∙ ap (λ (l : List X). l ++ k.0) h.1 ∙ append_assoc one h.0 k.0)
+
 pub adds_more : (one two three : StoredBatches) → OnlyAdds one two → OnlyAdds two three → OnlyAdds one three
-adds_more one two three h k = (
-  k.0 ∙ h.0,
-  (
-    h.1.0 ++ k.1.0,
-    k.1.1 ∙ ap (λ (l : List (List PlainSpanData)). l ++ k.1.0) h.1.1 ∙ append_assoc one.batches h.1.0 k.1.0,
-  ),
-)
+adds_more one two three h k = (k.0 ∙ h.0, grows_more one.batches two.batches three.batches h.1 k.1)
 
 -- no call of an exporter takes back a batch that it keeps
 pub record ExporterAppends {E : Type 0} (calls : Ghosts E) (stored : E → StoredBatches) : Type 0 where

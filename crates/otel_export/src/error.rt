@@ -6,8 +6,8 @@ ghost use Rattle.std.specs.Fmt.{WritesOnOk, decimal};
 ghost use Rattle.otel_export.specs.ErrorText as printed;
 
 use std::error::Error;
-use std::fmt;
 use std::time::Duration;
+use std::{fmt, io};
 
 /// Why a call of an exporter, a processor or a provider failed.
 #[derive(Debug, Drop, PartialEq, Eq)]
@@ -38,6 +38,29 @@ pub trait ExportError: Error {
 }
 
 impl Error for OTelSdkError {}
+
+/// So that `?` takes it to a caller that answers errors of streams. The message is what it prints, but for how long
+/// a call took; of a reason as many bytes as `io::Error` holds.
+impl From<OTelSdkError> for io::Error {
+    ghost use Rattle.std.specs.Prelude.{◌≡◌};
+    ghost use Rattle.std.specs.IoError.{error_kind};
+    ghost use Rattle.otel_export.specs.ErrorText.{kind_of};
+
+    ghost from_gives = { λ error out. error_kind out ≡ kind_of error };
+
+    fn from(error: OTelSdkError) -> io::Error {
+        match error {
+            OTelSdkError::AlreadyShutdown => {
+                io::Error::new(io::ErrorKind::NotConnected, "Shutdown already invoked")
+            }
+            OTelSdkError::Timeout(_) => {
+                io::Error::new(io::ErrorKind::TimedOut, "Operation timed out")
+            }
+            OTelSdkError::InternalFailure(reason) => io::Error::other(reason.as_str()),
+            OTelSdkError::OutOfMemory => io::Error::from(io::ErrorKind::OutOfMemory),
+        }
+    }
+}
 
 impl fmt::Display for OTelSdkError {
     ghost use Rattle.std.specs.Prelude.{Some};

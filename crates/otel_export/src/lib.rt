@@ -1,3 +1,4 @@
+// SPDX-License-Identifier: Apache-2.0
 //! The data of ended spans, the exporters that take it, and how their calls fail.
 #![tactic(auto)]
 

@@ -1,3 +1,4 @@
+// SPDX-License-Identifier: Apache-2.0
 //! A filter in front of an exporter: only the spans that it keeps are exported.
 #![tactic(auto)]
 

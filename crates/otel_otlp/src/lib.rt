@@ -1,3 +1,4 @@
+// SPDX-License-Identifier: Apache-2.0
 //! Spans as the OpenTelemetry protocol writes them in JSON: one request a line, which collectors and viewers read.
 #![tactic(auto)]
 

@@ -1,3 +1,4 @@
+// SPDX-License-Identifier: Apache-2.0
 //! Pictures of traces from exported spans: a block a trace, in the order in which traces were first exported, and in it
 //! a row a span, children after their parent by start, then by order of export.
 //!

@@ -1,3 +1,4 @@
+// SPDX-License-Identifier: Apache-2.0
 //! Consistent probability sampling (OpenTelemetry specification, "TraceState: Probability Sampling"): every service
 //! compares one random number of a trace with its own threshold, so that what a service keeps, each that keeps more
 //! keeps too; with its laws.

@@ -1,3 +1,4 @@
+// SPDX-License-Identifier: Apache-2.0
 //! The propagator of B3, the headers of Zipkin: a single one, or many (OpenZipkin, "B3 Propagation"; OpenTelemetry
 //! specification, "B3 Requirements"); and a sampler for callers that leave the decision open.
 #![tactic(auto)]

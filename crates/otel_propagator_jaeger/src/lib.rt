@@ -1,3 +1,4 @@
+// SPDX-License-Identifier: Apache-2.0
 //! The propagator of Jaeger's header `uber-trace-id` (Jaeger, "Client Libraries", "Propagation Format").
 #![tactic(auto)]
 

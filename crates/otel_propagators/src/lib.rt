@@ -1,3 +1,4 @@
+// SPDX-License-Identifier: Apache-2.0
 //! The propagators of vendors by the names that the OpenTelemetry specification gives them in OTEL_PROPAGATORS.
 //! `configured_propagators` takes `VendorPropagators` for its custom ones.
 #![tactic(auto)]

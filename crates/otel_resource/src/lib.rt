@@ -1,3 +1,4 @@
+// SPDX-License-Identifier: Apache-2.0
 //! Who speaks: resources, the detectors that find their attributes, and the laws of merging them.
 #![tactic(auto)]
 

@@ -1,3 +1,4 @@
+// SPDX-License-Identifier: Apache-2.0
 //! The program `otel_trace`: `main` hands the arguments and the standard streams to `run_program` and does nothing else.
 #![tactic(auto)]
 

@@ -1,3 +1,4 @@
+// SPDX-License-Identifier: Apache-2.0
 //! The program's lines: commands are read from bytes, and replies are written as bytes. The mode `steps` has its own
 //! (`otel_trace_steps`), and takes them apart and writes them by the same calls.
 #![tactic(auto)]

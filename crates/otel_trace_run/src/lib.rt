@@ -1,3 +1,4 @@
+// SPDX-License-Identifier: Apache-2.0
 //! `run_program` is all of the program `otel_trace` but the words and streams that it is given.
 #![tactic(auto)]
 

@@ -1,7 +1,7 @@
 -- The replies of turns show the batches that are taken meanwhile, in order and each once.
 use Rattle.std.proofs.Common.{◌≡◌, ◌⊎◌, List, [], ◌∷◌, ◌++◌, map, refl, sym, ◌∙◌, ap, subst, inl, inr, Ok, append_assoc, append-nil}
 use Rattle.opentelemetry.specs.Plain.{PlainScope}
-use Rattle.otel_export.specs.KeptBatches.{Grows, OnlyAdds}
+use Rattle.otel_export.specs.KeptBatches.{Grows, OnlyAdds, grows_more}
 use Rattle.otel_export.specs.PlainSpanData.{PlainSpanData}
 use Rattle.otel_export.specs.StoredBatches.{StoredBatches, all_taken}
 use Rattle.otel_pipeline.specs.ProcessorKeeps.{OnlyAppends}
@@ -28,9 +28,6 @@ adds_grow old new h = (
 
 takes_grow : (old new : StoredBatches) → new ≡ all_taken old → Grows (all_stored old) (all_stored new)
 takes_grow old new e = ([], ap all_stored e)
-
-grows_more : (a b c : Batches) → Grows a b → Grows b c → Grows a c
-grows_more a b c h k = (h.0 ++ k.0, k.1 ∙ ap (λ (l : Batches). l ++ k.0) h.1 ∙ append_assoc a h.0 k.0)
 
 module _ {P S G : Type 0} (calls : Calls P S G) where
   abbrev stored : Course P S G → StoredBatches

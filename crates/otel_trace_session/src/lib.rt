@@ -1,3 +1,4 @@
+// SPDX-License-Identifier: Apache-2.0
 //! A session of commands over the trace pipeline: its spans by name, its replies, and what they show.
 #![tactic(auto)]
 

@@ -1,3 +1,4 @@
+// SPDX-License-Identifier: Apache-2.0
 //! The program's mode `steps`: lines step a batch queue, and each is answered by a line.
 #![tactic(auto)]
 

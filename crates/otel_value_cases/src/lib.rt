@@ -1,3 +1,4 @@
+// SPDX-License-Identifier: Apache-2.0
 //! Cases that ask of values, headers, resources, samplers and configuration.
 #![tactic(auto)]
 

@@ -24,9 +24,9 @@ pub trait KeepsBatches: Timed + CountsLeftSpans {
         ensures { result ≡ (stored self.now).lost };
 
     /// What a taking does beside that.
-    ghost take_gives: { Self → Self → Type 0 } = { λ _ _. Unit {0} };
+    ghost take_gives: { Self → Self → Type 0 };
 
-    /// Hands out the batches that are kept. Nothing that it tells is another for it.
+    /// Hands out the batches that are kept. What it tells stays.
     fn take_batches(&mut self, alloc: Global) -> Vec<Vec<SpanData>>
         ensures taken { map (λ batch. batch.items) result.items ≡ (stored self.old).batches }
         ensures takes { TakesBatches Self.SpanProcessor Self.CountsLeftSpans.own stored self.old self.new }

@@ -130,7 +130,7 @@ impl<P, S, G> ProviderOf<P, S, G> {
     ghost use Rattle.std.specs.Prelude.{slice_set};
     ghost use Rattle.otel_pipeline.specs.contracts.trace.provider.ProviderOf.{the_row};
 
-    /// The first processor, to be changed where it is: its exporter in memory may forget its batches, say.
+    /// The first processor, to be changed where it is: its exporter in memory may have its batches taken, say.
     pub fn first_processor_mut(&mut self) -> Option<&mut P>
         ensures* writes_back { sem 𝓛 (LendsIf (the_row P.row S.row G.row) P.row self.entry result
             (λ first. record self.old { processors = slice_set self.old.processors 0 first }) self.old) }
