@@ -4,5 +4,5 @@ pub use otel_propagation::propagation::{
     BaggagePropagator, CompositePropagator, ConfiguredPropagators, CustomPropagators, FieldsError,
     NamedPropagator, NoCustomPropagators, NoopTextMapPropagator, PropagatorOf,
     StrictBaggagePropagator, TextMapCompositePropagator, TraceContextPropagator,
-    configured_propagators, named_propagators,
+    built_in_propagators, configured_propagators, named_propagators,
 };

@@ -15,7 +15,7 @@ pub mod trace_context;
 pub use baggage::BaggagePropagator;
 pub use composite::{CompositePropagator, FieldsError};
 pub use composite_list::TextMapCompositePropagator;
-pub use configured::{ConfiguredPropagators, configured_propagators};
+pub use configured::{ConfiguredPropagators, built_in_propagators, configured_propagators};
 pub use custom::{CustomPropagators, NoCustomPropagators, NoopTextMapPropagator};
 pub use named::{NamedPropagator, named_propagators};
 pub use propagator_kinds::PropagatorOf;

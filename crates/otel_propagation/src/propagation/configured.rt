@@ -10,8 +10,9 @@ ghost use Rattle.otel_propagation.specs.NamedPropagators.{HasItsKind, name_of, n
 ghost use Rattle.otel_propagation.specs.PropagatorKinds.{fields_by_kind};
 
 use super::{
-    BaggagePropagator, CustomPropagators, NamedPropagator, PropagatorOf, StrictBaggagePropagator,
-    TextMapCompositePropagator, TraceContextPropagator, named_propagators,
+    BaggagePropagator, CustomPropagators, NamedPropagator, NoCustomPropagators,
+    NoopTextMapPropagator, PropagatorOf, StrictBaggagePropagator, TextMapCompositePropagator,
+    TraceContextPropagator, named_propagators,
 };
 use std::alloc::{AllocError, Global};
 
@@ -25,7 +26,7 @@ pub struct ConfiguredPropagators<C> {
 }
 
 /// The propagators that `named_propagators` reads in a text, as one. Of names that are not built in, the custom ones are
-/// asked: a caller that has none gives `NoCustomPropagators`.
+/// asked: a caller that has none calls `built_in_propagators`.
 pub fn configured_propagators<N: CustomPropagators>(
     alloc: Global,
     text: Option<&str>,
@@ -52,6 +53,20 @@ pub fn configured_propagators<N: CustomPropagators>(
         propagator: TextMapCompositePropagator::new(alloc, propagators)?,
         unknown,
     })
+}
+
+/// The same where there are no custom ones: those that are built in, by their names.
+pub fn built_in_propagators(
+    alloc: Global,
+    text: Option<&str>,
+) -> Result<ConfiguredPropagators<NoopTextMapPropagator>, AllocError>
+    ensures named { IfOk result (λ configured. configured.propagator.propagators.items
+        ≡ filter_map (propagator_named (λ _. None)) (names_in (text_or_default (option_copied text.entry)))) }
+    ensures unknown { IfOk result (λ configured. map string_bytes configured.unknown.items
+        ≡ filter (λ name. is_none (propagator_named {C = NoopTextMapPropagator} (λ _. None) name))
+        (names_in (text_or_default (option_copied text.entry)))) }
+{
+    configured_propagators(alloc, text, &NoCustomPropagators)
 }
 
 /// The propagator of a name, or the name where no propagator is known.
