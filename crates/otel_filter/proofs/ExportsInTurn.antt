@@ -8,8 +8,7 @@ use Rattle.otel_export.specs.declared.error.OTelSdkError.{OTelSdkError}
 use Rattle.otel_export.specs.declared.trace.export.SpanExporter.{Ghosts}
 use Rattle.otel_export.proofs.Tellings.{tells_append, tells_same}
 use Rattle.otel_filter.specs.Filtering.{ExportsAny, ExportsInTurn, ExportsKept, answer_unless_empty, kept_answers}
-use Rattle.otel_filter.specs.Filtering.{kept_batches, unless_empty}
-use Rattle.otel_filter.specs.declared.filtering_exporter.FilteringExporter.{FilteringExporter}
+use Rattle.otel_filter.specs.Filtering.{FilterState, kept_batches, unless_empty}
 
 -- the spans of a batch that has some, in front of others
 one_more : (batch : List PlainSpanData) (rest : List (List PlainSpanData))
@@ -49,10 +48,10 @@ module _ {E : Type 0} (calls : Ghosts E) where
 
   module _ {F : Type 0} (keeps : F → PlainSpanData → Bool) where
     pub exported_in_turn : (batches : List (List PlainSpanData)) (answers : List (Result (Unit {0}) OTelSdkError))
-        (old new : FilteringExporter E F) → ExportsInTurn (ExportsKept calls keeps) old batches answers new
+        (old new : FilterState E F) → ExportsInTurn (ExportsKept calls keeps) old batches answers new
         → ExportsInTurn calls.export_gives old.exporter (kept_batches (keeps old.filter) batches)
         (kept_answers (keeps old.filter) batches answers) new.exporter
-    exported_in_turn [] [] old new h = ap (λ (x : FilteringExporter E F). x.exporter) h
+    exported_in_turn [] [] old new h = ap (λ (x : FilterState E F). x.exporter) h
     exported_in_turn [] (_ ∷ _) old new h = absurd h
     exported_in_turn (_ ∷ _) [] old new h = absurd h
     exported_in_turn (batch ∷ batches) (answer ∷ answers) old new h =
@@ -60,15 +59,15 @@ module _ {E : Type 0} (calls : Ghosts E) where
         (kept_batches (keeps old.filter) batches) (kept_answers (keeps old.filter) batches answers) h.1.given
         (subst
         (λ (f : F). ExportsInTurn calls.export_gives h.0.exporter (kept_batches (keeps f) batches)
-        (kept_answers (keeps f) batches answers) new.exporter) h.1.same_filter
+        (kept_answers (keeps f) batches answers) new.exporter) (ap (λ (x : FilterState E F). x.filter) h.1.rest)
         (exported_in_turn batches answers h.0 new h.2))
 
     pub told_in_turn : (batches : List (List PlainSpanData)) (answers : List (Result (Unit {0}) OTelSdkError))
-        (old new : FilteringExporter E F) → ExportsInTurn (ExportsKept calls keeps) old batches answers new
+        (old new : FilterState E F) → ExportsInTurn (ExportsKept calls keeps) old batches answers new
         → Tells (calls.told old.exporter) (kept_batches (keeps old.filter) batches) (calls.told new.exporter)
     told_in_turn [] [] old new h =
         tells_same (calls.told old.exporter) (calls.told new.exporter)
-        (ap (λ (x : FilteringExporter E F). calls.told x.exporter) h)
+        (ap (λ (x : FilterState E F). calls.told x.exporter) h)
     told_in_turn [] (_ ∷ _) old new h = absurd h
     told_in_turn (_ ∷ _) [] old new h = absurd h
     told_in_turn (batch ∷ batches) (answer ∷ answers) old new h =
@@ -76,4 +75,4 @@ module _ {E : Type 0} (calls : Ghosts E) where
         (calls.told h.0.exporter) (kept_batches (keeps old.filter) batches) (calls.told new.exporter) h.1.told
         (subst
         (λ (f : F). Tells (calls.told h.0.exporter) (kept_batches (keeps f) batches) (calls.told new.exporter))
-        h.1.same_filter (told_in_turn batches answers h.0 new h.2))
+        (ap (λ (x : FilterState E F). x.filter) h.1.rest) (told_in_turn batches answers h.0 new h.2))

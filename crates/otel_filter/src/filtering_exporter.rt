@@ -1,23 +1,82 @@
 //! An exporter in front of another one, which is handed only the spans that a filter keeps.
 //!
-//! It tells nothing, since it keeps spans back. Its relations say what the exporter inside was handed and tells;
-//! `laws.rt` says the same of exports in turn.
+//! It tells the batches that it was handed, as long as the exporter inside tells. So long that one tells what is kept of
+//! them, after what it told at first. `laws.rt` says what exports in turn hand on.
 
-ghost use Rattle.std.specs.Prelude.{◌≡◌, filter};
+ghost use Rattle.std.specs.Prelude.{◌≡◌, [], ◌∷◌, filter};
+ghost use Rattle.otel_filter.specs.Filtering.{HandsOn};
 
 use crate::span_filter::SpanFilter;
 use otel_export::error::OTelSdkResult;
+use otel_export::history::History;
 use otel_export::trace::{SpanData, SpanExporter, StoresBatches};
 use otel_resource::resource::Resource;
 use std::alloc::Global;
+use std::marker::Model;
 use std::time::Duration;
 
 /// Passes on the spans of each batch that its filter keeps, as one batch and in their order. A batch of which nothing
 /// is kept is not passed on, and answered by Ok. It takes no memory of its own.
 #[derive(Drop)]
-pub struct FilteringExporter<E, F> {
-    pub exporter: E,
-    pub filter: F,
+pub struct FilteringExporter<E: SpanExporter, F: SpanFilter> {
+    // The exporter inside as it was at first.
+    begun: History<E>,
+    exporter: E,
+    filter: F,
+    handed: History<Vec<SpanData>>,
+}
+
+impl<E: SpanExporter, F: SpanFilter> Model for FilteringExporter<E, F> {
+    ghost use Rattle.std.specs.Prelude.{map};
+    ghost use Rattle.otel_filter.specs.Filtering.{FilterState, HandsOn};
+
+    ghost Value = { FilterState E F };
+
+    ghost view = { λ e. record {
+      begun = e.begun.items;
+      exporter = e.exporter;
+      filter = e.filter;
+      handed = map (λ batch. batch.items) e.handed.items;
+    } };
+
+    ghost invariant = { λ e. HandsOn E.SpanExporter F.keeps (record {
+      begun = e.begun.items;
+      exporter = e.exporter;
+      filter = e.filter;
+      handed = map (λ batch. batch.items) e.handed.items;
+    }) };
+}
+
+impl<E: SpanExporter, F: SpanFilter> FilteringExporter<E, F> {
+    /// Nothing was handed to it yet.
+    pub fn new(exporter: E, filter: F) -> FilteringExporter<E, F>
+        ensures { result ≡ record { begun = exporter ∷ []; exporter = exporter; filter = filter; handed = [] } }
+    {
+        let mut begun = History::new();
+        begun.push(&exporter);
+        FilteringExporter {
+            begun,
+            exporter,
+            filter,
+            handed: History::new(),
+        }
+    }
+
+    /// The exporter inside. While it tells, it tells what the filter keeps of the batches handed to this one, after what
+    /// it told at first.
+    pub fn exporter(&self) -> &E
+        ensures is { result.now ≡ self.now.exporter }
+        ensures hands_on { HandsOn E.SpanExporter F.keeps self.now }
+    {
+        &self.exporter
+    }
+
+    /// The filter.
+    pub fn filter(&self) -> &F
+        ensures { result.now ≡ self.now.filter }
+    {
+        &self.filter
+    }
 }
 
 /// Leaves the spans that a filter keeps.
@@ -28,11 +87,10 @@ fn retain_kept<F: SpanFilter>(by: &F, batch: &mut Vec<SpanData>)
 }
 
 impl<E: SpanExporter, F: SpanFilter> SpanExporter for FilteringExporter<E, F> {
-    ghost use Rattle.std.specs.Prelude.{None};
     ghost use Rattle.otel_export.specs.RestsOr.{RestsOr};
-    ghost use Rattle.otel_filter.specs.Filtering.{ExportsKept, ReachesInside};
+    ghost use Rattle.otel_filter.specs.Filtering.{ExportsKept, ReachesInside, told_by};
 
-    ghost told = { λ _. None };
+    ghost told = { told_by E.SpanExporter };
 
     ghost export_gives = { ExportsKept E.SpanExporter F.keeps };
 
@@ -46,6 +104,7 @@ impl<E: SpanExporter, F: SpanFilter> SpanExporter for FilteringExporter<E, F> {
         (λ e f. E.resource_gives e resource f) old new };
 
     fn export(&mut self, batch: Vec<SpanData>) -> OTelSdkResult {
+        self.handed.push(&batch);
         let mut kept = batch;
         retain_kept(&self.filter, &mut kept);
         if kept.is_empty() {
@@ -77,7 +136,7 @@ impl<E: StoresBatches, F: SpanFilter> StoresBatches for FilteringExporter<E, F> 
 
     ghost stored = { λ e. E.stored e.exporter };
 
-    ghost take_gives = { λ e f. E.take_gives e.exporter f.exporter × (f.filter ≡ e.filter) };
+    ghost take_gives = { λ e f. E.take_gives e.exporter f.exporter × (f ≡ record e { exporter = f.exporter }) };
 
     ghost appends = { record {
       exports = λ old batch answer new given. kept_adds E.appends F.keeps old batch answer new given;

@@ -6,8 +6,7 @@ ghost use Rattle.std.specs.List.{AllByRecursion};
 ghost use Rattle.otel_export.specs.PlainSpanData.{PlainSpanData, spans_in};
 ghost use Rattle.otel_export.specs.Telling.{Tells};
 ghost use Rattle.otel_export.specs.declared.error.OTelSdkError.{OTelSdkError};
-ghost use Rattle.otel_filter.specs.Filtering.{ExportsInTurn, ExportsKept, kept_answers, kept_batches};
-ghost use Rattle.otel_filter.specs.declared.filtering_exporter.FilteringExporter.{FilteringExporter};
+ghost use Rattle.otel_filter.specs.Filtering.{ExportsInTurn, ExportsKept, FilterState, kept_answers, kept_batches};
 
 use crate::span_filter::SpanFilter;
 use otel_export::trace::SpanExporter;
@@ -15,7 +14,7 @@ use otel_export::trace::SpanExporter;
 /// Where batches are exported in turn, the exporter inside was handed in turn what is kept of them, and what it
 /// answered was the answer.
 pub fn kept_batches_are_exported<E: SpanExporter, F: SpanFilter>()
-    ensures { (old new : FilteringExporter E F) (batches : List (List PlainSpanData))
+    ensures { (old new : FilterState E F) (batches : List (List PlainSpanData))
         (answers : List (Result (Unit {0}) OTelSdkError))
         → ExportsInTurn (ExportsKept E.SpanExporter F.keeps) old batches answers new
         → ExportsInTurn E.export_gives old.exporter (kept_batches (F.keeps old.filter) batches)
@@ -24,7 +23,7 @@ pub fn kept_batches_are_exported<E: SpanExporter, F: SpanFilter>()
 
 /// What the exporter inside tells goes on by what is kept of them.
 pub fn kept_batches_are_told<E: SpanExporter, F: SpanFilter>()
-    ensures { (old new : FilteringExporter E F) (batches : List (List PlainSpanData))
+    ensures { (old new : FilterState E F) (batches : List (List PlainSpanData))
         (answers : List (Result (Unit {0}) OTelSdkError))
         → ExportsInTurn (ExportsKept E.SpanExporter F.keeps) old batches answers new
         → Tells (E.told old.exporter) (kept_batches (F.keeps old.filter) batches) (E.told new.exporter) }

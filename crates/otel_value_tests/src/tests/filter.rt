@@ -62,10 +62,8 @@ fn kept_of_three<E: StoresBatches>(alloc: Global, exporter: &mut E) -> Result<St
 }
 
 fn exported(alloc: Global) -> Result<String, AllocError> {
-    let mut exporter = FilteringExporter {
-        exporter: ExporterBox::Memory(InMemorySpanExporter::new(alloc)),
-        filter: StartedFrom { moment: 5 },
-    };
+    let inside = ExporterBox::Memory(InMemorySpanExporter::new(alloc));
+    let mut exporter = FilteringExporter::new(inside, StartedFrom { moment: 5 });
     kept_of_three(alloc, &mut exporter)
 }
 
@@ -101,12 +99,10 @@ impl SpanExporter for CountsFlushes {
 
 #[test]
 fn a_flush_of_a_filter_reaches_the_exporter_inside(rt: HostRuntime) -> Result<(), Fail> {
-    let mut filtering = FilteringExporter {
-        exporter: CountsFlushes { flushes: 0 },
-        filter: StartedFrom { moment: 5 },
-    };
+    let inside = CountsFlushes { flushes: 0 };
+    let mut filtering = FilteringExporter::new(inside, StartedFrom { moment: 5 });
     assert!(rt; filtering.force_flush().is_ok());
-    assert_eq!(rt; filtering.exporter.flushes, 1);
+    assert_eq!(rt; filtering.exporter().flushes, 1);
     assert_eq!(rt; filtering.force_flush(), Err(OTelSdkError::AlreadyShutdown));
     Ok(())
 }
