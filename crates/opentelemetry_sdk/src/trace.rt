@@ -12,8 +12,9 @@ pub use otel_export::trace::{
     StoresBatches,
 };
 pub use otel_pipeline::trace::{
-    CloseReport, CountsLeftSpans, Exception, FromExporter, KeepsBatches, ProviderBuilderOf,
-    ProviderOf, SdkTracer, SimpleSpanProcessor, Span, SpanEdit, SpanProcessor, Timed,
+    BeginsSpan, CloseReport, CountsLeftSpans, Exception, FromExporter, HoldsSpan, InSpan,
+    KeepsBatches, Now, ProviderBuilderOf, ProviderOf, SdkTracer, SimpleSpanProcessor, Span,
+    SpanEdit, SpanEndError, SpanProcessor, Timed, Tracer,
 };
 pub use otel_processors::trace::{
     BatchSpanProcessor, BatchSpanProcessorBuilder, Processor, ProcessorOf,

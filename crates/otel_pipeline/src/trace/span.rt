@@ -1,14 +1,16 @@
 //! A span: one operation within a trace. It records until its end; its end delivers what it recorded to the processors
 //! of its provider. A span must be spent, so that none is forgotten.
 
-ghost use Rattle.std.specs.Prelude.{◌≡◌, ◌≤◌, ◌⊎◌, [], length, map, List, OnOk, OnErr, IfErr, IfOk, IfSome, IsOk, IsNone, Some, is_some, string_bytes};
+ghost use Rattle.std.specs.Prelude.{◌≡◌, ◌≢◌, ◌≤◌, ◌⊎◌, [], length, map, List, OnOk, OnErr, IfErr, IfOk, IfSome, IsOk, IsNone, Some, is_some, string_bytes};
 ghost use Rattle.std.specs.List.Sorted.{IsPermutation};
 ghost use Rattle.opentelemetry.specs.Order.{greatest_status};
 ghost use Rattle.opentelemetry.specs.Plain.{PlainStatus, unset};
 ghost use Rattle.opentelemetry.specs.PlainValues.{plain_status};
+ghost use Rattle.otel_pipeline.specs.EndAnswers.{AnswersEnd};
 ghost use Rattle.otel_pipeline.specs.Ending.{EndIsInfallible, Ends};
 ghost use Rattle.otel_pipeline.specs.SpanEdits.{new_event, new_link, plain_edit};
 ghost use Rattle.otel_pipeline.specs.SpanHistory as history;
+ghost use Rattle.otel_pipeline.specs.declared.trace.span.SpanEndError.TheVariants as errors;
 
 use super::span_edit;
 use crate::trace::{ProviderOf, Recorded, SpanEdit, SpanProcessor};
@@ -18,6 +20,18 @@ use otel_export::trace::SpanData;
 use otel_sampling::trace::SpanLimits;
 use std::alloc::{AllocError, AllocFailed, Global};
 use std::marker::Model;
+use thiserror::Error;
+
+/// Why the end of a span did not reach each processor.
+#[derive(Clone, Copy, Debug, PartialEq, Eq, Error)]
+pub enum SpanEndError {
+    /// There was no memory to hand the span to its processors: none of them has it.
+    #[error("no memory to hand the span to its processors")]
+    OutOfMemory,
+    /// So many processors had no memory for the span. The others have it.
+    #[error("{0} processors did not take the span")]
+    Refused(usize),
+}
 
 /// A span that somebody holds. `finish` ends and spends it; `end_with_timestamp` ends it and leaves it to be asked who
 /// it was; `abandon` spends it without delivering anything.
@@ -307,6 +321,26 @@ impl Span {
                 Ok(refused)
             }
             Err(_) => Err(AllocFailed { value: self }),
+        }
+    }
+
+    /// Ends and spends the span as `finish` does, for a caller that wants an error where a processor did not take it. Where
+    /// there is no memory for the copies the span is dropped, and no processor has been given anything.
+    pub fn finish_or_error<P: SpanProcessor, S: Drop, G: Drop>(
+        self,
+        provider: &mut ProviderOf<P, S, G>,
+        timestamp: Moment,
+    ) -> Result<(), SpanEndError>
+        ensures answers { AnswersEnd P.SpanProcessor provider.old self timestamp.0 result provider.new }
+        ensures free { EndIsInfallible self provider.old → IfErr result (λ error. error ≢ errors.OutOfMemory) }
+    {
+        match self.finish(provider, timestamp) {
+            Ok(0) => Ok(()),
+            Ok(refused) => Err(SpanEndError::Refused(refused)),
+            Err(failed) => {
+                failed.value.abandon();
+                Err(SpanEndError::OutOfMemory)
+            }
         }
     }
 
