@@ -1,7 +1,7 @@
 // SPDX-License-Identifier: Apache-2.0
 //! Examples: an exporter, two processors, a sampler and a filter of a baggage's keys of one's own, each whole in a file
-//! and ended by a test that uses it in a provider, and the quick start of the README. All of it is compiled for the
-//! tests alone.
+//! and ended by a test that uses it in a provider; the quick start of the README, and the service of docs/USING.md. All
+//! of it is compiled for the tests alone.
 #![tactic(auto)]
 
 #[cfg(test)]
@@ -18,3 +18,5 @@ mod queueing_processor;
 mod quick_start;
 #[cfg(test)]
 mod sampler;
+#[cfg(test)]
+mod service;
