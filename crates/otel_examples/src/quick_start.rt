@@ -1,25 +1,31 @@
 //! The quick start, which the README prints.
 
-use opentelemetry::{Key, KeyValue, Moment, Value};
-use opentelemetry_sdk::trace::{IdSource, ProviderOf, Sampler, SpanProcessor};
+use opentelemetry::{Context, Key, KeyValue, Value};
+use opentelemetry_sdk::trace::{
+    GivesIds, Now, ProviderOf, ShouldSample, Span, SpanProcessor, Tracer,
+};
 use std::alloc::{AllocError, Global};
 
-/// Traces a request by a span from the moment 7 to the moment 9, which ends on every path.
-pub fn trace_request<P: SpanProcessor>(
+/// Traces a request by a span, which ends whatever comes of the work.
+pub fn trace_request<L: Tracer, P: SpanProcessor, S: ShouldSample, G: GivesIds, C: Now>(
     alloc: Global,
-    provider: &mut ProviderOf<P, Sampler, IdSource>,
+    tracer: &L,
+    provider: &mut ProviderOf<P, S, G>,
+    clock: &C,
 ) -> Result<(), AllocError> {
-    let tracer = provider.tracer(String::from_str(alloc, "shop")?)?;
-    let mut span = tracer.start(String::from_str(alloc, "GET")?, provider, Moment(7))?;
-    let edited = span.set_attribute(KeyValue::new(Key::from_static_str("size"), Value::I64(3)));
-    match span.finish(provider, Moment(9)) {
-        Ok(_refusals) => edited,
-        Err(failed) => {
-            // Its end found no memory. The span comes back, and is given up.
-            failed.value.abandon();
-            Err(AllocError)
-        }
-    }
+    let name = String::from_str(alloc, "GET")?;
+    let root = Context::new();
+    let done = tracer.in_span(
+        name,
+        &root,
+        provider,
+        clock,
+        |span: &mut Span, _cx, _provider| {
+            span.set_attribute(KeyValue::new(Key::from_static_str("size"), Value::I64(3)))
+        },
+    )?;
+    done.ended?;
+    done.answer
 }
 
 mod tests;

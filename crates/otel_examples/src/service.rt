@@ -1,36 +1,83 @@
 //! A whole service, which docs/USING.md prints. Each request goes on with the trace of its caller, asks a backend within
 //! that, and tells the backend of the trace; the provider is told the time after each request, flushed and closed.
 
+use opentelemetry::Context;
 use opentelemetry::propagation::{MapCarrier, TextMapPropagator};
-use opentelemetry::trace::SpanKind;
-use opentelemetry::{Context, Moment};
+use opentelemetry::trace::{SpanBuilder, SpanKind};
 use opentelemetry_sdk::error::OTelSdkError;
 use opentelemetry_sdk::propagation::TraceContextPropagator;
 use opentelemetry_sdk::trace::{
-    CloseReport, ConfigStrings, CountsLeftSpans, FromExporter, GivesIds, IdSource, ProviderOf,
-    Sampler, SdkTracer, ShouldSample, Span, SpanProcessor, Timed,
+    CloseReport, ConfigStrings, CountsLeftSpans, FromExporter, GivesIds, IdSource, Now, ProviderOf,
+    Sampler, ShouldSample, Span, SpanProcessor, Timed, Tracer,
 };
 use std::alloc::{AllocError, Global};
 
-/// A clock, and a backend that takes headers.
-pub trait Outside {
-    fn now(&mut self) -> Moment;
+/// A backend that takes headers.
+pub trait Backend {
+    fn call(&mut self, headers: &MapCarrier) -> Result<(), AllocError>;
+}
 
-    fn call_backend(&mut self, headers: &MapCarrier) -> Result<(), AllocError>;
+/// What each request needs.
+#[derive(Drop)]
+struct Shop<L, C> {
+    alloc: Global,
+    tracer: L,
+    clock: C,
+}
+
+impl<L: Tracer, C: Now> Shop<L, C> {
+    /// Answers a request in a span whose parent is the one that its headers name.
+    fn answer<P: SpanProcessor, S: ShouldSample, G: GivesIds, B: Backend>(
+        &self,
+        headers: &MapCarrier,
+        provider: &mut ProviderOf<P, S, G>,
+        backend: &mut B,
+    ) -> Result<(), AllocError> {
+        let propagator = TraceContextPropagator::new();
+        let caller = propagator.extract_with_context(self.alloc, &Context::new(), headers)?;
+        let name = String::from_str(self.alloc, "GET /cart")?;
+        let builder = SpanBuilder::from_name(name).with_kind(SpanKind::Server);
+        let work = |_span: &mut Span, cx: &Context, provider: &mut ProviderOf<P, S, G>| {
+            self.load_cart(cx, provider, backend)
+        };
+        let done = self
+            .tracer
+            .in_span(builder, &caller, provider, &self.clock, work)?;
+        done.ended?;
+        done.answer
+    }
+
+    /// Asks the backend, in a span within that of the request.
+    fn load_cart<P: SpanProcessor, S: ShouldSample, G: GivesIds, B: Backend>(
+        &self,
+        cx: &Context,
+        provider: &mut ProviderOf<P, S, G>,
+        backend: &mut B,
+    ) -> Result<(), AllocError> {
+        let name = String::from_str(self.alloc, "load cart")?;
+        let work = |_span: &mut Span, cx: &Context, _provider: &mut ProviderOf<P, S, G>| {
+            let mut headers = MapCarrier::new(self.alloc);
+            TraceContextPropagator::new().inject_context(self.alloc, cx, &mut headers)?;
+            backend.call(&headers)
+        };
+        let done = self.tracer.in_span(name, cx, provider, &self.clock, work)?;
+        done.ended?;
+        done.answer
+    }
 }
 
 /// Answers requests with these headers.
-pub fn serve<P: FromExporter + Timed + CountsLeftSpans, O: Outside>(
+pub fn serve<P: FromExporter + Timed + CountsLeftSpans, C: Now + Drop, B: Backend>(
     alloc: Global,
     exporter: P::Exporter,
-    seed: u64,
     requests: &[MapCarrier],
-    outside: &mut O,
+    clock: C,
+    backend: &mut B,
 ) -> Result<CloseReport, OTelSdkError> {
-    let made = provider_over::<P>(alloc, exporter, seed);
+    let made = provider_over::<P>(alloc, exporter);
     let mut provider = made.map_err(|_| OTelSdkError::OutOfMemory)?;
     // Nothing between here and `close` returns early.
-    let answered = answer_all(alloc, &mut provider, requests, outside);
+    let answered = answer_all(alloc, &mut provider, requests, clock, backend);
     let flushed = provider.force_flush();
     let report = provider.close();
     answered.map_err(|_| OTelSdkError::OutOfMemory)?;
@@ -38,87 +85,36 @@ pub fn serve<P: FromExporter + Timed + CountsLeftSpans, O: Outside>(
     Ok(report)
 }
 
-/// A provider with an eager batch processor, by the default configuration.
+/// A provider with an eager batch processor, by the default configuration. The seed is fixed here; `otel_host` gives a
+/// true one.
 fn provider_over<P: FromExporter>(
     alloc: Global,
     exporter: P::Exporter,
-    seed: u64,
 ) -> Result<ProviderOf<P, Sampler, IdSource>, AllocError> {
     let strings = ConfigStrings::default();
-    let builder = ProviderOf::<P, Sampler, IdSource>::builder(alloc, &strings, seed)?;
+    let builder = ProviderOf::<P, Sampler, IdSource>::builder(alloc, &strings, 0)?;
     Ok(builder.with_eager_batch_exporter(exporter)?.build()?)
 }
 
-fn answer_all<P: Timed, O: Outside>(
+fn answer_all<P: Timed, C: Now + Drop, B: Backend>(
     alloc: Global,
     provider: &mut ProviderOf<P, Sampler, IdSource>,
     requests: &[MapCarrier],
-    outside: &mut O,
+    clock: C,
+    backend: &mut B,
 ) -> Result<(), AllocError> {
     let tracer = provider.tracer(String::from_str(alloc, "shop")?)?;
+    let shop = Shop {
+        alloc,
+        tracer,
+        clock,
+    };
     for headers in requests {
-        answer(alloc, &tracer, provider, headers, outside)?;
+        shop.answer(headers, provider, backend)?;
         // What is due by now is exported; where that fails the service goes on.
-        let _exported = provider.run_processors(outside.now());
+        let _exported = provider.run_processors(shop.clock.now());
     }
     Ok(())
-}
-
-/// A span whose parent is the one that the headers name.
-fn answer<P: SpanProcessor, S: ShouldSample, G: GivesIds, O: Outside>(
-    alloc: Global,
-    tracer: &SdkTracer,
-    provider: &mut ProviderOf<P, S, G>,
-    headers: &MapCarrier,
-    outside: &mut O,
-) -> Result<(), AllocError> {
-    let propagator = TraceContextPropagator::new();
-    let caller = propagator.extract_with_context(alloc, &Context::new(), headers)?;
-    let name = String::from_str(alloc, "GET /cart")?;
-    let builder = tracer.span_builder(name).with_kind(SpanKind::Server);
-    let span = tracer.build_with_context(builder, &caller, provider, outside.now())?;
-    let asked = ask_backend(alloc, tracer, provider, &span, outside);
-    end(span, provider, outside.now(), asked)
-}
-
-/// A span within another one.
-fn ask_backend<P: SpanProcessor, S: ShouldSample, G: GivesIds, O: Outside>(
-    alloc: Global,
-    tracer: &SdkTracer,
-    provider: &mut ProviderOf<P, S, G>,
-    parent: &Span,
-    outside: &mut O,
-) -> Result<(), AllocError> {
-    let cx = Context::new().with_span_context(parent.span_context().clone()?)?;
-    let name = String::from_str(alloc, "load cart")?;
-    let span = tracer.start_with_context(name, &cx, provider, outside.now())?;
-    let called = call(alloc, &span, outside);
-    end(span, provider, outside.now(), called)
-}
-
-/// Hands the backend headers that name this span.
-fn call<O: Outside>(alloc: Global, span: &Span, outside: &mut O) -> Result<(), AllocError> {
-    let cx = Context::new().with_span_context(span.span_context().clone()?)?;
-    let mut headers = MapCarrier::new(alloc);
-    TraceContextPropagator::new().inject_context(alloc, &cx, &mut headers)?;
-    outside.call_backend(&headers)
-}
-
-/// Ends a span, whatever came of the work within it, and answers what did.
-fn end<P: SpanProcessor, S: Drop, G: Drop>(
-    span: Span,
-    provider: &mut ProviderOf<P, S, G>,
-    now: Moment,
-    worked: Result<(), AllocError>,
-) -> Result<(), AllocError> {
-    match span.finish(provider, now) {
-        Ok(0) => worked,
-        Ok(_refusals) => Err(AllocError),
-        Err(failed) => {
-            failed.value.abandon();
-            Err(AllocError)
-        }
-    }
 }
 
 mod tests;

@@ -1,10 +1,11 @@
 //! The quick start with an exporter in memory.
 
 use super::trace_request;
+use opentelemetry::Moment;
 use opentelemetry_sdk::error::OTelSdkError;
 use opentelemetry_sdk::trace::{
     CloseReport, ConfigStrings, ExporterBox, FromExporter, IdSource, InMemorySpanExporter,
-    KeepsBatches, Processor, ProviderOf, Sampler,
+    KeepsBatches, Now, Processor, ProviderOf, Sampler, SpanProcessor,
 };
 use std::alloc::{AllocError, Global};
 use std::test::Fail;
@@ -20,6 +21,24 @@ fn provider_over<P: FromExporter>(
     Ok(builder.with_eager_batch_exporter(exporter)?.build()?)
 }
 
+/// A clock that stands still.
+struct Noon;
+
+impl Now for Noon {
+    ghost use Rattle.std.specs.Prelude.{◌≡◌};
+
+    ghost may_tell = { λ _ moment. moment ≡ 12 };
+
+    fn now(&self) -> Moment {
+        Moment(12)
+    }
+}
+
+fn traced<P: SpanProcessor>(alloc: Global, provider: &mut Provider<P>) -> Result<(), AllocError> {
+    let tracer = provider.tracer(String::from_str(alloc, "shop")?)?;
+    trace_request(alloc, &tracer, provider, &Noon)
+}
+
 /// How many batches the exporter of the first processor keeps.
 fn kept<P: KeepsBatches>(provider: &Provider<P>) -> usize {
     let first = provider.processors().first();
@@ -33,7 +52,7 @@ fn export_request<P: FromExporter + KeepsBatches>(
     exporter: P::Exporter,
 ) -> Result<(usize, usize, CloseReport), OTelSdkError> {
     let mut provider = provider_over::<P>(alloc, exporter).map_err(no_memory)?;
-    let traced = trace_request(alloc, &mut provider);
+    let traced = traced(alloc, &mut provider);
     let before = kept(&provider);
     let flushed = provider.force_flush();
     let after = kept(&provider);

@@ -1,31 +1,48 @@
 //! The service with an exporter in memory.
 
-use super::{Outside, answer_all, provider_over, serve};
+use super::{Backend, answer_all, provider_over, serve};
 use opentelemetry::Moment;
 use opentelemetry::propagation::{Extractor, Injector, MapCarrier};
 use opentelemetry_sdk::error::OTelSdkError;
 use opentelemetry_sdk::trace::{
-    ExporterBox, FromExporter, InMemorySpanExporter, KeepsBatches, Processor, SpanData,
+    ExporterBox, FromExporter, InMemorySpanExporter, KeepsBatches, Now, Processor, SpanData,
 };
 use std::alloc::{AllocError, Global};
+use std::cell::Cell;
 use std::test::Fail;
 
 const CALLER: &str = "00-0af7651916cd43dd8448eb211c80319c-b7ad6b7169203331-01";
 
-/// Time that goes on by one at each look, and a backend that notes who calls.
+/// A clock that goes on by one at each look.
 #[derive(Drop)]
-struct Fake {
-    now: u64,
+struct Ticks {
+    told: Cell<u64>,
+}
+
+impl Ticks {
+    fn new() -> Ticks {
+        Ticks { told: Cell::new(0) }
+    }
+}
+
+impl Now for Ticks {
+    ghost may_tell = { λ _ _. Unit {0} };
+
+    fn now(&self) -> Moment {
+        let next = self.told.get().saturating_add(1);
+        self.told.set(next);
+        Moment(next)
+    }
+}
+
+/// A backend that notes who calls.
+#[derive(Drop)]
+struct Notes {
     calls: String,
 }
 
-impl Outside for Fake {
-    fn now(&mut self) -> Moment {
-        self.now = self.now.saturating_add(1);
-        Moment(self.now)
-    }
-
-    fn call_backend(&mut self, headers: &MapCarrier) -> Result<(), AllocError> {
+impl Backend for Notes {
+    fn call(&mut self, headers: &MapCarrier) -> Result<(), AllocError> {
         let said = headers.get("traceparent").unwrap_or("nothing");
         self.calls.push_str(said)
     }
@@ -64,20 +81,19 @@ fn exported<P: FromExporter + KeepsBatches>(
     alloc: Global,
     exporter: P::Exporter,
 ) -> Result<String, AllocError> {
-    let mut fake = Fake {
-        now: 0,
+    let mut backend = Notes {
         calls: String::new(alloc),
     };
     let requests = requests(alloc)?;
     let mut text = String::new(alloc);
-    let mut provider = provider_over::<P>(alloc, exporter, 0)?;
-    let answered = answer_all(alloc, &mut provider, &requests, &mut fake);
+    let mut provider = provider_over::<P>(alloc, exporter)?;
+    let answered = answer_all(alloc, &mut provider, &requests, Ticks::new(), &mut backend);
     let is_flushed = provider.force_flush().is_ok();
     let pushed = push_kept(&mut text, provider.processors());
     let is_closed = provider.close().result.is_ok();
     answered?;
     pushed?;
-    text.push_str(fake.calls.as_str())?;
+    text.push_str(backend.calls.as_str())?;
     if is_flushed && is_closed {
         Ok(text)
     } else {
@@ -104,12 +120,11 @@ fn served<P: FromExporter + KeepsBatches>(
     alloc: Global,
     exporter: P::Exporter,
 ) -> Result<bool, OTelSdkError> {
-    let mut fake = Fake {
-        now: 0,
+    let mut backend = Notes {
         calls: String::new(alloc),
     };
     let requests = requests(alloc).map_err(|_| OTelSdkError::OutOfMemory)?;
-    let report = serve::<P, Fake>(alloc, exporter, 0, &requests, &mut fake)?;
+    let report = serve::<P, Ticks, Notes>(alloc, exporter, &requests, Ticks::new(), &mut backend)?;
     Ok(report.result.is_ok() && report.stranded == 0 && report.left_open == 0)
 }
 
