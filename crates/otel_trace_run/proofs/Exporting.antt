@@ -3,6 +3,8 @@ use Rattle.std.proofs.Common.{◌≡◌, ◌++◌, ◌∙◌, ℕ, List, [], ◌
 use Rattle.std.proofs.Common.{append_assoc, length-append, map, refl, subst, sym}
 use Rattle.std.proofs.Math.Seq.{drop-append_seam}
 use Rattle.std.specs.Io.KnownBytes.{Appends}
+use Rattle.otel_export.proofs.StreamLemmas.{appends_all, appends_longer}
+use Rattle.otel_export.specs.Streams.{AppendsBeginning}
 use Rattle.otel_resource.specs.DetectedResource.{IsDetected}
 use Rattle.otel_resource.specs.Resource.{PlainResource}
 use Rattle.otel_sampling.specs.declared.trace.sampler.SamplerOf.{SamplerOf}
@@ -15,21 +17,21 @@ use Rattle.otel_trace_lines.specs.PlainReply.{PlainReply}
 use Rattle.otel_trace_lines.specs.ReplyForm.{texts}
 use Rattle.otel_otlp.specs.Otlp.{otlp_line, otlp_lines, otlp_text}
 use Rattle.otel_pipeline.specs.Provider.{ProviderState}
-use Rattle.otel_trace_run.specs.OtlpRuns.{ExportsAll, exported_since, otlp_form}
+use Rattle.otel_trace_run.specs.OtlpRuns.{ExportsAll, ExportsSome, exported_since, otlp_form, session_reaches}
 use Rattle.otel_trace_run.specs.Program.{BeginsExporting, ExportsAsked, IsProviderOf, MemoryProcessor, strings_given}
 use Rattle.otel_trace_run.specs.Streams.{EndsAs, Streams}
-use Rattle.otel_trace_run.specs.TraceRuns.{TracesBegun, TracesWhole}
+use Rattle.otel_trace_run.specs.TraceRuns.{CarriesOutSome, ClosesSome, TracesBegun, TracesSome, TracesWhole}
 use Rattle.otel_trace_run.specs.declared.mode.Asked.{Asked}
 use Rattle.otel_trace_run.specs.declared.run_end.RunEnd.{RunEnd}
 use Rattle.otel_trace_run.specs.declared.run_end.RunEnd.TheVariants as ends
-use Rattle.otel_trace_run.proofs.TraceStream.{whole_begun}
+use Rattle.otel_trace_run.proofs.TraceStream.{all_begun, whole_begun}
 use Rattle.otel_trace_session.specs.Calls.{Calls, batches_of_first, stored_of_first}
 use Rattle.otel_trace_session.specs.Closing.{Closes, or_no_memory}
 use Rattle.otel_trace_session.specs.Shown.{all_stored, exported_in, session_stored}
 use Rattle.otel_trace_session.specs.Turns.{BeginsUnder, SessionState, TookTurns}
 use Rattle.otel_trace_session.specs.OpenSpans.{Describe, NamedSpans}
 use Rattle.otel_trace_session.specs.ProviderTurns.{ShutsIfOpen}
-use Rattle.otel_trace_session.proofs.ShownLemmas.{closes_rest}
+use Rattle.otel_trace_session.proofs.ShownLemmas.{all_shown, closes_rest}
 use Rattle.otel_trace_session.proofs.TakingLemmas.{taken_all}
 
 -- lines of batches, and of others after them
@@ -100,12 +102,80 @@ module _ {P S G : Type 0} (calls : Calls P S G)
       ∙ sym (lines_joined resource (exported_in f.feeds.replies) left) ∙ ap (otlp_lines resource) all in
       record { traces = h; lines = subst (Appends s.output s.output_after) text h.2.written; drops_none = f.drops_none refl }
 
+  -- replies to commands own the batches that were exported so far, but for those that are kept
+  since_taken : (provider : ProviderState P S G) (begun after : SessionState P S G) (commands : List PlainCommand)
+      (replies : List PlainReply) → BeginsUnder calls provider begun
+      → TookTurns calls begun (λ _. None) commands replies after
+      → exported_in replies ++ batches_of_first calls.keeps after.provider.processors
+      ≡ exported_since calls provider after.provider
+  since_taken provider begun after commands replies begins took =
+      let before = all_stored (stored_of_first calls.keeps provider.processors) in
+      let kept = batches_of_first calls.keeps after.provider.processors in
+      let rest = exported_in replies ++ kept in
+      let shows = all_shown calls begun after (λ _. None) took.after commands took.turns replies took.replied_to took.are_turns in
+      let taken : (session_stored calls.keeps begun).taken ≡ before =
+      ap (λ (s : StoredBatches). s.taken) (taken_all calls provider.processors begun.provider.processors begins.takes.first) in
+      let all : all_stored (stored_of_first calls.keeps after.provider.processors) ≡ before ++ rest =
+      ap (λ (l : List (List PlainSpanData)). l ++ kept) (shows.shown ∙ ap (λ (l : List (List PlainSpanData)). l ++ exported_in replies) taken)
+      ∙ append_assoc before (exported_in replies) kept in
+      sym (ap (λ (l : List (List PlainSpanData)). drop (length before) l) all ∙ drop-append_seam before rest)
+
+  -- the lines of some batches are a beginning of those of them and of others
+  lines_begin : (first second all : List (List PlainSpanData)) (a b : Option (List ℕ)) → first ++ second ≡ all
+      → AppendsBeginning a b (otlp_lines resource first) → AppendsBeginning a b (otlp_lines resource all)
+  lines_begin first second all a b e h =
+      subst (AppendsBeginning a b) (sym (lines_joined resource first second) ∙ ap (otlp_lines resource) e)
+      (appends_longer a b (otlp_lines resource first) (otlp_lines resource second) h)
+
+  -- a beginning of the replies is one of the lines
+  replies_begin : (provider : ProviderState P S G) (begun : SessionState P S G) (s : Streams)
+      → BeginsUnder calls provider begun
+      → (h : CarriesOutSome calls (otlp_form resource) begun s.input (AppendsBeginning s.output s.output_after))
+      → AppendsBeginning s.output s.output_after (otlp_lines resource (exported_since calls provider h.after.provider))
+  replies_begin provider begun s begins h =
+      let took = h.ran.took (λ _. None) (nothing_described begun.spans begins.spans) in
+      lines_begin (exported_in h.replies) (batches_of_first calls.keeps h.after.provider.processors) (exported_since calls provider h.after.provider)
+      s.output s.output_after (since_taken provider begun h.after (plain_commands h.commands) h.replies begins took)
+      (subst (AppendsBeginning s.output s.output_after) (texts_are_lines resource h.replies) h.written)
+
+  -- what was replied and what a close appended, or nothing, is a beginning of the lines of what was exported
+  closes_begin : (provider : ProviderState P S G) (begun : SessionState P S G) (s : Streams) (bad_line : Option ℕ)
+      → BeginsUnder calls provider begun → (h : ClosesSome calls (otlp_form resource) begun s bad_line)
+      → AppendsBeginning s.output s.output_after (otlp_lines resource (exported_since calls provider h.closes.provider))
+  closes_begin provider begun s bad_line begins h =
+      let replies = h.feeds.replies in
+      let left = batches_of_first calls.keeps h.closes.provider.processors in
+      let took = h.feeds.these.ran.took (λ _. None) (nothing_described begun.spans begins.spans) in
+      let all = since_begun calls law provider begun h.after h.closes.provider (plain_commands h.feeds.these.commands)
+      replies h.closes.shutdown begins took h.closes.shuts in
+      let replied = h.feeds.written ∙ texts_are_lines resource replies in
+      elim h.closes.writes [
+        | inl w ↦ subst (AppendsBeginning s.output s.output_after)
+            (w.written ∙ ap (λ bs. bs ++ otlp_lines resource left) replied
+            ∙ sym (lines_joined resource (exported_in replies) left) ∙ ap (otlp_lines resource) all) h.written
+        | inr w ↦ lines_begin (exported_in replies) left (exported_since calls provider h.closes.provider) s.output s.output_after all
+            (subst (AppendsBeginning s.output s.output_after) (w.written ∙ replied) h.written)
+      ]
+
+  -- either way
+  begins_lines : (provider : ProviderState P S G) (begun : SessionState P S G) (s : Streams)
+      → BeginsUnder calls provider begun → (h : TracesSome calls (otlp_form resource) begun s)
+      → AppendsBeginning s.output s.output_after
+      (otlp_lines resource (exported_since calls provider (session_reaches calls (otlp_form resource) begun s h)))
+  begins_lines provider begun s begins (inl h) = replies_begin provider begun s begins h
+  begins_lines provider begun s begins (inr h) = closes_begin provider begun s h.0 begins h.1
+
+  exports_some : (provider : ProviderState P S G) (s : Streams) → TracesBegun calls (otlp_form resource) provider s
+      → ExportsSome calls resource provider s
+  exports_some provider s (inl nothing) = record { traces = inl nothing; lines = ([], _, refl, nothing) }
+  exports_some provider s (inr h) = record { traces = inr h; lines = begins_lines provider h.0 s h.1 h.2 }
+
   pub exports_as : (provider : ProviderState P S G) (s : Streams) (end : RunEnd)
       → EndsAs (TracesWhole calls (otlp_form resource) provider s) (TracesBegun calls (otlp_form resource) provider s) s end
-      → EndsAs (ExportsAll calls resource provider s) (TracesBegun calls (otlp_form resource) provider s) s end
+      → EndsAs (ExportsAll calls resource provider s) (ExportsSome calls resource provider s) s end
   exports_as provider s ends.Done h = (exports_all provider s None h.0, h.1)
   exports_as provider s (ends.BadLine line) h = exports_all provider s (Some line) h
-  exports_as provider s ends.Failed h = h
+  exports_as provider s ends.Failed h = exports_some provider s h
 
 -- where no line is written, there is no batch
 pub no_batch : {X : Type 0} (items : X → List PlainSpanData) (resource : PlainResource) (batches : List X)
@@ -122,15 +192,25 @@ module _ {C D E : Type 0} (calls : Calls (MemoryProcessor C D) (SamplerOf E) (Li
   -- what is exported of this resource under the provider that is asked for
   pub exports_asked : (provider : ProviderState (MemoryProcessor C D) (SamplerOf E) (List ℕ)) (s : Streams) (end : RunEnd)
       → IsDetected (strings_given given) resource → IsProviderOf true asked provider
-      → EndsAs (ExportsAll calls resource provider s) (TracesBegun calls (otlp_form resource) provider s) s end
+      → EndsAs (ExportsAll calls resource provider s) (ExportsSome calls resource provider s) s end
       → EndsAs (ExportsAsked calls asked given s) (BeginsExporting calls asked given s) s end
   exports_asked provider s ends.Done is of h = ((resource, is, provider, of, h.0), h.1)
   exports_asked provider s (ends.BadLine line) is of h = (resource, is, provider, of, h)
   exports_asked provider s ends.Failed is of h = inr (resource, is, provider, of, h)
+
+module _ {P S G : Type 0} (calls : Calls P S G) (resource : PlainResource) where
+  -- what was exported whole is a beginning
+  exported_some : (provider : ProviderState P S G) (s : Streams) (bad_line : Option ℕ)
+      → ExportsAll calls resource provider s bad_line → ExportsSome calls resource provider s
+  unfolding whole_begun all_begun
+  exported_some provider s bad_line h = record {
+    traces = whole_begun calls (otlp_form resource) provider s bad_line h.traces;
+    lines = appends_all s.output s.output_after _ h.lines;
+  }
 
 module _ {C D E : Type 0} (calls : Calls (MemoryProcessor C D) (SamplerOf E) (List ℕ)) where
   -- what was exported whole is a beginning
   pub exporting_begun : (asked : Asked) (given : List (List ℕ)) (s : Streams) (bad_line : Option ℕ)
       → ExportsAsked calls asked given s bad_line → BeginsExporting calls asked given s
   exporting_begun asked given s bad_line (resource, is, provider, of, h) =
-      inr (resource, is, provider, of, whole_begun calls (otlp_form resource) provider s bad_line h.traces)
+      inr (resource, is, provider, of, exported_some calls resource provider s bad_line h)

@@ -31,7 +31,7 @@ use Rattle.otel_export.specs.Streams.{AppendsBeginning}
 use Rattle.otel_export.proofs.StreamLemmas.{appends_after, appends_all, appends_longer}
 use Rattle.otel_trace_run.specs.Pieces.{GivesLines, KeepsAll, PlainPieces}
 use Rattle.otel_trace_run.specs.Streams.{EndsAs, Streams, streams}
-use Rattle.otel_trace_run.specs.TraceRuns.{BeginsToSpell, CarriesOutSome, FeedsPieces, FeedsPiece, FedAs, Traces, TracesAll, TracesBegun, TracesSome, TracesUnder, TracesWhole}
+use Rattle.otel_trace_run.specs.TraceRuns.{BeginsToSpell, CarriesOutSome, FeedsPieces, FeedsPiece, FedAs, Traces, TracesAll, TracesBegun, TracesSome, TracesUnder, TracesWhole, ClosesSome}
 use Rattle.otel_trace_run.specs.declared.run_end.RunEnd.{RunEnd}
 use Rattle.otel_trace_run.specs.declared.run_end.RunEnd.TheVariants as ends
 use Rattle.otel_trace_run.proofs.Cut.{IsCut, cut_given, cut_last, cut_piece, ends_joined, holds_of_all, nothing_ends, read_on_from}
@@ -109,15 +109,6 @@ module _ {P S G : Type 0} (calls : Calls P S G) where
     lost_before = refl;
     took = λ histories describes. record { turns = []; after = histories; are_turns = refl; replied_to = refl; describes = describes };
   })
-
-module _ {P S G : Type 0} (calls : Calls P S G) (form : Form) where
-  -- what a close appends is a beginning of the text of batches, after any text
-  closes_text : (now : SessionState P S G) (answer : Result (Unit {0}) OTelSdkError) (before text : List ℕ) → Closes calls form now before answer text
-      → (batches : List (List PlainSpanData)) × (left : List ℕ) × (before ++ form.rest batches ≡ text ++ left)
-  closes_text now answer before text h = elim h.writes [
-    | inl w ↦ (_, [], sym w.written ∙ sym (append-nil text))
-    | inr w ↦ ([], form.rest [], ap (λ bs. bs ++ form.rest []) (sym w.written))
-  ]
 
 module _ {P S G : Type 0} (calls : Calls P S G) (form : Form) (begun : SessionState P S G) where
   -- none was given yet
@@ -293,42 +284,9 @@ module _ {P S G : Type 0} (calls : Calls P S G) (form : Form) (begun : SessionSt
       }
 
 module _ {P S G : Type 0} (calls : Calls P S G) (form : Form) (begun : SessionState P S G) where
-  -- what was fed is a beginning
-  fed_some : (now : SessionState P S G) (s : Streams) (bad_line : Option ℕ) → FeedsPieces calls form begun now s bad_line → CarriesOutSome calls form begun s.input (Appends s.output s.output_after)
-  fed_some now s bad_line h = record {
-    bytes = h.bytes;
-    commands = h.fed.commands;
-    replies = h.replies;
-    after = now;
-    all = h.all;
-    begins = begins_text h.bytes (plain_commands h.fed.commands) bad_line h.fed.spelled;
-    ran = h.fed.ran;
-    none_refused = h.none_refused;
-    written = h.written;
-  }
-
-  -- what was carried out and closed, where not all was written
-  pub some_closed : (input output reached output_after : Option (List ℕ)) (now : SessionState P S G) (answer : Result (Unit {0}) OTelSdkError) (closing : List ℕ) → CarriesOutSome calls form begun input (Appends output reached)
-      → Closes calls form now [] answer closing → AppendsBeginning reached output_after closing → (after : Option (List ℕ)) → TracesSome calls form begun (streams input after output output_after)
-  some_closed input output reached output_after now answer closing h k written after =
-      let rest = closes_text calls form now answer [] closing k in record {
-        bytes = h.bytes;
-        commands = h.commands;
-        replies = h.replies;
-        after = h.after;
-        all = h.all;
-        begins = h.begins;
-        ran = h.ran;
-        none_refused = h.none_refused;
-        written = (
-          rest.0,
-          appends_after output reached output_after (texts form h.replies) (form.rest rest.0) h.written
-              (subst (AppendsBeginning reached output_after) (sym rest.2) (appends_longer reached output_after closing rest.1 written)),
-        );
-      }
-
-  pub some_broken : (input output output_after : Option (List ℕ)) → CarriesOutSome calls form begun input (AppendsBeginning output output_after) → (after : Option (List ℕ)) → TracesSome calls form begun (streams input after output output_after)
-  some_broken input output output_after h after = record {
+  -- what was written whole is a beginning
+  pub begun_whole : (input output output_after : Option (List ℕ)) → CarriesOutSome calls form begun input (Appends output output_after) → CarriesOutSome calls form begun input (AppendsBeginning output output_after)
+  begun_whole input output output_after h = record {
     bytes = h.bytes;
     commands = h.commands;
     replies = h.replies;
@@ -337,7 +295,7 @@ module _ {P S G : Type 0} (calls : Calls P S G) (form : Form) (begun : SessionSt
     begins = h.begins;
     ran = h.ran;
     none_refused = h.none_refused;
-    written = ([], appends_longer output output_after (texts form h.replies) (form.rest []) h.written);
+    written = appends_all output output_after (texts form h.replies) h.written;
   }
 
   -- a close appends the same after any text
@@ -365,20 +323,41 @@ module _ {P S G : Type 0} (calls : Calls P S G) (form : Form) (begun : SessionSt
     written = Appends-trans output reached output_after (texts form h.replies) closing h.written written;
   }
 
-  -- a session was fed and closed, and not all was well or written
-  pub closed_some : (now : SessionState P S G) (input after output reached output_after : Option (List ℕ)) (end : RunEnd) (answer : Result (Unit {0}) OTelSdkError) (closing : List ℕ) → FedAs calls form begun now (streams input after output reached) end
+  -- what was fed and closed, of which a beginning was written
+  some_closed : (now : SessionState P S G) (input after output reached output_after : Option (List ℕ)) (bad_line : Option ℕ) (answer : Result (Unit {0}) OTelSdkError) (closing : List ℕ) → FeedsPieces calls form begun now (streams input after output reached) bad_line
+      → Closes calls form now [] answer closing → AppendsBeginning reached output_after closing → ClosesSome calls form begun (streams input after output output_after) bad_line
+  some_closed now input after output reached output_after bad_line answer closing h k written = record {
+    bytes = h.bytes;
+    replied = texts form h.replies;
+    text = texts form h.replies ++ closing;
+    after = now;
+    answer = answer;
+    all = h.all;
+    feeds = record { replies = h.replies; written = refl; none_refused = h.none_refused; these = h.fed };
+    closes = closes_after now answer (texts form h.replies) closing k;
+    written = appends_after output reached output_after (texts form h.replies) closing h.written written;
+  }
+
+  -- feeding failed
+  pub some_failed : (now : SessionState P S G) (input after output output_after : Option (List ℕ)) (end : RunEnd) → end ≡ ends.Failed → FedAs calls form begun now (streams input after output output_after) end
+      → TracesSome calls form begun (streams input after output output_after)
+  some_failed now input after output output_after end is h =
+      inl (begun_whole input output output_after (subst (FedAs calls form begun now (streams input after output output_after)) is h))
+
+  -- a session was fed and closed, where feeding did not fail, and not all was well or written
+  pub closed_some : (now : SessionState P S G) (input after output reached output_after : Option (List ℕ)) (end : RunEnd) (answer : Result (Unit {0}) OTelSdkError) (closing : List ℕ) → ¬ (end ≡ ends.Failed) → FedAs calls form begun now (streams input after output reached) end
       → Closes calls form now [] answer closing → AppendsBeginning reached output_after closing → TracesSome calls form begun (streams input after output output_after)
-  closed_some now input after output reached output_after ends.Done answer closing h k written = some_closed input output reached output_after now answer closing (fed_some now (streams input after output reached) None h.0) k written after
-  closed_some now input after output reached output_after (ends.BadLine line) answer closing h k written = some_closed input output reached output_after now answer closing (fed_some now (streams input after output reached) (Some line) h) k written after
-  closed_some now input after output reached output_after ends.Failed answer closing h k written = some_closed input output reached output_after now answer closing h k written after
+  closed_some now input after output reached output_after ends.Done answer closing goes h k written = inr (None, some_closed now input after output reached output_after None answer closing h.0 k written)
+  closed_some now input after output reached output_after (ends.BadLine line) answer closing goes h k written = inr (Some line, some_closed now input after output reached output_after (Some line) answer closing h k written)
+  closed_some now input after output reached output_after ends.Failed answer closing goes h k written = absurd (goes refl)
 
   -- a session was fed and closed well, and all was written
-  pub closed_as : (now : SessionState P S G) (input after output reached output_after : Option (List ℕ)) (end : RunEnd) (closing : List ℕ) → FedAs calls form begun now (streams input after output reached) end
+  pub closed_as : (now : SessionState P S G) (input after output reached output_after : Option (List ℕ)) (end : RunEnd) (closing : List ℕ) → ¬ (end ≡ ends.Failed) → FedAs calls form begun now (streams input after output reached) end
       → EndsWell calls form now form.minds_drops closing → Appends reached output_after closing
       → EndsAs (TracesAll calls form begun (streams input after output output_after)) (TracesSome calls form begun (streams input after output output_after)) (streams input after output output_after) end
-  closed_as now input after output reached output_after ends.Done closing h k written = (all_closed now input after output reached output_after None closing h.0 k written, h.1)
-  closed_as now input after output reached output_after (ends.BadLine line) closing h k written = all_closed now input after output reached output_after (Some line) closing h k written
-  closed_as now input after output reached output_after ends.Failed closing h k written = some_closed input output reached output_after now (Ok tt) closing h k.closes (appends_all reached output_after closing written) after
+  closed_as now input after output reached output_after ends.Done closing goes h k written = (all_closed now input after output reached output_after None closing h.0 k written, h.1)
+  closed_as now input after output reached output_after (ends.BadLine line) closing goes h k written = all_closed now input after output reached output_after (Some line) closing h k written
+  closed_as now input after output reached output_after ends.Failed closing goes h k written = absurd (goes refl)
 
   -- how feeding ends at a bad line
   pub fed_bad : (now : SessionState P S G) (s : Streams) (line : ℕ) (end : RunEnd) → (end ≡ ends.Failed) ⊎ (end ≡ ends.BadLine line) → FeedsPieces calls form begun now s (Some line) → CarriesOutSome calls form begun s.input (Appends s.output s.output_after)
@@ -388,39 +367,21 @@ module _ {P S G : Type 0} (calls : Calls P S G) (form : Form) (begun : SessionSt
 
 module _ {P S G : Type 0} (calls : Calls P S G) (form : Form) (begun : SessionState P S G) where
   -- what was given whole is a beginning
-  pub all_begun : (s : Streams) (bad_line : Option ℕ) → TracesAll calls form begun s bad_line → TracesSome calls form begun s
-  all_begun s bad_line h =
-      let f = h.finishes in
-      let rest = closes_text calls form f.after (Ok tt) f.written h.text f.closes in
-      record {
-        bytes = h.bytes;
-        commands = f.feeds.these.commands;
-        replies = f.feeds.replies;
-        after = f.after;
-        all = h.all;
-        begins = begins_text h.bytes (plain_commands f.feeds.these.commands) bad_line f.feeds.these.spelled;
-        ran = f.feeds.these.ran;
-        none_refused = f.feeds.none_refused;
-        written = (
-          rest.0,
-          subst (AppendsBeginning s.output s.output_after) (sym rest.2 ∙ ap (λ bs. bs ++ form.rest rest.0) f.feeds.written)
-              (appends_longer s.output s.output_after h.text rest.1 (appends_all s.output s.output_after h.text h.written)),
-        );
-      }
-
-  -- what was written whole is a beginning
-  pub begun_whole : (input output output_after : Option (List ℕ)) → CarriesOutSome calls form begun input (Appends output output_after) → CarriesOutSome calls form begun input (AppendsBeginning output output_after)
-  begun_whole input output output_after h = record {
-    bytes = h.bytes;
-    commands = h.commands;
-    replies = h.replies;
-    after = h.after;
-    all = h.all;
-    begins = h.begins;
-    ran = h.ran;
-    none_refused = h.none_refused;
-    written = appends_all output output_after (texts form h.replies) h.written;
-  }
+  unfoldable pub all_begun : (s : Streams) (bad_line : Option ℕ) → TracesAll calls form begun s bad_line → TracesSome calls form begun s
+  all_begun s bad_line h = inr (
+    bad_line,
+    record {
+      bytes = h.bytes;
+      replied = h.finishes.written;
+      text = h.text;
+      after = h.finishes.after;
+      answer = Ok tt;
+      all = h.all;
+      feeds = h.finishes.feeds;
+      closes = h.finishes.closes;
+      written = appends_all s.output s.output_after h.text h.written;
+    },
+  )
 
 module _ {P S G : Type 0} (calls : Calls P S G) (form : Form) where
   -- what a new session did is what was done under its provider
@@ -431,5 +392,5 @@ module _ {P S G : Type 0} (calls : Calls P S G) (form : Form) where
   traced_under provider begun s ends.Failed begins h = inr (begun, begins, h)
 
   -- what was given whole under a provider is a beginning
-  pub whole_begun : (provider : ProviderState P S G) (s : Streams) (bad_line : Option ℕ) → TracesWhole calls form provider s bad_line → TracesBegun calls form provider s
+  unfoldable pub whole_begun : (provider : ProviderState P S G) (s : Streams) (bad_line : Option ℕ) → TracesWhole calls form provider s bad_line → TracesBegun calls form provider s
   whole_begun provider s bad_line (begun, begins, h) = inr (begun, begins, all_begun calls form begun s bad_line h)

@@ -1,16 +1,19 @@
 -- What the mode `otlp` does with its streams: each batch that a session exports is a line.
 use Rattle.std.specs.Prelude.{◌≡◌, ℕ, List, Option, drop, length, sum_by, true}
+use Rattle.std.proofs.Common.{inl, inr}
 use Rattle.std.specs.Io.KnownBytes.{Appends}
 use Rattle.otel_resource.specs.Resource.{PlainResource}
 use Rattle.otel_export.specs.PlainSpanData.{PlainSpanData}
+use Rattle.otel_export.specs.Streams.{AppendsBeginning}
 use Rattle.otel_trace_lines.specs.ReplyForm.{Form}
 use Rattle.otel_otlp.specs.Otlp.{otlp_lines}
 use Rattle.otel_pipeline.specs.Provider.{ProviderState}
 use Rattle.otel_trace_run.specs.Streams.{EndsAs, Streams}
-use Rattle.otel_trace_run.specs.TraceRuns.{TracesBegun, TracesWhole}
+use Rattle.otel_trace_run.specs.TraceRuns.{TracesBegun, TracesSome, TracesWhole}
 use Rattle.otel_trace_run.specs.declared.run_end.RunEnd.{RunEnd}
 use Rattle.otel_trace_session.specs.Calls.{Calls, stored_of_first}
 use Rattle.otel_trace_session.specs.Shown.{all_stored}
+use Rattle.otel_trace_session.specs.Turns.{SessionState}
 
 -- replies as the lines of their batches; an answer is not written, and a dropped span is a failure, since nothing else
 -- would tell it
@@ -27,6 +30,20 @@ abbrev pub exported_since : {P S G : Type 0} → Calls P S G → ProviderState P
 exported_since calls begun closed = drop (length (all_stored (stored_of_first calls.keeps begun.processors)))
     (all_stored (stored_of_first calls.keeps closed.processors))
 
+module _ {P S G : Type 0} (calls : Calls P S G) (form : Form) where
+  -- where the provider stands after a session of which a beginning was written: after the commands whose replies those
+  -- are, or after its close
+  abbrev pub session_reaches : (begun : SessionState P S G) (s : Streams) → TracesSome calls form begun s
+      → ProviderState P S G
+  session_reaches begun s (inl carried) = carried.after.provider
+  session_reaches begun s (inr closed) = closed.1.closes.provider
+
+  -- the same of a run under a provider: as it was, where there was no session
+  abbrev pub run_reaches : (provider : ProviderState P S G) (s : Streams) → TracesBegun calls form provider s
+      → ProviderState P S G
+  run_reaches provider s (inl nothing) = provider
+  run_reaches provider s (inr traced) = session_reaches traced.0 s traced.2
+
 module _ {P S G : Type 0} (calls : Calls P S G) (resource : PlainResource) where
   -- one session carried out the whole input, up to its first bad line, and closed; the output was given the lines of
   -- all batches that it exported, in order. No span was dropped at a full queue
@@ -36,6 +53,13 @@ module _ {P S G : Type 0} (calls : Calls P S G) (resource : PlainResource) where
         (otlp_lines resource (exported_since calls provider traces.2.finishes.closes.provider))
     pub drops_none : sum_by calls.queues.dropped_over traces.2.finishes.closes.provider.processors ≡ 0
 
+  -- the same of a run that failed: the output was given a beginning of the lines of all batches that its session
+  -- exported so far, in order
+  pub record ExportsSome (provider : ProviderState P S G) (s : Streams) : Type 0 where
+    pub traces : TracesBegun calls (otlp_form resource) provider s
+    pub lines : AppendsBeginning s.output s.output_after (otlp_lines resource
+        (exported_since calls provider (run_reaches calls (otlp_form resource) provider s traces)))
+
   -- what a session did whose batches are written, by how it ended
   abbrev pub ExportsUnder : ProviderState P S G → Streams → RunEnd → Type 0
-  ExportsUnder provider s end = EndsAs (ExportsAll provider s) (TracesBegun calls (otlp_form resource) provider s) s end
+  ExportsUnder provider s end = EndsAs (ExportsAll provider s) (ExportsSome provider s) s end

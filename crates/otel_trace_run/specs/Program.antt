@@ -21,7 +21,7 @@ use Rattle.otel_processors.specs.declared.trace.processor.ProcessorOf.TheVariant
 use Rattle.otel_trace_lines.specs.ReplyForm.{reply_lines}
 use Rattle.otel_trace_session.specs.Calls.{Calls}
 use Rattle.otel_trace_run.specs.Arguments.{PlainMode, otlp, picture, steps, trace}
-use Rattle.otel_trace_run.specs.OtlpRuns.{ExportsAll, otlp_form}
+use Rattle.otel_trace_run.specs.OtlpRuns.{ExportsAll, ExportsSome}
 use Rattle.otel_trace_run.specs.PictureRuns.{DrawsAll, DrawsSome, Painting}
 use Rattle.otel_trace_run.specs.StepRuns.{StepsBegun, StepsSized}
 use Rattle.otel_trace_run.specs.Streams.{EndsAs, EndsWith, Streams}
@@ -89,13 +89,13 @@ module _ {C D E : Type 0} (calls : Calls (MemoryProcessor C D) (SamplerOf E) (Li
       × (provider : ProviderState (MemoryProcessor C D) (SamplerOf E) (List ℕ))
       × IsProviderOf true asked provider × ExportsAll calls resource provider s bad_line
 
-  -- the output was given a beginning of such lines for a beginning of the input; or nothing, where there was no memory
-  -- for the resource or the provider
+  -- the output was given a beginning of the lines of the batches that such a session exported so far; or nothing, where
+  -- there was no memory for the resource or the provider
   abbrev pub BeginsExporting : List (List ℕ) → Streams → Type 0
   BeginsExporting given s = Appends s.output s.output_after []
       ⊎ ((resource : PlainResource) × IsDetected (strings_given given) resource
       × (provider : ProviderState (MemoryProcessor C D) (SamplerOf E) (List ℕ))
-      × IsProviderOf true asked provider × TracesBegun calls (otlp_form resource) provider s)
+      × IsProviderOf true asked provider × ExportsSome calls resource provider s)
 
   -- the output was given the picture of the spans that a session exported over the whole input, under the provider that
   -- is asked for

@@ -2,7 +2,7 @@
 use Rattle.std.specs.Prelude.{◌≡◌, ◌⊎◌, ◌++◌, ℕ, List, [], Option, Some, None, Result}
 use Rattle.std.specs.Io.KnownBytes.{Appends, IsAtEnd}
 use Rattle.std.specs.Str.Lines.{lines}
-use Rattle.otel_export.specs.PlainSpanData.{PlainSpanData}
+use Rattle.otel_export.specs.declared.error.OTelSdkError.{OTelSdkError}
 use Rattle.otel_trace_lines.specs.Commands.{PlainCommand, plain_commands}
 use Rattle.otel_trace_lines.specs.Lines.{Spell}
 use Rattle.otel_trace_lines.specs.PlainReply.{NoneRefused, PlainReply}
@@ -14,8 +14,8 @@ use Rattle.otel_trace_run.specs.Streams.{AreAll, EndsAs, Streams}
 use Rattle.otel_trace_run.specs.declared.run_end.RunEnd.{RunEnd}
 use Rattle.otel_trace_run.specs.declared.run_end.RunEnd.TheVariants as ends
 use Rattle.otel_trace_session.specs.Calls.{Calls}
-use Rattle.otel_trace_session.specs.Closing.{Finishes}
-use Rattle.otel_trace_session.specs.Fed.{Feeds, FeedsUpTo}
+use Rattle.otel_trace_session.specs.Closing.{Closes, Finishes}
+use Rattle.otel_trace_session.specs.Fed.{Feeds, FeedsUpTo, Writes}
 use Rattle.otel_trace_session.specs.Turns.{BeginsUnder, Runs, SessionState}
 use Rattle.otel_trace_session.specs.declared.session.FeedError.{FeedError}
 
@@ -49,12 +49,24 @@ module _ {P S G : Type 0} (calls : Calls P S G) (form : Form) where
     pub none_refused : NoneRefused replies
     pub written : Written (texts form replies)
 
-  -- the output was given a beginning of the replies to a beginning of the input's commands, and of the text of batches
-  -- after them
+  -- a session carried out the whole input, up to its first bad line, and closed, well or not; the output was given a
+  -- beginning of what it writes so: the replies, and after all of them what closing appends
+  pub record ClosesSome (begun : SessionState P S G) (s : Streams) (bad_line : Option ℕ) : Type 0 where
+    pub bytes : List ℕ
+    pub replied : List ℕ
+    pub text : List ℕ
+    pub after : SessionState P S G
+    pub answer : Result (Unit {0}) OTelSdkError
+    pub all : AreAll s.input bytes
+    pub feeds : Writes form [] replied (λ replies. FeedsUpTo calls begun bytes bad_line replies after)
+    pub closes : Closes calls form after replied answer text
+    pub written : AppendsBeginning s.output s.output_after text
+
+  -- the output was given a beginning of the replies to a beginning of the input's commands; or, where all of them were
+  -- answered, a beginning of the replies and of what closing appends to them
   abbrev pub TracesSome : SessionState P S G → Streams → Type 0
-  TracesSome begun s = CarriesOutSome begun s.input
-      (λ text. (batches : List (List PlainSpanData))
-      × AppendsBeginning s.output s.output_after (text ++ form.rest batches))
+  TracesSome begun s = CarriesOutSome begun s.input (AppendsBeginning s.output s.output_after)
+      ⊎ ((bad_line : Option ℕ) × ClosesSome begun s bad_line)
 
   -- the same of a session under a provider; nothing was written where there was no memory for the session
   abbrev pub TracesWhole : ProviderState P S G → Streams → Option ℕ → Type 0

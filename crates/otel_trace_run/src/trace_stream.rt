@@ -50,9 +50,9 @@ pub fn trace_input<P: KeepsBatches, S: ShouldSample, G: GivesIds, F: ReplyForm, 
     }
 }
 
-/// Carries out the lines of an input by a session, and closes that. Where reading or writing failed, what the closing
-/// exports is not written, so that the output is a beginning. It fails too where spans are left waiting in a processor
-/// whose shutdown was refused, and where a queue dropped a span and the form minds that.
+/// Carries out the lines of an input by a session, and closes that. What closing appends is written only where all
+/// commands were answered, so that the output is a beginning of what is written at status 0. It fails too where spans
+/// are left waiting in a processor whose shutdown was refused, and where a queue dropped a span and the form minds that.
 fn trace_session<P: KeepsBatches, S: ShouldSample, G: GivesIds, F: ReplyForm, R: Read, W: Write>(
     alloc: Global,
     mut session: Session<P, S, G>,
@@ -73,6 +73,9 @@ fn trace_session<P: KeepsBatches, S: ShouldSample, G: GivesIds, F: ReplyForm, R:
     let Ok(end) = fed else {
         return RunEnd::Failed;
     };
+    if let RunEnd::Failed = end {
+        return RunEnd::Failed;
+    }
     let Ok(()) = write_whole(output, &text) else {
         return RunEnd::Failed;
     };
