@@ -2,6 +2,7 @@ pub mod Cut
 pub mod Drawing
 pub mod Exporting
 pub mod ModeWords
+pub mod PageWords
 pub mod ProgramLemmas
 pub mod ReadPieces
 pub mod StepStream

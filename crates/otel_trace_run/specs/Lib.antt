@@ -1,5 +1,6 @@
 pub mod Arguments
 pub mod OtlpRuns
+pub mod Pages
 pub mod PictureRuns
 pub mod Pieces
 pub mod Program

@@ -5,6 +5,7 @@
 mod line_count;
 pub mod mode;
 mod otlp;
+pub mod pages;
 pub mod picture;
 mod pieces;
 pub mod program;

@@ -1,7 +1,7 @@
 //! What the program does with its arguments and its three streams. It feeds its lines to one session as they come and
 //! closes that, or has them step one batch queue, and at the end says what was wrong.
 
-ghost use Rattle.std.specs.Prelude.{◌≡◌, ◌≢◌, ◌⊎◌, ◌≤◌, map, string_bytes};
+ghost use Rattle.std.specs.Prelude.{◌≡◌, ◌≢◌, ◌⊎◌, ◌≤◌, List, ℕ, map, string_bytes};
 ghost use Rattle.std.specs.Io.KnownBytes.{Appends};
 ghost use Rattle.otel_trace_run.specs.Arguments.{
   Asks,
@@ -12,13 +12,20 @@ ghost use Rattle.otel_trace_run.specs.Arguments.{
   picture,
   plain_mode,
   trace,
-  usage_text,
+};
+ghost use Rattle.otel_trace_run.specs.Pages.{
+  AsksForNoPage,
+  AsksForPage,
+  SaysUsage,
+  ShowsText,
+  page_text,
 };
 ghost use Rattle.otel_trace_run.specs.Program.{Runs, RunsTo};
 ghost use Rattle.otel_trace_run.specs.Streams.{Reports, streams};
 
 use crate::mode::{Asked, Mode, parse_mode};
 use crate::otlp::{export_input, resource_of};
+use crate::pages::{Page, parse_page, text_of, usage_for};
 use crate::picture::{PictureForm, SpanPainter, draw_input};
 use crate::provider::{SessionProvider, TraceProvider, make_provider};
 use crate::run_end::RunEnd;
@@ -28,8 +35,6 @@ use otel_export::stream::write_whole;
 use otel_trace_lines::ReplyLines;
 use std::alloc::Global;
 use std::io::{Read, Write};
-
-const USAGE: &str = "usage: otel_trace trace SEED simple | trace SEED batch Q B | steps Q B P\n";
 
 /// The exit status where all went well.
 const DONE: u8 = 0;
@@ -44,7 +49,7 @@ const REFUSED: u8 = 2;
 /// line or wrong arguments; 1 where reading, writing or the closing fails, memory is missing or a batch was lost, also
 /// where 2 would be due. `words` are the arguments without the program's name; wrong ones are found before anything is
 /// read. Lines are answered as they come: what answers them is written and sent on before more is read, and a run of
-/// status 1 has written a beginning. After a bad line nothing is read. A picture is written at the end of the input,
+/// status 1 has written a beginning of what one of status 0 writes. After a bad line nothing is read. A picture is written at the end of the input,
 /// which is read to that whatever its lines are.
 pub fn run_program<R: Read, W: Write, F: Write>(
     alloc: Global,
@@ -53,21 +58,40 @@ pub fn run_program<R: Read, W: Write, F: Write>(
     output: &mut W,
     faults: &mut F,
 ) -> u8
-    ensures usage { (result ≤ 2) × (AsksForNothing (map string_bytes words.now) →
-        (input.new ≡ input.old) × (output.new ≡ output.old) × (result ≢ 0)
-        × (result ≡ 2 → Appends (F.contents faults.old) (F.contents faults.new) usage_text)) }
+    ensures usage { (result ≤ 2) × (AsksForNothing (map string_bytes words.now)
+        → AsksForNoPage (map string_bytes words.now)
+        → (input.new ≡ input.old) × (output.new ≡ output.old) × (result ≢ 0)
+        × (result ≡ 2 → (text : List ℕ) × SaysUsage (map string_bytes words.now) text
+        × Appends (F.contents faults.old) (F.contents faults.new) text)) }
+    ensures shows { (asked : Page) → AsksForPage (map string_bytes words.now) asked
+        → (input.new ≡ input.old) × (faults.new ≡ faults.old)
+        × ((page : Page) × AsksForPage (map string_bytes words.now) page
+        × ShowsText (W.contents output.old) (W.contents output.new) (page_text page) result) }
     ensures runs { (mode : PlainMode) → Asks (map string_bytes words.now) mode → Runs
         ⟦<TraceProvider as SessionProvider>⟧.calls ⟦<PictureForm as SpanPainter>⟧.paints mode
         (streams (R.remaining input.old) (R.remaining input.new) (W.contents output.old) (W.contents output.new))
         (faults.new ≡ faults.old) (Appends (F.contents faults.old) (F.contents faults.new)) result }
 {
+    if let Some(page) = parse_page(words) {
+        return show(text_of(page), output);
+    }
     match parse_mode(words) {
-        None => refuse(faults, USAGE),
+        None => refuse(faults, usage_for(words)),
         Some(mode) => {
             let end = run_mode(alloc, mode, input, output);
             status_of(alloc, end, faults)
         }
     }
+}
+
+/// Writes a text that was asked for, and answers the status for it.
+fn show<W: Write>(text: &str, output: &mut W) -> u8
+    ensures { ShowsText (W.contents output.old) (W.contents output.new) text.now result }
+{
+    if write_whole(output, text.as_bytes()).is_err() {
+        return FAILED;
+    }
+    DONE
 }
 
 /// Runs a mode, and says how that ended.

@@ -1,0 +1,187 @@
+//! What the program says of itself: the help of all modes, that of one, and its version; and what it says of arguments
+//! that ask for nothing.
+
+ghost use Rattle.std.specs.Prelude.{◌≡◌, IsTrue, MatchOption, ◌↔◌, map, string_bytes};
+ghost use Rattle.otel_trace_run.specs.Pages.{
+  AsksForNoPage,
+  AsksForPage,
+  IsHelpWord,
+  ModePage,
+  SaysUsage,
+  WordPage,
+  WordUsage,
+  page_text,
+};
+
+/// What may be asked of the program about itself.
+#[derive(Clone, Copy, Debug, PartialEq, Eq)]
+pub enum Page {
+    /// The help of all modes.
+    All,
+    Trace,
+    Steps,
+    Otlp,
+    Picture,
+    Svg,
+    Version,
+}
+
+pub const VERSION: &str = "otel_trace 0.1.0\n";
+
+pub const HELP: &str = "otel_trace carries out the commands that stand on the lines of standard input\n\
+    \n\
+    otel_trace trace SEED simple\n\
+    otel_trace trace SEED batch Q B\n\
+    \x20   writes a reply for each, example: otel_trace trace 0 simple < request.txt\n\
+    otel_trace steps Q B P\n\
+    \x20   steps a batch queue, example: otel_trace steps 2 2 1 < steps.txt\n\
+    otel_trace otlp SEED simple [ATTRIBUTES]\n\
+    otel_trace otlp SEED batch Q B [ATTRIBUTES]\n\
+    \x20   writes a line of OTLP JSON for each batch, example: otel_trace otlp 0 simple service.name=shop < request.txt\n\
+    otel_trace picture SEED simple [COLUMNS]\n\
+    otel_trace picture SEED batch Q B [COLUMNS]\n\
+    \x20   draws the traces as text, example: otel_trace picture 1 simple 72 < checkout.txt\n\
+    otel_trace svg SEED simple\n\
+    otel_trace svg SEED batch Q B\n\
+    \x20   draws them as SVG, example: otel_trace svg 1 simple < checkout.txt > checkout.svg\n\
+    otel_trace help [MODE]\n\
+    otel_trace version\n";
+
+pub const TRACE_HELP: &str = "otel_trace trace SEED simple\n\
+    otel_trace trace SEED batch Q B\n\
+    \n\
+    Writes a reply for each command, after the spans that were exported. SEED decides all ids. A batch processor has a\n\
+    queue of Q spans and batches of B.\n\
+    \n\
+    example: otel_trace trace 0 simple < request.txt\n";
+
+pub const STEPS_HELP: &str = "otel_trace steps Q B P\n\
+    \n\
+    Steps a queue of Q spans with batches of B and P producers, a step a line, and writes what each comes to.\n\
+    \n\
+    example: otel_trace steps 2 2 1 < steps.txt\n";
+
+pub const OTLP_HELP: &str = "otel_trace otlp SEED simple [ATTRIBUTES]\n\
+    otel_trace otlp SEED batch Q B [ATTRIBUTES]\n\
+    \n\
+    Writes a line of OTLP JSON for each batch that is exported. ATTRIBUTES, as key=value,key=value, describe the\n\
+    resource.\n\
+    \n\
+    example: otel_trace otlp 0 simple service.name=shop < request.txt\n";
+
+pub const PICTURE_HELP: &str = "otel_trace picture SEED simple [COLUMNS]\n\
+    otel_trace picture SEED batch Q B [COLUMNS]\n\
+    \n\
+    Draws the traces that were exported as text, at the end of the input. COLUMNS are 20 to 400, and 72 where none are\n\
+    given.\n\
+    \n\
+    example: otel_trace picture 1 simple 72 < checkout.txt\n";
+
+pub const SVG_HELP: &str = "otel_trace svg SEED simple\n\
+    otel_trace svg SEED batch Q B\n\
+    \n\
+    Draws the traces that were exported as one SVG file, at the end of the input.\n\
+    \n\
+    example: otel_trace svg 1 simple < checkout.txt > checkout.svg\n";
+
+/// What is said of arguments that ask for nothing. It names the first two modes alone, for whoever compares it.
+const USAGE: &str = "usage: otel_trace trace SEED simple | trace SEED batch Q B | steps Q B P\n";
+
+pub const OTLP_USAGE: &str = "usage: otel_trace otlp SEED simple [ATTRIBUTES] | otlp SEED batch Q B [ATTRIBUTES]\n";
+
+pub const PICTURE_USAGE: &str = "usage: otel_trace picture SEED simple [COLUMNS] | picture SEED batch Q B [COLUMNS]\n";
+
+pub const SVG_USAGE: &str = "usage: otel_trace svg SEED simple | svg SEED batch Q B\n";
+
+/// The text of a page.
+pub(crate) fn text_of(page: Page) -> &'static str
+    ensures { result.now ≡ page_text page }
+{
+    match page {
+        Page::All => HELP,
+        Page::Trace => TRACE_HELP,
+        Page::Steps => STEPS_HELP,
+        Page::Otlp => OTLP_HELP,
+        Page::Picture => PICTURE_HELP,
+        Page::Svg => SVG_HELP,
+        Page::Version => VERSION,
+    }
+}
+
+/// The page that the arguments ask for; none where they ask for none.
+pub fn parse_page(words: &[String]) -> Option<Page>
+    ensures { MatchOption result
+        (AsksForNoPage (map string_bytes words.now))
+        (λ page. AsksForPage (map string_bytes words.now) page) }
+{
+    match words {
+        [word] => page_of_word(word.as_str()),
+        [word, mode] => page_of_mode(word.as_str(), mode.as_str()),
+        _ => None,
+    }
+}
+
+/// The page that one word asks for; none where it asks for none.
+fn page_of_word(word: &str) -> Option<Page>
+    ensures { MatchOption result
+        ((page : Page) → WordPage word.now page → ⊥)
+        (λ page. WordPage word.now page) }
+{
+    match word {
+        "help" | "--help" | "-h" => Some(Page::All),
+        "version" | "--version" => Some(Page::Version),
+        _ => None,
+    }
+}
+
+/// The page that a word for help and that of a mode ask for; none where they are other words.
+fn page_of_mode(word: &str, mode: &str) -> Option<Page>
+    ensures { MatchOption result
+        ((page : Page) → IsHelpWord word.now → ModePage mode.now page → ⊥)
+        (λ page. IsHelpWord word.now × ModePage mode.now page) }
+{
+    if !is_help_word(word) {
+        return None;
+    }
+    match mode {
+        "trace" => Some(Page::Trace),
+        "steps" => Some(Page::Steps),
+        "otlp" => Some(Page::Otlp),
+        "picture" => Some(Page::Picture),
+        "svg" => Some(Page::Svg),
+        _ => None,
+    }
+}
+
+/// Whether a word asks for help.
+fn is_help_word(word: &str) -> bool
+    ensures { IsTrue result ↔ IsHelpWord word.now }
+{
+    match word {
+        "help" | "--help" | "-h" => true,
+        _ => false,
+    }
+}
+
+/// What is said of arguments that ask for nothing: the usage of the mode that the first one names, where that is one of
+/// the program's own, or else that of the first two modes.
+pub(crate) fn usage_for(words: &[String]) -> &'static str
+    ensures { SaysUsage (map string_bytes words.now) result.now }
+{
+    match words {
+        [word, ..] => usage_of(word.as_str()),
+        [] => USAGE,
+    }
+}
+
+/// The usage of the mode of a word.
+fn usage_of(word: &str) -> &'static str
+    ensures { WordUsage word.now result.now }
+{
+    match word {
+        "otlp" => OTLP_USAGE,
+        "picture" => PICTURE_USAGE,
+        "svg" => SVG_USAGE,
+        _ => USAGE,
+    }
+}
