@@ -61,10 +61,14 @@ fn kept_of_three<E: StoresBatches>(alloc: Global, exporter: &mut E) -> Result<St
     format!(in alloc; "{kept} {first} {second} {third} {is_ended} {taken} {left}")
 }
 
-fn exported(alloc: Global) -> Result<String, AllocError> {
-    let inside = ExporterBox::Memory(InMemorySpanExporter::new(alloc));
+/// The same of a filter in front of this exporter.
+fn kept_by_filter<E: StoresBatches>(alloc: Global, inside: E) -> Result<String, AllocError> {
     let mut exporter = FilteringExporter::new(inside, StartedFrom { moment: 5 });
     kept_of_three(alloc, &mut exporter)
+}
+
+fn exported(alloc: Global) -> Result<String, AllocError> {
+    kept_by_filter(alloc, ExporterBox::Memory(InMemorySpanExporter::new(alloc)))
 }
 
 /// Counts its flushes, and refuses the second one.
