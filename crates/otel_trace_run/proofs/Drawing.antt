@@ -176,7 +176,7 @@ module _ {C D E : Type 0} (calls : Calls (MemoryProcessor C D) (SamplerOf E) (Li
       (s : Streams) (end : RunEnd) → IsProviderOf true asked provider → DrawsUnder calls Paints provider s end
       → EndsAs (DrawsAsked calls asked Paints s) (BeginsDrawing calls asked Paints s) s end
   draws_asked Paints asked provider s ends.Done of h = ((provider, of, h.0), h.1)
-  draws_asked Paints asked provider s (ends.BadLine line) of h = (provider, of, h)
+  draws_asked Paints asked provider s (ends.BadLine line reason) of h = ((provider, of, h.0), h.1)
   draws_asked Paints asked provider s ends.Failed of h = inr (provider, of, h)
 
   -- what was drawn whole is a beginning

@@ -174,7 +174,7 @@ module _ {P S G : Type 0} (calls : Calls P S G)
       → EndsAs (TracesWhole calls (otlp_form resource) provider s) (TracesBegun calls (otlp_form resource) provider s) s end
       → EndsAs (ExportsAll calls resource provider s) (ExportsSome calls resource provider s) s end
   exports_as provider s ends.Done h = (exports_all provider s None h.0, h.1)
-  exports_as provider s (ends.BadLine line) h = exports_all provider s (Some line) h
+  exports_as provider s (ends.BadLine line reason) h = (exports_all provider s (Some line) h.0, h.1)
   exports_as provider s ends.Failed h = exports_some provider s h
 
 -- where no line is written, there is no batch
@@ -195,7 +195,7 @@ module _ {C D E : Type 0} (calls : Calls (MemoryProcessor C D) (SamplerOf E) (Li
       → EndsAs (ExportsAll calls resource provider s) (ExportsSome calls resource provider s) s end
       → EndsAs (ExportsAsked calls asked given s) (BeginsExporting calls asked given s) s end
   exports_asked provider s ends.Done is of h = ((resource, is, provider, of, h.0), h.1)
-  exports_asked provider s (ends.BadLine line) is of h = (resource, is, provider, of, h)
+  exports_asked provider s (ends.BadLine line reason) is of h = ((resource, is, provider, of, h.0), h.1)
   exports_asked provider s ends.Failed is of h = inr (resource, is, provider, of, h)
 
 module _ {P S G : Type 0} (calls : Calls P S G) (resource : PlainResource) where

@@ -5,5 +5,6 @@ pub mod ModeWords
 pub mod PageWords
 pub mod ProgramLemmas
 pub mod ReadPieces
+pub mod ReasonLemmas
 pub mod StepStream
 pub mod TraceStream

@@ -1,11 +1,11 @@
 -- What the program does with its streams, by its mode.
-use Rattle.std.proofs.Common.{◌≡◌, ℕ, ◌≤◌, List, Option, Some, inl, inr, subst, arith, false}
+use Rattle.std.proofs.Common.{◌≡◌, ℕ, ◌≤◌, Bool, List, Option, Some, inl, inr, subst, arith, false}
 use Rattle.otel_sampling.specs.declared.trace.sampler.SamplerOf.{SamplerOf}
 use Rattle.otel_trace_lines.specs.ReplyForm.{reply_lines}
 use Rattle.otel_pipeline.specs.Provider.{ProviderState}
 use Rattle.otel_trace_run.specs.Arguments.{Asks, PlainMode, otlp, picture, steps, trace}
 use Rattle.otel_trace_run.specs.PictureRuns.{Painting}
-use Rattle.otel_trace_run.specs.Program.{BeginsAsked, GivesBeginning, GivesWhole, IsProviderOf, MemoryProcessor, Runs, RunsTo, TracesAsked}
+use Rattle.otel_trace_run.specs.Program.{BeginsAsked, GivesBeginning, GivesWhole, IsProviderOf, MemoryProcessor, Runs, RunsTo, TracesAsked, says_reasons}
 use Rattle.otel_trace_run.specs.TraceRuns.{TracesBegun, TracesWhole}
 use Rattle.otel_trace_run.proofs.Drawing.{drawing_begun}
 use Rattle.otel_trace_run.proofs.Exporting.{exporting_begun}
@@ -21,35 +21,43 @@ use Rattle.otel_trace_run.specs.declared.run_end.RunEnd.{RunEnd}
 use Rattle.otel_trace_run.specs.declared.run_end.RunEnd.TheVariants as ends
 
 -- how a run ended, by its status
-ends_with : (Whole : Option ℕ → Type 0) (Begun Silent : Type 0) (Says : List ℕ → Type 0) (s : Streams) (end : RunEnd) (status : ℕ) → ((bad_line : Option ℕ) → Whole bad_line → Begun)
-    → EndsAs Whole Begun s end → Reports end Silent Says status → EndsWith Whole Begun Silent Says s status
-ends_with Whole Begun Silent Says s ends.Done status begins h r = record {
+ends_with : (Whole : Option ℕ → Type 0) (Begun Silent : Type 0) (says_reasons : Bool) (Says : List ℕ → Type 0) (s : Streams) (end : RunEnd) (status : ℕ) → ((bad_line : Option ℕ) → Whole bad_line → Begun)
+    → EndsAs Whole Begun s end → Reports end says_reasons Silent Says status → EndsWith Whole Begun Silent says_reasons Says s status
+ends_with Whole Begun Silent says_reasons Says s ends.Done status begins h r = record {
   done = λ _. (h.0, h.1, r.1);
   refused = λ e. absurd (omega (arith, e, r.0));
   failed = λ e. absurd (omega (arith, e, r.0));
 }
-ends_with Whole Begun Silent Says s (ends.BadLine line) status begins h (inl failed) = record {
+ends_with Whole Begun Silent says_reasons Says s (ends.BadLine line reason) status begins h (inl failed) = record {
   done = λ e. absurd (omega (arith, e, failed));
   refused = λ e. absurd (omega (arith, e, failed));
-  failed = λ _. begins (Some line) h;
+  failed = λ _. begins (Some line) h.0;
 }
-ends_with Whole Begun Silent Says s (ends.BadLine line) status begins h (inr refused) = record {
+ends_with Whole Begun Silent says_reasons Says s (ends.BadLine line reason) status begins h (inr refused) = record {
   done = λ e. absurd (omega (arith, e, refused.0));
-  refused = λ _. (line, h, refused.1);
+  refused = λ _. record {
+    line = line;
+    reason = reason;
+    text = refused.1.0;
+    whole = h.0;
+    why = h.1;
+    fault = refused.1.1;
+    says = refused.1.2;
+  };
   failed = λ e. absurd (omega (arith, e, refused.0));
 }
-ends_with Whole Begun Silent Says s ends.Failed status begins h failed = record {
+ends_with Whole Begun Silent says_reasons Says s ends.Failed status begins h failed = record {
   done = λ e. absurd (omega (arith, e, failed));
   refused = λ e. absurd (omega (arith, e, failed));
   failed = λ _. h;
 }
 
 -- a status is at most 2
-pub status_small : (end : RunEnd) (Silent : Type 0) (Says : List ℕ → Type 0) (status : ℕ) → Reports end Silent Says status → status ≤ 2
-status_small ends.Done Silent Says status r = omega (arith, r.0)
-status_small (ends.BadLine line) Silent Says status (inl failed) = omega (arith, failed)
-status_small (ends.BadLine line) Silent Says status (inr refused) = omega (arith, refused.0)
-status_small ends.Failed Silent Says status failed = omega (arith, failed)
+pub status_small : (end : RunEnd) (says_reasons : Bool) (Silent : Type 0) (Says : List ℕ → Type 0) (status : ℕ) → Reports end says_reasons Silent Says status → status ≤ 2
+status_small ends.Done says_reasons Silent Says status r = omega (arith, r.0)
+status_small (ends.BadLine line reason) says_reasons Silent Says status (inl failed) = omega (arith, failed)
+status_small (ends.BadLine line reason) says_reasons Silent Says status (inr refused) = omega (arith, refused.0)
+status_small ends.Failed says_reasons Silent Says status failed = omega (arith, failed)
 
 module _ {C D E : Type 0} (calls : Calls (MemoryProcessor C D) (SamplerOf E) (List ℕ)) where
   -- what is traced under the provider that is asked for
@@ -58,7 +66,7 @@ module _ {C D E : Type 0} (calls : Calls (MemoryProcessor C D) (SamplerOf E) (Li
       → EndsAs (TracesWhole calls reply_lines provider s) (TracesBegun calls reply_lines provider s) s end
       → EndsAs (TracesAsked calls asked s) (BeginsAsked calls asked s) s end
   traces_asked asked provider s ends.Done is traces = ((provider, is, traces.0), traces.1)
-  traces_asked asked provider s (ends.BadLine line) is traces = (provider, is, traces)
+  traces_asked asked provider s (ends.BadLine line reason) is traces = ((provider, is, traces.0), traces.1)
   traces_asked asked provider s ends.Failed is traces = inr (provider, is, traces)
 
   -- what such a provider's session wrote whole is a beginning
@@ -79,9 +87,10 @@ module _ {C D E : Type 0} (calls : Calls (MemoryProcessor C D) (SamplerOf E) (Li
   runs_same mode found s end same ran = subst (λ (m : PlainMode). RunsTo calls paints m s end) same ran
 
   -- a run of the mode that was found, by its status, is one of any mode that the words ask for
-  pub runs_asked : (words : List (List ℕ)) (mode found : PlainMode) (s : Streams) (end : RunEnd) (Silent : Type 0) (Says : List ℕ → Type 0)
-      (status : ℕ) → Asks words mode → Asks words found → RunsTo calls paints found s end → Reports end Silent Says status
-      → Runs calls paints mode s Silent Says status
-  runs_asked words mode found s end Silent Says status asks is ran reports =
+  pub runs_asked : (words : List (List ℕ)) (mode found : PlainMode) (s : Streams) (end : RunEnd) (says : Bool) (Silent : Type 0) (Says : List ℕ → Type 0)
+      (status : ℕ) → Asks words mode → Asks words found → RunsTo calls paints found s end → says ≡ says_reasons found
+      → Reports end says Silent Says status → Runs calls paints mode s Silent Says status
+  runs_asked words mode found s end says Silent Says status asks is ran same reports =
       subst (λ (m : PlainMode). Runs calls paints m s Silent Says status) (mode_once words found mode is asks)
-      (ends_with (GivesWhole calls paints found s) (GivesBeginning calls paints found s) Silent Says s end status (mode_begun found s) ran reports)
+      (ends_with (GivesWhole calls paints found s) (GivesBeginning calls paints found s) Silent (says_reasons found) Says s end status (mode_begun found s) ran
+      (subst (λ (b : Bool). Reports end b Silent Says status) same reports))

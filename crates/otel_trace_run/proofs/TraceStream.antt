@@ -1,6 +1,6 @@
 -- A stream of commands: what was carried out so far, and what a piece more does.
 use Rattle.std.proofs.Common.{◌≡◌, ℕ, ◌+◌, Bool, true, false, List, [], ◌∷◌, ◌++◌, length, Option, None, Some, Result, Ok, Err, inl, inr, refl, sym, ap, subst, ◌∙◌, arith, append_assoc, append-nil, length-append}
-use Rattle.std.specs.Prelude.{◌⊎◌, option_map}
+use Rattle.std.specs.Prelude.{◌⊎◌, IfSome, option_map}
 use Rattle.std.proofs.KnownBytes.{Appends-nil, Appends-trans, Consumes-nil}
 use Rattle.std.proofs.lemmas.List.{map-append}
 use Rattle.std.proofs.lemmas.List.Concat.{flat_map-append}
@@ -8,7 +8,6 @@ use Rattle.std.specs.Io.{IsEmptyOrEndsWith}
 use Rattle.std.specs.Io.KnownBytes.{Appends, Consumes, IsAtEnd}
 use Rattle.std.specs.Str.Lines.{lines}
 use Rattle.otel_export.specs.declared.error.OTelSdkError.{OTelSdkError}
-use Rattle.otel_export.specs.PlainSpanData.{PlainSpanData}
 use Rattle.otel_trace_lines.proofs.JoinedLines.{lines_joined}
 use Rattle.otel_trace_lines.proofs.JoinedTexts.{bad_text_joined}
 use Rattle.otel_trace_lines.specs.Commands.{PlainCommand, plain_command, plain_commands}
@@ -28,10 +27,12 @@ use Rattle.otel_trace_session.proofs.CloseLemmas.{EndsWell}
 use Rattle.otel_trace_session.proofs.Streaming.{feeds_join, feeds_nothing}
 use Rattle.otel_trace_session.proofs.FeedLemmas.{finishes}
 use Rattle.otel_export.specs.Streams.{AppendsBeginning}
-use Rattle.otel_export.proofs.StreamLemmas.{appends_after, appends_all, appends_longer}
+use Rattle.otel_export.proofs.StreamLemmas.{appends_after, appends_all}
 use Rattle.otel_trace_run.specs.Pieces.{GivesLines, KeepsAll, PlainPieces}
-use Rattle.otel_trace_run.specs.Streams.{EndsAs, Streams, streams}
+use Rattle.otel_trace_run.specs.Streams.{EndsAs, Streams, WhyBad, streams}
 use Rattle.otel_trace_run.specs.TraceRuns.{BeginsToSpell, CarriesOutSome, FeedsPieces, FeedsPiece, FedAs, Traces, TracesAll, TracesBegun, TracesSome, TracesUnder, TracesWhole, ClosesSome}
+use Rattle.otel_trace_run.specs.Reasons.{IsReasonAt}
+use Rattle.otel_trace_run.specs.declared.reason.Reason.{Reason}
 use Rattle.otel_trace_run.specs.declared.run_end.RunEnd.{RunEnd}
 use Rattle.otel_trace_run.specs.declared.run_end.RunEnd.TheVariants as ends
 use Rattle.otel_trace_run.proofs.Cut.{IsCut, cut_given, cut_last, cut_piece, ends_joined, holds_of_all, nothing_ends, read_on_from}
@@ -264,6 +265,43 @@ module _ {P S G : Type 0} (calls : Calls P S G) (form : Form) (begun : SessionSt
   fed_longer now text later line replies ends h =
       record { commands = h.commands; spelled = bad_text_joined text later (plain_commands h.commands) line ends h.spelled; ran = h.ran }
 
+  -- why it is, in the text of the whole input
+  reason_further : (text later : List ℕ) (n : ℕ) (reason : Reason) → IsEmptyOrEndsWith text 10 → IsReasonAt text n reason → IsReasonAt (text ++ later) n reason
+  reason_further text later n reason ends h = record {
+    line = h.line;
+    at = record {
+      before = h.at.before;
+      after = h.at.after ++ lines later;
+      parts = lines_joined text later ends ∙ ap (λ ls. ls ++ lines later) h.at.parts ∙ append_assoc h.at.before (h.line ∷ h.at.after) (lines later);
+      number = h.at.number;
+    };
+    explains = h.explains;
+  }
+
+  reason_joined : (given text : List ℕ) (number n : ℕ) (reason : Reason) → IsEmptyOrEndsWith given 10 → number ≡ length (lines given) → IsReasonAt text n reason → IsReasonAt (given ++ text) (number + n) reason
+  reason_joined given text number n reason ends counted h = record {
+    line = h.line;
+    at = record {
+      before = lines given ++ h.at.before;
+      after = h.at.after;
+      parts = lines_joined given text ends ∙ ap (λ ls. lines given ++ ls) h.at.parts ∙ sym (append_assoc (lines given) h.at.before (h.line ∷ h.at.after));
+      number = omega (arith, counted, h.at.number, length-append (lines given) h.at.before);
+    };
+    explains = h.explains;
+  }
+
+  pub traced_why : (now : SessionState P S G) (input here after output reached : Option (List ℕ)) (rest : List ℕ) (number line : ℕ) (goes_on : Bool) (piece : PlainPieces) (reason : Option Reason)
+      → HasTraced calls form begun now (streams input here output reached) rest number → GivesLines here after rest goes_on piece → IfSome reason (IsReasonAt piece.lines line) → WhyBad input (number + line) reason
+  traced_why now input here after output reached rest number line goes_on piece None h g why = tt
+  traced_why now input here after output reached rest number line goes_on piece (Some reason) h g why =
+      let cut = cut_piece input here after h.given rest goes_on piece h.read h.ends g in
+      let text = h.given ++ piece.lines in (
+        text ++ cut.after,
+        cut.all,
+        holds_of_all (λ bs. IsReasonAt bs (number + line) reason) input text cut (λ later ends k. reason_further text later (number + line) reason ends k)
+            (reason_joined h.given piece.lines number line reason h.ends h.counted why),
+      )
+
   -- a line of a piece is bad
   pub traced_bad : {T : Type 0} (now next : SessionState P S G) (input here after output reached output_after : Option (List ℕ)) (rest : List ℕ) (number line : ℕ) (goes_on : Bool) (piece : PlainPieces) (fed : Result T FeedError)
       → HasTraced calls form begun now (streams input here output reached) rest number → GivesLines here after rest goes_on piece → fed ≡ Err (feeds.Line line) → FeedsPiece calls form now piece.lines fed (Appends reached output_after) next
@@ -348,7 +386,7 @@ module _ {P S G : Type 0} (calls : Calls P S G) (form : Form) (begun : SessionSt
   pub closed_some : (now : SessionState P S G) (input after output reached output_after : Option (List ℕ)) (end : RunEnd) (answer : Result (Unit {0}) OTelSdkError) (closing : List ℕ) → ¬ (end ≡ ends.Failed) → FedAs calls form begun now (streams input after output reached) end
       → Closes calls form now [] answer closing → AppendsBeginning reached output_after closing → TracesSome calls form begun (streams input after output output_after)
   closed_some now input after output reached output_after ends.Done answer closing goes h k written = inr (None, some_closed now input after output reached output_after None answer closing h.0 k written)
-  closed_some now input after output reached output_after (ends.BadLine line) answer closing goes h k written = inr (Some line, some_closed now input after output reached output_after (Some line) answer closing h k written)
+  closed_some now input after output reached output_after (ends.BadLine line reason) answer closing goes h k written = inr (Some line, some_closed now input after output reached output_after (Some line) answer closing h.0 k written)
   closed_some now input after output reached output_after ends.Failed answer closing goes h k written = absurd (goes refl)
 
   -- a session was fed and closed well, and all was written
@@ -356,14 +394,14 @@ module _ {P S G : Type 0} (calls : Calls P S G) (form : Form) (begun : SessionSt
       → EndsWell calls form now form.minds_drops closing → Appends reached output_after closing
       → EndsAs (TracesAll calls form begun (streams input after output output_after)) (TracesSome calls form begun (streams input after output output_after)) (streams input after output output_after) end
   closed_as now input after output reached output_after ends.Done closing goes h k written = (all_closed now input after output reached output_after None closing h.0 k written, h.1)
-  closed_as now input after output reached output_after (ends.BadLine line) closing goes h k written = all_closed now input after output reached output_after (Some line) closing h k written
+  closed_as now input after output reached output_after (ends.BadLine line reason) closing goes h k written = (all_closed now input after output reached output_after (Some line) closing h.0 k written, h.1)
   closed_as now input after output reached output_after ends.Failed closing goes h k written = absurd (goes refl)
 
   -- how feeding ends at a bad line
-  pub fed_bad : (now : SessionState P S G) (s : Streams) (line : ℕ) (end : RunEnd) → (end ≡ ends.Failed) ⊎ (end ≡ ends.BadLine line) → FeedsPieces calls form begun now s (Some line) → CarriesOutSome calls form begun s.input (Appends s.output s.output_after)
+  pub fed_bad : (now : SessionState P S G) (s : Streams) (line : ℕ) (reason : Option Reason) (end : RunEnd) → (end ≡ ends.Failed) ⊎ (end ≡ ends.BadLine line reason) → FeedsPieces calls form begun now s (Some line) → WhyBad s.input line reason → CarriesOutSome calls form begun s.input (Appends s.output s.output_after)
       → FedAs calls form begun now s end
-  fed_bad now s line end (inl failed) h k = subst (FedAs calls form begun now s) (sym failed) k
-  fed_bad now s line end (inr bad) h k = subst (FedAs calls form begun now s) (sym bad) h
+  fed_bad now s line reason end (inl failed) h why k = subst (FedAs calls form begun now s) (sym failed) k
+  fed_bad now s line reason end (inr bad) h why k = subst (FedAs calls form begun now s) (sym bad) (h, why)
 
 module _ {P S G : Type 0} (calls : Calls P S G) (form : Form) (begun : SessionState P S G) where
   -- what was given whole is a beginning
@@ -388,7 +426,7 @@ module _ {P S G : Type 0} (calls : Calls P S G) (form : Form) where
   pub traced_under : (provider : ProviderState P S G) (begun : SessionState P S G) (s : Streams) (end : RunEnd) → BeginsUnder calls provider begun
       → Traces calls form begun s end → TracesUnder calls form provider s end
   traced_under provider begun s ends.Done begins h = ((begun, begins, h.0), h.1)
-  traced_under provider begun s (ends.BadLine line) begins h = (begun, begins, h)
+  traced_under provider begun s (ends.BadLine line reason) begins h = ((begun, begins, h.0), h.1)
   traced_under provider begun s ends.Failed begins h = inr (begun, begins, h)
 
   -- what was given whole under a provider is a beginning

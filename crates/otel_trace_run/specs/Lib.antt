@@ -4,6 +4,7 @@ pub mod Pages
 pub mod PictureRuns
 pub mod Pieces
 pub mod Program
+pub mod Reasons
 pub mod StepRuns
 pub mod Streams
 pub mod TraceRuns

@@ -109,6 +109,13 @@ module _ {C D E : Type 0} (calls : Calls (MemoryProcessor C D) (SamplerOf E) (Li
       ⊎ ((provider : ProviderState (MemoryProcessor C D) (SamplerOf E) (List ℕ))
       × IsProviderOf true asked provider × DrawsSome calls Paints provider s)
 
+-- whether a mode says why a line is bad: in those whose texts are fixed it does not
+abbrev pub says_reasons : PlainMode → Bool
+says_reasons (trace asked) = false
+says_reasons (steps sizes) = false
+says_reasons (otlp asked given) = true
+says_reasons (picture asked form) = true
+
 module _ {C D E : Type 0} (calls : Calls (MemoryProcessor C D) (SamplerOf E) (List ℕ))
     (paints : PictureForm → Painting) where
   -- the output was given all that a mode has for the whole input
@@ -131,4 +138,5 @@ module _ {C D E : Type 0} (calls : Calls (MemoryProcessor C D) (SamplerOf E) (Li
 
   -- a run of a mode, by its status, and by what is said of the faults where it has none and where it has one
   abbrev pub Runs : PlainMode → Streams → Type 0 → (List ℕ → Type 0) → ℕ → Type 0
-  Runs mode s Silent Says status = EndsWith (GivesWhole mode s) (GivesBeginning mode s) Silent Says s status
+  Runs mode s Silent Says status =
+      EndsWith (GivesWhole mode s) (GivesBeginning mode s) Silent (says_reasons mode) Says s status

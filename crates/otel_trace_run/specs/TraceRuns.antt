@@ -10,7 +10,7 @@ use Rattle.otel_trace_lines.specs.ReplyForm.{Form, texts}
 use Rattle.otel_trace_lines.specs.declared.command.Command.{Command}
 use Rattle.otel_pipeline.specs.Provider.{ProviderState}
 use Rattle.otel_export.specs.Streams.{AppendsBeginning}
-use Rattle.otel_trace_run.specs.Streams.{AreAll, EndsAs, Streams}
+use Rattle.otel_trace_run.specs.Streams.{AreAll, EndsAs, Streams, WhyBad}
 use Rattle.otel_trace_run.specs.declared.run_end.RunEnd.{RunEnd}
 use Rattle.otel_trace_run.specs.declared.run_end.RunEnd.TheVariants as ends
 use Rattle.otel_trace_session.specs.Calls.{Calls}
@@ -106,5 +106,5 @@ module _ {P S G : Type 0} (calls : Calls P S G) (form : Form) where
   -- what feeding the pieces did, by how it ended: where it failed, all replies to a beginning were written
   abbrev pub FedAs : SessionState P S G → SessionState P S G → Streams → RunEnd → Type 0
   FedAs begun now s ends.Done = FeedsPieces begun now s None × IsAtEnd s.input_after
-  FedAs begun now s (ends.BadLine line) = FeedsPieces begun now s (Some line)
+  FedAs begun now s (ends.BadLine line reason) = FeedsPieces begun now s (Some line) × WhyBad s.input line reason
   FedAs begun now s ends.Failed = CarriesOutSome begun s.input (Appends s.output s.output_after)

@@ -10,6 +10,7 @@ pub mod picture;
 mod pieces;
 pub mod program;
 pub mod provider;
+pub mod reason;
 pub mod run_end;
 mod step_stream;
 mod trace_stream;

@@ -4,15 +4,17 @@ ghost use Rattle.std.specs.Prelude.{◌≡◌, ◌+◌, ◌⊎◌, IfSome, lengt
 ghost use Rattle.std.specs.Str.Lines.{lines as lines_of};
 ghost use Rattle.otel_trace_run.specs.declared.run_end.RunEnd.TheVariants as ends;
 
+use crate::reason::Reason;
 use crate::run_end::RunEnd;
 use otel_trace_lines::lines::first_line;
 
-/// The line of this number after so many lines, or a failure where a number of 64 bits cannot count them.
-pub fn bad_line_after(before: u64, line: u64) -> RunEnd
-    ensures { (result ≡ ends.Failed) ⊎ (result ≡ ends.BadLine (before + line)) }
+/// The bad line of this number after so many lines, with its reason, or a failure where a number of 64 bits cannot count
+/// them.
+pub fn bad_line_after(before: u64, line: u64, reason: Option<Reason>) -> RunEnd
+    ensures { (result ≡ ends.Failed) ⊎ (result ≡ ends.BadLine (before + line) reason) }
 {
     match before.checked_add(line) {
-        Some(number) => RunEnd::BadLine(number),
+        Some(number) => RunEnd::BadLine(number, reason),
         None => RunEnd::Failed,
     }
 }

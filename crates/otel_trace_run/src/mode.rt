@@ -13,6 +13,7 @@ ghost use Rattle.otel_trace_run.specs.Arguments.{
   WriteSizes,
   plain_mode,
 };
+ghost use Rattle.otel_trace_run.specs.Program.{says_reasons};
 
 use crate::picture::PictureForm;
 use otel_picture::write_text::COLUMNS;
@@ -30,6 +31,18 @@ pub enum Mode<'w> {
     Otlp(Asked, &'w [String]),
     /// One session, whose spans are drawn at the end.
     Picture(Asked, PictureForm),
+}
+
+impl Mode<'_> {
+    /// Whether it says why a line is bad: where its texts are fixed it does not.
+    pub fn says_reasons(&self) -> bool
+        ensures { result ≡ says_reasons (plain_mode self.now) }
+    {
+        match self {
+            Mode::Trace(_) | Mode::Steps(_) => false,
+            Mode::Otlp(_, _) | Mode::Picture(_, _) => true,
+        }
+    }
 }
 
 /// What a mode of one session is asked for.

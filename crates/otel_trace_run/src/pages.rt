@@ -28,7 +28,8 @@ pub enum Page {
 
 pub const VERSION: &str = "otel_trace 0.1.0\n";
 
-pub const HELP: &str = "otel_trace carries out the commands that stand on the lines of standard input\n\
+pub const HELP: &str =
+    "otel_trace carries out the commands that stand on the lines of standard input\n\
     \n\
     otel_trace trace SEED simple\n\
     otel_trace trace SEED batch Q B\n\
@@ -87,9 +88,11 @@ pub const SVG_HELP: &str = "otel_trace svg SEED simple\n\
 /// What is said of arguments that ask for nothing. It names the first two modes alone, for whoever compares it.
 const USAGE: &str = "usage: otel_trace trace SEED simple | trace SEED batch Q B | steps Q B P\n";
 
-pub const OTLP_USAGE: &str = "usage: otel_trace otlp SEED simple [ATTRIBUTES] | otlp SEED batch Q B [ATTRIBUTES]\n";
+pub const OTLP_USAGE: &str =
+    "usage: otel_trace otlp SEED simple [ATTRIBUTES] | otlp SEED batch Q B [ATTRIBUTES]\n";
 
-pub const PICTURE_USAGE: &str = "usage: otel_trace picture SEED simple [COLUMNS] | picture SEED batch Q B [COLUMNS]\n";
+pub const PICTURE_USAGE: &str =
+    "usage: otel_trace picture SEED simple [COLUMNS] | picture SEED batch Q B [COLUMNS]\n";
 
 pub const SVG_USAGE: &str = "usage: otel_trace svg SEED simple | svg SEED batch Q B\n";
 

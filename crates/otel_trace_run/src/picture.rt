@@ -6,10 +6,11 @@ ghost use Rattle.otel_export.specs.PlainSpanData.{PlainSpanData, spans_in};
 ghost use Rattle.otel_trace_lines.specs.Commands.{plain_commands};
 ghost use Rattle.otel_trace_run.specs.PictureRuns.{DrawsLines, DrawsUnder};
 ghost use Rattle.otel_trace_run.specs.PictureRuns.{ReadsScript, RunsOut, RunsShutdown, says_shut};
-ghost use Rattle.otel_trace_run.specs.Streams.{streams};
+ghost use Rattle.otel_trace_run.specs.Streams.{WhyBad, streams};
 ghost use Rattle.otel_trace_session.specs.Calls.{calls_of};
 ghost use Rattle.otel_trace_session.specs.Shown.{exported_in};
 
+use crate::reason::{Reason, reason_at};
 use crate::run_end::RunEnd;
 use otel_export::error::OTelSdkError;
 use otel_export::stream::write_whole;
@@ -68,6 +69,7 @@ impl SpanPainter for PictureForm {
 struct Drawn {
     picture: Vec<u8>,
     bad_line: Option<u64>,
+    reason: Option<Reason>,
 }
 
 /// Carries out the lines of an input by one session under a provider, and writes the picture of all spans that it
@@ -114,7 +116,7 @@ pub(crate) fn draw_input<
     };
     match drawn.bad_line {
         None => RunEnd::Done,
-        Some(line) => RunEnd::BadLine(line),
+        Some(line) => RunEnd::BadLine(line, drawn.reason),
     }
 }
 
@@ -129,26 +131,33 @@ fn draw_lines<P: KeepsBatches, S: ShouldSample, G: GivesIds, D: SpanPainter, R: 
     ensures { IfSome result (λ drawn. DrawsLines
         (calls_of P.SpanProcessor P.Timed.own P.CountsLeftSpans.own P.KeepsBatches.own S.ShouldSample G.GivesIds)
         (D.paints painter.now) session.old (R.remaining input.old) (R.remaining input.new)
-        drawn.bad_line drawn.picture.items session.new) }
+        drawn.bad_line drawn.picture.items session.new
+        × IfSome drawn.bad_line (λ line. WhyBad (R.remaining input.old) line drawn.reason)) }
 {
-    let script = read_script(alloc, input).ok()?;
+    let (script, reason) = read_script(alloc, input).ok()?;
     let spans = exported_by(alloc, session, script.commands)?;
     let picture = paint_picture(alloc, painter, &spans).ok()?;
     Some(Drawn {
         picture,
         bad_line: script.bad_line,
+        reason,
     })
 }
 
-/// Reads an input to its end, and the commands of its lines.
-fn read_script<R: Read>(alloc: Global, input: &mut R) -> io::Result<Script>
-    ensures { IfOk result (λ script. ReadsScript (R.remaining input.old) (R.remaining input.new)
-        (plain_commands script.commands.items) script.bad_line) }
+/// Reads an input to its end, and the commands of its lines, and why the first bad one is.
+fn read_script<R: Read>(alloc: Global, input: &mut R) -> io::Result<(Script, Option<Reason>)>
+    ensures { IfOk result (λ found. ReadsScript (R.remaining input.old) (R.remaining input.new)
+        (plain_commands found.0.commands.items) found.0.bad_line
+        × IfSome found.0.bad_line (λ line. WhyBad (R.remaining input.old) line found.1)) }
 {
     let mut text = Vec::new(alloc);
     input.read_to_end(&mut text)?;
     let script = parse(alloc, &text)?;
-    Ok(script)
+    let reason = match script.bad_line {
+        Some(line) => reason_at(&text, line),
+        None => None,
+    };
+    Ok((script, reason))
 }
 
 /// Carries out commands and a shutdown after them, and gives the spans that were exported. None where memory ran out,

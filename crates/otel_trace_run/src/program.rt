@@ -1,7 +1,7 @@
 //! What the program does with its arguments and its three streams. It feeds its lines to one session as they come and
 //! closes that, or has them step one batch queue, and at the end says what was wrong.
 
-ghost use Rattle.std.specs.Prelude.{◌≡◌, ◌≢◌, ◌⊎◌, ◌≤◌, List, ℕ, map, string_bytes};
+ghost use Rattle.std.specs.Prelude.{◌≡◌, ◌≢◌, ◌⊎◌, ◌≤◌, List, ℕ, map, string_bytes, true};
 ghost use Rattle.std.specs.Io.KnownBytes.{Appends};
 ghost use Rattle.otel_trace_run.specs.Arguments.{
   Asks,
@@ -21,6 +21,7 @@ ghost use Rattle.otel_trace_run.specs.Pages.{
   page_text,
 };
 ghost use Rattle.otel_trace_run.specs.Program.{Runs, RunsTo};
+ghost use Rattle.otel_trace_run.specs.Reasons.{IsFault};
 ghost use Rattle.otel_trace_run.specs.Streams.{Reports, streams};
 
 use crate::mode::{Asked, Mode, parse_mode};
@@ -28,6 +29,7 @@ use crate::otlp::{export_input, resource_of};
 use crate::pages::{Page, parse_page, text_of, usage_for};
 use crate::picture::{PictureForm, SpanPainter, draw_input};
 use crate::provider::{SessionProvider, TraceProvider, make_provider};
+use crate::reason::{Reason, text_of as reason_text_of};
 use crate::run_end::RunEnd;
 use crate::step_stream::step_input;
 use crate::trace_stream::trace_input;
@@ -78,8 +80,9 @@ pub fn run_program<R: Read, W: Write, F: Write>(
     match parse_mode(words) {
         None => refuse(faults, usage_for(words)),
         Some(mode) => {
+            let says_reasons = mode.says_reasons();
             let end = run_mode(alloc, mode, input, output);
-            status_of(alloc, end, faults)
+            status_of(alloc, end, says_reasons, faults)
         }
     }
 }
@@ -176,12 +179,13 @@ fn run_picture<R: Read, W: Write>(
 }
 
 /// Names a bad line, and answers the status for how a run ended.
-fn status_of<F: Write>(alloc: Global, end: RunEnd, faults: &mut F) -> u8
-    ensures { Reports end (faults.new ≡ faults.old) (Appends (F.contents faults.old) (F.contents faults.new)) result }
+fn status_of<F: Write>(alloc: Global, end: RunEnd, says_reasons: bool, faults: &mut F) -> u8
+    ensures { Reports end says_reasons (faults.new ≡ faults.old) (Appends (F.contents faults.old) (F.contents faults.new)) result }
 {
     match end {
         RunEnd::Done => DONE,
-        RunEnd::BadLine(line) => name_bad_line(alloc, line, faults),
+        RunEnd::BadLine(line, reason) if says_reasons => name_reason(alloc, line, reason, faults),
+        RunEnd::BadLine(line, _) => name_bad_line(alloc, line, faults),
         RunEnd::Failed => FAILED,
     }
 }
@@ -203,6 +207,21 @@ fn name_bad_line<F: Write>(alloc: Global, line: u64, faults: &mut F) -> u8
     ensures written { result ≡ 2 → Appends (F.contents faults.old) (F.contents faults.new) (bad_line_text line) }
 {
     match format!(in alloc; "line {line}: cannot read\n") {
+        Ok(text) => refuse(faults, text.as_str()),
+        Err(_) => FAILED,
+    }
+}
+
+/// Names a bad line and why it is bad, and answers the status for it: a failure where the reason is not known.
+fn name_reason<F: Write>(alloc: Global, line: u64, reason: Option<Reason>, faults: &mut F) -> u8
+    ensures { (result ≡ 1) ⊎ ((result ≡ 2) × ((text : List ℕ) × IsFault true line reason text
+        × Appends (F.contents faults.old) (F.contents faults.new) text)) }
+{
+    let Some(reason) = reason else {
+        return FAILED;
+    };
+    let said = reason_text_of(reason);
+    match format!(in alloc; "line {line}: {said}\n") {
         Ok(text) => refuse(faults, text.as_str()),
         Err(_) => FAILED,
     }

@@ -62,7 +62,7 @@ fn step_stream<R: Read, W: Write>(
         };
         match answer_piece(alloc, machine, pieces.lines(), &mut answers, output) {
             Ok(None) => {}
-            Ok(Some(line)) => return bad_line_after(before, line),
+            Ok(Some(line)) => return bad_line_after(before, line, None),
             Err(_) => return RunEnd::Failed,
         }
         if !goes_on {

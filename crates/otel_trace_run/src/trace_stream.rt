@@ -17,6 +17,7 @@ ghost use Rattle.otel_trace_session.specs.declared.session.FeedError.{FeedError}
 
 use crate::line_count::{bad_line_after, lines_counted};
 use crate::pieces::Pieces;
+use crate::reason::reason_at;
 use crate::run_end::RunEnd;
 use otel_export::stream::write_whole;
 use otel_pipeline::trace::{KeepsBatches, ProviderOf};
@@ -112,7 +113,10 @@ fn feed_pieces<P: KeepsBatches, S: ShouldSample, G: GivesIds, F: ReplyForm, R: R
         let goes_on = pieces.read_on(input)?;
         match feed_piece(session, form, pieces.lines(), text, output)? {
             Ok(()) => {}
-            Err(FeedError::Line(line)) => return Ok(bad_line_after(before, line)),
+            Err(FeedError::Line(line)) => {
+                let reason = reason_at(pieces.lines(), line);
+                return Ok(bad_line_after(before, line, reason));
+            }
             Err(FeedError::Memory | FeedError::Refused | FeedError::BatchLost) => {
                 return Ok(RunEnd::Failed);
             }

@@ -1,5 +1,7 @@
 -- What was drawn of all lines, and how far it was written.
-use Rattle.std.proofs.Common.{rules, ◌≡◌, Some, None, inr, subst, true}
+use Rattle.std.proofs.Common.{rules, ◌≡◌, ℕ, Option, Some, None, inr, subst, true}
+use Rattle.std.specs.Prelude.{IfSome}
+use Rattle.otel_trace_run.specs.Streams.{WhyBad}
 use Rattle.std.specs.Io.KnownBytes.{Appends}
 use Rattle.otel_export.specs.Streams.{AppendsBeginning}
 use Rattle.otel_trace_session.specs.Calls.{calls_of}
@@ -13,7 +15,7 @@ returns-in_default-write_whole g c =
     let lost : LostNothing c.close_in-closed.result true = search rules in
     let d = draws_from calls g.met.P.KeepsBatches.appends (g.D.SpanPainter.paints c.args.painter.now) c.args.provider c.in-Ok.session
     c.draw_lines-drawn.new.session _ _ c.in-Some.drawn.bad_line c.in-Some.drawn.bad_line c.in-Some.drawn.picture.items
-    c.new-left.result.items c.close_in-closed.new.output.items c.close_in-closed.result c.in-Ok.ensures.ok c.in-Some.ensures (search rules)
+    c.new-left.result.items c.close_in-closed.new.output.items c.close_in-closed.result c.in-Ok.ensures.ok c.in-Some.ensures.0 (search rules)
     c.new-left.ensures.items lost c.close_in-closed.ensures.closes in
     inr (
       d.0,
@@ -31,7 +33,7 @@ returns-in-None g c =
     let none : c.in-Some.drawn.bad_line ≡ None = search rules in
     let d = draws_from calls g.met.P.KeepsBatches.appends (g.D.SpanPainter.paints c.args.painter.now) c.args.provider c.in-Ok.session
     c.draw_lines-drawn.new.session _ _ c.in-Some.drawn.bad_line None c.in-Some.drawn.picture.items
-    c.new-left.result.items c.close_in-closed.new.output.items c.close_in-closed.result c.in-Ok.ensures.ok c.in-Some.ensures none
+    c.new-left.result.items c.close_in-closed.new.output.items c.close_in-closed.result c.in-Ok.ensures.ok c.in-Some.ensures.0 none
     c.new-left.ensures.items lost c.close_in-closed.ensures.closes in (
       record {
         bytes = d.0;
@@ -50,12 +52,14 @@ returns g c =
     let bad : c.in-Some.drawn.bad_line ≡ Some c.in-Some-bad_line.line = search rules in
     let d = draws_from calls g.met.P.KeepsBatches.appends (g.D.SpanPainter.paints c.args.painter.now) c.args.provider c.in-Ok.session
     c.draw_lines-drawn.new.session _ _ c.in-Some.drawn.bad_line (Some c.in-Some-bad_line.line) c.in-Some.drawn.picture.items
-    c.new-left.result.items c.close_in-closed.new.output.items c.close_in-closed.result c.in-Ok.ensures.ok c.in-Some.ensures bad
-    c.new-left.ensures.items lost c.close_in-closed.ensures.closes in
-    record {
-      bytes = d.0;
-      picture = c.in-Some.drawn.picture.items;
-      all = d.1;
-      draws = d.3;
-      written = subst (Appends _ _) c.deref.ensures.value c.in-Ok-write_whole.ensures.ok;
-    }
+    c.new-left.result.items c.close_in-closed.new.output.items c.close_in-closed.result c.in-Ok.ensures.ok c.in-Some.ensures.0 bad
+    c.new-left.ensures.items lost c.close_in-closed.ensures.closes in (
+      record {
+        bytes = d.0;
+        picture = c.in-Some.drawn.picture.items;
+        all = d.1;
+        draws = d.3;
+        written = subst (Appends _ _) c.deref.ensures.value c.in-Ok-write_whole.ensures.ok;
+      },
+      subst (λ (b : Option ℕ). IfSome b (λ n. WhyBad (g.R.Read.remaining c.args.input.now) n c.in-Some.drawn.reason)) bad c.in-Some.ensures.1,
+    )

@@ -1,5 +1,5 @@
 -- The mode that was found is any that the words ask for, and words that ask for a page ask for none.
-use Rattle.std.proofs.Common.{List, arith, map, string_bytes, subst, ℕ, ◌≡◌, ◌≤◌}
+use Rattle.std.proofs.Common.{List, subst, ℕ}
 use Rattle.otel_trace_run.proofs.PageWords.{asks_for_no_mode, shown_small}
 use Rattle.otel_trace_run.proofs.ProgramLemmas.{runs_asked, status_small}
 use Rattle.otel_trace_run.specs.Arguments.{plain_mode}
@@ -31,7 +31,7 @@ returns-in-Some-clause-runs g c = λ mode asks. absurd (asks_for_no_mode _ c.in-
 
 pub returns-in-Some-parse_mode-clause-usage : goal.returns-in-Some-parse_mode-clause-usage
 returns-in-Some-parse_mode-clause-usage g c = (
-  status_small c.run_mode-end.result _ _ c.status_of.result c.status_of.ensures,
+  status_small c.run_mode-end.result _ _ _ c.status_of.result c.status_of.ensures,
   λ nothing no_page. absurd (nothing (plain_mode c.in-Some-parse_mode.mode) c.in-Some-parse_mode.ensures),
 )
 
@@ -39,8 +39,8 @@ pub returns-in-Some-parse_mode-clause-runs : goal.returns-in-Some-parse_mode-cla
 returns-in-Some-parse_mode-clause-runs g c = λ mode asks.
     let s = streams (g.R.Read.remaining c.args.input.now) (g.R.Read.remaining c.run_mode-end.new.input)
     (g.W.Write.contents c.args.output.now) (g.W.Write.contents c.run_mode-end.new.output) in
-    runs_asked _ _ _ mode (plain_mode c.in-Some-parse_mode.mode) s c.run_mode-end.result _ _ c.status_of.result asks c.in-Some-parse_mode.ensures
-    c.run_mode-end.ensures c.status_of.ensures
+    runs_asked _ _ _ mode (plain_mode c.in-Some-parse_mode.mode) s c.run_mode-end.result c.says_reasons-says_reasons.result _ _ c.status_of.result asks c.in-Some-parse_mode.ensures
+    c.run_mode-end.ensures c.says_reasons-says_reasons.ensures c.status_of.ensures
 
 pub returns-in-None-clause-runs : goal.returns-in-None-clause-runs
 returns-in-None-clause-runs g c = λ mode asks. absurd (c.in-None.ensures mode asks)

@@ -1,5 +1,6 @@
 -- One piece more.
-use Rattle.std.specs.Prelude.{◌⊎◌}
+use Rattle.std.specs.Prelude.{◌⊎◌, IfSome}
+use Rattle.otel_trace_run.specs.Reasons.{IsReasonAt}
 use Rattle.otel_trace_run.specs.declared.run_end.RunEnd.TheVariants as ends
 use Rattle.std.proofs.Common.{◌≡◌, ◌+◌, ◌∙◌, ℕ, List, [], true, false, length, Result, Err, ap, refl, subst, sym, rules}
 use Rattle.std.specs.Str.Lines.{lines}
@@ -12,7 +13,7 @@ use Rattle.otel_trace_session.specs.declared.session.FeedError.TheVariants as fe
 use Rattle.otel_trace_run.specs.Pieces.{PlainPieces}
 use Rattle.otel_trace_run.specs.Streams.{streams}
 use Rattle.otel_trace_run.specs.TraceRuns.{FeedsPiece}
-use Rattle.otel_trace_run.proofs.TraceStream.{HasTraced, begun_breaking, begun_failing, begun_reading, begun_turning, begun_whole, fed_bad, traced_all, traced_bad, traced_more, traced_none}
+use Rattle.otel_trace_run.proofs.TraceStream.{HasTraced, begun_breaking, begun_failing, begun_reading, begun_turning, begun_whole, fed_bad, traced_all, traced_bad, traced_more, traced_none, traced_why}
 use Rattle.otel_trace_run.proofs.trace_stream.feed_pieces.Goals as goal
 
 -- what feeding a piece did, in the form that the stream began with
@@ -62,9 +63,14 @@ returns-in-Err-Line-clause-ok g c =
     let piece = piece_fed calls form _ (c.loop.session) next _ _ fed _ c.loop.invariant.0 c.lines.ensures c.in_ok-feed_piece.ensures.ok in
     let bad : fed ≡ Err (feeds.Line c.in-Err-Line.line) = search rules in
     let s = streams (g.R.Read.remaining c.args.input.now) (g.R.Read.remaining c.read_on.new.reader) (g.W.Write.contents c.args.output.now) (g.W.Write.contents c.feed_piece.new.output) in
-    fed_bad calls form begun next s (c.loop.before + c.in-Err-Line.line) c.bad_line_after.result (subst (λ (n : ℕ). (c.bad_line_after.result ≡ ends.Failed) ⊎ (c.bad_line_after.result ≡ ends.BadLine (c.loop.before + n))) c.in-Err-Line.line-is c.bad_line_after.ensures)
+    let reason = c.reason_at-reason.result in
+    let ended = c.bad_line_after.result in
+    let found : IfSome reason (IsReasonAt c.read_on.new.self.lines c.in-Err-Line.line) =
+    subst (λ (text : List ℕ). IfSome reason (IsReasonAt text c.in-Err-Line.line)) c.lines-in-Err-Line.ensures (subst (λ (n : ℕ). IfSome reason (IsReasonAt c.lines-in-Err-Line.result.now n)) c.in-Err-Line.line-is c.reason_at-reason.ensures) in
+    fed_bad calls form begun next s (c.loop.before + c.in-Err-Line.line) reason ended (subst (λ (n : ℕ). (ended ≡ ends.Failed) ⊎ (ended ≡ ends.BadLine (c.loop.before + n) reason)) c.in-Err-Line.line-is c.bad_line_after.ensures)
     (traced_bad calls form begun
     (c.loop.session) next _ _ _ _ _ _ c.loop.pieces.rest c.loop.before c.in-Err-Line.line c.in_ok-goes_on.goes_on c.read_on.new.self fed c.loop.invariant.1 c.in_ok-goes_on.ensures.ok bad piece)
+    (traced_why calls form begun (c.loop.session) _ _ _ _ _ c.loop.pieces.rest c.loop.before c.in-Err-Line.line c.in_ok-goes_on.goes_on c.read_on.new.self reason c.loop.invariant.1 c.in_ok-goes_on.ensures.ok found)
     (begun_failing calls form begun
     (c.loop.session) next _ _ _ _ _ _ c.loop.pieces.rest c.loop.before c.in_ok-goes_on.goes_on c.read_on.new.self fed c.loop.invariant.1 c.in_ok-goes_on.ensures.ok piece)
 

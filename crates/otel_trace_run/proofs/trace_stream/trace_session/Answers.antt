@@ -1,5 +1,5 @@
 -- What was fed, and what the close appended.
-use Rattle.std.proofs.Common.{◌≡◌, List, ℕ, [], Result, subst, rules, Bool, ap, inl, refl, ◌∙◌}
+use Rattle.std.proofs.Common.{◌≡◌, List, ℕ, [], Result, subst, rules, Bool, ap, inl, ◌∙◌}
 use Rattle.otel_export.specs.declared.error.OTelSdkError.{OTelSdkError}
 use Rattle.otel_trace_lines.specs.ReplyForm.{Form}
 use Rattle.otel_trace_session.specs.Calls.{Calls, calls_of}

@@ -1,0 +1,104 @@
+-- Why lines read as no commands, and how that is said.
+use Rattle.std.specs.Prelude.{◌≡◌, ◌≢◌, ◌⊎◌, ℕ, ◌+◌, List, [], ◌∷◌, ◌++◌, Bool, true, false, Option, Some, None, IsUtf8, codes, length}
+use Rattle.std.specs.Fmt.{decimal}
+use Rattle.std.specs.Str.Lines.{lines}
+use Rattle.otel_trace_lines.specs.Lines.{IsDecimal64, IsField}
+use Rattle.otel_trace_run.specs.Arguments.{bad_line_text}
+use Rattle.otel_trace_run.specs.declared.reason.Reason.{Reason}
+use Rattle.otel_trace_run.specs.declared.reason.Reason.TheVariants as reasons
+
+-- how a reason is said
+abbrev pub reason_text : Reason → List ℕ
+reason_text reasons.NotUtf8 = codes "its bytes are not UTF-8"
+reason_text reasons.NoCommand = codes "no command has this word"
+reason_text reasons.Start = codes "start wants a span, a name and a moment"
+reason_text reasons.Child = codes "child wants a span, a parent, a name and a moment"
+reason_text reasons.Remote = codes "remote wants a span, a traceparent, a name and a moment"
+reason_text reasons.Attr = codes "attr wants a span, a key and a value"
+reason_text reasons.Event = codes "event wants a span, a name and a moment"
+reason_text reasons.Status = codes "status wants a span, and ok, or error and a text"
+reason_text reasons.Inject = codes "inject wants a span"
+reason_text reasons.End = codes "end wants a span and a moment"
+reason_text reasons.Run = codes "run wants a moment"
+reason_text reasons.Number = codes "a moment is digits alone, at most 18446744073709551615"
+reason_text reasons.FieldTooMany = codes "a field too many"
+reason_text reasons.SpaceTooMany = codes "a space too many"
+
+-- a text begins with a space, or has two in a row or one at its end after its first field
+abbrev pub HasSpareSpace : List ℕ → Type 0
+HasSpareSpace text = ((more : List ℕ) × (text ≡ 32 ∷ more))
+    ⊎ ((field : List ℕ) × (after : List ℕ) × (text ≡ field ++ 32 ∷ after)
+    × ((after ≡ []) ⊎ ((more : List ℕ) × (after ≡ 32 ∷ more))))
+
+-- a reason that does not depend on the command, where a field is to stand last
+abbrev pub ExplainsRest : List ℕ → Reason → Type 0
+ExplainsRest rest reasons.Number = (number : ℕ) → IsDecimal64 rest number → ⊥
+ExplainsRest rest reasons.FieldTooMany =
+    (field : List ℕ) × (after : List ℕ) × IsField field × (rest ≡ field ++ 32 ∷ after)
+ExplainsRest rest reasons.SpaceTooMany = HasSpareSpace rest
+ExplainsRest rest _ = ⊥
+
+-- fields end in these: they are all, or others stand in front of them
+abbrev pub EndsIn : List ℕ → List ℕ → Type 0
+EndsIn fields rest = (fields ≡ rest) ⊎ ((front : List ℕ) × (fields ≡ front ++ 32 ∷ rest))
+
+-- something is missing among the fields of a command, which is said so; or such a reason holds of the last of them
+abbrev pub ExplainsFields : List ℕ → Reason → Reason → Type 0
+ExplainsFields fields wants reason =
+    (reason ≡ wants) ⊎ ((rest : List ℕ) × EndsIn fields rest × ExplainsRest rest reason)
+
+-- the reason that a word gives: that of its command, that nothing may stand after it, or that it is no command's
+abbrev pub ExplainsWord : List ℕ → Reason → Type 0
+ExplainsWord word reasons.Start = word ≡ codes "start"
+ExplainsWord word reasons.Child = word ≡ codes "child"
+ExplainsWord word reasons.Remote = word ≡ codes "remote"
+ExplainsWord word reasons.Attr = word ≡ codes "attr"
+ExplainsWord word reasons.Event = word ≡ codes "event"
+ExplainsWord word reasons.Status = word ≡ codes "status"
+ExplainsWord word reasons.Inject = word ≡ codes "inject"
+ExplainsWord word reasons.End = word ≡ codes "end"
+ExplainsWord word reasons.Run = word ≡ codes "run"
+ExplainsWord word reasons.NoCommand = (word ≢ codes "start") × (word ≢ codes "child") × (word ≢ codes "remote")
+    × (word ≢ codes "attr") × (word ≢ codes "event") × (word ≢ codes "status") × (word ≢ codes "inject")
+    × (word ≢ codes "end") × (word ≢ codes "run") × (word ≢ codes "flush") × (word ≢ codes "shutdown")
+ExplainsWord word reasons.FieldTooMany = (word ≡ codes "flush") ⊎ (word ≡ codes "shutdown")
+ExplainsWord word _ = ⊥
+
+-- the reason for a word and the fields after it: that of its command, or one that holds of the last of the fields
+abbrev pub ExplainsAfter : List ℕ → List ℕ → Reason → Type 0
+ExplainsAfter word fields reason =
+    ExplainsWord word reason ⊎ ((rest : List ℕ) × EndsIn fields rest × ExplainsRest rest reason)
+
+-- why a text is no line of a command
+abbrev pub ExplainsText : List ℕ → Reason → Type 0
+ExplainsText text reason = ExplainsWord text reason
+    ⊎ (((more : List ℕ) × (text ≡ 32 ∷ more) × (reason ≡ reasons.SpaceTooMany))
+    ⊎ ((word : List ℕ) × (fields : List ℕ) × IsField word × (text ≡ word ++ 32 ∷ fields)
+    × ExplainsAfter word fields reason))
+
+-- why a line reads as no command
+abbrev pub Explains : List ℕ → Reason → Type 0
+Explains line reason = ((reason ≡ reasons.NotUtf8) × ¬ IsUtf8 line) ⊎ (IsUtf8 line × ExplainsText line reason)
+
+-- line n of a text, counted from 1
+pub record IsLineAt (text : List ℕ) (n : ℕ) (line : List ℕ) : Type 0 where
+  pub before : List (List ℕ)
+  pub after : List (List ℕ)
+  pub parts : lines text ≡ before ++ line ∷ after
+  pub number : n ≡ length before + 1
+
+-- why line n of a text reads as no command
+pub record IsReasonAt (text : List ℕ) (n : ℕ) (reason : Reason) : Type 0 where
+  pub line : List ℕ
+  pub at : IsLineAt text n line
+  pub explains : Explains line reason
+
+-- what is said of a bad line, with the reason
+abbrev pub reasoned_text : ℕ → Reason → List ℕ
+reasoned_text line reason = codes "line " ++ (decimal line ++ (codes ": " ++ (reason_text reason ++ 10 ∷ [])))
+
+-- this is said of a bad line, where reasons are said and where they are not
+abbrev pub IsFault : (says_reasons : Bool) → ℕ → Option Reason → List ℕ → Type 0
+IsFault false line reason text = text ≡ bad_line_text line
+IsFault true line None text = ⊥
+IsFault true line (Some reason) text = text ≡ reasoned_text line reason
