@@ -7,6 +7,7 @@
 mod clock;
 mod seed;
 mod strings;
+mod tests;
 mod variables;
 
 pub use clock::{ClockError, HostClock, now};
