@@ -1,7 +1,7 @@
 //! The exporter that writes a line of text for each span.
 
 ghost use Rattle.std.specs.Prelude.{◌≡◌, OnOk};
-ghost use Rattle.otel_console.specs.Console.{HoldsSpans, IsInternalFailure, Sends, WritesLines, new_exporter, next_lines};
+ghost use Rattle.otel_console.specs.Console.{HoldsSpans, IsInternalFailure, WritesLines, new_exporter, next_lines};
 
 use otel_export::error::{OTelSdkError, OTelSdkResult};
 use otel_export::history::History;
@@ -83,10 +83,12 @@ fn failure(alloc: Global, error: &io::Error) -> OTelSdkError
 ///
 /// `span TRACE ID PARENT FLAGS START END NAME STATUS attrs [KEY=VALUE,..] N events [NAME@MOMENT,..] N links KEPT N`,
 ///
-/// ids in hexadecimal, moments in nanoseconds since 1970, and after each list how many were not kept. For a program that
-/// is tried out; collectors read the lines of `OtlpJsonExporter`. After a line that its writer cut off, it goes on in a
-/// new one. It tells the batches that it has written, until one was not; so long the stream holds the lines of their
-/// spans, whole and in order, after what it held at first.
+/// ids in hexadecimal, moments in nanoseconds since 1970, and after each list how many were not kept. Names and texts
+/// are written as they are, so one with a line feed breaks its line. For a program that is tried out; collectors read
+/// the lines of `OtlpJsonExporter`.
+///
+/// After a line that its writer cut off, it goes on in a new one. It tells the batches that it has written, until one
+/// was not; so long the stream holds the lines of their spans, whole and in order, after what it held at first.
 #[derive(Drop)]
 pub struct ConsoleSpanExporter<W: Write> {
     // The writer as it was at first.

@@ -3,5 +3,6 @@
 #![tactic(auto)]
 
 mod console_span_exporter;
+mod tests;
 
 pub use console_span_exporter::ConsoleSpanExporter;

@@ -15,7 +15,8 @@ pub struct SeedError(pub ErrorKind);
 /// clock that cannot be read adds nothing. `SeedError` where the system gives no random bytes.
 ///
 /// It is worth 64 bits, and is not for secrets: who sees ids of a generator that it seeds may tell the next ones. Each
-/// process has to ask for its own. Under a fixed seed every process gives out the same ids, and their traces become one.
+/// process has to ask for its own. Under a fixed seed every process gives out the same trace ids, and what they trace
+/// becomes one.
 pub fn random_seed(rt: &(impl RandomSource + Clock)) -> Result<u64, SeedError> {
     match RandomState::new(rt) {
         Ok(keys) => {
