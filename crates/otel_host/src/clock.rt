@@ -1,10 +1,11 @@
 //! Moments from the system's clocks. The wall clock says which moment is now, and may be set back; the monotonic clock
 //! says how much time went by, and from when it counts nobody knows.
 
-ghost use Rattle.std.specs.Prelude.{◌≡◌, ◌≤◌};
+ghost use Rattle.std.specs.Prelude.{◌≡◌};
 ghost use Rattle.otel_host.specs.Clocks.{IsLater, ReadsAs, clock_fault};
 
 use opentelemetry::Moment;
+use otel_pipeline::trace::Now;
 use std::io;
 use std::io::ErrorKind;
 use std::marker::Model;
@@ -84,13 +85,17 @@ impl<C: Clock + Drop> HostClock<C> {
             Err(error) => Err(ClockError::Unreadable(error.kind())),
         }
     }
+}
+
+impl<C: Clock + Drop> Now for HostClock<C> {
+    ghost use Rattle.std.specs.Prelude.{◌≤◌};
+
+    ghost may_tell = { λ made moment. made ≤ moment };
 
     /// The moment that is now: that of the clock's making and the monotonic time since. Where the monotonic clock
     /// cannot be read, or 64 bits of nanoseconds do not hold that moment, it is the moment of the clock's making. Never
     /// earlier than that.
-    pub fn now(&self) -> Moment
-        ensures { self.now ≤ result.0 }
-    {
+    fn now(&self) -> Moment {
         moment_after(self.made, self.started.elapsed(&self.clock))
     }
 }

@@ -2,6 +2,7 @@
 
 use crate::{ClockError, EnvError, HostClock, SeedError, config_strings, now, random_seed};
 use opentelemetry::Moment;
+use otel_pipeline::trace::Now;
 use std::cell::Cell;
 use std::env::FillError;
 use std::io;
