@@ -1,18 +1,17 @@
-//! A greeting, and the spans of its making: `hello`, under it `greet`, and under that `format`. Each span has a
-//! function of its own, which starts it, does its work, and finishes it whatever came of that: a span must be spent on
-//! every way out. All is generic in the processor, as code over a batch processor has to be.
+//! A greeting, and the spans of its making: `hello`, under it `greet`, and under that `format`. Each has a function of
+//! its own, whose work stands in a closure: the span ends whatever that answers. All is generic in processor, tracer and
+//! clock, as code over a batch processor with such closures has to be.
 
-use opentelemetry::{Context, Key, KeyValue, Moment, Value};
+use opentelemetry::{Context, Key, KeyValue, Value};
 use opentelemetry_sdk::error::OTelSdkError;
 use opentelemetry_sdk::resource::Resource;
 use opentelemetry_sdk::trace::{
-    CloseReport, ConfigOf, ConfigStrings, CountsLeftSpans, FromExporter, IdSourceOf, ProviderOf,
-    RandomIdGenerator, SamplerOf, SdkTracer, Span, SpanLimits, SpanProcessor,
+    CloseReport, ConfigOf, ConfigStrings, CountsLeftSpans, FromExporter, GivesIds, IdSourceOf,
+    InSpan, Now, ProviderOf, RandomIdGenerator, SamplerOf, ShouldSample, Span, SpanLimits,
+    SpanProcessor, Tracer,
 };
-use otel_host::HostClock;
 use otel_probability::ConsistentProbabilityBased;
 use std::alloc::{AllocError, Global};
-use std::time::Clock;
 
 /// The samplers of the SDK, and one that strings do not name.
 type HelloSampler = SamplerOf<ConsistentProbabilityBased>;
@@ -26,15 +25,16 @@ type Provider<P> = ProviderOf<P, HelloSampler, HelloIds>;
 /// Traces a greeting under a provider with an eager batch processor over this exporter, closes that, and answers how it
 /// closed. The error is the first of: what the spans wanted and did not get, which is memory; what the exporter
 /// answered.
-pub fn trace_hello<P: FromExporter + CountsLeftSpans, C: Clock + Drop>(
+pub fn trace_hello<P: FromExporter + CountsLeftSpans, C: Now + Drop>(
     alloc: Global,
-    clock: &HostClock<C>,
+    clock: C,
     strings: &ConfigStrings,
     seed: u64,
     exporter: P::Exporter,
 ) -> Result<CloseReport, OTelSdkError> {
     let mut provider = provider_with::<P>(alloc, strings, seed, exporter).map_err(no_memory)?;
-    let traced = hello(alloc, clock, &mut provider);
+    // Nothing between here and `close` returns early.
+    let traced = greet_world(alloc, clock, &mut provider);
     let flushed = provider.force_flush();
     let report = provider.close();
     traced.map_err(no_memory)?;
@@ -79,104 +79,88 @@ fn config_of(
     Ok(config)
 }
 
-/// The root span, `hello`.
-fn hello<P: SpanProcessor, C: Clock + Drop>(
+/// Greets the world by a tracer of the provider.
+fn greet_world<P: SpanProcessor, C: Now + Drop>(
     alloc: Global,
-    clock: &HostClock<C>,
+    clock: C,
     provider: &mut Provider<P>,
 ) -> Result<(), AllocError> {
     let tracer = provider.tracer(String::from_str(alloc, "otel_hello")?)?;
-    let name = String::from_str(alloc, "hello")?;
-    let mut span = tracer.start(name, provider, clock.now())?;
-    let done = say_hello(alloc, clock, &tracer, provider, &mut span);
-    finish(span, provider, clock.now(), done)
+    let greeter = Greeter {
+        alloc,
+        tracer,
+        clock,
+    };
+    greeter.hello(provider)
 }
 
-/// The work of `hello`: it greets the world.
-fn say_hello<P: SpanProcessor, C: Clock + Drop>(
+/// What greets: a tracer, and a clock that says when its spans start and end.
+#[derive(Drop)]
+struct Greeter<L, C> {
     alloc: Global,
-    clock: &HostClock<C>,
-    tracer: &SdkTracer,
-    provider: &mut Provider<P>,
-    span: &mut Span,
-) -> Result<(), AllocError> {
-    span.set_attribute(text_attribute(alloc, "greeting.language", "en")?)?;
-    let cx = Context::new().with_span_context(span.span_context().clone()?)?;
-    greet(alloc, clock, tracer, provider, &cx)
+    tracer: L,
+    clock: C,
 }
 
-/// The span `greet`, in a context.
-fn greet<P: SpanProcessor, C: Clock + Drop>(
-    alloc: Global,
-    clock: &HostClock<C>,
-    tracer: &SdkTracer,
-    provider: &mut Provider<P>,
-    cx: &Context,
-) -> Result<(), AllocError> {
-    let name = String::from_str(alloc, "greet")?;
-    let mut span = tracer.start_with_context(name, cx, provider, clock.now())?;
-    let done = say_greeting(alloc, clock, tracer, provider, &mut span);
-    finish(span, provider, clock.now(), done)
+impl<L: Tracer, C: Now> Greeter<L, C> {
+    /// The root span, `hello`: it greets the world.
+    fn hello<P: SpanProcessor, S: ShouldSample, G: GivesIds>(
+        &self,
+        provider: &mut ProviderOf<P, S, G>,
+    ) -> Result<(), AllocError> {
+        let work = |span: &mut Span, cx: &Context, provider: &mut ProviderOf<P, S, G>| {
+            span.set_attribute(self.attribute("greeting.language", "en")?)?;
+            self.greet(cx, provider)
+        };
+        let name = String::from_str(self.alloc, "hello")?;
+        let done = self
+            .tracer
+            .in_span(name, &Context::new(), provider, &self.clock, work)?;
+        outcome_of(done)
+    }
+
+    /// The span `greet`: it has a greeting made.
+    fn greet<P: SpanProcessor, S: ShouldSample, G: GivesIds>(
+        &self,
+        cx: &Context,
+        provider: &mut ProviderOf<P, S, G>,
+    ) -> Result<(), AllocError> {
+        let work = |span: &mut Span, cx: &Context, provider: &mut ProviderOf<P, S, G>| {
+            span.set_attribute(self.attribute("greeting.name", "world")?)?;
+            self.format(cx, provider)
+        };
+        let name = String::from_str(self.alloc, "greet")?;
+        let done = self.tracer.in_span(name, cx, provider, &self.clock, work)?;
+        outcome_of(done)
+    }
+
+    /// The span `format`: it makes the greeting, and says so by an event.
+    fn format<P: SpanProcessor, S: ShouldSample, G: GivesIds>(
+        &self,
+        cx: &Context,
+        provider: &mut ProviderOf<P, S, G>,
+    ) -> Result<(), AllocError> {
+        let work = |span: &mut Span, _cx: &Context, _provider: &mut ProviderOf<P, S, G>| {
+            span.set_attribute(self.attribute("greeting.text", "Hello, world!")?)?;
+            let formatted = String::from_str(self.alloc, "formatted")?;
+            span.add_event_with_timestamp(formatted, self.clock.now(), Vec::new(self.alloc))
+        };
+        let name = String::from_str(self.alloc, "format")?;
+        let done = self.tracer.in_span(name, cx, provider, &self.clock, work)?;
+        outcome_of(done)
+    }
+
+    /// An attribute that is a text.
+    fn attribute(&self, key: &'static str, text: &str) -> Result<KeyValue, AllocError> {
+        let value = Value::String(String::from_str(self.alloc, text)?);
+        Ok(KeyValue::new(Key::from_static_str(key), value))
+    }
 }
 
-/// The work of `greet`: it has a greeting made.
-fn say_greeting<P: SpanProcessor, C: Clock + Drop>(
-    alloc: Global,
-    clock: &HostClock<C>,
-    tracer: &SdkTracer,
-    provider: &mut Provider<P>,
-    span: &mut Span,
-) -> Result<(), AllocError> {
-    span.set_attribute(text_attribute(alloc, "greeting.name", "world")?)?;
-    let cx = Context::new().with_span_context(span.span_context().clone()?)?;
-    format_greeting(alloc, clock, tracer, provider, &cx, "world")
-}
-
-/// The span `format`, in a context.
-fn format_greeting<P: SpanProcessor, C: Clock + Drop>(
-    alloc: Global,
-    clock: &HostClock<C>,
-    tracer: &SdkTracer,
-    provider: &mut Provider<P>,
-    cx: &Context,
-    name: &str,
-) -> Result<(), AllocError> {
-    let span_name = String::from_str(alloc, "format")?;
-    let mut span = tracer.start_with_context(span_name, cx, provider, clock.now())?;
-    let done = put_greeting(alloc, clock.now(), &mut span, name);
-    finish(span, provider, clock.now(), done)
-}
-
-/// The work of `format`: it makes the greeting, and says so as an event.
-fn put_greeting(alloc: Global, now: Moment, span: &mut Span, name: &str) -> Result<(), AllocError> {
-    let greeting = format!(in alloc; "Hello, {name}!")?;
-    let formatted = String::from_str(alloc, "formatted")?;
-    span.set_attribute(KeyValue::new(
-        Key::from_static_str("greeting.text"),
-        Value::String(greeting),
-    ))?;
-    span.add_event_with_timestamp(formatted, now, Vec::new(alloc))
-}
-
-/// An attribute that is a text.
-fn text_attribute(alloc: Global, key: &'static str, text: &str) -> Result<KeyValue, AllocError> {
-    let value = Value::String(String::from_str(alloc, text)?);
-    Ok(KeyValue::new(Key::from_static_str(key), value))
-}
-
-/// Finishes a span whose work came out so. `AllocError` too where the span's data found no memory on its way.
-fn finish<P: SpanProcessor>(
-    span: Span,
-    provider: &mut Provider<P>,
-    now: Moment,
-    done: Result<(), AllocError>,
-) -> Result<(), AllocError> {
-    match span.finish(provider, now) {
-        Ok(0) => done,
-        Ok(_refusals) => Err(AllocError),
-        Err(failed) => {
-            failed.value.abandon();
-            Err(AllocError)
-        }
+/// What came of work in a span. `AllocError` too where a processor found no memory for the span.
+fn outcome_of(done: InSpan<Result<(), AllocError>>) -> Result<(), AllocError> {
+    match done.ended? {
+        0 => done.answer,
+        _refusals => Err(AllocError),
     }
 }

@@ -13,12 +13,11 @@ mod hello_error;
 use crate::fixed::{FixedClock, NoVariables};
 use crate::hello::trace_hello;
 use crate::hello_error::HelloError;
-use opentelemetry_sdk::trace::{ConfigStrings, ProcessorOf, SimpleSpanProcessor};
+use opentelemetry_sdk::trace::{ConfigStrings, Now, ProcessorOf, SimpleSpanProcessor};
 use otel_host::{HostClock, config_strings, config_strings_in, random_seed};
 use otel_otlp::OtlpJsonExporter;
 use std::process::ExitCode;
 use std::rt::Stdout;
-use std::time::Clock;
 use std::{env, io};
 
 /// What the program's service is called where the environment does not name it, after `unknown_service:`.
@@ -43,12 +42,12 @@ fn run(rt: &HostRuntime) -> Result<(), HelloError> {
     if asks_for_fixed(rt)? {
         let clock = HostClock::new(FixedClock::new())?;
         let strings = config_strings_in(rt.alloc(), &NoVariables, PROGRAM)?;
-        trace_to_stdout(rt, &clock, &strings, 1)
+        trace_to_stdout(rt, clock, &strings, 1)
     } else {
         let clock = HostClock::new(rt)?;
         let seed = random_seed(rt)?;
         let strings = config_strings(rt, PROGRAM)?;
-        trace_to_stdout(rt, &clock, &strings, seed)
+        trace_to_stdout(rt, clock, &strings, seed)
     }
 }
 
@@ -65,9 +64,9 @@ fn asks_for_fixed(rt: &HostRuntime) -> Result<bool, HelloError> {
 }
 
 /// Traces a greeting to standard output. An error too where a span was not exported.
-fn trace_to_stdout<C: Clock + Drop>(
+fn trace_to_stdout<C: Now + Drop>(
     rt: &HostRuntime,
-    clock: &HostClock<C>,
+    clock: C,
     strings: &ConfigStrings,
     seed: u64,
 ) -> Result<(), HelloError> {
