@@ -1,6 +1,6 @@
 //! A greeting, and the spans of its making: `hello`, under it `greet`, and under that `format`. Each has a function of
-//! its own, whose work stands in a closure: the span ends whatever that answers. All is generic in processor, tracer and
-//! clock, as code over a batch processor with such closures has to be.
+//! its own, whose work stands in a closure: the span ends whatever that answers. All is generic in processor, tracer
+//! and clock, as code over a batch processor with such closures has to be.
 
 use opentelemetry::{Context, Key, KeyValue, Value};
 use opentelemetry_sdk::error::OTelSdkError;
