@@ -24,8 +24,11 @@ pub fn trace_request<L: Tracer, P: SpanProcessor, S: ShouldSample, G: GivesIds, 
             span.set_attribute(KeyValue::new(Key::from_static_str("size"), Value::I64(3)))
         },
     )?;
-    done.ended?;
-    done.answer
+    match done.ended? {
+        0 => done.answer,
+        // A processor had no memory for the span.
+        _refusals => Err(AllocError),
+    }
 }
 
 mod tests;

@@ -7,8 +7,8 @@ use opentelemetry::trace::{SpanBuilder, SpanKind};
 use opentelemetry_sdk::error::OTelSdkError;
 use opentelemetry_sdk::propagation::TraceContextPropagator;
 use opentelemetry_sdk::trace::{
-    CloseReport, ConfigStrings, CountsLeftSpans, FromExporter, GivesIds, IdSource, Now, ProviderOf,
-    Sampler, ShouldSample, Span, SpanProcessor, Timed, Tracer,
+    CloseReport, ConfigStrings, CountsLeftSpans, FromExporter, GivesIds, IdSource, InSpan, Now,
+    ProviderOf, Sampler, ShouldSample, Span, SpanProcessor, Timed, Tracer,
 };
 use std::alloc::{AllocError, Global};
 
@@ -43,8 +43,7 @@ impl<L: Tracer, C: Now> Shop<L, C> {
         let done = self
             .tracer
             .in_span(builder, &caller, provider, &self.clock, work)?;
-        done.ended?;
-        done.answer
+        outcome_of(done)
     }
 
     /// Asks the backend, in a span within that of the request.
@@ -61,8 +60,15 @@ impl<L: Tracer, C: Now> Shop<L, C> {
             backend.call(&headers)
         };
         let done = self.tracer.in_span(name, cx, provider, &self.clock, work)?;
-        done.ended?;
-        done.answer
+        outcome_of(done)
+    }
+}
+
+/// What came of work in a span. `AllocError` too where a processor found no memory for the span.
+fn outcome_of(done: InSpan<Result<(), AllocError>>) -> Result<(), AllocError> {
+    match done.ended? {
+        0 => done.answer,
+        _refusals => Err(AllocError),
     }
 }
 
