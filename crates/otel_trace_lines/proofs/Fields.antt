@@ -1,10 +1,13 @@
 -- A text has one first field, so what stands after it is determined.
-use Rattle.std.proofs.Common.{◌≡◌, ◌≢◌, ℕ, List, [], ◌∷◌, ◌++◌, Option, None, Some, All, IsUtf8, codes, refl, sym, ap, subst, ◌∙◌, arith, rules}
+use Rattle.std.proofs.Common.{◌≡◌, ◌≢◌, ℕ, ℤ, Bool, List, [], ◌∷◌, ◌++◌, Option, None, Some, All, IsUtf8, codes, refl, sym, ap, subst, ◌∙◌, arith, rules}
 use Rattle.std.proofs.lemmas.List.Elements.{All-tail, All-from_recursion}
-use Rattle.otel_trace_lines.specs.Commands.{PlainCommand, plain_command, start, child, remote, attr, event, status, inject, end, flush, run, shutdown}
+use Rattle.otel_trace_lines.specs.Commands.{PlainCommand, plain_command, start, child, remote, attr, event, status, inject, end, flush, run, shutdown, set_int, set_bool, link}
 use Rattle.opentelemetry.specs.Plain.{PlainStatus, unset, error, ok}
 use Rattle.otel_trace_lines.specs.declared.command.Command.{Command}
-use Rattle.otel_trace_lines.specs.Lines.{IsField, IsStatus, LineForm, field, last_field, time, outcome, rest_of_line, IsOfForm, form_of, LineGives, HasFields, AreFields, IsCommand, FieldsGive, WordGives}
+use Rattle.otel_trace_lines.specs.Lines.{IsField, IsStatus, LineForm, field, last_field, time, outcome, rest_of_line, whole, truth, IsInteger64, IsTruth, IsOfForm, form_of, word_of, LineGives, HasFields, AreFields, IsCommand, FieldsGive, WordGives}
+use Rattle.otel_trace_lines.specs.Dialects.{HasWord}
+use Rattle.otel_trace_lines.specs.declared.dialect.Dialect.{Dialect}
+use Rattle.otel_trace_lines.specs.declared.dialect.Dialect.TheVariants as dialects
 use Rattle.otel_trace_lines.proofs.Cuts.{no_field}
 
 -- what stands in front of the first space, and after it, is determined
@@ -81,6 +84,32 @@ pub only_run : (fields : List ℕ) → ((m : ℕ) → IsOfForm fields (time m) �
 only_run fields none (run m) h = none m h.1
 only_run fields none _ h = search rules
 
+pub only_int : (fields : List ℕ) → ((s k : List ℕ) (n : ℤ) → IsOfForm fields (field s (field k (whole n))) → ⊥) → (command : PlainCommand) → HasFields (codes "int") fields (form_of command) → ⊥
+only_int fields none (set_int s k n) h = none s k n h.1
+only_int fields none _ h = search rules
+
+pub only_bool : (fields : List ℕ) → ((s k : List ℕ) (b : Bool) → IsOfForm fields (field s (field k (truth b))) → ⊥) → (command : PlainCommand) → HasFields (codes "bool") fields (form_of command) → ⊥
+only_bool fields none (set_bool s k b) h = none s k b h.1
+only_bool fields none _ h = search rules
+
+pub only_link : (fields : List ℕ) → ((s t : List ℕ) → IsOfForm fields (field s (last_field t)) → ⊥) → (command : PlainCommand) → HasFields (codes "link") fields (form_of command) → ⊥
+only_link fields none (link s t) h = none s t h.1
+only_link fields none _ h = search rules
+
+-- two fields and a rest, of which the rest is an integer, or a truth value
+pub ends_as : (text s k : List ℕ) (form : LineForm) → IsOfForm text (field s (field k form)) → (rest : List ℕ) × IsOfForm text (field s (field k (rest_of_line rest))) × IsOfForm rest form
+ends_as text s k form h = (h.1.2.1.0, (h.0, (h.1.0, h.1.1, (h.1.2.0, (h.1.2.1.0, h.1.2.1.1, refl)))), h.1.2.1.2)
+
+pub ends_with : (text s k rest : List ℕ) (form : LineForm) → IsOfForm text (field s (field k (rest_of_line rest))) → IsOfForm rest form → IsOfForm text (field s (field k form))
+ends_with text s k rest form h is = (h.0, (h.1.0, h.1.1, (h.1.2.0, (h.1.2.1.0, h.1.2.1.1, rw h.1.2.1.2 is))))
+
+-- what stands after two fields is determined
+pub one_rest : (text s k rest s' k' rest' : List ℕ) → IsOfForm text (field s (field k (rest_of_line rest))) → IsOfForm text (field s' (field k' (rest_of_line rest'))) → rest' ≡ rest
+one_rest text s k rest s' k' rest' f g =
+    let first = same_field text s f.1.0 s' g.1.0 f.0 g.0 f.1.1 g.1.1 in
+    let second = same_field f.1.0 k f.1.2.1.0 k' g.1.2.1.0 f.1.2.0 g.1.2.0 f.1.2.1.1 (rw first.1 g.1.2.1.1) in
+    sym g.1.2.1.2 ∙ sym second.1 ∙ f.1.2.1.2
+
 -- after the word of a line stand the fields of each command as which it reads
 fields_after : (line word fields : List ℕ) → IsField word → line ≡ word ++ 32 ∷ fields → (command : PlainCommand) → IsOfForm line (form_of command) → HasFields word fields (form_of command)
 fields_after line word fields is e flush h = no_last_field line (codes "flush") word fields h.0 h.1 e
@@ -94,14 +123,30 @@ with_fields : (line word fields : List ℕ) → IsField word → line ≡ word +
 with_fields line word fields is e (field front after) h = (rw h.0 is, (fields, rw h.0 e, h.1))
 with_fields line word fields is e _ h = absurd h
 
+-- the word in front of fields is that of the form
+word_there : (word fields : List ℕ) (form : LineForm) → HasFields word fields form → word_of form ≡ word
+word_there word fields (field front after) h = h.0
+word_there word fields _ h = absurd h
+
+-- so it is a word of the dialect where that has the one of the form, and the other way round
+with_word : (dialect : Dialect) (word fields : List ℕ) (form : LineForm) → HasFields word fields form → HasWord dialect word → HasWord dialect (word_of form)
+with_word dialect word fields form h has = subst (HasWord dialect) (sym (word_there word fields form h)) has
+
 -- what is found after the word is found in the line
-pub fields_give_line : (line word fields : List ℕ) → IsUtf8 line → IsField word → line ≡ word ++ 32 ∷ fields → (found : Option Command) → FieldsGive word fields found → LineGives line found
-fields_give_line line word fields text is e None h = λ command reads. h command (fields_after line word fields is e command reads.1)
-fields_give_line line word fields text is e (Some command) h = (text, with_fields line word fields is e (form_of (plain_command command)) h)
+pub fields_give_line : (dialect : Dialect) (line word fields : List ℕ) → HasWord dialect word → IsUtf8 line → IsField word → line ≡ word ++ 32 ∷ fields → (found : Option Command) → FieldsGive word fields found → LineGives dialect line found
+fields_give_line dialect line word fields has text is e None h = λ command reads. h command (fields_after line word fields is e command reads.1)
+fields_give_line dialect line word fields has text is e (Some command) h =
+    let form = form_of (plain_command command) in
+    (text, with_fields line word fields is e form h, with_word dialect word fields form h has)
 
 -- fields of a command after the word make the line one
-pub fields_make_line : (line word fields : List ℕ) → IsUtf8 line → IsField word → line ≡ word ++ 32 ∷ fields → AreFields word fields → IsCommand line
-fields_make_line line word fields text is e h = (h.0, (text, with_fields line word fields is e (form_of h.0) h.1))
+pub fields_make_line : (dialect : Dialect) (line word fields : List ℕ) → HasWord dialect word → IsUtf8 line → IsField word → line ≡ word ++ 32 ∷ fields → AreFields word fields → IsCommand dialect line
+fields_make_line dialect line word fields has text is e h = (h.0, (text, with_fields line word fields is e (form_of h.0) h.1, with_word dialect word fields (form_of h.0) h.1 has))
+
+-- where the dialect does not have the word, nothing is found
+pub no_word_gives_line : (dialect : Dialect) (line word fields : List ℕ) → ¬ (HasWord dialect word) → IsField word → line ≡ word ++ 32 ∷ fields → LineGives dialect line None
+no_word_gives_line dialect line word fields lacks is e = λ command reads.
+    lacks (subst (HasWord dialect) (word_there word fields (form_of command) (fields_after line word fields is e command reads.1)) reads.2)
 
 -- a line in which no field is followed by a space is the word of each command as which it reads
 word_alone : (line : List ℕ) → ((first rest : List ℕ) → IsField first → line ≡ first ++ 32 ∷ rest → ⊥) → (command : PlainCommand) → IsOfForm line (form_of command) → form_of command ≡ last_field line
@@ -115,7 +160,14 @@ alone_reads line flush e = ((omega arith, All-from_recursion (λ b. b ≢ 32) (c
 alone_reads line shutdown e = ((omega arith, All-from_recursion (λ b. b ≢ 32) (codes "shutdown") (search rules)), cc)
 alone_reads line _ e = cc
 
+-- each dialect has the words that stand alone
+alone_has : (dialect : Dialect) (word : List ℕ) (command : PlainCommand) → form_of command ≡ last_field word → HasWord dialect (word_of (form_of command))
+alone_has dialects.Extended word command e = tt
+alone_has dialects.Plain word flush e = search rules
+alone_has dialects.Plain word shutdown e = search rules
+alone_has dialects.Plain word _ e = cc
+
 -- what is found of the word is found in the line
-pub word_gives_line : (line : List ℕ) → IsUtf8 line → ((first rest : List ℕ) → IsField first → line ≡ first ++ 32 ∷ rest → ⊥) → (found : Option Command) → WordGives line found → LineGives line found
-word_gives_line line text none None h = λ command reads. h command (word_alone line none command reads.1)
-word_gives_line line text none (Some command) h = (text, alone_reads line (plain_command command) h)
+pub word_gives_line : (dialect : Dialect) (line : List ℕ) → IsUtf8 line → ((first rest : List ℕ) → IsField first → line ≡ first ++ 32 ∷ rest → ⊥) → (found : Option Command) → WordGives line found → LineGives dialect line found
+word_gives_line dialect line text none None h = λ command reads. h command (word_alone line none command reads.1)
+word_gives_line dialect line text none (Some command) h = (text, alone_reads line (plain_command command) h, alone_has dialect line (plain_command command) h)

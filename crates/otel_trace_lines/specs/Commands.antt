@@ -1,5 +1,5 @@
 -- Commands as contracts see them: numbers, and texts as their bytes.
-use Rattle.std.specs.Prelude.{ℕ, Bool, true, false, List, map, string_bytes}
+use Rattle.std.specs.Prelude.{ℕ, ℤ, Bool, true, false, List, map, string_bytes}
 use Rattle.opentelemetry.specs.Plain.{PlainStatus}
 use Rattle.opentelemetry.specs.PlainValues.{plain_status}
 use Rattle.otel_trace_lines.specs.declared.command.Command.{Command}
@@ -28,6 +28,11 @@ pub data PlainCommand : Type 0 where
   -- the moment that is now
   run : ℕ → PlainCommand
   shutdown : PlainCommand
+  -- the span's text, the key, the value
+  set_int : List ℕ → List ℕ → ℤ → PlainCommand
+  set_bool : List ℕ → List ℕ → Bool → PlainCommand
+  -- the span's text, the text of the span that it points to
+  link : List ℕ → List ℕ → PlainCommand
 
 -- what a command asks for
 abbrev pub plain_command : Command → PlainCommand
@@ -44,6 +49,9 @@ plain_command (commands.End span moment) = end (string_bytes span) moment.0
 plain_command commands.Flush = flush
 plain_command (commands.Run moment) = run moment.0
 plain_command commands.Shutdown = shutdown
+plain_command (commands.Int span key value) = set_int (string_bytes span) (string_bytes key) value
+plain_command (commands.Bool span key value) = set_bool (string_bytes span) (string_bytes key) value
+plain_command (commands.Link span target) = link (string_bytes span) (string_bytes target)
 
 -- whether a command may end a span
 abbrev pub is_end : PlainCommand → Bool

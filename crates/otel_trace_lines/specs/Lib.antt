@@ -1,5 +1,6 @@
 pub mod AnswerText
 pub mod Commands
+pub mod Dialects
 pub mod Lines
 pub mod PlainReply
 pub mod ReplyForm

@@ -1,13 +1,17 @@
 -- Which commands a text spells, line by line. Lines are those of the text, in std's word: each ends in a line feed and
 -- loses the one carriage return in front of it, and a rest after the last line feed, if not empty, is a line as it is.
-use Rattle.std.specs.Prelude.{◌≡◌, ◌≢◌, ℕ, ◌+◌, ◌^◌, ◌<◌, List, [], ◌∷◌, ◌++◌, length, Option, Some, None, All, codes, IsUtf8}
+use Rattle.std.specs.Prelude.{◌≡◌, ◌≢◌, ℕ, ℤ, Bool, true, false, ◌+◌, ◌^◌, ◌<◌, List, [], ◌∷◌, ◌++◌, length, Option, Some, None, All, codes, IsUtf8, slice_index, FitsSigned}
 use Rattle.std.specs.Str.Lines.{lines}
-use Rattle.std.specs.Str.Parse.{IsNumeral, digits_value}
+use Rattle.std.specs.Str.Parse.{IsNumeral, digits_value, signed_digits_value, without_leading_sign}
+use Rattle.std.specs.Int.{w64}
 use Rattle.opentelemetry.specs.declared.trace.status.Status.{Status}
 use Rattle.opentelemetry.specs.Plain.{PlainStatus, unset, error, ok}
 use Rattle.opentelemetry.specs.PlainValues.{plain_status}
 use Rattle.otel_trace_lines.specs.declared.command.Command.{Command}
-use Rattle.otel_trace_lines.specs.Commands.{PlainCommand, start, child, remote, attr, event, status, inject, end, flush, run, shutdown, plain_command}
+use Rattle.otel_trace_lines.specs.Commands.{PlainCommand, start, child, remote, attr, event, status, inject, end, flush, run, shutdown}
+use Rattle.otel_trace_lines.specs.Commands.{set_int, set_bool, link, plain_command}
+use Rattle.otel_trace_lines.specs.Dialects.{HasWord, without_comments}
+use Rattle.otel_trace_lines.specs.declared.dialect.Dialect.{Dialect}
 
 -- a field is not empty and has no space in it
 abbrev pub IsField : List ℕ → Type 0
@@ -16,6 +20,16 @@ IsField bytes = (0 < length bytes) × All (λ b. b ≢ 32) bytes
 -- a numeral of decimal digits alone writes this number, in range of 64 bits
 abbrev pub IsDecimal64 : List ℕ → ℕ → Type 0
 IsDecimal64 digits number = IsNumeral 10 digits × (number ≡ digits_value 10 digits) × (number < 2 ^ 64)
+
+-- decimal digits, alone or after a minus, write this integer, in range of 64 bits with a sign
+abbrev pub IsInteger64 : List ℕ → ℤ → Type 0
+IsInteger64 text number = (slice_index text 0 ≢ 43) × IsNumeral 10 (without_leading_sign text)
+    × FitsSigned w64 (signed_digits_value 10 text) × (number ≡ signed_digits_value 10 text)
+
+-- a truth value is `true` or `false`
+abbrev pub IsTruth : List ℕ → Bool → Type 0
+IsTruth text true = text ≡ codes "true"
+IsTruth text false = text ≡ codes "false"
 
 -- a status is `ok`, or `error`, a space and the description, which may be empty; no text is a status that nobody set
 abbrev pub IsStatus : List ℕ → PlainStatus → Type 0
@@ -35,6 +49,10 @@ pub data LineForm : Type 0 where
   outcome : PlainStatus → LineForm
   -- the rest of the line, whatever it is
   rest_of_line : List ℕ → LineForm
+  -- an integer, in decimal digits
+  whole : ℤ → LineForm
+  -- a truth value
+  truth : Bool → LineForm
 
 -- a text is of a form
 abbrev pub IsOfForm : List ℕ → LineForm → Type 0
@@ -44,6 +62,8 @@ IsOfForm text (last_field last) = IsField last × (text ≡ last)
 IsOfForm text (time moment) = IsDecimal64 text moment
 IsOfForm text (outcome how) = IsStatus text how
 IsOfForm text (rest_of_line rest) = text ≡ rest
+IsOfForm text (whole number) = IsInteger64 text number
+IsOfForm text (truth value) = IsTruth text value
 
 -- the form of a command's line: its word, and what stands after the word
 abbrev pub form_of : PlainCommand → LineForm
@@ -60,54 +80,69 @@ form_of (end span moment) = field (codes "end") (field span (time moment))
 form_of flush = last_field (codes "flush")
 form_of (run moment) = field (codes "run") (time moment)
 form_of shutdown = last_field (codes "shutdown")
+form_of (set_int span key value) = field (codes "int") (field span (field key (whole value)))
+form_of (set_bool span key value) = field (codes "bool") (field span (field key (truth value)))
+form_of (link span target) = field (codes "link") (field span (last_field target))
 
--- a line reads as a command: it is text of the command's form
-abbrev pub Reads : List ℕ → PlainCommand → Type 0
-Reads line command = IsUtf8 line × IsOfForm line (form_of command)
+-- the field in front of a form, if there is one
+abbrev pub word_of : LineForm → List ℕ
+word_of (field front after) = front
+word_of (last_field last) = last
+word_of _ = []
 
--- a bad line: not empty, and it reads as no command
-abbrev pub IsBad : List ℕ → Type 0
-IsBad line = (line ≢ []) × ((command : PlainCommand) → Reads line command → ⊥)
+module _ (dialect : Dialect) where
+  -- a line reads as a command: the dialect has that, and the line is text of its form
+  abbrev pub Reads : List ℕ → PlainCommand → Type 0
+  Reads line command = IsUtf8 line × IsOfForm line (form_of command) × HasWord dialect (word_of (form_of command))
 
--- lines that read as these commands, one each, but for empty lines, which are left out
-abbrev pub Spell : List (List ℕ) → List PlainCommand → Type 0
-Spell [] [] = Unit {0}
-Spell [] (command ∷ commands) = ⊥
-Spell ([] ∷ more) commands = Spell more commands
-Spell ((b ∷ line) ∷ more) [] = ⊥
-Spell ((b ∷ line) ∷ more) (command ∷ commands) = Reads (b ∷ line) command × Spell more commands
+  -- a bad line: not empty, and it reads as no command
+  abbrev pub IsBad : List ℕ → Type 0
+  IsBad line = (line ≢ []) × ((command : PlainCommand) → Reads line command → ⊥)
 
--- line n, counted from 1, is the first bad one, and the lines before it spell the commands
-pub record StopsAt (all : List (List ℕ)) (commands : List PlainCommand) (n : ℕ) : Type 0 where
-  pub before : List (List ℕ)
-  pub line : List ℕ
-  pub after : List (List ℕ)
-  pub parts : all ≡ before ++ line ∷ after
-  pub number : n ≡ length before + 1
-  pub spelled : Spell before commands
-  pub bad : IsBad line
+  -- lines that read as these commands, one each, but for empty lines, which are left out
+  abbrev pub Spell : List (List ℕ) → List PlainCommand → Type 0
+  Spell [] [] = Unit {0}
+  Spell [] (command ∷ commands) = ⊥
+  Spell ([] ∷ more) commands = Spell more commands
+  Spell ((b ∷ line) ∷ more) [] = ⊥
+  Spell ((b ∷ line) ∷ more) (command ∷ commands) = Reads (b ∷ line) command × Spell more commands
 
--- what lines spell up to the first bad one, and which one that is, if there is one
-abbrev pub SpellUpTo : List (List ℕ) → List PlainCommand → Option ℕ → Type 0
-SpellUpTo all commands None = Spell all commands
-SpellUpTo all commands (Some n) = StopsAt all commands n
+  -- line n, counted from 1, is the first bad one, and the lines before it spell the commands
+  pub record StopsAt (all : List (List ℕ)) (commands : List PlainCommand) (n : ℕ) : Type 0 where
+    pub before : List (List ℕ)
+    pub line : List ℕ
+    pub after : List (List ℕ)
+    pub parts : all ≡ before ++ line ∷ after
+    pub number : n ≡ length before + 1
+    pub spelled : Spell before commands
+    pub bad : IsBad line
 
--- what a text spells up to its first bad line, and which one that is, if there is one
-abbrev pub TextSpells : List ℕ → List PlainCommand → Option ℕ → Type 0
-TextSpells text commands bad_line = SpellUpTo (lines text) commands bad_line
+  -- what lines spell up to the first bad one, and which one that is, if there is one
+  abbrev pub SpellUpTo : List (List ℕ) → List PlainCommand → Option ℕ → Type 0
+  SpellUpTo all commands None = Spell all commands
+  SpellUpTo all commands (Some n) = StopsAt all commands n
 
--- a text that spells no command: its lines up to the first bad one are empty
-abbrev pub SpellsNothing : List ℕ → Type 0
-SpellsNothing text = (bad_line : Option ℕ) × TextSpells text [] bad_line
+  -- what a text spells up to its first bad line, and which one that is, if there is one: a comment is an empty line
+  abbrev pub TextSpells : List ℕ → List PlainCommand → Option ℕ → Type 0
+  TextSpells text commands bad_line = SpellUpTo (without_comments dialect (lines text)) commands bad_line
+
+  -- a text that spells no command: its lines up to the first bad one are empty
+  abbrev pub SpellsNothing : List ℕ → Type 0
+  SpellsNothing text = (bad_line : Option ℕ) × TextSpells text [] bad_line
+
+  -- a line that reads as a command
+  abbrev pub IsCommand : List ℕ → Type 0
+  IsCommand line = (command : PlainCommand) × Reads line command
+
+  -- what is found in a line: a command as which it reads, and none only where it reads as none
+  abbrev pub LineGives : List ℕ → Option Command → Type 0
+  LineGives line None = (command : PlainCommand) → Reads line command → ⊥
+  LineGives line (Some command) = Reads line (plain_command command)
 
 -- a form that begins with a word, and these fields are of the form after its space
 abbrev pub HasFields : List ℕ → List ℕ → LineForm → Type 0
 HasFields word fields (field front after) = (front ≡ word) × IsOfForm fields after
 HasFields word fields _ = ⊥
-
--- a line that reads as a command
-abbrev pub IsCommand : List ℕ → Type 0
-IsCommand line = (command : PlainCommand) × Reads line command
 
 -- after this word's space these fields are a command's
 abbrev pub AreFields : List ℕ → List ℕ → Type 0
@@ -116,11 +151,6 @@ AreFields word fields = (command : PlainCommand) × HasFields word fields (form_
 -- a text that spells a status
 abbrev pub SpellsStatus : List ℕ → Type 0
 SpellsStatus text = (how : PlainStatus) × IsStatus text how
-
--- what is found in a line: a command as which it reads, and none only where it reads as none
-abbrev pub LineGives : List ℕ → Option Command → Type 0
-LineGives line None = (command : PlainCommand) → Reads line command → ⊥
-LineGives line (Some command) = Reads line (plain_command command)
 
 -- what is found after a word: a command of that word whose fields stand there, and none only where there is none
 abbrev pub FieldsGive : List ℕ → List ℕ → Option Command → Type 0
@@ -136,3 +166,12 @@ WordGives word (Some command) = form_of (plain_command command) ≡ last_field w
 abbrev pub StatusGives : List ℕ → Option Status → Type 0
 StatusGives text None = (how : PlainStatus) → IsStatus text how → ⊥
 StatusGives text (Some how) = IsStatus text (plain_status how)
+
+-- what is found where an integer is to stand, and where a truth value is
+abbrev pub IntegerGives : List ℕ → Option ℤ → Type 0
+IntegerGives text None = (number : ℤ) → IsInteger64 text number → ⊥
+IntegerGives text (Some number) = IsInteger64 text number
+
+abbrev pub TruthGives : List ℕ → Option Bool → Type 0
+TruthGives text None = (value : Bool) → IsTruth text value → ⊥
+TruthGives text (Some value) = IsTruth text value

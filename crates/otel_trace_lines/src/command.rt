@@ -64,6 +64,23 @@ pub enum Command {
     },
     /// Shut the provider down.
     Shutdown,
+    /// Set an attribute whose value is an integer. It is of the extended dialect, as are those below.
+    Int {
+        span: String,
+        key: String,
+        value: i64,
+    },
+    /// Set an attribute whose value is a truth value.
+    Bool {
+        span: String,
+        key: String,
+        value: bool,
+    },
+    /// Add a link to the span of another name, without attributes.
+    Link {
+        span: String,
+        target: String,
+    },
 }
 
 impl Command {

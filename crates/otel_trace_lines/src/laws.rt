@@ -5,6 +5,7 @@ ghost use Rattle.std.specs.Io.{IsEmptyOrEndsWith};
 ghost use Rattle.std.specs.Str.Lines.{lines as lines_of};
 ghost use Rattle.otel_trace_lines.specs.Commands.{PlainCommand};
 ghost use Rattle.otel_trace_lines.specs.Lines.{TextSpells};
+ghost use Rattle.otel_trace_lines.specs.declared.dialect.Dialect.{Dialect};
 
 /// A text that is cut after a line feed has the lines of its two parts.
 pub fn lines_join()
@@ -15,11 +16,11 @@ pub fn lines_join()
 /// A text that is cut after a line feed spells what its two parts spell, with its lines counted through. After a bad
 /// line it may go on as it will.
 pub fn texts_join()
-    ensures joined { (first second : List ℕ) (commands more : List PlainCommand) (bad_line : Option ℕ)
-        → IsEmptyOrEndsWith first 10 → TextSpells first commands None → TextSpells second more bad_line
-        → TextSpells (first ++ second) (commands ++ more)
+    ensures joined { (dialect : Dialect) (first second : List ℕ) (commands more : List PlainCommand) (bad_line : Option ℕ)
+        → IsEmptyOrEndsWith first 10 → TextSpells dialect first commands None → TextSpells dialect second more bad_line
+        → TextSpells dialect (first ++ second) (commands ++ more)
         (option_map (λ line. length (lines_of first) + line) bad_line) }
-    ensures bad { (first second : List ℕ) (commands : List PlainCommand) (line : ℕ)
-        → IsEmptyOrEndsWith first 10 → TextSpells first commands (Some line)
-        → TextSpells (first ++ second) commands (Some line) }
+    ensures bad { (dialect : Dialect) (first second : List ℕ) (commands : List PlainCommand) (line : ℕ)
+        → IsEmptyOrEndsWith first 10 → TextSpells dialect first commands (Some line)
+        → TextSpells dialect (first ++ second) commands (Some line) }
 {}

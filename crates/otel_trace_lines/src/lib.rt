@@ -4,6 +4,7 @@
 #![tactic(auto)]
 
 pub mod command;
+pub mod dialect;
 pub mod laws;
 pub mod lines;
 pub mod reply;
@@ -11,6 +12,7 @@ pub mod reply_form;
 pub mod reply_text;
 
 pub use command::Command;
+pub use dialect::Dialect;
 pub use lines::{Script, parse};
 pub use reply::{Answer, Reply, SpanIdentity};
 pub use reply_form::{ReplyForm, ReplyLines};

@@ -1,4 +1,4 @@
-//! The text that a session is fed, read as commands. Reading stops at the first line that is no command.
+//! The text that a session is fed, read as commands of a dialect. Reading stops at the first line that is no command.
 
 ghost use Rattle.std.specs.Prelude.{◌≡◌, ℕ, ◌<◌, List, [], ◌∷◌, ◌++◌, length, Option, None, Some, IfOk, IsOk, IsTrue, ◌↔◌, MatchOption, codes, position, ◌==◌};
 ghost use Rattle.std.specs.Str.Lines.{lines as lines_of, strip_carriage_return};
@@ -9,18 +9,22 @@ ghost use Rattle.otel_trace_lines.specs.Lines.{
   IsCommand,
   IsField,
   IsDecimal64,
+  IntegerGives,
   IsOfForm,
   LineGives,
   SpellsNothing,
   SpellsStatus,
   StatusGives,
   TextSpells,
+  TruthGives,
   WordGives,
   field,
+  rest_of_line,
   time,
 };
 
 use crate::command::Command;
+use crate::dialect::Dialect;
 use opentelemetry::Moment;
 use opentelemetry::trace::Status;
 use std::alloc::{AllocError, Global};
@@ -34,16 +38,16 @@ pub struct Script {
     pub bad_line: Option<u64>,
 }
 
-/// Reads the lines of a text up to the first that is no command. Fails only where memory runs out, which is wanted for
-/// commands alone.
-pub fn parse(alloc: Global, text: &[u8]) -> Result<Script, AllocError>
+/// Reads the lines of a text up to the first that is no command of a dialect. Fails only where memory runs out, which is
+/// wanted for commands alone.
+pub fn parse(alloc: Global, dialect: Dialect, text: &[u8]) -> Result<Script, AllocError>
     ensures spelled { IfOk result (λ script.
-        TextSpells text.now (plain_commands script.commands.items) script.bad_line) }
+        TextSpells dialect text.now (plain_commands script.commands.items) script.bad_line) }
     // The text spells nothing else.
     ensures only { IfOk result (λ script. (commands : List PlainCommand) (bad_line : Option ℕ)
-        → TextSpells text.now commands bad_line
+        → TextSpells dialect text.now commands bad_line
         → (commands ≡ plain_commands script.commands.items) × (bad_line ≡ script.bad_line)) }
-    ensures free { SpellsNothing text.now → IsOk result }
+    ensures free { SpellsNothing dialect text.now → IsOk result }
 {
     let mut commands = Vec::new(alloc);
     let mut number: u64 = 0;
@@ -51,10 +55,11 @@ pub fn parse(alloc: Global, text: &[u8]) -> Result<Script, AllocError>
     while let Some((line, after)) = first_line(rest) {
         rest = after;
         number += 1;
-        if line.is_empty() {
+        let content = dialect.without_comment(line);
+        if content.is_empty() {
             continue;
         }
-        match command_of(alloc, line)? {
+        match command_of(alloc, dialect, content)? {
             Some(command) => commands.push(command)?,
             None => {
                 return Ok(Script {
@@ -71,15 +76,20 @@ pub fn parse(alloc: Global, text: &[u8]) -> Result<Script, AllocError>
 }
 
 /// The command as which a line reads. Memory is wanted for the texts of a command alone.
-fn command_of(alloc: Global, line: &[u8]) -> Result<Option<Command>, AllocError>
-    ensures found { IfOk result (LineGives line.now) }
-    ensures free { ¬ IsCommand line.now → IsOk result }
+fn command_of(alloc: Global, dialect: Dialect, line: &[u8]) -> Result<Option<Command>, AllocError>
+    ensures found { IfOk result (LineGives dialect line.now) }
+    ensures free { ¬ IsCommand dialect line.now → IsOk result }
 {
     let Ok(text) = str::from_utf8(line) else {
         return Ok(None);
     };
     match first_field(text) {
-        Some((word, fields)) => command_with_fields(alloc, word, fields),
+        Some((word, fields)) => {
+            if !dialect.has_word(word) {
+                return Ok(None);
+            }
+            command_with_fields(alloc, word, fields)
+        }
         None => Ok(command_of_word(text)),
     }
 }
@@ -114,6 +124,9 @@ fn command_with_fields(
         "inject" => inject_of(alloc, fields),
         "end" => end_of(alloc, fields),
         "run" => Ok(run_of(fields)),
+        "int" => int_of(alloc, fields),
+        "bool" => bool_of(alloc, fields),
+        "link" => link_of(alloc, fields),
         _ => Ok(None),
     }
 }
@@ -250,6 +263,71 @@ fn run_of(field: &str) -> Option<Command>
     Some(Command::Run { moment })
 }
 
+/// The fields of `int SPAN KEY INTEGER`.
+fn int_of(alloc: Global, fields: &str) -> Result<Option<Command>, AllocError>
+    ensures found { IfOk result (FieldsGive (codes "int") fields.now) }
+    ensures free { ¬ AreFields (codes "int") fields.now → IsOk result }
+{
+    let Some((span, key, digits)) = two_fields_and_rest(fields) else {
+        return Ok(None);
+    };
+    let Some(value) = parse_integer(digits) else {
+        return Ok(None);
+    };
+    Ok(Some(Command::Int {
+        span: String::from_str(alloc, span)?,
+        key: String::from_str(alloc, key)?,
+        value,
+    }))
+}
+
+/// The fields of `bool SPAN KEY TRUTH`.
+fn bool_of(alloc: Global, fields: &str) -> Result<Option<Command>, AllocError>
+    ensures found { IfOk result (FieldsGive (codes "bool") fields.now) }
+    ensures free { ¬ AreFields (codes "bool") fields.now → IsOk result }
+{
+    let Some((span, key, word)) = two_fields_and_rest(fields) else {
+        return Ok(None);
+    };
+    let Some(value) = truth_of(word) else {
+        return Ok(None);
+    };
+    Ok(Some(Command::Bool {
+        span: String::from_str(alloc, span)?,
+        key: String::from_str(alloc, key)?,
+        value,
+    }))
+}
+
+/// The fields of `link SPAN TARGET`.
+fn link_of(alloc: Global, fields: &str) -> Result<Option<Command>, AllocError>
+    ensures found { IfOk result (FieldsGive (codes "link") fields.now) }
+    ensures free { ¬ AreFields (codes "link") fields.now → IsOk result }
+{
+    let Some((span, target)) = first_field(fields) else {
+        return Ok(None);
+    };
+    if !is_field(target) {
+        return Ok(None);
+    }
+    Ok(Some(Command::Link {
+        span: String::from_str(alloc, span)?,
+        target: String::from_str(alloc, target)?,
+    }))
+}
+
+/// Two fields and what stands after the space that ends the second; none where there are not so many.
+fn two_fields_and_rest(text: &str) -> Option<(&str, &str, &str)>
+    ensures { MatchOption result
+        ((first second rest : List ℕ)
+        → IsOfForm text.now (field first (field second (rest_of_line rest))) → ⊥)
+        (λ parts. IsOfForm text.now (field parts.0.now (field parts.1.now (rest_of_line parts.2.now)))) }
+{
+    let (first, after) = first_field(text)?;
+    let (second, rest) = first_field(after)?;
+    Some((first, second, rest))
+}
+
 /// Three fields and the moment after them; none where anything else stands there.
 fn three_fields_and_moment(text: &str) -> Option<(&str, &str, &str, Moment)>
     ensures { MatchOption result
@@ -344,6 +422,28 @@ pub fn parse_decimal(digits: &str) -> Option<u64>
         return None;
     }
     digits.parse::<u64>().ok()
+}
+
+/// The integer of 64 bits with a sign that digits write, maybe after a minus; none where it is out of range, or where
+/// anything else stands there.
+fn parse_integer(digits: &str) -> Option<i64>
+    ensures { IntegerGives digits.now result }
+{
+    if digits.starts_with('+') {
+        return None;
+    }
+    digits.parse::<i64>().ok()
+}
+
+/// The truth value that a text is; none where it is neither.
+fn truth_of(text: &str) -> Option<bool>
+    ensures { TruthGives text.now result }
+{
+    match text {
+        "true" => Some(true),
+        "false" => Some(false),
+        _ => None,
+    }
 }
 
 /// The first line of a text, without what ends it, and the text after it; none where the text is empty.

@@ -1,14 +1,18 @@
-//! The form in which a session's replies are written, and the program's own: lines.
+//! The form in which a session's lines are read and its replies are written, and the program's own: lines.
 
 ghost use Rattle.std.specs.Prelude.{◌≡◌, ◌++◌, [], IsOk, OnErr, OnOk, map};
-ghost use Rattle.otel_trace_lines.specs.ReplyForm.{Form, reply_lines};
+ghost use Rattle.otel_trace_lines.specs.ReplyForm.{Form, reply_lines_in};
+ghost use Rattle.otel_trace_lines.specs.declared.dialect.Dialect.TheVariants as dialects;
 
+use crate::dialect::Dialect;
 use crate::reply::Answer;
 use crate::reply_text::{write_batches, write_reply};
 use otel_export::trace::SpanData;
 use std::alloc::{AllocError, Global};
+use std::marker::Model;
 
-/// How replies are written, and what is left to write when a session closes. It may hold room for their texts.
+/// By which grammar lines are read, how replies are written, and what is left to write when a session closes. It may
+/// hold room for their texts.
 pub trait ReplyForm {
     /// It stays the same, whatever was written.
     ghost form: { Self → Form };
@@ -41,25 +45,48 @@ pub trait ReplyForm {
     /// Whether a run in this form fails where a queue was full and dropped a span.
     fn minds_drops(&self) -> bool
         ensures { result ≡ (form self.now).minds_drops };
+
+    /// By which grammar lines are read.
+    fn dialect(&self) -> Dialect
+        ensures { result ≡ (form self.now).dialect };
 }
 
 /// Replies as lines: a line for each span that was exported, and then the answer's.
 #[derive(Drop)]
 pub struct ReplyLines {
+    dialect: Dialect,
     // Room for their texts, one after another.
     text: String,
 }
 
+impl Model for ReplyLines {
+    ghost use Rattle.otel_trace_lines.specs.declared.dialect.Dialect.{Dialect};
+
+    ghost Value = { Dialect };
+
+    ghost view = { λ lines. lines.dialect };
+}
+
 impl ReplyLines {
-    pub fn new(alloc: Global) -> ReplyLines {
+    /// Of the plain grammar.
+    pub fn new(alloc: Global) -> ReplyLines
+        ensures { result ≡ dialects.Plain }
+    {
+        ReplyLines::of_dialect(alloc, Dialect::Plain)
+    }
+
+    pub fn of_dialect(alloc: Global, dialect: Dialect) -> ReplyLines
+        ensures { result ≡ dialect }
+    {
         ReplyLines {
+            dialect,
             text: String::new(alloc),
         }
     }
 }
 
 impl ReplyForm for ReplyLines {
-    ghost form = { λ _. reply_lines };
+    ghost form = { λ dialect. reply_lines_in dialect };
 
     fn write_reply(
         &mut self,
@@ -80,5 +107,9 @@ impl ReplyForm for ReplyLines {
 
     fn minds_drops(&self) -> bool {
         false
+    }
+
+    fn dialect(&self) -> Dialect {
+        self.dialect
     }
 }

@@ -6,7 +6,7 @@ use Rattle.otel_trace_lines.proofs.lines.parse.Given as goal
 
 abbrev pub invariant-loop-line : goal.invariant-loop-line
 invariant-loop-line l = record {
-  read : HasRead l.text l.rest (plain_commands l.commands.items) l.number;
+  read : HasRead l.dialect l.text l.rest (plain_commands l.commands.items) l.number;
   room : l.number + length l.rest ≤ length l.text;
 }
 

@@ -1,0 +1,11 @@
+-- After the first field there are no second one and rest.
+use Rattle.otel_trace_lines.specs.Lines.{field, rest_of_line}
+use Rattle.otel_trace_lines.proofs.Fields.{after_field}
+use Rattle.otel_trace_lines.proofs.lines.two_fields_and_rest.Goals as goal
+
+pub returns-in_err-second : goal.returns-in_err-second
+returns-in_err-second c =
+    let here = c.in_ok-first.ensures in
+    rw c.from_residual-in_err-second.ensures (λ first second rest h.
+    let after = after_field c.args.text.now c.in_ok-first.first.now c.in_ok-first.after.now here.0 here.1 first (field second (rest_of_line rest)) h in
+    c.in_err-second.ensures second after.1.0 after.0 after.1.1)

@@ -1,0 +1,22 @@
+-- What each of the two grammars of lines has. The plain one lacks comments and some commands.
+use Rattle.std.specs.Prelude.{◌≡◌, ◌⊎◌, ◌==◌, ℕ, List, [], codes, map, if◌then◌else◌, slice_index}
+use Rattle.otel_trace_lines.specs.declared.dialect.Dialect.{Dialect}
+use Rattle.otel_trace_lines.specs.declared.dialect.Dialect.TheVariants as dialects
+
+-- the words of the commands that only the extended grammar has
+abbrev pub IsOfExtended : List ℕ → Type 0
+IsOfExtended word = (word ≡ codes "int") ⊎ ((word ≡ codes "bool") ⊎ (word ≡ codes "link"))
+
+-- whether a grammar has the commands of a word
+abbrev pub HasWord : Dialect → List ℕ → Type 0
+HasWord dialects.Plain word = ¬ IsOfExtended word
+HasWord dialects.Extended word = Unit {0}
+
+-- what is read of a line: of a comment, which begins with `#`, nothing
+abbrev pub without_comment : Dialect → List ℕ → List ℕ
+without_comment dialects.Plain line = line
+without_comment dialects.Extended line = if slice_index line 0 == 35 then [] else line
+
+-- the same of lines
+abbrev pub without_comments : Dialect → List (List ℕ) → List (List ℕ)
+without_comments dialect all = map (without_comment dialect) all
