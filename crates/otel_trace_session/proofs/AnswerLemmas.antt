@@ -2,7 +2,7 @@
 use Rattle.std.proofs.Common.{◌≡◌, ◌∙◌, Bool, true, false, refl}
 use Rattle.otel_export.specs.KeptBatches.{OnlyAdds}
 use Rattle.otel_pipeline.specs.ProcessorKeeps.{OnlyAppends}
-use Rattle.otel_trace_lines.specs.Commands.{PlainCommand, start, child, remote, attr, event, status, inject, end, flush, run, shutdown, is_end, plain_command}
+use Rattle.otel_trace_lines.specs.Commands.{PlainCommand, start, child, remote, attr, event, status, inject, end, flush, run, shutdown, set_int, set_bool, link, is_end, plain_command}
 use Rattle.otel_trace_lines.specs.declared.command.Command.{Command}
 use Rattle.otel_trace_lines.specs.declared.reply.Answer.{Answer}
 use Rattle.otel_trace_session.specs.Actions.{action_of, ends_span}
@@ -27,6 +27,9 @@ same_end (end span moment) = refl
 same_end flush = refl
 same_end (run moment) = refl
 same_end shutdown = refl
+same_end (set_int span key value) = refl
+same_end (set_bool span key value) = refl
+same_end (link span target) = refl
 
 module _ {P S G : Type 0} (calls : Calls P S G) where
   -- a command that was carried out, and one that was refused, takes back no batch

@@ -11,16 +11,16 @@ use Rattle.otel_pipeline.specs.SpanHistory.{SpanHistory, Edit, begun, over, data
 use Rattle.otel_pipeline.proofs.Following.{EachFollows-same, delivered_follows}
 use Rattle.otel_trace_lines.specs.declared.reply.Answer.{Answer}
 use Rattle.otel_trace_lines.specs.declared.reply.Answer.TheVariants as answers
-use Rattle.otel_trace_session.specs.Actions.{PlainAction, PlainCall, at_root, under, from_header, start_span, edit_span, inject_span, end_span, call_provider}
+use Rattle.otel_trace_session.specs.Actions.{PlainAction, PlainCall, at_root, under, from_header, start_span, edit_span, inject_span, end_span, call_provider, link_span}
 use Rattle.otel_trace_session.specs.Calls.{Calls}
 use Rattle.otel_trace_session.specs.Headers.{SaysContext, child_cx}
-use Rattle.otel_trace_session.specs.OpenSpans.{AnswersInject, Describe, Histories, NamedSpans, edited_in}
+use Rattle.otel_trace_session.specs.OpenSpans.{AnswersInject, Describe, Histories, NamedSpans, edited_in, linked_in}
 use Rattle.otel_trace_session.specs.ProviderTurns.{CallGives, Shuts, call_answer}
-use Rattle.otel_trace_session.specs.SpanTurns.{ChildTurn, EditTurn, EndTurn, Start, StartTurn, StartsAfter, start_in}
+use Rattle.otel_trace_session.specs.SpanTurns.{ChildTurn, EditTurn, EndTurn, LinkTurn, Start, StartTurn, StartsAfter, start_in}
 use Rattle.otel_trace_session.specs.Turn.{AsksNobody, Course, TurnsFromAny, Turn}
 use Rattle.otel_trace_session.specs.Turns.{IsCarriedOut, TakesAction}
 use Rattle.otel_trace_session.proofs.KeptLemmas.{turn_grows}
-use Rattle.otel_trace_session.proofs.TurnLemmas.{Childs, Edits, EndsNamed}
+use Rattle.otel_trace_session.proofs.TurnLemmas.{Childs, Edits, EndsNamed, Links}
 
 -- a turn of which this is so, where something is so of each such turn
 pub took_also : {P S G : Type 0} (Is Also : Turn P S G → Type 0) (p q : ProviderState P S G) (old new : NamedSpans) (answer : Answer) → ((turn : Turn P S G) → Is turn → Also turn) → TurnsFromAny Is p old answer q new → TurnsFromAny Also p old answer q new
@@ -83,6 +83,14 @@ module _ {P S G : Type 0} (calls : Calls P S G) (law : OnlyAppends calls.process
       let turn : Turn P S G = record { before = record before { provider = p }; answer = answer; delivered = []; after = record before { provider = p; histories = edited_in before.histories span edit } } in
       let h : EditTurn span edit turn = record { says = edited.0; delivers = refl; rest = refl } in
       record { delivered = []; histories = edited_in before.histories span edit; is = carried (edit_span span edit) turn (nobody_follows calls _ _ turn h) h; describes = edited.1 }
+
+  -- a link
+  pub carries_link : (p : ProviderState P S G) (old new : NamedSpans) (span target : List ℕ) (answer : Answer) → Links old span target answer new → TurnsFromAny (IsCarriedOut calls scope (link_span span target)) p old answer p new
+  carries_link p old new span target answer made = λ before describes.
+      let linked = made before.histories describes in
+      let turn : Turn P S G = record { before = record before { provider = p }; answer = answer; delivered = []; after = record before { provider = p; histories = linked_in before.histories span target } } in
+      let h : LinkTurn span target turn = record { says = linked.0; delivers = refl; rest = refl } in
+      record { delivered = []; histories = linked_in before.histories span target; is = carried (link_span span target) turn (nobody_follows calls _ _ turn h) h; describes = linked.1 }
 
   -- the headers of a span
   pub carries_inject : (p : ProviderState P S G) (spans : NamedSpans) (span : List ℕ) (answer : Answer) → ((histories : Histories) → Describe histories spans → AnswersInject (histories span) answer)

@@ -4,6 +4,7 @@ use Rattle.std.proofs.Common.{Ok, Err, Option, ◌≡◌, ℕ, List, [], ◌∷�
 use Rattle.std.proofs.lemmas.List.Concat.{flat_map-append}
 use Rattle.otel_trace_lines.specs.PlainReply.{PlainReply, counts_refusals, NoneRefused}
 use Rattle.otel_trace_lines.specs.ReplyForm.{Form, texts}
+use Rattle.otel_trace_lines.specs.declared.dialect.Dialect.{Dialect}
 use Rattle.otel_trace_session.specs.Calls.{Calls}
 use Rattle.otel_trace_session.specs.Closing.{Closes, Finishes}
 use Rattle.otel_trace_session.specs.Fed.{Feeds, FeedsSome, FeedsUpTo, Writes}
@@ -34,17 +35,17 @@ none_refused_more [] reply h k = (k, tt)
 none_refused_more (first ∷ replies) reply h k = (h.0, none_refused_more replies reply h.1 k)
 
 -- a text that was stopped after a beginning of its commands
-pub fed_some : {P S G : Type 0} (calls : Calls P S G) (error : FeedError) (old new : SessionState P S G) (bytes : List ℕ) (replies : List PlainReply)
-    → FeedsSome calls error old bytes replies new → Feeds calls {T = Unit {0}} old bytes (Err error) replies new
-fed_some calls (feeds.Line n) old new bytes replies h = absurd h.stopped.stopped.why
-fed_some calls feeds.Memory old new bytes replies h = inr h
-fed_some calls feeds.Refused old new bytes replies h = h
-fed_some calls feeds.BatchLost old new bytes replies h = h
+pub fed_some : {P S G : Type 0} (calls : Calls P S G) (dialect : Dialect) (error : FeedError) (old new : SessionState P S G) (bytes : List ℕ) (replies : List PlainReply)
+    → FeedsSome calls dialect error old bytes replies new → Feeds calls dialect {T = Unit {0}} old bytes (Err error) replies new
+fed_some calls dialect (feeds.Line n) old new bytes replies h = absurd h.stopped.stopped.why
+fed_some calls dialect feeds.Memory old new bytes replies h = inr h
+fed_some calls dialect feeds.Refused old new bytes replies h = h
+fed_some calls dialect feeds.BatchLost old new bytes replies h = h
 
 -- a text was fed, and the session closed well
 pub finishes : {P S G : Type 0} (calls : Calls P S G) (form : Form) (session after : SessionState P S G)
     (bytes : List ℕ) (bad_line : Option ℕ) (written now : List ℕ)
-    → Writes form [] written (λ replies. FeedsUpTo calls session bytes bad_line replies after)
+    → Writes form [] written (λ replies. FeedsUpTo calls form.dialect session bytes bad_line replies after)
     → (closes : Closes calls form after written (Ok tt) now) → sum_by calls.queues.open_over closes.provider.processors ≡ 0
     → (IsTrue form.minds_drops → sum_by calls.queues.dropped_over closes.provider.processors ≡ 0)
     → Finishes calls form session bytes bad_line now

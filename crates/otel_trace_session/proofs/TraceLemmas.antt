@@ -7,6 +7,7 @@ use Rattle.opentelemetry.specs.PlainContexts.{root_cx}
 use Rattle.otel_sampling.specs.Agreement.{Agrees}
 use Rattle.otel_pipeline.specs.Hops.{GoesByParents}
 use Rattle.otel_pipeline.specs.Provider.{unstarted_context, ProviderState}
+use Rattle.otel_pipeline.specs.SpanEdits.{add_link, new_link}
 use Rattle.otel_pipeline.specs.SpanHistory.{PlainSpan, SpanHistory, Edit, begun, over, span_of}
 use Rattle.otel_pipeline.specs.StartRequest.{StartRequest}
 use Rattle.otel_pipeline.specs.Starting.{StartsOpen}
@@ -16,10 +17,10 @@ use Rattle.otel_trace_lines.specs.PlainReply.{PlainReply}
 use Rattle.otel_trace_lines.specs.declared.reply.Answer.{Answer}
 use Rattle.otel_trace_lines.specs.declared.reply.Answer.TheVariants as answers
 use Rattle.otel_trace_session.specs.Actions.{PlainAction, PlainCall, PlainOrigin, action_of, is_shutdown, at_root, under, from_header, call_flush, call_run, call_shutdown}
-use Rattle.otel_trace_session.specs.Actions.{start_span, edit_span, inject_span, end_span, call_provider}
+use Rattle.otel_trace_session.specs.Actions.{start_span, edit_span, inject_span, end_span, call_provider, link_span}
 use Rattle.otel_trace_session.specs.Calls.{Calls}
 use Rattle.otel_trace_session.specs.Headers.{child_cx}
-use Rattle.otel_trace_session.specs.OpenSpans.{Describe, Histories, NamedSpans, edited_history, edited_in, is_name, with_history}
+use Rattle.otel_trace_session.specs.OpenSpans.{Describe, Histories, NamedSpans, edited_history, edited_in, is_name, linked_by, with_history}
 use Rattle.otel_trace_session.specs.SpanTurns.{ChildTurn, EndTurn, Start, StartsAfter, StartsFrom, request_of, start_in}
 use Rattle.otel_trace_session.specs.ProviderTurns.{AsksProvider, CallGives}
 use Rattle.otel_trace_session.specs.Traces.{ChildrenAgree, KeepsContexts, made_span, with_child, with_children}
@@ -143,6 +144,10 @@ module _ {P S G : Type 0} (calls : Calls P S G) where
   edit_persists : (said : Answer) (span : List ℕ) (edit : Edit) (turn : Turn P S G) → AsksNobody said (edited_in turn.before.histories span edit) turn → PersistsIn turn
   edit_persists said span edit turn h = subst (Persists turn.before.histories) (sym (ap (λ (c : Course P S G). c.histories) h.rest)) (edited_persists turn.before.histories span edit)
 
+  link_persists : (found : Option SpanHistory) (said : Answer) (span : List ℕ) (turn : Turn P S G) → AsksNobody said (linked_by found turn.before.histories span) turn → PersistsIn turn
+  link_persists None said span turn h = nobody_persists said turn h
+  link_persists (Some target) said span turn h = edit_persists said span (add_link (new_link (span_of target).span_context [])) turn h
+
   end_persists : (found : Option SpanHistory) (span : List ℕ) (moment : ℕ) (turn : Turn P S G) → turn.before.histories span ≡ found → EndTurn calls.processor span moment found turn → PersistsIn turn
   end_persists None span moment turn e h = nobody_persists answers.NoSuchSpan turn h
   end_persists (Some (over context limits)) span moment turn e h = nobody_persists answers.Ignored turn h
@@ -158,6 +163,7 @@ module _ {P S G : Type 0} (calls : Calls P S G) where
   one_persists : (scope : PlainScope) (action : PlainAction) (turn : Turn P S G) → TakesAction calls scope action turn → PersistsIn turn
   one_persists scope (start_span origin span name moment) turn h = origin_persists scope origin span name moment turn h
   one_persists scope (edit_span span edit) turn h = edit_persists _ span _ turn h
+  one_persists scope (link_span span target) turn h = link_persists (turn.before.histories target) _ span turn h
   one_persists scope (inject_span span) turn h = same_persists turn (ap (λ (c : Course P S G). c.histories) h.rest)
   one_persists scope (end_span span moment) turn h = end_persists (turn.before.histories span) span moment turn refl h
   one_persists scope (call_provider call) turn h = same_persists turn (ap (λ (c : Course P S G). c.histories) h.rest)
@@ -204,6 +210,7 @@ module _ {P S G : Type 0} (calls : Calls P S G) where
   pub one_stays : (scope : PlainScope) (action : PlainAction) (turn : Turn P S G) → is_shutdown action ≡ false → TakesAction calls scope action turn → Stays turn.before.provider turn.after.provider
   one_stays scope (start_span origin span name moment) turn e h = origin_stays scope origin span name moment turn h
   one_stays scope (edit_span span edit) turn e h = nobody_stays _ _ turn h
+  one_stays scope (link_span span target) turn e h = nobody_stays _ _ turn h
   one_stays scope (inject_span span) turn e h = stays turn.before.provider turn.after.provider turn.before.provider (ap (λ (c : Course P S G). c.provider) h.rest) (refl, refl)
   one_stays scope (end_span span moment) turn e h = end_stays (turn.before.histories span) span moment turn h
   one_stays scope (call_provider call) turn e h = call_stays call turn e h
@@ -245,6 +252,7 @@ module _ {P S G : Type 0} (calls : Calls P S G) where
   one_joins scope root is_in last (start_span origin span name moment) turn by_parents is_open before after agree h =
       origin_joins scope root is_in last origin span name moment turn by_parents is_open before after agree h
   one_joins scope root is_in last (edit_span span edit) turn by_parents is_open before after agree h = agree
+  one_joins scope root is_in last (link_span span target) turn by_parents is_open before after agree h = agree
   one_joins scope root is_in last (inject_span span) turn by_parents is_open before after agree h = agree
   one_joins scope root is_in last (end_span span moment) turn by_parents is_open before after agree h = agree
   one_joins scope root is_in last (call_provider call) turn by_parents is_open before after agree h = agree

@@ -2,9 +2,10 @@
 use Rattle.std.proofs.Common.{◌≡◌, ℕ, Bool, true, false, if◌then◌else◌, List, [], is_some, Option, Some, None, Result, Ok, Err, IfOk, refl, sym, ◌∙◌, ap, subst}
 use Rattle.std.proofs.lemmas.Option.{none-some, same_Some}
 use Rattle.std.specs.Option.{option_map}
-use Rattle.opentelemetry.specs.Plain.{PlainContext}
+use Rattle.opentelemetry.specs.Plain.{PlainContext, PlainLink}
 use Rattle.opentelemetry.specs.PlainContexts.{current_span_context}
 use Rattle.otel_pipeline.specs.SpanHistory.{PlainSpan, SpanHistory, begun, over, Edit, edited, ended, not_recording, data_of, span_of}
+use Rattle.otel_pipeline.specs.SpanEdits.{add_link, new_link}
 use Rattle.otel_pipeline.specs.Provider.{ProviderState}
 use Rattle.otel_pipeline.specs.Ending.{DeliversIf, end_delivers}
 use Rattle.otel_pipeline.proofs.SpanLaws.{edited-recording}
@@ -13,7 +14,7 @@ use Rattle.otel_trace_lines.specs.declared.reply.Answer.{Answer}
 use Rattle.otel_trace_lines.specs.declared.reply.Answer.TheVariants as answers
 use Rattle.otel_trace_session.specs.Calls.{Calls}
 use Rattle.otel_trace_session.specs.Headers.{AnswersHeaders, child_cx}
-use Rattle.otel_trace_session.specs.OpenSpans.{AnswersInject, Describe, Histories, NamedSpans, SameSpans, edit_answer, edited_history, edited_in, is_name, named, with_history}
+use Rattle.otel_trace_session.specs.OpenSpans.{AnswersInject, Describe, Histories, NamedSpans, SameSpans, edit_answer, edited_history, edited_in, is_name, link_answer, linked_by, linked_in, named, with_history}
 use Rattle.otel_trace_session.specs.SpanTurns.{BeginsHistory, ChildTurn, EndTurn, Start, StartTurn}
 use Rattle.otel_trace_session.specs.Turn.{Course, TurnsFromAny, TurnsFrom, Turn}
 use Rattle.otel_trace_session.proofs.NamedLemmas.{PutsSpan, put_same, same_name}
@@ -74,6 +75,32 @@ edits_absent old new span edit absent same = edits old new span edit answers.NoS
 pub edits_there : (old new : NamedSpans) (span : List ℕ) (edit : Edit) (found : PlainSpan) (answer : Answer) → named old span ≡ Some found → answer ≡ said (Some found) → PutsSpan old span (edited edit found) new → Edits old span edit answer new
 edits_there old new span edit found answer there says put = edits old new span edit answer (says ∙ sym (ap said there))
     (subst (λ (o : Option PlainSpan). (q : List ℕ) → named new q ≡ (if is_name q span then option_map (edited edit) o else named old q)) (sym there) put)
+
+-- a link, whatever histories the spans had
+abbrev pub Links : NamedSpans → List ℕ → List ℕ → Answer → NamedSpans → Type 0
+Links old span target answer new = (histories : Histories) → Describe histories old → (answer ≡ link_answer (histories target) (histories span)) × Describe (linked_in histories span target) new
+
+-- the link to a span
+abbrev link_of : PlainSpan → PlainLink
+link_of found = new_link found.span_context []
+
+-- to a name without a span, and to one with a span
+pub links_absent : (spans : NamedSpans) (span target : List ℕ) → None ≡ option_map link_of (named spans target) → Links spans span target answers.NoSuchSpan spans
+links_absent spans span target none = λ histories describes. by histories describes (histories target) (none ∙ ap (option_map link_of) (describes target))
+  where
+    by : (histories : Histories) → Describe histories spans → (found : Option SpanHistory) → None ≡ option_map link_of (option_map span_of found) → (answers.NoSuchSpan ≡ link_answer found (histories span)) × Describe (linked_by found histories span) spans
+    by histories describes None e = (refl, describes)
+    by histories describes (Some history) e = cc
+
+pub links_there : {E : Type 0} (result : Result Answer E) (old new : NamedSpans) (span target : List ℕ) (link : PlainLink) → Some link ≡ option_map link_of (named old target)
+    → IfOk result (λ answer. Edits old span (add_link link) answer new) → IfOk result (λ answer. Links old span target answer new)
+links_there (Err e) old new span target link there h = tt
+links_there (Ok answer) old new span target link there h = λ histories describes. by histories (histories target) (there ∙ ap (option_map link_of) (describes target)) (h histories describes)
+  where
+    by : (histories : Histories) (found : Option SpanHistory) → Some link ≡ option_map link_of (option_map span_of found) → (answer ≡ edit_answer (histories span)) × Describe (edited_in histories span (add_link link)) new
+        → (answer ≡ link_answer found (histories span)) × Describe (linked_by found histories span) new
+    by histories None e k = cc
+    by histories (Some history) e k = (k.0, subst (λ (l : PlainLink). Describe (edited_in histories span (add_link l)) new) (same_Some link _ e) k.1)
 
 -- what is said of the headers of a span
 pub inject_absent : (spans : NamedSpans) (span : List ℕ) → None ≡ option_map (λ (s : PlainSpan). child_cx s.span_context) (named spans span) → (histories : Histories) → Describe histories spans → AnswersInject (histories span) answers.NoSuchSpan

@@ -1,10 +1,10 @@
--- What a command does, whatever its words: it starts a span, edits one, tells its headers, ends it, or calls the
--- provider.
+-- What a command does, whatever its words: it starts a span, edits one, links it to another, tells its headers, ends
+-- it, or calls the provider.
 use Rattle.std.specs.Prelude.{ℕ, Bool, true, false, List, [], string_bytes}
-use Rattle.opentelemetry.specs.Plain.{text}
+use Rattle.opentelemetry.specs.Plain.{PlainValue, boolean, integer, text}
 use Rattle.otel_pipeline.specs.SpanEdits.{Edit, add_event, plain_edit, set_attribute, set_status}
 use Rattle.otel_trace_lines.specs.Commands.{PlainCommand, start, child, remote, attr, event, status, inject, end, flush}
-use Rattle.otel_trace_lines.specs.Commands.{run, shutdown}
+use Rattle.otel_trace_lines.specs.Commands.{run, shutdown, set_int, set_bool, link}
 use Rattle.otel_trace_session.specs.declared.actions.Action.{Action}
 use Rattle.otel_trace_session.specs.declared.actions.Action.TheVariants as actions
 use Rattle.otel_trace_session.specs.declared.actions.Origin.{Origin}
@@ -33,18 +33,24 @@ pub data PlainAction : Type 0 where
   -- the span's name in commands, the moment
   end_span : List ℕ → ℕ → PlainAction
   call_provider : PlainCall → PlainAction
+  -- the span's name in commands, the name of the span that it points to
+  link_span : List ℕ → List ℕ → PlainAction
 
 -- an event without attributes
 abbrev pub bare_event : List ℕ → ℕ → Edit
 bare_event name moment =
     add_event (record { name = name; timestamp = moment; attributes = []; dropped_attributes_count = 0 })
 
+-- the edit that sets an attribute
+abbrev pub attribute_edit : List ℕ → PlainValue → Edit
+attribute_edit key value = set_attribute (record { key = key; value = value })
+
 -- what a command does
 abbrev pub action_of : PlainCommand → PlainAction
 action_of (start span name moment) = start_span at_root span name moment
 action_of (child span parent name moment) = start_span (under parent) span name moment
 action_of (remote span header name moment) = start_span (from_header header) span name moment
-action_of (attr span key value) = edit_span span (set_attribute (record { key = key; value = text value }))
+action_of (attr span key value) = edit_span span (attribute_edit key (text value))
 action_of (event span name moment) = edit_span span (bare_event name moment)
 action_of (status span how) = edit_span span (set_status how)
 action_of (inject span) = inject_span span
@@ -52,6 +58,9 @@ action_of (end span moment) = end_span span moment
 action_of flush = call_provider call_flush
 action_of (run moment) = call_provider (call_run moment)
 action_of shutdown = call_provider call_shutdown
+action_of (set_int span key value) = edit_span span (attribute_edit key (integer value))
+action_of (set_bool span key value) = edit_span span (attribute_edit key (boolean value))
+action_of (link span target) = link_span span target
 
 -- whether an action may end a span
 abbrev pub ends_span : PlainAction → Bool
@@ -92,3 +101,4 @@ plain_action (actions.Edit span edit) = edit_span (string_bytes span) (plain_edi
 plain_action (actions.Inject span) = inject_span (string_bytes span)
 plain_action (actions.End span moment) = end_span (string_bytes span) moment.0
 plain_action (actions.Call call) = call_provider (plain_call call)
+plain_action (actions.Link span target) = link_span (string_bytes span) (string_bytes target)

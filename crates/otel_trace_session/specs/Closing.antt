@@ -62,7 +62,7 @@ module _ {P S G : Type 0} (calls : Calls P S G) (form : Form) where
       (now : List ℕ) : Type 0 where
     pub written : List ℕ
     pub after : SessionState P S G
-    pub feeds : Writes form [] written (λ replies. FeedsUpTo calls session bytes bad_line replies after)
+    pub feeds : Writes form [] written (λ replies. FeedsUpTo calls form.dialect session bytes bad_line replies after)
     pub closes : Closes after written (Ok tt) now
     pub loses_none : losses_of_first calls.keeps closes.provider.processors ≡ session.lost_before
     pub leaves_none : sum_by calls.queues.open_over closes.provider.processors ≡ 0

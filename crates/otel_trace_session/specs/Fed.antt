@@ -6,6 +6,7 @@ use Rattle.otel_trace_lines.specs.Lines.{SpellsNothing, TextSpells}
 use Rattle.otel_trace_lines.specs.PlainReply.{PlainReply, NoneRefused, counts_refusals}
 use Rattle.otel_trace_lines.specs.ReplyForm.{Form, texts}
 use Rattle.otel_trace_lines.specs.declared.command.Command.{Command}
+use Rattle.otel_trace_lines.specs.declared.dialect.Dialect.{Dialect}
 use Rattle.otel_trace_lines.specs.declared.reply.Answer.{Answer}
 use Rattle.otel_trace_session.specs.Calls.{Calls}
 use Rattle.otel_trace_session.specs.Stops.{Answers, LosesBatch, Refuses, RunsBeginning}
@@ -28,9 +29,9 @@ pub record Writes (form : Form) (before now : List ℕ) (These : List PlainReply
   pub these : These replies
 
 -- memory ran out before the text was read, so it spells a command, and nothing was carried out
-pub record FeedsNothing {P S G : Type 0} (old : SessionState P S G) (bytes : List ℕ) (replies : List PlainReply)
-    (new : SessionState P S G) : Type 0 where
-  pub says_something : ¬ SpellsNothing bytes
+pub record FeedsNothing {P S G : Type 0} (dialect : Dialect) (old : SessionState P S G) (bytes : List ℕ)
+    (replies : List PlainReply) (new : SessionState P S G) : Type 0 where
+  pub says_something : ¬ SpellsNothing dialect bytes
   pub none : replies ≡ []
   pub nothing_done : new ≡ old
 
@@ -49,11 +50,12 @@ module _ {P S G : Type 0} (calls : Calls P S G) where
   abbrev pub FeedStops : FeedError → SessionState P S G → List Command → List PlainReply → SessionState P S G → Type 0
   FeedStops error old commands replies new = RunsBeginning calls (WhyUnwritten error) old commands replies new
 
+module _ {P S G : Type 0} (calls : Calls P S G) (dialect : Dialect) where
   -- a text was fed whole: its lines up to the first bad one spell the commands that were carried out
   pub record FeedsUpTo (old : SessionState P S G) (bytes : List ℕ) (bad_line : Option ℕ) (replies : List PlainReply)
       (new : SessionState P S G) : Type 0 where
     pub commands : List Command
-    pub spelled : TextSpells bytes (plain_commands commands) bad_line
+    pub spelled : TextSpells dialect bytes (plain_commands commands) bad_line
     pub ran : Runs calls old commands replies new
 
   -- a beginning of the commands that a text spells was carried out, and the one after it was stopped by this error
@@ -61,8 +63,8 @@ module _ {P S G : Type 0} (calls : Calls P S G) where
       (new : SessionState P S G) : Type 0 where
     pub commands : List Command
     pub bad_line : Option ℕ
-    pub spelled : TextSpells bytes (plain_commands commands) bad_line
-    pub stopped : FeedStops error old commands replies new
+    pub spelled : TextSpells dialect bytes (plain_commands commands) bad_line
+    pub stopped : FeedStops calls error old commands replies new
 
   -- what feeding a text does, by its answer
   abbrev pub Feeds : {T : Type 0} → SessionState P S G → List ℕ → Result T FeedError → List PlainReply
@@ -70,5 +72,5 @@ module _ {P S G : Type 0} (calls : Calls P S G) where
   Feeds old bytes (Ok _) replies new = FeedsUpTo old bytes None replies new
   Feeds old bytes (Err (feeds.Line n)) replies new = FeedsUpTo old bytes (Some n) replies new
   Feeds old bytes (Err feeds.Memory) replies new =
-      FeedsNothing old bytes replies new ⊎ FeedsSome feeds.Memory old bytes replies new
+      FeedsNothing dialect old bytes replies new ⊎ FeedsSome feeds.Memory old bytes replies new
   Feeds old bytes (Err error) replies new = FeedsSome error old bytes replies new

@@ -9,6 +9,7 @@ use Rattle.otel_pipeline.specs.Hops.{GoesByParents}
 use Rattle.otel_trace_lines.specs.Commands.{PlainCommand}
 use Rattle.otel_trace_lines.specs.PlainReply.{PlainReply}
 use Rattle.otel_trace_lines.specs.declared.command.Command.{Command}
+use Rattle.otel_trace_lines.specs.declared.dialect.Dialect.{Dialect}
 use Rattle.otel_pipeline.specs.Provider.{ProviderState}
 use Rattle.otel_trace_session.specs.Calls.{Calls, batches_of_first, stored_of_first}
 use Rattle.otel_trace_session.specs.Fed.{FeedsUpTo}
@@ -73,8 +74,8 @@ module _ {P S G : Type 0} (calls : Calls P S G) where
 
   -- a text, and another that is fed after it, are one text, where the first one ends as a line does
   abbrev pub FeedsJoin : Type 0
-  FeedsJoin = (old middle new : SessionState P S G) (first second : List ℕ) (bad_line : Option ℕ)
+  FeedsJoin = (dialect : Dialect) (old middle new : SessionState P S G) (first second : List ℕ) (bad_line : Option ℕ)
       (replies more : List PlainReply) → IsEmptyOrEndsWith first 10
-      → FeedsUpTo calls old first None replies middle → FeedsUpTo calls middle second bad_line more new
-      → FeedsUpTo calls old (first ++ second) (option_map (λ n. length (lines first) + n) bad_line) (replies ++ more)
+      → FeedsUpTo calls dialect old first None replies middle → FeedsUpTo calls dialect middle second bad_line more new
+      → FeedsUpTo calls dialect old (first ++ second) (option_map (λ n. length (lines first) + n) bad_line) (replies ++ more)
       new

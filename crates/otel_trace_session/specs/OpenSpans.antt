@@ -9,6 +9,7 @@ use Rattle.std.specs.BTreeMap.{is_at}
 use Rattle.opentelemetry.specs.Plain.{PlainContext}
 use Rattle.opentelemetry.specs.PlainSpanBuilder.{named_builder}
 use Rattle.otel_pipeline.specs.SpanHistory.{PlainSpan, SpanHistory, HasHistory, begun, over, span_of, Edit}
+use Rattle.otel_pipeline.specs.SpanEdits.{add_link, new_link}
 use Rattle.otel_pipeline.specs.Provider.{ProviderState}
 use Rattle.otel_pipeline.specs.Starting.{OnlyDraws}
 use Rattle.otel_trace_lines.specs.declared.reply.Answer.{Answer}
@@ -68,6 +69,20 @@ abbrev pub edit_answer : Option SpanHistory → Answer
 edit_answer None = answers.NoSuchSpan
 edit_answer (Some (over context limits)) = answers.Ignored
 edit_answer (Some (begun from edits)) = answers.Ok
+
+-- histories after a link from the span of a name, by the history of the span that it points to: an edit, where there is
+-- one
+abbrev pub linked_by : Option SpanHistory → Histories → List ℕ → Histories
+linked_by None old span = old
+linked_by (Some target) old span = edited_in old span (add_link (new_link (span_of target).span_context []))
+
+abbrev pub linked_in : Histories → List ℕ → List ℕ → Histories
+linked_in old span target = linked_by (old target) old span
+
+-- what is said of a link, by the histories of the span that it points to and of its own
+abbrev pub link_answer : Option SpanHistory → Option SpanHistory → Answer
+link_answer None span = answers.NoSuchSpan
+link_answer (Some target) span = edit_answer span
 
 -- what is said of the headers of a span, by its history, also where that is over
 abbrev pub AnswersInject : Option SpanHistory → Answer → Type 0

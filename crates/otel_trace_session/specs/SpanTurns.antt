@@ -1,4 +1,5 @@
--- The turns of commands of one span: its start, its edits, its headers and its end, by the history that its name has.
+-- The turns of commands of one span: its start, its edits, its links, its headers and its end, by the history that its
+-- name has.
 use Rattle.std.specs.Prelude.{◌≡◌, ℕ, List, [], Option, Some, None, map}
 use Rattle.opentelemetry.specs.Plain.{PlainContext, PlainScope}
 use Rattle.opentelemetry.specs.PlainContexts.{root_cx}
@@ -13,7 +14,8 @@ use Rattle.otel_trace_lines.specs.declared.reply.Answer.TheVariants as answers
 use Rattle.otel_trace_session.specs.Actions.{PlainOrigin, at_root, under, from_header}
 use Rattle.otel_trace_session.specs.Calls.{Calls}
 use Rattle.otel_trace_session.specs.Headers.{SaysContext, child_cx}
-use Rattle.otel_trace_session.specs.OpenSpans.{AnswersInject, edit_answer, edited_in, start_answer, with_history}
+use Rattle.otel_trace_session.specs.OpenSpans.{AnswersInject, edit_answer, edited_in, link_answer, linked_in}
+use Rattle.otel_trace_session.specs.OpenSpans.{start_answer, with_history}
 use Rattle.otel_trace_session.specs.Turn.{AsksNobody, OnlyAnswers, Turn}
 
 -- what a start asks for: its scope and context, by which name commands call the span, the span's name, and the moment
@@ -78,6 +80,12 @@ module _ {P S G : Type 0} (calls : Calls P S G) where
 abbrev pub EditTurn : {P S G : Type 0} → List ℕ → Edit → Turn P S G → Type 0
 EditTurn span edit turn =
     AsksNobody (edit_answer (turn.before.histories span)) (edited_in turn.before.histories span edit) turn
+
+-- one more link of the span of a name, where its history is not over and the span that it points to has one
+abbrev pub LinkTurn : {P S G : Type 0} → List ℕ → List ℕ → Turn P S G → Type 0
+LinkTurn span target turn = AsksNobody
+    (link_answer (turn.before.histories target) (turn.before.histories span))
+    (linked_in turn.before.histories span target) turn
 
 -- the headers of the span of a name are told, and nothing changes
 pub record InjectTurn {P S G : Type 0} (span : List ℕ) (turn : Turn P S G) : Type 0 where

@@ -1,11 +1,11 @@
-//! What a command does, whatever its words: a span starts, is edited, tells its headers or ends, or the provider is
-//! called. So a command that edits a span is known here alone, and to those who read its line.
+//! What a command does, whatever its words: a span starts, is edited, is linked to another, tells its headers or ends,
+//! or the provider is called. So a command that edits a span is known here alone, and to those who read its line.
 
 ghost use Rattle.std.specs.Prelude.{◌≡◌, string_bytes};
-ghost use Rattle.opentelemetry.specs.Plain.{text};
-ghost use Rattle.otel_pipeline.specs.SpanEdits.{plain_edit, set_attribute};
+ghost use Rattle.opentelemetry.specs.PlainValues.{plain_value};
+ghost use Rattle.otel_pipeline.specs.SpanEdits.{plain_edit};
 ghost use Rattle.otel_trace_lines.specs.Commands.{plain_command};
-ghost use Rattle.otel_trace_session.specs.Actions.{action_of, bare_event, plain_action};
+ghost use Rattle.otel_trace_session.specs.Actions.{action_of, attribute_edit, bare_event, plain_action};
 
 use opentelemetry::trace::Event;
 use opentelemetry::{Key, KeyValue, Moment, Value};
@@ -52,6 +52,11 @@ pub(crate) enum Action {
         moment: Moment,
     },
     Call(ProviderCall),
+    /// A link to the span of another name.
+    Link {
+        span: String,
+        target: String,
+    },
 }
 
 /// What a command does.
@@ -89,7 +94,7 @@ pub(crate) fn action_of(alloc: Global, command: Command) -> Action
         },
         Command::Attr { span, key, value } => Action::Edit {
             span,
-            edit: text_attribute(key, value),
+            edit: attribute(key, Value::String(value)),
         },
         Command::Event { span, name, moment } => Action::Edit {
             span,
@@ -104,6 +109,15 @@ pub(crate) fn action_of(alloc: Global, command: Command) -> Action
         Command::Flush => Action::Call(ProviderCall::Flush),
         Command::Run { moment } => Action::Call(ProviderCall::Run(moment)),
         Command::Shutdown => Action::Call(ProviderCall::Shutdown),
+        Command::Int { span, key, value } => Action::Edit {
+            span,
+            edit: attribute(key, Value::I64(value)),
+        },
+        Command::Bool { span, key, value } => Action::Edit {
+            span,
+            edit: attribute(key, Value::Bool(value)),
+        },
+        Command::Link { span, target } => Action::Link { span, target },
     }
 }
 
@@ -114,10 +128,9 @@ fn event_without_attributes(alloc: Global, name: String, moment: Moment) -> Span
     SpanEdit::AddEvent(Event::new(name, moment, Vec::new(alloc), 0))
 }
 
-/// The edit that sets an attribute whose value is a text.
-fn text_attribute(key: String, value: String) -> SpanEdit
-    ensures { plain_edit result
-        ≡ set_attribute (record { key = string_bytes key; value = text (string_bytes value) }) }
+/// The edit that sets an attribute.
+fn attribute(key: String, value: Value) -> SpanEdit
+    ensures { plain_edit result ≡ attribute_edit (string_bytes key) (plain_value value) }
 {
-    SpanEdit::SetAttribute(KeyValue::new(Key::new(key), Value::String(value)))
+    SpanEdit::SetAttribute(KeyValue::new(Key::new(key), value))
 }

@@ -55,6 +55,7 @@ pub(crate) fn carry_out<P: KeepsBatches, S: ShouldSample, G: GivesIds>(
             }
         },
         Action::Edit { span, edit } => spans.edit(span.as_str(), edit),
+        Action::Link { span, target } => spans.link(alloc, span.as_str(), target.as_str()),
         Action::Inject { span } => spans.inject(alloc, span.as_str()),
         Action::End { span, moment } => spans.end(span.as_str(), provider, moment),
         Action::Call(call) => Ok(answer_to_call(call_provider(provider, call))),

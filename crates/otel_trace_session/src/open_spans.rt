@@ -4,7 +4,7 @@ ghost use Rattle.std.specs.Prelude.{◌≡◌, [], IfOk, OnErr, codes, string_by
 ghost use Rattle.std.specs.Option.{option_map};
 ghost use Rattle.opentelemetry.specs.Plain.{scope_named};
 ghost use Rattle.opentelemetry.specs.PlainContexts.{root_cx};
-ghost use Rattle.otel_pipeline.specs.SpanEdits.{plain_edit};
+ghost use Rattle.otel_pipeline.specs.SpanEdits.{new_link, plain_edit};
 ghost use Rattle.otel_trace_session.specs.Calls.{calls_of};
 ghost use Rattle.otel_trace_session.specs.Headers.{child_cx};
 ghost use Rattle.otel_trace_session.specs.OpenSpans.{
@@ -19,6 +19,8 @@ ghost use Rattle.otel_trace_session.specs.OpenSpans.{
   edit_answer,
   edited_in,
   identity_of,
+  link_answer,
+  linked_in,
   named,
   start_answer,
 };
@@ -26,6 +28,7 @@ ghost use Rattle.otel_trace_session.specs.SpanTurns.{ChildTurn, EndTurn, StartTu
 ghost use Rattle.otel_trace_session.specs.Turn.{TurnsFromAny};
 
 use crate::headers::answer_with_headers;
+use opentelemetry::trace::Link;
 use opentelemetry::{Context, Moment};
 use otel_pipeline::trace::{KeepsBatches, ProviderOf, SdkTracer, Span, SpanEdit, SpanProcessor};
 use otel_sampling::trace::{GivesIds, ShouldSample};
@@ -164,6 +167,36 @@ impl OpenSpans {
         let is_recording = found.is_recording();
         found.edit(edit)?;
         Ok(answer_to_edit(is_recording))
+    }
+
+    /// Adds a link to the span of a name, which points to that of another name, open or ended.
+    pub(crate) fn link(
+        &mut self,
+        alloc: Global,
+        span: &str,
+        target: &str,
+    ) -> Result<Answer, AllocError>
+        ensures ok { IfOk result (λ answer. (histories : Histories) → Describe histories self.old
+            → (answer ≡ link_answer (histories target.now) (histories span.now))
+            × Describe (linked_in histories span.now target.now) self.new) }
+        ensures err { OnErr result (SameSpans self.old self.new) }
+    {
+        let Some(link) = self.link_to(alloc, target)? else {
+            return Ok(Answer::NoSuchSpan);
+        };
+        self.edit(span, SpanEdit::AddLink(link))
+    }
+
+    /// The link to the span of a name, without attributes.
+    fn link_to(&self, alloc: Global, target: &str) -> Result<Option<Link>, AllocError>
+        ensures { IfOk result (λ link. link
+            ≡ option_map (λ found. new_link found.span_context []) (named self.now target.now)) }
+    {
+        let Some(found) = self.spans.get(target) else {
+            return Ok(None);
+        };
+        let context = found.span_context().clone()?;
+        Ok(Some(Link::new(context, Vec::new(alloc), 0)))
     }
 
     /// Ends the span of a name.

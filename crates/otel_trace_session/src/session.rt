@@ -6,6 +6,7 @@ ghost use Rattle.std.specs.Prelude.{◌↔◌, IsTrue, OnOk, OnErr};
 ghost use Rattle.opentelemetry.specs.PlainContexts.{root_cx};
 ghost use Rattle.otel_export.specs.KeptBatches.{OnlyAdds};
 ghost use Rattle.otel_trace_lines.specs.ReplyForm.{reply_lines};
+ghost use Rattle.otel_trace_lines.specs.declared.dialect.Dialect.TheVariants as dialects;
 ghost use Rattle.otel_trace_session.specs.Calls.{calls_of};
 ghost use Rattle.otel_trace_session.specs.Closing.{Closes, ClosesAs, LostNothing};
 ghost use Rattle.otel_trace_session.specs.Fed.{FeedStops, Feeds, Writes};
@@ -202,20 +203,20 @@ impl<P: KeepsBatches, S: ShouldSample, G: GivesIds> Session<P, S, G> {
         Ok(())
     }
 
-    /// Carries out the commands that the lines of a text spell, up to the first line that is none, and appends the text
-    /// of each reply. `Line` names the first bad line, from 1 and with empty lines counted. On another error the output
+    /// Carries out the commands that the lines of a text spell, by the plain grammar, up to the first line that is none,
+    /// and appends the text of each reply. `Line` names the first bad line, from 1 and with empty lines counted. On another error the output
     /// has the replies of a beginning of the commands; after `Refused` and `BatchLost`, which no text tells, one more
     /// was carried out, and after `Memory` at most one. What that one exported is left for the next reply.
     pub fn feed(&mut self, text: &[u8], output: &mut Vec<u8>) -> Result<(), FeedError>
         ensures { Writes reply_lines output.old.items output.new.items (λ replies. Feeds
             (calls_of P.SpanProcessor P.Timed.own P.CountsLeftSpans.own P.KeepsBatches.own S.ShouldSample G.GivesIds)
-            self.old text.now result replies self.new) }
+            dialects.Plain self.old text.now result replies self.new) }
     {
         let mut lines = ReplyLines::new(self.alloc);
         self.feed_in(&mut lines, text, output)
     }
 
-    /// The same, with the replies in a form.
+    /// The same, with the lines read and the replies written as a form says.
     pub fn feed_in<F: ReplyForm>(
         &mut self,
         form: &mut F,
@@ -224,10 +225,10 @@ impl<P: KeepsBatches, S: ShouldSample, G: GivesIds> Session<P, S, G> {
     ) -> Result<(), FeedError>
         ensures writes { Writes (F.form form.old) output.old.items output.new.items (λ replies. Feeds
             (calls_of P.SpanProcessor P.Timed.own P.CountsLeftSpans.own P.KeepsBatches.own S.ShouldSample G.GivesIds)
-            self.old text.now result replies self.new) }
+            (F.form form.old).dialect self.old text.now result replies self.new) }
         ensures form { F.form form.new ≡ F.form form.old }
     {
-        let script = parse(self.alloc, text)?;
+        let script = parse(self.alloc, form.dialect(), text)?;
         self.run_and_write(form, script.commands, output)?;
         match script.bad_line {
             None => Ok(()),

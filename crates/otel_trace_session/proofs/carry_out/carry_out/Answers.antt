@@ -6,7 +6,7 @@ use Rattle.opentelemetry.proofs.Clauses.{if_ok_map}
 use Rattle.otel_pipeline.specs.SpanEdits.{plain_edit}
 use Rattle.otel_trace_lines.specs.Commands.{plain_command}
 use Rattle.otel_trace_lines.specs.declared.reply.Answer.{Answer}
-use Rattle.otel_trace_session.specs.Actions.{PlainAction, action_of, at_root, under, from_header, start_span, edit_span, inject_span, end_span, call_provider}
+use Rattle.otel_trace_session.specs.Actions.{PlainAction, action_of, at_root, under, from_header, start_span, edit_span, inject_span, end_span, call_provider, link_span}
 use Rattle.otel_trace_session.specs.Actions.{plain_action, plain_call, plain_origin}
 use Rattle.otel_trace_session.specs.Calls.{calls_of}
 use Rattle.otel_trace_session.specs.OpenSpans.{AnswersInject, Describe, Histories}
@@ -17,8 +17,8 @@ use Rattle.otel_trace_session.specs.Turn.{TurnsFromAny}
 use Rattle.otel_trace_session.specs.Turns.{IsCarriedOut}
 use Rattle.otel_trace_session.specs.declared.actions.Origin.{Origin}
 use Rattle.otel_trace_session.proofs.NamedLemmas.{on_err_both, refused_start_asks_none}
-use Rattle.otel_trace_session.proofs.CarryLemmas.{carries_call, carries_child, carries_edit, carries_end, carries_inject, carries_remote, carries_start}
-use Rattle.otel_trace_session.proofs.TurnLemmas.{Childs, Edits, EndsNamed}
+use Rattle.otel_trace_session.proofs.CarryLemmas.{carries_call, carries_child, carries_edit, carries_end, carries_inject, carries_link, carries_remote, carries_start}
+use Rattle.otel_trace_session.proofs.TurnLemmas.{Childs, Edits, EndsNamed, Links}
 use Rattle.otel_trace_session.proofs.carry_out.carry_out.Goals as goal
 
 pub returns-in-Root-clause-ok : goal.returns-in-Root-clause-ok
@@ -89,6 +89,18 @@ returns-in-Edit-clause-ok g c =
     subst (λ (action : PlainAction). TurnsFromAny (IsCarriedOut calls c.args.tracer.now action) c.args.provider.now c.args.spans.now answer c.args.provider.now c.edit.new.self) does
     (carries_edit calls g.met.P.KeepsBatches.appends c.args.tracer.now c.args.provider.now c.args.spans.now c.edit.new.self span edit answer
     (subst (λ (called : List ℕ). Edits c.args.spans.now called edit answer c.edit.new.self) c.as_str-in-Edit.ensures.value h))) c.edit.ensures.ok
+
+pub returns-in-Link-clause-ok : goal.returns-in-Link-clause-ok
+returns-in-Link-clause-ok g c =
+    let calls = calls_of g.P.SpanProcessor g.P.Timed g.P.CountsLeftSpans g.P.KeepsBatches g.S.ShouldSample g.G.GivesIds in
+    let span = string_bytes c.in-Link.span in
+    let target = string_bytes c.in-Link.target in
+    let does : link_span span target ≡ action_of (plain_command c.args.command) = ap plain_action (sym c.in-Link.is) ∙ c.action_of.ensures in
+    if_ok_map c.link.result (λ answer h.
+    subst (λ (action : PlainAction). TurnsFromAny (IsCarriedOut calls c.args.tracer.now action) c.args.provider.now c.args.spans.now answer c.args.provider.now c.link.new.self) does
+    (carries_link calls g.met.P.KeepsBatches.appends c.args.tracer.now c.args.provider.now c.args.spans.now c.link.new.self span target answer
+    (subst (λ (called : List ℕ). Links c.args.spans.now span called answer c.link.new.self) c.as_str-in-Link-2.ensures.value
+    (subst (λ (called : List ℕ). Links c.args.spans.now called c.as_str-in-Link-2.result.now answer c.link.new.self) c.as_str-in-Link.ensures.value h)))) c.link.ensures.ok
 
 pub returns-in-Inject-clause-ok : goal.returns-in-Inject-clause-ok
 returns-in-Inject-clause-ok g c =
