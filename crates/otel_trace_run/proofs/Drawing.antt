@@ -15,11 +15,13 @@ use Rattle.otel_pipeline.specs.ProcessorKeeps.{OnlyAppends}
 use Rattle.otel_pipeline.specs.Provider.{ProviderState, ShutsDown, shut_answer}
 use Rattle.otel_trace_lines.specs.Commands.{plain_commands, shutdown}
 use Rattle.otel_trace_lines.specs.PlainReply.{NoneRefused, PlainReply, counts_refusals}
-use Rattle.otel_trace_lines.specs.ReplyForm.{reply_lines, texts}
+use Rattle.otel_trace_lines.specs.ReplyForm.{reply_lines_in, texts}
+use Rattle.otel_trace_lines.specs.declared.dialect.Dialect.{Dialect}
+use Rattle.otel_trace_lines.specs.declared.dialect.Dialect.TheVariants as dialects
 use Rattle.otel_trace_lines.specs.declared.command.Command.{Command}
 use Rattle.otel_trace_session.specs.Stops.{Gains}
 use Rattle.otel_trace_run.specs.OtlpRuns.{exported_since}
-use Rattle.otel_trace_run.specs.PictureRuns.{Draws, DrawsAll, DrawsLines, DrawsSome, DrawsUnder, Painting, RunsOut, RunsShutdown, says_shut}
+use Rattle.otel_trace_run.specs.PictureRuns.{Draws, DrawsAll, DrawsLines, DrawsSome, DrawsUnder, Painting, RunsOut, RunsShutdown, picture_lines, says_shut}
 use Rattle.otel_sampling.specs.declared.trace.sampler.SamplerOf.{SamplerOf}
 use Rattle.otel_trace_run.specs.Program.{BeginsDrawing, DrawsAsked, IsProviderOf, MemoryProcessor}
 use Rattle.otel_trace_run.specs.Streams.{AreAll, EndsAs, Streams}
@@ -105,7 +107,7 @@ module _ {P S G : Type 0} (calls : Calls P S G)
   pub draws : (Paints : Painting) (provider : ProviderState P S G) (begun after : SessionState P S G)
       (input input_after : Option (List ℕ)) (bad_line : Option ℕ) (picture left : List ℕ) → BeginsUnder calls provider begun
       → (lines : DrawsLines calls Paints begun input input_after bad_line picture after)
-      → (closed : Closes calls reply_lines after [] (Ok tt) left)
+      → (closed : Closes calls picture_lines after [] (Ok tt) left)
       → sum_by calls.queues.open_over closed.provider.processors ≡ 0
       → sum_by calls.queues.dropped_over closed.provider.processors ≡ 0
       → Draws calls Paints provider lines.reads.bytes bad_line picture
@@ -122,14 +124,14 @@ module _ {P S G : Type 0} (calls : Calls P S G)
       let kept : losses_of_first calls.keeps shut.closed.processors ≡ middle.lost_before =
       sym (ap (λ (s : StoredBatches). s.lost) (taken_all calls shut.closed.processors after.provider.processors shut.takes.first))
       ∙ ap (λ (p : ProviderState P S G). losses_of_first calls.keeps p.processors) (sym same)
-      ∙ none_lost calls reply_lines after [] left closed ∙ ran.shut.ran.lost_before in
+      ∙ none_lost calls picture_lines after [] left closed ∙ ran.shut.ran.lost_before in
       let none_open : sum_by calls.queues.open_over shut.closed.processors ≡ 0 =
       sym (taken_open calls shut.closed.processors after.provider.processors shut.takes.first)
       ∙ ap (λ (p : ProviderState P S G). sum_by calls.queues.open_over p.processors) (sym same) ∙ left_open in
       let none_dropped : sum_by calls.queues.dropped_over shut.closed.processors ≡ 0 =
       sym (taken_dropped calls shut.closed.processors after.provider.processors shut.takes.first)
       ∙ ap (λ (p : ProviderState P S G). sum_by calls.queues.dropped_over p.processors) (sym same) ∙ dropped in
-      let replied = texts reply_lines ran.replies in
+      let replied = texts picture_lines ran.replies in
       let all : exported_in (ran.replies ++ ran.last) ≡ exported_since calls provider shut.closed =
       flat_map-append (λ (reply : PlainReply). reply.exported) ran.replies ran.last
       ∙ ap (λ bs. exported_in ran.replies ++ bs) shut.shows
@@ -245,11 +247,11 @@ module _ {P S G : Type 0} (calls : Calls P S G)
   -- what was drawn of an input by a new session that then closed well
   pub draws_from : (Paints : Painting) (provider : ProviderState P S G) (session after : SessionState P S G)
       (input input_after : Option (List ℕ)) (bad_line bad : Option ℕ) (picture before left : List ℕ)
-      (closed : ClosedSession) → BeginsUnder calls provider session
+      (closed : ClosedSession) (dialect : Dialect) → dialect ≡ dialects.Extended → BeginsUnder calls provider session
       → DrawsLines calls Paints session input input_after bad_line picture after → bad_line ≡ bad → before ≡ []
-      → LostNothing closed true → ClosesAs calls reply_lines after before closed left
+      → LostNothing closed true → ClosesAs calls (reply_lines_in dialect) after before closed left
       → (bytes : List ℕ) × AreAll input bytes × IsAtEnd input_after × Draws calls Paints provider bytes bad picture
-  draws_from Paints provider session after input input_after bad_line bad picture before left ended new lines is none lost closed =
+  draws_from Paints provider session after input input_after bad_line bad picture before left ended dialect extended new lines is none lost closed =
       let these = subst (λ (b : Option ℕ). DrawsLines calls Paints session input input_after b picture after) is lines in
-      let ends = ends_well calls reply_lines after before left ended true none lost closed in
+      let ends = ends_well calls picture_lines after before left ended true none lost (subst (λ (d : Dialect). ClosesAs calls (reply_lines_in d) after before ended left) extended closed) in
       (these.reads.bytes, these.reads.all, these.reads.at_end, draws calls law Paints provider session after input input_after bad picture left new these ends.closes ends.leaves_none (ends.drops_none refl))

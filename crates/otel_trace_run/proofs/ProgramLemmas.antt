@@ -1,7 +1,9 @@
 -- What the program does with its streams, by its mode.
 use Rattle.std.proofs.Common.{◌≡◌, ℕ, ◌≤◌, Bool, List, Option, Some, inl, inr, subst, arith, false}
 use Rattle.otel_sampling.specs.declared.trace.sampler.SamplerOf.{SamplerOf}
-use Rattle.otel_trace_lines.specs.ReplyForm.{reply_lines}
+use Rattle.otel_trace_lines.specs.ReplyForm.{reply_lines, reply_lines_in}
+use Rattle.otel_trace_lines.specs.declared.dialect.Dialect.{Dialect}
+use Rattle.otel_trace_lines.specs.declared.dialect.Dialect.TheVariants as dialects
 use Rattle.otel_pipeline.specs.Provider.{ProviderState}
 use Rattle.otel_trace_run.specs.Arguments.{Asks, PlainMode, otlp, picture, steps, trace}
 use Rattle.otel_trace_run.specs.PictureRuns.{Painting}
@@ -61,13 +63,20 @@ status_small ends.Failed says_reasons Silent Says status failed = omega (arith, 
 
 module _ {C D E : Type 0} (calls : Calls (MemoryProcessor C D) (SamplerOf E) (List ℕ)) where
   -- what is traced under the provider that is asked for
-  pub traces_asked : (asked : Asked) (provider : ProviderState (MemoryProcessor C D) (SamplerOf E) (List ℕ)) (s : Streams) (end : RunEnd)
+  traces_plainly : (asked : Asked) (provider : ProviderState (MemoryProcessor C D) (SamplerOf E) (List ℕ)) (s : Streams) (end : RunEnd)
       → IsProviderOf false asked provider
       → EndsAs (TracesWhole calls reply_lines provider s) (TracesBegun calls reply_lines provider s) s end
       → EndsAs (TracesAsked calls asked s) (BeginsAsked calls asked s) s end
-  traces_asked asked provider s ends.Done is traces = ((provider, is, traces.0), traces.1)
-  traces_asked asked provider s (ends.BadLine line reason) is traces = ((provider, is, traces.0), traces.1)
-  traces_asked asked provider s ends.Failed is traces = inr (provider, is, traces)
+  traces_plainly asked provider s ends.Done is traces = ((provider, is, traces.0), traces.1)
+  traces_plainly asked provider s (ends.BadLine line reason) is traces = ((provider, is, traces.0), traces.1)
+  traces_plainly asked provider s ends.Failed is traces = inr (provider, is, traces)
+
+  pub traces_asked : (asked : Asked) (provider : ProviderState (MemoryProcessor C D) (SamplerOf E) (List ℕ)) (s : Streams) (end : RunEnd) (dialect : Dialect)
+      → dialect ≡ dialects.Plain → IsProviderOf false asked provider
+      → EndsAs (TracesWhole calls (reply_lines_in dialect) provider s) (TracesBegun calls (reply_lines_in dialect) provider s) s end
+      → EndsAs (TracesAsked calls asked s) (BeginsAsked calls asked s) s end
+  traces_asked asked provider s end dialect plain is traces = traces_plainly asked provider s end is
+      (subst (λ (d : Dialect). EndsAs (TracesWhole calls (reply_lines_in d) provider s) (TracesBegun calls (reply_lines_in d) provider s) s end) plain traces)
 
   -- what such a provider's session wrote whole is a beginning
   asked_begun : (asked : Asked) (s : Streams) (bad_line : Option ℕ) → TracesAsked calls asked s bad_line → BeginsAsked calls asked s

@@ -1,5 +1,5 @@
 -- A stream of commands: what was carried out so far, and what a piece more does.
-use Rattle.std.proofs.Common.{◌≡◌, ℕ, ◌+◌, Bool, true, false, List, [], ◌∷◌, ◌++◌, length, Option, None, Some, Result, Ok, Err, inl, inr, refl, sym, ap, subst, ◌∙◌, arith, append_assoc, append-nil, length-append}
+use Rattle.std.proofs.Common.{◌≡◌, ℕ, ◌+◌, Bool, true, false, List, [], ◌∷◌, ◌++◌, length, map, Option, None, Some, Result, Ok, Err, inl, inr, refl, sym, ap, subst, ◌∙◌, arith, append_assoc, append-nil, length-append}
 use Rattle.std.specs.Prelude.{◌⊎◌, IfSome, option_map}
 use Rattle.std.proofs.KnownBytes.{Appends-nil, Appends-trans, Consumes-nil}
 use Rattle.std.proofs.lemmas.List.{map-append}
@@ -9,8 +9,10 @@ use Rattle.std.specs.Io.KnownBytes.{Appends, Consumes, IsAtEnd}
 use Rattle.std.specs.Str.Lines.{lines}
 use Rattle.otel_export.specs.declared.error.OTelSdkError.{OTelSdkError}
 use Rattle.otel_trace_lines.proofs.JoinedLines.{lines_joined}
-use Rattle.otel_trace_lines.proofs.JoinedTexts.{bad_text_joined}
+use Rattle.otel_trace_lines.proofs.JoinedTexts.{bad_text_joined, spell_joined}
 use Rattle.otel_trace_lines.specs.Commands.{PlainCommand, plain_command, plain_commands}
+use Rattle.otel_trace_lines.specs.Dialects.{without_comment, without_comments}
+use Rattle.otel_trace_lines.specs.declared.dialect.Dialect.{Dialect}
 use Rattle.otel_trace_lines.specs.Lines.{Spell, SpellUpTo, TextSpells}
 use Rattle.otel_trace_lines.specs.PlainReply.{NoneRefused, PlainReply}
 use Rattle.otel_trace_lines.specs.ReplyForm.{Form, texts}
@@ -46,49 +48,62 @@ none_refused_joined (reply ∷ replies) more h k = (h.0, none_refused_joined rep
 replies_joined : (form : Form) (replies more : List PlainReply) → texts form replies ++ texts form more ≡ texts form (replies ++ more)
 replies_joined form replies more = sym (flat_map-append form.reply replies more)
 
--- commands that all lines spell are spelled by a beginning of them
-begins_all : (all : List (List ℕ)) (commands : List PlainCommand) (bad_line : Option ℕ) → SpellUpTo all commands bad_line → (front : List (List ℕ)) × (left : List (List ℕ)) × (all ≡ front ++ left) × Spell front commands
-begins_all all commands None h = (all, [], sym (append-nil all), h)
-begins_all all commands (Some n) h = (h.before, h.line ∷ h.after, h.parts, h.spelled)
+-- where what a list is mapped to is joined of two parts, so is the list
+split_map : {X Y : Type 0} (f : X → Y) (all : List X) (before after : List Y) → map f all ≡ before ++ after → (front : List X) × (left : List X) × (all ≡ front ++ left) × (map f front ≡ before)
+split_map f all [] after e = ([], all, refl, refl)
+split_map f [] (y ∷ before) after e = cc
+split_map {X} f (x ∷ all) (y ∷ before) after e =
+    let tails : map f all ≡ before ++ after = cc in
+    let heads : f x ≡ y = cc in
+    let k = split_map f all before after tails in
+    (x ∷ k.0, k.1, ap (λ (xs : List X). x ∷ xs) k.2, cc (heads, k.3))
 
-pub begins_text : (text : List ℕ) (commands : List PlainCommand) (bad_line : Option ℕ) → TextSpells text commands bad_line → BeginsToSpell text commands
-begins_text text commands bad_line h = let k = begins_all (lines text) commands bad_line h in record { front = k.0; left = k.1; parts = k.2; spelled = k.3 }
+module _ (dialect : Dialect) where
+  -- lines whose beginning, without comments, spells commands begin so
+  begins_read : (all before after : List (List ℕ)) (commands : List PlainCommand) → without_comments dialect all ≡ before ++ after → Spell dialect before commands
+      → (front : List (List ℕ)) × (left : List (List ℕ)) × (all ≡ front ++ left) × Spell dialect (without_comments dialect front) commands
+  begins_read all before after commands parts spelled =
+      let k = split_map (without_comment dialect) all before after parts in
+      (k.0, k.1, k.2, subst (λ (ls : List (List ℕ)). Spell dialect ls commands) (sym k.3) spelled)
 
--- fewer commands are spelled by fewer lines
-spells_fewer : (all : List (List ℕ)) (done more : List PlainCommand) → Spell all (done ++ more) → (front : List (List ℕ)) × (left : List (List ℕ)) × (all ≡ front ++ left) × Spell front done
-spells_fewer all [] more h = ([], all, refl, tt)
-spells_fewer [] (c ∷ done) more h = absurd h
-spells_fewer ([] ∷ all) (c ∷ done) more h = let k = spells_fewer all (c ∷ done) more h in ([] ∷ k.0, k.1, ap (λ ls. [] ∷ ls) k.2, k.3)
-spells_fewer ((b ∷ line) ∷ all) (c ∷ done) more h = let k = spells_fewer all done more h.1 in ((b ∷ line) ∷ k.0, k.1, ap (λ ls. (b ∷ line) ∷ ls) k.2, (h.0, k.3))
+  -- commands that all lines spell are spelled by a beginning of them
+  begins_all : (all : List (List ℕ)) (commands : List PlainCommand) (bad_line : Option ℕ) → SpellUpTo dialect (without_comments dialect all) commands bad_line
+      → (front : List (List ℕ)) × (left : List (List ℕ)) × (all ≡ front ++ left) × Spell dialect (without_comments dialect front) commands
+  begins_all all commands None h = (all, [], sym (append-nil all), h)
+  begins_all all commands (Some n) h = begins_read all h.before (h.line ∷ h.after) commands h.parts h.spelled
 
-begins_fewer : (text : List ℕ) (done more : List PlainCommand) → BeginsToSpell text (done ++ more) → BeginsToSpell text done
-begins_fewer text done more h =
-    let k = spells_fewer h.front done more h.spelled in
-    record { front = k.0; left = k.1 ++ h.left; parts = h.parts ∙ ap (λ ls. ls ++ h.left) k.2 ∙ append_assoc k.0 k.1 h.left; spelled = k.3 }
+  pub begins_text : (text : List ℕ) (commands : List PlainCommand) (bad_line : Option ℕ) → TextSpells dialect text commands bad_line → BeginsToSpell dialect text commands
+  begins_text text commands bad_line h = let k = begins_all (lines text) commands bad_line h in record { front = k.0; left = k.1; parts = k.2; spelled = k.3 }
 
--- lines, and others after them
-spell_joined : (first second : List (List ℕ)) (commands more : List PlainCommand) → Spell first commands → Spell second more → Spell (first ++ second) (commands ++ more)
-spell_joined [] second [] more h k = k
-spell_joined [] second (c ∷ cs) more h k = absurd h
-spell_joined ([] ∷ first) second cs more h k = spell_joined first second cs more h k
-spell_joined ((b ∷ line) ∷ first) second [] more h k = absurd h
-spell_joined ((b ∷ line) ∷ first) second (c ∷ cs) more h k = (h.0, spell_joined first second cs more h.1 k)
+  -- fewer commands are spelled by fewer lines
+  spells_fewer : (all : List (List ℕ)) (done more : List PlainCommand) → Spell dialect all (done ++ more) → (front : List (List ℕ)) × (left : List (List ℕ)) × (all ≡ front ++ left) × Spell dialect front done
+  spells_fewer all [] more h = ([], all, refl, tt)
+  spells_fewer [] (c ∷ done) more h = absurd h
+  spells_fewer ([] ∷ all) (c ∷ done) more h = let k = spells_fewer all (c ∷ done) more h in ([] ∷ k.0, k.1, ap (λ ls. [] ∷ ls) k.2, k.3)
+  spells_fewer ((b ∷ line) ∷ all) (c ∷ done) more h = let k = spells_fewer all done more h.1 in ((b ∷ line) ∷ k.0, k.1, ap (λ ls. (b ∷ line) ∷ ls) k.2, (h.0, k.3))
 
-begins_joined : (first second : List ℕ) (commands more : List PlainCommand) → IsEmptyOrEndsWith first 10 → TextSpells first commands None → BeginsToSpell second more → BeginsToSpell (first ++ second) (commands ++ more)
-begins_joined first second commands more ends h k = record {
-  front = lines first ++ k.front;
-  left = k.left;
-  parts = lines_joined first second ends ∙ ap (λ ls. lines first ++ ls) k.parts ∙ sym (append_assoc (lines first) k.front k.left);
-  spelled = spell_joined (lines first) k.front commands more h k.spelled;
-}
+  begins_fewer : (text : List ℕ) (done more : List PlainCommand) → BeginsToSpell dialect text (done ++ more) → BeginsToSpell dialect text done
+  begins_fewer text done more h =
+      let fewer = spells_fewer (without_comments dialect h.front) done more h.spelled in
+      let k = begins_read h.front fewer.0 fewer.1 done fewer.2 fewer.3 in
+      record { front = k.0; left = k.1 ++ h.left; parts = h.parts ∙ ap (λ ls. ls ++ h.left) k.2 ∙ append_assoc k.0 k.1 h.left; spelled = k.3 }
 
-begins_longer : (first second : List ℕ) (commands : List PlainCommand) → IsEmptyOrEndsWith first 10 → BeginsToSpell first commands → BeginsToSpell (first ++ second) commands
-begins_longer first second commands ends h = record {
-  front = h.front;
-  left = h.left ++ lines second;
-  parts = lines_joined first second ends ∙ ap (λ ls. ls ++ lines second) h.parts ∙ append_assoc h.front h.left (lines second);
-  spelled = h.spelled;
-}
+  begins_joined : (first second : List ℕ) (commands more : List PlainCommand) → IsEmptyOrEndsWith first 10 → TextSpells dialect first commands None → BeginsToSpell dialect second more → BeginsToSpell dialect (first ++ second) (commands ++ more)
+  begins_joined first second commands more ends h k = record {
+    front = lines first ++ k.front;
+    left = k.left;
+    parts = lines_joined first second ends ∙ ap (λ ls. lines first ++ ls) k.parts ∙ sym (append_assoc (lines first) k.front k.left);
+    spelled = subst (λ (ls : List (List ℕ)). Spell dialect ls (commands ++ more)) (sym (map-append (without_comment dialect) (lines first) k.front))
+        (spell_joined dialect (without_comments dialect (lines first)) (without_comments dialect k.front) commands more h k.spelled);
+  }
+
+  begins_longer : (first second : List ℕ) (commands : List PlainCommand) → IsEmptyOrEndsWith first 10 → BeginsToSpell dialect first commands → BeginsToSpell dialect (first ++ second) commands
+  begins_longer first second commands ends h = record {
+    front = h.front;
+    left = h.left ++ lines second;
+    parts = lines_joined first second ends ∙ ap (λ ls. ls ++ lines second) h.parts ∙ append_assoc h.front h.left (lines second);
+    spelled = h.spelled;
+  }
 
 module _ {P S G : Type 0} (calls : Calls P S G) (form : Form) (begun : SessionState P S G) where
   -- so many lines were given and their commands carried out, and a rest was read after them
@@ -97,7 +112,7 @@ module _ {P S G : Type 0} (calls : Calls P S G) (form : Form) (begun : SessionSt
     pub replies : List PlainReply
     pub read : Consumes s.input s.input_after (given ++ rest)
     pub ends : IsEmptyOrEndsWith given 10
-    pub fed : FeedsUpTo calls begun given None replies now
+    pub fed : FeedsUpTo calls form.dialect begun given None replies now
     pub none_refused : NoneRefused replies
     pub written : Appends s.output s.output_after (texts form replies)
     pub counted : number ≡ length (lines given)
@@ -119,14 +134,14 @@ module _ {P S G : Type 0} (calls : Calls P S G) (form : Form) (begun : SessionSt
     replies = [];
     read = Consumes-nil input;
     ends = nothing_ends;
-    fed = feeds_nothing calls begun;
+    fed = feeds_nothing calls form.dialect begun;
     none_refused = tt;
     written = Appends-nil output;
     counted = refl;
   }
 
   -- commands of a text in front of the input
-  some_traced : (input : Option (List ℕ)) (Written : List ℕ → Type 0) (text : List ℕ) (commands : List Command) (replies : List PlainReply) (after : SessionState P S G) → IsCut input text → BeginsToSpell text (plain_commands commands)
+  some_traced : (input : Option (List ℕ)) (Written : List ℕ → Type 0) (text : List ℕ) (commands : List Command) (replies : List PlainReply) (after : SessionState P S G) → IsCut input text → BeginsToSpell form.dialect text (plain_commands commands)
       → Runs calls begun commands replies after → NoneRefused replies → Written (texts form replies) → CarriesOutSome calls form begun input Written
   some_traced input Written text commands replies after cut begins ran none written = record {
     bytes = text ++ cut.after;
@@ -134,7 +149,7 @@ module _ {P S G : Type 0} (calls : Calls P S G) (form : Form) (begun : SessionSt
     replies = replies;
     after = after;
     all = cut.all;
-    begins = holds_of_all (λ bs. BeginsToSpell bs (plain_commands commands)) input text cut (λ later ends k. begins_longer text later (plain_commands commands) ends k) begins;
+    begins = holds_of_all (λ bs. BeginsToSpell form.dialect bs (plain_commands commands)) input text cut (λ later ends k. begins_longer form.dialect text later (plain_commands commands) ends k) begins;
     ran = ran;
     none_refused = none;
     written = written;
@@ -145,7 +160,7 @@ module _ {P S G : Type 0} (calls : Calls P S G) (form : Form) (begun : SessionSt
       → IsCut input more → (h : HasTraced calls form begun now (streams input here output output_after) rest number) → h.given ≡ more → CarriesOutSome calls form begun input (Appends output output_after)
   begun_so_far now input here after output output_after rest more number _ cut h e =
       some_traced input (Appends output output_after) more h.fed.commands h.replies now cut
-      (begins_text more (plain_commands h.fed.commands) None (subst (λ (bs : List ℕ). TextSpells bs (plain_commands h.fed.commands) None) e h.fed.spelled)) h.fed.ran h.none_refused h.written
+      (begins_text form.dialect more (plain_commands h.fed.commands) None (subst (λ (bs : List ℕ). TextSpells form.dialect bs (plain_commands h.fed.commands) None) e h.fed.spelled)) h.fed.ran h.none_refused h.written
 
   -- reading gives up
   pub begun_reading : (now : SessionState P S G) (input here after output output_after : Option (List ℕ)) (rest : List ℕ) (number : ℕ) (piece : PlainPieces) → HasTraced calls form begun now (streams input here output output_after) rest number
@@ -163,33 +178,33 @@ module _ {P S G : Type 0} (calls : Calls P S G) (form : Form) (begun : SessionSt
 
   -- commands of a piece more were carried out, as far as they were
   some_more : (now middle : SessionState P S G) (input here after output reached : Option (List ℕ)) (rest : List ℕ) (number : ℕ) (goes_on : Bool) (piece : PlainPieces) (Written : List ℕ → Type 0) (commands : List Command) (more : List PlainReply)
-      → (h : HasTraced calls form begun now (streams input here output reached) rest number) → GivesLines here after rest goes_on piece → BeginsToSpell piece.lines (plain_commands commands) → Runs calls now commands more middle → NoneRefused more
+      → (h : HasTraced calls form begun now (streams input here output reached) rest number) → GivesLines here after rest goes_on piece → BeginsToSpell form.dialect piece.lines (plain_commands commands) → Runs calls now commands more middle → NoneRefused more
       → Written (texts form (h.replies ++ more)) → CarriesOutSome calls form begun input Written
   some_more now middle input here after output reached rest number goes_on piece Written commands more h g begins ran none written =
       let before = h.fed.commands in
       some_traced input Written (h.given ++ piece.lines) (before ++ commands) (h.replies ++ more) middle (cut_piece input here after h.given rest goes_on piece h.read h.ends g)
-      (subst (λ (cs : List PlainCommand). BeginsToSpell (h.given ++ piece.lines) cs) (sym (map-append plain_command before commands))
-      (begins_joined h.given piece.lines (plain_commands before) (plain_commands commands) h.ends h.fed.spelled begins))
+      (subst (λ (cs : List PlainCommand). BeginsToSpell form.dialect (h.given ++ piece.lines) cs) (sym (map-append plain_command before commands))
+      (begins_joined form.dialect h.given piece.lines (plain_commands before) (plain_commands commands) h.ends h.fed.spelled begins))
       (runs_join calls begun now middle before commands h.replies more h.fed.ran ran)
       (none_refused_joined h.replies more h.none_refused none) written
 
   -- those in front of the one that was stopped were
-  some_commands : (error : FeedError) (now middle : SessionState P S G) (text : List ℕ) (more : List PlainReply) → FeedsSome calls error now text more middle
-      → (commands : List Command) × (reached : SessionState P S G) × BeginsToSpell text (plain_commands commands) × Runs calls now commands more reached
+  some_commands : (error : FeedError) (now middle : SessionState P S G) (text : List ℕ) (more : List PlainReply) → FeedsSome calls form.dialect error now text more middle
+      → (commands : List Command) × (reached : SessionState P S G) × BeginsToSpell form.dialect text (plain_commands commands) × Runs calls now commands more reached
   some_commands error now middle text more h =
       let k = h.stopped in
       let parts : plain_commands h.commands ≡ plain_commands k.done ++ plain_commands (k.last ∷ k.left) = ap plain_commands k.parts ∙ map-append plain_command k.done (k.last ∷ k.left) in (
         k.done,
         k.middle,
-        begins_fewer text (plain_commands k.done) (plain_commands (k.last ∷ k.left)) (subst (BeginsToSpell text) parts (begins_text text (plain_commands h.commands) h.bad_line h.spelled)),
+        begins_fewer form.dialect text (plain_commands k.done) (plain_commands (k.last ∷ k.left)) (subst (BeginsToSpell form.dialect text) parts (begins_text form.dialect text (plain_commands h.commands) h.bad_line h.spelled)),
         k.ran,
       )
 
   -- the same, whatever feeding the piece came to
-  fed_commands : {T : Type 0} (now middle : SessionState P S G) (text : List ℕ) (fed : Result T FeedError) (more : List PlainReply) → Feeds calls now text fed more middle
-      → (commands : List Command) × (reached : SessionState P S G) × BeginsToSpell text (plain_commands commands) × Runs calls now commands more reached
-  fed_commands now middle text (Ok x) more h = (h.commands, middle, begins_text text (plain_commands h.commands) None h.spelled, h.ran)
-  fed_commands now middle text (Err (feeds.Line n)) more h = (h.commands, middle, begins_text text (plain_commands h.commands) (Some n) h.spelled, h.ran)
+  fed_commands : {T : Type 0} (now middle : SessionState P S G) (text : List ℕ) (fed : Result T FeedError) (more : List PlainReply) → Feeds calls form.dialect now text fed more middle
+      → (commands : List Command) × (reached : SessionState P S G) × BeginsToSpell form.dialect text (plain_commands commands) × Runs calls now commands more reached
+  fed_commands now middle text (Ok x) more h = (h.commands, middle, begins_text form.dialect text (plain_commands h.commands) None h.spelled, h.ran)
+  fed_commands now middle text (Err (feeds.Line n)) more h = (h.commands, middle, begins_text form.dialect text (plain_commands h.commands) (Some n) h.spelled, h.ran)
   fed_commands now middle text (Err feeds.Memory) more (inl h) = ([], now, record { front = []; left = lines text; parts = refl; spelled = tt }, nothing_ran calls now more h.none)
   fed_commands now middle text (Err feeds.Memory) more (inr h) = some_commands feeds.Memory now middle text more h
   fed_commands now middle text (Err feeds.Refused) more h = some_commands feeds.Refused now middle text more h
@@ -219,9 +234,9 @@ module _ {P S G : Type 0} (calls : Calls P S G) (form : Form) (begun : SessionSt
       (λ first second first_h second_h. appends_after output reached output_after first second first_h second_h)
 
   -- the pieces so far, and one more
-  fed_more : (now next : SessionState P S G) (given lines_now : List ℕ) (bad_line : Option ℕ) (replies more : List PlainReply) → IsEmptyOrEndsWith given 10 → FeedsUpTo calls begun given None replies now
-      → FeedsUpTo calls now lines_now bad_line more next → FeedsUpTo calls begun (given ++ lines_now) (option_map (λ n. length (lines given) + n) bad_line) (replies ++ more) next
-  fed_more now next given lines_now bad_line replies more ends h k = feeds_join calls begun now next given lines_now bad_line replies more ends h k
+  fed_more : (now next : SessionState P S G) (given lines_now : List ℕ) (bad_line : Option ℕ) (replies more : List PlainReply) → IsEmptyOrEndsWith given 10 → FeedsUpTo calls form.dialect begun given None replies now
+      → FeedsUpTo calls form.dialect now lines_now bad_line more next → FeedsUpTo calls form.dialect begun (given ++ lines_now) (option_map (λ n. length (lines given) + n) bad_line) (replies ++ more) next
+  fed_more now next given lines_now bad_line replies more ends h k = feeds_join calls form.dialect begun now next given lines_now bad_line replies more ends h k
 
   -- a piece more is carried out
   pub traced_more : {T : Type 0} (now next : SessionState P S G) (input here after output reached output_after : Option (List ℕ)) (rest : List ℕ) (number count : ℕ) (goes_on : Bool) (piece : PlainPieces) (fed : Result T FeedError) (x : T)
@@ -234,7 +249,7 @@ module _ {P S G : Type 0} (calls : Calls P S G) (form : Form) (begun : SessionSt
         replies = h.replies ++ k.replies;
         read = read_on_from input here after h.given rest g.read piece.lines piece.rest h.read g.consumed g.joined;
         ends = ends_joined h.given piece.lines h.ends ends;
-        fed = fed_more now next h.given piece.lines None h.replies k.replies h.ends h.fed (subst (λ (r : Result T FeedError). Feeds calls now piece.lines r k.replies next) well k.feeds);
+        fed = fed_more now next h.given piece.lines None h.replies k.replies h.ends h.fed (subst (λ (r : Result T FeedError). Feeds calls form.dialect now piece.lines r k.replies next) well k.feeds);
         none_refused = none_refused_joined h.replies k.replies h.none_refused k.none_refused;
         written = subst (Appends output output_after) (replies_joined form h.replies k.replies) (Appends-trans output reached output_after (texts form h.replies) (texts form k.replies) h.written k.written);
         counted =
@@ -253,7 +268,7 @@ module _ {P S G : Type 0} (calls : Calls P S G) (form : Form) (begun : SessionSt
           bytes = h.given ++ piece.lines;
           replies = h.replies ++ k.replies;
           all = last.0;
-          fed = fed_more now next h.given piece.lines None h.replies k.replies h.ends h.fed (subst (λ (r : Result T FeedError). Feeds calls now piece.lines r k.replies next) well k.feeds);
+          fed = fed_more now next h.given piece.lines None h.replies k.replies h.ends h.fed (subst (λ (r : Result T FeedError). Feeds calls form.dialect now piece.lines r k.replies next) well k.feeds);
           none_refused = none_refused_joined h.replies k.replies h.none_refused k.none_refused;
           written = subst (Appends output output_after) (replies_joined form h.replies k.replies) (Appends-trans output reached output_after (texts form h.replies) (texts form k.replies) h.written k.written);
         },
@@ -261,9 +276,9 @@ module _ {P S G : Type 0} (calls : Calls P S G) (form : Form) (begun : SessionSt
       )
 
   -- after a bad line a text may go on
-  fed_longer : (now : SessionState P S G) (text later : List ℕ) (line : ℕ) (replies : List PlainReply) → IsEmptyOrEndsWith text 10 → FeedsUpTo calls begun text (Some line) replies now → FeedsUpTo calls begun (text ++ later) (Some line) replies now
+  fed_longer : (now : SessionState P S G) (text later : List ℕ) (line : ℕ) (replies : List PlainReply) → IsEmptyOrEndsWith text 10 → FeedsUpTo calls form.dialect begun text (Some line) replies now → FeedsUpTo calls form.dialect begun (text ++ later) (Some line) replies now
   fed_longer now text later line replies ends h =
-      record { commands = h.commands; spelled = bad_text_joined text later (plain_commands h.commands) line ends h.spelled; ran = h.ran }
+      record { commands = h.commands; spelled = bad_text_joined form.dialect text later (plain_commands h.commands) line ends h.spelled; ran = h.ran }
 
   -- why it is, in the text of the whole input
   reason_further : (text later : List ℕ) (n : ℕ) (reason : Reason) → IsEmptyOrEndsWith text 10 → IsReasonAt text n reason → IsReasonAt (text ++ later) n reason
@@ -310,13 +325,13 @@ module _ {P S G : Type 0} (calls : Calls P S G) (form : Form) (begun : SessionSt
       let cut = cut_piece input here after h.given rest goes_on piece h.read h.ends g in
       let text = h.given ++ piece.lines in
       let all = h.replies ++ k.replies in
-      let fed_all : FeedsUpTo calls begun text (Some (number + line)) all next =
-      subst (λ (n : ℕ). FeedsUpTo calls begun text (Some (n + line)) all next) (sym h.counted) (fed_more now next h.given piece.lines (Some line) h.replies k.replies h.ends h.fed (subst (λ (r : Result T FeedError). Feeds calls now piece.lines r k.replies next) is k.feeds)) in
+      let fed_all : FeedsUpTo calls form.dialect begun text (Some (number + line)) all next =
+      subst (λ (n : ℕ). FeedsUpTo calls form.dialect begun text (Some (n + line)) all next) (sym h.counted) (fed_more now next h.given piece.lines (Some line) h.replies k.replies h.ends h.fed (subst (λ (r : Result T FeedError). Feeds calls form.dialect now piece.lines r k.replies next) is k.feeds)) in
       record {
         bytes = text ++ cut.after;
         replies = all;
         all = cut.all;
-        fed = holds_of_all (λ bs. FeedsUpTo calls begun bs (Some (number + line)) all next) input text cut (λ later ends h. fed_longer next text later (number + line) all ends h) fed_all;
+        fed = holds_of_all (λ bs. FeedsUpTo calls form.dialect begun bs (Some (number + line)) all next) input text cut (λ later ends h. fed_longer next text later (number + line) all ends h) fed_all;
         none_refused = none_refused_joined h.replies k.replies h.none_refused k.none_refused;
         written = subst (Appends output output_after) (replies_joined form h.replies k.replies) (Appends-trans output reached output_after (texts form h.replies) (texts form k.replies) h.written k.written);
       }

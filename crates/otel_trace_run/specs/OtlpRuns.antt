@@ -6,6 +6,7 @@ use Rattle.otel_resource.specs.Resource.{PlainResource}
 use Rattle.otel_export.specs.PlainSpanData.{PlainSpanData}
 use Rattle.otel_export.specs.Streams.{AppendsBeginning}
 use Rattle.otel_trace_lines.specs.ReplyForm.{Form}
+use Rattle.otel_trace_lines.specs.declared.dialect.Dialect.TheVariants as dialects
 use Rattle.otel_otlp.specs.Otlp.{otlp_lines}
 use Rattle.otel_pipeline.specs.Provider.{ProviderState}
 use Rattle.otel_trace_run.specs.Streams.{EndsAs, Streams}
@@ -15,10 +16,11 @@ use Rattle.otel_trace_session.specs.Calls.{Calls, stored_of_first}
 use Rattle.otel_trace_session.specs.Shown.{all_stored}
 use Rattle.otel_trace_session.specs.Turns.{SessionState}
 
--- replies as the lines of their batches; an answer is not written, and a dropped span is a failure, since nothing else
+-- lines by the extended grammar, and replies as the lines of their batches; an answer is not written, and a dropped span is a failure, since nothing else
 -- would tell it
 abbrev pub otlp_form : PlainResource → Form
 otlp_form resource = record {
+  dialect = dialects.Extended;
   reply = λ reply. otlp_lines resource reply.exported;
   rest = λ batches. otlp_lines resource batches;
   minds_drops = true;

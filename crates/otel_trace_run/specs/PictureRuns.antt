@@ -8,9 +8,10 @@ use Rattle.otel_pipeline.specs.Provider.{ProviderState}
 use Rattle.otel_trace_lines.specs.Commands.{PlainCommand, plain_commands}
 use Rattle.otel_trace_lines.specs.Lines.{TextSpells}
 use Rattle.otel_trace_lines.specs.PlainReply.{NoneRefused, PlainReply}
-use Rattle.otel_trace_lines.specs.ReplyForm.{reply_lines}
+use Rattle.otel_trace_lines.specs.ReplyForm.{Form, reply_lines_in}
 use Rattle.otel_trace_lines.specs.declared.command.Command.{Command}
 use Rattle.otel_trace_lines.specs.declared.command.Command.TheVariants as requests
+use Rattle.otel_trace_lines.specs.declared.dialect.Dialect.TheVariants as dialects
 use Rattle.otel_trace_lines.specs.declared.reply.Answer.{Answer}
 use Rattle.otel_trace_lines.specs.declared.reply.Answer.TheVariants as answers
 use Rattle.otel_trace_run.specs.OtlpRuns.{exported_since}
@@ -31,13 +32,17 @@ says_shut answers.Ok = true
 says_shut (answers.Failed errors.AlreadyShutdown) = true
 says_shut _ = false
 
+-- lines by the extended grammar, and replies as in the mode `trace`
+abbrev pub picture_lines : Form
+picture_lines = reply_lines_in dialects.Extended
+
 -- an input was read to its end, and spells commands up to its first bad line
 pub record ReadsScript (input after : Option (List ℕ)) (commands : List PlainCommand) (bad_line : Option ℕ)
     : Type 0 where
   pub bytes : List ℕ
   pub all : AreAll input bytes
   pub at_end : IsAtEnd after
-  pub spelled : TextSpells bytes commands bad_line
+  pub spelled : TextSpells dialects.Extended bytes commands bad_line
 
 module _ {P S G : Type 0} (calls : Calls P S G) where
   -- a session carried out a shutdown, after which its provider is shut
@@ -75,7 +80,7 @@ module _ {P S G : Type 0} (calls : Calls P S G) (Paints : Painting)
     pub replied : List ℕ
     pub begun : SessionState P S G
     pub begins : BeginsUnder calls provider begun
-    pub finishes : Finishes calls reply_lines begun bytes bad_line replied
+    pub finishes : Finishes calls picture_lines begun bytes bad_line replied
     pub drops_none : sum_by calls.queues.dropped_over finishes.closes.provider.processors ≡ 0
     pub drawn : Paints (spans_in (exported_since calls provider finishes.closes.provider)) picture
 

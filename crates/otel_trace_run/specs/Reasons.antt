@@ -1,4 +1,4 @@
--- Why lines read as no commands, and how that is said.
+-- Why lines read as no commands of the extended grammar, and how that is said.
 use Rattle.std.specs.Prelude.{◌≡◌, ◌≢◌, ◌⊎◌, ℕ, ◌+◌, List, [], ◌∷◌, ◌++◌, Bool, true, false, Option, Some, None, IsUtf8, codes, length}
 use Rattle.std.specs.Fmt.{decimal}
 use Rattle.std.specs.Str.Lines.{lines}
@@ -20,6 +20,9 @@ reason_text reasons.Status = codes "status wants a span, and ok, or error and a 
 reason_text reasons.Inject = codes "inject wants a span"
 reason_text reasons.End = codes "end wants a span and a moment"
 reason_text reasons.Run = codes "run wants a moment"
+reason_text reasons.Int = codes "int wants a span, a key and an integer of 64 bits"
+reason_text reasons.Bool = codes "bool wants a span, a key, and true or false"
+reason_text reasons.Link = codes "link wants a span, and the span that it points to"
 reason_text reasons.Number = codes "a moment is digits alone, at most 18446744073709551615"
 reason_text reasons.FieldTooMany = codes "a field too many"
 reason_text reasons.SpaceTooMany = codes "a space too many"
@@ -58,9 +61,13 @@ ExplainsWord word reasons.Status = word ≡ codes "status"
 ExplainsWord word reasons.Inject = word ≡ codes "inject"
 ExplainsWord word reasons.End = word ≡ codes "end"
 ExplainsWord word reasons.Run = word ≡ codes "run"
+ExplainsWord word reasons.Int = word ≡ codes "int"
+ExplainsWord word reasons.Bool = word ≡ codes "bool"
+ExplainsWord word reasons.Link = word ≡ codes "link"
 ExplainsWord word reasons.NoCommand = (word ≢ codes "start") × (word ≢ codes "child") × (word ≢ codes "remote")
     × (word ≢ codes "attr") × (word ≢ codes "event") × (word ≢ codes "status") × (word ≢ codes "inject")
     × (word ≢ codes "end") × (word ≢ codes "run") × (word ≢ codes "flush") × (word ≢ codes "shutdown")
+    × (word ≢ codes "int") × (word ≢ codes "bool") × (word ≢ codes "link")
 ExplainsWord word reasons.FieldTooMany = (word ≡ codes "flush") ⊎ (word ≡ codes "shutdown")
 ExplainsWord word _ = ⊥
 

@@ -4,10 +4,12 @@ use Rattle.std.specs.Io.KnownBytes.{Appends, IsAtEnd}
 use Rattle.std.specs.Str.Lines.{lines}
 use Rattle.otel_export.specs.declared.error.OTelSdkError.{OTelSdkError}
 use Rattle.otel_trace_lines.specs.Commands.{PlainCommand, plain_commands}
+use Rattle.otel_trace_lines.specs.Dialects.{without_comments}
 use Rattle.otel_trace_lines.specs.Lines.{Spell}
 use Rattle.otel_trace_lines.specs.PlainReply.{NoneRefused, PlainReply}
 use Rattle.otel_trace_lines.specs.ReplyForm.{Form, texts}
 use Rattle.otel_trace_lines.specs.declared.command.Command.{Command}
+use Rattle.otel_trace_lines.specs.declared.dialect.Dialect.{Dialect}
 use Rattle.otel_pipeline.specs.Provider.{ProviderState}
 use Rattle.otel_export.specs.Streams.{AppendsBeginning}
 use Rattle.otel_trace_run.specs.Streams.{AreAll, EndsAs, Streams, WhyBad}
@@ -20,11 +22,11 @@ use Rattle.otel_trace_session.specs.Turns.{BeginsUnder, Runs, SessionState}
 use Rattle.otel_trace_session.specs.declared.session.FeedError.{FeedError}
 
 -- a beginning of the lines of a text spells these commands
-pub record BeginsToSpell (text : List ℕ) (commands : List PlainCommand) : Type 0 where
+pub record BeginsToSpell (dialect : Dialect) (text : List ℕ) (commands : List PlainCommand) : Type 0 where
   pub front : List (List ℕ)
   pub left : List (List ℕ)
   pub parts : lines text ≡ front ++ left
-  pub spelled : Spell front commands
+  pub spelled : Spell dialect (without_comments dialect front) commands
 
 module _ {P S G : Type 0} (calls : Calls P S G) (form : Form) where
   -- the output was given what a session writes for the whole input, up to its first bad line, and when it closes
@@ -44,7 +46,7 @@ module _ {P S G : Type 0} (calls : Calls P S G) (form : Form) where
     pub replies : List PlainReply
     pub after : SessionState P S G
     pub all : AreAll input bytes
-    pub begins : BeginsToSpell bytes (plain_commands commands)
+    pub begins : BeginsToSpell form.dialect bytes (plain_commands commands)
     pub ran : Runs calls begun commands replies after
     pub none_refused : NoneRefused replies
     pub written : Written (texts form replies)
@@ -58,7 +60,7 @@ module _ {P S G : Type 0} (calls : Calls P S G) (form : Form) where
     pub after : SessionState P S G
     pub answer : Result (Unit {0}) OTelSdkError
     pub all : AreAll s.input bytes
-    pub feeds : Writes form [] replied (λ replies. FeedsUpTo calls begun bytes bad_line replies after)
+    pub feeds : Writes form [] replied (λ replies. FeedsUpTo calls form.dialect begun bytes bad_line replies after)
     pub closes : Closes calls form after replied answer text
     pub written : AppendsBeginning s.output s.output_after text
 
@@ -89,7 +91,7 @@ module _ {P S G : Type 0} (calls : Calls P S G) (form : Form) where
   pub record FeedsPiece {T : Type 0} (old : SessionState P S G) (piece : List ℕ) (fed : Result T FeedError)
       (Written : List ℕ → Type 0) (new : SessionState P S G) : Type 0 where
     pub replies : List PlainReply
-    pub feeds : Feeds calls old piece fed replies new
+    pub feeds : Feeds calls form.dialect old piece fed replies new
     pub none_refused : NoneRefused replies
     pub written : Written (texts form replies)
 
@@ -99,7 +101,7 @@ module _ {P S G : Type 0} (calls : Calls P S G) (form : Form) where
     pub bytes : List ℕ
     pub replies : List PlainReply
     pub all : AreAll s.input bytes
-    pub fed : FeedsUpTo calls begun bytes bad_line replies now
+    pub fed : FeedsUpTo calls form.dialect begun bytes bad_line replies now
     pub none_refused : NoneRefused replies
     pub written : Appends s.output s.output_after (texts form replies)
 

@@ -16,7 +16,7 @@ use otel_otlp::write_request;
 use otel_pipeline::trace::{KeepsBatches, ProviderOf};
 use otel_resource::resource::{Resource, ResourceStrings};
 use otel_sampling::trace::{GivesIds, ShouldSample};
-use otel_trace_lines::{Answer, ReplyForm};
+use otel_trace_lines::{Answer, Dialect, ReplyForm};
 use std::alloc::{AllocError, Global};
 use std::io::{Read, Write};
 use std::marker::Model;
@@ -98,6 +98,10 @@ impl ReplyForm for OtlpLines {
 
     fn minds_drops(&self) -> bool {
         true
+    }
+
+    fn dialect(&self) -> Dialect {
+        Dialect::Extended
     }
 }
 

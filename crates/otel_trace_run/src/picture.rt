@@ -19,7 +19,7 @@ use otel_picture::svg::write_svg;
 use otel_picture::write_text::write_text;
 use otel_pipeline::trace::{KeepsBatches, ProviderOf};
 use otel_sampling::trace::{GivesIds, ShouldSample};
-use otel_trace_lines::{Answer, Command, Reply, ReplyLines, Script, parse};
+use otel_trace_lines::{Answer, Command, Dialect, Reply, ReplyLines, Script, parse};
 use otel_trace_session::Session;
 use std::alloc::{AllocError, Global};
 use std::io;
@@ -103,7 +103,7 @@ pub(crate) fn draw_input<
     };
     let drawn = draw_lines(alloc, &mut session, painter, input);
     let mut left = Vec::new(alloc);
-    let mut lines = ReplyLines::new(alloc);
+    let mut lines = ReplyLines::of_dialect(alloc, Dialect::Extended);
     let closed = session.close_in(&mut lines, &mut left);
     let Some(drawn) = drawn else {
         return RunEnd::Failed;
@@ -152,7 +152,7 @@ fn read_script<R: Read>(alloc: Global, input: &mut R) -> io::Result<(Script, Opt
 {
     let mut text = Vec::new(alloc);
     input.read_to_end(&mut text)?;
-    let script = parse(alloc, &text)?;
+    let script = parse(alloc, Dialect::Extended, &text)?;
     let reason = match script.bad_line {
         Some(line) => reason_at(&text, line),
         None => None,

@@ -1,5 +1,5 @@
-//! Why a line reads as no command, for whoever wrote it. The modes `trace` and `steps`, whose texts are fixed, do not say
-//! it.
+//! Why a line reads as no command of the extended grammar, for whoever wrote it. The modes `trace` and `steps`, whose
+//! texts are fixed, do not say it.
 
 ghost use Rattle.std.specs.Prelude.{◌≡◌, ◌⊎◌, IfSome};
 ghost use Rattle.otel_trace_run.specs.Reasons.{Explains, ExplainsAfter, ExplainsFields, ExplainsRest, ExplainsWord, IsLineAt, IsReasonAt, reason_text};
@@ -22,6 +22,9 @@ pub enum Reason {
     Inject,
     End,
     Run,
+    Int,
+    Bool,
+    Link,
     /// Its last field is to be a number.
     Number,
     FieldTooMany,
@@ -44,6 +47,9 @@ pub(crate) fn text_of(reason: Reason) -> &'static str
         Reason::Inject => "inject wants a span",
         Reason::End => "end wants a span and a moment",
         Reason::Run => "run wants a moment",
+        Reason::Int => "int wants a span, a key and an integer of 64 bits",
+        Reason::Bool => "bool wants a span, a key, and true or false",
+        Reason::Link => "link wants a span, and the span that it points to",
         Reason::Number => "a moment is digits alone, at most 18446744073709551615",
         Reason::FieldTooMany => "a field too many",
         Reason::SpaceTooMany => "a space too many",
@@ -103,6 +109,9 @@ fn reason_of_word(word: &str) -> Reason
         "inject" => Reason::Inject,
         "end" => Reason::End,
         "run" => Reason::Run,
+        "int" => Reason::Int,
+        "bool" => Reason::Bool,
+        "link" => Reason::Link,
         "flush" | "shutdown" => Reason::FieldTooMany,
         _ => Reason::NoCommand,
     }
@@ -119,8 +128,8 @@ fn reason_after(word: &str, fields: &str) -> Reason
         Reason::Start | Reason::Event => reason_before_moment(fields, 2, wants),
         Reason::Child | Reason::Remote => reason_before_moment(fields, 3, wants),
         Reason::Inject | Reason::FieldTooMany => reason_of_last(fields, wants),
-        Reason::Status => reason_before_text(fields, 1, wants),
-        Reason::Attr => reason_before_text(fields, 2, wants),
+        Reason::Status | Reason::Link => reason_before_text(fields, 1, wants),
+        Reason::Attr | Reason::Int | Reason::Bool => reason_before_text(fields, 2, wants),
         _ => Reason::NoCommand,
     }
 }

@@ -15,7 +15,7 @@ returns-in_default-write_whole g c =
     let lost : LostNothing c.close_in-closed.result true = search rules in
     let d = draws_from calls g.met.P.KeepsBatches.appends (g.D.SpanPainter.paints c.args.painter.now) c.args.provider c.in-Ok.session
     c.draw_lines-drawn.new.session _ _ c.in-Some.drawn.bad_line c.in-Some.drawn.bad_line c.in-Some.drawn.picture.items
-    c.new-left.result.items c.close_in-closed.new.output.items c.close_in-closed.result c.in-Ok.ensures.ok c.in-Some.ensures.0 (search rules)
+    c.new-left.result.items c.close_in-closed.new.output.items c.close_in-closed.result _ c.of_dialect-lines.ensures c.in-Ok.ensures.ok c.in-Some.ensures.0 (search rules)
     c.new-left.ensures.items lost c.close_in-closed.ensures.closes in
     inr (
       d.0,
@@ -33,7 +33,7 @@ returns-in-None g c =
     let none : c.in-Some.drawn.bad_line ≡ None = search rules in
     let d = draws_from calls g.met.P.KeepsBatches.appends (g.D.SpanPainter.paints c.args.painter.now) c.args.provider c.in-Ok.session
     c.draw_lines-drawn.new.session _ _ c.in-Some.drawn.bad_line None c.in-Some.drawn.picture.items
-    c.new-left.result.items c.close_in-closed.new.output.items c.close_in-closed.result c.in-Ok.ensures.ok c.in-Some.ensures.0 none
+    c.new-left.result.items c.close_in-closed.new.output.items c.close_in-closed.result _ c.of_dialect-lines.ensures c.in-Ok.ensures.ok c.in-Some.ensures.0 none
     c.new-left.ensures.items lost c.close_in-closed.ensures.closes in (
       record {
         bytes = d.0;
@@ -52,7 +52,7 @@ returns g c =
     let bad : c.in-Some.drawn.bad_line ≡ Some c.in-Some-bad_line.line = search rules in
     let d = draws_from calls g.met.P.KeepsBatches.appends (g.D.SpanPainter.paints c.args.painter.now) c.args.provider c.in-Ok.session
     c.draw_lines-drawn.new.session _ _ c.in-Some.drawn.bad_line (Some c.in-Some-bad_line.line) c.in-Some.drawn.picture.items
-    c.new-left.result.items c.close_in-closed.new.output.items c.close_in-closed.result c.in-Ok.ensures.ok c.in-Some.ensures.0 bad
+    c.new-left.result.items c.close_in-closed.new.output.items c.close_in-closed.result _ c.of_dialect-lines.ensures c.in-Ok.ensures.ok c.in-Some.ensures.0 bad
     c.new-left.ensures.items lost c.close_in-closed.ensures.closes in (
       record {
         bytes = d.0;

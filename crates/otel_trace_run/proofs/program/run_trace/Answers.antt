@@ -7,4 +7,4 @@ pub returns-in-Ok : goal.returns-in-Ok
 returns-in-Ok g c =
     let s = streams (g.R.Read.remaining c.args.input.now) (g.R.Read.remaining c.trace_input.new.input)
     (g.W.Write.contents c.args.output.now) (g.W.Write.contents c.trace_input.new.output) in
-    traces_asked _ c.args.asked c.in-Ok.provider s c.trace_input.result c.in-Ok.ensures c.trace_input.ensures
+    traces_asked _ c.args.asked c.in-Ok.provider s c.trace_input.result c.new-lines.result c.new-lines.ensures c.in-Ok.ensures c.trace_input.ensures
