@@ -1,5 +1,5 @@
 pub mod Cuts
-pub mod Fields
+pub mod FieldLemmas
 pub mod JoinedLines
 pub mod JoinedTexts
 pub mod Listed

@@ -7,7 +7,7 @@ use Rattle.otel_trace_lines.specs.Commands.{PlainCommand, start, child, remote, 
 use Rattle.otel_trace_lines.specs.Lines.{IsDecimal64, IsStatus, LineForm, field, last_field, time, outcome, rest_of_line, whole, truth, IsInteger64, IsTruth, IsOfForm, form_of, Reads, IsBad, Spell, TextSpells}
 use Rattle.otel_trace_lines.specs.Dialects.{without_comments}
 use Rattle.otel_trace_lines.specs.declared.dialect.Dialect.{Dialect}
-use Rattle.otel_trace_lines.proofs.Fields.{same_field, no_last_field}
+use Rattle.otel_trace_lines.proofs.FieldLemmas.{same_field, no_last_field}
 
 -- digits have one moment
 same_moment : (digits others : List ℕ) (moment other : ℕ) → IsDecimal64 digits moment → IsDecimal64 others other → digits ≡ others → moment ≡ other

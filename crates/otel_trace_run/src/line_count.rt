@@ -6,7 +6,7 @@ ghost use Rattle.otel_trace_run.specs.declared.run_end.RunEnd.TheVariants as end
 
 use crate::reason::Reason;
 use crate::run_end::RunEnd;
-use otel_trace_lines::lines::first_line;
+use otel_trace_lines::fields::first_line;
 
 /// The bad line of this number after so many lines, with its reason, or a failure where a number of 64 bits cannot count
 /// them.

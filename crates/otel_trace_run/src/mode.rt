@@ -17,7 +17,7 @@ ghost use Rattle.otel_trace_run.specs.Program.{says_reasons};
 
 use crate::picture::PictureForm;
 use otel_picture::write_text::COLUMNS;
-use otel_trace_lines::lines::parse_decimal;
+use otel_trace_lines::fields::parse_decimal;
 use otel_trace_steps::Sizes;
 
 /// What the program is asked to do.

@@ -4,7 +4,7 @@
 ghost use Rattle.std.specs.Prelude.{◌≡◌, ◌⊎◌, IfSome};
 ghost use Rattle.otel_trace_run.specs.Reasons.{Explains, ExplainsAfter, ExplainsFields, ExplainsRest, ExplainsWord, IsLineAt, IsReasonAt, reason_text};
 
-use otel_trace_lines::lines::{first_field, first_line, parse_decimal};
+use otel_trace_lines::fields::{first_field, first_line, parse_decimal};
 
 /// Why a line reads as no command.
 #[derive(Clone, Copy, Debug, PartialEq, Eq)]

@@ -8,7 +8,7 @@ use Rattle.otel_trace_lines.specs.Lines.{IsField, IsDecimal64}
 use Rattle.otel_trace_steps.specs.StepLines.{Finds, IsWord, ReadsOrder, SomeOffer, TakesFields, TakesName, TakesProducer}
 use Rattle.otel_trace_steps.specs.declared.steps.step_lines.Order.{Order}
 use Rattle.otel_trace_steps.specs.declared.steps.step_lines.Order.TheVariants as orders
-use Rattle.otel_trace_lines.proofs.Fields.{same_field, no_last_field}
+use Rattle.otel_trace_lines.proofs.FieldLemmas.{same_field, no_last_field}
 
 -- a number has no space
 pub number_is_field : (digits : List ℕ) (n : ℕ) → IsDecimal64 digits n → IsField digits

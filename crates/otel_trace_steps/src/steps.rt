@@ -12,7 +12,7 @@ use crate::steps::step_texts::{push_outcome, push_state};
 use otel_batch::machine::{BatchMachine, Outcome, Step};
 use otel_batch::trace::BatchConfigBuilder;
 use otel_export::trace::InMemorySpanExporter;
-use otel_trace_lines::lines::first_line;
+use otel_trace_lines::fields::first_line;
 use otel_trace_lines::reply_text::write_text;
 use std::alloc::{AllocError, Global};
 

@@ -10,7 +10,7 @@ use opentelemetry::{InstrumentationScope, Moment, SpanId, TraceFlags, TraceId};
 use otel_batch::machine::Step;
 use otel_export::trace::{SpanData, SpanEvents, SpanLinks};
 use otel_resource::resource::Resource;
-use otel_trace_lines::lines::{first_field, parse_decimal};
+use otel_trace_lines::fields::{first_field, parse_decimal};
 use std::alloc::{AllocError, Global};
 
 /// What a line asks for.

@@ -1,6 +1,6 @@
 -- After the first field there is no second one.
 use Rattle.otel_trace_lines.specs.Lines.{field, rest_of_line}
-use Rattle.otel_trace_lines.proofs.Fields.{attr_there, after_field, only_attr}
+use Rattle.otel_trace_lines.proofs.FieldLemmas.{attr_there, after_field, only_attr}
 use Rattle.otel_trace_lines.proofs.lines.attr_of.Goals as goal
 
 pub returns-in_default-first_field-clause-found : goal.returns-in_default-first_field-clause-found

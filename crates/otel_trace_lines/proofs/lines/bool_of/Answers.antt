@@ -2,7 +2,7 @@
 use Rattle.std.proofs.Common.{◌≡◌, Bool, refl, rules, string_bytes}
 use Rattle.otel_trace_lines.specs.Commands.{set_bool}
 use Rattle.otel_trace_lines.specs.Lines.{truth, IsOfForm, IsTruth, field}
-use Rattle.otel_trace_lines.proofs.Fields.{only_bool, ends_as, ends_with, one_rest}
+use Rattle.otel_trace_lines.proofs.FieldLemmas.{only_bool, ends_as, ends_with, one_rest}
 use Rattle.otel_trace_lines.proofs.lines.bool_of.Goals as goal
 
 pub returns-in_default-clause-found : goal.returns-in_default-clause-found

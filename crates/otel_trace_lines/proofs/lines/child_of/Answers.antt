@@ -1,7 +1,7 @@
 -- No child stands there.
 use Rattle.std.proofs.Common.{refl}
 use Rattle.otel_trace_lines.specs.Commands.{child}
-use Rattle.otel_trace_lines.proofs.Fields.{only_child}
+use Rattle.otel_trace_lines.proofs.FieldLemmas.{only_child}
 use Rattle.otel_trace_lines.proofs.lines.child_of.Goals as goal
 
 pub returns-in_default-clause-found : goal.returns-in_default-clause-found

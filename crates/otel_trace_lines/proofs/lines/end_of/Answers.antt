@@ -1,7 +1,7 @@
 -- No end stands there.
 use Rattle.std.proofs.Common.{refl}
 use Rattle.otel_trace_lines.specs.Commands.{end}
-use Rattle.otel_trace_lines.proofs.Fields.{only_end}
+use Rattle.otel_trace_lines.proofs.FieldLemmas.{only_end}
 use Rattle.otel_trace_lines.proofs.lines.end_of.Goals as goal
 
 pub returns-in_default-clause-found : goal.returns-in_default-clause-found

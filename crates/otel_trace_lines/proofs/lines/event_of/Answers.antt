@@ -1,7 +1,7 @@
 -- No event stands there.
 use Rattle.std.proofs.Common.{refl}
 use Rattle.otel_trace_lines.specs.Commands.{event}
-use Rattle.otel_trace_lines.proofs.Fields.{only_event}
+use Rattle.otel_trace_lines.proofs.FieldLemmas.{only_event}
 use Rattle.otel_trace_lines.proofs.lines.event_of.Goals as goal
 
 pub returns-in_default-clause-found : goal.returns-in_default-clause-found

@@ -1,7 +1,7 @@
 -- No remote start stands there.
 use Rattle.std.proofs.Common.{refl}
 use Rattle.otel_trace_lines.specs.Commands.{remote}
-use Rattle.otel_trace_lines.proofs.Fields.{only_remote}
+use Rattle.otel_trace_lines.proofs.FieldLemmas.{only_remote}
 use Rattle.otel_trace_lines.proofs.lines.remote_of.Goals as goal
 
 pub returns-in_default-clause-found : goal.returns-in_default-clause-found

@@ -1,5 +1,5 @@
 -- No moment stands there.
-use Rattle.otel_trace_lines.proofs.Fields.{only_run}
+use Rattle.otel_trace_lines.proofs.FieldLemmas.{only_run}
 use Rattle.otel_trace_lines.proofs.lines.run_of.Goals as goal
 
 pub returns-in_err-moment : goal.returns-in_err-moment

@@ -1,7 +1,7 @@
 -- No start stands there.
 use Rattle.std.proofs.Common.{refl}
 use Rattle.otel_trace_lines.specs.Commands.{start}
-use Rattle.otel_trace_lines.proofs.Fields.{only_start}
+use Rattle.otel_trace_lines.proofs.FieldLemmas.{only_start}
 use Rattle.otel_trace_lines.proofs.lines.start_of.Goals as goal
 
 pub returns-in_default-clause-found : goal.returns-in_default-clause-found

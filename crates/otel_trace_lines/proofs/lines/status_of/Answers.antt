@@ -5,7 +5,7 @@ use Rattle.opentelemetry.specs.PlainValues.{plain_status}
 use Rattle.opentelemetry.proofs.Clauses.{fails_on_err}
 use Rattle.otel_trace_lines.specs.Lines.{IsStatus, outcome}
 use Rattle.opentelemetry.specs.Plain.{PlainStatus}
-use Rattle.otel_trace_lines.proofs.Fields.{after_field, only_status}
+use Rattle.otel_trace_lines.proofs.FieldLemmas.{after_field, only_status}
 use Rattle.otel_trace_lines.proofs.lines.status_of.Goals as goal
 
 pub returns-in_default-2-clause-found : goal.returns-in_default-2-clause-found

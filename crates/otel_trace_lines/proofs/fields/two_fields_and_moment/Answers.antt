@@ -1,7 +1,7 @@
 -- After the first field there are no second one and moment.
 use Rattle.otel_trace_lines.specs.Lines.{field, time}
-use Rattle.otel_trace_lines.proofs.Fields.{after_field}
-use Rattle.otel_trace_lines.proofs.lines.two_fields_and_moment.Goals as goal
+use Rattle.otel_trace_lines.proofs.FieldLemmas.{after_field}
+use Rattle.otel_trace_lines.proofs.fields.two_fields_and_moment.Goals as goal
 
 pub returns-in_err-second : goal.returns-in_err-second
 returns-in_err-second c =

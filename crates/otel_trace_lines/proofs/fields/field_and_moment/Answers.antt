@@ -1,7 +1,7 @@
 -- After the field there is no moment.
 use Rattle.otel_trace_lines.specs.Lines.{time}
-use Rattle.otel_trace_lines.proofs.Fields.{after_field}
-use Rattle.otel_trace_lines.proofs.lines.field_and_moment.Goals as goal
+use Rattle.otel_trace_lines.proofs.FieldLemmas.{after_field}
+use Rattle.otel_trace_lines.proofs.fields.field_and_moment.Goals as goal
 
 pub returns-in_err-moment : goal.returns-in_err-moment
 returns-in_err-moment c =

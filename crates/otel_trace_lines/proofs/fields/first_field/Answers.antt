@@ -3,7 +3,7 @@ use Rattle.std.proofs.Common.{◌≢◌, lit<, rules}
 use Rattle.std.proofs.lemmas.Str.Pattern.{split_parts}
 use Rattle.std.proofs.lemmas.List.Elements.{All-from_get_or}
 use Rattle.otel_trace_lines.proofs.Cuts.{no_field, no_empty_field}
-use Rattle.otel_trace_lines.proofs.lines.first_field.Goals as goal
+use Rattle.otel_trace_lines.proofs.fields.first_field.Goals as goal
 
 pub returns-in_err-field : goal.returns-in_err-field
 returns-in_err-field c =

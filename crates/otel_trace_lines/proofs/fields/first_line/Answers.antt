@@ -2,7 +2,7 @@
 use Rattle.std.proofs.Common.{◌+◌, ◌<◌, length, arith, sym, rules, length-drop}
 use Rattle.std.proofs.lemmas.List.{take_rest}
 use Rattle.otel_trace_lines.proofs.Cuts.{lines_none, lines_first}
-use Rattle.otel_trace_lines.proofs.lines.first_line.Goals as goal
+use Rattle.otel_trace_lines.proofs.fields.first_line.Goals as goal
 
 pub returns-in-None : goal.returns-in-None
 returns-in-None c =

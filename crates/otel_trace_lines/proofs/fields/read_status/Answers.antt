@@ -1,8 +1,8 @@
 -- Neither `ok` stands there nor `error`.
 use Rattle.std.proofs.Common.{◌≡◌, ◌≢◌, codes, rules}
 use Rattle.opentelemetry.specs.Plain.{error}
-use Rattle.otel_trace_lines.proofs.Fields.{no_status, error_is_field, same_field}
-use Rattle.otel_trace_lines.proofs.lines.read_status.Goals as goal
+use Rattle.otel_trace_lines.proofs.FieldLemmas.{no_status, error_is_field, same_field}
+use Rattle.otel_trace_lines.proofs.fields.read_status.Goals as goal
 
 pub returns-in_default-clause-found : goal.returns-in_default-clause-found
 returns-in_default-clause-found c =

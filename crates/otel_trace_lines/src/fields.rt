@@ -1,0 +1,171 @@
+//! The parts of a line: fields, each ended by a space, numbers, and the line itself.
+
+ghost use Rattle.std.specs.Prelude.{◌≡◌, ℕ, ◌<◌, List, [], ◌∷◌, ◌++◌, length, Option, None, Some, IfOk, IsOk, IsTrue, ◌↔◌, MatchOption, codes, position, ◌==◌};
+ghost use Rattle.std.specs.Str.Lines.{lines as lines_of, strip_carriage_return};
+ghost use Rattle.otel_trace_lines.specs.Lines.{IsField, IsDecimal64, IntegerGives, IsOfForm, SpellsStatus, StatusGives, TruthGives, field, rest_of_line, time};
+
+use opentelemetry::Moment;
+use opentelemetry::trace::Status;
+use std::alloc::{AllocError, Global};
+
+/// Two fields and what stands after the space that ends the second; none where there are not so many.
+pub(crate) fn two_fields_and_rest(text: &str) -> Option<(&str, &str, &str)>
+    ensures { MatchOption result
+        ((first second rest : List ℕ)
+        → IsOfForm text.now (field first (field second (rest_of_line rest))) → ⊥)
+        (λ parts. IsOfForm text.now (field parts.0.now (field parts.1.now (rest_of_line parts.2.now)))) }
+{
+    let (first, after) = first_field(text)?;
+    let (second, rest) = first_field(after)?;
+    Some((first, second, rest))
+}
+
+/// Three fields and the moment after them; none where anything else stands there.
+pub(crate) fn three_fields_and_moment(text: &str) -> Option<(&str, &str, &str, Moment)>
+    ensures { MatchOption result
+        ((first second third : List ℕ) (moment : ℕ)
+        → IsOfForm text.now (field first (field second (field third (time moment)))) → ⊥)
+        (λ parts. IsOfForm text.now
+        (field parts.0.now (field parts.1.now (field parts.2.now (time parts.3.0))))) }
+{
+    let (first, rest) = first_field(text)?;
+    let (second, third, moment) = two_fields_and_moment(rest)?;
+    Some((first, second, third, moment))
+}
+
+/// Two fields and the moment after them; none where anything else stands there.
+pub(crate) fn two_fields_and_moment(text: &str) -> Option<(&str, &str, Moment)>
+    ensures { MatchOption result
+        ((first second : List ℕ) (moment : ℕ) → IsOfForm text.now (field first (field second (time moment))) → ⊥)
+        (λ parts. IsOfForm text.now (field parts.0.now (field parts.1.now (time parts.2.0)))) }
+{
+    let (first, rest) = first_field(text)?;
+    let (second, moment) = field_and_moment(rest)?;
+    Some((first, second, moment))
+}
+
+/// A field and the moment after it; none where anything else stands there.
+pub(crate) fn field_and_moment(text: &str) -> Option<(&str, Moment)>
+    ensures { MatchOption result
+        ((first : List ℕ) (moment : ℕ) → IsOfForm text.now (field first (time moment)) → ⊥)
+        (λ parts. IsOfForm text.now (field parts.0.now (time parts.1.0))) }
+{
+    let (first, digits) = first_field(text)?;
+    let moment = moment_of(digits)?;
+    Some((first, moment))
+}
+
+/// The status that a text spells: `ok`, or `error`, a space and the description, maybe empty or with spaces in it.
+pub(crate) fn read_status(alloc: Global, text: &str) -> Result<Option<Status>, AllocError>
+    ensures found { IfOk result (StatusGives text.now) }
+    ensures free { ¬ SpellsStatus text.now → IsOk result }
+{
+    if text == "ok" {
+        return Ok(Some(Status::Ok));
+    }
+    let Some((word, description)) = first_field(text) else {
+        return Ok(None);
+    };
+    if word != "error" {
+        return Ok(None);
+    }
+    Ok(Some(Status::Error {
+        description: String::from_str(alloc, description)?,
+    }))
+}
+
+/// Whether a text is one field: not empty, and without a space.
+pub(crate) fn is_field(text: &str) -> bool
+    ensures { IsTrue result ↔ IsField text.now }
+{
+    !text.is_empty() && text.as_bytes().iter().all(|byte| *byte != b' ')
+}
+
+/// The first field of a text and what stands after the space that ends it; none where no field ends in a space.
+pub fn first_field(text: &str) -> Option<(&str, &str)>
+    ensures { MatchOption result
+        ((front rest : List ℕ) → IsField front → text.now ≡ front ++ 32 ∷ rest → ⊥)
+        (λ parts. IsField parts.0.now × (text.now ≡ parts.0.now ++ 32 ∷ parts.1.now)) }
+{
+    let (field, rest) = text.split_once(' ')?;
+    if field.is_empty() {
+        return None;
+    }
+    Some((field, rest))
+}
+
+/// The moment that digits write; none where it is out of range, or where anything but digits stands there.
+pub(crate) fn moment_of(digits: &str) -> Option<Moment>
+    ensures { MatchOption result
+        ((moment : ℕ) → IsDecimal64 digits.now moment → ⊥)
+        (λ moment. IsDecimal64 digits.now moment.0) }
+{
+    let nanoseconds = parse_decimal(digits)?;
+    Some(Moment(nanoseconds))
+}
+
+/// The number of 64 bits that digits write; none where it is out of range, or where anything but digits stands there.
+pub fn parse_decimal(digits: &str) -> Option<u64>
+    ensures { MatchOption result
+        ((number : ℕ) → IsDecimal64 digits.now number → ⊥)
+        (λ number. IsDecimal64 digits.now number) }
+{
+    if digits.starts_with('+') {
+        return None;
+    }
+    digits.parse::<u64>().ok()
+}
+
+/// The integer of 64 bits with a sign that digits write, maybe after a minus; none where it is out of range, or where
+/// anything else stands there.
+pub(crate) fn parse_integer(digits: &str) -> Option<i64>
+    ensures { IntegerGives digits.now result }
+{
+    if digits.starts_with('+') {
+        return None;
+    }
+    digits.parse::<i64>().ok()
+}
+
+/// The truth value that a text is; none where it is neither.
+pub(crate) fn truth_of(text: &str) -> Option<bool>
+    ensures { TruthGives text.now result }
+{
+    match text {
+        "true" => Some(true),
+        "false" => Some(false),
+        _ => None,
+    }
+}
+
+/// The first line of a text, without what ends it, and the text after it; none where the text is empty.
+pub fn first_line(text: &[u8]) -> Option<(&[u8], &[u8])>
+    ensures { MatchOption result
+        (lines_of text.now ≡ [])
+        (λ parts. (lines_of text.now ≡ parts.0.now ∷ lines_of parts.1.now) × (length parts.1.now < length text.now)) }
+{
+    if text.is_empty() {
+        return None;
+    }
+    match line_feed(text) {
+        None => Some((text, &[])),
+        Some(end) => Some((without_carriage_return(&text[..end]), &text[end + 1..])),
+    }
+}
+
+/// Where the first line feed stands.
+fn line_feed(text: &[u8]) -> Option<usize>
+    ensures { result ≡ position (λ b. b == 10) text.now }
+{
+    text.iter().position(|b| *b == b'\n')
+}
+
+/// A line without the one carriage return at its end, if it has one.
+fn without_carriage_return(line: &[u8]) -> &[u8]
+    ensures { result.now ≡ strip_carriage_return line.now }
+{
+    match line {
+        [front @ .., b'\r'] => front,
+        _ => line,
+    }
+}
