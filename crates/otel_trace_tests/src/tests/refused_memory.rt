@@ -5,7 +5,7 @@ use otel_export::error::OTelSdkError;
 use otel_export::trace::SpanData;
 use otel_pipeline::trace::KeepsBatches;
 use otel_sampling::trace::{GivesIds, ShouldSample};
-use otel_trace_lines::{Answer, Reply, parse};
+use otel_trace_lines::{Answer, Dialect, Reply, parse};
 use otel_trace_session::Session;
 use std::alloc::Global;
 use std::process::Abort;
@@ -33,7 +33,7 @@ fn run<P: KeepsBatches, S: ShouldSample, G: GivesIds>(
     line: &[u8],
     replies: &mut Vec<Reply>,
 ) -> bool {
-    match parse(alloc, line) {
+    match parse(alloc, Dialect::Plain, line) {
         Ok(script) => session.run(script.commands, replies).is_ok(),
         Err(_) => false,
     }
