@@ -24,7 +24,7 @@ use Rattle.otel_trace_run.specs.TraceRuns.{CarriesOutSome, ClosesSome, TracesBeg
 use Rattle.otel_trace_run.specs.declared.mode.Asked.{Asked}
 use Rattle.otel_trace_run.specs.declared.run_end.RunEnd.{RunEnd}
 use Rattle.otel_trace_run.specs.declared.run_end.RunEnd.TheVariants as ends
-use Rattle.otel_trace_run.proofs.TraceStream.{all_begun, whole_begun}
+use Rattle.otel_trace_run.proofs.TraceEnds.{all_begun, whole_begun}
 use Rattle.otel_trace_session.specs.Calls.{Calls, batches_of_first, stored_of_first}
 use Rattle.otel_trace_session.specs.Closing.{Closes, or_no_memory}
 use Rattle.otel_trace_session.specs.Shown.{all_stored, exported_in, session_stored}

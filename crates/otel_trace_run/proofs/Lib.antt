@@ -7,4 +7,5 @@ pub mod ProgramLemmas
 pub mod ReadPieces
 pub mod ReasonLemmas
 pub mod StepStream
+pub mod TraceEnds
 pub mod TraceStream

@@ -13,7 +13,7 @@ use Rattle.otel_trace_run.proofs.Drawing.{drawing_begun}
 use Rattle.otel_trace_run.proofs.Exporting.{exporting_begun}
 use Rattle.otel_trace_run.proofs.ModeWords.{mode_once}
 use Rattle.otel_trace_run.proofs.StepStream.{all_begun as steps_begun}
-use Rattle.otel_trace_run.proofs.TraceStream.{whole_begun}
+use Rattle.otel_trace_run.proofs.TraceEnds.{whole_begun}
 use Rattle.otel_trace_session.specs.Calls.{Calls}
 use Rattle.otel_trace_steps.specs.StepAnswers.{machine_of}
 use Rattle.otel_trace_run.specs.declared.mode.Asked.{Asked}

@@ -13,7 +13,8 @@ use Rattle.otel_trace_session.specs.declared.session.FeedError.TheVariants as fe
 use Rattle.otel_trace_run.specs.Pieces.{PlainPieces}
 use Rattle.otel_trace_run.specs.Streams.{streams}
 use Rattle.otel_trace_run.specs.TraceRuns.{FeedsPiece}
-use Rattle.otel_trace_run.proofs.TraceStream.{HasTraced, begun_breaking, begun_failing, begun_reading, begun_turning, begun_whole, fed_bad, traced_all, traced_bad, traced_more, traced_none, traced_why}
+use Rattle.otel_trace_run.proofs.TraceEnds.{begun_whole, fed_bad}
+use Rattle.otel_trace_run.proofs.TraceStream.{HasTraced, begun_breaking, begun_failing, begun_reading, begun_turning, traced_all, traced_bad, traced_more, traced_none, traced_why}
 use Rattle.otel_trace_run.proofs.trace_stream.feed_pieces.Goals as goal
 
 -- what feeding a piece did, in the form that the stream began with

@@ -2,7 +2,7 @@
 use Rattle.std.proofs.Common.{inl}
 use Rattle.std.proofs.KnownBytes.{Appends-nil}
 use Rattle.otel_trace_session.specs.Calls.{calls_of}
-use Rattle.otel_trace_run.proofs.TraceStream.{traced_under}
+use Rattle.otel_trace_run.proofs.TraceEnds.{traced_under}
 use Rattle.otel_trace_run.proofs.trace_stream.trace_input.Goals as goal
 
 pub returns-in-Err : goal.returns-in-Err

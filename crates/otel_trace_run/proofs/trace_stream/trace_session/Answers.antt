@@ -9,7 +9,7 @@ use Rattle.otel_trace_session.specs.Turns.{SessionState}
 use Rattle.std.specs.Io.KnownBytes.{Appends}
 use Rattle.otel_export.specs.Streams.{AppendsBeginning}
 use Rattle.otel_export.proofs.StreamLemmas.{appends_all}
-use Rattle.otel_trace_run.proofs.TraceStream.{closed_as, closed_some, some_failed}
+use Rattle.otel_trace_run.proofs.TraceEnds.{closed_as, closed_some, some_failed}
 use Rattle.otel_trace_run.proofs.trace_stream.trace_session.Goals as goal
 
 -- what closing did to a new text, in the form that the stream began with
