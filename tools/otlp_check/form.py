@@ -6,7 +6,7 @@ import re
 
 
 class Fault(Exception):
-    """What is wrong in a line, behind the path to it."""
+    """What is wrong in a line, after the path to it."""
 
     def __init__(self, path, what):
         super().__init__(f"{path or 'line'}: {what}")
