@@ -8,8 +8,8 @@ use otel_case_rows::answer_text::AnswerText;
 use otel_case_rows::fields::{Row, RowError};
 use otel_pipeline::trace::Span;
 use otel_propagation::propagation::TraceContextPropagator;
-use otel_sampling::trace::{SamplerOf, SpanLimits};
-use otel_trace_run::provider::{NoSampler, TraceSampler};
+use otel_sampling::trace::{NoSampler, SamplerOf, SpanLimits};
+use otel_trace_run::provider::TraceSampler;
 use std::alloc::{AllocError, Global};
 
 /// Answers a row whose word is `start`; false where it is another one.

@@ -17,6 +17,10 @@ none_stored = record { taken = []; batches = []; lost = 0 }
 abbrev pub all_taken : StoredBatches → StoredBatches
 all_taken stored = record stored { taken = stored.taken ++ stored.batches; batches = [] }
 
+-- all batches that an exporter stored: those that were taken, and those that it keeps
+abbrev pub all_stored : StoredBatches → List (List PlainSpanData)
+all_stored stored = stored.taken ++ stored.batches
+
 -- one more batch was lost
 abbrev pub one_more : ℕ → ℕ
 one_more lost = min (lost + 1) (2 ^ 64 - 1)

@@ -5,6 +5,7 @@ pub mod export;
 pub mod exporter_box;
 pub mod in_memory_exporter;
 pub mod links;
+pub mod no_exporter;
 pub mod span_data;
 pub mod stores_batches;
 
@@ -13,5 +14,6 @@ pub use export::SpanExporter;
 pub use exporter_box::{ExporterBox, ExporterOf};
 pub use in_memory_exporter::InMemorySpanExporter;
 pub use links::SpanLinks;
+pub use no_exporter::NoExporter;
 pub use span_data::SpanData;
 pub use stores_batches::StoresBatches;

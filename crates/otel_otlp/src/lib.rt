@@ -12,4 +12,4 @@ mod tokens;
 mod value;
 
 pub use exporter::OtlpJsonExporter;
-pub use request::write_request;
+pub use request::{write_request, write_requests};

@@ -10,3 +10,4 @@ pub mod Uncounted
 pub mod Starting
 pub mod Unlimited
 pub mod Following
+pub mod FirstKeeps

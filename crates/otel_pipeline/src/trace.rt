@@ -4,6 +4,7 @@ pub mod close_report;
 pub mod counts_left_spans;
 mod each_processor;
 pub mod exception;
+pub mod first_processor;
 pub mod from_exporter;
 pub mod in_span;
 pub mod keeps_batches;

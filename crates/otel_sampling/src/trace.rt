@@ -2,6 +2,7 @@
 
 pub mod config;
 pub mod id_generator;
+pub mod no_sampler;
 pub mod parent_based;
 pub mod ratio;
 pub mod sampler;
@@ -12,6 +13,7 @@ pub use config::{
     BatchStrings, Config, ConfigOf, ConfigStrings, Replacement, Setting, SettingFault,
 };
 pub use id_generator::{GivesIds, IdGenerator, IdSource, IdSourceOf, RandomIdGenerator};
+pub use no_sampler::NoSampler;
 pub use parent_based::ParentBased;
 pub use ratio::{Ratio, RatioError};
 pub use sampler::{Sampler, SamplerOf, SamplingDecision, SamplingResult, ShouldSample};

@@ -1,5 +1,6 @@
 pub mod Cuts
 pub mod FieldLemmas
+pub mod KindLemmas
 pub mod JoinedLines
 pub mod JoinedTexts
 pub mod Listed

@@ -1,13 +1,15 @@
 -- A line reads as one command at most, so a text spells one list of commands and has one first bad line or none.
-use Rattle.std.proofs.Common.{◌≡◌, ◌≢◌, ℕ, ℤ, Bool, true, false, List, [], ◌∷◌, ◌++◌, length, suc, Option, Some, None, refl, sym, ap, ◌∙◌, arith, rules}
+use Rattle.std.proofs.Common.{◌≡◌, ◌≢◌, ℕ, ℤ, Bool, true, false, List, [], ◌∷◌, ◌++◌, length, suc, cond, eqb, get_or, Option, Some, None, refl, sym, ap, ◌∙◌, arith, rules}
 use Rattle.std.specs.Str.Lines.{lines}
 use Rattle.std.specs.Str.Parse.{digits_value}
 use Rattle.opentelemetry.specs.Plain.{PlainStatus, unset, error, ok}
-use Rattle.otel_trace_lines.specs.Commands.{PlainCommand, start, child, remote, attr, event, status, inject, end, flush, run, shutdown, set_int, set_bool, link}
-use Rattle.otel_trace_lines.specs.Lines.{IsDecimal64, IsStatus, LineForm, field, last_field, time, outcome, rest_of_line, whole, truth, IsInteger64, IsTruth, IsOfForm, form_of, Reads, IsBad, Spell, TextSpells}
+use Rattle.otel_trace_lines.specs.Commands.{PlainCommand, start, child, remote, attr, event, status, inject, end, flush, run, shutdown, set_int, set_bool, link, exception, event_with}
+use Rattle.otel_trace_lines.specs.Lines.{IsDecimal64, IsStatus, LineForm, field, last_field, time, outcome, rest_of_line, whole, truth, instant, sort, start_form, kind_word, IsInteger64, IsTruth, IsOfForm, form_of, Reads, IsBad, Spell, TextSpells}
 use Rattle.otel_trace_lines.specs.Dialects.{without_comments}
 use Rattle.otel_trace_lines.specs.declared.dialect.Dialect.{Dialect}
-use Rattle.otel_trace_lines.proofs.FieldLemmas.{same_field, no_last_field}
+use Rattle.otel_trace_lines.proofs.FieldLemmas.{same_field, no_last_field, moment_alone}
+use Rattle.opentelemetry.specs.declared.trace.span_kind.SpanKind.{SpanKind}
+use Rattle.opentelemetry.specs.declared.trace.span_kind.SpanKind.TheVariants as kinds
 
 -- digits have one moment
 same_moment : (digits others : List ℕ) (moment other : ℕ) → IsDecimal64 digits moment → IsDecimal64 others other → digits ≡ others → moment ≡ other
@@ -32,6 +34,23 @@ same_truth text true false f g = cc
 same_truth text false true f g = cc
 same_truth text false false f g = refl
 
+-- a word is that of one kind: its second letter says which
+kind_by : List ℕ → SpanKind
+kind_by word =
+    let letter = get_or word 1 0 in
+    cond (eqb letter 108) kinds.Client (cond (eqb letter 101) kinds.Server (cond (eqb letter 114) kinds.Producer (cond (eqb letter 111) kinds.Consumer kinds.Internal)))
+
+kind_back : (kind : SpanKind) → kind_by (kind_word kind) ≡ kind
+unfolding kind_by
+kind_back kinds.Internal = refl
+kind_back kinds.Server = refl
+kind_back kinds.Client = refl
+kind_back kinds.Producer = refl
+kind_back kinds.Consumer = refl
+
+pub same_kind : (kind other : SpanKind) → kind_word kind ≡ kind_word other → kind ≡ other
+same_kind kind other e = sym (kind_back kind) ∙ ap kind_by e ∙ kind_back other
+
 -- two forms agree: field by field, and at their ends where these are of one kind
 abbrev pub AreOneForm : LineForm → LineForm → Type 0
 AreOneForm (field front after) (field other more) = (front ≡ other) × AreOneForm after more
@@ -43,6 +62,10 @@ AreOneForm (outcome how) (outcome other) = how ≡ other
 AreOneForm (rest_of_line rest) (rest_of_line other) = rest ≡ other
 AreOneForm (whole number) (whole other) = number ≡ other
 AreOneForm (truth value) (truth other) = value ≡ other
+AreOneForm (instant moment after) (instant other more) = (moment ≡ other) × AreOneForm after more
+AreOneForm (time moment) (instant other more) = ⊥
+AreOneForm (instant moment after) (time other) = ⊥
+AreOneForm (sort kind) (sort other) = kind ≡ other
 AreOneForm _ _ = Unit {0}
 
 -- the forms of one text agree
@@ -58,16 +81,29 @@ forms_agree text (outcome how) (outcome other) f g = same_status text how other 
 forms_agree text (rest_of_line rest) (rest_of_line other) f g = sym f ∙ g
 forms_agree text (whole number) (whole other) f g = same_integer text number other f g
 forms_agree text (truth value) (truth other) f g = same_truth text value other f g
+forms_agree text (instant moment after) (instant other more) f g =
+    let same = same_field text f.0 f.3.0 g.0 g.3.0 f.1 g.1 f.3.1 g.3.1 in
+    (same_moment f.0 g.0 moment other f.2 g.2 same.0, forms_agree g.3.0 after more (rw (← same.1) f.3.2) g.3.2)
+forms_agree text (time moment) (instant other more) f g = moment_alone text g.0 g.3.0 moment f g.3.1
+forms_agree text (instant moment after) (time other) f g = moment_alone text f.0 f.3.0 other g f.3.1
+forms_agree text (sort kind) (sort other) f g = same_kind kind other (sym f ∙ g)
 forms_agree text _ _ f g = tt
+
+-- moments and kinds whose forms agree are the same
+same_start : (moment other : ℕ) (kind more : Option SpanKind) → AreOneForm (start_form moment kind) (start_form other more) → (other ≡ moment) × (more ≡ kind)
+same_start moment other None None h = (sym h, refl)
+same_start moment other None (Some more) h = absurd h
+same_start moment other (Some kind) None h = absurd h
+same_start moment other (Some kind) (Some more) h = (sym h.0, ap (λ (k : SpanKind). Some k) (sym h.1))
 
 -- commands whose forms agree are the same
 same_command : (command other : PlainCommand) → AreOneForm (form_of command) (form_of other) → other ≡ command
-same_command (start s n m) (start s' n' m') h = cc
-same_command (start s n m) _ h = search rules
-same_command (child s p n m) (child s' p' n' m') h = cc
-same_command (child s p n m) _ h = search rules
-same_command (remote s t n m) (remote s' t' n' m') h = cc
-same_command (remote s t n m) _ h = search rules
+same_command (start s n m k) (start s' n' m' k') h = let same = same_start m m' k k' h.1.1.1 in cc
+same_command (start s n m k) _ h = search rules
+same_command (child s p n m k) (child s' p' n' m' k') h = let same = same_start m m' k k' h.1.1.1.1 in cc
+same_command (child s p n m k) _ h = search rules
+same_command (remote s t n m k) (remote s' t' n' m' k') h = let same = same_start m m' k k' h.1.1.1.1 in cc
+same_command (remote s t n m k) _ h = search rules
 same_command (attr s k v) (attr s' k' v') h = cc
 same_command (attr s k v) _ h = search rules
 same_command (event s n m) (event s' n' m') h = cc
@@ -90,6 +126,10 @@ same_command (set_bool s k b) (set_bool s' k' b') h = cc
 same_command (set_bool s k b) _ h = search rules
 same_command (link s t) (link s' t') h = cc
 same_command (link s t) _ h = search rules
+same_command (exception s k m t) (exception s' k' m' t') h = cc
+same_command (exception s k m t) _ h = search rules
+same_command (event_with s n m k v) (event_with s' n' m' k' v') h = cc
+same_command (event_with s n m k v) _ h = search rules
 
 -- a line reads as one command at most
 pub one_command : (dialect : Dialect) (line : List ℕ) (command other : PlainCommand) → Reads dialect line command → Reads dialect line other → other ≡ command

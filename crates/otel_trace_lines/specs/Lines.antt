@@ -1,16 +1,20 @@
 -- Which commands a text spells, line by line. Lines are those of the text, in std's word: each ends in a line feed and
 -- loses the one carriage return in front of it, and a rest after the last line feed, if not empty, is a line as it is.
-use Rattle.std.specs.Prelude.{◌≡◌, ◌≢◌, ℕ, ℤ, Bool, true, false, ◌+◌, ◌^◌, ◌<◌, List, [], ◌∷◌, ◌++◌, length, Option, Some, None, All, codes, IsUtf8, slice_index, FitsSigned}
+use Rattle.std.specs.Prelude.{◌≡◌, ◌≢◌, ℕ, ℤ, Bool, true, false, ◌+◌, ◌^◌, ◌<◌, List, [], ◌∷◌, ◌++◌, length, Option}
+use Rattle.std.specs.Prelude.{Some, None, All, codes, IsUtf8, slice_index, FitsSigned, is_some}
+use Rattle.std.specs.Option.{option_map}
 use Rattle.std.specs.Str.Lines.{lines}
 use Rattle.std.specs.Str.Parse.{IsNumeral, digits_value, signed_digits_value, without_leading_sign}
 use Rattle.std.specs.Int.{w64}
+use Rattle.opentelemetry.specs.declared.trace.span_kind.SpanKind.{SpanKind}
+use Rattle.opentelemetry.specs.declared.trace.span_kind.SpanKind.TheVariants as kinds
 use Rattle.opentelemetry.specs.declared.trace.status.Status.{Status}
 use Rattle.opentelemetry.specs.Plain.{PlainStatus, unset, error, ok}
 use Rattle.opentelemetry.specs.PlainValues.{plain_status}
 use Rattle.otel_trace_lines.specs.declared.command.Command.{Command}
 use Rattle.otel_trace_lines.specs.Commands.{PlainCommand, start, child, remote, attr, event, status, inject, end, flush, run, shutdown}
-use Rattle.otel_trace_lines.specs.Commands.{set_int, set_bool, link, plain_command}
-use Rattle.otel_trace_lines.specs.Dialects.{HasWord, without_comments}
+use Rattle.otel_trace_lines.specs.Commands.{set_int, set_bool, link, exception, event_with, has_more, plain_command}
+use Rattle.otel_trace_lines.specs.Dialects.{HasWord, MayHave, without_comments}
 use Rattle.otel_trace_lines.specs.declared.dialect.Dialect.{Dialect}
 
 -- a field is not empty and has no space in it
@@ -37,6 +41,14 @@ IsStatus text unset = ⊥
 IsStatus text (error description) = text ≡ codes "error" ++ 32 ∷ description
 IsStatus text ok = text ≡ codes "ok"
 
+-- the word of a kind
+abbrev pub kind_word : SpanKind → List ℕ
+kind_word kinds.Internal = codes "internal"
+kind_word kinds.Server = codes "server"
+kind_word kinds.Client = codes "client"
+kind_word kinds.Producer = codes "producer"
+kind_word kinds.Consumer = codes "consumer"
+
 -- the form of a line, from its front to its end
 pub data LineForm : Type 0 where
   -- a field, a space, and what stands after it
@@ -53,6 +65,10 @@ pub data LineForm : Type 0 where
   whole : ℤ → LineForm
   -- a truth value
   truth : Bool → LineForm
+  -- a moment, a space, and what stands after it
+  instant : ℕ → LineForm → LineForm
+  -- the word of a kind
+  sort : SpanKind → LineForm
 
 -- a text is of a form
 abbrev pub IsOfForm : List ℕ → LineForm → Type 0
@@ -64,14 +80,26 @@ IsOfForm text (outcome how) = IsStatus text how
 IsOfForm text (rest_of_line rest) = text ≡ rest
 IsOfForm text (whole number) = IsInteger64 text number
 IsOfForm text (truth value) = IsTruth text value
+IsOfForm text (instant moment after) = (digits : List ℕ) × IsField digits × IsDecimal64 digits moment
+    × ((rest : List ℕ) × (text ≡ digits ++ 32 ∷ rest) × IsOfForm rest after)
+IsOfForm text (sort kind) = text ≡ kind_word kind
+
+-- a moment, alone or in front of something
+abbrev pub moment_and : ℕ → Option LineForm → LineForm
+moment_and moment None = time moment
+moment_and moment (Some after) = instant moment after
+
+-- a moment, and the kind of a span, if one is given
+abbrev pub start_form : ℕ → Option SpanKind → LineForm
+start_form moment kind = moment_and moment (option_map sort kind)
 
 -- the form of a command's line: its word, and what stands after the word
 abbrev pub form_of : PlainCommand → LineForm
-form_of (start span name moment) = field (codes "start") (field span (field name (time moment)))
-form_of (child span parent name moment) =
-    field (codes "child") (field span (field parent (field name (time moment))))
-form_of (remote span header name moment) =
-    field (codes "remote") (field span (field header (field name (time moment))))
+form_of (start span name moment kind) = field (codes "start") (field span (field name (start_form moment kind)))
+form_of (child span parent name moment kind) =
+    field (codes "child") (field span (field parent (field name (start_form moment kind))))
+form_of (remote span header name moment kind) =
+    field (codes "remote") (field span (field header (field name (start_form moment kind))))
 form_of (attr span key value) = field (codes "attr") (field span (field key (rest_of_line value)))
 form_of (event span name moment) = field (codes "event") (field span (field name (time moment)))
 form_of (status span how) = field (codes "status") (field span (outcome how))
@@ -83,6 +111,10 @@ form_of shutdown = last_field (codes "shutdown")
 form_of (set_int span key value) = field (codes "int") (field span (field key (whole value)))
 form_of (set_bool span key value) = field (codes "bool") (field span (field key (truth value)))
 form_of (link span target) = field (codes "link") (field span (last_field target))
+form_of (exception span kind moment message) =
+    field (codes "exception") (field span (field kind (instant moment (rest_of_line message))))
+form_of (event_with span name moment key value) =
+    field (codes "event") (field span (field name (instant moment (field key (rest_of_line value)))))
 
 -- the field in front of a form, if there is one
 abbrev pub word_of : LineForm → List ℕ
@@ -94,6 +126,7 @@ module _ (dialect : Dialect) where
   -- a line reads as a command: the dialect has that, and the line is text of its form
   abbrev pub Reads : List ℕ → PlainCommand → Type 0
   Reads line command = IsUtf8 line × IsOfForm line (form_of command) × HasWord dialect (word_of (form_of command))
+      × MayHave dialect (has_more command)
 
   -- a bad line: not empty, and it reads as no command
   abbrev pub IsBad : List ℕ → Type 0
@@ -148,6 +181,11 @@ HasFields word fields _ = ⊥
 abbrev pub AreFields : List ℕ → List ℕ → Type 0
 AreFields word fields = (command : PlainCommand) × HasFields word fields (form_of command)
 
+-- the same of a command that the dialect has
+abbrev pub AreFieldsIn : Dialect → List ℕ → List ℕ → Type 0
+AreFieldsIn dialect word fields =
+    (command : PlainCommand) × HasFields word fields (form_of command) × MayHave dialect (has_more command)
+
 -- a text that spells a status
 abbrev pub SpellsStatus : List ℕ → Type 0
 SpellsStatus text = (how : PlainStatus) × IsStatus text how
@@ -156,6 +194,13 @@ SpellsStatus text = (how : PlainStatus) × IsStatus text how
 abbrev pub FieldsGive : List ℕ → List ℕ → Option Command → Type 0
 FieldsGive word fields None = (command : PlainCommand) → HasFields word fields (form_of command) → ⊥
 FieldsGive word fields (Some command) = HasFields word fields (form_of (plain_command command))
+
+-- the same of commands that the dialect has
+abbrev pub FieldsGiveIn : Dialect → List ℕ → List ℕ → Option Command → Type 0
+FieldsGiveIn dialect word fields None = (command : PlainCommand) → HasFields word fields (form_of command)
+    → MayHave dialect (has_more command) → ⊥
+FieldsGiveIn dialect word fields (Some command) =
+    HasFields word fields (form_of (plain_command command)) × MayHave dialect (has_more (plain_command command))
 
 -- what is found where a word is all of a line: a command of that word alone, and none only where there is none
 abbrev pub WordGives : List ℕ → Option Command → Type 0
@@ -175,3 +220,8 @@ IntegerGives text (Some number) = IsInteger64 text number
 abbrev pub TruthGives : List ℕ → Option Bool → Type 0
 TruthGives text None = (value : Bool) → IsTruth text value → ⊥
 TruthGives text (Some value) = IsTruth text value
+
+-- what is found where a kind is to stand
+abbrev pub KindGives : List ℕ → Option SpanKind → Type 0
+KindGives text None = (kind : SpanKind) → text ≡ kind_word kind → ⊥
+KindGives text (Some kind) = text ≡ kind_word kind

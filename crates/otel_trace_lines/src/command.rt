@@ -4,16 +4,18 @@ ghost use Rattle.std.specs.Prelude.{◌≡◌};
 ghost use Rattle.otel_trace_lines.specs.Commands.{is_end, plain_command};
 
 use opentelemetry::Moment;
-use opentelemetry::trace::Status;
+use opentelemetry::trace::{SpanKind, Status};
 
 /// One request to a session. A span is named by a text of the caller's choice.
 #[derive(Debug, Drop)]
 pub enum Command {
-    /// Start a span under a name, as a child of no other.
+    /// Start a span under a name, as a child of no other. What kind it is is left open where none is given, as in the
+    /// other two starts.
     Start {
         span: String,
         name: String,
         moment: Moment,
+        kind: Option<SpanKind>,
     },
     /// Start a span under a name, as a child of the span of another name.
     Child {
@@ -21,6 +23,7 @@ pub enum Command {
         parent: String,
         name: String,
         moment: Moment,
+        kind: Option<SpanKind>,
     },
     /// Start a span under a name, in the context that a `traceparent` says (W3C Trace Context): as a child of a span of
     /// another process, or of none where the text says none.
@@ -29,6 +32,7 @@ pub enum Command {
         traceparent: String,
         name: String,
         moment: Moment,
+        kind: Option<SpanKind>,
     },
     /// Set an attribute whose value is a text.
     Attr {
@@ -80,6 +84,21 @@ pub enum Command {
     Link {
         span: String,
         target: String,
+    },
+    /// Record an error: an event with its message and the name of its type.
+    Exception {
+        span: String,
+        exception_type: String,
+        moment: Moment,
+        message: String,
+    },
+    /// Add an event with one attribute, whose value is a text.
+    EventWithAttribute {
+        span: String,
+        name: String,
+        moment: Moment,
+        key: String,
+        value: String,
     },
 }
 

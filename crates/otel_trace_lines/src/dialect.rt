@@ -1,5 +1,5 @@
 //! The two grammars of lines. The plain one is fixed for whoever compares texts; the extended one has all of it, and
-//! comments and some commands more.
+//! comments, some commands, the kinds of spans and the attributes of events more.
 
 ghost use Rattle.std.specs.Prelude.{◌≡◌, IsTrue, ◌↔◌};
 ghost use Rattle.otel_trace_lines.specs.Dialects.{HasWord, IsOfExtended, without_comment};
@@ -8,7 +8,8 @@ ghost use Rattle.otel_trace_lines.specs.Dialects.{HasWord, IsOfExtended, without
 #[derive(Clone, Copy, Debug, PartialEq, Eq)]
 pub enum Dialect {
     Plain,
-    /// With comments, lines that begin with `#`, and with the commands `int`, `bool` and `link`.
+    /// With comments, lines that begin with `#`, and with the commands `int`, `bool`, `link` and `exception`. A start
+    /// may end in the kind of its span, and an event in an attribute.
     Extended,
 }
 
@@ -41,5 +42,5 @@ impl Dialect {
 fn is_of_extended(word: &str) -> bool
     ensures { IsTrue result ↔ IsOfExtended word.now }
 {
-    matches!(word, "int" | "bool" | "link")
+    matches!(word, "int" | "bool" | "link" | "exception")
 }

@@ -1,11 +1,27 @@
 //! The parts of a line: fields, each ended by a space, numbers, and the line itself.
 
-ghost use Rattle.std.specs.Prelude.{◌≡◌, ℕ, ◌<◌, List, [], ◌∷◌, ◌++◌, length, Option, None, Some, IfOk, IsOk, IsTrue, ◌↔◌, MatchOption, codes, position, ◌==◌};
+ghost use Rattle.std.specs.Prelude.{◌≡◌, ℕ, ◌<◌, List, [], ◌∷◌, ◌++◌, length, Option, None, Some, IfOk, IsOk, IsTrue, ◌↔◌, MatchOption, codes, position, ◌==◌, is_some, true};
 ghost use Rattle.std.specs.Str.Lines.{lines as lines_of, strip_carriage_return};
-ghost use Rattle.otel_trace_lines.specs.Lines.{IsField, IsDecimal64, IntegerGives, IsOfForm, SpellsStatus, StatusGives, TruthGives, field, rest_of_line, time};
+ghost use Rattle.otel_trace_lines.specs.Dialects.{MayHave};
+ghost use Rattle.otel_trace_lines.specs.Lines.{
+  IsField,
+  IsDecimal64,
+  IntegerGives,
+  IsOfForm,
+  KindGives,
+  SpellsStatus,
+  StatusGives,
+  TruthGives,
+  field,
+  instant,
+  rest_of_line,
+  start_form,
+  time,
+};
 
+use crate::dialect::Dialect;
 use opentelemetry::Moment;
-use opentelemetry::trace::Status;
+use opentelemetry::trace::{SpanKind, Status};
 use std::alloc::{AllocError, Global};
 
 /// Two fields and what stands after the space that ends the second; none where there are not so many.
@@ -20,28 +36,17 @@ pub(crate) fn two_fields_and_rest(text: &str) -> Option<(&str, &str, &str)>
     Some((first, second, rest))
 }
 
-/// Three fields and the moment after them; none where anything else stands there.
-pub(crate) fn three_fields_and_moment(text: &str) -> Option<(&str, &str, &str, Moment)>
+/// Three fields and what stands after the space that ends the third; none where there are not so many.
+pub(crate) fn three_fields_and_rest(text: &str) -> Option<(&str, &str, &str, &str)>
     ensures { MatchOption result
-        ((first second third : List ℕ) (moment : ℕ)
-        → IsOfForm text.now (field first (field second (field third (time moment)))) → ⊥)
+        ((first second third rest : List ℕ)
+        → IsOfForm text.now (field first (field second (field third (rest_of_line rest)))) → ⊥)
         (λ parts. IsOfForm text.now
-        (field parts.0.now (field parts.1.now (field parts.2.now (time parts.3.0))))) }
+        (field parts.0.now (field parts.1.now (field parts.2.now (rest_of_line parts.3.now))))) }
 {
-    let (first, rest) = first_field(text)?;
-    let (second, third, moment) = two_fields_and_moment(rest)?;
-    Some((first, second, third, moment))
-}
-
-/// Two fields and the moment after them; none where anything else stands there.
-pub(crate) fn two_fields_and_moment(text: &str) -> Option<(&str, &str, Moment)>
-    ensures { MatchOption result
-        ((first second : List ℕ) (moment : ℕ) → IsOfForm text.now (field first (field second (time moment))) → ⊥)
-        (λ parts. IsOfForm text.now (field parts.0.now (field parts.1.now (time parts.2.0)))) }
-{
-    let (first, rest) = first_field(text)?;
-    let (second, moment) = field_and_moment(rest)?;
-    Some((first, second, moment))
+    let (first, after) = first_field(text)?;
+    let (second, third, rest) = two_fields_and_rest(after)?;
+    Some((first, second, third, rest))
 }
 
 /// A field and the moment after it; none where anything else stands there.
@@ -53,6 +58,66 @@ pub(crate) fn field_and_moment(text: &str) -> Option<(&str, Moment)>
     let (first, digits) = first_field(text)?;
     let moment = moment_of(digits)?;
     Some((first, moment))
+}
+
+/// A moment and what stands after the space that ends it; none where anything else stands there.
+pub(crate) fn moment_and_rest(text: &str) -> Option<(Moment, &str)>
+    ensures { MatchOption result
+        ((moment : ℕ) (rest : List ℕ) → IsOfForm text.now (instant moment (rest_of_line rest)) → ⊥)
+        (λ parts. IsOfForm text.now (instant parts.0.0 (rest_of_line parts.1.now))) }
+{
+    let (digits, rest) = first_field(text)?;
+    let moment = moment_of(digits)?;
+    Some((moment, rest))
+}
+
+/// A moment, and in the extended grammar maybe the word of a kind after a space; none where anything else stands there.
+pub(crate) fn moment_and_kind(dialect: Dialect, text: &str) -> Option<(Moment, Option<SpanKind>)>
+    ensures { MatchOption result
+        ((moment : ℕ) (kind : Option SpanKind) → IsOfForm text.now (start_form moment kind)
+        → MayHave dialect (is_some kind) → ⊥)
+        (λ parts. IsOfForm text.now (start_form parts.0.0 parts.1) × MayHave dialect (is_some parts.1)) }
+{
+    let Some((moment, word)) = moment_and_rest(text) else {
+        return Some((moment_of(text)?, None));
+    };
+    match dialect {
+        Dialect::Plain => None,
+        Dialect::Extended => Some((moment, Some(kind_of(word)?))),
+    }
+}
+
+/// The kind whose word a text is; none where it is no such word.
+fn kind_of(word: &str) -> Option<SpanKind>
+    ensures { KindGives word.now result }
+{
+    match word {
+        "internal" => Some(SpanKind::Internal),
+        "server" => Some(SpanKind::Server),
+        "client" => Some(SpanKind::Client),
+        "producer" => Some(SpanKind::Producer),
+        "consumer" => Some(SpanKind::Consumer),
+        _ => None,
+    }
+}
+
+/// What only the extended grammar has after an event's name: a moment, a key, and the rest as a value; none where
+/// anything else stands there, and in the plain grammar.
+pub(crate) fn moment_and_attribute(dialect: Dialect, text: &str) -> Option<(Moment, &str, &str)>
+    ensures { MatchOption result
+        ((moment : ℕ) (key value : List ℕ) → IsOfForm text.now (instant moment (field key (rest_of_line value)))
+        → MayHave dialect true → ⊥)
+        (λ parts. IsOfForm text.now (instant parts.0.0 (field parts.1.now (rest_of_line parts.2.now)))
+        × MayHave dialect true) }
+{
+    match dialect {
+        Dialect::Plain => None,
+        Dialect::Extended => {
+            let (moment, rest) = moment_and_rest(text)?;
+            let (key, value) = first_field(rest)?;
+            Some((moment, key, value))
+        }
+    }
 }
 
 /// The status that a text spells: `ok`, or `error`, a space and the description, maybe empty or with spaces in it.

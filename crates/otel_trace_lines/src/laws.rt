@@ -16,7 +16,8 @@ pub fn lines_join()
 /// A text that is cut after a line feed spells what its two parts spell, with its lines counted through. After a bad
 /// line it may go on as it will.
 pub fn texts_join()
-    ensures joined { (dialect : Dialect) (first second : List ℕ) (commands more : List PlainCommand) (bad_line : Option ℕ)
+    ensures joined { (dialect : Dialect) (first second : List ℕ)
+        (commands more : List PlainCommand) (bad_line : Option ℕ)
         → IsEmptyOrEndsWith first 10 → TextSpells dialect first commands None → TextSpells dialect second more bad_line
         → TextSpells dialect (first ++ second) (commands ++ more)
         (option_map (λ line. length (lines_of first) + line) bad_line) }

@@ -3,9 +3,12 @@
 ghost use Rattle.std.specs.Prelude.{◌≡◌, ℕ, ◌<◌, List, [], ◌∷◌, ◌++◌, length, Option, None, Some, IfOk, IsOk, IsTrue, ◌↔◌, MatchOption, codes, position, ◌==◌};
 ghost use Rattle.std.specs.Str.Lines.{lines as lines_of, strip_carriage_return};
 ghost use Rattle.otel_trace_lines.specs.Commands.{PlainCommand, plain_commands};
+ghost use Rattle.otel_trace_lines.specs.Dialects.{HasFixedFields};
 ghost use Rattle.otel_trace_lines.specs.Lines.{
   AreFields,
+  AreFieldsIn,
   FieldsGive,
+  FieldsGiveIn,
   IsCommand,
   LineGives,
   SpellsNothing,
@@ -16,9 +19,10 @@ ghost use Rattle.otel_trace_lines.specs.Lines.{
 
 use crate::command::Command;
 use crate::dialect::Dialect;
+use crate::extended::{bool_of, exception_of, int_of, link_of};
 use crate::fields::{
-    field_and_moment, first_field, first_line, is_field, moment_of, parse_integer, read_status,
-    three_fields_and_moment, truth_of, two_fields_and_moment, two_fields_and_rest,
+    field_and_moment, first_field, first_line, is_field, moment_and_attribute, moment_and_kind,
+    moment_of, read_status, three_fields_and_rest, two_fields_and_rest,
 };
 use opentelemetry::Moment;
 use opentelemetry::trace::Status;
@@ -33,8 +37,8 @@ pub struct Script {
     pub bad_line: Option<u64>,
 }
 
-/// Reads the lines of a text up to the first that is no command of a dialect. Fails only where memory runs out, which is
-/// wanted for commands alone.
+/// Reads the lines of a text up to the first that is no command of a dialect. Fails only where memory runs out, which
+/// is wanted for commands alone.
 pub fn parse(alloc: Global, dialect: Dialect, text: &[u8]) -> Result<Script, AllocError>
     ensures spelled { IfOk result (λ script.
         TextSpells dialect text.now (plain_commands script.commands.items) script.bad_line) }
@@ -83,7 +87,7 @@ fn command_of(alloc: Global, dialect: Dialect, line: &[u8]) -> Result<Option<Com
             if !dialect.has_word(word) {
                 return Ok(None);
             }
-            command_with_fields(alloc, word, fields)
+            command_with_fields(alloc, dialect, word, fields)
         }
         None => Ok(command_of_word(text)),
     }
@@ -103,18 +107,30 @@ fn command_of_word(word: &str) -> Option<Command>
 /// The command of a word and the fields after it.
 fn command_with_fields(
     alloc: Global,
+    dialect: Dialect,
     word: &str,
     fields: &str,
 ) -> Result<Option<Command>, AllocError>
+    ensures found { IfOk result (FieldsGiveIn dialect word.now fields.now) }
+    ensures free { ¬ AreFieldsIn dialect word.now fields.now → IsOk result }
+{
+    match word {
+        "start" => start_of(alloc, dialect, fields),
+        "child" => child_of(alloc, dialect, fields),
+        "remote" => remote_of(alloc, dialect, fields),
+        "event" => event_of(alloc, dialect, fields),
+        _ => other_with_fields(alloc, word, fields),
+    }
+}
+
+/// The same of a word after which the grammars have the same fields.
+fn other_with_fields(alloc: Global, word: &str, fields: &str) -> Result<Option<Command>, AllocError>
+    requires { HasFixedFields word.now }
     ensures found { IfOk result (FieldsGive word.now fields.now) }
     ensures free { ¬ AreFields word.now fields.now → IsOk result }
 {
     match word {
-        "start" => start_of(alloc, fields),
-        "child" => child_of(alloc, fields),
-        "remote" => remote_of(alloc, fields),
         "attr" => attr_of(alloc, fields),
-        "event" => event_of(alloc, fields),
         "status" => status_of(alloc, fields),
         "inject" => inject_of(alloc, fields),
         "end" => end_of(alloc, fields),
@@ -122,31 +138,39 @@ fn command_with_fields(
         "int" => int_of(alloc, fields),
         "bool" => bool_of(alloc, fields),
         "link" => link_of(alloc, fields),
+        "exception" => exception_of(alloc, fields),
         _ => Ok(None),
     }
 }
 
-/// The fields of `start SPAN NAME MOMENT`.
-fn start_of(alloc: Global, fields: &str) -> Result<Option<Command>, AllocError>
-    ensures found { IfOk result (FieldsGive (codes "start") fields.now) }
-    ensures free { ¬ AreFields (codes "start") fields.now → IsOk result }
+/// The fields of `start SPAN NAME MOMENT`, and in the extended grammar maybe a kind after them.
+fn start_of(alloc: Global, dialect: Dialect, fields: &str) -> Result<Option<Command>, AllocError>
+    ensures found { IfOk result (FieldsGiveIn dialect (codes "start") fields.now) }
+    ensures free { ¬ AreFieldsIn dialect (codes "start") fields.now → IsOk result }
 {
-    let Some((span, name, moment)) = two_fields_and_moment(fields) else {
+    let Some((span, name, rest)) = two_fields_and_rest(fields) else {
+        return Ok(None);
+    };
+    let Some((moment, kind)) = moment_and_kind(dialect, rest) else {
         return Ok(None);
     };
     Ok(Some(Command::Start {
         span: String::from_str(alloc, span)?,
         name: String::from_str(alloc, name)?,
         moment,
+        kind,
     }))
 }
 
-/// The fields of `child SPAN PARENT NAME MOMENT`.
-fn child_of(alloc: Global, fields: &str) -> Result<Option<Command>, AllocError>
-    ensures found { IfOk result (FieldsGive (codes "child") fields.now) }
-    ensures free { ¬ AreFields (codes "child") fields.now → IsOk result }
+/// The fields of `child SPAN PARENT NAME MOMENT`, and in the extended grammar maybe a kind after them.
+fn child_of(alloc: Global, dialect: Dialect, fields: &str) -> Result<Option<Command>, AllocError>
+    ensures found { IfOk result (FieldsGiveIn dialect (codes "child") fields.now) }
+    ensures free { ¬ AreFieldsIn dialect (codes "child") fields.now → IsOk result }
 {
-    let Some((span, parent, name, moment)) = three_fields_and_moment(fields) else {
+    let Some((span, parent, name, rest)) = three_fields_and_rest(fields) else {
+        return Ok(None);
+    };
+    let Some((moment, kind)) = moment_and_kind(dialect, rest) else {
         return Ok(None);
     };
     Ok(Some(Command::Child {
@@ -154,15 +178,19 @@ fn child_of(alloc: Global, fields: &str) -> Result<Option<Command>, AllocError>
         parent: String::from_str(alloc, parent)?,
         name: String::from_str(alloc, name)?,
         moment,
+        kind,
     }))
 }
 
-/// The fields of `remote SPAN TRACEPARENT NAME MOMENT`.
-fn remote_of(alloc: Global, fields: &str) -> Result<Option<Command>, AllocError>
-    ensures found { IfOk result (FieldsGive (codes "remote") fields.now) }
-    ensures free { ¬ AreFields (codes "remote") fields.now → IsOk result }
+/// The fields of `remote SPAN TRACEPARENT NAME MOMENT`, and in the extended grammar maybe a kind after them.
+fn remote_of(alloc: Global, dialect: Dialect, fields: &str) -> Result<Option<Command>, AllocError>
+    ensures found { IfOk result (FieldsGiveIn dialect (codes "remote") fields.now) }
+    ensures free { ¬ AreFieldsIn dialect (codes "remote") fields.now → IsOk result }
 {
-    let Some((span, traceparent, name, moment)) = three_fields_and_moment(fields) else {
+    let Some((span, traceparent, name, rest)) = three_fields_and_rest(fields) else {
+        return Ok(None);
+    };
+    let Some((moment, kind)) = moment_and_kind(dialect, rest) else {
         return Ok(None);
     };
     Ok(Some(Command::Remote {
@@ -170,6 +198,7 @@ fn remote_of(alloc: Global, fields: &str) -> Result<Option<Command>, AllocError>
         traceparent: String::from_str(alloc, traceparent)?,
         name: String::from_str(alloc, name)?,
         moment,
+        kind,
     }))
 }
 
@@ -191,18 +220,30 @@ fn attr_of(alloc: Global, fields: &str) -> Result<Option<Command>, AllocError>
     }))
 }
 
-/// The fields of `event SPAN NAME MOMENT`.
-fn event_of(alloc: Global, fields: &str) -> Result<Option<Command>, AllocError>
-    ensures found { IfOk result (FieldsGive (codes "event") fields.now) }
-    ensures free { ¬ AreFields (codes "event") fields.now → IsOk result }
+/// The fields of `event SPAN NAME MOMENT`, and in the extended grammar maybe a key and a value after them.
+fn event_of(alloc: Global, dialect: Dialect, fields: &str) -> Result<Option<Command>, AllocError>
+    ensures found { IfOk result (FieldsGiveIn dialect (codes "event") fields.now) }
+    ensures free { ¬ AreFieldsIn dialect (codes "event") fields.now → IsOk result }
 {
-    let Some((span, name, moment)) = two_fields_and_moment(fields) else {
+    let Some((span, name, rest)) = two_fields_and_rest(fields) else {
         return Ok(None);
     };
-    Ok(Some(Command::Event {
+    if let Some(moment) = moment_of(rest) {
+        return Ok(Some(Command::Event {
+            span: String::from_str(alloc, span)?,
+            name: String::from_str(alloc, name)?,
+            moment,
+        }));
+    }
+    let Some((moment, key, value)) = moment_and_attribute(dialect, rest) else {
+        return Ok(None);
+    };
+    Ok(Some(Command::EventWithAttribute {
         span: String::from_str(alloc, span)?,
         name: String::from_str(alloc, name)?,
         moment,
+        key: String::from_str(alloc, key)?,
+        value: String::from_str(alloc, value)?,
     }))
 }
 
@@ -256,57 +297,4 @@ fn run_of(field: &str) -> Option<Command>
 {
     let moment = moment_of(field)?;
     Some(Command::Run { moment })
-}
-
-/// The fields of `int SPAN KEY INTEGER`.
-fn int_of(alloc: Global, fields: &str) -> Result<Option<Command>, AllocError>
-    ensures found { IfOk result (FieldsGive (codes "int") fields.now) }
-    ensures free { ¬ AreFields (codes "int") fields.now → IsOk result }
-{
-    let Some((span, key, digits)) = two_fields_and_rest(fields) else {
-        return Ok(None);
-    };
-    let Some(value) = parse_integer(digits) else {
-        return Ok(None);
-    };
-    Ok(Some(Command::Int {
-        span: String::from_str(alloc, span)?,
-        key: String::from_str(alloc, key)?,
-        value,
-    }))
-}
-
-/// The fields of `bool SPAN KEY TRUTH`.
-fn bool_of(alloc: Global, fields: &str) -> Result<Option<Command>, AllocError>
-    ensures found { IfOk result (FieldsGive (codes "bool") fields.now) }
-    ensures free { ¬ AreFields (codes "bool") fields.now → IsOk result }
-{
-    let Some((span, key, word)) = two_fields_and_rest(fields) else {
-        return Ok(None);
-    };
-    let Some(value) = truth_of(word) else {
-        return Ok(None);
-    };
-    Ok(Some(Command::Bool {
-        span: String::from_str(alloc, span)?,
-        key: String::from_str(alloc, key)?,
-        value,
-    }))
-}
-
-/// The fields of `link SPAN TARGET`.
-fn link_of(alloc: Global, fields: &str) -> Result<Option<Command>, AllocError>
-    ensures found { IfOk result (FieldsGive (codes "link") fields.now) }
-    ensures free { ¬ AreFields (codes "link") fields.now → IsOk result }
-{
-    let Some((span, target)) = first_field(fields) else {
-        return Ok(None);
-    };
-    if !is_field(target) {
-        return Ok(None);
-    }
-    Ok(Some(Command::Link {
-        span: String::from_str(alloc, span)?,
-        target: String::from_str(alloc, target)?,
-    }))
 }

@@ -39,7 +39,8 @@ use Rattle.otel_trace_session.specs.Turn.{Course, Turn}
 use Rattle.otel_trace_session.specs.Turns.{AreTurns, BeginsUnder, Runs, SessionState, course_of, reply_of}
 use Rattle.otel_trace_session.proofs.CloseLemmas.{ends_well, none_lost}
 use Rattle.otel_trace_session.specs.Taking.{TakesShown}
-use Rattle.otel_trace_session.proofs.TakingLemmas.{taken_all, taken_dropped, taken_open}
+use Rattle.otel_pipeline.proofs.FirstKeeps.{taken_all}
+use Rattle.otel_trace_session.proofs.TakingLemmas.{taken_dropped, taken_open}
 use Rattle.otel_trace_run.proofs.Exporting.{nothing_described, since_begun}
 
 -- an answer without an error

@@ -32,7 +32,7 @@ use Rattle.otel_trace_session.specs.Turns.{BeginsUnder, SessionState, TookTurns}
 use Rattle.otel_trace_session.specs.OpenSpans.{Describe, NamedSpans}
 use Rattle.otel_trace_session.specs.ProviderTurns.{ShutsIfOpen}
 use Rattle.otel_trace_session.proofs.ShownLemmas.{all_shown, closes_rest}
-use Rattle.otel_trace_session.proofs.TakingLemmas.{taken_all}
+use Rattle.otel_pipeline.proofs.FirstKeeps.{taken_all}
 
 -- lines of batches, and of others after them
 lines_joined : (resource : PlainResource) (first second : List (List PlainSpanData))

@@ -1,6 +1,7 @@
 pub mod Cut
 pub mod Drawing
 pub mod Exporting
+pub mod GivenLemmas
 pub mod ModeWords
 pub mod PageWords
 pub mod ProgramLemmas

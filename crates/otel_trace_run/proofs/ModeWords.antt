@@ -1,9 +1,11 @@
 -- What words ask for: one mode at most, and none where what stands after the mode's word names nothing.
-use Rattle.std.proofs.Common.{◌≡◌, ◌≤◌, ◌<◌, ◌-◌, ◌∙◌, ℕ, List, [], ◌∷◌, Option, Some, None, MatchOption, ap, arith, codes, drop, length, map, refl, subst, sym, take}
+use Rattle.std.proofs.Common.{◌≡◌, ◌≤◌, ◌<◌, ◌-◌, ◌∙◌, ℕ, List, [], ◌∷◌, Option, Some, None, Bor, MatchOption, ap, arith, codes, drop, length, map, option_copied, refl, subst, sym, take}
 use Rattle.std.proofs.Math.ListN.{get_or}
 use Rattle.std.proofs.lemmas.List.{take_all}
 use Rattle.std.specs.Str.Parse.{digits_value}
-use Rattle.otel_trace_run.specs.Arguments.{Asks, AsksForNothing, GivesColumns, Names, NamesAsked, NamesAskedGiven, NamesGiven, NamesProcessor, NamesSizes, NamesText, PlainMode, WriteSizes, otlp, picture, steps, trace, word_of}
+use Rattle.otel_trace_run.specs.Arguments.{Asks, AsksForNothing, AsksUnread, GivesColumns, Names, NamesAsked, NamesAskedGiven, NamesGiven, NamesProcessor, NamesSizes, NamesText, NamesUnread, PlainMode, WriteSizes, otlp, picture, steps, trace, word_of}
+use Rattle.otel_trace_run.specs.GivenAttributes.{GivesUnread}
+use Rattle.otel_trace_run.proofs.GivenLemmas.{none_unread}
 use Rattle.otel_trace_run.specs.declared.mode.Asked.{Asked}
 use Rattle.otel_trace_run.specs.declared.mode.AskedProcessor.{AskedProcessor}
 use Rattle.otel_trace_run.specs.declared.mode.AskedProcessor.TheVariants as asks
@@ -132,7 +134,7 @@ asked_once words asked other h k =
     let same : make_asked asked.seed asked.processor ≡ make_asked other.seed other.processor = rw (seed, processor) refl in
     same
 
-asked_given_once : (words : List (List ℕ)) (asked other : Asked) (given more : List (List ℕ))
+pub asked_given_once : (words : List (List ℕ)) (asked other : Asked) (given more : List (List ℕ))
     → NamesAskedGiven words asked given → NamesAskedGiven words other more → (asked ≡ other) × (given ≡ more)
 asked_given_once words asked other given more h k =
     let said : words ≡ h.digits ∷ h.after = h.words_are in
@@ -145,6 +147,29 @@ asked_given_once words asked other given more h k =
     (subst (λ (words : List (List ℕ)). NamesGiven words asked.processor given) after h.named) k.named in
     let same : make_asked asked.seed asked.processor ≡ make_asked other.seed other.processor = rw (seed, named.0) refl in
     (same, named.1)
+
+-- what is found of the attributes, after the word of the mode
+pub unread_found : (words : List (List ℕ)) (asked : Asked) (given : List (List ℕ)) (found : Option (Bor (List ℕ)))
+    → NamesAskedGiven words asked given → GivesUnread given (option_copied found)
+    → MatchOption found ((member : List ℕ) → NamesUnread words member → ⊥) (λ m. NamesUnread words m.now)
+unread_found words asked given None named unread = λ member h.
+    let same = asked_given_once words asked h.asked given h.given named h.named in
+    none_unread h.given member (subst (λ (texts : List (List ℕ)). GivesUnread texts None) same.1 unread) h.unread
+unread_found words asked given (Some member) named unread = record {
+  asked = asked;
+  given = given;
+  named = named;
+  unread = unread;
+}
+
+-- the same in front of it
+pub asks_unread : (words after : List (List ℕ)) (found : Option (Bor (List ℕ))) → words ≡ codes "otlp" ∷ after
+    → MatchOption found ((member : List ℕ) → NamesUnread after member → ⊥) (λ m. NamesUnread after m.now)
+    → MatchOption found ((member : List ℕ) → AsksUnread words member → ⊥) (λ m. AsksUnread words m.now)
+asks_unread words after None said none = λ member asks.
+    let there = subst (λ (texts : List (List ℕ)). AsksUnread texts member) said asks in none member there.1
+asks_unread words after (Some member) said found =
+    subst (λ (texts : List (List ℕ)). AsksUnread texts member.now) (sym said) (refl, found)
 
 -- words give one number of columns
 columns_once : (given : List (List ℕ)) (columns other : ℕ) → GivesColumns given columns → GivesColumns given other
@@ -166,7 +191,7 @@ names_once : (words : List (List ℕ)) (mode other : PlainMode) → word_of mode
 names_once words (trace asked) (trace other) e h k = ap trace (asked_once words asked other h k)
 names_once words (steps sizes) (steps other) e h k = ap steps (sizes_once words sizes other h k)
 names_once words (otlp asked given) (otlp other more) e h k =
-    let same = asked_given_once words asked other given more h k in rw (same.0, same.1) refl
+    let same = asked_given_once words asked other given more h.named k.named in rw (same.0, same.1) refl
 names_once words (picture asked (forms.Text columns)) (picture other (forms.Text wide)) e h k =
     let same = text_once words asked other columns wide h k in rw (same.0, same.1) refl
 names_once words (picture asked forms.Svg) (picture other forms.Svg) e h k =

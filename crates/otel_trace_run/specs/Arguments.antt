@@ -1,8 +1,9 @@
 -- What the arguments of the program ask for, and what is said of wrong ones and of a bad line.
-use Rattle.std.specs.Prelude.{◌≡◌, ◌≤◌, ℕ, List, [], ◌∷◌, ◌++◌, codes, length, map, string_bytes}
+use Rattle.std.specs.Prelude.{◌≡◌, ◌≤◌, ℕ, List, [], ◌∷◌, ◌++◌, Some, None, codes, length, map, string_bytes}
 use Rattle.std.specs.Fmt.{decimal}
 use Rattle.otel_trace_lines.specs.Lines.{IsDecimal64}
 use Rattle.otel_trace_steps.specs.declared.steps.Sizes.{Sizes}
+use Rattle.otel_trace_run.specs.GivenAttributes.{GivesUnread}
 use Rattle.otel_trace_run.specs.declared.mode.Asked.{Asked}
 use Rattle.otel_trace_run.specs.declared.mode.AskedProcessor.{AskedProcessor}
 use Rattle.otel_trace_run.specs.declared.mode.AskedProcessor.TheVariants as asks
@@ -38,6 +39,23 @@ pub record NamesAskedGiven (words : List (List ℕ)) (asked : Asked) (given : Li
   pub seed : IsDecimal64 digits asked.seed
   pub named : NamesGiven after asked.processor given
   pub words_are : words ≡ digits ∷ after
+
+-- the same, where each attribute reads of the string that is given
+pub record NamesOtlp (words : List (List ℕ)) (asked : Asked) (given : List (List ℕ)) : Type 0 where
+  pub named : NamesAskedGiven words asked given
+  pub read : GivesUnread given None
+
+-- the same, where this attribute is the first that does not read
+pub record NamesUnread (words : List (List ℕ)) (member : List ℕ) : Type 0 where
+  pub asked : Asked
+  pub given : List (List ℕ)
+  pub named : NamesAskedGiven words asked given
+  pub unread : GivesUnread given (Some member)
+
+-- words that would ask for the mode `otlp`, if this attribute read
+abbrev pub AsksUnread : List (List ℕ) → List ℕ → Type 0
+AsksUnread [] member = ⊥
+AsksUnread (word ∷ after) member = (word ≡ codes "otlp") × NamesUnread after member
 
 -- the columns that a word gives, 20 at least and 400 at most, or 72 where none does
 abbrev pub GivesColumns : List (List ℕ) → ℕ → Type 0
@@ -89,7 +107,7 @@ word_of (picture asked forms.Svg) = codes "svg"
 abbrev pub Names : List (List ℕ) → PlainMode → Type 0
 Names words (trace asked) = NamesAsked words asked
 Names words (steps sizes) = NamesSizes words sizes
-Names words (otlp asked given) = NamesAskedGiven words asked given
+Names words (otlp asked given) = NamesOtlp words asked given
 Names words (picture asked (forms.Text columns)) = NamesText words asked columns
 Names words (picture asked forms.Svg) = NamesAsked words asked
 

@@ -16,8 +16,8 @@ use Rattle.otel_trace_session.specs.Calls.{Calls, stored_of_first}
 use Rattle.otel_trace_session.specs.Shown.{all_stored}
 use Rattle.otel_trace_session.specs.Turns.{SessionState}
 
--- lines by the extended grammar, and replies as the lines of their batches; an answer is not written, and a dropped span is a failure, since nothing else
--- would tell it
+-- lines by the extended grammar, and replies as the lines of their batches; an answer is not written, and a dropped
+-- span is a failure, since nothing else would tell it
 abbrev pub otlp_form : PlainResource → Form
 otlp_form resource = record {
   dialect = dialects.Extended;

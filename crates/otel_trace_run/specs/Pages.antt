@@ -1,8 +1,8 @@
 -- What the program says of itself, and of words that ask for nothing.
-use Rattle.std.specs.Prelude.{◌≡◌, ◌⊎◌, ◌≢◌, ℕ, List, [], ◌∷◌, Option, codes}
+use Rattle.std.specs.Prelude.{◌≡◌, ◌⊎◌, ◌≢◌, ℕ, List, [], ◌∷◌, ◌++◌, Option, codes}
 use Rattle.std.specs.Io.KnownBytes.{Appends}
 use Rattle.otel_export.specs.Streams.{AppendsBeginning}
-use Rattle.otel_trace_run.specs.Arguments.{usage_text}
+use Rattle.otel_trace_run.specs.Arguments.{AsksUnread, usage_text}
 use Rattle.otel_trace_run.specs.declared.pages.Page.{Page}
 use Rattle.otel_trace_run.specs.declared.pages.Page.TheVariants as pages
 use Rattle.otel_trace_run.specs.declared.pages.TheConstants.{HELP, OTLP_HELP, OTLP_USAGE, PICTURE_HELP, PICTURE_USAGE}
@@ -58,10 +58,20 @@ pub record WordUsage (word text : List ℕ) : Type 0 where
   pub svg : word ≡ codes "svg" → text ≡ SVG_USAGE.now
   pub other : word ≢ codes "otlp" → word ≢ codes "picture" → word ≢ codes "svg" → text ≡ usage_text
 
--- what is said of words that ask for nothing
+-- the usage of the mode that the first word names, or else that of the first two modes
+abbrev pub IsUsage : List (List ℕ) → List ℕ → Type 0
+IsUsage [] text = text ≡ usage_text
+IsUsage (word ∷ after) text = WordUsage word text
+
+-- what is said of an attribute that does not read
+abbrev pub unread_text : List ℕ → List ℕ
+unread_text member = codes "cannot read the attribute: " ++ (member ++ 10 ∷ OTLP_USAGE.now)
+
+-- what is said of words that ask for nothing: the usage, with the first attribute that does not read, if that is wrong
+-- alone
 abbrev pub SaysUsage : List (List ℕ) → List ℕ → Type 0
-SaysUsage [] text = text ≡ usage_text
-SaysUsage (word ∷ after) text = WordUsage word text
+SaysUsage words text = ((member : List ℕ) × AsksUnread words member × (text ≡ unread_text member))
+    ⊎ (((member : List ℕ) → AsksUnread words member → ⊥) × IsUsage words text)
 
 -- a text was shown, by the status: whole at 0, and at 1 a beginning of it
 pub record ShowsText (before after : Option (List ℕ)) (text : List ℕ) (status : ℕ) : Type 0 where

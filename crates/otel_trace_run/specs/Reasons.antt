@@ -7,15 +7,19 @@ use Rattle.otel_trace_run.specs.Arguments.{bad_line_text}
 use Rattle.otel_trace_run.specs.declared.reason.Reason.{Reason}
 use Rattle.otel_trace_run.specs.declared.reason.Reason.TheVariants as reasons
 
+-- what may stand after the moment of a start
+abbrev pub maybe_kind : List ℕ
+maybe_kind = codes ", and maybe internal, server, client, producer or consumer"
+
 -- how a reason is said
 abbrev pub reason_text : Reason → List ℕ
 reason_text reasons.NotUtf8 = codes "its bytes are not UTF-8"
 reason_text reasons.NoCommand = codes "no command has this word"
-reason_text reasons.Start = codes "start wants a span, a name and a moment"
-reason_text reasons.Child = codes "child wants a span, a parent, a name and a moment"
-reason_text reasons.Remote = codes "remote wants a span, a traceparent, a name and a moment"
+reason_text reasons.Start = codes "start wants a span, a name, a moment" ++ maybe_kind
+reason_text reasons.Child = codes "child wants a span, a parent, a name, a moment" ++ maybe_kind
+reason_text reasons.Remote = codes "remote wants a span, a traceparent, a name, a moment" ++ maybe_kind
 reason_text reasons.Attr = codes "attr wants a span, a key and a value"
-reason_text reasons.Event = codes "event wants a span, a name and a moment"
+reason_text reasons.Event = codes "event wants a span, a name, a moment, and maybe a key and a value"
 reason_text reasons.Status = codes "status wants a span, and ok, or error and a text"
 reason_text reasons.Inject = codes "inject wants a span"
 reason_text reasons.End = codes "end wants a span and a moment"
@@ -23,6 +27,7 @@ reason_text reasons.Run = codes "run wants a moment"
 reason_text reasons.Int = codes "int wants a span, a key and an integer of 64 bits"
 reason_text reasons.Bool = codes "bool wants a span, a key, and true or false"
 reason_text reasons.Link = codes "link wants a span, and the span that it points to"
+reason_text reasons.Exception = codes "exception wants a span, a type, a moment and a text"
 reason_text reasons.Number = codes "a moment is digits alone, at most 18446744073709551615"
 reason_text reasons.FieldTooMany = codes "a field too many"
 reason_text reasons.SpaceTooMany = codes "a space too many"
@@ -64,10 +69,11 @@ ExplainsWord word reasons.Run = word ≡ codes "run"
 ExplainsWord word reasons.Int = word ≡ codes "int"
 ExplainsWord word reasons.Bool = word ≡ codes "bool"
 ExplainsWord word reasons.Link = word ≡ codes "link"
+ExplainsWord word reasons.Exception = word ≡ codes "exception"
 ExplainsWord word reasons.NoCommand = (word ≢ codes "start") × (word ≢ codes "child") × (word ≢ codes "remote")
     × (word ≢ codes "attr") × (word ≢ codes "event") × (word ≢ codes "status") × (word ≢ codes "inject")
     × (word ≢ codes "end") × (word ≢ codes "run") × (word ≢ codes "flush") × (word ≢ codes "shutdown")
-    × (word ≢ codes "int") × (word ≢ codes "bool") × (word ≢ codes "link")
+    × (word ≢ codes "int") × (word ≢ codes "bool") × (word ≢ codes "link") × (word ≢ codes "exception")
 ExplainsWord word reasons.FieldTooMany = (word ≡ codes "flush") ⊎ (word ≡ codes "shutdown")
 ExplainsWord word _ = ⊥
 

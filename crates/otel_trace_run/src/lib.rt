@@ -2,6 +2,7 @@
 //! `run_program` is all of the program `otel_trace` but the words and streams that it is given.
 #![tactic(auto)]
 
+mod given_attributes;
 mod line_count;
 pub mod mode;
 mod otlp;

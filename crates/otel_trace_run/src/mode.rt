@@ -4,17 +4,21 @@ ghost use Rattle.std.specs.Prelude.{◌≡◌, List, MatchOption, ℕ, map, stri
 ghost use Rattle.otel_trace_run.specs.Arguments.{
   Asks,
   AsksForNothing,
+  AsksUnread,
   GivesColumns,
   NamesAsked,
   NamesAskedGiven,
   NamesGiven,
+  NamesOtlp,
   NamesProcessor,
   NamesSizes,
+  NamesUnread,
   WriteSizes,
   plain_mode,
 };
 ghost use Rattle.otel_trace_run.specs.Program.{says_reasons};
 
+use crate::given_attributes::unread_member;
 use crate::picture::PictureForm;
 use otel_picture::write_text::COLUMNS;
 use otel_trace_lines::fields::parse_decimal;
@@ -72,7 +76,7 @@ pub fn parse_mode(words: &[String]) -> Option<Mode<'_>>
         "trace" => Some(Mode::Trace(parse_asked(after)?)),
         "steps" => Some(Mode::Steps(parse_sizes(after)?)),
         "otlp" => {
-            let (asked, given) = parse_asked_and_given(after)?;
+            let (asked, given) = parse_otlp(after)?;
             Some(Mode::Otlp(asked, given))
         }
         "picture" => {
@@ -116,6 +120,41 @@ fn parse_asked_and_given(words: &[String]) -> Option<(Asked, &[String])>
         },
         _ => None,
     }
+}
+
+/// The same, where each attribute reads of the string that is given.
+fn parse_otlp(words: &[String]) -> Option<(Asked, &[String])>
+    ensures { MatchOption result
+        ((asked : Asked) (given : List (List ℕ)) → NamesOtlp (map string_bytes words.now) asked given → ⊥)
+        (λ found. NamesOtlp (map string_bytes words.now) found.0 (map string_bytes found.1.now)) }
+{
+    let (asked, given) = parse_asked_and_given(words)?;
+    match unread_member(given) {
+        Some(_) => None,
+        None => Some((asked, given)),
+    }
+}
+
+/// The first attribute that does not read, of words that would else ask for the mode `otlp`.
+pub(crate) fn unread_attribute(words: &[String]) -> Option<&str>
+    ensures { MatchOption result
+        ((member : List ℕ) → AsksUnread (map string_bytes words.now) member → ⊥)
+        (λ member. AsksUnread (map string_bytes words.now) member.now) }
+{
+    match words {
+        [word, after @ ..] if word.as_str() == "otlp" => unread_after(after),
+        _ => None,
+    }
+}
+
+/// The same of the words after that of the mode.
+fn unread_after(words: &[String]) -> Option<&str>
+    ensures { MatchOption result
+        ((member : List ℕ) → NamesUnread (map string_bytes words.now) member → ⊥)
+        (λ member. NamesUnread (map string_bytes words.now) member.now) }
+{
+    let (_, given) = parse_asked_and_given(words)?;
+    unread_member(given)
 }
 
 /// The processor of `simple` or `batch Q B`; none where the words are others.

@@ -1,7 +1,7 @@
 //! The mode `otlp`: each batch that a session exports is a line of the OpenTelemetry protocol's JSON, and no reply is
 //! written.
 
-ghost use Rattle.std.specs.Prelude.{◌≡◌, ◌++◌, [], IfOk, IsOk, OnErr, OnOk, length, map, string_bytes, take};
+ghost use Rattle.std.specs.Prelude.{◌≡◌, ◌++◌, [], IfOk, IsOk, OnErr, OnOk, map, string_bytes};
 ghost use Rattle.otel_resource.specs.DetectedResource.{IsDetected};
 ghost use Rattle.otel_otlp.specs.Otlp.{otlp_lines};
 ghost use Rattle.otel_trace_run.specs.OtlpRuns.{ExportsUnder, otlp_form};
@@ -12,7 +12,7 @@ ghost use Rattle.otel_trace_session.specs.Calls.{calls_of};
 use crate::run_end::RunEnd;
 use crate::trace_stream::trace_input;
 use otel_export::trace::SpanData;
-use otel_otlp::write_request;
+use otel_otlp::write_requests;
 use otel_pipeline::trace::{KeepsBatches, ProviderOf};
 use otel_resource::resource::{Resource, ResourceStrings};
 use otel_sampling::trace::{GivesIds, ShouldSample};
@@ -47,31 +47,8 @@ impl OtlpLines {
         ensures err { OnErr result (output.new.items ≡ output.old.items) }
         ensures free { otlp_lines self.now (map (λ batch. batch.items) batches.now) ≡ [] → IsOk result }
     {
-        let begun = output.len();
-        let written = push_lines(self.alloc, output, &self.resource, batches);
-        if written.is_err() {
-            output.truncate(begun);
-        }
-        written
+        write_requests(self.alloc, output, &self.resource, batches)
     }
-}
-
-/// Writes the lines of batches. Where memory runs out a beginning of them stays.
-fn push_lines(
-    alloc: Global,
-    output: &mut Vec<u8>,
-    resource: &Resource,
-    batches: &[Vec<SpanData>],
-) -> Result<(), AllocError>
-    ensures ok { OnOk result (output.new.items ≡ output.old.items
-        ++ otlp_lines resource.now (map (λ batch. batch.items) batches.now)) }
-    ensures front { take (length output.old.items) output.new.items ≡ output.old.items }
-    ensures free { batches.now ≡ [] → IsOk result }
-{
-    for batch in batches {
-        write_request(alloc, output, resource, batch)?;
-    }
-    Ok(())
 }
 
 impl ReplyForm for OtlpLines {

@@ -7,7 +7,7 @@ ghost use Rattle.otel_trace_run.specs.Pages.{
   AsksForPage,
   IsHelpWord,
   ModePage,
-  SaysUsage,
+  IsUsage,
   WordPage,
   WordUsage,
   page_text,
@@ -166,10 +166,10 @@ fn is_help_word(word: &str) -> bool
     }
 }
 
-/// What is said of arguments that ask for nothing: the usage of the mode that the first one names, where that is one of
-/// the program's own, or else that of the first two modes.
+/// The usage of the mode that the first of these words names, where that is one of the program's own, or else that of
+/// the first two modes.
 pub(crate) fn usage_for(words: &[String]) -> &'static str
-    ensures { SaysUsage (map string_bytes words.now) result.now }
+    ensures { IsUsage (map string_bytes words.now) result.now }
 {
     match words {
         [word, ..] => usage_of(word.as_str()),

@@ -19,14 +19,15 @@ ghost use Rattle.otel_trace_run.specs.Pages.{
   SaysUsage,
   ShowsText,
   page_text,
+  unread_text,
 };
 ghost use Rattle.otel_trace_run.specs.Program.{Runs, RunsTo};
 ghost use Rattle.otel_trace_run.specs.Reasons.{IsFault};
 ghost use Rattle.otel_trace_run.specs.Streams.{Reports, streams};
 
-use crate::mode::{Asked, Mode, parse_mode};
+use crate::mode::{Asked, Mode, parse_mode, unread_attribute};
 use crate::otlp::{export_input, resource_of};
-use crate::pages::{Page, parse_page, text_of, usage_for};
+use crate::pages::{OTLP_USAGE, Page, parse_page, text_of, usage_for};
 use crate::picture::{PictureForm, SpanPainter, draw_input};
 use crate::provider::{SessionProvider, TraceProvider, make_provider};
 use crate::reason::{Reason, text_of as reason_text_of};
@@ -51,8 +52,8 @@ const REFUSED: u8 = 2;
 /// line or wrong arguments; 1 where reading, writing or the closing fails, memory is missing or a batch was lost, also
 /// where 2 would be due. `words` are the arguments without the program's name; wrong ones are found before anything is
 /// read. Lines are answered as they come: what answers them is written and sent on before more is read, and a run of
-/// status 1 has written a beginning of what one of status 0 writes. After a bad line nothing is read. A picture is written at the end of the input,
-/// which is read to that whatever its lines are.
+/// status 1 has written a beginning of what one of status 0 writes. After a bad line nothing is read. A picture is
+/// written at the end of the input, which is read to that whatever its lines are.
 pub fn run_program<R: Read, W: Write, F: Write>(
     alloc: Global,
     words: &[String],
@@ -78,7 +79,7 @@ pub fn run_program<R: Read, W: Write, F: Write>(
         return show(text_of(page), output);
     }
     match parse_mode(words) {
-        None => refuse(faults, usage_for(words)),
+        None => refuse_words(alloc, words, faults),
         Some(mode) => {
             let says_reasons = mode.says_reasons();
             let end = run_mode(alloc, mode, input, output);
@@ -180,7 +181,8 @@ fn run_picture<R: Read, W: Write>(
 
 /// Names a bad line, and answers the status for how a run ended.
 fn status_of<F: Write>(alloc: Global, end: RunEnd, says_reasons: bool, faults: &mut F) -> u8
-    ensures { Reports end says_reasons (faults.new ≡ faults.old) (Appends (F.contents faults.old) (F.contents faults.new)) result }
+    ensures { Reports end says_reasons
+        (faults.new ≡ faults.old) (Appends (F.contents faults.old) (F.contents faults.new)) result }
 {
     match end {
         RunEnd::Done => DONE,
@@ -199,6 +201,30 @@ fn refuse<F: Write>(faults: &mut F, text: &str) -> u8
         return FAILED;
     }
     REFUSED
+}
+
+/// Says what is wrong with words that ask for nothing, and answers the status for it.
+fn refuse_words<F: Write>(alloc: Global, words: &[String], faults: &mut F) -> u8
+    ensures status { (result ≡ 1) ⊎ (result ≡ 2) }
+    ensures written { result ≡ 2 → (text : List ℕ) × SaysUsage (map string_bytes words.now) text
+        × Appends (F.contents faults.old) (F.contents faults.new) text }
+{
+    match unread_attribute(words) {
+        Some(member) => name_attribute(alloc, member, faults),
+        None => refuse(faults, usage_for(words)),
+    }
+}
+
+/// Names an attribute that does not read, and answers the status for it.
+fn name_attribute<F: Write>(alloc: Global, member: &str, faults: &mut F) -> u8
+    ensures status { (result ≡ 1) ⊎ (result ≡ 2) }
+    ensures written { result ≡ 2
+        → Appends (F.contents faults.old) (F.contents faults.new) (unread_text member.now) }
+{
+    match format!(in alloc; "cannot read the attribute: {member}\n{OTLP_USAGE}") {
+        Ok(text) => refuse(faults, text.as_str()),
+        Err(_) => FAILED,
+    }
 }
 
 /// Names a bad line, and answers the status for it.

@@ -1,26 +1,21 @@
 //! The provider of the program's sessions: one processor over an exporter in memory, ids that come from a seed, and a
 //! sampler that takes each root.
 
-ghost use Rattle.std.specs.Prelude.{◌≡◌, IfOk, None};
+ghost use Rattle.std.specs.Prelude.{◌≡◌, IfOk};
 ghost use Rattle.otel_trace_run.specs.Program.{IsProviderOf, SamplesRoots, processor_of};
 ghost use Rattle.otel_trace_session.specs.Calls.{Calls, calls_of};
 
 use crate::mode::{Asked, AskedProcessor};
-use opentelemetry::trace::{Link, SpanKind, TraceState};
-use opentelemetry::{Context, KeyValue, TraceId};
 use opentelemetry_sdk::trace::{BatchSpanProcessor, ProcessorOf};
 use otel_batch::trace::BatchConfigBuilder;
-use otel_export::error::OTelSdkResult;
-use otel_export::trace::{ExporterOf, InMemorySpanExporter, SpanData, SpanExporter};
+use otel_export::trace::{ExporterOf, InMemorySpanExporter, NoExporter};
 use otel_pipeline::trace::provider::provider_over;
 use otel_pipeline::trace::{KeepsBatches, ProviderOf, SimpleSpanProcessor, SpanProcessor};
 use otel_resource::resource::Resource;
 use otel_sampling::trace::{
-    ConfigOf, GivesIds, RandomIdGenerator, SamplerOf, SamplingDecision, SamplingResult,
-    ShouldSample, SpanLimits,
+    ConfigOf, GivesIds, NoSampler, RandomIdGenerator, SamplerOf, ShouldSample, SpanLimits,
 };
 use std::alloc::{AllocError, Global};
-use std::time::Duration;
 
 /// What the program's processors export to.
 type TraceExporter = ExporterOf<InMemorySpanExporter, NoExporter>;
@@ -58,52 +53,6 @@ impl<P: KeepsBatches, S: ShouldSample, G: GivesIds> SessionProvider for Provider
 
     ghost calls = { calls_of P.SpanProcessor P.Timed.own P.CountsLeftSpans.own P.KeepsBatches.own
         S.ShouldSample G.GivesIds };
-}
-
-/// What stands for an exporter of another's own, and after a processor of another's own, of which the program has
-/// none: it takes each batch and forgets it.
-#[derive(Drop)]
-pub struct NoExporter;
-
-impl SpanExporter for NoExporter {
-    ghost told = { λ _. None };
-
-    fn export(&mut self, _batch: Vec<SpanData>) -> OTelSdkResult {
-        Ok(())
-    }
-
-    fn shutdown_with_timeout(&mut self, _timeout: Duration) -> OTelSdkResult {
-        Ok(())
-    }
-
-    fn set_resource(&mut self, _resource: &Resource) {}
-}
-
-/// What stands for a sampler of another's own, of which the program has none: it drops every span.
-#[derive(Drop)]
-pub struct NoSampler;
-
-impl ShouldSample for NoSampler {
-    ghost use Rattle.std.specs.Prelude.{[]};
-    ghost use Rattle.otel_sampling.specs.declared.trace.sampler.SamplingDecision.TheVariants as decisions;
-
-    ghost answer = { λ _ _. record { decision = decisions.Drop; attributes = []; trace_state = [] } };
-
-    fn should_sample(
-        &self,
-        _parent_context: Option<&Context>,
-        _trace_id: TraceId,
-        _name: &str,
-        _span_kind: &SpanKind,
-        _attributes: &[KeyValue],
-        _links: &[Link],
-    ) -> Result<SamplingResult, AllocError> {
-        Ok(SamplingResult {
-            decision: SamplingDecision::Drop,
-            attributes: None,
-            trace_state: TraceState::new(),
-        })
-    }
 }
 
 /// The provider that is asked for. Where nobody reads how many spans a queue drops, its batch processor is eager.

@@ -25,6 +25,7 @@ pub enum Reason {
     Int,
     Bool,
     Link,
+    Exception,
     /// Its last field is to be a number.
     Number,
     FieldTooMany,
@@ -38,11 +39,15 @@ pub(crate) fn text_of(reason: Reason) -> &'static str
     match reason {
         Reason::NotUtf8 => "its bytes are not UTF-8",
         Reason::NoCommand => "no command has this word",
-        Reason::Start => "start wants a span, a name and a moment",
-        Reason::Child => "child wants a span, a parent, a name and a moment",
-        Reason::Remote => "remote wants a span, a traceparent, a name and a moment",
+        Reason::Start =>
+            "start wants a span, a name, a moment, and maybe internal, server, client, producer or consumer",
+        Reason::Child =>
+            "child wants a span, a parent, a name, a moment, and maybe internal, server, client, producer or consumer",
+        Reason::Remote =>
+            "remote wants a span, a traceparent, a name, a moment, and maybe internal, server, client, \
+            producer or consumer",
         Reason::Attr => "attr wants a span, a key and a value",
-        Reason::Event => "event wants a span, a name and a moment",
+        Reason::Event => "event wants a span, a name, a moment, and maybe a key and a value",
         Reason::Status => "status wants a span, and ok, or error and a text",
         Reason::Inject => "inject wants a span",
         Reason::End => "end wants a span and a moment",
@@ -50,6 +55,7 @@ pub(crate) fn text_of(reason: Reason) -> &'static str
         Reason::Int => "int wants a span, a key and an integer of 64 bits",
         Reason::Bool => "bool wants a span, a key, and true or false",
         Reason::Link => "link wants a span, and the span that it points to",
+        Reason::Exception => "exception wants a span, a type, a moment and a text",
         Reason::Number => "a moment is digits alone, at most 18446744073709551615",
         Reason::FieldTooMany => "a field too many",
         Reason::SpaceTooMany => "a space too many",
@@ -112,6 +118,7 @@ fn reason_of_word(word: &str) -> Reason
         "int" => Reason::Int,
         "bool" => Reason::Bool,
         "link" => Reason::Link,
+        "exception" => Reason::Exception,
         "flush" | "shutdown" => Reason::FieldTooMany,
         _ => Reason::NoCommand,
     }
@@ -125,11 +132,12 @@ fn reason_after(word: &str, fields: &str) -> Reason
     match wants {
         Reason::Run => reason_before_moment(fields, 0, wants),
         Reason::End => reason_before_moment(fields, 1, wants),
-        Reason::Start | Reason::Event => reason_before_moment(fields, 2, wants),
-        Reason::Child | Reason::Remote => reason_before_moment(fields, 3, wants),
+        Reason::Start | Reason::Event => reason_before_moment_and_more(fields, 2, wants),
+        Reason::Child | Reason::Remote => reason_before_moment_and_more(fields, 3, wants),
         Reason::Inject | Reason::FieldTooMany => reason_of_last(fields, wants),
         Reason::Status | Reason::Link => reason_before_text(fields, 1, wants),
         Reason::Attr | Reason::Int | Reason::Bool => reason_before_text(fields, 2, wants),
+        Reason::Exception => reason_before_text(fields, 3, wants),
         _ => Reason::NoCommand,
     }
 }
@@ -146,6 +154,16 @@ fn reason_before_moment(fields: &str, count: usize, wants: Reason) -> Reason
         }
     }
     reason_of_moment(rest, wants)
+}
+
+/// What is wrong where so many fields are wanted, a moment after them, and maybe more.
+fn reason_before_moment_and_more(fields: &str, count: usize, wants: Reason) -> Reason
+    ensures { ExplainsFields fields.now wants result }
+{
+    match reason_before_moment(fields, count, wants) {
+        Reason::FieldTooMany => wants,
+        reason => reason,
+    }
 }
 
 /// What is wrong where so many fields are wanted, and a text after them.

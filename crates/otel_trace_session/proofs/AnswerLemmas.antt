@@ -2,7 +2,7 @@
 use Rattle.std.proofs.Common.{◌≡◌, ◌∙◌, Bool, true, false, refl}
 use Rattle.otel_export.specs.KeptBatches.{OnlyAdds}
 use Rattle.otel_pipeline.specs.ProcessorKeeps.{OnlyAppends}
-use Rattle.otel_trace_lines.specs.Commands.{PlainCommand, start, child, remote, attr, event, status, inject, end, flush, run, shutdown, set_int, set_bool, link, is_end, plain_command}
+use Rattle.otel_trace_lines.specs.Commands.{PlainCommand, start, child, remote, attr, event, status, inject, end, flush, run, shutdown, set_int, set_bool, link, exception, event_with, is_end, plain_command}
 use Rattle.otel_trace_lines.specs.declared.command.Command.{Command}
 use Rattle.otel_trace_lines.specs.declared.reply.Answer.{Answer}
 use Rattle.otel_trace_session.specs.Actions.{action_of, ends_span}
@@ -11,14 +11,15 @@ use Rattle.otel_trace_session.specs.OpenSpans.{HaveHistories}
 use Rattle.otel_trace_session.specs.Shown.{session_losses, session_stored}
 use Rattle.otel_trace_session.specs.Stops.{Answers, CarriesOut, Refuses}
 use Rattle.otel_trace_session.specs.Turns.{SessionState}
-use Rattle.otel_trace_session.proofs.KeptLemmas.{adds_nothing, turn_loses_none}
+use Rattle.otel_pipeline.proofs.FirstKeeps.{adds_nothing}
+use Rattle.otel_trace_session.proofs.KeptLemmas.{turn_loses_none}
 use Rattle.otel_trace_session.proofs.NamedLemmas.{described}
 
 -- a command ends a span where its action does
 same_end : (command : PlainCommand) → ends_span (action_of command) ≡ is_end command
-same_end (start span name moment) = refl
-same_end (child span parent name moment) = refl
-same_end (remote span header name moment) = refl
+same_end (start span name moment kind) = refl
+same_end (child span parent name moment kind) = refl
+same_end (remote span header name moment kind) = refl
 same_end (attr span key value) = refl
 same_end (event span name moment) = refl
 same_end (status span how) = refl
@@ -30,6 +31,8 @@ same_end shutdown = refl
 same_end (set_int span key value) = refl
 same_end (set_bool span key value) = refl
 same_end (link span target) = refl
+same_end (exception span kind moment message) = refl
+same_end (event_with span name moment key value) = refl
 
 module _ {P S G : Type 0} (calls : Calls P S G) where
   -- a command that was carried out, and one that was refused, takes back no batch

@@ -3,6 +3,7 @@ use Rattle.std.proofs.Common.{◌≡◌, ℕ, List, [], Option, Some, None, Resu
 use Rattle.std.specs.Bool.{OnTrue, OnFalse}
 use Rattle.opentelemetry.specs.Plain.{PlainContext, PlainScope}
 use Rattle.opentelemetry.specs.PlainContexts.{root_cx}
+use Rattle.opentelemetry.specs.PlainSpanBuilder.{PlainSpanBuilder}
 use Rattle.otel_export.specs.declared.error.OTelSdkError.{OTelSdkError}
 use Rattle.otel_pipeline.specs.Deliveries.{Delivery, EachFollows}
 use Rattle.otel_pipeline.specs.ProcessorKeeps.{OnlyAppends}
@@ -61,20 +62,20 @@ module _ {P S G : Type 0} (calls : Calls P S G) (law : OnlyAppends calls.process
   carried action turn follows h = record { is_turn = h; follows = follows; adds = turn_grows calls law scope action turn h }
 
   -- a start, as a root, a child, or where a header says
-  pub carries_start : (p q : ProviderState P S G) (old new : NamedSpans) (span name : List ℕ) (moment : ℕ) (answer : Answer)
-      → TurnsFromAny (StartTurn calls (start_in scope root_cx span name moment)) p old answer q new → TurnsFromAny (IsCarriedOut calls scope (start_span at_root span name moment)) p old answer q new
-  carries_start p q old new span name moment answer = took_also _ _ p q old new answer
-      (λ turn h. carried (start_span at_root span name moment) turn (start_follows calls (turn.before.histories span) (start_in scope root_cx span name moment) turn h) h)
+  pub carries_start : (p q : ProviderState P S G) (old new : NamedSpans) (span : List ℕ) (builder : PlainSpanBuilder) (moment : ℕ) (answer : Answer)
+      → TurnsFromAny (StartTurn calls (start_in scope root_cx span builder moment)) p old answer q new → TurnsFromAny (IsCarriedOut calls scope (start_span at_root span builder moment)) p old answer q new
+  carries_start p q old new span builder moment answer = took_also _ _ p q old new answer
+      (λ turn h. carried (start_span at_root span builder moment) turn (start_follows calls (turn.before.histories span) (start_in scope root_cx span builder moment) turn h) h)
 
-  pub carries_child : (p q : ProviderState P S G) (old new : NamedSpans) (span parent name : List ℕ) (moment : ℕ) (answer : Answer)
-      → TurnsFromAny (Childs calls (start_in scope root_cx span name moment) parent) p old answer q new → TurnsFromAny (IsCarriedOut calls scope (start_span (under parent) span name moment)) p old answer q new
-  carries_child p q old new span parent name moment answer = took_also _ _ p q old new answer
-      (λ turn h. carried (start_span (under parent) span name moment) turn (child_follows calls (turn.before.histories parent) (start_in scope root_cx span name moment) turn h) h)
+  pub carries_child : (p q : ProviderState P S G) (old new : NamedSpans) (span parent : List ℕ) (builder : PlainSpanBuilder) (moment : ℕ) (answer : Answer)
+      → TurnsFromAny (Childs calls (start_in scope root_cx span builder moment) parent) p old answer q new → TurnsFromAny (IsCarriedOut calls scope (start_span (under parent) span builder moment)) p old answer q new
+  carries_child p q old new span parent builder moment answer = took_also _ _ p q old new answer
+      (λ turn h. carried (start_span (under parent) span builder moment) turn (child_follows calls (turn.before.histories parent) (start_in scope root_cx span builder moment) turn h) h)
 
-  pub carries_remote : (p q : ProviderState P S G) (old new : NamedSpans) (span header name : List ℕ) (moment : ℕ) (cx : PlainContext) (answer : Answer) → SaysContext header cx
-      → TurnsFromAny (StartTurn calls (start_in scope cx span name moment)) p old answer q new → TurnsFromAny (IsCarriedOut calls scope (start_span (from_header header) span name moment)) p old answer q new
-  carries_remote p q old new span header name moment cx answer says = took_also _ _ p q old new answer
-      (λ turn h. carried (start_span (from_header header) span name moment) turn (start_follows calls (turn.before.histories span) (start_in scope cx span name moment) turn h) (record { cx = cx; says = says; starts = h }))
+  pub carries_remote : (p q : ProviderState P S G) (old new : NamedSpans) (span header : List ℕ) (builder : PlainSpanBuilder) (moment : ℕ) (cx : PlainContext) (answer : Answer) → SaysContext header cx
+      → TurnsFromAny (StartTurn calls (start_in scope cx span builder moment)) p old answer q new → TurnsFromAny (IsCarriedOut calls scope (start_span (from_header header) span builder moment)) p old answer q new
+  carries_remote p q old new span header builder moment cx answer says = took_also _ _ p q old new answer
+      (λ turn h. carried (start_span (from_header header) span builder moment) turn (start_follows calls (turn.before.histories span) (start_in scope cx span builder moment) turn h) (record { cx = cx; says = says; starts = h }))
 
   -- an edit
   pub carries_edit : (p : ProviderState P S G) (old new : NamedSpans) (span : List ℕ) (edit : Edit) (answer : Answer) → Edits old span edit answer new → TurnsFromAny (IsCarriedOut calls scope (edit_span span edit)) p old answer p new

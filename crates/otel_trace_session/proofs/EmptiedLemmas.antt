@@ -68,7 +68,7 @@ module _ {P S G : Type 0} (calls : Calls P S G) where
   call_empties call_shutdown turn h is e = shutdown_leaves_none turn.before.provider.is_shut turn.before.provider turn.after.provider h.said h.gives (sym h.says ∙ e)
 
   one_empties : (scope : PlainScope) (action : PlainAction) (turn : Turn P S G) → TakesAction calls scope action turn → EmptiesIfOk calls.processor action turn.answer turn.after.provider.processors
-  one_empties scope (start_span origin span name moment) turn h is e = absurd (search (rules, is))
+  one_empties scope (start_span origin span builder moment) turn h is e = absurd (search (rules, is))
   one_empties scope (edit_span span edit) turn h is e = absurd (search (rules, is))
   one_empties scope (link_span span target) turn h is e = absurd (search (rules, is))
   one_empties scope (inject_span span) turn h is e = absurd (search (rules, is))

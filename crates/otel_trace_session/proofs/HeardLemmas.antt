@@ -3,6 +3,7 @@
 use Rattle.std.proofs.Common.{◌≡◌, ℕ, Bool, true, false, List, [], ◌∷◌, ◌++◌, map, Option, Some, None, Result, MatchBool, refl, sym, ◌∙◌, ap, subst}
 use Rattle.opentelemetry.specs.Plain.{PlainScope}
 use Rattle.opentelemetry.specs.PlainContexts.{root_cx}
+use Rattle.opentelemetry.specs.PlainSpanBuilder.{PlainSpanBuilder}
 use Rattle.otel_export.specs.declared.error.OTelSdkError.{OTelSdkError}
 use Rattle.otel_export.specs.PlainSpanData.{PlainSpanData}
 use Rattle.otel_pipeline.specs.Deliveries.{Delivery, EachFollows, EachOpenHears}
@@ -59,10 +60,10 @@ module _ {P S G : Type 0} (calls : Calls P S G) where
   end_closes_none (Some (over context limits)) span moment turn h = nobody_closes_none answers.Ignored turn.before.histories turn h
   end_closes_none (Some (begun from edits)) span moment turn h = delivery_closes_none turn.before.provider.is_shut _ turn.before.provider.processors turn.after.provider.processors h.refused h.delivered
 
-  origin_closes_none : (scope : PlainScope) (origin : PlainOrigin) (span name : List ℕ) (moment : ℕ) (turn : Turn P S G) → StartsFrom calls scope origin span name moment turn → StaysIn turn
-  origin_closes_none scope at_root span name moment turn h = start_closes_none (turn.before.histories span) (start_in scope root_cx span name moment) turn h
-  origin_closes_none scope (under parent) span name moment turn h = child_closes_none (turn.before.histories parent) (start_in scope root_cx span name moment) turn h
-  origin_closes_none scope (from_header header) span name moment turn h = start_closes_none (turn.before.histories span) (start_in scope h.cx span name moment) turn h.starts
+  origin_closes_none : (scope : PlainScope) (origin : PlainOrigin) (span : List ℕ) (builder : PlainSpanBuilder) (moment : ℕ) (turn : Turn P S G) → StartsFrom calls scope origin span builder moment turn → StaysIn turn
+  origin_closes_none scope at_root span builder moment turn h = start_closes_none (turn.before.histories span) (start_in scope root_cx span builder moment) turn h
+  origin_closes_none scope (under parent) span builder moment turn h = child_closes_none (turn.before.histories parent) (start_in scope root_cx span builder moment) turn h
+  origin_closes_none scope (from_header header) span builder moment turn h = start_closes_none (turn.before.histories span) (start_in scope h.cx span builder moment) turn h.starts
 
   call_closes_none : (call : PlainCall) (turn : Turn P S G) → is_shutdown (call_provider call) ≡ false → AsksProvider (CallGives calls call) turn → StaysIn turn
   call_closes_none call_flush turn e h =
@@ -73,7 +74,7 @@ module _ {P S G : Type 0} (calls : Calls P S G) where
 
   -- over any action but a shutdown
   one_closes_none : (scope : PlainScope) (action : PlainAction) (turn : Turn P S G) → is_shutdown action ≡ false → TakesAction calls scope action turn → StaysIn turn
-  one_closes_none scope (start_span origin span name moment) turn e h = origin_closes_none scope origin span name moment turn h
+  one_closes_none scope (start_span origin span builder moment) turn e h = origin_closes_none scope origin span builder moment turn h
   one_closes_none scope (edit_span span edit) turn e h = nobody_closes_none _ _ turn h
   one_closes_none scope (link_span span target) turn e h = nobody_closes_none _ _ turn h
   one_closes_none scope (inject_span span) turn e h = told_stays turn (ap (λ (c : Course P S G). map calls.processor.told c.provider.processors) h.rest)
@@ -94,14 +95,14 @@ module _ {P S G : Type 0} (calls : Calls P S G) where
   shut_end_delivers_none (Some (over context limits)) span moment turn shut h = h.delivers
   shut_end_delivers_none (Some (begun from edits)) span moment turn shut h = h.delivers ∙ end_delivers_none turn.before.provider.is_shut _ h.refused shut
 
-  origin_delivers_none : (scope : PlainScope) (origin : PlainOrigin) (span name : List ℕ) (moment : ℕ) (turn : Turn P S G) → StartsFrom calls scope origin span name moment turn → turn.delivered ≡ []
-  origin_delivers_none scope at_root span name moment turn h = start_delivers_none (turn.before.histories span) (start_in scope root_cx span name moment) turn h
-  origin_delivers_none scope (under parent) span name moment turn h = child_delivers_none (turn.before.histories parent) (start_in scope root_cx span name moment) turn h
-  origin_delivers_none scope (from_header header) span name moment turn h = start_delivers_none (turn.before.histories span) (start_in scope h.cx span name moment) turn h.starts
+  origin_delivers_none : (scope : PlainScope) (origin : PlainOrigin) (span : List ℕ) (builder : PlainSpanBuilder) (moment : ℕ) (turn : Turn P S G) → StartsFrom calls scope origin span builder moment turn → turn.delivered ≡ []
+  origin_delivers_none scope at_root span builder moment turn h = start_delivers_none (turn.before.histories span) (start_in scope root_cx span builder moment) turn h
+  origin_delivers_none scope (under parent) span builder moment turn h = child_delivers_none (turn.before.histories parent) (start_in scope root_cx span builder moment) turn h
+  origin_delivers_none scope (from_header header) span builder moment turn h = start_delivers_none (turn.before.histories span) (start_in scope h.cx span builder moment) turn h.starts
 
   -- at a shut provider no action delivers anything
   shut_delivers_none : (scope : PlainScope) (action : PlainAction) (turn : Turn P S G) → turn.before.provider.is_shut ≡ true → TakesAction calls scope action turn → turn.delivered ≡ []
-  shut_delivers_none scope (start_span origin span name moment) turn shut h = origin_delivers_none scope origin span name moment turn h
+  shut_delivers_none scope (start_span origin span builder moment) turn shut h = origin_delivers_none scope origin span builder moment turn h
   shut_delivers_none scope (edit_span span edit) turn shut h = h.delivers
   shut_delivers_none scope (link_span span target) turn shut h = h.delivers
   shut_delivers_none scope (inject_span span) turn shut h = h.delivers
@@ -120,7 +121,7 @@ module _ {P S G : Type 0} (calls : Calls P S G) where
   call_shuts call_shutdown turn e h = shut_by (shut_answer turn.before.provider.is_disabled turn.before.provider.processors) turn.before.provider.is_shut turn.before.provider turn.after.provider h.said refl h.gives
 
   shutdown_shuts : (scope : PlainScope) (action : PlainAction) (turn : Turn P S G) → is_shutdown action ≡ true → TakesAction calls scope action turn → (turn.after.provider.is_shut ≡ true) × (turn.delivered ≡ [])
-  shutdown_shuts scope (start_span origin span name moment) turn e h = cc
+  shutdown_shuts scope (start_span origin span builder moment) turn e h = cc
   shutdown_shuts scope (edit_span span edit) turn e h = cc
   shutdown_shuts scope (link_span span target) turn e h = cc
   shutdown_shuts scope (inject_span span) turn e h = cc

@@ -10,6 +10,7 @@ use Rattle.std.specs.String.{string_cmp}
 use Rattle.std.proofs.lemmas.Map.Text.{btree_map_updates_text, is_eq-slice_cmp}
 use Rattle.opentelemetry.proofs.TextMapLemmas.{equal_from}
 use Rattle.opentelemetry.specs.Plain.{PlainContext}
+use Rattle.opentelemetry.specs.PlainSpanBuilder.{PlainSpanBuilder}
 use Rattle.otel_pipeline.specs.Provider.{ProviderState}
 use Rattle.std.specs.Option.{option_map}
 use Rattle.otel_pipeline.specs.SpanHistory.{PlainSpan, SpanHistory, HasHistory, Edit, edited, edited_if, ended, span_of}
@@ -74,17 +75,17 @@ on_err_both (Err e) f h k = f h k
 
 module _ {P S G : Type 0} (calls : Calls P S G) where
   -- a start that is refused, under a name that has no span
-  pub may_start_free : (p q : ProviderState P S G) (cx : PlainContext) (name : List ℕ) (now : ℕ) (found : Option PlainSpan)
-      → found ≡ None → MayStart calls p cx name now None q → MayStart calls p cx name now found q
-  may_start_free p q cx name now found free h = subst (λ (o : Option PlainSpan). MayStart calls p cx name now o q) (sym free) h
+  pub may_start_free : (p q : ProviderState P S G) (cx : PlainContext) (builder : PlainSpanBuilder) (now : ℕ) (found : Option PlainSpan)
+      → found ≡ None → MayStart calls p cx builder now None q → MayStart calls p cx builder now found q
+  may_start_free p q cx builder now found free h = subst (λ (o : Option PlainSpan). MayStart calls p cx builder now o q) (sym free) h
 
   -- a start that is refused leaves each processor as it was
-  pub refused_start_asks_none : (p q : ProviderState P S G) (cx : PlainContext) (name : List ℕ) (now : ℕ) (found : Option PlainSpan) → MayStart calls p cx name now found q → q.processors ≡ p.processors
-  refused_start_asks_none p q cx name now (Some span) h = absurd h
-  refused_start_asks_none p q cx name now None (inl e) = ap (λ (r : ProviderState P S G). r.processors) e
-  refused_start_asks_none p q cx name now None (inr h) = ap (λ (r : ProviderState P S G). r.processors) h.rest
+  pub refused_start_asks_none : (p q : ProviderState P S G) (cx : PlainContext) (builder : PlainSpanBuilder) (now : ℕ) (found : Option PlainSpan) → MayStart calls p cx builder now found q → q.processors ≡ p.processors
+  refused_start_asks_none p q cx builder now (Some span) h = absurd h
+  refused_start_asks_none p q cx builder now None (inl e) = ap (λ (r : ProviderState P S G). r.processors) e
+  refused_start_asks_none p q cx builder now None (inr h) = ap (λ (r : ProviderState P S G). r.processors) h.rest
 
-  pub refused_child_asks_none : (p q : ProviderState P S G) (parent : Option PlainSpan) (name : List ℕ) (now : ℕ) (found : Option PlainSpan) → ChildMayStart calls p parent name now found q → q.processors ≡ p.processors
+  pub refused_child_asks_none : (p q : ProviderState P S G) (parent : Option PlainSpan) (builder : PlainSpanBuilder) (now : ℕ) (found : Option PlainSpan) → ChildMayStart calls p parent builder now found q → q.processors ≡ p.processors
   refused_child_asks_none p q None name now found e = ap (λ (r : ProviderState P S G). r.processors) e
   refused_child_asks_none p q (Some parent) name now found (inl e) = ap (λ (r : ProviderState P S G). r.processors) e
   refused_child_asks_none p q (Some parent) name now found (inr h) = refused_start_asks_none p q (child_cx parent.span_context) name now found h

@@ -13,8 +13,8 @@ use Rattle.otel_trace_session.specs.OpenSpans.{Histories}
 use Rattle.otel_trace_session.specs.Shown.{Shows, all_stored, exported_in}
 use Rattle.otel_trace_session.specs.Turn.{Course, Turn}
 use Rattle.otel_trace_session.specs.Turns.{AreTurns, SessionState, course_of, reply_of}
-use Rattle.otel_trace_session.proofs.KeptLemmas.{shutdown_grows}
-use Rattle.otel_trace_session.proofs.TakingLemmas.{taken_all}
+use Rattle.otel_pipeline.proofs.FirstKeeps.{shutdown_grows}
+use Rattle.otel_pipeline.proofs.FirstKeeps.{taken_all}
 
 abbrev Batches : Type 0
 Batches = List (List PlainSpanData)

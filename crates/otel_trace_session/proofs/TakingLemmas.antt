@@ -2,13 +2,13 @@
 use Rattle.std.proofs.Common.{◌≡◌, ◌∙◌, suc, List, [], ◌∷◌, ℕ, All, map, refl, sum_by, sym, ap, subst, arith}
 use Rattle.std.proofs.lemmas.List.Elements.{All-cons}
 use Rattle.std.proofs.lemmas.List.Sums.{sum_by-cons}
-use Rattle.otel_export.specs.StoredBatches.{all_taken}
 use Rattle.otel_pipeline.specs.Deliveries.{Delivery, EachFollows, EachOpenHears}
 use Rattle.otel_pipeline.specs.ProcessorKeeps.{TakesBatches}
 use Rattle.otel_pipeline.specs.Provider.{ProviderState}
 use Rattle.otel_pipeline.specs.declared.trace.span_processor.SpanProcessor.{Ghosts}
+use Rattle.otel_pipeline.proofs.FirstKeeps.{taken_told}
 use Rattle.otel_pipeline.proofs.Following.{EachFollows-append, EachFollows-same, hears_no_delivery, hears_on, stays_same}
-use Rattle.otel_trace_session.specs.Calls.{Calls, stored_of_first}
+use Rattle.otel_trace_session.specs.Calls.{Calls}
 use Rattle.otel_trace_session.specs.Taking.{TakesFirst}
 use Rattle.otel_trace_session.specs.Turn.{Course}
 use Rattle.otel_trace_session.specs.Turns.{Replied}
@@ -21,12 +21,6 @@ module _ {P S G : Type 0} (calls : Calls P S G) where
   abbrev Takes : List P → List P → Type 0
   Takes ps qs = TakesFirst calls.processor calls.queues calls.keeps ps qs
 
-  taken_told : (ps qs : List P) → Takes ps qs → map calls.processor.told qs ≡ map calls.processor.told ps
-  taken_told [] qs h = ap (map calls.processor.told) h
-  taken_told (p ∷ ps) [] h = absurd h
-  taken_told (p ∷ ps) (q ∷ qs) h =
-      ap (λ (l : List P). calls.processor.told q ∷ map calls.processor.told l) h.2 ∙ ap (λ t. t ∷ map calls.processor.told ps) h.0.told
-
   taken_empty : (ps qs : List P) → Takes ps qs → NoneWaits calls.processor ps → NoneWaits calls.processor qs
   taken_empty [] qs h none = subst (NoneWaits calls.processor) (sym h) none
   taken_empty (p ∷ ps) [] h none = absurd h
@@ -34,12 +28,6 @@ module _ {P S G : Type 0} (calls : Calls P S G) where
       subst (λ (l : List P). NoneWaits calls.processor (q ∷ l)) (sym h.2)
       (All-cons (λ x. (calls.processor.told x).waiting ≡ 0) q ps (ap (λ t. t.waiting) h.0.told ∙ none 0 p (omega arith))
       (λ k d within. none (suc k) d (omega (arith, within))))
-
-  -- what the first processor has stored is all taken
-  pub taken_all : (ps qs : List P) → Takes ps qs → stored_of_first calls.keeps qs ≡ all_taken (stored_of_first calls.keeps ps)
-  taken_all [] qs h = ap (stored_of_first calls.keeps) h
-  taken_all (p ∷ ps) [] h = absurd h
-  taken_all (p ∷ ps) (q ∷ qs) h = h.0.taken
 
   -- as many are counted
   taken_counts : (count : P → ℕ) → ((p q : P) → TakesBatches calls.processor calls.queues calls.keeps.stored p q → count q ≡ count p) → (ps qs : List P) → Takes ps qs → sum_by count qs ≡ sum_by count ps
@@ -57,7 +45,7 @@ module _ {P S G : Type 0} (calls : Calls P S G) where
 
   module _ (course next : Course P S G) (replied : Replied calls course next) where
     pub replied_told : map calls.processor.told next.provider.processors ≡ map calls.processor.told course.provider.processors
-    replied_told = taken_told course.provider.processors next.provider.processors replied.takes.first
+    replied_told = taken_told calls course.provider.processors next.provider.processors replied.takes.first
 
     pub replied_empty : NoneWaits calls.processor course.provider.processors → NoneWaits calls.processor next.provider.processors
     replied_empty = taken_empty course.provider.processors next.provider.processors replied.takes.first

@@ -4,6 +4,7 @@ use Rattle.std.proofs.lemmas.Option.{none-some, same_Some}
 use Rattle.std.specs.Option.{option_map}
 use Rattle.opentelemetry.specs.Plain.{PlainScope, PlainSpanContext}
 use Rattle.opentelemetry.specs.PlainContexts.{root_cx}
+use Rattle.opentelemetry.specs.PlainSpanBuilder.{PlainSpanBuilder}
 use Rattle.otel_sampling.specs.Agreement.{Agrees}
 use Rattle.otel_pipeline.specs.Hops.{GoesByParents}
 use Rattle.otel_pipeline.specs.Provider.{unstarted_context, ProviderState}
@@ -101,19 +102,19 @@ true_is_no true e f = cc
 true_is_no false e f = cc
 
 -- a child that was not started joins no trace
-not_made : (root : PlainSpanContext) (is_in : List ℕ → Bool) (histories : Histories) (span parent name : List ℕ) (moment : ℕ) (answer : Answer) → made_span answer ≡ false → EachAgrees root is_in histories
-    → EachAgrees root (with_child is_in (start_span (under parent) span name moment) answer) histories
-not_made root is_in histories span parent name moment answer none agree q e = by (which (is_in q) (is_name q span) (is_in parent) (made_span answer) e)
+not_made : (root : PlainSpanContext) (is_in : List ℕ → Bool) (histories : Histories) (span parent : List ℕ) (builder : PlainSpanBuilder) (moment : ℕ) (answer : Answer) → made_span answer ≡ false → EachAgrees root is_in histories
+    → EachAgrees root (with_child is_in (start_span (under parent) span builder moment) answer) histories
+not_made root is_in histories span parent builder moment answer none agree q e = by (which (is_in q) (is_name q span) (is_in parent) (made_span answer) e)
   where
     by : (is_in q ≡ true) ⊎ ((is_name q span ≡ true) × (is_in parent ≡ true) × (made_span answer ≡ true)) → (h : SpanHistory) × (histories q ≡ Some h) × Agrees root (context_of h)
     by (inl is) = agree q is
     by (inr also) = absurd (true_is_no (made_span answer) none also.2)
 
 -- one that was started, of what its parent and it came to be
-joined : (root : PlainSpanContext) (is_in : List ℕ → Bool) (histories : Histories) (span parent name : List ℕ) (moment : ℕ) (answer : Answer) (father new : SpanHistory)
+joined : (root : PlainSpanContext) (is_in : List ℕ → Bool) (histories : Histories) (span parent : List ℕ) (builder : PlainSpanBuilder) (moment : ℕ) (answer : Answer) (father new : SpanHistory)
     → histories parent ≡ Some father → histories span ≡ Some new → (Agrees root (context_of father) → Agrees root (context_of new)) → EachAgrees root is_in histories
-    → EachAgrees root (with_child is_in (start_span (under parent) span name moment) answer) histories
-joined root is_in histories span parent name moment answer father new is_father is_new also agree q e = by (which (is_in q) (is_name q span) (is_in parent) (made_span answer) e)
+    → EachAgrees root (with_child is_in (start_span (under parent) span builder moment) answer) histories
+joined root is_in histories span parent builder moment answer father new is_father is_new also agree q e = by (which (is_in q) (is_name q span) (is_in parent) (made_span answer) e)
   where
     by : (is_in q ≡ true) ⊎ ((is_name q span ≡ true) × (is_in parent ≡ true) × (made_span answer ≡ true)) → (h : SpanHistory) × (histories q ≡ Some h) × Agrees root (context_of h)
     by (inl is) = agree q is
@@ -154,14 +155,14 @@ module _ {P S G : Type 0} (calls : Calls P S G) where
   end_persists (Some (begun from edits)) span moment turn e h =
       subst (Persists turn.before.histories) (sym h.histories) (again_persists turn.before.histories span (begun from edits) (over from.span_context from.limits) e refl)
 
-  origin_persists : (scope : PlainScope) (origin : PlainOrigin) (span name : List ℕ) (moment : ℕ) (turn : Turn P S G) → StartsFrom calls scope origin span name moment turn → PersistsIn turn
-  origin_persists scope at_root span name moment turn h = start_persists (turn.before.histories span) (start_in scope root_cx span name moment) turn refl h
-  origin_persists scope (under parent) span name moment turn h = child_persists (turn.before.histories parent) (start_in scope root_cx span name moment) turn h
-  origin_persists scope (from_header header) span name moment turn h = start_persists (turn.before.histories span) (start_in scope h.cx span name moment) turn refl h.starts
+  origin_persists : (scope : PlainScope) (origin : PlainOrigin) (span : List ℕ) (builder : PlainSpanBuilder) (moment : ℕ) (turn : Turn P S G) → StartsFrom calls scope origin span builder moment turn → PersistsIn turn
+  origin_persists scope at_root span builder moment turn h = start_persists (turn.before.histories span) (start_in scope root_cx span builder moment) turn refl h
+  origin_persists scope (under parent) span builder moment turn h = child_persists (turn.before.histories parent) (start_in scope root_cx span builder moment) turn h
+  origin_persists scope (from_header header) span builder moment turn h = start_persists (turn.before.histories span) (start_in scope h.cx span builder moment) turn refl h.starts
 
   -- over any action
   one_persists : (scope : PlainScope) (action : PlainAction) (turn : Turn P S G) → TakesAction calls scope action turn → PersistsIn turn
-  one_persists scope (start_span origin span name moment) turn h = origin_persists scope origin span name moment turn h
+  one_persists scope (start_span origin span builder moment) turn h = origin_persists scope origin span builder moment turn h
   one_persists scope (edit_span span edit) turn h = edit_persists _ span _ turn h
   one_persists scope (link_span span target) turn h = link_persists (turn.before.histories target) _ span turn h
   one_persists scope (inject_span span) turn h = same_persists turn (ap (λ (c : Course P S G). c.histories) h.rest)
@@ -196,10 +197,10 @@ module _ {P S G : Type 0} (calls : Calls P S G) where
   end_stays (Some (over context limits)) span moment turn h = nobody_stays answers.Ignored turn.before.histories turn h
   end_stays (Some (begun from edits)) span moment turn h = stays turn.before.provider turn.after.provider (record turn.before.provider { processors = turn.after.provider.processors }) h.provider (refl, refl)
 
-  origin_stays : (scope : PlainScope) (origin : PlainOrigin) (span name : List ℕ) (moment : ℕ) (turn : Turn P S G) → StartsFrom calls scope origin span name moment turn → Stays turn.before.provider turn.after.provider
-  origin_stays scope at_root span name moment turn h = start_stays (turn.before.histories span) (start_in scope root_cx span name moment) turn h
-  origin_stays scope (under parent) span name moment turn h = child_stays (turn.before.histories parent) (start_in scope root_cx span name moment) turn h
-  origin_stays scope (from_header header) span name moment turn h = start_stays (turn.before.histories span) (start_in scope h.cx span name moment) turn h.starts
+  origin_stays : (scope : PlainScope) (origin : PlainOrigin) (span : List ℕ) (builder : PlainSpanBuilder) (moment : ℕ) (turn : Turn P S G) → StartsFrom calls scope origin span builder moment turn → Stays turn.before.provider turn.after.provider
+  origin_stays scope at_root span builder moment turn h = start_stays (turn.before.histories span) (start_in scope root_cx span builder moment) turn h
+  origin_stays scope (under parent) span builder moment turn h = child_stays (turn.before.histories parent) (start_in scope root_cx span builder moment) turn h
+  origin_stays scope (from_header header) span builder moment turn h = start_stays (turn.before.histories span) (start_in scope h.cx span builder moment) turn h.starts
 
   call_stays : (call : PlainCall) (turn : Turn P S G) → is_shutdown (call_provider call) ≡ false → AsksProvider (CallGives calls call) turn → Stays turn.before.provider turn.after.provider
   call_stays call_flush turn e h = stays turn.before.provider turn.after.provider (record turn.before.provider { processors = turn.after.provider.processors }) h.gives.rest (refl, refl)
@@ -208,7 +209,7 @@ module _ {P S G : Type 0} (calls : Calls P S G) where
 
   -- over any action but a shutdown
   pub one_stays : (scope : PlainScope) (action : PlainAction) (turn : Turn P S G) → is_shutdown action ≡ false → TakesAction calls scope action turn → Stays turn.before.provider turn.after.provider
-  one_stays scope (start_span origin span name moment) turn e h = origin_stays scope origin span name moment turn h
+  one_stays scope (start_span origin span builder moment) turn e h = origin_stays scope origin span builder moment turn h
   one_stays scope (edit_span span edit) turn e h = nobody_stays _ _ turn h
   one_stays scope (link_span span target) turn e h = nobody_stays _ _ turn h
   one_stays scope (inject_span span) turn e h = stays turn.before.provider turn.after.provider turn.before.provider (ap (λ (c : Course P S G). c.provider) h.rest) (refl, refl)
@@ -216,41 +217,41 @@ module _ {P S G : Type 0} (calls : Calls P S G) where
   one_stays scope (call_provider call) turn e h = call_stays call turn e h
 
   -- a child joins the traces of its parent
-  taken_joins : (found : Option SpanHistory) (scope : PlainScope) (root : PlainSpanContext) (is_in : List ℕ → Bool) (last : Histories) (turn : Turn P S G) (span parent name : List ℕ) (moment : ℕ) (father : SpanHistory)
+  taken_joins : (found : Option SpanHistory) (scope : PlainScope) (root : PlainSpanContext) (is_in : List ℕ → Bool) (last : Histories) (turn : Turn P S G) (span parent : List ℕ) (builder : PlainSpanBuilder) (moment : ℕ) (father : SpanHistory)
       → GoesByParents calls.sampler turn.before.provider.sampler → turn.before.provider.is_shut ≡ false → turn.before.histories parent ≡ Some father → Persists turn.before.histories last → Persists turn.after.histories last → EachAgrees root is_in last
-      → StartsAfter calls found (start_in scope (child_cx (span_of father).span_context) span name moment) turn → EachAgrees root (with_child is_in (start_span (under parent) span name moment) turn.answer) last
-  taken_joins (Some history) scope root is_in last turn span parent name moment father by_parents is_open there before after agree h =
-      not_made root is_in last span parent name moment turn.answer (ap made_span h.says) agree
-  taken_joins None scope root is_in last turn span parent name moment father by_parents is_open there before after agree h =
+      → StartsAfter calls found (start_in scope (child_cx (span_of father).span_context) span builder moment) turn → EachAgrees root (with_child is_in (start_span (under parent) span builder moment) turn.answer) last
+  taken_joins (Some history) scope root is_in last turn span parent builder moment father by_parents is_open there before after agree h =
+      not_made root is_in last span parent builder moment turn.answer (ap made_span h.says) agree
+  taken_joins None scope root is_in last turn span parent builder moment father by_parents is_open there before after agree h =
       let cx = child_cx (span_of father).span_context in
-      let is_child = child_of_start calls.processor calls.sampler calls.ids turn.before.provider turn.after.provider (request_of (start_in scope cx span name moment)) h.history (span_of father).span_context by_parents is_open refl refl h.starts in
+      let is_child = child_of_start calls.processor calls.sampler calls.ids turn.before.provider turn.after.provider (request_of (start_in scope cx span builder moment)) h.history (span_of father).span_context by_parents is_open refl refl h.starts in
       let put : turn.after.histories span ≡ Some h.history = ap (λ (histories : Histories). histories span) h.histories ∙ put_there (is_name span span) h.history (turn.before.histories span) (is_itself span) in
       let then_father = before parent father there in
       let then_child = after span h.history put in
-      joined root is_in last span parent name moment turn.answer then_father.0 then_child.0 then_father.1 then_child.1
+      joined root is_in last span parent builder moment turn.answer then_father.0 then_child.0 then_father.1 then_child.1
       (λ agrees. subst (Agrees root) (sym then_child.2) (child_agrees root (context_of father) (context_of h.history) (subst (Agrees root) then_father.2 agrees) is_child)) agree
 
-  child_joins : (found : Option SpanHistory) (scope : PlainScope) (root : PlainSpanContext) (is_in : List ℕ → Bool) (last : Histories) (turn : Turn P S G) (span parent name : List ℕ) (moment : ℕ)
+  child_joins : (found : Option SpanHistory) (scope : PlainScope) (root : PlainSpanContext) (is_in : List ℕ → Bool) (last : Histories) (turn : Turn P S G) (span parent : List ℕ) (builder : PlainSpanBuilder) (moment : ℕ)
       → GoesByParents calls.sampler turn.before.provider.sampler → turn.before.provider.is_shut ≡ false → turn.before.histories parent ≡ found → Persists turn.before.histories last → Persists turn.after.histories last → EachAgrees root is_in last
-      → ChildTurn calls (start_in scope root_cx span name moment) found turn → EachAgrees root (with_child is_in (start_span (under parent) span name moment) turn.answer) last
-  child_joins None scope root is_in last turn span parent name moment by_parents is_open e before after agree h =
-      not_made root is_in last span parent name moment turn.answer (ap made_span h.says) agree
-  child_joins (Some father) scope root is_in last turn span parent name moment by_parents is_open e before after agree h =
-      taken_joins (turn.before.histories span) scope root is_in last turn span parent name moment father by_parents is_open e before after agree h
+      → ChildTurn calls (start_in scope root_cx span builder moment) found turn → EachAgrees root (with_child is_in (start_span (under parent) span builder moment) turn.answer) last
+  child_joins None scope root is_in last turn span parent builder moment by_parents is_open e before after agree h =
+      not_made root is_in last span parent builder moment turn.answer (ap made_span h.says) agree
+  child_joins (Some father) scope root is_in last turn span parent builder moment by_parents is_open e before after agree h =
+      taken_joins (turn.before.histories span) scope root is_in last turn span parent builder moment father by_parents is_open e before after agree h
 
-  origin_joins : (scope : PlainScope) (root : PlainSpanContext) (is_in : List ℕ → Bool) (last : Histories) (origin : PlainOrigin) (span name : List ℕ) (moment : ℕ) (turn : Turn P S G)
+  origin_joins : (scope : PlainScope) (root : PlainSpanContext) (is_in : List ℕ → Bool) (last : Histories) (origin : PlainOrigin) (span : List ℕ) (builder : PlainSpanBuilder) (moment : ℕ) (turn : Turn P S G)
       → GoesByParents calls.sampler turn.before.provider.sampler → turn.before.provider.is_shut ≡ false → Persists turn.before.histories last → Persists turn.after.histories last → EachAgrees root is_in last
-      → StartsFrom calls scope origin span name moment turn → EachAgrees root (with_child is_in (start_span origin span name moment) turn.answer) last
-  origin_joins scope root is_in last at_root span name moment turn by_parents is_open before after agree h = agree
-  origin_joins scope root is_in last (under parent) span name moment turn by_parents is_open before after agree h =
-      child_joins (turn.before.histories parent) scope root is_in last turn span parent name moment by_parents is_open refl before after agree h
-  origin_joins scope root is_in last (from_header header) span name moment turn by_parents is_open before after agree h = agree
+      → StartsFrom calls scope origin span builder moment turn → EachAgrees root (with_child is_in (start_span origin span builder moment) turn.answer) last
+  origin_joins scope root is_in last at_root span builder moment turn by_parents is_open before after agree h = agree
+  origin_joins scope root is_in last (under parent) span builder moment turn by_parents is_open before after agree h =
+      child_joins (turn.before.histories parent) scope root is_in last turn span parent builder moment by_parents is_open refl before after agree h
+  origin_joins scope root is_in last (from_header header) span builder moment turn by_parents is_open before after agree h = agree
 
   one_joins : (scope : PlainScope) (root : PlainSpanContext) (is_in : List ℕ → Bool) (last : Histories) (action : PlainAction) (turn : Turn P S G)
       → GoesByParents calls.sampler turn.before.provider.sampler → turn.before.provider.is_shut ≡ false → Persists turn.before.histories last → Persists turn.after.histories last → EachAgrees root is_in last
       → TakesAction calls scope action turn → EachAgrees root (with_child is_in action turn.answer) last
-  one_joins scope root is_in last (start_span origin span name moment) turn by_parents is_open before after agree h =
-      origin_joins scope root is_in last origin span name moment turn by_parents is_open before after agree h
+  one_joins scope root is_in last (start_span origin span builder moment) turn by_parents is_open before after agree h =
+      origin_joins scope root is_in last origin span builder moment turn by_parents is_open before after agree h
   one_joins scope root is_in last (edit_span span edit) turn by_parents is_open before after agree h = agree
   one_joins scope root is_in last (link_span span target) turn by_parents is_open before after agree h = agree
   one_joins scope root is_in last (inject_span span) turn by_parents is_open before after agree h = agree

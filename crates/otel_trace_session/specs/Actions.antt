@@ -1,10 +1,13 @@
 -- What a command does, whatever its words: it starts a span, edits one, links it to another, tells its headers, ends
 -- it, or calls the provider.
-use Rattle.std.specs.Prelude.{ℕ, Bool, true, false, List, [], string_bytes}
-use Rattle.opentelemetry.specs.Plain.{PlainValue, boolean, integer, text}
-use Rattle.otel_pipeline.specs.SpanEdits.{Edit, add_event, plain_edit, set_attribute, set_status}
+use Rattle.std.specs.Prelude.{ℕ, Bool, true, false, List, [], ◌∷◌, Option, Some, None, string_bytes}
+use Rattle.opentelemetry.specs.Plain.{PlainKeyValue, PlainValue, boolean, integer, text}
+use Rattle.opentelemetry.specs.PlainSpanBuilder.{PlainSpanBuilder, named_builder}
+use Rattle.opentelemetry.specs.declared.trace.span_kind.SpanKind.{SpanKind}
+use Rattle.otel_pipeline.specs.Exceptions.{PlainException, exception_event}
+use Rattle.otel_pipeline.specs.SpanEdits.{Edit, add_event, new_event, plain_edit, set_attribute, set_status}
 use Rattle.otel_trace_lines.specs.Commands.{PlainCommand, start, child, remote, attr, event, status, inject, end, flush}
-use Rattle.otel_trace_lines.specs.Commands.{run, shutdown, set_int, set_bool, link}
+use Rattle.otel_trace_lines.specs.Commands.{run, shutdown, set_int, set_bool, link, exception, event_with}
 use Rattle.otel_trace_session.specs.declared.actions.Action.{Action}
 use Rattle.otel_trace_session.specs.declared.actions.Action.TheVariants as actions
 use Rattle.otel_trace_session.specs.declared.actions.Origin.{Origin}
@@ -25,8 +28,8 @@ pub data PlainCall : Type 0 where
   call_shutdown : PlainCall
 
 pub data PlainAction : Type 0 where
-  -- where the span starts, its name in commands, its own name, the moment
-  start_span : PlainOrigin → List ℕ → List ℕ → ℕ → PlainAction
+  -- where the span starts, its name in commands, what it starts with, the moment
+  start_span : PlainOrigin → List ℕ → PlainSpanBuilder → ℕ → PlainAction
   -- the span's name in commands, the edit
   edit_span : List ℕ → Edit → PlainAction
   inject_span : List ℕ → PlainAction
@@ -36,10 +39,17 @@ pub data PlainAction : Type 0 where
   -- the span's name in commands, the name of the span that it points to
   link_span : List ℕ → List ℕ → PlainAction
 
--- an event without attributes
-abbrev pub bare_event : List ℕ → ℕ → Edit
-bare_event name moment =
-    add_event (record { name = name; timestamp = moment; attributes = []; dropped_attributes_count = 0 })
+-- a name, and a kind, if one is given
+abbrev pub builder_of : List ℕ → Option SpanKind → PlainSpanBuilder
+builder_of name kind = record (named_builder name) { span_kind = kind }
+
+-- the edit that adds an event
+abbrev pub event_edit : List ℕ → ℕ → List PlainKeyValue → Edit
+event_edit name moment attributes = add_event (new_event name moment attributes)
+
+-- an error of which the message and the type are known
+abbrev pub exception_with : List ℕ → List ℕ → PlainException
+exception_with message kind = record { message = message; exception_type = Some kind; stacktrace = None }
 
 -- the edit that sets an attribute
 abbrev pub attribute_edit : List ℕ → PlainValue → Edit
@@ -47,11 +57,11 @@ attribute_edit key value = set_attribute (record { key = key; value = value })
 
 -- what a command does
 abbrev pub action_of : PlainCommand → PlainAction
-action_of (start span name moment) = start_span at_root span name moment
-action_of (child span parent name moment) = start_span (under parent) span name moment
-action_of (remote span header name moment) = start_span (from_header header) span name moment
+action_of (start span name moment kind) = start_span at_root span (builder_of name kind) moment
+action_of (child span parent name moment kind) = start_span (under parent) span (builder_of name kind) moment
+action_of (remote span header name moment kind) = start_span (from_header header) span (builder_of name kind) moment
 action_of (attr span key value) = edit_span span (attribute_edit key (text value))
-action_of (event span name moment) = edit_span span (bare_event name moment)
+action_of (event span name moment) = edit_span span (event_edit name moment [])
 action_of (status span how) = edit_span span (set_status how)
 action_of (inject span) = inject_span span
 action_of (end span moment) = end_span span moment
@@ -61,6 +71,10 @@ action_of shutdown = call_provider call_shutdown
 action_of (set_int span key value) = edit_span span (attribute_edit key (integer value))
 action_of (set_bool span key value) = edit_span span (attribute_edit key (boolean value))
 action_of (link span target) = link_span span target
+action_of (exception span kind moment message) =
+    edit_span span (add_event (exception_event (exception_with message kind) moment))
+action_of (event_with span name moment key value) =
+    edit_span span (event_edit name moment (record { key = key; value = text value } ∷ []))
 
 -- whether an action may end a span
 abbrev pub ends_span : PlainAction → Bool
@@ -95,10 +109,14 @@ plain_call (calls.Run moment) = call_run moment.0
 plain_call calls.Shutdown = call_shutdown
 
 abbrev pub plain_action : Action → PlainAction
-plain_action (actions.Start origin span name moment) =
-    start_span (plain_origin origin) (string_bytes span) (string_bytes name) moment.0
+plain_action (actions.Start origin span builder moment) =
+    start_span (plain_origin origin) (string_bytes span) builder moment.0
 plain_action (actions.Edit span edit) = edit_span (string_bytes span) (plain_edit edit)
 plain_action (actions.Inject span) = inject_span (string_bytes span)
 plain_action (actions.End span moment) = end_span (string_bytes span) moment.0
 plain_action (actions.Call call) = call_provider (plain_call call)
 plain_action (actions.Link span target) = link_span (string_bytes span) (string_bytes target)
+plain_action (actions.Exception span met moment) =
+    edit_span (string_bytes span) (add_event (exception_event met moment.0))
+plain_action (actions.EventWithAttribute span name moment attribute) =
+    edit_span (string_bytes span) (event_edit (string_bytes name) moment.0 (attribute ∷ []))

@@ -77,5 +77,5 @@ module _ {P S G : Type 0} (calls : Calls P S G) where
   FeedsJoin = (dialect : Dialect) (old middle new : SessionState P S G) (first second : List ℕ) (bad_line : Option ℕ)
       (replies more : List PlainReply) → IsEmptyOrEndsWith first 10
       → FeedsUpTo calls dialect old first None replies middle → FeedsUpTo calls dialect middle second bad_line more new
-      → FeedsUpTo calls dialect old (first ++ second) (option_map (λ n. length (lines first) + n) bad_line) (replies ++ more)
-      new
+      → FeedsUpTo calls dialect old (first ++ second) (option_map (λ n. length (lines first) + n) bad_line)
+      (replies ++ more) new

@@ -7,7 +7,7 @@ use Rattle.std.specs.Ordering.{nat_cmp}
 use Rattle.std.specs.Cmp.Lexicographic.{slice_cmp}
 use Rattle.std.specs.BTreeMap.{is_at}
 use Rattle.opentelemetry.specs.Plain.{PlainContext}
-use Rattle.opentelemetry.specs.PlainSpanBuilder.{named_builder}
+use Rattle.opentelemetry.specs.PlainSpanBuilder.{PlainSpanBuilder}
 use Rattle.otel_pipeline.specs.SpanHistory.{PlainSpan, SpanHistory, HasHistory, begun, over, span_of, Edit}
 use Rattle.otel_pipeline.specs.SpanEdits.{add_link, new_link}
 use Rattle.otel_pipeline.specs.Provider.{ProviderState}
@@ -105,21 +105,21 @@ start_answer span =
 module _ {P S G : Type 0} (calls : Calls P S G) where
   -- what a start in a context that is refused may have done to a provider: nothing, or ids were drawn; no processor was
   -- asked. Under a name that has a span none is refused
-  abbrev pub MayStart : ProviderState P S G → PlainContext → List ℕ → ℕ → Option PlainSpan → ProviderState P S G
-      → Type 0
-  MayStart p cx name now (Some _) q = ⊥
-  MayStart p cx name now None q = (q ≡ p) ⊎ OnlyDraws calls.sampler calls.ids p (named_builder name) cx now q
+  abbrev pub MayStart : ProviderState P S G → PlainContext → PlainSpanBuilder → ℕ → Option PlainSpan
+      → ProviderState P S G → Type 0
+  MayStart p cx builder now (Some _) q = ⊥
+  MayStart p cx builder now None q = (q ≡ p) ⊎ OnlyDraws calls.sampler calls.ids p builder cx now q
 
   -- the same as a child of the span of another name: nothing where no start made that, or where there is no memory for
   -- the context in which that is active
-  abbrev pub ChildMayStart : ProviderState P S G → Option PlainSpan → List ℕ → ℕ → Option PlainSpan
+  abbrev pub ChildMayStart : ProviderState P S G → Option PlainSpan → PlainSpanBuilder → ℕ → Option PlainSpan
       → ProviderState P S G → Type 0
-  ChildMayStart p None name now found q = q ≡ p
-  ChildMayStart p (Some parent) name now found q =
-      (q ≡ p) ⊎ MayStart p (child_cx parent.span_context) name now found q
+  ChildMayStart p None builder now found q = q ≡ p
+  ChildMayStart p (Some parent) builder now found q =
+      (q ≡ p) ⊎ MayStart p (child_cx parent.span_context) builder now found q
 
   -- the same in the context that a header says: nothing where there is no memory for that
-  abbrev pub RemoteMayStart : ProviderState P S G → List ℕ → List ℕ → ℕ → Option PlainSpan → ProviderState P S G
-      → Type 0
-  RemoteMayStart p header name now found q =
-      (q ≡ p) ⊎ ((cx : PlainContext) × SaysContext header cx × MayStart p cx name now found q)
+  abbrev pub RemoteMayStart : ProviderState P S G → List ℕ → PlainSpanBuilder → ℕ → Option PlainSpan
+      → ProviderState P S G → Type 0
+  RemoteMayStart p header builder now found q =
+      (q ≡ p) ⊎ ((cx : PlainContext) × SaysContext header cx × MayStart p cx builder now found q)

@@ -4,6 +4,7 @@ use Rattle.std.specs.List.{flat_map}
 use Rattle.otel_export.specs.PlainSpanData.{PlainSpanData}
 use Rattle.otel_export.specs.KeptBatches.{Grows}
 use Rattle.otel_export.specs.StoredBatches.{StoredBatches}
+pub use Rattle.otel_export.specs.StoredBatches.{all_stored}
 use Rattle.otel_pipeline.specs.declared.trace.keeps_batches.KeepsBatches as keeping
 use Rattle.otel_pipeline.specs.declared.trace.span_processor.SpanProcessor.{Ghosts}
 use Rattle.otel_trace_lines.specs.Commands.{PlainCommand}
@@ -16,10 +17,6 @@ use Rattle.otel_trace_session.specs.Turns.{SessionState}
 -- the batches that replies show
 abbrev pub exported_in : List PlainReply → List (List PlainSpanData)
 exported_in replies = flat_map (λ reply. reply.exported) replies
-
--- all batches that an exporter stored: those that were taken, and those that it keeps
-abbrev pub all_stored : StoredBatches → List (List PlainSpanData)
-all_stored stored = stored.taken ++ stored.batches
 
 module _ {P S G : Type 0} (keeps : keeping.Ghosts P) where
   -- what the first processor of a session has stored: the batches that it keeps, and how many it lost

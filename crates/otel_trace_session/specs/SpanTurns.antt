@@ -3,7 +3,7 @@
 use Rattle.std.specs.Prelude.{◌≡◌, ℕ, List, [], Option, Some, None, map}
 use Rattle.opentelemetry.specs.Plain.{PlainContext, PlainScope}
 use Rattle.opentelemetry.specs.PlainContexts.{root_cx}
-use Rattle.opentelemetry.specs.PlainSpanBuilder.{named_builder}
+use Rattle.opentelemetry.specs.PlainSpanBuilder.{PlainSpanBuilder}
 use Rattle.otel_export.specs.PlainSpanData.{PlainSpanData}
 use Rattle.otel_pipeline.specs.SpanHistory.{SpanHistory, SpanStart, Edit, begun, over, data_of, span_of}
 use Rattle.otel_pipeline.specs.StartRequest.{StartRequest}
@@ -18,22 +18,24 @@ use Rattle.otel_trace_session.specs.OpenSpans.{AnswersInject, edit_answer, edite
 use Rattle.otel_trace_session.specs.OpenSpans.{start_answer, with_history}
 use Rattle.otel_trace_session.specs.Turn.{AsksNobody, OnlyAnswers, Turn}
 
--- what a start asks for: its scope and context, by which name commands call the span, the span's name, and the moment
+-- what a start asks for: its scope and context, by which name commands call the span, what it is to
+-- start with, and the moment
 pub record Start : Type 0 where
   pub scope : PlainScope
   pub cx : PlainContext
   pub span : List ℕ
-  pub name : List ℕ
+  pub builder : PlainSpanBuilder
   pub moment : ℕ
 
 -- the start of a span under a scope, in a context
-abbrev pub start_in : PlainScope → PlainContext → List ℕ → List ℕ → ℕ → Start
-start_in scope cx span name moment = record { scope = scope; cx = cx; span = span; name = name; moment = moment }
+abbrev pub start_in : PlainScope → PlainContext → List ℕ → PlainSpanBuilder → ℕ → Start
+start_in scope cx span builder moment =
+    record { scope = scope; cx = cx; span = span; builder = builder; moment = moment }
 
 -- what it asks of the tracer
 abbrev pub request_of : Start → StartRequest
 request_of start =
-    record { scope = start.scope; builder = named_builder start.name; cx = start.cx; now = start.moment }
+    record { scope = start.scope; builder = start.builder; cx = start.cx; now = start.moment }
 
 module _ {P S G : Type 0} (calls : Calls P S G) where
   -- a name is given the history that a start makes, and nothing is delivered
@@ -69,12 +71,12 @@ module _ {P S G : Type 0} (calls : Calls P S G) where
     pub starts : StartTurn (record start { cx = cx }) turn
 
   -- a start, by where: as a root, as a child of the span of a name, or where a header says
-  abbrev pub StartsFrom : PlainScope → PlainOrigin → List ℕ → List ℕ → ℕ → Turn P S G → Type 0
-  StartsFrom scope at_root span name moment turn = StartTurn (start_in scope root_cx span name moment) turn
-  StartsFrom scope (under parent) span name moment turn =
-      ChildTurn (start_in scope root_cx span name moment) (turn.before.histories parent) turn
-  StartsFrom scope (from_header header) span name moment turn =
-      RemoteTurn (start_in scope root_cx span name moment) header turn
+  abbrev pub StartsFrom : PlainScope → PlainOrigin → List ℕ → PlainSpanBuilder → ℕ → Turn P S G → Type 0
+  StartsFrom scope at_root span builder moment turn = StartTurn (start_in scope root_cx span builder moment) turn
+  StartsFrom scope (under parent) span builder moment turn =
+      ChildTurn (start_in scope root_cx span builder moment) (turn.before.histories parent) turn
+  StartsFrom scope (from_header header) span builder moment turn =
+      RemoteTurn (start_in scope root_cx span builder moment) header turn
 
 -- one more edit of the span of a name, where its history is not over
 abbrev pub EditTurn : {P S G : Type 0} → List ℕ → Edit → Turn P S G → Type 0

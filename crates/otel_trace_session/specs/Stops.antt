@@ -1,6 +1,7 @@
 -- Why the commands of a session were not carried out to their end: one was refused, or has no reply.
 use Rattle.std.specs.Prelude.{◌≡◌, ◌⊎◌, ◌∷◌, ◌++◌, ℕ, List, Option, true}
 use Rattle.opentelemetry.specs.PlainContexts.{root_cx}
+use Rattle.opentelemetry.specs.PlainSpanBuilder.{PlainSpanBuilder}
 use Rattle.otel_export.specs.KeptBatches.{OnlyAdds}
 use Rattle.otel_pipeline.specs.Provider.{ProviderState}
 use Rattle.otel_trace_lines.specs.Commands.{is_end, plain_command}
@@ -20,18 +21,18 @@ use Rattle.otel_trace_session.specs.declared.session.RunError.TheVariants as run
 
 module _ {P S G : Type 0} (calls : Calls P S G) where
   -- what a start that is refused may have done to the provider: nothing, or under a new name ids were drawn
-  abbrev pub MayStartFrom : ProviderState P S G → NamedSpans → PlainOrigin → List ℕ → ℕ → Option PlainSpan
+  abbrev pub MayStartFrom : ProviderState P S G → NamedSpans → PlainOrigin → PlainSpanBuilder → ℕ → Option PlainSpan
       → ProviderState P S G → Type 0
-  MayStartFrom p spans at_root name moment found q = MayStart calls p root_cx name moment found q
-  MayStartFrom p spans (under parent) name moment found q =
-      ChildMayStart calls p (named spans parent) name moment found q
-  MayStartFrom p spans (from_header header) name moment found q =
-      RemoteMayStart calls p header name moment found q
+  MayStartFrom p spans at_root builder moment found q = MayStart calls p root_cx builder moment found q
+  MayStartFrom p spans (under parent) builder moment found q =
+      ChildMayStart calls p (named spans parent) builder moment found q
+  MayStartFrom p spans (from_header header) builder moment found q =
+      RemoteMayStart calls p header builder moment found q
 
   -- what an action that is refused may have done to it: nothing, but for a start. Its own calls are not refused
   abbrev pub MayAsk : ProviderState P S G → NamedSpans → PlainAction → ProviderState P S G → Type 0
-  MayAsk p spans (start_span origin span name moment) q =
-      MayStartFrom p spans origin name moment (named spans span) q
+  MayAsk p spans (start_span origin span builder moment) q =
+      MayStartFrom p spans origin builder moment (named spans span) q
   MayAsk p spans (call_provider call) q = ⊥
   MayAsk p spans _ q = q ≡ p
 

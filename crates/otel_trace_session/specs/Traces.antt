@@ -18,7 +18,7 @@ made_span _ = false
 
 -- the names of spans of a trace, with that of a child of one of them where an action started it
 abbrev pub with_child : (List ℕ → Bool) → PlainAction → Answer → List ℕ → Bool
-with_child is_in (start_span (under parent) span name moment) answer =
+with_child is_in (start_span (under parent) span builder moment) answer =
     λ q. is_in q || (is_name q span && (is_in parent && made_span answer))
 with_child is_in _ answer = is_in
 

@@ -43,7 +43,8 @@ module _ {P S G : Type 0} (calls : Calls P S G) where
 
   -- the turn of an action under a scope
   abbrev pub TakesAction : PlainScope → PlainAction → Turn P S G → Type 0
-  TakesAction scope (start_span origin span name moment) turn = StartsFrom calls scope origin span name moment turn
+  TakesAction scope (start_span origin span builder moment) turn =
+      StartsFrom calls scope origin span builder moment turn
   TakesAction scope (edit_span span edit) turn = EditTurn span edit turn
   TakesAction scope (inject_span span) turn = InjectTurn span turn
   TakesAction scope (end_span span moment) turn = EndTurn calls.processor span moment (turn.before.histories span) turn

@@ -1,17 +1,17 @@
 //! What a command does, whatever its words: a span starts, is edited, is linked to another, tells its headers or ends,
 //! or the provider is called. So a command that edits a span is known here alone, and to those who read its line.
 
-ghost use Rattle.std.specs.Prelude.{◌≡◌, string_bytes};
+ghost use Rattle.std.specs.Prelude.{◌≡◌, [], ◌∷◌, IfOk, string_bytes};
 ghost use Rattle.opentelemetry.specs.PlainValues.{plain_value};
 ghost use Rattle.otel_pipeline.specs.SpanEdits.{plain_edit};
 ghost use Rattle.otel_trace_lines.specs.Commands.{plain_command};
-ghost use Rattle.otel_trace_session.specs.Actions.{action_of, attribute_edit, bare_event, plain_action};
+ghost use Rattle.otel_trace_session.specs.Actions.{action_of, attribute_edit, builder_of, event_edit, plain_action};
 
-use opentelemetry::trace::Event;
+use opentelemetry::trace::{Event, SpanBuilder, SpanKind};
 use opentelemetry::{Key, KeyValue, Moment, Value};
-use otel_pipeline::trace::SpanEdit;
+use otel_pipeline::trace::{Exception, SpanEdit};
 use otel_trace_lines::Command;
-use std::alloc::Global;
+use std::alloc::{AllocError, Global};
 
 /// Where a span starts.
 #[derive(Drop)]
@@ -37,7 +37,7 @@ pub(crate) enum Action {
     Start {
         origin: Origin,
         span: String,
-        name: String,
+        builder: SpanBuilder,
         moment: Moment,
     },
     Edit {
@@ -57,6 +57,19 @@ pub(crate) enum Action {
         span: String,
         target: String,
     },
+    /// An edit that takes memory to make: the event of an error.
+    Exception {
+        span: String,
+        exception: Exception,
+        moment: Moment,
+    },
+    /// The same: an event with one attribute.
+    EventWithAttribute {
+        span: String,
+        name: String,
+        moment: Moment,
+        attribute: KeyValue,
+    },
 }
 
 /// What a command does.
@@ -64,10 +77,15 @@ pub(crate) fn action_of(alloc: Global, command: Command) -> Action
     ensures { plain_action result ≡ action_of (plain_command command) }
 {
     match command {
-        Command::Start { span, name, moment } => Action::Start {
-            origin: Origin::Root,
+        Command::Start {
             span,
             name,
+            moment,
+            kind,
+        } => Action::Start {
+            origin: Origin::Root,
+            span,
+            builder: builder_of(name, kind),
             moment,
         },
         Command::Child {
@@ -75,10 +93,11 @@ pub(crate) fn action_of(alloc: Global, command: Command) -> Action
             parent,
             name,
             moment,
+            kind,
         } => Action::Start {
             origin: Origin::Parent(parent),
             span,
-            name,
+            builder: builder_of(name, kind),
             moment,
         },
         Command::Remote {
@@ -86,10 +105,11 @@ pub(crate) fn action_of(alloc: Global, command: Command) -> Action
             traceparent,
             name,
             moment,
+            kind,
         } => Action::Start {
             origin: Origin::Header(traceparent),
             span,
-            name,
+            builder: builder_of(name, kind),
             moment,
         },
         Command::Attr { span, key, value } => Action::Edit {
@@ -118,14 +138,61 @@ pub(crate) fn action_of(alloc: Global, command: Command) -> Action
             edit: attribute(key, Value::Bool(value)),
         },
         Command::Link { span, target } => Action::Link { span, target },
+        Command::Exception {
+            span,
+            exception_type,
+            moment,
+            message,
+        } => Action::Exception {
+            span,
+            exception: Exception::new(message).with_type(exception_type),
+            moment,
+        },
+        Command::EventWithAttribute {
+            span,
+            name,
+            moment,
+            key,
+            value,
+        } => Action::EventWithAttribute {
+            span,
+            name,
+            moment,
+            attribute: KeyValue::new(Key::new(key), Value::String(value)),
+        },
+    }
+}
+
+/// What a span of a name starts with: its kind, if one is given.
+fn builder_of(name: String, kind: Option<SpanKind>) -> SpanBuilder
+    ensures { result ≡ builder_of (string_bytes name) kind }
+{
+    let builder = SpanBuilder::from_name(name);
+    match kind {
+        Some(kind) => builder.with_kind(kind),
+        None => builder,
     }
 }
 
 /// The edit that adds an event without attributes.
 fn event_without_attributes(alloc: Global, name: String, moment: Moment) -> SpanEdit
-    ensures { plain_edit result ≡ bare_event (string_bytes name) moment.0 }
+    ensures { plain_edit result ≡ event_edit (string_bytes name) moment.0 [] }
 {
     SpanEdit::AddEvent(Event::new(name, moment, Vec::new(alloc), 0))
+}
+
+/// The edit that adds an event with one attribute.
+pub(crate) fn event_with_attribute(
+    alloc: Global,
+    name: String,
+    moment: Moment,
+    attribute: KeyValue,
+) -> Result<SpanEdit, AllocError>
+    ensures { IfOk result (λ edit. plain_edit edit
+        ≡ event_edit (string_bytes name) moment.0 (attribute ∷ [])) }
+{
+    let attributes = vec![in alloc; attribute]?;
+    Ok(SpanEdit::AddEvent(Event::new(name, moment, attributes, 0)))
 }
 
 /// The edit that sets an attribute.

@@ -11,7 +11,7 @@ ghost use Rattle.otel_trace_session.specs.Stops.{RefusesOne};
 ghost use Rattle.otel_trace_session.specs.Turn.{TurnsFromAny};
 ghost use Rattle.otel_trace_session.specs.Turns.{IsCarriedOut};
 
-use crate::actions::{Action, Origin, ProviderCall, action_of};
+use crate::actions::{Action, Origin, ProviderCall, action_of, event_with_attribute};
 use crate::headers::remote_context;
 use crate::open_spans::OpenSpans;
 use opentelemetry::Context;
@@ -42,20 +42,34 @@ pub(crate) fn carry_out<P: KeepsBatches, S: ShouldSample, G: GivesIds>(
         Action::Start {
             origin,
             span,
-            name,
+            builder,
             moment,
         } => match origin {
-            Origin::Root => spans.start_in(span, root, tracer, provider, name, moment),
+            Origin::Root => spans.start_in(span, root, tracer, provider, builder, moment),
             Origin::Parent(parent) => {
-                spans.start_child(span, parent.as_str(), tracer, provider, name, moment)
+                spans.start_child(span, parent.as_str(), tracer, provider, builder, moment)
             }
             Origin::Header(header) => {
                 let cx = remote_context(alloc, header)?;
-                spans.start_in(span, &cx, tracer, provider, name, moment)
+                spans.start_in(span, &cx, tracer, provider, builder, moment)
             }
         },
         Action::Edit { span, edit } => spans.edit(span.as_str(), edit),
         Action::Link { span, target } => spans.link(alloc, span.as_str(), target.as_str()),
+        Action::Exception {
+            span,
+            exception,
+            moment,
+        } => spans.record(alloc, span.as_str(), exception, moment),
+        Action::EventWithAttribute {
+            span,
+            name,
+            moment,
+            attribute,
+        } => {
+            let edit = event_with_attribute(alloc, name, moment, attribute)?;
+            spans.edit(span.as_str(), edit)
+        }
         Action::Inject { span } => spans.inject(alloc, span.as_str()),
         Action::End { span, moment } => spans.end(span.as_str(), provider, moment),
         Action::Call(call) => Ok(answer_to_call(call_provider(provider, call))),

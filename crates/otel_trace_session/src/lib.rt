@@ -5,7 +5,6 @@
 mod actions;
 mod carry_out;
 mod closing;
-mod first_processor;
 mod headers;
 pub mod laws;
 mod open_spans;

@@ -4,7 +4,8 @@ ghost use Rattle.std.specs.Prelude.{◌≡◌, [], IfOk, OnErr, codes, string_by
 ghost use Rattle.std.specs.Option.{option_map};
 ghost use Rattle.opentelemetry.specs.Plain.{scope_named};
 ghost use Rattle.opentelemetry.specs.PlainContexts.{root_cx};
-ghost use Rattle.otel_pipeline.specs.SpanEdits.{new_link, plain_edit};
+ghost use Rattle.otel_pipeline.specs.Exceptions.{exception_event};
+ghost use Rattle.otel_pipeline.specs.SpanEdits.{add_event, new_link, plain_edit};
 ghost use Rattle.otel_trace_session.specs.Calls.{calls_of};
 ghost use Rattle.otel_trace_session.specs.Headers.{child_cx};
 ghost use Rattle.otel_trace_session.specs.OpenSpans.{
@@ -28,9 +29,11 @@ ghost use Rattle.otel_trace_session.specs.SpanTurns.{ChildTurn, EndTurn, StartTu
 ghost use Rattle.otel_trace_session.specs.Turn.{TurnsFromAny};
 
 use crate::headers::answer_with_headers;
-use opentelemetry::trace::Link;
+use opentelemetry::trace::{Link, SpanBuilder};
 use opentelemetry::{Context, Moment};
-use otel_pipeline::trace::{KeepsBatches, ProviderOf, SdkTracer, Span, SpanEdit, SpanProcessor};
+use otel_pipeline::trace::{
+    Exception, KeepsBatches, ProviderOf, SdkTracer, Span, SpanEdit, SpanProcessor,
+};
 use otel_sampling::trace::{GivesIds, ShouldSample};
 use otel_trace_lines::{Answer, SpanIdentity};
 use std::alloc::{AllocError, Global};
@@ -90,19 +93,19 @@ impl OpenSpans {
         cx: &Context,
         tracer: &SdkTracer,
         provider: &mut ProviderOf<P, S, G>,
-        name: String,
+        builder: SpanBuilder,
         now: Moment,
     ) -> Result<Answer, AllocError>
         ensures ok { IfOk result (λ answer. TurnsFromAny (StartTurn
             (calls_of P.SpanProcessor P.Timed.own P.CountsLeftSpans.own P.KeepsBatches.own S.ShouldSample G.GivesIds)
-            (start_in tracer.now cx.now (string_bytes span) (string_bytes name) now.0))
+            (start_in tracer.now cx.now (string_bytes span) builder now.0))
             provider.old self.old answer provider.new self.new) }
         ensures asks { OnErr result (MayStart
             (calls_of P.SpanProcessor P.Timed.own P.CountsLeftSpans.own P.KeepsBatches.own S.ShouldSample G.GivesIds)
-            provider.old cx.now (string_bytes name) now.0 (named self.old (string_bytes span)) provider.new) }
+            provider.old cx.now builder now.0 (named self.old (string_bytes span)) provider.new) }
         ensures err { OnErr result (SameSpans self.old self.new) }
     {
-        start_under(&mut self.spans, span, cx, tracer, provider, name, now)
+        start_under(&mut self.spans, span, cx, tracer, provider, builder, now)
     }
 
     /// Starts a span under a name, as a child of the span of another name.
@@ -112,23 +115,23 @@ impl OpenSpans {
         parent: &str,
         tracer: &SdkTracer,
         provider: &mut ProviderOf<P, S, G>,
-        name: String,
+        builder: SpanBuilder,
         now: Moment,
     ) -> Result<Answer, AllocError>
         ensures ok { IfOk result (λ answer. TurnsFromAny (λ turn. ChildTurn (calls_of P.SpanProcessor P.Timed.own
             P.CountsLeftSpans.own P.KeepsBatches.own S.ShouldSample G.GivesIds)
-            (start_in tracer.now root_cx (string_bytes span) (string_bytes name) now.0)
+            (start_in tracer.now root_cx (string_bytes span) builder now.0)
             (turn.before.histories parent.now) turn) provider.old self.old answer provider.new self.new) }
         ensures asks { OnErr result (ChildMayStart
             (calls_of P.SpanProcessor P.Timed.own P.CountsLeftSpans.own P.KeepsBatches.own S.ShouldSample G.GivesIds)
-            provider.old (named self.old parent.now) (string_bytes name) now.0
+            provider.old (named self.old parent.now) builder now.0
             (named self.old (string_bytes span)) provider.new) }
         ensures err { OnErr result (SameSpans self.old self.new) }
     {
         let Some(cx) = self.context_of(parent)? else {
             return Ok(Answer::NoSuchSpan);
         };
-        self.start_in(span, &cx, tracer, provider, name, now)
+        self.start_in(span, &cx, tracer, provider, builder, now)
     }
 
     /// The context in which the span of a name is active.
@@ -166,6 +169,27 @@ impl OpenSpans {
         };
         let is_recording = found.is_recording();
         found.edit(edit)?;
+        Ok(answer_to_edit(is_recording))
+    }
+
+    /// Records an error that the span of a name met at a moment.
+    pub(crate) fn record(
+        &mut self,
+        alloc: Global,
+        span: &str,
+        exception: Exception,
+        moment: Moment,
+    ) -> Result<Answer, AllocError>
+        ensures ok { IfOk result (λ answer. (histories : Histories) → Describe histories self.old
+            → (answer ≡ edit_answer (histories span.now))
+            × Describe (edited_in histories span.now (add_event (exception_event exception moment.0))) self.new) }
+        ensures err { OnErr result (SameSpans self.old self.new) }
+    {
+        let Some(found) = self.spans.get_mut(span) else {
+            return Ok(Answer::NoSuchSpan);
+        };
+        let is_recording = found.is_recording();
+        found.record_exception(alloc, exception, moment)?;
         Ok(answer_to_edit(is_recording))
     }
 
@@ -232,21 +256,21 @@ fn start_under<P: KeepsBatches, S: ShouldSample, G: GivesIds>(
     cx: &Context,
     tracer: &SdkTracer,
     provider: &mut ProviderOf<P, S, G>,
-    name: String,
+    builder: SpanBuilder,
     now: Moment,
 ) -> Result<Answer, AllocError>
     ensures ok { IfOk result (λ answer. TurnsFromAny (StartTurn
         (calls_of P.SpanProcessor P.Timed.own P.CountsLeftSpans.own P.KeepsBatches.own S.ShouldSample G.GivesIds)
-        (start_in tracer.now cx.now (string_bytes span) (string_bytes name) now.0))
+        (start_in tracer.now cx.now (string_bytes span) builder now.0))
         provider.old (by_name spans.old.entries) answer provider.new (by_name spans.new.entries)) }
     ensures asks { OnErr result (MayStart
         (calls_of P.SpanProcessor P.Timed.own P.CountsLeftSpans.own P.KeepsBatches.own S.ShouldSample G.GivesIds)
-        provider.old cx.now (string_bytes name) now.0 (named (by_name spans.old.entries) (string_bytes span))
+        provider.old cx.now builder now.0 (named (by_name spans.old.entries) (string_bytes span))
         provider.new) }
     ensures err { OnErr result (SameSpans (by_name spans.old.entries) (by_name spans.new.entries)) }
 {
     match spans.entry(span)? {
-        Entry::Vacant(place) => match tracer.start_with_context(name, cx, provider, now) {
+        Entry::Vacant(place) => match tracer.build_with_context(builder, cx, provider, now) {
             Ok(started) => {
                 let answer = answer_to_start(&started);
                 place.insert(started);

@@ -18,11 +18,11 @@ ghost use Rattle.otel_trace_session.specs.Turns.{BeginsUnder, Runs};
 
 use crate::carry_out::carry_out;
 use crate::closing::{close_answer, shut_down};
-use crate::first_processor::{kept_by_first, lost_by_first, take_of_first};
 use crate::open_spans::{OpenSpans, tracer_of};
 use opentelemetry::Context;
 use otel_export::error::OTelSdkResult;
 use otel_export::trace::SpanData;
+use otel_pipeline::trace::first_processor::{kept_by_first, lost_by_first, take_of_first};
 use otel_pipeline::trace::{KeepsBatches, ProviderOf, SdkTracer};
 use otel_sampling::trace::{GivesIds, ShouldSample};
 use otel_trace_lines::{Answer, Command, Reply, ReplyForm, ReplyLines, parse};
@@ -203,10 +203,11 @@ impl<P: KeepsBatches, S: ShouldSample, G: GivesIds> Session<P, S, G> {
         Ok(())
     }
 
-    /// Carries out the commands that the lines of a text spell, by the plain grammar, up to the first line that is none,
-    /// and appends the text of each reply. `Line` names the first bad line, from 1 and with empty lines counted. On another error the output
-    /// has the replies of a beginning of the commands; after `Refused` and `BatchLost`, which no text tells, one more
-    /// was carried out, and after `Memory` at most one. What that one exported is left for the next reply.
+    /// Carries out the commands that the lines of a text spell, by the plain grammar, up to the first line that is
+    /// none, and appends the text of each reply. `Line` names the first bad line, from 1 and with empty lines counted.
+    /// On another error the output has the replies of a beginning of the commands; after `Refused` and `BatchLost`,
+    /// which no text tells, one more was carried out, and after `Memory` at most one. What that one exported is left
+    /// for the next reply.
     pub fn feed(&mut self, text: &[u8], output: &mut Vec<u8>) -> Result<(), FeedError>
         ensures { Writes reply_lines output.old.items output.new.items (λ replies. Feeds
             (calls_of P.SpanProcessor P.Timed.own P.CountsLeftSpans.own P.KeepsBatches.own S.ShouldSample G.GivesIds)

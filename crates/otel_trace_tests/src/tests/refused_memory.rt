@@ -5,19 +5,22 @@ use otel_export::error::OTelSdkError;
 use otel_export::trace::SpanData;
 use otel_pipeline::trace::KeepsBatches;
 use otel_sampling::trace::{GivesIds, ShouldSample};
-use otel_trace_lines::{Answer, Dialect, Reply, parse};
+use otel_trace_lines::{Answer, Dialect, Reply, ReplyLines, parse};
 use otel_trace_session::Session;
 use std::alloc::Global;
 use std::process::Abort;
 
 /// What a span, its child and a remote one live through, a command a line.
-const LIVES: [&[u8]; 12] = [
+const LIVES: [&[u8]; 15] = [
     b"start s a 1",
     b"child c s b 2",
     b"remote r 00-4bf92f3577b34da6a3ce929d0e0e4736-00f067aa0ba902b7-01 w 3",
     b"attr s k v",
-    b"event s e 4",
+    b"event s e 4 k v",
     b"status s error x",
+    b"int s n -1",
+    b"link s c",
+    b"exception s T 5 x",
     b"inject c",
     b"end c 5",
     b"end s 6",
@@ -33,7 +36,7 @@ fn run<P: KeepsBatches, S: ShouldSample, G: GivesIds>(
     line: &[u8],
     replies: &mut Vec<Reply>,
 ) -> bool {
-    match parse(alloc, Dialect::Plain, line) {
+    match parse(alloc, Dialect::Extended, line) {
         Ok(script) => session.run(script.commands, replies).is_ok(),
         Err(_) => false,
     }
@@ -78,9 +81,9 @@ fn shown_or_refused(replies: &[Reply]) -> usize {
 fn answers_line(line: usize, answer: &Answer) -> bool {
     match line {
         0..=2 => matches!(answer, Answer::Started(_) | Answer::SpanExists),
-        6 => matches!(answer, Answer::Headers { .. }),
-        7 | 8 => matches!(answer, Answer::Ended(_) | Answer::Ignored),
-        11 => matches!(
+        9 => matches!(answer, Answer::Headers { .. }),
+        10 | 11 => matches!(answer, Answer::Ended(_) | Answer::Ignored),
+        14 => matches!(
             answer,
             Answer::Ok | Answer::Failed(OTelSdkError::AlreadyShutdown)
         ),
@@ -125,22 +128,23 @@ fn lived<P: KeepsBatches>(rt: &impl Abort, alloc: Global, processor: P) -> [usiz
 #[test]
 fn a_run_that_found_no_memory_succeeds_again(rt: HostRuntime) {
     let [replies, fitting, told] = lived(&rt, rt.alloc(), exporting(rt.alloc()));
-    assert_eq!(rt; (replies, fitting, told), (12, 12, 2));
+    assert_eq!(rt; (replies, fitting, told), (15, 15, 2));
 }
 
 /// Feeds a line, and feeds it again where it found no memory, which must put nothing out. The answer is whether it did.
 fn feed_again<P: KeepsBatches, S: ShouldSample, G: GivesIds>(
     rt: &impl Abort,
     session: &mut Session<P, S, G>,
+    form: &mut ReplyLines,
     line: &[u8],
     output: &mut Vec<u8>,
 ) -> bool {
     let before = output.len();
-    if session.feed(line, output).is_ok() {
+    if session.feed_in(form, line, output).is_ok() {
         return false;
     }
     assert_eq!(rt; output.len(), before);
-    assert!(rt; session.feed(line, output).is_ok(), "{AGAIN}");
+    assert!(rt; session.feed_in(form, line, output).is_ok(), "{AGAIN}");
     true
 }
 
@@ -148,11 +152,12 @@ fn feed_again<P: KeepsBatches, S: ShouldSample, G: GivesIds>(
 fn feed_each<P: KeepsBatches, S: ShouldSample, G: GivesIds>(
     rt: &impl Abort,
     session: &mut Session<P, S, G>,
+    form: &mut ReplyLines,
     output: &mut Vec<u8>,
 ) -> usize {
     let mut count = 0usize;
     for line in LIVES {
-        if feed_again(rt, session, line, output) && line.starts_with(b"end") {
+        if feed_again(rt, session, form, line, output) && line.starts_with(b"end") {
             count = count.saturating_add(1);
         }
     }
@@ -163,14 +168,15 @@ fn feed_each<P: KeepsBatches, S: ShouldSample, G: GivesIds>(
 fn fed<P: KeepsBatches>(rt: &impl Abort, alloc: Global, processor: P) -> (usize, usize) {
     let mut session = session_over(rt, alloc, processor, None);
     let mut output = Vec::new(alloc);
-    let ends = feed_each(rt, &mut session, &mut output);
+    let mut lines = ReplyLines::of_dialect(alloc, Dialect::Extended);
+    let ends = feed_each(rt, &mut session, &mut lines, &mut output);
     let _ = session.close(&mut output);
     (ends, span_lines(&output))
 }
 
-/// How many lines of spans there are, each of which ends with the count of its links.
+/// How many lines of spans there are, each of which ends with the counts of its links.
 pub fn span_lines(output: &[u8]) -> usize {
-    text_of(output).matches(" links 0 0\n").count()
+    text_of(output).matches(" links ").count()
 }
 
 /// A text that found no memory puts nothing of its line out, and its line is read again. Each of both ended spans is

@@ -12,30 +12,30 @@ use Rattle.otel_trace_session.proofs.open_spans.start_under.Goals as goal
 pub returns-in_err-place-clause-asks : goal.returns-in_err-place-clause-asks
 returns-in_err-place-clause-asks g c =
     let calls = calls_of g.P.SpanProcessor g.P.Timed g.P.CountsLeftSpans g.P.KeepsBatches g.S.ShouldSample g.G.GivesIds in
-    always_on_err _ (may_start_free calls c.args.provider.now c.args.provider.now c.args.cx.now (string_bytes c.args.name) c.args.now.0 _
+    always_on_err _ (may_start_free calls c.args.provider.now c.args.provider.now c.args.cx.now c.args.builder c.args.now.0 _
     (named-get c.args.spans.now (string_bytes c.args.span) ∙ c.in_err-place.ensures.absent) (inl refl))
 
 pub returns-in_err-or_try_insert_with-in-Err-clause-asks : goal.returns-in_err-or_try_insert_with-in-Err-clause-asks
 returns-in_err-or_try_insert_with-in-Err-clause-asks g c =
     let calls = calls_of g.P.SpanProcessor g.P.Timed g.P.CountsLeftSpans g.P.KeepsBatches g.S.ShouldSample g.G.GivesIds in
-    always_on_err _ (may_start_free calls c.args.provider.now c.start_with_context.new.provider c.args.cx.now (string_bytes c.args.name) c.args.now.0 _
+    always_on_err _ (may_start_free calls c.args.provider.now c.build_with_context.new.provider c.args.cx.now c.args.builder c.args.now.0 _
     (named-get c.args.spans.now (string_bytes c.args.span) ∙ (rw c.in-Vacant.is at c.in_ok-place.ensures.found))
-    (refused_draws g.P.SpanProcessor g.S.ShouldSample g.G.GivesIds c.args.provider.now c.start_with_context.new.provider
-    (request_of (start_in c.args.tracer.now c.args.cx.now (string_bytes c.args.span) (string_bytes c.args.name) c.args.now.0)) c.in-Err.ensures.answers))
+    (refused_draws g.P.SpanProcessor g.S.ShouldSample g.G.GivesIds c.args.provider.now c.build_with_context.new.provider
+    (request_of (start_in c.args.tracer.now c.args.cx.now (string_bytes c.args.span) c.args.builder c.args.now.0)) c.in-Err.ensures.answers))
 
 pub returns-in-Ok-clause-ok : goal.returns-in-Ok-clause-ok
 returns-in-Ok-clause-ok g c =
     let calls = calls_of g.P.SpanProcessor g.P.Timed g.P.CountsLeftSpans g.P.KeepsBatches g.S.ShouldSample g.G.GivesIds in
     let begun = c.in-Ok.ensures.answers in
     let span = c.insert.result.now in
-    starts_free calls c.args.provider.now c.start_with_context.new.provider (by_name c.args.spans.now.entries) _ (start_in c.args.tracer.now c.args.cx.now (string_bytes c.args.span) (string_bytes c.args.name) c.args.now.0) c.answer_to_start-answer.result begun.0
+    starts_free calls c.args.provider.now c.build_with_context.new.provider (by_name c.args.spans.now.entries) _ (start_in c.args.tracer.now c.args.cx.now (string_bytes c.args.span) c.args.builder c.args.now.0) c.answer_to_start-answer.result begun.0
     (named-get c.args.spans.now (string_bytes c.args.span) ∙ (rw c.in-Vacant.is at c.in_ok-place.ensures.found))
     (puts_written c.args.spans.now (map_with_value c.in_ok-place.field-0 span) _ (string_bytes c.args.span) span _ (c.insert.ensures.value ∙ begun.1) (search rules) (c.in_ok-place.ensures.update.0 span))
     (λ before. record {
       history = begun.0;
       starts = begun.2;
-      told = answers_told g.P.SpanProcessor g.S.ShouldSample g.G.GivesIds c.args.provider.now c.start_with_context.new.provider
-          (request_of (start_in c.args.tracer.now c.args.cx.now (string_bytes c.args.span) (string_bytes c.args.name) c.args.now.0)) c.start_with_context.result c.start_with_context.ensures.answers;
+      told = answers_told g.P.SpanProcessor g.S.ShouldSample g.G.GivesIds c.args.provider.now c.build_with_context.new.provider
+          (request_of (start_in c.args.tracer.now c.args.cx.now (string_bytes c.args.span) c.args.builder c.args.now.0)) c.build_with_context.result c.build_with_context.ensures.answers;
       says = c.answer_to_start-answer.ensures ∙ ap start_answer begun.1;
       delivers = refl;
       histories = refl;
@@ -46,6 +46,6 @@ returns-in-Occupied-clause-ok g c =
     let calls = calls_of g.P.SpanProcessor g.P.Timed g.P.CountsLeftSpans g.P.KeepsBatches g.S.ShouldSample g.G.GivesIds in
     let span = c.into_mut-there.result.now in
     let here : entry_value c.in_ok-place.field-0 ≡ Some span = cc in
-    starts_taken calls c.args.provider.now (by_name c.args.spans.now.entries) _ (start_in c.args.tracer.now c.args.cx.now (string_bytes c.args.span) (string_bytes c.args.name) c.args.now.0) span
+    starts_taken calls c.args.provider.now (by_name c.args.spans.now.entries) _ (start_in c.args.tracer.now c.args.cx.now (string_bytes c.args.span) c.args.builder c.args.now.0) span
     (named-get c.args.spans.now (string_bytes c.args.span) ∙ sym c.in_ok-place.ensures.value ∙ here)
     (puts_written c.args.spans.now (map_with_value c.in_ok-place.field-0 span) _ (string_bytes c.args.span) span span refl (search rules) (c.in_ok-place.ensures.update.0 span))

@@ -3,7 +3,7 @@ use Rattle.std.proofs.Common.{refl, rules, subst, sym}
 use Rattle.otel_trace_lines.specs.Commands.{link}
 use Rattle.otel_trace_lines.specs.Lines.{IsField, last_field}
 use Rattle.otel_trace_lines.proofs.FieldLemmas.{after_field, only_link}
-use Rattle.otel_trace_lines.proofs.lines.link_of.Goals as goal
+use Rattle.otel_trace_lines.proofs.extended.link_of.Goals as goal
 
 pub returns-then-not-is_field-clause-found : goal.returns-then-not-is_field-clause-found
 returns-then-not-is_field-clause-found c =

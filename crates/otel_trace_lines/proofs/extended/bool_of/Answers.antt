@@ -3,7 +3,7 @@ use Rattle.std.proofs.Common.{◌≡◌, Bool, refl, rules, string_bytes}
 use Rattle.otel_trace_lines.specs.Commands.{set_bool}
 use Rattle.otel_trace_lines.specs.Lines.{truth, IsOfForm, IsTruth, field}
 use Rattle.otel_trace_lines.proofs.FieldLemmas.{only_bool, ends_as, ends_with, one_rest}
-use Rattle.otel_trace_lines.proofs.lines.bool_of.Goals as goal
+use Rattle.otel_trace_lines.proofs.extended.bool_of.Goals as goal
 
 pub returns-in_default-clause-found : goal.returns-in_default-clause-found
 returns-in_default-clause-found c = only_bool c.args.fields.now (λ span key value h.

@@ -6,7 +6,7 @@ use Rattle.std.proofs.lemmas.Int.{to_z-of_z}
 use Rattle.otel_trace_lines.specs.Commands.{set_int}
 use Rattle.otel_trace_lines.specs.Lines.{whole, IsOfForm, IsInteger64, field}
 use Rattle.otel_trace_lines.proofs.FieldLemmas.{only_int, ends_as, ends_with, one_rest}
-use Rattle.otel_trace_lines.proofs.lines.int_of.Goals as goal
+use Rattle.otel_trace_lines.proofs.extended.int_of.Goals as goal
 
 pub returns-in_default-clause-found : goal.returns-in_default-clause-found
 returns-in_default-clause-found c = only_int c.args.fields.now (λ span key value h.

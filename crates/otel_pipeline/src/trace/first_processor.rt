@@ -1,15 +1,15 @@
-//! The first processor of a session's provider: the batches that its exporter keeps are what replies show.
+//! The first processor of a provider: the batches that its exporter keeps are what a session's replies show, and what
+//! becomes the lines of a pipeline in memory.
 
 ghost use Rattle.std.specs.Prelude.{◌≡◌, map};
-ghost use Rattle.otel_trace_session.specs.Calls.{batches_of_first, losses_of_first};
-ghost use Rattle.otel_trace_session.specs.Taking.{TakesShown};
+ghost use Rattle.otel_pipeline.specs.FirstProcessor.{TakesShown, batches_of_first, losses_of_first};
 
+use crate::trace::{KeepsBatches, ProviderOf};
 use otel_export::trace::SpanData;
-use otel_pipeline::trace::{KeepsBatches, ProviderOf};
 use std::alloc::Global;
 
 /// The batches that the first of these processors keeps.
-pub(crate) fn kept_by_first<P: KeepsBatches>(processors: &[P]) -> &[Vec<SpanData>]
+pub fn kept_by_first<P: KeepsBatches>(processors: &[P]) -> &[Vec<SpanData>]
     ensures { map (λ batch. batch.items) result.now ≡ batches_of_first P.KeepsBatches.own processors.now }
 {
     match processors.first() {
@@ -19,7 +19,7 @@ pub(crate) fn kept_by_first<P: KeepsBatches>(processors: &[P]) -> &[Vec<SpanData
 }
 
 /// How many batches of the first of these processors found no memory.
-pub(crate) fn lost_by_first<P: KeepsBatches>(processors: &[P]) -> u64
+pub fn lost_by_first<P: KeepsBatches>(processors: &[P]) -> u64
     ensures { result ≡ losses_of_first P.KeepsBatches.own processors.now }
 {
     match processors.first() {
@@ -29,7 +29,7 @@ pub(crate) fn lost_by_first<P: KeepsBatches>(processors: &[P]) -> u64
 }
 
 /// Hands out the batches that the first processor keeps. All else is as it was.
-pub(crate) fn take_of_first<P: KeepsBatches, S, G>(
+pub fn take_of_first<P: KeepsBatches, S, G>(
     alloc: Global,
     provider: &mut ProviderOf<P, S, G>,
 ) -> Vec<Vec<SpanData>>

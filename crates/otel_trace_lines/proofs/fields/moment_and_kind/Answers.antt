@@ -1,0 +1,20 @@
+-- Neither a moment alone stands there, nor one with a kind after it.
+use Rattle.std.proofs.Common.{subst}
+use Rattle.std.specs.Option.{is_some}
+use Rattle.otel_trace_lines.specs.Dialects.{MayHave}
+use Rattle.otel_trace_lines.specs.declared.dialect.Dialect.{Dialect}
+use Rattle.otel_trace_lines.proofs.KindLemmas.{no_kind, no_moment, plain_has_none}
+use Rattle.otel_trace_lines.proofs.fields.moment_and_kind.Goals as goal
+
+pub returns-in_err-moment_of : goal.returns-in_err-moment_of
+returns-in_err-moment_of c =
+    rw c.from_residual.ensures (no_moment c.args.dialect c.args.text.now c.in_default.ensures c.in_err-moment_of.ensures)
+
+pub returns-in_err-kind_of-in-Extended : goal.returns-in_err-kind_of-in-Extended
+returns-in_err-kind_of-in-Extended c =
+    rw c.from_residual-in_err-kind_of-in-Extended.ensures (no_kind c.args.dialect c.args.text.now c.in-Some.moment.0 c.in-Some.word.now c.in-Some.ensures c.in_err-kind_of-in-Extended.ensures)
+
+pub returns-in-Plain : goal.returns-in-Plain
+returns-in-Plain c = λ moment kind h may.
+    plain_has_none c.args.text.now c.in-Some.moment.0 c.in-Some.word.now c.in-Some.ensures moment kind h
+    (subst (λ (d : Dialect). MayHave d (is_some kind)) c.in-Plain.is may)
