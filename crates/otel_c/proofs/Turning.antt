@@ -1,0 +1,12 @@
+-- What was done to a pipeline was done to that of its handle.
+use Rattle.std.proofs.Common.{◌≡◌, ◌≢◌, ℕ, Option, Some, Result, Ok, Err, IfOk, OnErr, sym, subst}
+use Rattle.otel_embed.specs.declared.pipeline.Pipeline.{Pipeline}
+use Rattle.otel_c.specs.Handles.{Turns}
+
+pub turned : (Does : Pipeline → Pipeline → Type 0) (was now : Option Pipeline) (p q : Pipeline) → was ≡ Some p → now ≡ Some q → Does p q → Turns Does was now
+turned Does was now p q e f did = subst (λ (x : Option Pipeline). Turns Does x now) (sym e) (subst (λ (y : Option Pipeline). Turns Does (Some p) y) (sym f) did)
+
+-- what a call answered is what was written where its status is 0
+pub answered : {E : Type 0} (Holds : ℕ → Type 0) (answer : Result ℕ E) (status now was : ℕ) → IfOk answer (λ number. (status ≡ 0) × (now ≡ number)) → OnErr answer ((status ≢ 0) × (now ≡ was)) → IfOk answer Holds → status ≡ 0 → Holds now
+answered Holds (Ok number) status now was written _ did _ = subst Holds (sym written.1) did
+answered Holds (Err _) status now was _ refused _ is_ok = absurd (refused.0 is_ok)

@@ -1,0 +1,109 @@
+//! Attributes that are gathered for what comes next.
+
+ghost use Rattle.std.specs.Prelude.{◌≡◌, ◌==◌, List, not};
+ghost use Rattle.opentelemetry.specs.Plain.{boolean, booleans, integer, integers, text, texts};
+ghost use Rattle.otel_c.specs.Handles.{Gathers, Turns};
+ghost use Rattle.otel_embed.specs.HostValues.{IsValueOf};
+
+use crate::handle::Handle;
+use crate::status::{OTEL_CLOSED, status_of_result};
+use otel_embed::HostValue;
+use std::alloc::Global;
+
+/// Gathers an attribute.
+fn gather(alloc: Global, handle: &mut Handle, key: &[u8], value: HostValue<'_>) -> u32
+    ensures ok { result ≡ 0 → Turns (Gathers key.now (IsValueOf value.entry))
+        handle.old.held.pipeline handle.new.held.pipeline }
+    ensures open { handle.new.is_open ≡ handle.old.is_open }
+{
+    let Some(mut pipeline) = handle.take(alloc) else {
+        return OTEL_CLOSED;
+    };
+    let gathered = pipeline.inside.gather(key, value);
+    handle.put(alloc, pipeline);
+    status_of_result(gathered)
+}
+
+#[unsafe(no_mangle)]
+pub extern "C" fn otel_with_text(
+    alloc: Global,
+    handle: &mut Handle,
+    key: &[u8],
+    value: &[u8],
+) -> u32
+    ensures ok { result ≡ 0 → Turns (Gathers key.now (λ made. made ≡ text value.now))
+        handle.old.held.pipeline handle.new.held.pipeline }
+    ensures open { handle.new.is_open ≡ handle.old.is_open }
+{
+    gather(alloc, handle, key, HostValue::Text(value))
+}
+
+#[unsafe(no_mangle)]
+pub extern "C" fn otel_with_integer(
+    alloc: Global,
+    handle: &mut Handle,
+    key: &[u8],
+    value: i64,
+) -> u32
+    ensures ok { result ≡ 0 → Turns (Gathers key.now (λ made. made ≡ integer value))
+        handle.old.held.pipeline handle.new.held.pipeline }
+    ensures open { handle.new.is_open ≡ handle.old.is_open }
+{
+    gather(alloc, handle, key, HostValue::Integer(value))
+}
+
+#[unsafe(no_mangle)]
+pub extern "C" fn otel_with_bool(alloc: Global, handle: &mut Handle, key: &[u8], value: u32) -> u32
+    ensures ok { result ≡ 0 → Turns (Gathers key.now (λ made. made ≡ boolean (not (value == 0))))
+        handle.old.held.pipeline handle.new.held.pipeline }
+    ensures open { handle.new.is_open ≡ handle.old.is_open }
+{
+    gather(alloc, handle, key, HostValue::Truth(value != 0))
+}
+
+#[unsafe(no_mangle)]
+pub extern "C" fn otel_with_texts(
+    alloc: Global,
+    handle: &mut Handle,
+    key: &[u8],
+    values: &[u8],
+    lengths: &[u64],
+) -> u32
+    ensures ok { result ≡ 0 → Turns (Gathers key.now (λ made. (list : List _) × (made ≡ texts list)))
+        handle.old.held.pipeline handle.new.held.pipeline }
+    ensures open { handle.new.is_open ≡ handle.old.is_open }
+{
+    let value = HostValue::Texts {
+        texts: values,
+        lengths,
+    };
+    gather(alloc, handle, key, value)
+}
+
+#[unsafe(no_mangle)]
+pub extern "C" fn otel_with_integers(
+    alloc: Global,
+    handle: &mut Handle,
+    key: &[u8],
+    values: &[i64],
+) -> u32
+    ensures ok { result ≡ 0 → Turns (Gathers key.now (λ made. made ≡ integers values.now))
+        handle.old.held.pipeline handle.new.held.pipeline }
+    ensures open { handle.new.is_open ≡ handle.old.is_open }
+{
+    gather(alloc, handle, key, HostValue::Integers(values))
+}
+
+#[unsafe(no_mangle)]
+pub extern "C" fn otel_with_bools(
+    alloc: Global,
+    handle: &mut Handle,
+    key: &[u8],
+    values: &[u8],
+) -> u32
+    ensures ok { result ≡ 0 → Turns (Gathers key.now (λ made. (list : List _) × (made ≡ booleans list)))
+        handle.old.held.pipeline handle.new.held.pipeline }
+    ensures open { handle.new.is_open ≡ handle.old.is_open }
+{
+    gather(alloc, handle, key, HostValue::Truths(values))
+}

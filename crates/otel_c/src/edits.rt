@@ -1,0 +1,182 @@
+//! Edits of a span.
+
+ghost use Rattle.std.specs.Prelude.{◌≡◌, ◌==◌, ◌∷◌, [], map, not};
+ghost use Rattle.opentelemetry.specs.Plain.{boolean, integer, text};
+ghost use Rattle.otel_pipeline.specs.SpanEdits.{new_event};
+ghost use Rattle.otel_pipeline.specs.SpanHistory.{add_event, set_attribute, update_name};
+ghost use Rattle.otel_c.specs.Handles.{SetsOn, Turns};
+ghost use Rattle.otel_embed.specs.HostValues.{IsValueOf};
+ghost use Rattle.otel_embed.specs.Pipelines.{EditsSpan, LinksTo};
+
+use crate::handle::Handle;
+use crate::status::{OTEL_CLOSED, status_of_result};
+use opentelemetry::Moment;
+use otel_embed::HostValue;
+use std::alloc::Global;
+
+/// Sets an attribute.
+fn set(alloc: Global, handle: &mut Handle, span: u64, key: &[u8], value: HostValue<'_>) -> u32
+    ensures ok { result ≡ 0 → Turns (SetsOn span key.now (IsValueOf value.entry))
+        handle.old.held.pipeline handle.new.held.pipeline }
+    ensures open { handle.new.is_open ≡ handle.old.is_open }
+{
+    let Some(mut pipeline) = handle.take(alloc) else {
+        return OTEL_CLOSED;
+    };
+    let set = pipeline.inside.set(span, key, value);
+    handle.put(alloc, pipeline);
+    status_of_result(set)
+}
+
+#[unsafe(no_mangle)]
+pub extern "C" fn otel_set_text(
+    alloc: Global,
+    handle: &mut Handle,
+    span: u64,
+    key: &[u8],
+    value: &[u8],
+) -> u32
+    ensures ok { result ≡ 0 → Turns (SetsOn span key.now (λ made. made ≡ text value.now))
+        handle.old.held.pipeline handle.new.held.pipeline }
+    ensures open { handle.new.is_open ≡ handle.old.is_open }
+{
+    set(alloc, handle, span, key, HostValue::Text(value))
+}
+
+#[unsafe(no_mangle)]
+pub extern "C" fn otel_set_integer(
+    alloc: Global,
+    handle: &mut Handle,
+    span: u64,
+    key: &[u8],
+    value: i64,
+) -> u32
+    ensures ok { result ≡ 0 → Turns (SetsOn span key.now (λ made. made ≡ integer value))
+        handle.old.held.pipeline handle.new.held.pipeline }
+    ensures open { handle.new.is_open ≡ handle.old.is_open }
+{
+    set(alloc, handle, span, key, HostValue::Integer(value))
+}
+
+#[unsafe(no_mangle)]
+pub extern "C" fn otel_set_bool(
+    alloc: Global,
+    handle: &mut Handle,
+    span: u64,
+    key: &[u8],
+    value: u32,
+) -> u32
+    ensures ok { result ≡ 0 → Turns (SetsOn span key.now (λ made. made ≡ boolean (not (value == 0))))
+        handle.old.held.pipeline handle.new.held.pipeline }
+    ensures open { handle.new.is_open ≡ handle.old.is_open }
+{
+    set(alloc, handle, span, key, HostValue::Truth(value != 0))
+}
+
+#[unsafe(no_mangle)]
+pub extern "C" fn otel_set_attributes(alloc: Global, handle: &mut Handle, span: u64) -> u32
+    ensures ok { result ≡ 0 → Turns (λ p q. EditsSpan p.inside span (map set_attribute p.inside.gathered) q.inside)
+        handle.old.held.pipeline handle.new.held.pipeline }
+    ensures open { handle.new.is_open ≡ handle.old.is_open }
+{
+    let Some(mut pipeline) = handle.take(alloc) else {
+        return OTEL_CLOSED;
+    };
+    let set = pipeline.inside.set_attributes(span);
+    handle.put(alloc, pipeline);
+    status_of_result(set)
+}
+
+#[unsafe(no_mangle)]
+pub extern "C" fn otel_add_event(
+    alloc: Global,
+    handle: &mut Handle,
+    span: u64,
+    name: &[u8],
+    moment: u64,
+) -> u32
+    ensures ok { result ≡ 0 → Turns (λ p q. EditsSpan p.inside span
+        (add_event (new_event name.now moment p.inside.gathered) ∷ []) q.inside)
+        handle.old.held.pipeline handle.new.held.pipeline }
+    ensures open { handle.new.is_open ≡ handle.old.is_open }
+{
+    let Some(mut pipeline) = handle.take(alloc) else {
+        return OTEL_CLOSED;
+    };
+    let added = pipeline.inside.add_event(span, name, Moment(moment));
+    handle.put(alloc, pipeline);
+    status_of_result(added)
+}
+
+#[unsafe(no_mangle)]
+pub extern "C" fn otel_record_exception(
+    alloc: Global,
+    handle: &mut Handle,
+    span: u64,
+    exception_type: &[u8],
+    message: &[u8],
+    stacktrace: &[u8],
+    moment: u64,
+) -> u32
+    ensures { handle.new.is_open ≡ handle.old.is_open }
+{
+    let Some(mut pipeline) = handle.take(alloc) else {
+        return OTEL_CLOSED;
+    };
+    let recorded = pipeline
+        .inside
+        .record_exception(span, exception_type, message, stacktrace, Moment(moment));
+    handle.put(alloc, pipeline);
+    status_of_result(recorded)
+}
+
+#[unsafe(no_mangle)]
+pub extern "C" fn otel_add_link(alloc: Global, handle: &mut Handle, span: u64, linked: u64) -> u32
+    ensures ok { result ≡ 0 → Turns (λ p q. LinksTo p.inside span linked q.inside)
+        handle.old.held.pipeline handle.new.held.pipeline }
+    ensures open { handle.new.is_open ≡ handle.old.is_open }
+{
+    let Some(mut pipeline) = handle.take(alloc) else {
+        return OTEL_CLOSED;
+    };
+    let added = pipeline.inside.add_link(span, linked);
+    handle.put(alloc, pipeline);
+    status_of_result(added)
+}
+
+#[unsafe(no_mangle)]
+pub extern "C" fn otel_set_status(
+    alloc: Global,
+    handle: &mut Handle,
+    span: u64,
+    code: u32,
+    description: &[u8],
+) -> u32
+    ensures { handle.new.is_open ≡ handle.old.is_open }
+{
+    let Some(mut pipeline) = handle.take(alloc) else {
+        return OTEL_CLOSED;
+    };
+    let set = pipeline.inside.set_status(span, code, description);
+    handle.put(alloc, pipeline);
+    status_of_result(set)
+}
+
+#[unsafe(no_mangle)]
+pub extern "C" fn otel_update_name(
+    alloc: Global,
+    handle: &mut Handle,
+    span: u64,
+    name: &[u8],
+) -> u32
+    ensures ok { result ≡ 0 → Turns (λ p q. EditsSpan p.inside span (update_name name.now ∷ []) q.inside)
+        handle.old.held.pipeline handle.new.held.pipeline }
+    ensures open { handle.new.is_open ≡ handle.old.is_open }
+{
+    let Some(mut pipeline) = handle.take(alloc) else {
+        return OTEL_CLOSED;
+    };
+    let updated = pipeline.inside.update_name(span, name);
+    handle.put(alloc, pipeline);
+    status_of_result(updated)
+}

@@ -1,0 +1,121 @@
+//! What becomes of ended spans, and how many are where.
+
+ghost use Rattle.std.specs.Prelude.{◌≡◌, length};
+ghost use Rattle.otel_c.specs.Handles.{Turns};
+ghost use Rattle.otel_embed.specs.Pipelines.{DrainsInto, FlowsBy, flushed, ran, shut};
+
+use crate::handle::Handle;
+use crate::status::{OTEL_BUFFER_TOO_SMALL, OTEL_CLOSED, OTEL_OK, status_of, status_of_result};
+use opentelemetry::Moment;
+use otel_embed::Numbers;
+use otel_embed::pipeline::HostInside;
+use otel_embed::pipeline_of::HostPipeline;
+use std::alloc::Global;
+
+/// How many spans are where, for C.
+#[repr(C)]
+#[derive(Clone, Copy)]
+pub struct Counts {
+    pub open_spans: u64,
+    pub waiting_spans: u64,
+    pub dropped_spans: u64,
+    pub refused_spans: u64,
+    pub lost_batches: u64,
+}
+
+fn counts_of(numbers: Numbers) -> Counts {
+    Counts {
+        open_spans: numbers.open_spans,
+        waiting_spans: numbers.waiting_spans,
+        dropped_spans: numbers.dropped_spans,
+        refused_spans: numbers.refused_spans,
+        lost_batches: numbers.lost_batches,
+    }
+}
+
+#[unsafe(no_mangle)]
+pub extern "C" fn otel_flush(alloc: Global, handle: &mut Handle) -> u32
+    ensures ok { result ≡ 0 → Turns
+        (λ p q. FlowsBy ⟦<HostInside as HostPipeline>⟧.calls flushed p.inside q.inside)
+        handle.old.held.pipeline handle.new.held.pipeline }
+    ensures open { handle.new.is_open ≡ handle.old.is_open }
+{
+    let Some(mut pipeline) = handle.take(alloc) else {
+        return OTEL_CLOSED;
+    };
+    let flushed = pipeline.inside.flush();
+    handle.put(alloc, pipeline);
+    status_of_result(flushed)
+}
+
+#[unsafe(no_mangle)]
+pub extern "C" fn otel_run(alloc: Global, handle: &mut Handle, moment: u64) -> u32
+    ensures ok { result ≡ 0 → Turns
+        (λ p q. FlowsBy ⟦<HostInside as HostPipeline>⟧.calls (ran moment) p.inside q.inside)
+        handle.old.held.pipeline handle.new.held.pipeline }
+    ensures open { handle.new.is_open ≡ handle.old.is_open }
+{
+    let Some(mut pipeline) = handle.take(alloc) else {
+        return OTEL_CLOSED;
+    };
+    let ran = pipeline.inside.run_due(Moment(moment));
+    handle.put(alloc, pipeline);
+    status_of_result(ran)
+}
+
+#[unsafe(no_mangle)]
+pub extern "C" fn otel_drain(
+    alloc: Global,
+    handle: &mut Handle,
+    buffer: &mut [u8],
+    lines_length: &mut usize,
+) -> u32
+    ensures ok { result ≡ 0 → Turns (λ p q. DrainsInto ⟦<HostInside as HostPipeline>⟧.calls p.inside buffer.old
+        lines_length.new buffer.new q.inside) handle.old.held.pipeline handle.new.held.pipeline }
+    ensures open { handle.new.is_open ≡ handle.old.is_open }
+    ensures buffer { length buffer.new ≡ length buffer.old }
+{
+    let Some(mut pipeline) = handle.take(alloc) else {
+        return OTEL_CLOSED;
+    };
+    let drained = pipeline.inside.drain(buffer);
+    handle.put(alloc, pipeline);
+    match drained {
+        Ok(taken) => {
+            *lines_length = taken;
+            if taken > buffer.len() {
+                OTEL_BUFFER_TOO_SMALL
+            } else {
+                OTEL_OK
+            }
+        }
+        Err(error) => status_of(error),
+    }
+}
+
+#[unsafe(no_mangle)]
+pub extern "C" fn otel_count(alloc: Global, handle: &mut Handle, numbers: &mut Counts) -> u32
+    ensures open { handle.new.is_open ≡ handle.old.is_open }
+{
+    let Some(pipeline) = handle.take(alloc) else {
+        return OTEL_CLOSED;
+    };
+    *numbers = counts_of(pipeline.inside.numbers());
+    handle.put(alloc, pipeline);
+    OTEL_OK
+}
+
+#[unsafe(no_mangle)]
+pub extern "C" fn otel_shutdown(alloc: Global, handle: &mut Handle) -> u32
+    ensures ok { result ≡ 0 → Turns
+        (λ p q. FlowsBy ⟦<HostInside as HostPipeline>⟧.calls shut p.inside q.inside)
+        handle.old.held.pipeline handle.new.held.pipeline }
+    ensures open { handle.new.is_open ≡ handle.old.is_open }
+{
+    let Some(mut pipeline) = handle.take(alloc) else {
+        return OTEL_CLOSED;
+    };
+    let shut = pipeline.inside.shutdown();
+    handle.put(alloc, pipeline);
+    status_of_result(shut)
+}

@@ -1,0 +1,80 @@
+//! A pipeline's beginning and end.
+
+ghost use Rattle.std.specs.Prelude.{◌≡◌, length, false, true};
+
+use crate::handle::Handle;
+use crate::status::{
+    OTEL_ALREADY_OPEN, OTEL_CLOSED, OTEL_OK, OTEL_OUT_OF_MEMORY, status_of, write_number,
+    write_text,
+};
+use otel_embed::Pipeline;
+use std::alloc::Global;
+
+#[unsafe(no_mangle)]
+pub extern "C" fn otel_open(alloc: Global, handle: &mut Handle, settings: &[u8], seed: u64) -> u32
+    ensures ok { result ≡ 0 → (handle.old.is_open ≡ false) × (handle.new.is_open ≡ true) }
+    ensures refused { (result ≡ 0 → ⊥) → handle.new.is_open ≡ handle.old.is_open }
+{
+    if handle.is_open {
+        return OTEL_ALREADY_OPEN;
+    }
+    let pipeline = match Pipeline::open(alloc, settings, seed) {
+        Ok(pipeline) => pipeline,
+        Err(error) => return status_of(error),
+    };
+    match Box::new(alloc, pipeline) {
+        Ok(pipeline) => {
+            handle.put(alloc, pipeline);
+            OTEL_OK
+        }
+        Err(_) => OTEL_OUT_OF_MEMORY,
+    }
+}
+
+#[unsafe(no_mangle)]
+pub extern "C" fn otel_ignored_settings(
+    alloc: Global,
+    handle: &mut Handle,
+    buffer: &mut [u8],
+    text_length: &mut usize,
+) -> u32
+    ensures open { handle.new.is_open ≡ handle.old.is_open }
+    ensures buffer { length buffer.new ≡ length buffer.old }
+{
+    let Some(pipeline) = handle.take(alloc) else {
+        return OTEL_CLOSED;
+    };
+    let status = write_text(pipeline.ignored_settings(), buffer, text_length);
+    handle.put(alloc, pipeline);
+    status
+}
+
+#[unsafe(no_mangle)]
+pub extern "C" fn otel_tracer(
+    alloc: Global,
+    handle: &mut Handle,
+    name: &[u8],
+    version: &[u8],
+    schema_url: &[u8],
+    tracer: &mut u64,
+) -> u32
+    ensures open { handle.new.is_open ≡ handle.old.is_open }
+{
+    let Some(mut pipeline) = handle.take(alloc) else {
+        return OTEL_CLOSED;
+    };
+    let made = pipeline.inside.tracer(name, version, schema_url);
+    handle.put(alloc, pipeline);
+    write_number(made, tracer)
+}
+
+/// Lets go of all that the handle owns; it may be opened again.
+#[unsafe(no_mangle)]
+pub extern "C" fn otel_close(alloc: Global, handle: &mut Handle) -> u32
+    ensures { handle.new.is_open ≡ false }
+{
+    match handle.take(alloc) {
+        Some(_pipeline) => OTEL_OK,
+        None => OTEL_CLOSED,
+    }
+}

@@ -1,0 +1,117 @@
+//! The life of a span: its start, who it is, its end.
+
+ghost use Rattle.std.specs.Prelude.{◌≡◌, ◌≢◌};
+ghost use Rattle.otel_c.specs.Handles.{Turns};
+ghost use Rattle.opentelemetry.specs.declared.trace.span_kind.SpanKind.{SpanKind as TheKinds};
+ghost use Rattle.otel_embed.specs.HostValues.{IsKind};
+ghost use Rattle.otel_embed.specs.Pipelines.{EndsSpan, IsContextUnder, StartsIn};
+
+use crate::handle::Handle;
+use crate::status::{OTEL_CLOSED, OTEL_OK, status_of, status_of_result, write_number};
+use opentelemetry::Moment;
+use otel_embed::SpanIdentity;
+use otel_embed::pipeline::HostInside;
+use otel_embed::pipeline_of::HostPipeline;
+use std::alloc::Global;
+
+/// Who a span is, for C. The ids are numbers, whose high byte is the first of the id's text.
+#[repr(C)]
+#[derive(Clone, Copy)]
+pub struct Identity {
+    pub trace_id_high: u64,
+    pub trace_id_low: u64,
+    pub span_id: u64,
+    pub trace_flags: u32,
+    pub is_recording: u32,
+}
+
+fn identity_of(identity: SpanIdentity) -> Identity {
+    Identity {
+        trace_id_high: (identity.trace_id >> 64) as u64,
+        trace_id_low: (identity.trace_id & 0xffff_ffff_ffff_ffff) as u64,
+        span_id: identity.span_id,
+        trace_flags: u32::from(identity.trace_flags),
+        is_recording: u32::from(identity.is_recording),
+    }
+}
+
+#[unsafe(no_mangle)]
+pub extern "C" fn otel_start(
+    alloc: Global,
+    handle: &mut Handle,
+    tracer: u64,
+    parent: u64,
+    kind: u32,
+    name: &[u8],
+    moment: u64,
+    key: &mut u64,
+) -> u32
+    ensures ok { result ≡ 0 → Turns (λ p q. (asked : TheKinds) × IsKind kind asked × StartsIn
+        ⟦<HostInside as HostPipeline>⟧.calls (IsContextUnder p.inside.spans parent) p.inside tracer asked moment
+        name.now key.new q.inside)
+        handle.old.held.pipeline handle.new.held.pipeline }
+    ensures open { handle.new.is_open ≡ handle.old.is_open }
+    ensures refused { result ≢ 0 → key.new ≡ key.old }
+{
+    let Some(mut pipeline) = handle.take(alloc) else {
+        return OTEL_CLOSED;
+    };
+    let started = pipeline
+        .inside
+        .start(tracer, parent, kind, name, Moment(moment));
+    handle.put(alloc, pipeline);
+    write_number(started, key)
+}
+
+#[unsafe(no_mangle)]
+pub extern "C" fn otel_identity(
+    alloc: Global,
+    handle: &mut Handle,
+    span: u64,
+    identity: &mut Identity,
+) -> u32
+    ensures open { handle.new.is_open ≡ handle.old.is_open }
+    ensures refused { result ≢ 0 → identity.new ≡ identity.old }
+{
+    let Some(pipeline) = handle.take(alloc) else {
+        return OTEL_CLOSED;
+    };
+    let found = pipeline.inside.identity(span);
+    handle.put(alloc, pipeline);
+    match found {
+        Ok(found) => {
+            *identity = identity_of(found);
+            OTEL_OK
+        }
+        Err(error) => status_of(error),
+    }
+}
+
+#[unsafe(no_mangle)]
+pub extern "C" fn otel_end(alloc: Global, handle: &mut Handle, span: u64, moment: u64) -> u32
+    ensures ok { result ≡ 0 → Turns
+        (λ p q. EndsSpan ⟦<HostInside as HostPipeline>⟧.calls.processor p.inside span moment q.inside)
+        handle.old.held.pipeline handle.new.held.pipeline }
+    ensures open { handle.new.is_open ≡ handle.old.is_open }
+{
+    let Some(mut pipeline) = handle.take(alloc) else {
+        return OTEL_CLOSED;
+    };
+    let ended = pipeline.inside.end(span, Moment(moment));
+    handle.put(alloc, pipeline);
+    status_of_result(ended)
+}
+
+#[unsafe(no_mangle)]
+pub extern "C" fn otel_abandon(alloc: Global, handle: &mut Handle, span: u64) -> u32
+    ensures ok { result ≡ 0 → Turns (λ p q. q.inside.flow ≡ p.inside.flow)
+        handle.old.held.pipeline handle.new.held.pipeline }
+    ensures open { handle.new.is_open ≡ handle.old.is_open }
+{
+    let Some(mut pipeline) = handle.take(alloc) else {
+        return OTEL_CLOSED;
+    };
+    let abandoned = pipeline.inside.abandon(span);
+    handle.put(alloc, pipeline);
+    status_of_result(abandoned)
+}

@@ -1,0 +1,93 @@
+//! What becomes of ended spans: the queue is worked off, what was exported becomes lines, and lines are handed out.
+
+ghost use Rattle.std.specs.Prelude.{◌≡◌, [], IfOk, OnErr, OnOk, length};
+ghost use Rattle.otel_pipeline.specs.Calls.{calls_of};
+ghost use Rattle.otel_embed.specs.Pipelines.{Drains, DrainsInto, FlowsBy, flushed, ran, shut};
+
+use crate::error::PipelineError;
+use crate::numbers::{Numbers, dropped_in, waiting_in};
+use crate::pipeline_of::PipelineOf;
+use opentelemetry::Moment;
+use otel_otlp::write_requests;
+use otel_pipeline::trace::KeepsBatches;
+use otel_pipeline::trace::first_processor::{kept_by_first, lost_by_first, take_of_first};
+use otel_sampling::trace::{GivesIds, ShouldSample};
+
+impl<P: KeepsBatches, S: ShouldSample, G: GivesIds> PipelineOf<P, S, G> {
+    /// Exports what waits in the queue. `NotExported` where that failed.
+    pub fn flush(&mut self) -> Result<(), PipelineError>
+        ensures { FlowsBy
+            (calls_of P.SpanProcessor P.Timed.own P.CountsLeftSpans.own P.KeepsBatches.own S.ShouldSample G.GivesIds)
+            flushed self.old self.new }
+    {
+        self.provider
+            .force_flush()
+            .map_err(|_| PipelineError::NotExported)
+    }
+
+    /// Exports what is due at this moment, which is not before that of an earlier call. `NotExported` where that failed.
+    pub fn run_due(&mut self, now: Moment) -> Result<(), PipelineError>
+        ensures { FlowsBy
+            (calls_of P.SpanProcessor P.Timed.own P.CountsLeftSpans.own P.KeepsBatches.own S.ShouldSample G.GivesIds)
+            (ran now.0) self.old self.new }
+    {
+        self.provider
+            .run_processors(now)
+            .map_err(|_| PipelineError::NotExported)
+    }
+
+    /// Exports what waits, and nothing afterwards. `NotExported` where that failed, or it was shut down before.
+    pub fn shutdown(&mut self) -> Result<(), PipelineError>
+        ensures { FlowsBy
+            (calls_of P.SpanProcessor P.Timed.own P.CountsLeftSpans.own P.KeepsBatches.own S.ShouldSample G.GivesIds)
+            shut self.old self.new }
+    {
+        self.provider
+            .shutdown()
+            .map_err(|_| PipelineError::NotExported)
+    }
+
+    /// Turns the batches that were exported into lines, after those that are there.
+    fn collect_lines(&mut self) -> Result<(), PipelineError>
+        ensures ok { OnOk result (Drains
+            (calls_of P.SpanProcessor P.Timed.own P.CountsLeftSpans.own P.KeepsBatches.own S.ShouldSample G.GivesIds)
+            [] self.old self.new) }
+        ensures err { OnErr result (self.new ≡ self.old) }
+    {
+        let batches = kept_by_first(self.provider.processors());
+        write_requests(self.alloc, &mut self.lines, &self.resource, batches)?;
+        let _written = take_of_first(self.alloc, &mut self.provider);
+        Ok(())
+    }
+
+    /// Hands out the lines of what was exported: they are copied to the beginning of the buffer where it has room for
+    /// all of them, and forgotten. The answer is how many bytes they take; where that is more than the buffer has room
+    /// for, nothing is copied and nothing forgotten.
+    pub fn drain(&mut self, buffer: &mut [u8]) -> Result<usize, PipelineError>
+        ensures room { length buffer.new ≡ length buffer.old }
+        ensures ok { IfOk result (λ taken. DrainsInto
+            (calls_of P.SpanProcessor P.Timed.own P.CountsLeftSpans.own P.KeepsBatches.own S.ShouldSample G.GivesIds)
+            self.old buffer.old taken buffer.new self.new) }
+        ensures err { OnErr result ((self.new ≡ self.old) × (buffer.new ≡ buffer.old)) }
+    {
+        self.collect_lines()?;
+        let taken = self.lines.len();
+        if taken <= buffer.len() {
+            buffer[..taken].copy_from_slice(&self.lines);
+            self.lines.clear();
+        }
+        Ok(taken)
+    }
+
+    /// How many spans are where.
+    pub fn numbers(&self) -> Numbers {
+        let processors = self.provider.processors();
+        Numbers {
+            open_spans: self.spans.len() as u64,
+            waiting_spans: waiting_in(processors),
+            dropped_spans: dropped_in(processors),
+            refused_spans: self.refused,
+            lost_batches: lost_by_first(processors),
+        }
+    }
+}

@@ -1,0 +1,24 @@
+//! The laws of a pipeline, over the definitions alone. Each function does nothing; its contract is the law.
+
+ghost use Rattle.otel_pipeline.specs.Calls.{calls_of};
+ghost use Rattle.otel_embed.specs.Conserved.{CallsConserve, HearsWhatItHolds, Hosted};
+
+use crate::pipeline::HostInside;
+use crate::pipeline_of::HostPipeline;
+use otel_pipeline::trace::KeepsBatches;
+use otel_sampling::trace::{GivesIds, ShouldSample};
+
+/// Over every list of calls the lines that were handed out, followed by those that are held, are in order and each once
+/// those that were held at first and those of the batches that the processor's exporter stored meanwhile; and the
+/// processor follows what the ends delivered: each sampled span of these is heard by its exporter, or waits for it, but
+/// for those that it dropped, which it counts, and those that it refused, which their ends count.
+pub fn calls_conserve_spans<P: KeepsBatches, S: ShouldSample, G: GivesIds>()
+    ensures { CallsConserve
+        (calls_of P.SpanProcessor P.Timed.own P.CountsLeftSpans.own P.KeepsBatches.own S.ShouldSample G.GivesIds) }
+{}
+
+/// What the processor of a host's pipeline heard is, until a batch was lost, what is stored and what waits: so the lines
+/// that were handed out, those that are held and the spans in the queue are all that it heard.
+pub fn hosts_hear_what_they_hold()
+    ensures { (p : Hosted) → HearsWhatItHolds ⟦<HostInside as HostPipeline>⟧.calls p }
+{}

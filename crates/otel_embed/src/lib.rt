@@ -1,0 +1,26 @@
+// SPDX-License-Identifier: Apache-2.0
+//! A trace pipeline for hosts in other languages: open spans and tracers are numbers, texts come as bytes, and what was
+//! exported leaves as lines of the OpenTelemetry protocol's JSON.
+#![tactic(auto)]
+
+mod changes_span;
+pub mod error;
+mod flow;
+mod headers;
+pub mod laws;
+pub mod numbers;
+mod open_span;
+mod open_spans;
+pub mod pipeline;
+pub mod pipeline_of;
+mod remote;
+pub mod settings;
+pub mod span_calls;
+pub mod values;
+
+pub use error::PipelineError;
+pub use numbers::Numbers;
+pub use pipeline::Pipeline;
+pub use pipeline_of::{HostStart, PipelineOf};
+pub use span_calls::{HostHeaders, SpanIdentity};
+pub use values::HostValue;

@@ -1,0 +1,64 @@
+//! A span that a host holds by its key, with the context that it was started in: a baggage there goes on to children and
+//! to other processes. A span has to be spent: one that is left is abandoned.
+
+ghost use Rattle.std.specs.Prelude.{◌≡◌, IfOk, OnErr, OnOk, Some};
+ghost use Rattle.otel_pipeline.specs.Ending.{Ends};
+ghost use Rattle.otel_pipeline.specs.SpanHistory.{after};
+
+use crate::changes_span::ChangesSpan;
+use opentelemetry::{Context, Moment};
+use otel_pipeline::trace::{ProviderOf, Span, SpanProcessor};
+use std::alloc::AllocError;
+use std::marker::Model;
+
+/// An open span.
+pub(crate) struct OpenSpan {
+    pub(crate) span: Span,
+    pub(crate) cx: Context,
+}
+
+impl Model for OpenSpan {
+    ghost use Rattle.otel_embed.specs.Keys.{OpenedSpan};
+
+    ghost Value = { OpenedSpan };
+
+    ghost view = { λ a. record { span = a.span; cx = a.cx } };
+}
+
+impl Drop for OpenSpan {
+    fn drop(self) {
+        let OpenSpan { span, cx: _ } = self;
+        span.abandon();
+    }
+}
+
+impl OpenSpan {
+    /// The context in which the span is active, with all else that the context has that it was started in.
+    pub(crate) fn active_context(&self) -> Result<Context, AllocError>
+        ensures { IfOk result (λ cx. cx
+            ≡ record self.now.cx { span_context = Some self.now.span.span_context }) }
+    {
+        self.cx.with_span_context(self.span.span_context().clone()?)
+    }
+
+    /// Makes a change of the span.
+    pub(crate) fn change<E: ChangesSpan>(&mut self, change: E) -> Result<(), AllocError>
+        ensures ok { OnOk result (self.new ≡ record self.old { span = after (E.edits change) self.old.span }) }
+        ensures err { OnErr result (self.new ≡ self.old) }
+    {
+        change.apply(&mut self.span)
+    }
+
+    /// Ends the span. The answer is how many processors refused what it recorded.
+    pub(crate) fn end<P: SpanProcessor, S: Drop, G: Drop>(
+        &mut self,
+        provider: &mut ProviderOf<P, S, G>,
+        moment: Moment,
+    ) -> Result<usize, AllocError>
+        ensures ok { IfOk result (λ refused.
+            Ends P.SpanProcessor provider.old self.old.span moment.0 refused provider.new) }
+        ensures err { OnErr result ((self.new ≡ self.old) × (provider.new ≡ provider.old)) }
+    {
+        self.span.end_with_timestamp(provider, moment)
+    }
+}

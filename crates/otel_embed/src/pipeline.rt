@@ -1,0 +1,118 @@
+//! The pipeline of a host: a processor over an exporter in memory, by the settings that the host hands in.
+
+use crate::error::PipelineError;
+use crate::pipeline_of::PipelineOf;
+use crate::settings::{ProcessorKind, Settings};
+use opentelemetry::InstrumentationScope;
+use otel_export::trace::{ExporterOf, InMemorySpanExporter, NoExporter};
+use otel_pipeline::trace::{FromExporter, ProviderOf, SimpleSpanProcessor};
+use otel_processors::trace::ProcessorOf;
+use otel_resource::resource::Resource;
+use otel_sampling::trace::{
+    ConfigOf, ConfigStrings, IdSourceOf, NoSampler, RandomIdGenerator, SamplerOf, SpanLimits,
+};
+use std::alloc::{AllocError, Global};
+use std::marker::Send;
+
+/// What the processor of a host exports to.
+pub type MemoryExporter = ExporterOf<InMemorySpanExporter, NoExporter>;
+
+/// The processor of a host.
+pub type HostProcessor = ProcessorOf<MemoryExporter, SimpleSpanProcessor<NoExporter>>;
+
+/// What a host's starts ask.
+pub type HostSampler = SamplerOf<NoSampler>;
+
+/// Where a host's ids come from.
+pub type HostIds = IdSourceOf<RandomIdGenerator>;
+
+/// What a host's pipeline is made of.
+pub type HostInside = PipelineOf<HostProcessor, HostSampler, HostIds>;
+
+/// The pipeline of a host. Where it is let go, its open spans are abandoned and its provider is closed.
+pub struct Pipeline {
+    pub inside: HostInside,
+    // The names of the settings that were ignored, a line each.
+    ignored: String,
+}
+
+impl Drop for Pipeline {
+    fn drop(self) {
+        let Pipeline { inside, ignored: _ } = self;
+        let _report = inside.close();
+    }
+}
+
+/// What the settings configure, with ids of this seed.
+fn config_of(
+    alloc: Global,
+    strings: &ConfigStrings,
+    seed: u64,
+) -> Result<ConfigOf<HostSampler, HostIds>, AllocError> {
+    let mut config = ConfigOf {
+        sampler: HostSampler::AlwaysOn,
+        id_generator: HostIds::Random(RandomIdGenerator::new(seed)),
+        span_limits: SpanLimits::default(),
+        resource: Resource::builder_empty(alloc).build(),
+    };
+    config.set_from_strings(alloc, strings, seed)?;
+    Ok(config)
+}
+
+/// A pipeline with one processor of a kind over this exporter, as strings configure it.
+fn pipeline_with<P: FromExporter>(
+    alloc: Global,
+    kind: ProcessorKind,
+    strings: &ConfigStrings,
+    seed: u64,
+    exporter: P::Exporter,
+) -> Result<PipelineOf<P, HostSampler, HostIds>, AllocError> {
+    let config = config_of(alloc, strings, seed)?;
+    let resource = config.resource.clone()?;
+    let batch_strings = strings.batch.clone()?;
+    let is_disabled = strings.is_sdk_disabled();
+    let mut tracers = Vec::with_capacity(alloc, 1)?;
+    let scope = InstrumentationScope::builder(alloc, String::from_str(alloc, "otel")?).build()?;
+    let builder = ProviderOf::<P, HostSampler, HostIds>::builder_with_config(
+        alloc,
+        config,
+        batch_strings,
+        is_disabled,
+    );
+    let builder = match kind {
+        ProcessorKind::Simple => builder.with_simple_exporter(exporter)?,
+        ProcessorKind::Batch => builder.with_batch_exporter(exporter)?,
+        ProcessorKind::Eager => builder.with_eager_batch_exporter(exporter)?,
+    };
+    let provider = builder.build()?;
+    tracers.push_reserved(provider.tracer_with_scope(scope));
+    Ok(PipelineOf::over(alloc, provider, resource, tracers))
+}
+
+impl Pipeline {
+    /// Opens a pipeline. The settings are lines `NAME=VALUE`; the seed decides all ids.
+    pub fn open(alloc: Global, settings: &[u8], seed: u64) -> Result<Pipeline, PipelineError> {
+        let Ok(text) = str::from_utf8(settings) else {
+            return Err(PipelineError::NotUtf8);
+        };
+        let settings = Settings::read(alloc, text)?;
+        let strings = settings.strings(alloc)?;
+        let ignored = settings.ignored(alloc, &strings)?;
+        let exporter = ExporterOf::Memory(InMemorySpanExporter::new(alloc));
+        let inside = pipeline_with(alloc, settings.processor_kind(), &strings, seed, exporter)?;
+        Ok(Pipeline { inside, ignored })
+    }
+
+    /// The names of the settings that were ignored, each with a line feed after it: those that nobody knows, and those
+    /// whose values do not read.
+    pub fn ignored_settings(&self) -> &str {
+        self.ignored.as_str()
+    }
+}
+
+fn crosses<T: Send>(_value: &T) {}
+
+/// A pipeline may go to another thread, one call at a time.
+pub fn may_cross(pipeline: &Pipeline) {
+    crosses(pipeline);
+}

@@ -1,0 +1,273 @@
+//! A pipeline over any one kind of processor, sampler and source of ids: its provider, its tracers and open spans by
+//! numbers, the attributes that were gathered for what comes next, and the lines that were not handed out yet.
+
+ghost use Rattle.std.specs.Prelude.{◌≡◌, ◌++◌, ◌∷◌, [], IfOk, OnErr, OnOk, slice_get, Some, string_bytes, map};
+ghost use Rattle.otel_pipeline.specs.Calls.{Calls, calls_of};
+ghost use Rattle.otel_pipeline.specs.SpanHistory.{set_attribute};
+ghost use Rattle.otel_embed.specs.Pipelines.{
+  EditsSpan,
+  EndsSpan,
+  IsContextUnder,
+  RefusesIn,
+  StartsIn,
+  Stays,
+};
+
+use crate::changes_span::{Attributes, ChangesSpan};
+use crate::error::PipelineError;
+use crate::open_spans::OpenSpans;
+use opentelemetry::trace::{SpanBuilder, SpanKind};
+use opentelemetry::{Context, InstrumentationScope, KeyValue, Moment};
+use otel_pipeline::trace::{CloseReport, CountsLeftSpans, KeepsBatches, ProviderOf, SdkTracer};
+use otel_resource::resource::Resource;
+use otel_sampling::trace::{GivesIds, ShouldSample};
+use std::alloc::Global;
+use std::marker::Model;
+use std::mem;
+
+/// A pipeline. It must be spent by `close`.
+pub struct PipelineOf<P, S, G> {
+    pub(crate) alloc: Global,
+    pub(crate) provider: ProviderOf<P, S, G>,
+    pub(crate) resource: Resource,
+    pub(crate) lines: Vec<u8>,
+    pub(crate) tracers: Vec<SdkTracer>,
+    pub(crate) spans: OpenSpans,
+    pub(crate) gathered: Vec<KeyValue>,
+    // How many spans the processor refused when memory ran out.
+    pub(crate) refused: u64,
+}
+
+impl<P, S, G> Model for PipelineOf<P, S, G> {
+    ghost use Rattle.std.specs.Coded.{codes};
+    ghost use Rattle.otel_resource.specs.ResourceCode.{resource_code};
+    ghost use Rattle.otel_embed.specs.Pipelines.{PipelineState};
+
+    ghost Value = { PipelineState P S G };
+
+    ghost coded = { Prim.hlevel (codes, resource_code) };
+
+    ghost view = { λ a. record {
+      flow = record { provider = a.provider; resource = a.resource; lines = a.lines.items };
+      scopes = a.tracers.items;
+      spans = a.spans;
+      gathered = a.gathered.items;
+    } };
+}
+
+/// A pipeline whose calls can be spoken of.
+pub trait HostPipeline {
+    type Processor;
+
+    type Sampler;
+
+    type Ids;
+
+    /// What is said of the calls of its provider's processors, of its sampler and of its source of ids.
+    ghost calls: { Calls Self.Processor Self.Sampler Self.Ids };
+}
+
+impl<P: KeepsBatches, S: ShouldSample, G: GivesIds> HostPipeline for PipelineOf<P, S, G> {
+    type Processor = P;
+
+    type Sampler = S;
+
+    type Ids = G;
+
+    ghost calls = { calls_of P.SpanProcessor P.Timed.own P.CountsLeftSpans.own P.KeepsBatches.own
+        S.ShouldSample G.GivesIds };
+}
+
+/// How a span of a host starts.
+#[derive(Clone, Copy, Debug)]
+pub struct HostStart {
+    /// The number of its tracer.
+    pub tracer: u64,
+    pub kind: SpanKind,
+    /// Nanoseconds since 1970.
+    pub moment: Moment,
+}
+
+/// The tracer of a number.
+fn tracer_at(tracers: &[SdkTracer], number: u64) -> Result<&SdkTracer, PipelineError>
+    ensures { IfOk result (λ tracer. slice_get tracers.now number ≡ Some tracer.now) }
+{
+    match usize::try_from(number) {
+        Ok(number) => match tracers.get(number) {
+            Some(tracer) => Ok(tracer),
+            None => Err(PipelineError::NoSuchTracer),
+        },
+        Err(_) => Err(PipelineError::NoSuchTracer),
+    }
+}
+
+impl<P, S, G> PipelineOf<P, S, G> {
+    /// A pipeline over a provider, whose spans are of this resource. Its first tracer, of number 0, is for the library
+    /// of this name. Where there is no memory the provider comes back.
+    pub fn over(
+        alloc: Global,
+        provider: ProviderOf<P, S, G>,
+        resource: Resource,
+        tracers: Vec<SdkTracer>,
+    ) -> PipelineOf<P, S, G>
+        ensures { result ≡ record {
+          flow = record { provider = provider; resource = resource; lines = [] };
+          scopes = tracers.items;
+          spans = record { entries = []; next_key = 1 };
+          gathered = [];
+        } }
+    {
+        PipelineOf {
+            alloc,
+            provider,
+            resource,
+            lines: Vec::new(alloc),
+            tracers,
+            spans: OpenSpans::new(alloc),
+            gathered: Vec::new(alloc),
+            refused: 0,
+        }
+    }
+}
+
+impl<P: CountsLeftSpans, S: Drop, G: Drop> PipelineOf<P, S, G> {
+    /// Spends the pipeline: its spans are abandoned, and its provider is closed.
+    pub fn close(self) -> CloseReport {
+        let PipelineOf {
+            alloc: _,
+            provider,
+            resource: _,
+            lines: _,
+            tracers: _,
+            spans: _,
+            gathered: _,
+            refused: _,
+        } = self;
+        provider.close()
+    }
+}
+
+impl<P: KeepsBatches, S: ShouldSample, G: GivesIds> PipelineOf<P, S, G> {
+    /// A tracer for a library, by its number.
+    pub(crate) fn add_tracer(&mut self, scope: InstrumentationScope) -> Result<u64, PipelineError>
+        ensures ok { IfOk result (λ number. slice_get self.new.scopes number ≡ Some scope) }
+        ensures rest { self.new ≡ record self.old { scopes = self.new.scopes } }
+        ensures err { OnErr result (self.new.scopes ≡ self.old.scopes) }
+    {
+        let number = self.tracers.len();
+        self.tracers.push(self.provider.tracer_with_scope(scope))?;
+        Ok(number as u64)
+    }
+
+    /// Gathers an attribute for what comes next.
+    pub(crate) fn gather_attribute(&mut self, attribute: KeyValue) -> Result<(), PipelineError>
+        ensures ok { OnOk result (self.new ≡ record self.old { gathered = self.old.gathered ++ attribute ∷ [] }) }
+        ensures err { OnErr result (self.new ≡ self.old) }
+    {
+        self.gathered.push(attribute)?;
+        Ok(())
+    }
+
+    /// Hands out the attributes that were gathered.
+    pub(crate) fn take_gathered(&mut self) -> Vec<KeyValue>
+        ensures taken { result.items ≡ self.old.gathered }
+        ensures rest { self.new ≡ record self.old { gathered = [] } }
+    {
+        mem::replace(&mut self.gathered, Vec::new(self.alloc))
+    }
+
+    /// The context in which a child of the span of a key starts; for 0 that of a root.
+    fn context_under(&self, parent: u64) -> Result<Context, PipelineError>
+        ensures { IfOk result (IsContextUnder self.now.spans parent) }
+    {
+        if parent == 0 {
+            return Ok(Context::new());
+        }
+        Ok(self.spans.get(parent)?.active_context()?)
+    }
+
+    /// Changes the span of a key. Nothing else happens.
+    pub(crate) fn change<E: ChangesSpan>(
+        &mut self,
+        span: u64,
+        change: E,
+    ) -> Result<(), PipelineError>
+        ensures ok { OnOk result (EditsSpan self.old span (E.edits change) self.new) }
+        ensures err { OnErr result (Stays self.old self.new) }
+    {
+        self.spans.change(span, change)
+    }
+
+    /// Sets the attributes that were gathered.
+    pub fn set_attributes(&mut self, span: u64) -> Result<(), PipelineError>
+        ensures ok { OnOk result (EditsSpan self.old span (map set_attribute self.old.gathered) self.new) }
+        ensures err { OnErr result (Stays self.old self.new) }
+    {
+        let attributes = self.take_gathered();
+        self.change(span, Attributes(attributes))
+    }
+
+    /// Abandons the span of a key: nothing is delivered.
+    pub fn abandon(&mut self, span: u64) -> Result<(), PipelineError>
+        ensures flow { self.new.flow ≡ self.old.flow }
+        ensures err { OnErr result (Stays self.old self.new) }
+    {
+        self.spans.abandon(span)
+    }
+
+    /// Starts a span under the span of a key, or a root where that is 0, and answers its key. It has the attributes
+    /// that were gathered.
+    pub(crate) fn start_under(
+        &mut self,
+        start: HostStart,
+        parent: u64,
+        name: String,
+    ) -> Result<u64, PipelineError>
+        ensures ok { IfOk result (λ key. StartsIn
+            (calls_of P.SpanProcessor P.Timed.own P.CountsLeftSpans.own P.KeepsBatches.own S.ShouldSample G.GivesIds)
+            (IsContextUnder self.old.spans parent) self.old start.tracer start.kind start.moment.0 (string_bytes name)
+            key self.new) }
+        ensures err { OnErr result (RefusesIn
+            (calls_of P.SpanProcessor P.Timed.own P.CountsLeftSpans.own P.KeepsBatches.own S.ShouldSample G.GivesIds)
+            self.old self.new) }
+    {
+        let attributes = self.take_gathered();
+        let cx = self.context_under(parent)?;
+        self.start_in(start, cx, name, attributes)
+    }
+
+    /// Starts a span in a context.
+    pub(crate) fn start_in(
+        &mut self,
+        start: HostStart,
+        cx: Context,
+        name: String,
+        attributes: Vec<KeyValue>,
+    ) -> Result<u64, PipelineError>
+        ensures ok { IfOk result (λ key. StartsIn
+            (calls_of P.SpanProcessor P.Timed.own P.CountsLeftSpans.own P.KeepsBatches.own S.ShouldSample G.GivesIds)
+            (λ found. found ≡ cx) (record self.old { gathered = attributes.items }) start.tracer start.kind
+            start.moment.0 (string_bytes name) key (record self.new { gathered = [] })) }
+        ensures err { OnErr result (RefusesIn
+            (calls_of P.SpanProcessor P.Timed.own P.CountsLeftSpans.own P.KeepsBatches.own S.ShouldSample G.GivesIds)
+            self.old (record self.new { gathered = [] })) }
+        ensures gathered { self.new.gathered ≡ self.old.gathered }
+    {
+        let tracer = tracer_at(&self.tracers, start.tracer)?;
+        let builder = SpanBuilder::from_name(name)
+            .with_kind(start.kind)
+            .with_attributes(attributes);
+        self.spans
+            .start(builder, cx, tracer, &mut self.provider, start.moment)
+    }
+
+    /// Ends a span, whose key names none from then on.
+    pub fn end(&mut self, span: u64, moment: Moment) -> Result<(), PipelineError>
+        ensures ok { OnOk result (EndsSpan P.SpanProcessor self.old span moment.0 self.new) }
+        ensures err { OnErr result (Stays self.old self.new) }
+    {
+        let refused = self.spans.end(span, &mut self.provider, moment)?;
+        self.refused = self.refused.saturating_add(refused as u64);
+        Ok(())
+    }
+}

@@ -1,0 +1,96 @@
+//! Spans between processes: a start under the span of another process, links to such, and headers.
+
+ghost use Rattle.std.specs.Prelude.{◌≡◌, IfOk, OnErr, OnOk, Some, is_some, string_bytes};
+ghost use Rattle.otel_pipeline.specs.Calls.{calls_of};
+ghost use Rattle.otel_embed.specs.Headers.{ReadsContext};
+ghost use Rattle.otel_embed.specs.Keys.{span_at};
+ghost use Rattle.otel_embed.specs.Pipelines.{LinksTo, RefusesIn, SetsHeadersOf, StartsIn, Stays};
+
+use crate::error::PipelineError;
+use crate::headers::{context_of, inject};
+use crate::pipeline_of::{HostStart, PipelineOf};
+use opentelemetry::propagation::{Extractor, Injector};
+use opentelemetry::trace::{Link, SpanContext};
+use otel_pipeline::trace::{KeepsBatches, SpanEdit};
+use otel_sampling::trace::{GivesIds, ShouldSample};
+
+impl<P: KeepsBatches, S: ShouldSample, G: GivesIds> PipelineOf<P, S, G> {
+    /// Starts a span as a child of the span of another process, which headers name, and with the baggage that they say.
+    /// Where they name none it is a root. It has the attributes that were gathered.
+    pub(crate) fn start_from<X: Extractor>(
+        &mut self,
+        start: HostStart,
+        headers: &X,
+        name: String,
+    ) -> Result<u64, PipelineError>
+        ensures ok { IfOk result (λ key. StartsIn
+            (calls_of P.SpanProcessor P.Timed.own P.CountsLeftSpans.own P.KeepsBatches.own S.ShouldSample G.GivesIds)
+            (ReadsContext (X.reads headers.now)) self.old start.tracer start.kind start.moment.0 (string_bytes name)
+            key self.new) }
+        ensures err { OnErr result (RefusesIn
+            (calls_of P.SpanProcessor P.Timed.own P.CountsLeftSpans.own P.KeepsBatches.own S.ShouldSample G.GivesIds)
+            self.old self.new) }
+    {
+        let attributes = self.take_gathered();
+        let cx = context_of(self.alloc, headers)?;
+        self.start_in(start, cx, name, attributes)
+    }
+
+    /// Adds a link to another open span. It has the attributes that were gathered.
+    pub fn add_link(&mut self, span: u64, linked: u64) -> Result<(), PipelineError>
+        ensures ok { OnOk result (LinksTo self.old span linked self.new) }
+        ensures err { OnErr result (Stays self.old self.new) }
+    {
+        let attributes = self.take_gathered();
+        let target = self.spans.get(linked)?.span.span_context().clone()?;
+        self.change(span, SpanEdit::AddLink(Link::new(target, attributes, 0)))
+    }
+
+    /// Adds a link to the span of another process, which headers name; `BadArgument` where they name none. It has the
+    /// attributes that were gathered.
+    pub(crate) fn add_link_from<X: Extractor>(
+        &mut self,
+        span: u64,
+        headers: &X,
+    ) -> Result<(), PipelineError>
+        ensures err { OnErr result (Stays self.old self.new) }
+    {
+        let attributes = self.take_gathered();
+        let cx = context_of(self.alloc, headers)?;
+        if !cx.span_context().is_valid() {
+            return Err(PipelineError::BadArgument);
+        }
+        let target = cx.span_context().clone()?;
+        self.change(span, SpanEdit::AddLink(Link::new(target, attributes, 0)))
+    }
+
+    /// Who the span of a key is.
+    pub(crate) fn span_context(&self, span: u64) -> Result<&SpanContext, PipelineError>
+        ensures { IfOk result (λ context. (found : _) × (span_at self.now.spans span ≡ Some found)
+            × (context.now ≡ found.span.span_context)) }
+    {
+        Ok(self.spans.get(span)?.span.span_context())
+    }
+
+    /// Whether the span of a key records what it is told.
+    pub(crate) fn is_recording(&self, span: u64) -> Result<bool, PipelineError>
+        ensures { IfOk result (λ answer. (found : _) × (span_at self.now.spans span ≡ Some found)
+            × (answer ≡ is_some found.span.recorded)) }
+    {
+        Ok(self.spans.get(span)?.span.is_recording())
+    }
+
+    /// Sets the headers that hand the span of a key on to another process, with the baggage that it was started with.
+    /// After an error some may be set.
+    pub(crate) fn inject<I: Injector>(
+        &self,
+        span: u64,
+        headers: &mut I,
+    ) -> Result<(), PipelineError>
+        ensures { OnOk result (SetsHeadersOf self.now span (I.texts headers.old) (I.texts headers.new)) }
+    {
+        let cx = self.spans.get(span)?.active_context()?;
+        inject(self.alloc, &cx, headers)?;
+        Ok(())
+    }
+}

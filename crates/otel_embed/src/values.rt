@@ -1,0 +1,105 @@
+//! What a host hands in, as the pipeline's own values: texts are bytes, and lists of texts one text with lengths.
+
+ghost use Rattle.std.specs.Prelude.{◌≡◌, IfOk, string_bytes};
+ghost use Rattle.opentelemetry.specs.PlainValues.{plain_value};
+ghost use Rattle.otel_embed.specs.HostValues.{IsValueOf};
+
+use crate::error::PipelineError;
+use opentelemetry::{Array, Key, KeyValue, Value};
+use std::alloc::{AllocError, Global};
+
+/// The value of an attribute.
+#[derive(Clone, Copy, Debug)]
+pub enum HostValue<'a> {
+    Text(&'a [u8]),
+    Integer(i64),
+    Truth(bool),
+    /// Texts that stand one after another, and how many bytes each has.
+    Texts { texts: &'a [u8], lengths: &'a [u64] },
+    Integers(&'a [i64]),
+    /// 0 is false, and every other number true.
+    Truths(&'a [u8]),
+}
+
+/// The text that bytes are.
+pub(crate) fn text_of(alloc: Global, bytes: &[u8]) -> Result<String, PipelineError>
+    ensures { IfOk result (λ text. string_bytes text ≡ bytes.now) }
+{
+    match str::from_utf8(bytes) {
+        Ok(text) => Ok(String::from_str(alloc, text)?),
+        Err(_) => Err(PipelineError::NotUtf8),
+    }
+}
+
+/// The same; no bytes are no text.
+pub(crate) fn optional_text(alloc: Global, bytes: &[u8]) -> Result<Option<String>, PipelineError> {
+    if bytes.is_empty() {
+        return Ok(None);
+    }
+    Ok(Some(text_of(alloc, bytes)?))
+}
+
+/// The attribute of a key and a value.
+pub(crate) fn attribute_of(
+    alloc: Global,
+    key: &[u8],
+    value: HostValue<'_>,
+) -> Result<KeyValue, PipelineError>
+    ensures { IfOk result (λ attribute. (attribute.key ≡ key.now) × IsValueOf value.entry attribute.value) }
+{
+    let key = text_of(alloc, key)?;
+    let value = value_of(alloc, value)?;
+    Ok(KeyValue::new(Key::new(key), value))
+}
+
+fn value_of(alloc: Global, value: HostValue<'_>) -> Result<Value, PipelineError>
+    ensures { IfOk result (λ made. IsValueOf value.entry (plain_value made)) }
+{
+    match value {
+        HostValue::Text(bytes) => Ok(Value::String(text_of(alloc, bytes)?)),
+        HostValue::Integer(number) => Ok(Value::I64(number)),
+        HostValue::Truth(truth) => Ok(Value::Bool(truth)),
+        HostValue::Texts { texts, lengths } => {
+            Ok(Value::Array(Array::String(texts_of(alloc, texts, lengths)?)))
+        }
+        HostValue::Integers(numbers) => Ok(Value::Array(Array::I64(integers_of(alloc, numbers)?))),
+        HostValue::Truths(bytes) => Ok(Value::Array(Array::Bool(truths_of(alloc, bytes)?))),
+    }
+}
+
+/// The texts of these lengths; `BadArgument` where the lengths are not those of all of the bytes.
+fn texts_of(alloc: Global, bytes: &[u8], lengths: &[u64]) -> Result<Vec<String>, PipelineError> {
+    let mut texts = Vec::new(alloc);
+    let mut rest = bytes;
+    for length in lengths {
+        let Ok(length) = usize::try_from(*length) else {
+            return Err(PipelineError::BadArgument);
+        };
+        let Some((text, after)) = rest.split_at_checked(length) else {
+            return Err(PipelineError::BadArgument);
+        };
+        texts.push(text_of(alloc, text)?)?;
+        rest = after;
+    }
+    if rest.is_empty() {
+        Ok(texts)
+    } else {
+        Err(PipelineError::BadArgument)
+    }
+}
+
+fn integers_of(alloc: Global, numbers: &[i64]) -> Result<Vec<i64>, AllocError>
+    ensures { IfOk result (λ made. made.items ≡ numbers.now) }
+{
+    let mut made = Vec::new(alloc);
+    made.extend_from_slice(numbers)?;
+    Ok(made)
+}
+
+fn truths_of(alloc: Global, bytes: &[u8]) -> Result<Vec<bool>, AllocError> {
+    let mut truths = Vec::with_capacity(alloc, bytes.len())?;
+    for byte in bytes {
+        truths.push(*byte != 0)?;
+    }
+    Ok(truths)
+}

@@ -1,0 +1,4 @@
+//! A host's pipeline, called as a host calls it.
+
+mod life;
+mod settings;
