@@ -1,12 +1,15 @@
 """A stand-in for a collector, on the loopback alone: it answers as OTLP over HTTP has it, and notes what came.
 
 `POST /v1/traces` with `application/json` is answered by 200 and `{}`, or `partialSuccess` where a span came before; a
-body that cannot be read by 400 and a `Status`; another type or an encoding by 415; another path by 404.
+body that cannot be read by 400 and a `Status`; another type or an encoding by 415; another path by 404. What a client
+sent that has closed the connection meanwhile is not taken.
 """
 
 import collections
 import json
+import select
 import signal
+import socket
 import sys
 import threading
 from http.server import BaseHTTPRequestHandler, ThreadingHTTPServer
@@ -36,13 +39,15 @@ def name_of(key):
 class Received:
     """What came: spans by their ids, in order, and what was wrong."""
 
-    def __init__(self, read, failing, last):
+    def __init__(self, read, failing, last, kept):
         self.read = read
         self.failing = failing
         self.last = last
+        self.kept = kept
         self.spans = {}
         self.faults = []
         self.turned_away = 0
+        self.left = 0
         self.requests = 0
         self.is_over = threading.Event()
         self.lock = threading.Lock()
@@ -54,8 +59,11 @@ class Received:
             self.turned_away += is_busy
             return is_busy
 
-    def take(self, body):
-        """Takes a body: the keys of its spans that came before. A fault where it cannot be read."""
+    def take(self, body, is_left):
+        """Takes a body: the keys of its spans that came before. A fault where it cannot be read.
+
+        It is not taken, and the answer is None, where whoever sent it no longer waits, and so has to send it again.
+        """
         with self.lock:
             self.requests += 1
             if self.requests == self.last:
@@ -65,6 +73,10 @@ class Received:
             except Exception as fault:
                 self.faults.append(f"request {self.requests} cannot be read: {fault}")
                 raise
+            if is_left():
+                self.left += 1
+                return None
+            self.keep(body)
             twice = []
             for key, span in found:
                 if key in self.spans:
@@ -72,6 +84,12 @@ class Received:
                     self.faults.append(f"request {self.requests}: {name_of(key)} came before")
                 self.spans.setdefault(key, span)
             return twice
+
+    def keep(self, body):
+        """Adds a body to the file of those that came, where there is one, so that it is there before the answer is."""
+        if self.kept:
+            self.kept.write(body.removesuffix(b"\n") + b"\n")
+            self.kept.flush()
 
 
 class Answers(BaseHTTPRequestHandler):
@@ -96,13 +114,24 @@ class Answers(BaseHTTPRequestHandler):
         if self.received.turns_away():
             return self.refuse(self.failing_status, UNAVAILABLE, "as --fail asks", [("Retry-After", "1")])
         try:
-            twice = self.received.take(body)
+            twice = self.received.take(body, self.is_left)
         except self.fault_type as fault:
             return self.refuse(400, INVALID_ARGUMENT, str(fault))
+        if twice is None:
+            self.close_connection = True
+            return None
         if not twice:
             return self.answer(200, {})
         message = f"came before: {', '.join(name_of(it) for it in twice)}"
         return self.answer(200, {"partialSuccess": {"rejectedSpans": str(len(twice)), "errorMessage": message}})
+
+    def is_left(self):
+        """Whether the client has closed the connection before it was answered."""
+        try:
+            can_be_read = select.select([self.connection], [], [], 0)[0]
+            return bool(can_be_read) and self.connection.recv(1, socket.MSG_PEEK) == b""
+        except OSError:
+            return True
 
     def do_GET(self):
         self.refuse(405, UNIMPLEMENTED, "requests are posted", [("Allow", "POST")])
@@ -164,7 +193,8 @@ def serve(words, read, fault_type):
     `read` makes a tree of a body, or raises a fault of this type. It is asked by one thread at a time.
     """
     expected = expected_spans(words.expect, read) if words.expect else None
-    received = Received(read, words.fail, words.requests)
+    kept = open(words.keep, "ab") if words.keep else None
+    received = Received(read, words.fail, words.requests, kept)
     how = {"received": received, "fault_type": fault_type, "failing_status": words.fail_with}
     server = Server(("127.0.0.1", words.serve), type("AnswersHere", (Answers,), how))
     serving = threading.Thread(target=server.serve_forever, args=(0.05,))
@@ -183,6 +213,6 @@ def serve(words, read, fault_type):
     faults = [*received.faults, *(compare(received.spans, expected) if words.expect else ())]
     for fault in faults:
         print(fault, file=sys.stderr)
-    counts = f"{received.requests} requests read, {received.turned_away} turned away, {len(received.spans)} spans"
-    print(f"{counts}, {len(faults)} faults", file=sys.stderr)
+    counts = f"{received.requests} requests read, {received.turned_away} turned away, {received.left} left unanswered"
+    print(f"{counts}, {len(received.spans)} spans, {len(faults)} faults", file=sys.stderr)
     return not faults

@@ -1,0 +1,236 @@
+// SPDX-License-Identifier: Apache-2.0
+/* What otel.hpp hands to the library and takes from it: errors, attributes, moments and headers. */
+#ifndef OTEL_VALUES_HPP
+#define OTEL_VALUES_HPP
+
+#include "otel.h"
+
+#include <algorithm>
+#include <chrono>
+#include <cstddef>
+#include <cstdint>
+#include <stdexcept>
+#include <string>
+#include <string_view>
+#include <type_traits>
+#include <utility>
+#include <variant>
+#include <vector>
+
+namespace otel {
+
+using Clock = std::chrono::system_clock;
+using Moment = Clock::time_point;
+using Headers = std::vector<std::pair<std::string, std::string>>;
+using Identity = otel_span_identity;
+using Numbers = otel_numbers;
+
+enum class Kind : std::uint32_t {
+  internal = OTEL_INTERNAL,
+  server = OTEL_SERVER,
+  client = OTEL_CLIENT,
+  producer = OTEL_PRODUCER,
+  consumer = OTEL_CONSUMER
+};
+
+enum class StatusCode : std::uint32_t { unset = OTEL_STATUS_UNSET, ok = OTEL_STATUS_OK, error = OTEL_STATUS_ERROR };
+
+/* What went wrong in a call, with its status. */
+class Error : public std::runtime_error {
+public:
+  Error(const char *call, std::uint32_t status)
+      : std::runtime_error(std::string(call) + ": " + reason(status)), status_(status) {}
+
+  std::uint32_t status() const noexcept { return status_; }
+
+  static const char *reason(std::uint32_t status) noexcept {
+    switch (status) {
+    case OTEL_OK:
+      return "ok";
+    case OTEL_CLOSED:
+      return "the pipeline is closed";
+    case OTEL_ALREADY_OPEN:
+      return "the pipeline is open already";
+    case OTEL_OUT_OF_MEMORY:
+      return "out of memory";
+    case OTEL_NO_SUCH_SPAN:
+      return "no open span has this key";
+    case OTEL_NO_SUCH_TRACER:
+      return "no tracer has this number";
+    case OTEL_NOT_UTF8:
+      return "a text is not UTF-8";
+    case OTEL_BAD_ARGUMENT:
+      return "an argument is none of those that the call takes";
+    case OTEL_BUFFER_TOO_SMALL:
+      return "the buffer has too little room";
+    case OTEL_FAILED:
+      return "not all was exported, or the pipeline is shut down";
+    default:
+      return "a status without a name";
+    }
+  }
+
+private:
+  std::uint32_t status_;
+};
+
+/* An attribute, which views its key and its texts: they must stay until the call that it is given to. */
+class Attribute {
+public:
+  using Texts = std::vector<std::string_view>;
+  using Integers = std::vector<std::int64_t>;
+  using Bools = std::vector<bool>;
+  using Value = std::variant<std::string_view, std::int64_t, bool, Texts, Integers, Bools>;
+
+  Attribute(std::string_view key, std::string_view value) : key_(key), value_(value) {}
+  Attribute(std::string_view key, const char *value) : key_(key), value_(std::string_view(value)) {}
+  Attribute(std::string_view key, const std::string &value) : key_(key), value_(std::string_view(value)) {}
+  Attribute(std::string_view key, Texts values) : key_(key), value_(std::move(values)) {}
+  Attribute(std::string_view key, const std::vector<std::string> &values)
+      : key_(key), value_(Texts(values.begin(), values.end())) {}
+  Attribute(std::string_view key, Integers values) : key_(key), value_(std::move(values)) {}
+  Attribute(std::string_view key, Bools values) : key_(key), value_(std::move(values)) {}
+
+  /* A truth value, or an integer of a type whose every value has a place in 64 bits with a sign. */
+  template <typename Number,
+            typename = std::enable_if_t<std::is_integral_v<Number> && (std::is_signed_v<Number> || sizeof(Number) < 8)>>
+  Attribute(std::string_view key, Number value)
+      : key_(key), value_(static_cast<std::conditional_t<std::is_same_v<Number, bool>, bool, std::int64_t>>(value)) {}
+
+  std::string_view key() const noexcept { return key_; }
+  const Value &value() const noexcept { return value_; }
+
+private:
+  std::string_view key_;
+  Value value_;
+};
+
+using Attributes = std::vector<Attribute>;
+
+/* A library that starts spans; without a name it is that of the pipeline itself. */
+struct Tracer {
+  std::uint64_t number = 0;
+};
+
+/* How a span starts. */
+struct Start {
+  Kind kind = Kind::internal;
+  Attributes attributes = {};
+  Tracer tracer = {};
+  Moment moment = Clock::now();
+};
+
+namespace detail {
+
+inline const std::uint8_t *bytes(std::string_view text) noexcept {
+  /* A view of nothing may have no address, and the library wants one. */
+  return reinterpret_cast<const std::uint8_t *>(text.data() == nullptr ? "" : text.data());
+}
+
+inline void must(const char *call, std::uint32_t status) {
+  if (status != OTEL_OK) {
+    throw Error(call, status);
+  }
+}
+
+inline std::uint64_t nanoseconds(Moment moment) {
+  auto count = std::chrono::duration_cast<std::chrono::nanoseconds>(moment.time_since_epoch()).count();
+  if (count < 0) {
+    throw Error("a moment before 1970", OTEL_BAD_ARGUMENT);
+  }
+  return static_cast<std::uint64_t>(count);
+}
+
+/* Gathers one attribute. */
+struct Gather {
+  otel_handle *handle;
+  std::string_view key;
+
+  std::uint32_t operator()(std::string_view value) const {
+    return otel_with_text(handle, bytes(key), key.size(), bytes(value), value.size());
+  }
+  std::uint32_t operator()(std::int64_t value) const {
+    return otel_with_integer(handle, bytes(key), key.size(), value);
+  }
+  std::uint32_t operator()(bool value) const { return otel_with_bool(handle, bytes(key), key.size(), value); }
+  std::uint32_t operator()(const Attribute::Texts &values) const {
+    std::string together;
+    std::vector<std::uint64_t> lengths;
+    for (std::string_view value : values) {
+      together += value;
+      lengths.push_back(value.size());
+    }
+    lengths.push_back(0); /* so that the list has an address */
+    return otel_with_texts(handle, bytes(key), key.size(), bytes(together), together.size(), lengths.data(),
+                           values.size());
+  }
+  std::uint32_t operator()(const Attribute::Integers &values) const {
+    static const std::int64_t none = 0;
+    const std::int64_t *at = values.empty() ? &none : values.data();
+    return otel_with_integers(handle, bytes(key), key.size(), at, values.size());
+  }
+  std::uint32_t operator()(const Attribute::Bools &values) const {
+    std::string numbers(values.begin(), values.end());
+    return otel_with_bools(handle, bytes(key), key.size(), bytes(numbers), numbers.size());
+  }
+};
+
+/* Gathers attributes for the next call. Where one is refused, those before it are let go again: an edit of no span
+   takes them. */
+inline void gather(otel_handle *handle, const Attributes &attributes) {
+  try {
+    for (const Attribute &attribute : attributes) {
+      must("an attribute", std::visit(Gather{handle, attribute.key()}, attribute.value()));
+    }
+  } catch (...) {
+    otel_set_attributes(handle, 0);
+    throw;
+  }
+}
+
+/* What a call writes into a buffer, which grows to what it needs. */
+template <typename Write> std::string written(const char *call, Write write) {
+  std::string buffer(1024, '\0');
+  std::size_t length = 0;
+  std::uint32_t status;
+  while ((status = write(reinterpret_cast<std::uint8_t *>(buffer.data()), buffer.size(), &length)) ==
+         OTEL_BUFFER_TOO_SMALL) {
+    buffer.resize(length);
+  }
+  must(call, status);
+  buffer.resize(length);
+  return buffer;
+}
+
+/* The headers of a name, in whatever case, with commas between them. */
+inline std::string header(const Headers &headers, std::string_view name) {
+  auto lower = [](char letter) { return letter >= 'A' && letter <= 'Z' ? static_cast<char>(letter + 32) : letter; };
+  auto same = [lower](char left, char right) { return lower(left) == lower(right); };
+  std::string found;
+  bool is_found = false;
+  for (const auto &[other, value] : headers) {
+    if (std::equal(name.begin(), name.end(), other.begin(), other.end(), same)) {
+      found += (is_found ? "," : "") + value;
+      is_found = true;
+    }
+  }
+  return found;
+}
+
+/* The headers of lines that end in a carriage return and a line feed. */
+inline Headers headers_of(std::string_view lines) {
+  Headers headers;
+  while (!lines.empty()) {
+    std::string_view line = lines.substr(0, lines.find("\r\n"));
+    std::size_t colon = line.find(": ");
+    headers.emplace_back(line.substr(0, colon), line.substr(colon + 2));
+    lines.remove_prefix(line.size() + 2);
+  }
+  return headers;
+}
+
+} // namespace detail
+
+} // namespace otel
+
+#endif

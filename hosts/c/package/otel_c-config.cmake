@@ -1,0 +1,17 @@
+# SPDX-License-Identifier: Apache-2.0
+#
+# find_package(otel_c) gives the targets otel_c::otel_c, the static library, and otel_c::shared, the shared one.
+
+get_filename_component(otel_c_prefix "${CMAKE_CURRENT_LIST_DIR}/../../.." ABSOLUTE)
+
+function(otel_c_add target kind file)
+    if(NOT TARGET ${target})
+        add_library(${target} ${kind} IMPORTED)
+        set_target_properties(${target} PROPERTIES
+            IMPORTED_LOCATION "${otel_c_prefix}/lib/${file}"
+            INTERFACE_INCLUDE_DIRECTORIES "${otel_c_prefix}/include")
+    endif()
+endfunction()
+
+otel_c_add(otel_c::otel_c STATIC libotel_c.a)
+otel_c_add(otel_c::shared SHARED libotel_c.so)

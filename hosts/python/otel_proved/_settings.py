@@ -1,0 +1,59 @@
+# SPDX-License-Identifier: Apache-2.0
+"""The settings of a pipeline as lines NAME=VALUE, from a mapping or from the environment."""
+
+from __future__ import annotations
+
+import os
+from typing import List, Mapping, NamedTuple, Optional
+
+from ._values import utf8
+from .errors import BadSetting
+
+_OURS = b"OTEL_"
+# Of senders, and of what finds the library.
+_OF_OTHERS = (b"OTEL_EXPORTER_", b"OTEL_C_")
+
+
+class Settings(NamedTuple):
+    """The lines, and the names of the variables that cannot stand in one."""
+
+    lines: bytes
+    refused: List[str]
+
+
+def settings_of(given: Optional[Mapping[str, str]]) -> Settings:
+    """The settings that are given; those of the environment where none are."""
+    return _of_environment() if given is None else Settings(_of_mapping(given), [])
+
+
+def _of_mapping(given: Mapping[str, str]) -> bytes:
+    lines = []
+    for name, value in given.items():
+        line = utf8(name, "a setting's name"), utf8(value, f"the setting {name!a}")
+        if b"=" in line[0] or b"\n" in line[0] or not line[0]:
+            raise BadSetting(f"a setting's name is empty, or has a '=' or a line feed: {name!a}")
+        if b"\n" in line[1]:
+            raise BadSetting(f"the setting {name!a} has a line feed: {value!a}")
+        lines.append(b"%s=%s\n" % line)
+    return b"".join(lines)
+
+
+def _of_environment() -> Settings:
+    lines, refused = [], []
+    for name, value in sorted(os.environb.items()):
+        if not name.startswith(_OURS) or name.startswith(_OF_OTHERS):
+            continue
+        line = b"%s=%s\n" % (name, value)
+        if line.count(b"\n") == 1 and _is_utf8(line):
+            lines.append(line)
+        else:
+            refused.append(os.fsdecode(name))
+    return Settings(b"".join(lines), refused)
+
+
+def _is_utf8(line: bytes) -> bool:
+    try:
+        line.decode()
+    except UnicodeDecodeError:
+        return False
+    return True

@@ -1,0 +1,226 @@
+# SPDX-License-Identifier: Apache-2.0
+"""A pipeline: it takes spans, and exports them as lines of the OpenTelemetry protocol's JSON."""
+
+from __future__ import annotations
+
+import abc
+import contextlib
+import secrets
+import threading
+from typing import List, Mapping, Optional, Protocol
+
+from . import _fork
+from ._failures import Failures
+from ._handle import NO_SCOPE, NO_SPAN, Beginning, Handle, Scope, Started
+from ._native import Counts
+from ._settings import settings_of
+from ._values import Attributes, encode_all, moment_of, utf8
+from .current import SpanBlock, current_span
+from .errors import NoSuchSpan, OtelError
+from .remote import Remote
+from .span import ROOT, Kind, Parent, Span, UnstartedSpan, origin_of, remote_of, started_parent
+
+_LAST_SEED = 2**64 - 1
+
+
+class Follower(Protocol):
+    """What works for a pipeline: it goes on in a child process, and finishes before the pipeline is closed."""
+
+    def resume(self) -> None:
+        """Goes on, after a fork has left its thread in the parent."""
+
+    def close(self) -> object:
+        """Finishes."""
+
+
+class Starter(abc.ABC):
+    """What starts spans."""
+
+    _scope = NO_SCOPE
+
+    @abc.abstractmethod
+    def _begin(self, beginning: Beginning, parent: Parent) -> Span:
+        """Starts a span, or counts the failure."""
+
+    def start_span(
+        self,
+        name: str,
+        kind: Kind = Kind.INTERNAL,
+        attributes: Optional[Attributes] = None,
+        parent: Parent = None,
+        moment: Optional[int] = None,
+    ) -> Span:
+        """Starts a span, which you end. Its parent is the current span where none is given; that of ROOT is none.
+
+        Where it cannot start it records nothing, and the failure is counted.
+        """
+        named, encoded = utf8(name, "a span's name"), encode_all(attributes)
+        if not isinstance(parent, (Span, Remote, type(None))):
+            raise TypeError(f"a parent is a Span or a Remote, not {type(parent).__name__}")
+        beginning = Beginning(self._scope, Kind(kind), named, encoded, moment_of(moment))
+        return self._begin(beginning, current_span() if parent is None else parent)
+
+    def span(
+        self,
+        name: str,
+        kind: Kind = Kind.INTERNAL,
+        attributes: Optional[Attributes] = None,
+        parent: Parent = None,
+        moment: Optional[int] = None,
+    ) -> SpanBlock:
+        """A span for the block of a `with`, in which it is the current one. It ends on every path.
+
+        An exception that leaves the block is recorded, and the status is an error.
+        """
+        return SpanBlock(lambda: self.start_span(name, kind, attributes, parent, moment))
+
+
+class Tracer(Starter):
+    """Starts the spans of a library. Make one by `Pipeline.tracer`."""
+
+    def __init__(self, pipeline: "Pipeline", scope: Scope) -> None:
+        self._pipeline = pipeline
+        self._scope = scope
+
+    def _begin(self, beginning: Beginning, parent: Parent) -> Span:
+        return self._pipeline._begin(beginning, parent)
+
+
+class Pipeline(Starter, _fork.Renewed):
+    """A pipeline, safe for use from several threads. After a fork the child's is opened anew, with another seed.
+
+    The settings are those of `otel_open` in hosts/c/otel.h, by name. Without them each variable OTEL_* of the
+    environment is one, but those of OTEL_EXPORTER_*, which a Sender reads. Without a seed it is random.
+    """
+
+    def __init__(self, settings: Optional[Mapping[str, str]] = None, seed: Optional[int] = None) -> None:
+        self._settings, refused = settings_of(settings)
+        self._failures = Failures()
+        self._followers: List[Follower] = []
+        self._opening = threading.Lock()
+        self._handle = Handle(self._settings, _seed_of(seed))
+        #: The names of the settings that were ignored: unknown ones, and those whose value does not read.
+        self.ignored_settings = [*refused, *self._handle.ignored_settings()]
+        _fork.register(self)
+
+    def tracer(self, name: str, version: str = "", schema_url: str = "") -> Tracer:
+        """Who starts the spans of a library."""
+        texts = utf8(name, "a tracer's name"), utf8(version, "a version"), utf8(schema_url, "a schema URL")
+        return Tracer(self, Scope(*texts))
+
+    def _begin(self, beginning: Beginning, parent: Parent) -> Span:
+        parent = started_parent(parent)
+        try:
+            handle = self._live()
+            started = self._started(handle, beginning, parent)
+        except OtelError as error:
+            self._failures.note(error)
+            return UnstartedSpan(parent)
+        return Span(handle, started, origin_of(parent), self._failures)
+
+    def _started(self, handle: Handle, beginning: Beginning, parent: Parent) -> Started:
+        if parent is None or parent == ROOT:
+            return handle.start(beginning, NO_SPAN)
+        key = parent.key_at(handle) if isinstance(parent, Span) else None
+        if key is not None:
+            # It may end at this moment, and then names its children's parent by its headers.
+            with contextlib.suppress(NoSuchSpan):
+                return handle.start(beginning, key)
+        return handle.start(beginning, remote_of(parent).encoded())
+
+    def _live(self) -> Handle:
+        """The handle of this process."""
+        if self._handle.is_foreign:
+            self._open_anew()
+        return self._handle
+
+    def _open_anew(self) -> None:
+        with self._opening:
+            if not self._handle.is_foreign:
+                return
+            handle = Handle(self._settings, _seed_of(None))
+            if self._handle.is_shut_down:
+                handle.shutdown()
+            self._handle = handle
+        for follower in self._followers:
+            follower.resume()
+
+    def follow(self, follower: Follower) -> None:
+        """Has a follower work for this pipeline."""
+        self._followers.append(follower)
+
+    @property
+    def failed_calls(self) -> int:
+        """How many calls that start, change or end a span failed; they raise nothing."""
+        return self._failures.count
+
+    @property
+    def last_failure(self) -> Optional[OtelError]:
+        """Why the last of them failed."""
+        return self._failures.last
+
+    @property
+    def forgotten_spans(self) -> int:
+        """How many spans nobody ended before nobody knew them any more; they were abandoned."""
+        return self._handle.forgotten_spans
+
+    @property
+    def lost_spans(self) -> int:
+        """How many spans ended and could not be handed on when memory ran out; they were abandoned."""
+        return self._handle.lost_spans
+
+    def counts(self) -> Counts:
+        """How many spans are where."""
+        return self._live().count()
+
+    def run(self, moment: Optional[int] = None) -> None:
+        """Exports what is due, now or at a moment."""
+        self._live().run(moment_of(moment))
+
+    def flush(self) -> None:
+        """Exports what waits."""
+        self._live().flush()
+
+    def drain(self) -> List[bytes]:
+        """The lines of what was exported, without their line feeds. They are then forgotten."""
+        return _lines_of(self._live().drain())
+
+    def shutdown(self) -> None:
+        """Exports what waits, and nothing afterwards. Lines can still be drained."""
+        self._live().shutdown()
+
+    def close(self) -> List[bytes]:
+        """Has its senders finish, closes the pipeline, and answers the lines that nobody drained.
+
+        Spans that are open are abandoned. From then on a start gives spans that record nothing.
+        """
+        if self._handle.is_closed:
+            return []
+        handle = self._live()
+        for follower in self._followers:
+            follower.close()
+        return _lines_of(handle.close())
+
+    def __enter__(self) -> "Pipeline":
+        return self
+
+    def __exit__(self, *_: object) -> None:
+        self.close()
+
+    def after_fork_in_child(self) -> None:
+        """The parent's other threads are not there to let go of the lock."""
+        self._opening = threading.Lock()
+
+
+def _seed_of(seed: Optional[int]) -> int:
+    if seed is None:
+        return secrets.randbits(64)
+    if isinstance(seed, bool) or not isinstance(seed, int):
+        raise TypeError(f"a seed must be an int, not {type(seed).__name__}")
+    if not 0 <= seed <= _LAST_SEED:
+        raise ValueError(f"a seed must be from 0 to {_LAST_SEED}, not {seed}")
+    return seed
+
+
+def _lines_of(drained: bytes) -> List[bytes]:
+    return [line for line in drained.split(b"\n") if line]

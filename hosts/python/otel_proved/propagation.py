@@ -1,0 +1,78 @@
+# SPDX-License-Identifier: Apache-2.0
+"""Headers that hand a span on to another process: traceparent, tracestate and baggage."""
+
+from __future__ import annotations
+
+from typing import Any, Dict, Iterable, List, Mapping, MutableMapping, Optional, Tuple, Union
+
+from .current import current_span
+from .remote import CONTROL, FIELDS, Remote
+from .span import Span
+
+Headers = Union[Mapping[Any, Any], Iterable[Tuple[Any, Any]]]
+
+
+def inject(headers: MutableMapping[str, str], span: Optional[Span] = None) -> None:
+    """Writes the headers of a span, or else of the current one, in place of those that stand there.
+
+    Without a span it leaves all as it is.
+    """
+    span = span or current_span()
+    if span is None:
+        return
+    for name in [it for it in headers if _field_of(it)]:
+        del headers[name]
+    for name, value in span.headers().fields():
+        headers[name] = value
+
+
+def extract(headers: Headers) -> Remote:
+    """What a request's headers say, from a mapping or from pairs of a name and a value, each str or bytes.
+
+    The case of a name says nothing. Several fields of one name are joined by commas, but two of `traceparent` say
+    nothing, and neither does a field with a control character or, read as Latin-1, without good UTF-8.
+    """
+    found: Dict[str, List[str]] = {name: [] for name in FIELDS}
+    for name, value in headers.items() if hasattr(headers, "items") else headers:
+        field = _field_of(name)
+        if field:
+            found[field].append(_text_of(value, field))
+    if len(found["traceparent"]) > 1:
+        found["traceparent"] = []
+    return Remote(**{name: ",".join(filter(None, values)) for name, values in found.items()})
+
+
+def _field_of(name: Any) -> Optional[str]:
+    if isinstance(name, bytes):
+        name = name.decode("latin-1")
+    lowered = name.lower() if isinstance(name, str) else None
+    return lowered if lowered in FIELDS else None
+
+
+def _text_of(value: Any, field: str) -> str:
+    """The text of a field, which servers hand on as Latin-1; an empty one where it says nothing."""
+    if not isinstance(value, (str, bytes)):
+        raise TypeError(f"the header {field} must be a str or bytes, not {type(value).__name__}")
+    read = _decoded(value) if isinstance(value, bytes) else _as_utf8(value)
+    return "" if CONTROL.search(read) else read
+
+
+def _as_utf8(value: str) -> str:
+    if value.isascii():
+        return value
+    try:
+        return _decoded(value.encode("latin-1"))
+    except UnicodeEncodeError:
+        return value if _is_utf8(value) else ""
+
+
+def _decoded(value: bytes) -> str:
+    try:
+        return value.decode()
+    except UnicodeDecodeError:
+        return ""
+
+
+def _is_utf8(value: str) -> bool:
+    """Whether a text has no lone surrogate."""
+    return value.encode("utf-8", "replace").decode() == value

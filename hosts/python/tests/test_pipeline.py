@@ -1,0 +1,228 @@
+# SPDX-License-Identifier: Apache-2.0
+"""Pipelines: settings, threads, forks, and how they are closed."""
+
+import gc
+import os
+import sys
+import threading
+import traceback
+import unittest
+from unittest import mock
+
+from otel_proved import BadSetting, Closed, Failed, OtherProcess, Pipeline
+
+from .support import SHORT, Collector, PipelineTest, spans_in
+
+
+def in_child(work):
+    """Runs work in a forked child, and answers its status: 0 where it raised nothing."""
+    child = os.fork()
+    if child == 0:
+        status = 1
+        try:
+            work()
+            status = 0
+        except BaseException:
+            traceback.print_exc()
+            sys.stderr.flush()
+        finally:
+            os._exit(status)
+    return os.waitstatus_to_exitcode(os.waitpid(child, 0)[1])
+
+
+class Settings(unittest.TestCase):
+    def test_unknown_ones_are_ignored_and_named(self):
+        with Pipeline({"OTEL_SERVICE_NAME": "shop", "OTEL_BOGUS": "1"}) as pipeline:
+            self.assertEqual(pipeline.ignored_settings, ["OTEL_BOGUS"])
+
+    def test_a_long_list_of_ignored_ones_is_whole(self):
+        names = [f"OTEL_BOGUS_{number}" for number in range(100)]
+        with Pipeline(dict.fromkeys(names, "1")) as pipeline:
+            self.assertEqual(sorted(pipeline.ignored_settings), sorted(names))
+
+    def test_those_of_the_environment_but_the_sender_s(self):
+        variables = {"OTEL_BOGUS": "1", "OTEL_EXPORTER_BOGUS": "1", "OTEL_LINES": "a\nb", "OTEL_BYTES": "\udcff"}
+        with mock.patch.dict(os.environ, variables), Pipeline() as pipeline:
+            self.assertEqual(pipeline.ignored_settings, ["OTEL_BYTES", "OTEL_LINES", "OTEL_BOGUS"])
+
+    def test_what_cannot_be_a_line_is_an_error(self):
+        for name, value in (("", "1"), ("OTEL=", "1"), ("OTEL\n", "1"), ("OTEL_A", "1\nOTEL_B=2")):
+            self.assertRaises(BadSetting, Pipeline, {name: value})
+        self.assertRaises(TypeError, Pipeline, {"OTEL_A": 1})
+
+    def test_seeds(self):
+        for seed in (0, 2**64 - 1):
+            ids = []
+            for _ in range(2):
+                with Pipeline({}, seed) as pipeline:
+                    ids.append(pipeline.start_span("same").context)
+            self.assertEqual(*ids)
+        self.assertRaises(ValueError, Pipeline, {}, -1)
+        self.assertRaises(ValueError, Pipeline, {}, 2**64)
+        self.assertRaises(TypeError, Pipeline, {}, "1")
+        with Pipeline({}) as one, Pipeline({}) as other:
+            self.assertNotEqual(one.start_span("a").context, other.start_span("a").context)
+
+
+class Closing(PipelineTest):
+    def test_the_lines_that_nobody_drained_come_back(self):
+        self.pipeline.start_span("kept").end()
+        self.pipeline.start_span("open")
+        self.assertEqual(list(spans_in(self.pipeline.close())), ["kept"])
+        self.assertEqual(self.pipeline.close(), [])
+
+    def test_a_closed_pipeline_takes_calls_on_spans(self):
+        span = self.pipeline.start_span("open")
+        self.pipeline.close()
+        span.set_attribute("key", 1)
+        span.end()
+        with self.pipeline.span("late"):
+            pass
+        self.assertEqual(self.pipeline.failed_calls, 3)
+        self.assertIsInstance(self.pipeline.last_failure, Closed)
+        for call in (self.pipeline.flush, self.pipeline.run, self.pipeline.drain, self.pipeline.counts):
+            self.assertRaises(Closed, call)
+
+    def test_after_a_shutdown_nothing_is_exported(self):
+        self.pipeline.start_span("before").end()
+        self.pipeline.shutdown()
+        with self.pipeline.span("after") as span:
+            span.set_attribute("key", 1)
+        self.assertRaises(Failed, self.pipeline.shutdown)
+        self.assertEqual(list(spans_in(self.pipeline.drain())), ["before"])
+        self.assertEqual(self.pipeline.counts().open_spans, 0)
+
+    def test_a_pipeline_that_is_forgotten_is_closed(self):
+        pipeline = Pipeline({})
+        functions = pipeline._handle._functions
+        closed = []
+        real = functions["otel_close"]
+        with mock.patch.dict(functions, {"otel_close": lambda at: closed.append(real(at))}):
+            span = pipeline.start_span("open")
+            del pipeline, span
+            gc.collect()
+        self.assertEqual(closed, [0])
+
+
+class Threads(PipelineTest):
+    settings = {"OTEL_BSP_MAX_QUEUE_SIZE": "100000"}
+    COUNT, EACH = 8, 200
+
+    def work(self, number):
+        for index in range(self.EACH):
+            with self.pipeline.span(f"{number}-{index}", attributes={"number": number, "index": index}):
+                with self.pipeline.span(f"in {number}-{index}", attributes={"number": number}) as span:
+                    span.add_event("row", {"index": index})
+
+    def test_spans_of_threads_do_not_mix(self):
+        drained, is_over = [], threading.Event()
+
+        def drain():
+            while not is_over.wait(0.001):
+                self.pipeline.flush()
+                drained.extend(self.pipeline.drain())
+
+        threads = [threading.Thread(target=self.work, args=(it,)) for it in range(self.COUNT)]
+        draining = threading.Thread(target=drain)
+        for thread in [draining, *threads]:
+            thread.start()
+        for thread in threads:
+            thread.join()
+        is_over.set()
+        draining.join()
+        self.pipeline.flush()
+        found = spans_in(drained + self.pipeline.drain())
+        self.assertEqual((len(found), self.pipeline.failed_calls), (2 * self.COUNT * self.EACH, 0))
+        for number in range(self.COUNT):
+            for index in range(self.EACH):
+                outer, inner = found[f"{number}-{index}"], found[f"in {number}-{index}"]
+                wanted = [{"key": "number", "value": {"intValue": str(number)}}]
+                self.assertEqual((inner["parentSpanId"], inner["attributes"]), (outer["spanId"], wanted))
+                self.assertEqual([it["value"]["intValue"] for it in outer["attributes"]], [str(number), str(index)])
+
+
+class Forks(PipelineTest):
+    def test_the_child_has_a_pipeline_of_its_own(self):
+        self.pipeline.start_span("of the parent").end()
+        with self.pipeline.span("before") as before:
+
+            def work():
+                with self.pipeline.span("in the child") as span:
+                    self.assertEqual(span.context.trace_id, before.context.trace_id)
+                found = self.exported()
+                self.assertEqual(list(found), ["in the child"])
+                self.assertEqual(found["in the child"]["parentSpanId"], before.context.span_id)
+                self.assertEqual(self.pipeline.failed_calls, 0)
+                before.end()
+                self.assertIsInstance(self.pipeline.last_failure, OtherProcess)
+
+            self.assertEqual(in_child(work), 0)
+        self.assertEqual(set(self.exported()), {"of the parent", "before"})
+
+    def test_ids_differ_from_the_parent_s(self):
+        with mock.patch("secrets.randbits", return_value=99) as randbits:
+
+            def work():
+                self.pipeline.start_span("first").end()
+                randbits.assert_called_once_with(64)
+
+            self.assertEqual(in_child(work), 0)
+            randbits.assert_not_called()
+
+    def test_what_was_closed_or_shut_down_stays_so(self):
+        shut = Pipeline({})
+        shut.shutdown()
+        self.pipeline.close()
+
+        def work():
+            self.assertRaises(Closed, self.pipeline.flush)
+            shut.start_span("late").end()
+            self.assertRaises(Failed, shut.shutdown)
+            self.assertEqual(shut.drain(), [])
+
+        self.assertEqual(in_child(work), 0)
+        shut.close()
+
+    def test_forks_in_the_middle_of_calls(self):
+        is_over = threading.Event()
+
+        def trace():
+            while not is_over.is_set():
+                with self.pipeline.span("busy", attributes={"key": "value"}):
+                    pass
+
+        threads = [threading.Thread(target=trace) for _ in range(3)]
+        for thread in threads:
+            thread.start()
+        try:
+            for _ in range(20):
+                self.assertEqual(in_child(lambda: self.assertIn("child", self.child_spans())), 0)
+        finally:
+            is_over.set()
+            for thread in threads:
+                thread.join()
+        self.assertEqual(self.pipeline.failed_calls, 0)
+
+    def child_spans(self):
+        with self.pipeline.span("child", attributes={"key": 1}):
+            pass
+        return self.exported()
+
+    def test_the_child_s_sender_goes_on(self):
+        from otel_proved import Sender
+
+        collector = Collector()
+        self.addCleanup(collector.stop)
+        sender = Sender(self.pipeline, collector.url, interval=SHORT)
+        self.pipeline.start_span("of the parent").end()
+
+        def work():
+            self.assertEqual((sender.sent_lines, sender.waiting_lines), (0, 0))
+            self.pipeline.start_span("of the child").end()
+            self.assertTrue(sender.flush(10))
+            self.assertEqual(sender.sent_spans, 1)
+
+        self.assertEqual(in_child(work), 0)
+        self.assertEqual(in_child(lambda: self.assertTrue(sender.close())), 0)
+        self.assertTrue(sender.flush(10))
+        self.assertEqual((set(collector.spans), sender.sent_spans), ({"of the parent", "of the child"}, 1))

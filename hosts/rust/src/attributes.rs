@@ -1,0 +1,85 @@
+// SPDX-License-Identifier: Apache-2.0
+//! Attributes: what spans, events and links say about themselves, each a key and a value.
+
+use std::borrow::Cow;
+
+/// The value of an attribute. Texts and lists may be borrowed: a call copies what it is given.
+#[derive(Clone, Debug, PartialEq, Eq)]
+pub enum Value<'a> {
+    Text(Cow<'a, str>),
+    Integer(i64),
+    Bool(bool),
+    Texts(Vec<Cow<'a, str>>),
+    Integers(Cow<'a, [i64]>),
+    Bools(Cow<'a, [bool]>),
+}
+
+/// A key and its value.
+///
+/// ```
+/// use otel_proved::Attribute;
+/// let pair = Attribute::new("http.request.method", "GET");
+/// assert_eq!(pair, ("http.request.method", "GET").into());
+/// ```
+#[derive(Clone, Debug, PartialEq, Eq)]
+pub struct Attribute<'a> {
+    pub key: Cow<'a, str>,
+    pub value: Value<'a>,
+}
+
+impl<'a> Attribute<'a> {
+    pub fn new(key: impl Into<Cow<'a, str>>, value: impl Into<Value<'a>>) -> Self {
+        Self { key: key.into(), value: value.into() }
+    }
+}
+
+impl<'a, K: Into<Cow<'a, str>>, V: Into<Value<'a>>> From<(K, V)> for Attribute<'a> {
+    fn from((key, value): (K, V)) -> Self {
+        Self::new(key, value)
+    }
+}
+
+macro_rules! value_from {
+    ($($from:ty, $it:ident => $value:expr;)*) => {
+        $(impl<'a> From<$from> for Value<'a> {
+            fn from($it: $from) -> Self {
+                $value
+            }
+        })*
+    };
+}
+
+value_from! {
+    &'a str, it => Value::Text(it.into());
+    &'a String, it => Value::Text(it.as_str().into());
+    String, it => Value::Text(it.into());
+    Cow<'a, str>, it => Value::Text(it);
+    bool, it => Value::Bool(it);
+    i64, it => Value::Integer(it);
+    i32, it => Value::Integer(it.into());
+    i16, it => Value::Integer(it.into());
+    i8, it => Value::Integer(it.into());
+    u32, it => Value::Integer(it.into());
+    u16, it => Value::Integer(it.into());
+    u8, it => Value::Integer(it.into());
+    Vec<String>, it => Value::Texts(it.into_iter().map(Cow::from).collect());
+    Vec<&'a str>, it => Value::Texts(it.into_iter().map(Cow::from).collect());
+    &'a [String], it => Value::Texts(it.iter().map(Cow::from).collect());
+    &'a [&'a str], it => Value::Texts(it.iter().map(|text| Cow::from(*text)).collect());
+    Vec<i64>, it => Value::Integers(it.into());
+    &'a [i64], it => Value::Integers(it.into());
+    Vec<bool>, it => Value::Bools(it.into());
+    &'a [bool], it => Value::Bools(it.into());
+}
+
+macro_rules! value_from_array {
+    ($($from:ty),*) => {
+        $(impl<'a, const N: usize> From<[$from; N]> for Value<'a> {
+            fn from(it: [$from; N]) -> Self {
+                Value::from(Vec::from(it))
+            }
+        })*
+    };
+}
+
+value_from_array!(&'a str, String, i64, bool);

@@ -1,0 +1,176 @@
+// SPDX-License-Identifier: Apache-2.0
+//! The safe face of a handle: a pipeline, and what its calls answer. The calls about one span are in `span_calls`.
+//!
+//! What makes each call safe is the same: the handle is a valid one that nobody else uses, since it is borrowed for
+//! writing; each text and list is borrowed from start to end of the call, which copies it; and each answer is written
+//! to a variable of its type.
+
+use super::{
+    check, otel_close, otel_count, otel_drain, otel_flush, otel_ignored_settings, otel_open, otel_run, otel_shutdown,
+    otel_tracer, otel_with_bool, otel_with_bools, otel_with_integer, otel_with_integers, otel_with_text,
+    otel_with_texts, Counts, Held, RawHandle, TracerKey,
+};
+use crate::attributes::{Attribute, Value};
+use crate::moment::Moment;
+use crate::tracer::Library;
+use crate::Error;
+use std::borrow::Cow;
+use std::ptr::null_mut;
+
+/// A pipeline. It is closed when it is dropped, and cannot be copied.
+pub struct Handle {
+    pub(super) raw: RawHandle,
+    is_shut_down: bool,
+}
+
+// SAFETY: a handle may move between threads, and is used by one call at a time, since each call borrows it for writing.
+unsafe impl Send for Handle {}
+
+impl Handle {
+    pub fn open(settings: &str, seed: u64) -> Result<Self, Error> {
+        let raw = RawHandle { is_open: false, held: Held { at: null_mut() } };
+        let mut handle = Self { raw, is_shut_down: false };
+        // SAFETY: as above.
+        check(unsafe { otel_open(&mut handle.raw, settings.as_ptr(), settings.len(), seed) })?;
+        Ok(handle)
+    }
+
+    /// The names of the settings that were ignored, each with a line feed after it.
+    pub fn ignored_settings(&mut self) -> Result<Vec<u8>, Error> {
+        // SAFETY: as above; the buffer is as long as is said.
+        filled(0, |buffer, length| unsafe {
+            otel_ignored_settings(&mut self.raw, buffer.as_mut_ptr(), buffer.len(), length)
+        })
+    }
+
+    pub fn tracer(&mut self, library: &Library<'_>) -> Result<TracerKey, Error> {
+        let (name, version, schema_url) = (library.name, library.version, library.schema_url);
+        let mut tracer = TracerKey::FIRST;
+        // SAFETY: as above.
+        check(unsafe {
+            otel_tracer(
+                &mut self.raw,
+                name.as_ptr(),
+                name.len(),
+                version.as_ptr(),
+                version.len(),
+                schema_url.as_ptr(),
+                schema_url.len(),
+                &mut tracer,
+            )
+        })?;
+        Ok(tracer)
+    }
+
+    /// Gathers attributes for the next call that takes them: all, or none where it answers an error.
+    pub fn gather(&mut self, attributes: &[Attribute<'_>]) -> Result<(), Error> {
+        let gathered = attributes.iter().try_for_each(|it| self.gather_one(it));
+        if gathered.is_err() {
+            // Takes what was gathered before the error; it answers that no span is there.
+            let _no_span = self.set_attributes(None);
+        }
+        gathered
+    }
+
+    fn gather_one(&mut self, attribute: &Attribute<'_>) -> Result<(), Error> {
+        let (key, length) = (attribute.key.as_ptr(), attribute.key.len());
+        let raw = &mut self.raw;
+        // SAFETY: as above; a truth value in memory is a byte, 0 or 1.
+        let status = match &attribute.value {
+            Value::Text(it) => unsafe { otel_with_text(raw, key, length, it.as_ptr(), it.len()) },
+            Value::Integer(it) => unsafe { otel_with_integer(raw, key, length, *it) },
+            Value::Bool(it) => unsafe { otel_with_bool(raw, key, length, u32::from(*it)) },
+            Value::Integers(it) => unsafe { otel_with_integers(raw, key, length, it.as_ptr(), it.len()) },
+            Value::Bools(it) => unsafe { otel_with_bools(raw, key, length, it.as_ptr().cast(), it.len()) },
+            Value::Texts(it) => return self.gather_texts(&attribute.key, it),
+        };
+        check(status)
+    }
+
+    fn gather_texts(&mut self, key: &str, texts: &[Cow<'_, str>]) -> Result<(), Error> {
+        let values = texts.concat();
+        let lengths: Vec<u64> = texts.iter().map(|it| it.len() as u64).collect();
+        // SAFETY: as above; there is a length for each text.
+        check(unsafe {
+            otel_with_texts(
+                &mut self.raw,
+                key.as_ptr(),
+                key.len(),
+                values.as_ptr(),
+                values.len(),
+                lengths.as_ptr(),
+                lengths.len(),
+            )
+        })
+    }
+
+    pub fn flush(&mut self) -> Result<(), Error> {
+        // SAFETY: as above.
+        check(unsafe { otel_flush(&mut self.raw) })
+    }
+
+    pub fn run(&mut self, moment: Moment) -> Result<(), Error> {
+        // SAFETY: as above.
+        check(unsafe { otel_run(&mut self.raw, moment.nanoseconds()) })
+    }
+
+    /// The lines that were exported.
+    pub fn drain(&mut self) -> Result<Vec<u8>, Error> {
+        // SAFETY: as above; the buffer is as long as is said.
+        filled(0, |buffer, length| unsafe { otel_drain(&mut self.raw, buffer.as_mut_ptr(), buffer.len(), length) })
+    }
+
+    pub fn count(&mut self) -> Result<Counts, Error> {
+        let mut counts = Counts::default();
+        // SAFETY: as above.
+        check(unsafe { otel_count(&mut self.raw, &mut counts) })?;
+        Ok(counts)
+    }
+
+    pub fn shutdown(&mut self) -> Result<(), Error> {
+        // SAFETY: as above.
+        let answer = check(unsafe { otel_shutdown(&mut self.raw) });
+        self.is_shut_down |= matches!(answer, Ok(()) | Err(Error::Failed));
+        answer
+    }
+
+    pub fn is_shut_down(&self) -> bool {
+        self.is_shut_down
+    }
+
+    pub fn close(&mut self) -> Result<(), Error> {
+        // SAFETY: as above.
+        check(unsafe { otel_close(&mut self.raw) })
+    }
+}
+
+impl Drop for Handle {
+    fn drop(&mut self) {
+        // An error says that it was closed before.
+        let _is_closed = self.close();
+    }
+}
+
+/// What a call writes to a buffer, which grows until it has room for all. The call is given the buffer and where it is
+/// to say its length.
+pub(super) fn filled(first_room: usize, mut call: impl FnMut(&mut [u8], &mut usize) -> u32) -> Result<Vec<u8>, Error> {
+    let mut buffer = vec![0; first_room];
+    loop {
+        let mut length = 0;
+        match check(call(&mut buffer, &mut length)) {
+            Ok(()) => {
+                buffer.truncate(length);
+                return Ok(buffer);
+            }
+            Err(Error::BufferTooSmall) if length > buffer.len() => grow(&mut buffer, length)?,
+            Err(error) => return Err(error),
+        }
+    }
+}
+
+fn grow(buffer: &mut Vec<u8>, length: usize) -> Result<(), Error> {
+    let more = length - buffer.len();
+    buffer.try_reserve_exact(more).map_err(|_| Error::OutOfMemory)?;
+    buffer.resize(length, 0);
+    Ok(())
+}

@@ -1,0 +1,187 @@
+// SPDX-License-Identifier: Apache-2.0
+//! The calls about one span. What makes them safe is said in `handle`.
+
+use super::handle::{filled, Handle};
+use super::{
+    check, otel_abandon, otel_add_event, otel_add_link, otel_add_remote_link, otel_end, otel_identity, otel_inject,
+    otel_record_exception, otel_set_attributes, otel_set_bool, otel_set_integer, otel_set_status, otel_set_text,
+    otel_start, otel_start_remote, otel_update_name, SpanIdentity, SpanKey, TracerKey,
+};
+use crate::attributes::{Attribute, Value};
+use crate::headers::Extracted;
+use crate::moment::Moment;
+use crate::Error;
+use std::slice;
+
+/// Room for the headers of most spans.
+const ROOM_OF_HEADERS: usize = 256;
+
+/// Whose child a span is.
+pub enum ParentOf<'a> {
+    /// A span without a parent.
+    Root,
+    Span(SpanKey),
+    Remote(&'a Extracted),
+}
+
+/// What a span begins with, but for its attributes, which are gathered.
+pub struct SpanStart<'a> {
+    pub tracer: TracerKey,
+    pub parent: ParentOf<'a>,
+    pub kind: u32,
+    pub name: &'a str,
+    pub moment: Moment,
+}
+
+impl Handle {
+    pub fn start(&mut self, start: &SpanStart<'_>) -> Result<SpanKey, Error> {
+        match start.parent {
+            ParentOf::Root => self.start_here(start, None),
+            ParentOf::Span(key) => self.start_here(start, Some(key)),
+            ParentOf::Remote(headers) => self.start_remote(start, headers),
+        }
+    }
+
+    fn start_here(&mut self, start: &SpanStart<'_>, parent: Option<SpanKey>) -> Result<SpanKey, Error> {
+        let mut key = None;
+        // SAFETY: as in `handle`.
+        check(unsafe {
+            otel_start(
+                &mut self.raw,
+                start.tracer,
+                parent,
+                start.kind,
+                start.name.as_ptr(),
+                start.name.len(),
+                start.moment.nanoseconds(),
+                &mut key,
+            )
+        })?;
+        key.ok_or(Error::NoSuchSpan)
+    }
+
+    fn start_remote(&mut self, start: &SpanStart<'_>, headers: &Extracted) -> Result<SpanKey, Error> {
+        let (traceparent, tracestate, baggage) = (headers.traceparent(), headers.tracestate(), headers.baggage());
+        let mut key = None;
+        // SAFETY: as in `handle`.
+        check(unsafe {
+            otel_start_remote(
+                &mut self.raw,
+                start.tracer,
+                traceparent.as_ptr(),
+                traceparent.len(),
+                tracestate.as_ptr(),
+                tracestate.len(),
+                baggage.as_ptr(),
+                baggage.len(),
+                start.kind,
+                start.name.as_ptr(),
+                start.name.len(),
+                start.moment.nanoseconds(),
+                &mut key,
+            )
+        })?;
+        key.ok_or(Error::NoSuchSpan)
+    }
+
+    pub fn identity(&mut self, span: SpanKey) -> Result<SpanIdentity, Error> {
+        let mut identity = SpanIdentity::default();
+        // SAFETY: as in `handle`.
+        check(unsafe { otel_identity(&mut self.raw, span, &mut identity) })?;
+        Ok(identity)
+    }
+
+    pub fn set_attribute(&mut self, span: SpanKey, attribute: &Attribute<'_>) -> Result<(), Error> {
+        let (key, length) = (attribute.key.as_ptr(), attribute.key.len());
+        let raw = &mut self.raw;
+        // SAFETY: as in `handle`.
+        let status = match &attribute.value {
+            Value::Text(it) => unsafe { otel_set_text(raw, span, key, length, it.as_ptr(), it.len()) },
+            Value::Integer(it) => unsafe { otel_set_integer(raw, span, key, length, *it) },
+            Value::Bool(it) => unsafe { otel_set_bool(raw, span, key, length, u32::from(*it)) },
+            Value::Texts(_) | Value::Integers(_) | Value::Bools(_) => {
+                self.gather(slice::from_ref(attribute))?;
+                return self.set_attributes(Some(span));
+            }
+        };
+        check(status)
+    }
+
+    /// Sets the attributes that were gathered; without a span they are forgotten.
+    pub fn set_attributes(&mut self, span: Option<SpanKey>) -> Result<(), Error> {
+        // SAFETY: as in `handle`.
+        check(unsafe { otel_set_attributes(&mut self.raw, span) })
+    }
+
+    pub fn add_event(&mut self, span: SpanKey, name: &str, moment: Moment) -> Result<(), Error> {
+        // SAFETY: as in `handle`.
+        check(unsafe { otel_add_event(&mut self.raw, span, name.as_ptr(), name.len(), moment.nanoseconds()) })
+    }
+
+    /// An event `exception` with a message alone.
+    pub fn record_exception(&mut self, span: SpanKey, message: &str, moment: Moment) -> Result<(), Error> {
+        let none = "";
+        // SAFETY: as in `handle`.
+        check(unsafe {
+            otel_record_exception(
+                &mut self.raw,
+                span,
+                none.as_ptr(),
+                none.len(),
+                message.as_ptr(),
+                message.len(),
+                none.as_ptr(),
+                none.len(),
+                moment.nanoseconds(),
+            )
+        })
+    }
+
+    pub fn add_link(&mut self, span: SpanKey, linked: SpanKey) -> Result<(), Error> {
+        // SAFETY: as in `handle`.
+        check(unsafe { otel_add_link(&mut self.raw, span, linked) })
+    }
+
+    pub fn add_remote_link(&mut self, span: SpanKey, headers: &Extracted) -> Result<(), Error> {
+        let (traceparent, tracestate) = (headers.traceparent(), headers.tracestate());
+        // SAFETY: as in `handle`.
+        check(unsafe {
+            otel_add_remote_link(
+                &mut self.raw,
+                span,
+                traceparent.as_ptr(),
+                traceparent.len(),
+                tracestate.as_ptr(),
+                tracestate.len(),
+            )
+        })
+    }
+
+    pub fn set_status(&mut self, span: SpanKey, code: u32, description: &str) -> Result<(), Error> {
+        // SAFETY: as in `handle`.
+        check(unsafe { otel_set_status(&mut self.raw, span, code, description.as_ptr(), description.len()) })
+    }
+
+    pub fn update_name(&mut self, span: SpanKey, name: &str) -> Result<(), Error> {
+        // SAFETY: as in `handle`.
+        check(unsafe { otel_update_name(&mut self.raw, span, name.as_ptr(), name.len()) })
+    }
+
+    /// The headers that hand the span on, each `name: value` with a carriage return and a line feed after it.
+    pub fn inject(&mut self, span: SpanKey) -> Result<Vec<u8>, Error> {
+        // SAFETY: as in `handle`; the buffer is as long as is said.
+        filled(ROOM_OF_HEADERS, |buffer, length| unsafe {
+            otel_inject(&mut self.raw, span, buffer.as_mut_ptr(), buffer.len(), length)
+        })
+    }
+
+    pub fn end(&mut self, span: SpanKey, moment: Moment) -> Result<(), Error> {
+        // SAFETY: as in `handle`.
+        check(unsafe { otel_end(&mut self.raw, span, moment.nanoseconds()) })
+    }
+
+    pub fn abandon(&mut self, span: SpanKey) -> Result<(), Error> {
+        // SAFETY: as in `handle`.
+        check(unsafe { otel_abandon(&mut self.raw, span) })
+    }
+}

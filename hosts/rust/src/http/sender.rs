@@ -1,0 +1,184 @@
+// SPDX-License-Identifier: Apache-2.0
+//! A sender: a thread that takes lines out of a pipeline and posts them.
+
+use super::desk::{Desk, SenderCounts};
+use super::endpoint::{Endpoint, EndpointError, OF_ALL, OF_TRACES};
+use super::moment_after;
+use super::worker::Worker;
+use crate::Pipeline;
+use std::env;
+use std::error;
+use std::fmt;
+use std::io;
+use std::sync::Arc;
+use std::thread::{self, JoinHandle};
+use std::time::Duration;
+
+const OF_EXPORTERS: &str = "OTEL_EXPORTER_";
+
+/// How patient a sender is.
+#[derive(Clone, Debug)]
+pub struct Limits {
+    /// How often the pipeline is drained: each second.
+    pub interval: Duration,
+    /// How long a request may take: 10 seconds.
+    pub request_limit: Duration,
+    /// How often a line is tried: 8 times.
+    pub tries: u32,
+    /// How long it waits after the first try, and twice as long after each further one: 1 second. Where an answer says
+    /// by `Retry-After` how many seconds to wait, it waits so long.
+    pub first_wait: Duration,
+    /// How long it waits at most, where the answer does not say: 60 seconds.
+    pub longest_wait: Duration,
+    /// How many spans may wait. A line that would make them more is given up, unless no other waits: 50,000.
+    pub kept_spans: u64,
+    /// How long it goes on after it was told to end, but for a request that began before: 10 seconds.
+    pub closing_limit: Duration,
+}
+
+impl Default for Limits {
+    fn default() -> Self {
+        Self {
+            interval: Duration::from_secs(1),
+            request_limit: Duration::from_secs(10),
+            tries: 8,
+            first_wait: Duration::from_secs(1),
+            longest_wait: Duration::from_secs(60),
+            kept_spans: 50_000,
+            closing_limit: Duration::from_secs(10),
+        }
+    }
+}
+
+/// Sends a pipeline's lines to a collector, from a thread of its own: it exports what is due, drains, and posts each
+/// line.
+///
+/// A line is tried again where there is no answer, and at the statuses 429, 502, 503 and 504. One whose answer was lost
+/// may have been taken, and then comes twice. What is given up is counted.
+///
+/// It keeps its pipeline open. When it is dropped it sends what waits, as long as its limits allow; spans that end
+/// afterwards it does not send.
+///
+/// ```no_run
+/// use otel_proved::http::HttpSender;
+/// use otel_proved::Pipeline;
+///
+/// # fn main() -> Result<(), Box<dyn std::error::Error>> {
+/// let pipeline = Pipeline::builder().from_env().open()?;
+/// let sender = HttpSender::from_env(&pipeline)?;
+/// pipeline.tracer("shop").span("GET").start().end();
+/// assert_eq!(sender.close().lost_lines, 0);
+/// # Ok(())
+/// # }
+/// ```
+#[derive(Debug)]
+pub struct HttpSender {
+    desk: Arc<Desk>,
+    /// None once the thread has ended.
+    thread: Option<JoinHandle<()>>,
+    closing_limit: Duration,
+    ignored_settings: Vec<String>,
+}
+
+impl HttpSender {
+    /// Starts a sender to [`Endpoint::from_env`].
+    pub fn from_env(pipeline: &Pipeline) -> Result<Self, StartError> {
+        let endpoint = Endpoint::from_env().map_err(StartError::Endpoint)?;
+        let mut sender = Self::start(pipeline, endpoint, Limits::default())?;
+        sender.ignored_settings = ignored(env::vars_os().map(|(name, _)| name.to_string_lossy().into_owned()));
+        Ok(sender)
+    }
+
+    /// Starts a sender.
+    pub fn start(pipeline: &Pipeline, endpoint: Endpoint, limits: Limits) -> Result<Self, StartError> {
+        let desk = Arc::new(Desk::default());
+        let closing_limit = limits.closing_limit;
+        let worker = Worker { pipeline: pipeline.clone(), endpoint, limits, desk: Arc::clone(&desk) };
+        let named = thread::Builder::new().name("otel_proved".to_owned());
+        let thread = named.spawn(move || worker.run()).map_err(StartError::Thread)?;
+        Ok(Self { desk, thread: Some(thread), closing_limit, ignored_settings: Vec::new() })
+    }
+
+    /// The names of variables `OTEL_EXPORTER_*` that say nothing to a sender made by [`HttpSender::from_env`].
+    pub fn ignored_settings(&self) -> &[String] {
+        &self.ignored_settings
+    }
+
+    /// Exports what waits in the pipeline, drains it, and waits until all lines are sent or given up. False where the
+    /// time ran out before.
+    pub fn flush(&self, limit: Duration) -> bool {
+        self.desk.flush(limit)
+    }
+
+    pub fn counts(&self) -> SenderCounts {
+        self.desk.counts()
+    }
+
+    /// How many lines were given up.
+    pub fn lost_lines(&self) -> u64 {
+        self.counts().lost_lines
+    }
+
+    /// What went wrong last.
+    pub fn last_fault(&self) -> Option<String> {
+        self.desk.last_fault()
+    }
+
+    /// Does what a drop does, and answers what became of all.
+    pub fn close(mut self) -> SenderCounts {
+        self.finish();
+        self.counts()
+    }
+
+    fn finish(&mut self) {
+        let Some(thread) = self.thread.take() else {
+            return;
+        };
+        self.desk.close_by(moment_after(self.closing_limit));
+        if thread.join().is_err() {
+            self.desk.fault("the thread of the sender panicked".to_owned());
+        }
+    }
+}
+
+impl Drop for HttpSender {
+    fn drop(&mut self) {
+        self.finish();
+    }
+}
+
+fn ignored(names: impl Iterator<Item = String>) -> Vec<String> {
+    names.filter(|it| it.starts_with(OF_EXPORTERS) && it != OF_TRACES && it != OF_ALL).collect()
+}
+
+/// Why a sender did not start.
+#[derive(Debug)]
+#[non_exhaustive]
+pub enum StartError {
+    Endpoint(EndpointError),
+    /// The system gave no thread.
+    Thread(io::Error),
+}
+
+impl fmt::Display for StartError {
+    fn fmt(&self, out: &mut fmt::Formatter<'_>) -> fmt::Result {
+        match self {
+            Self::Endpoint(error) => error.fmt(out),
+            Self::Thread(error) => write!(out, "no thread for the sender: {error}"),
+        }
+    }
+}
+
+impl error::Error for StartError {}
+
+#[cfg(test)]
+mod tests {
+    use super::*;
+
+    #[test]
+    fn what_the_sender_does_not_read_is_named() {
+        let names = ["OTEL_EXPORTER_OTLP_ENDPOINT", "OTEL_EXPORTER_OTLP_HEADERS", "OTEL_SERVICE_NAME"];
+        let ignored = ignored(names.map(str::to_owned).into_iter());
+        assert_eq!(ignored, ["OTEL_EXPORTER_OTLP_HEADERS"]);
+    }
+}

@@ -1,0 +1,28 @@
+// SPDX-License-Identifier: Apache-2.0
+#![doc = include_str!("../README.md")]
+#![deny(unsafe_code)]
+#![warn(missing_debug_implementations)]
+
+mod attributes;
+mod context;
+mod error;
+#[allow(unsafe_code)]
+mod ffi;
+mod headers;
+pub mod http;
+mod moment;
+mod pipeline;
+mod settings;
+mod shared;
+mod span;
+mod tracer;
+
+pub use attributes::{Attribute, Value};
+pub use context::{SpanContext, SpanId, TraceFlags, TraceId};
+pub use error::{CloseError, Error};
+pub use ffi::Counts;
+pub use headers::Extracted;
+pub use pipeline::Pipeline;
+pub use settings::Builder;
+pub use span::{Span, SpanRef, Status};
+pub use tracer::{Kind, Library, SpanBuilder, Tracer};

@@ -1,0 +1,163 @@
+// SPDX-License-Identifier: Apache-2.0
+//! A pipeline: spans go in, lines come out.
+
+use crate::error::CloseError;
+use crate::ffi::{Counts, Handle, TracerKey};
+use crate::moment::Moment;
+use crate::settings::Builder;
+use crate::shared::Shared;
+use crate::tracer::{Library, Tracer};
+use crate::Error;
+use std::fmt;
+use std::sync::Arc;
+use std::time::SystemTime;
+
+/// A pipeline, which takes spans and hands out lines of the OpenTelemetry protocol's JSON. Its clones are the same
+/// pipeline. One thread at a time is in a call of it or of its spans; others wait.
+///
+/// When the last clone is dropped the pipeline is closed, and lines that nobody drained are lost: [`Pipeline::close`]
+/// hands out the last lines. Spans that are open then record nothing more.
+///
+/// ```
+/// use otel_proved::{Kind, Pipeline};
+///
+/// # fn main() -> Result<(), otel_proved::Error> {
+/// let pipeline = Pipeline::builder().setting("OTEL_SERVICE_NAME", "shop").open()?;
+/// let tracer = pipeline.tracer("checkout");
+/// let request = tracer.span("GET").kind(Kind::Server).attribute("url.path", "/cart").start();
+/// let load = tracer.span("load cart").parent(&request).start();
+/// load.end();
+/// request.end();
+/// pipeline.flush()?;
+/// let lines = pipeline.drain()?;
+/// assert!(lines.ends_with(b"\n"));
+/// # Ok(())
+/// # }
+/// ```
+#[derive(Clone)]
+pub struct Pipeline {
+    owner: Arc<Owner>,
+}
+
+/// Closes the pipeline, also while spans of it are open.
+struct Owner {
+    shared: Arc<Shared>,
+    ignored_settings: Vec<String>,
+}
+
+impl Drop for Owner {
+    fn drop(&mut self) {
+        // An error says that it was closed before.
+        let _is_closed = self.shared.call(Handle::close);
+    }
+}
+
+impl Pipeline {
+    /// Settings to open a pipeline with.
+    pub fn builder() -> Builder {
+        Builder::default()
+    }
+
+    pub(crate) fn new(handle: Handle, ignored_settings: Vec<String>) -> Self {
+        let shared = Arc::new(Shared::new(handle));
+        Self { owner: Arc::new(Owner { shared, ignored_settings }) }
+    }
+
+    fn shared(&self) -> &Shared {
+        &self.owner.shared
+    }
+
+    /// The names of the settings that were ignored, since nobody knows their name or their value does not read.
+    pub fn ignored_settings(&self) -> &[String] {
+        &self.owner.ignored_settings
+    }
+
+    /// A tracer for a library, which is a name or a [`Library`]. Where that fails the failure is counted, and the
+    /// tracer is the one without a name.
+    pub fn tracer<'a>(&self, library: impl Into<Library<'a>>) -> Tracer {
+        let library = library.into();
+        let key = self.shared().attempt(|handle| handle.tracer(&library));
+        Tracer::new(Arc::clone(&self.owner.shared), key.unwrap_or(TracerKey::FIRST))
+    }
+
+    /// The same, but a failure is answered.
+    pub fn try_tracer<'a>(&self, library: impl Into<Library<'a>>) -> Result<Tracer, Error> {
+        let library = library.into();
+        let key = self.shared().call(|handle| handle.tracer(&library))?;
+        Ok(Tracer::new(Arc::clone(&self.owner.shared), key))
+    }
+
+    /// Exports what waits, into the lines that [`Pipeline::drain`] hands out.
+    pub fn flush(&self) -> Result<(), Error> {
+        self.shared().call(Handle::flush)
+    }
+
+    /// Exports what is due at this moment: what waits, once the schedule delay has passed.
+    pub fn run_due(&self, now: SystemTime) -> Result<(), Error> {
+        let moment = Moment::of(now)?;
+        self.shared().call(|handle| handle.run(moment))
+    }
+
+    /// Hands out what was exported, and forgets it: whole lines, each with a line feed after it.
+    pub fn drain(&self) -> Result<Vec<u8>, Error> {
+        self.shared().call(Handle::drain)
+    }
+
+    /// How many spans are where.
+    pub fn counts(&self) -> Result<Counts, Error> {
+        self.shared().call(Handle::count)
+    }
+
+    /// How many calls failed that answer no error: edits and ends of spans, and starts without `try_`.
+    pub fn failed_calls(&self) -> u64 {
+        self.shared().failures().count
+    }
+
+    /// Why the last of [`Pipeline::failed_calls`] failed.
+    pub fn last_failure(&self) -> Option<Error> {
+        self.shared().failures().last
+    }
+
+    /// Counts a failure that nobody is answered.
+    pub(crate) fn note(&self, error: Error) {
+        self.shared().note(error);
+    }
+
+    /// Exports what waits, and nothing afterwards. Lines can still be drained.
+    pub fn shutdown(&self) -> Result<(), Error> {
+        self.shared().call(Handle::shutdown)
+    }
+
+    /// Exports what waits, where it was not shut down before, hands out the last lines, and closes the pipeline for all
+    /// its clones. Where not all is exported the error has the lines; where it was closed before there are none.
+    ///
+    /// ```
+    /// # fn main() -> Result<(), Box<dyn std::error::Error>> {
+    /// let pipeline = otel_proved::Pipeline::builder().open()?;
+    /// pipeline.tracer("checkout").span("GET").start().end();
+    /// let lines = String::from_utf8(pipeline.close()?)?;
+    /// assert!(lines.contains(r#""name":"GET""#));
+    /// # Ok(())
+    /// # }
+    /// ```
+    pub fn close(self) -> Result<Vec<u8>, CloseError> {
+        self.shared().call(|handle| {
+            let exported = if handle.is_shut_down() { Ok(()) } else { handle.shutdown() };
+            let (lines, drained) = match handle.drain() {
+                Ok(lines) => (lines, Ok(())),
+                Err(error) => (Vec::new(), Err(error)),
+            };
+            let closed = handle.close();
+            match exported.and(drained).and(closed) {
+                Ok(()) => Ok(lines),
+                Err(error) => Err(CloseError { lines, error }),
+            }
+        })
+    }
+}
+
+impl fmt::Debug for Pipeline {
+    fn fmt(&self, out: &mut fmt::Formatter<'_>) -> fmt::Result {
+        out.debug_struct("Pipeline").finish_non_exhaustive()
+    }
+}

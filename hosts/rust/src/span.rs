@@ -1,0 +1,231 @@
+// SPDX-License-Identifier: Apache-2.0
+//! Spans after their start.
+
+use crate::attributes::{Attribute, Value};
+use crate::context::SpanContext;
+use crate::ffi::{Handle, SpanIdentity, SpanKey};
+use crate::headers::{self, Extracted};
+use crate::moment::Moment;
+use crate::shared::Shared;
+use crate::Error;
+use std::borrow::Cow;
+use std::error;
+use std::fmt;
+use std::sync::Arc;
+use std::time::SystemTime;
+
+/// Work that is traced. It ends when it is dropped, at that moment, and is handed on for export where it is sampled.
+///
+/// No call of a span panics or answers an error: what fails is counted by
+/// [`Pipeline::failed_calls`](crate::Pipeline::failed_calls). A span does not keep its pipeline open.
+#[must_use = "a span that is not kept ends at once"]
+pub struct Span {
+    shared: Arc<Shared>,
+    /// None where the span did not start, or has ended.
+    key: Option<SpanKey>,
+}
+
+/// A span to be a parent or to be linked.
+#[derive(Clone, Copy, Debug)]
+pub enum SpanRef<'a> {
+    /// A span of the same pipeline.
+    Span(&'a Span),
+    /// The span of another process, by the headers that name it.
+    Remote(&'a Extracted),
+}
+
+/// What came of a span's work.
+#[derive(Clone, Debug, Default, PartialEq, Eq)]
+pub enum Status<'a> {
+    #[default]
+    Unset,
+    Ok,
+    /// An error, with a description of it or an empty text.
+    Error(Cow<'a, str>),
+}
+
+impl<'a> Status<'a> {
+    pub fn error(description: impl Into<Cow<'a, str>>) -> Self {
+        Self::Error(description.into())
+    }
+
+    fn parts(&self) -> (u32, &str) {
+        match self {
+            Self::Unset => (0, ""),
+            Self::Ok => (1, ""),
+            Self::Error(description) => (2, description),
+        }
+    }
+}
+
+impl Span {
+    pub(crate) fn new(shared: Arc<Shared>, key: SpanKey) -> Self {
+        Self { shared, key: Some(key) }
+    }
+
+    /// A span that did not start.
+    pub(crate) fn none(shared: Arc<Shared>) -> Self {
+        Self { shared, key: None }
+    }
+
+    /// The key in a pipeline, where the span is of that one.
+    pub(crate) fn key_within(&self, shared: &Arc<Shared>) -> Result<Option<SpanKey>, Error> {
+        match self.key {
+            Some(_) if !Arc::ptr_eq(&self.shared, shared) => Err(Error::OtherPipeline),
+            key => Ok(key),
+        }
+    }
+
+    /// Asks or tells the span something, where it did start.
+    fn attempt<T>(&self, calls: impl FnOnce(&mut Handle, SpanKey) -> Result<T, Error>) -> Option<T> {
+        let key = self.key?;
+        self.shared.attempt(|handle| calls(handle, key))
+    }
+
+    fn identity(&self) -> SpanIdentity {
+        self.attempt(|handle, key| handle.identity(key)).unwrap_or_default()
+    }
+
+    /// Who the span is.
+    pub fn context(&self) -> SpanContext {
+        SpanContext::of(&self.identity())
+    }
+
+    /// Whether the span records what it is told: it did start, and the sampler did not drop it.
+    pub fn is_recording(&self) -> bool {
+        self.identity().is_recording != 0
+    }
+
+    /// Puts the headers `traceparent`, `tracestate` and `baggage`, which hand the span on to another process, into a
+    /// list or a map, as far as there is something to say.
+    ///
+    /// ```
+    /// # fn main() -> Result<(), otel_proved::Error> {
+    /// # let pipeline = otel_proved::Pipeline::builder().open()?;
+    /// # let span = pipeline.tracer("shop").span("call").start();
+    /// let mut headers = vec![("accept".to_owned(), "*/*".to_owned())];
+    /// span.inject(&mut headers);
+    /// assert_eq!(headers[1], ("traceparent".to_owned(), span.context().to_string()));
+    /// # Ok(())
+    /// # }
+    /// ```
+    pub fn inject(&self, into: &mut impl Extend<(String, String)>) {
+        let text = self.attempt(|handle, key| {
+            let bytes = handle.inject(key)?;
+            String::from_utf8(bytes).map_err(|_| Error::NotUtf8)
+        });
+        into.extend(headers::split(&text.unwrap_or_default()));
+    }
+
+    pub fn set_attribute<'a>(&self, key: impl Into<Cow<'a, str>>, value: impl Into<Value<'a>>) -> &Self {
+        let attribute = Attribute::new(key, value);
+        self.attempt(|handle, key| handle.set_attribute(key, &attribute));
+        self
+    }
+
+    /// An event at this moment.
+    ///
+    /// ```
+    /// # fn main() -> Result<(), otel_proved::Error> {
+    /// # use otel_proved::Attribute;
+    /// # let pipeline = otel_proved::Pipeline::builder().open()?;
+    /// # let span = pipeline.tracer("shop").span("call").start();
+    /// span.add_event("cache miss", [Attribute::new("key", "cart"), Attribute::new("tries", 2)]);
+    /// span.add_event("retry", []);
+    /// # assert_eq!(pipeline.failed_calls(), 0);
+    /// # Ok(())
+    /// # }
+    /// ```
+    pub fn add_event<'a>(&self, name: &str, attributes: impl IntoIterator<Item = Attribute<'a>>) -> &Self {
+        let (moment, attributes) = (Moment::now(), attributes.into_iter().collect::<Vec<_>>());
+        self.attempt(|handle, key| {
+            handle.gather(&attributes)?;
+            handle.add_event(key, name, moment)
+        });
+        self
+    }
+
+    /// An event `exception` at this moment, with the error's text as its message.
+    pub fn record_error(&self, error: &dyn error::Error) -> &Self {
+        let (moment, message) = (Moment::now(), error.to_string());
+        self.attempt(|handle, key| handle.record_exception(key, &message, moment));
+        self
+    }
+
+    /// A link to a [`Span`] of this pipeline, or to that of [`Extracted`] headers. That the linked one did not start,
+    /// or is named by no valid header, counts as a failure.
+    pub fn add_link<'a>(
+        &self,
+        linked: impl Into<SpanRef<'a>>,
+        attributes: impl IntoIterator<Item = Attribute<'a>>,
+    ) -> &Self {
+        let linked = linked.into();
+        let attributes: Vec<_> = attributes.into_iter().collect();
+        self.attempt(|handle, key| match linked {
+            SpanRef::Remote(headers) => {
+                handle.gather(&attributes)?;
+                handle.add_remote_link(key, headers)
+            }
+            SpanRef::Span(span) => {
+                let linked = span.key_within(&self.shared)?.ok_or(Error::NoSuchSpan)?;
+                handle.gather(&attributes)?;
+                handle.add_link(key, linked)
+            }
+        });
+        self
+    }
+
+    pub fn set_status(&self, status: Status<'_>) -> &Self {
+        let (code, description) = status.parts();
+        self.attempt(|handle, key| handle.set_status(key, code, description));
+        self
+    }
+
+    pub fn update_name(&self, name: &str) -> &Self {
+        self.attempt(|handle, key| handle.update_name(key, name));
+        self
+    }
+
+    /// Ends the span now.
+    pub fn end(self) {
+        drop(self);
+    }
+
+    /// Ends the span at a moment. One before 1970 or after 2554 counts as a failure, and the span ends now.
+    pub fn end_at(mut self, time: SystemTime) {
+        let moment = Moment::of(time).unwrap_or_else(|error| {
+            self.shared.note(error);
+            Moment::now()
+        });
+        self.end_once(moment);
+    }
+
+    /// Ends the span, but does not hand it on.
+    pub fn abandon(mut self) {
+        self.attempt(|handle, key| handle.abandon(key));
+        self.key = None;
+    }
+
+    /// Ends the span. Where that fails it is abandoned, so that no span stays open for ever.
+    fn end_once(&mut self, moment: Moment) {
+        self.attempt(|handle, key| {
+            let ended = handle.end(key, moment);
+            ended.or_else(|error| handle.abandon(key).and(Err(error)))
+        });
+        self.key = None;
+    }
+}
+
+impl Drop for Span {
+    fn drop(&mut self) {
+        if self.key.is_some() {
+            self.end_once(Moment::now());
+        }
+    }
+}
+
+impl fmt::Debug for Span {
+    fn fmt(&self, out: &mut fmt::Formatter<'_>) -> fmt::Result {
+        out.debug_struct("Span").field("key", &self.key).finish_non_exhaustive()
+    }
+}

@@ -1,0 +1,163 @@
+// SPDX-License-Identifier: Apache-2.0
+//! Tracers, and how a span starts.
+
+use crate::attributes::{Attribute, Value};
+use crate::ffi::{ParentOf, SpanStart, TracerKey};
+use crate::headers::Extracted;
+use crate::moment::Moment;
+use crate::shared::Shared;
+use crate::span::{Span, SpanRef};
+use crate::Error;
+use std::borrow::Cow;
+use std::fmt;
+use std::sync::Arc;
+use std::time::SystemTime;
+
+/// The library that a tracer is for. A name alone is one without a version and a schema URL.
+#[derive(Clone, Copy, Debug, Default)]
+pub struct Library<'a> {
+    pub name: &'a str,
+    pub version: &'a str,
+    pub schema_url: &'a str,
+}
+
+impl<'a> From<&'a str> for Library<'a> {
+    fn from(name: &'a str) -> Self {
+        Self { name, ..Self::default() }
+    }
+}
+
+/// What a span does among others.
+#[derive(Clone, Copy, Debug, Default, PartialEq, Eq)]
+pub enum Kind {
+    #[default]
+    Internal,
+    Server,
+    Client,
+    Producer,
+    Consumer,
+}
+
+impl Kind {
+    fn number(self) -> u32 {
+        match self {
+            Self::Internal => 1,
+            Self::Server => 2,
+            Self::Client => 3,
+            Self::Producer => 4,
+            Self::Consumer => 5,
+        }
+    }
+}
+
+/// Starts spans for a library. It does not keep its pipeline open.
+#[derive(Clone)]
+pub struct Tracer {
+    shared: Arc<Shared>,
+    key: TracerKey,
+}
+
+impl Tracer {
+    pub(crate) fn new(shared: Arc<Shared>, key: TracerKey) -> Self {
+        Self { shared, key }
+    }
+
+    /// A span of this name, to be started: without more said it is a root of the kind `Internal`.
+    pub fn span<'a>(&'a self, name: impl Into<Cow<'a, str>>) -> SpanBuilder<'a> {
+        SpanBuilder {
+            tracer: self,
+            name: name.into(),
+            kind: Kind::default(),
+            parent: None,
+            attributes: Vec::new(),
+            start_time: None,
+        }
+    }
+}
+
+impl fmt::Debug for Tracer {
+    fn fmt(&self, out: &mut fmt::Formatter<'_>) -> fmt::Result {
+        out.debug_struct("Tracer").field("key", &self.key).finish_non_exhaustive()
+    }
+}
+
+/// A span before its start.
+#[derive(Debug)]
+#[must_use = "a span starts by `start` or `try_start`"]
+pub struct SpanBuilder<'a> {
+    tracer: &'a Tracer,
+    name: Cow<'a, str>,
+    kind: Kind,
+    parent: Option<SpanRef<'a>>,
+    attributes: Vec<Attribute<'a>>,
+    start_time: Option<SystemTime>,
+}
+
+impl<'a> SpanBuilder<'a> {
+    pub fn kind(mut self, kind: Kind) -> Self {
+        self.kind = kind;
+        self
+    }
+
+    /// The parent: a [`Span`] of this pipeline, or [`Extracted`] headers of another process. Below headers without a
+    /// valid `traceparent`, and below a span that did not start, the span is a root.
+    pub fn parent(mut self, parent: impl Into<SpanRef<'a>>) -> Self {
+        self.parent = Some(parent.into());
+        self
+    }
+
+    pub fn attribute(mut self, key: impl Into<Cow<'a, str>>, value: impl Into<Value<'a>>) -> Self {
+        self.attributes.push(Attribute::new(key, value));
+        self
+    }
+
+    pub fn attributes(mut self, attributes: impl IntoIterator<Item = Attribute<'a>>) -> Self {
+        self.attributes.extend(attributes);
+        self
+    }
+
+    /// When the span began, where that is not the moment of its start.
+    pub fn start_time(mut self, time: SystemTime) -> Self {
+        self.start_time = Some(time);
+        self
+    }
+
+    /// Starts the span. Where that fails the failure is counted, and the span records nothing.
+    pub fn start(self) -> Span {
+        let shared = Arc::clone(&self.tracer.shared);
+        self.try_start().unwrap_or_else(|error| {
+            shared.note(error);
+            Span::none(shared)
+        })
+    }
+
+    /// Starts the span, or answers why it cannot.
+    pub fn try_start(self) -> Result<Span, Error> {
+        let moment = self.start_time.map_or_else(|| Ok(Moment::now()), Moment::of)?;
+        let shared = &self.tracer.shared;
+        let parent = match self.parent {
+            None => ParentOf::Root,
+            Some(SpanRef::Remote(headers)) => ParentOf::Remote(headers),
+            Some(SpanRef::Span(span)) => span.key_within(shared)?.map_or(ParentOf::Root, ParentOf::Span),
+        };
+        let name = &*self.name;
+        let start = SpanStart { tracer: self.tracer.key, parent, kind: self.kind.number(), name, moment };
+        let key = shared.call(|handle| {
+            handle.gather(&self.attributes)?;
+            handle.start(&start)
+        })?;
+        Ok(Span::new(Arc::clone(shared), key))
+    }
+}
+
+impl<'a> From<&'a Span> for SpanRef<'a> {
+    fn from(span: &'a Span) -> Self {
+        Self::Span(span)
+    }
+}
+
+impl<'a> From<&'a Extracted> for SpanRef<'a> {
+    fn from(headers: &'a Extracted) -> Self {
+        Self::Remote(headers)
+    }
+}
