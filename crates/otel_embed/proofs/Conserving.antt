@@ -23,7 +23,7 @@ use Rattle.otel_pipeline.proofs.Following.{EachFollows-append, EachFollows-asked
 use Rattle.otel_pipeline.proofs.Starting.{answers_told, refused_draws}
 use Rattle.otel_otlp.specs.Otlp.{otlp_line, otlp_lines}
 use Rattle.otel_embed.specs.Conserved.{Conserves, CallsConserve, DoAll}
-use Rattle.otel_embed.specs.Pipelines.{Did, rested, started, ended, flushed, ran, shut, drained, DoesTo, DoesToProvider, Flow, MayStart, delivered_by, handed_by, lines_held}
+use Rattle.otel_embed.specs.Flows.{Did, rested, started, ended, flushed, ran, shut, drained, DoesTo, DoesToProvider, Flow, MayStart, delivered_by, handed_by, lines_held}
 
 abbrev Batches : Type 0
 Batches = List (List PlainSpanData)

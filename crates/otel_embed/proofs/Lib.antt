@@ -1,5 +1,10 @@
--- Each call keeps account of spans and of lines; headers are set one after another; a refused call leaves the spans.
+-- Each call keeps account of spans and of lines; headers are set one after another; a refused start leaves the spans;
+-- bytes of an id give it back.
 pub mod Conserving
 pub mod Refusing
 pub mod SettingHeaders
 pub mod Hearing
+pub mod IdBytes
+pub mod CallFlows
+pub mod HeaderTexts
+pub mod Opening

@@ -1,8 +1,9 @@
 -- Where the spans of a pipeline are, over every list of calls.
-use Rattle.std.specs.Prelude.{◌≡◌, ◌++◌, ℕ, List, [], ◌∷◌, Some}
+use Rattle.std.specs.Prelude.{◌≡◌, ◌++◌, ℕ, List, [], ◌∷◌, Result, Some}
 use Rattle.std.specs.List.{flat_map}
 use Rattle.otel_export.specs.PlainSpanData.{PlainSpanData, spans_in}
 use Rattle.otel_export.specs.StoredBatches.{StoredBatches, all_stored}
+use Rattle.otel_export.specs.declared.error.OTelSdkError.{OTelSdkError}
 use Rattle.otel_export.specs.declared.trace.exporter_box.ExporterOf.{ExporterOf}
 use Rattle.otel_export.specs.declared.trace.exporter_box.ExporterOf.TheVariants as exporters
 use Rattle.otel_export.specs.declared.trace.no_exporter.NoExporter.{NoExporter}
@@ -10,10 +11,14 @@ use Rattle.otel_pipeline.specs.Calls.{Calls}
 use Rattle.otel_pipeline.specs.Deliveries.{Delivery, EachFollows}
 use Rattle.otel_pipeline.specs.FirstProcessor.{stored_of_first}
 use Rattle.otel_pipeline.specs.SimpleProcessor.{SimpleProcessor}
+use Rattle.otel_pipeline.specs.SpanHistory.{Edit}
+use Rattle.otel_pipeline.specs.StartRequest.{StartRequest}
 use Rattle.otel_processors.specs.declared.trace.processor.ProcessorOf.{ProcessorOf}
 use Rattle.otel_processors.specs.declared.trace.processor.ProcessorOf.TheVariants as kinds
 use Rattle.otel_otlp.specs.Otlp.{otlp_lines}
-use Rattle.otel_embed.specs.Pipelines.{Did, DoesTo, Flow, delivered_by, handed_by, lines_held}
+use Rattle.otel_embed.specs.Flows.{Answers, Did, DoesTo, Flow, delivered_by, ended, handed_by, lines_held, rested, started}
+use Rattle.otel_embed.specs.Keys.{OpenedSpan, span_at}
+use Rattle.otel_embed.specs.Pipelines.{EditsSpan, EndsSpan, PipelineState, RefusesIn, StartsAt}
 
 module _ {P S G : Type 0} (calls : Calls P S G) where
   -- calls did this to a flow, one after another
@@ -36,6 +41,27 @@ module _ {P S G : Type 0} (calls : Calls P S G) where
   -- the same for every list of calls
   abbrev pub CallsConserve : Type 0
   CallsConserve = (dids : List Did) (old new : Flow P S G) → DoAll dids old new → Conserves dids old new
+
+  -- the flow of a pipeline has another provider, and is otherwise as it was
+  abbrev pub FlowStays : PipelineState P S G → PipelineState P S G → Type 0
+  FlowStays old new = new.flow ≡ record old.flow { provider = new.flow.provider }
+
+  -- what each call of a pipeline does to its flow: a start, as it was asked for; a start that was refused, which delivers
+  -- nothing; an edit; an end; and a call of the provider that answers
+  pub record CallsDo : Type 0 where
+    pub starts : (old new : PipelineState P S G) (request : StartRequest) (key : ℕ)
+        → StartsAt calls.processor calls.sampler calls.ids old.flow.provider old.spans request key new.flow.provider
+        new.spans → FlowStays old new → DoesTo calls (started request) old.flow new.flow
+    pub refuses : (old new : PipelineState P S G) → RefusesIn calls old new
+        → (did : Did) × (delivered_by did ≡ []) × (handed_by did ≡ []) × DoesTo calls did old.flow new.flow
+    pub edits : (old new : PipelineState P S G) (key : ℕ) (edits : List Edit) → EditsSpan old key edits new
+        → DoesTo calls rested old.flow new.flow
+    pub ends : (old new : PipelineState P S G) (key moment : ℕ) → EndsSpan calls.processor old key moment new
+        → (found : OpenedSpan) × (refused : ℕ) × (span_at old.spans key ≡ Some found)
+        × DoesTo calls (ended old.flow.provider.is_shut found.span moment refused) old.flow new.flow
+    pub answers : (old new : PipelineState P S G) (did : Did) (answer : Result (Unit {0}) OTelSdkError)
+        → Answers calls did answer old.flow.provider new.flow.provider → FlowStays old new
+        → DoesTo calls did old.flow new.flow
 
 -- what a host's processor exports to, and such a processor
 abbrev pub HostedExporter : Type 0

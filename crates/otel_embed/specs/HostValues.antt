@@ -1,20 +1,60 @@
--- What a host hands in: the values of attributes, and the kinds of spans.
-use Rattle.std.specs.Prelude.{◌≡◌, ℕ, List}
-use Rattle.opentelemetry.specs.Plain.{PlainValue, boolean, integer, text, booleans, integers, texts}
+-- What a host hands in: the values of attributes, the kinds and statuses of spans, scopes and errors.
+use Rattle.std.specs.Prelude.{◌≡◌, ◌==◌, ℕ, Bool, List, [], ◌∷◌, Option, Some, None, length, map, not}
+use Rattle.std.specs.List.{flat_map}
+use Rattle.opentelemetry.specs.Plain.{PlainScope, PlainStatus, PlainValue, boolean, integer, text, booleans, integers}
+use Rattle.opentelemetry.specs.Plain.{error, ok, texts, unset}
 use Rattle.opentelemetry.specs.declared.trace.span_kind.SpanKind.{SpanKind}
 use Rattle.otel_otlp.specs.OtlpSpan.{kind_number}
+use Rattle.otel_pipeline.specs.Exceptions.{PlainException}
 use Rattle.otel_embed.specs.declared.values.HostValue.{HostValue}
 use Rattle.otel_embed.specs.declared.values.HostValue.TheVariants as host
 
--- the value that is meant; of texts in one and of truth values in bytes, a list of them
+-- texts that stand one after another, and how many bytes each has
+pub record AreTexts (bytes : List ℕ) (lengths : List ℕ) (made : List (List ℕ)) : Type 0 where
+  pub joined : flat_map (λ (text : List ℕ). text) made ≡ bytes
+  pub cut : map length made ≡ lengths
+
+-- the truth value of a byte: 0 is false, and every other number true
+abbrev pub truth_of : ℕ → Bool
+truth_of byte = not (byte == 0)
+
+-- the value that is meant
 abbrev pub IsValueOf : HostValue → PlainValue → Type 0
 IsValueOf (host.Text bytes) value = value ≡ text bytes.now
 IsValueOf (host.Integer number) value = value ≡ integer number
 IsValueOf (host.Truth truth) value = value ≡ boolean truth
-IsValueOf (host.Texts bytes lengths) value = (made : List (List ℕ)) × (value ≡ texts made)
+IsValueOf (host.Texts bytes lengths) value =
+    (made : List (List ℕ)) × AreTexts bytes.now lengths.now made × (value ≡ texts made)
 IsValueOf (host.Integers numbers) value = value ≡ integers numbers.now
-IsValueOf (host.Truths bytes) value = (made : List _) × (value ≡ booleans made)
+IsValueOf (host.Truths bytes) value = value ≡ booleans (map truth_of bytes.now)
 
 -- the kind of a number, as the OpenTelemetry protocol counts them
 abbrev pub IsKind : ℕ → SpanKind → Type 0
 IsKind number kind = number ≡ kind_number kind
+
+-- the status of a number: 0 is none, 1 says that it went well, 2 that it did not, and then why
+abbrev pub IsStatus : ℕ → List ℕ → PlainStatus → Type 0
+IsStatus code description unset = code ≡ 0
+IsStatus code description ok = code ≡ 1
+IsStatus code description (error said) = (code ≡ 2) × (said ≡ description)
+
+-- a text that may be left out: without bytes it is
+abbrev pub text_or_none : List ℕ → Option (List ℕ)
+text_or_none [] = None
+text_or_none (byte ∷ bytes) = Some (byte ∷ bytes)
+
+-- the scope of a library, and an error
+abbrev pub host_scope : List ℕ → List ℕ → List ℕ → PlainScope
+host_scope name version schema_url = record {
+  name = name;
+  version = text_or_none version;
+  schema_url = text_or_none schema_url;
+  attributes = [];
+}
+
+abbrev pub host_exception : List ℕ → List ℕ → List ℕ → PlainException
+host_exception exception_type message stacktrace = record {
+  message = message;
+  exception_type = text_or_none exception_type;
+  stacktrace = text_or_none stacktrace;
+}

@@ -1,5 +1,7 @@
 pub mod Keys
 pub mod HostValues
 pub mod Headers
+pub mod Flows
 pub mod Pipelines
 pub mod Conserved
+pub mod Opening

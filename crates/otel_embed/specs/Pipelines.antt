@@ -1,42 +1,38 @@
 -- A pipeline, and what its calls do to it.
-use Rattle.std.specs.Prelude.{◌≡◌, ◌==◌, ◌⊎◌, ◌++◌, ◌≤◌, ◌<◌, ℕ, drop, length, Bool, true, false, List, [], ◌∷◌, Option, Some, None, Result, Ok, Err, MatchBool, slice_get}
+use Rattle.std.specs.Prelude.{◌≡◌, ◌==◌, ◌⊎◌, ◌++◌, ◌+◌, ◌-◌, ◌%◌, ◌^◌, ◌≤◌, ◌<◌, ℕ, drop, length, min, is_some}
+use Rattle.std.specs.Prelude.{◌↔◌, List, [], ◌∷◌, Option, Some, None, Result, IsOk, MatchBool, slice_get}
+use Rattle.std.specs.Option.{option_map_or}
+use Rattle.opentelemetry.specs.Carrier.{Texts}
 use Rattle.opentelemetry.specs.Plain.{PlainContext, PlainKeyValue, PlainScope}
-use Rattle.opentelemetry.specs.PlainContexts.{root_cx}
+use Rattle.opentelemetry.specs.PlainContexts.{current_span_context, root_cx}
 use Rattle.opentelemetry.specs.PlainSpanBuilder.{PlainSpanBuilder}
 use Rattle.opentelemetry.specs.declared.trace.span_kind.SpanKind.{SpanKind}
-use Rattle.otel_resource.specs.Resource.{PlainResource}
-use Rattle.otel_export.specs.declared.error.OTelSdkError.{OTelSdkError}
 use Rattle.otel_sampling.specs.declared.trace.sampler.ShouldSample as sampling
 use Rattle.otel_sampling.specs.declared.trace.id_generator.GivesIds as drawing
+use Rattle.otel_export.specs.declared.error.OTelSdkError.{OTelSdkError}
 use Rattle.otel_pipeline.specs.Calls.{Calls}
-use Rattle.otel_pipeline.specs.Deliveries.{Delivery}
-use Rattle.otel_pipeline.specs.Ending.{Ends, deliveries}
-use Rattle.otel_pipeline.specs.FirstProcessor.{TakesShown, batches_of_first}
-use Rattle.otel_pipeline.specs.Provider.{Flushes, ProviderState, RunsDue, ShutsDown, shut_answer}
-use Rattle.otel_pipeline.specs.SpanHistory.{Edit, PlainSpan, SpanHistory, add_link, span_of}
-use Rattle.otel_pipeline.specs.StartRequest.{StartRequest, start_request}
-use Rattle.otel_pipeline.specs.Starting.{RefusesStart, Starts}
-use Rattle.otel_pipeline.specs.declared.trace.span_processor.SpanProcessor.{Ghosts}
-use Rattle.otel_otlp.specs.Otlp.{otlp_lines}
-use Rattle.opentelemetry.specs.Carrier.{Texts}
+use Rattle.otel_pipeline.specs.Ending.{Ends}
+use Rattle.otel_pipeline.specs.FirstProcessor.{losses_of_first}
+use Rattle.otel_pipeline.specs.Provider.{ProviderState}
 use Rattle.otel_pipeline.specs.SpanEdits.{new_link}
-use Rattle.otel_embed.specs.Headers.{SetsContext}
+use Rattle.otel_pipeline.specs.SpanHistory.{Edit, SpanHistory, add_link, span_of}
+use Rattle.otel_pipeline.specs.StartRequest.{StartRequest, start_request}
+use Rattle.otel_pipeline.specs.Starting.{Starts}
+use Rattle.otel_pipeline.specs.declared.trace.span_processor.SpanProcessor.{Ghosts}
+use Rattle.otel_embed.specs.Flows.{Answers, Did, DoesTo, Flow, MayStart, drained}
+use Rattle.otel_embed.specs.Headers.{IsContextOf, PlainHeaders, SetsContext, header_lines}
 use Rattle.otel_embed.specs.Keys.{Closes, EditsAt, OpenedSpan, OpenedSpans, Opens, Puts, SameSpans, span_at}
+use Rattle.otel_embed.specs.declared.numbers.Numbers.{Numbers}
+use Rattle.otel_embed.specs.declared.span_calls.SpanIdentity.{SpanIdentity}
 
--- what spans flow through: the provider, whose first processor keeps what was exported; the resource under which that
--- becomes lines; and the lines that were not handed out yet
-pub record Flow (P S G : Type 0) : Type 0 where
-  pub provider : ProviderState P S G
-  pub resource : PlainResource
-  pub lines : List ℕ
-
--- a pipeline: its flow, the scopes of its tracers, its open spans, and the attributes that were gathered for what comes
--- next
+-- a pipeline: its flow, the scopes of its tracers, its open spans, the attributes that were gathered for what comes
+-- next, and how many spans its processor refused when memory ran out
 pub record PipelineState (P S G : Type 0) : Type 0 where
   pub flow : Flow P S G
   pub scopes : List PlainScope
   pub spans : OpenedSpans
   pub gathered : List PlainKeyValue
+  pub refusals : ℕ
 
 -- the context in which an open span is active
 abbrev pub active_in : OpenedSpan → PlainContext
@@ -74,71 +70,12 @@ module _ {P S G : Type 0} (calls : Ghosts P) (sampler : sampling.Ghosts S) (ids 
     pub starts : Starts calls sampler ids old request history new
     pub opens : Opens spans key (record { span = span_of history; cx = request.cx }) later
 
--- what a start that is refused may have done to a provider: nothing, or ids were drawn; no processor was asked
-abbrev pub MayStart : {P S G : Type 0} → sampling.Ghosts S → drawing.Ghosts G → ProviderState P S G → StartRequest
-    → ProviderState P S G → Type 0
-MayStart sampler ids old request new = (new ≡ old) ⊎ RefusesStart sampler ids old request new
-
 -- the span of a key has ended, which names none from then on, and so many processors refused it
 pub record EndsAt {P S G : Type 0} (calls : Ghosts P) (old : ProviderState P S G) (spans : OpenedSpans)
     (key moment refused : ℕ) (new : ProviderState P S G) (later : OpenedSpans) : Type 0 where
   pub found : OpenedSpan
   pub ends : Ends calls old found.span moment refused new
   pub closes : Closes spans key found later
-
--- what a call did to the flow of a pipeline: nothing; a start was asked for; a span ended at a moment, at a provider that
--- was shut or open, and so many processors refused it; a flush; what is due at a moment; a shutdown; these bytes were
--- handed out
-pub data Did : Type 0 where
-  rested : Did
-  started : StartRequest → Did
-  ended : Bool → PlainSpan → ℕ → ℕ → Did
-  flushed : Did
-  ran : ℕ → Did
-  shut : Did
-  drained : List ℕ → Did
-
--- what was delivered to the processors, and what was handed out
-abbrev pub delivered_by : Did → List Delivery
-delivered_by (ended was_shut span moment refused) = deliveries was_shut moment span.recorded refused
-delivered_by _ = []
-
-abbrev pub handed_by : Did → List ℕ
-handed_by (drained bytes) = bytes
-handed_by _ = []
-
--- all lines that a flow holds: those that were not handed out, and those of the batches that are kept
-abbrev pub lines_held : {P S G : Type 0} → Calls P S G → Flow P S G → List ℕ
-lines_held calls flow =
-    flow.lines ++ otlp_lines flow.resource (batches_of_first calls.keeps flow.provider.processors)
-
-module _ {P S G : Type 0} (calls : Calls P S G) where
-  -- what is done to a provider
-  abbrev pub DoesToProvider : Did → ProviderState P S G → ProviderState P S G → Type 0
-  DoesToProvider rested old new = new ≡ old
-  DoesToProvider (started request) old new =
-      ((history : SpanHistory) × Starts calls.processor calls.sampler calls.ids old request history new)
-      ⊎ MayStart calls.sampler calls.ids old request new
-  DoesToProvider (ended was_shut span moment refused) old new =
-      (was_shut ≡ old.is_shut) × Ends calls.processor old span moment refused new
-  DoesToProvider flushed old new = (answer : Result (Unit {0}) OTelSdkError) × Flushes calls.processor old answer new
-  DoesToProvider (ran moment) old new =
-      (answer : Result (Unit {0}) OTelSdkError) × RunsDue calls.processor calls.timer moment old answer new
-  DoesToProvider shut old new = (answer : Result (Unit {0}) OTelSdkError) × MatchBool old.is_shut
-      ((answer ≡ shut_answer old.is_disabled old.processors) × (new ≡ old))
-      (ShutsDown calls.processor old 5_000_000_000 answer new)
-  DoesToProvider (drained bytes) old new = TakesShown calls.processor calls.queues calls.keeps old new
-
-  -- what is done to lines: they stay, but what is handed out, and what was kept until then, become one
-  abbrev pub DoesToLines : Did → Flow P S G → List ℕ → Type 0
-  DoesToLines (drained bytes) old lines = bytes ++ lines ≡ lines_held calls old
-  DoesToLines _ old lines = lines ≡ old.lines
-
-  -- what a call did to a flow
-  pub record DoesTo (did : Did) (old new : Flow P S G) : Type 0 where
-    pub provider : DoesToProvider did old.provider new.provider
-    pub resource : new.resource ≡ old.resource
-    pub lines : DoesToLines did old new.lines
 
 module _ {P S G : Type 0} (calls : Calls P S G) where
   -- a host's span was started in a context of which this is so, with the attributes that were gathered
@@ -161,28 +98,60 @@ module _ {P S G : Type 0} (calls : Calls P S G) where
     pub rest : new ≡ record old
         { flow = record old.flow { provider = new.flow.provider }; spans = new.spans; gathered = [] }
 
--- a span was edited, and what was gathered is as it says; nothing else changed
+-- a pipeline whose gathered attributes were taken for what comes next
+abbrev pub taken : {P S G : Type 0} → PipelineState P S G → PipelineState P S G
+taken pipeline = record pipeline { gathered = [] }
+
+-- a span was edited; nothing else changed
 pub record EditsSpan {P S G : Type 0} (old : PipelineState P S G) (key : ℕ) (edits : List Edit)
     (new : PipelineState P S G) : Type 0 where
   pub edited : EditsAt old.spans key edits new.spans
-  pub rest : new ≡ record old { spans = new.spans; gathered = new.gathered }
+  pub rest : new ≡ record old { spans = new.spans }
 
--- a call that was refused: the open spans stay, and all else, but for what was gathered
+-- a call that was refused: the open spans stay, and all else
 pub record Stays {P S G : Type 0} (old new : PipelineState P S G) : Type 0 where
   pub spans : SameSpans old.spans new.spans
-  pub rest : new ≡ record old { spans = new.spans; gathered = new.gathered }
+  pub rest : new ≡ record old { spans = new.spans }
 
 -- a span has ended, and what it recorded was delivered
 pub record EndsSpan {P S G : Type 0} (calls : Ghosts P) (old : PipelineState P S G) (key moment : ℕ)
     (new : PipelineState P S G) : Type 0 where
   pub refused : ℕ
   pub ends : EndsAt calls old.flow.provider old.spans key moment refused new.flow.provider new.spans
-  pub rest : new ≡ record old { flow = record old.flow { provider = new.flow.provider }; spans = new.spans }
+  pub counts : new.refusals ≡ min (old.refusals + refused) (2 ^ 64 - 1)
+  pub rest : new ≡ record old {
+    flow = record old.flow { provider = new.flow.provider };
+    spans = new.spans;
+    refusals = new.refusals;
+  }
+
+-- a span is not open any more, and nothing was delivered
+pub record Abandons {P S G : Type 0} (old : PipelineState P S G) (key : ℕ) (new : PipelineState P S G) : Type 0 where
+  pub found : OpenedSpan
+  pub closes : Closes old.spans key found new.spans
+  pub rest : new ≡ record old { spans = new.spans }
+
+-- a tracer for a library was added after those that were there
+pub record AddsTracer {P S G : Type 0} (old : PipelineState P S G) (scope : PlainScope) (number : ℕ)
+    (new : PipelineState P S G) : Type 0 where
+  pub number_is : number ≡ length old.scopes
+  pub rest : new ≡ record old { scopes = old.scopes ++ scope ∷ [] }
+
+-- who the span of a key is, by ids of 128 bits and of 64, and whether it records what it is told
+pub record Identifies {P S G : Type 0} (pipeline : PipelineState P S G) (key : ℕ) (who : SpanIdentity) : Type 0 where
+  pub found : OpenedSpan
+  pub is_open : span_at pipeline.spans key ≡ Some found
+  pub trace_id : who.trace_id ≡ found.span.span_context.trace_id % 2 ^ 128
+  pub span_id : who.span_id ≡ found.span.span_context.span_id % 2 ^ 64
+  pub trace_flags : who.trace_flags ≡ found.span.span_context.trace_flags
+  pub is_recording : who.is_recording ≡ is_some found.span.recorded
 
 module _ {P S G : Type 0} (calls : Calls P S G) where
-  -- a call of the provider did this, and changed nothing else
-  pub record FlowsBy (did : Did) (old new : PipelineState P S G) : Type 0 where
-    pub does : DoesTo calls did old.flow new.flow
+  -- a call of the provider did this, and changed nothing else; it succeeded where the provider answered Ok
+  pub record FlowsBy (did : Did) (Succeeds : Type 0) (old new : PipelineState P S G) : Type 0 where
+    pub answer : Result (Unit {0}) OTelSdkError
+    pub answers : Answers calls did answer old.flow.provider new.flow.provider
+    pub says : IsOk answer ↔ Succeeds
     pub rest : new ≡ record old { flow = record old.flow { provider = new.flow.provider } }
 
   -- what was kept has become lines, of which these bytes were handed out; nothing else changed
@@ -205,10 +174,35 @@ pub record LinksTo {P S G : Type 0} (old : PipelineState P S G) (key linked : �
     : Type 0 where
   pub target : OpenedSpan
   pub is_open : span_at old.spans linked ≡ Some target
-  pub links : EditsSpan old key (add_link (new_link target.span.span_context old.gathered) ∷ []) new
+  pub links : EditsSpan (taken old) key (add_link (new_link target.span.span_context old.gathered) ∷ []) new
 
 -- the headers that hand a span on are set
 pub record SetsHeadersOf {P S G : Type 0} (pipeline : PipelineState P S G) (key : ℕ) (old new : Texts) : Type 0 where
   pub found : OpenedSpan
   pub is_open : span_at pipeline.spans key ≡ Some found
   pub sets : SetsContext (active_in found) old new
+
+-- the lines of the headers that hand a span on
+pub record SaysHeaders {P S G : Type 0} (pipeline : PipelineState P S G) (key : ℕ) (lines : List ℕ) : Type 0 where
+  pub texts : Texts
+  pub sets : SetsHeadersOf pipeline key (λ _. None) texts
+  pub are_lines : lines ≡ header_lines texts
+
+-- a span has one more link, to the span that the headers of a host name, with the attributes that were gathered
+pub record LinksToRemote {P S G : Type 0} (old : PipelineState P S G) (key : ℕ) (headers : PlainHeaders)
+    (new : PipelineState P S G) : Type 0 where
+  pub cx : PlainContext
+  pub says : IsContextOf headers cx
+  pub is_valid : (0 < (current_span_context cx).trace_id) × (0 < (current_span_context cx).span_id)
+  pub links : EditsSpan (taken old) key (add_link (new_link (current_span_context cx) old.gathered) ∷ []) new
+
+-- how many spans are where
+pub record CountsIn {P S G : Type 0} (calls : Calls P S G) (pipeline : PipelineState P S G) (numbers : Numbers)
+    : Type 0 where
+  pub open_spans : numbers.open_spans ≡ length pipeline.spans.entries
+  pub waiting_spans : numbers.waiting_spans
+      ≡ option_map_or calls.queues.open_over (slice_get pipeline.flow.provider.processors 0) 0
+  pub dropped_spans : numbers.dropped_spans
+      ≡ option_map_or calls.queues.dropped_over (slice_get pipeline.flow.provider.processors 0) 0
+  pub refused_spans : numbers.refused_spans ≡ pipeline.refusals
+  pub lost_batches : numbers.lost_batches ≡ losses_of_first calls.keeps pipeline.flow.provider.processors

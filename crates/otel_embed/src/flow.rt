@@ -1,8 +1,9 @@
 //! What becomes of ended spans: the queue is worked off, what was exported becomes lines, and lines are handed out.
 
-ghost use Rattle.std.specs.Prelude.{◌≡◌, [], IfOk, OnErr, OnOk, length};
+ghost use Rattle.std.specs.Prelude.{◌≡◌, [], IfOk, IsOk, OnErr, OnOk, length};
 ghost use Rattle.otel_pipeline.specs.Calls.{calls_of};
-ghost use Rattle.otel_embed.specs.Pipelines.{Drains, DrainsInto, FlowsBy, flushed, ran, shut};
+ghost use Rattle.otel_embed.specs.Flows.{flushed, ran, shut};
+ghost use Rattle.otel_embed.specs.Pipelines.{CountsIn, Drains, DrainsInto, FlowsBy};
 
 use crate::error::PipelineError;
 use crate::numbers::{Numbers, dropped_in, waiting_in};
@@ -18,7 +19,7 @@ impl<P: KeepsBatches, S: ShouldSample, G: GivesIds> PipelineOf<P, S, G> {
     pub fn flush(&mut self) -> Result<(), PipelineError>
         ensures { FlowsBy
             (calls_of P.SpanProcessor P.Timed.own P.CountsLeftSpans.own P.KeepsBatches.own S.ShouldSample G.GivesIds)
-            flushed self.old self.new }
+            flushed (IsOk result) self.old self.new }
     {
         self.provider
             .force_flush()
@@ -29,7 +30,7 @@ impl<P: KeepsBatches, S: ShouldSample, G: GivesIds> PipelineOf<P, S, G> {
     pub fn run_due(&mut self, now: Moment) -> Result<(), PipelineError>
         ensures { FlowsBy
             (calls_of P.SpanProcessor P.Timed.own P.CountsLeftSpans.own P.KeepsBatches.own S.ShouldSample G.GivesIds)
-            (ran now.0) self.old self.new }
+            (ran now.0) (IsOk result) self.old self.new }
     {
         self.provider
             .run_processors(now)
@@ -40,7 +41,7 @@ impl<P: KeepsBatches, S: ShouldSample, G: GivesIds> PipelineOf<P, S, G> {
     pub fn shutdown(&mut self) -> Result<(), PipelineError>
         ensures { FlowsBy
             (calls_of P.SpanProcessor P.Timed.own P.CountsLeftSpans.own P.KeepsBatches.own S.ShouldSample G.GivesIds)
-            shut self.old self.new }
+            shut (IsOk result) self.old self.new }
     {
         self.provider
             .shutdown()
@@ -80,13 +81,17 @@ impl<P: KeepsBatches, S: ShouldSample, G: GivesIds> PipelineOf<P, S, G> {
     }
 
     /// How many spans are where.
-    pub fn numbers(&self) -> Numbers {
+    pub fn numbers(&self) -> Numbers
+        ensures { CountsIn
+            (calls_of P.SpanProcessor P.Timed.own P.CountsLeftSpans.own P.KeepsBatches.own S.ShouldSample G.GivesIds)
+            self.now result }
+    {
         let processors = self.provider.processors();
         Numbers {
             open_spans: self.spans.len() as u64,
             waiting_spans: waiting_in(processors),
             dropped_spans: dropped_in(processors),
-            refused_spans: self.refused,
+            refused_spans: self.refusals,
             lost_batches: lost_by_first(processors),
         }
     }

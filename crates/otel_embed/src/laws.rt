@@ -1,7 +1,7 @@
 //! The laws of a pipeline, over the definitions alone. Each function does nothing; its contract is the law.
 
 ghost use Rattle.otel_pipeline.specs.Calls.{calls_of};
-ghost use Rattle.otel_embed.specs.Conserved.{CallsConserve, HearsWhatItHolds, Hosted};
+ghost use Rattle.otel_embed.specs.Conserved.{CallsConserve, CallsDo, HearsWhatItHolds, Hosted};
 
 use crate::pipeline::HostInside;
 use crate::pipeline_of::HostPipeline;
@@ -14,6 +14,12 @@ use otel_sampling::trace::{GivesIds, ShouldSample};
 /// for those that it dropped, which it counts, and those that it refused, which their ends count.
 pub fn calls_conserve_spans<P: KeepsBatches, S: ShouldSample, G: GivesIds>()
     ensures { CallsConserve
+        (calls_of P.SpanProcessor P.Timed.own P.CountsLeftSpans.own P.KeepsBatches.own S.ShouldSample G.GivesIds) }
+{}
+
+/// What each call of a pipeline does to its flow is one of the things over whose lists the law above is.
+pub fn each_call_does<P: KeepsBatches, S: ShouldSample, G: GivesIds>()
+    ensures { CallsDo
         (calls_of P.SpanProcessor P.Timed.own P.CountsLeftSpans.own P.KeepsBatches.own S.ShouldSample G.GivesIds) }
 {}
 

@@ -7,6 +7,7 @@ mod changes_span;
 pub mod error;
 mod flow;
 mod headers;
+pub mod host_headers;
 pub mod laws;
 pub mod numbers;
 mod open_span;
@@ -19,8 +20,9 @@ pub mod span_calls;
 pub mod values;
 
 pub use error::PipelineError;
+pub use host_headers::HostHeaders;
 pub use numbers::Numbers;
 pub use pipeline::Pipeline;
 pub use pipeline_of::{HostStart, PipelineOf};
-pub use span_calls::{HostHeaders, SpanIdentity};
+pub use span_calls::SpanIdentity;
 pub use values::HostValue;

@@ -1,6 +1,7 @@
 //! How many spans of a pipeline are where.
 
-ghost use Rattle.std.specs.Prelude.{◌≡◌};
+ghost use Rattle.std.specs.Prelude.{◌≡◌, slice_get};
+ghost use Rattle.std.specs.Option.{option_map_or};
 
 use otel_pipeline::trace::CountsLeftSpans;
 
@@ -20,7 +21,9 @@ pub struct Numbers {
 }
 
 /// How many spans wait in the first of these processors.
-pub(crate) fn waiting_in<P: CountsLeftSpans>(processors: &[P]) -> u64 {
+pub(crate) fn waiting_in<P: CountsLeftSpans>(processors: &[P]) -> u64
+    ensures { result ≡ option_map_or P.open_over (slice_get processors.now 0) 0 }
+{
     match processors.first() {
         Some(first) => first.left_open() as u64,
         None => 0,
@@ -28,7 +31,9 @@ pub(crate) fn waiting_in<P: CountsLeftSpans>(processors: &[P]) -> u64 {
 }
 
 /// How many spans the first of these processors dropped.
-pub(crate) fn dropped_in<P: CountsLeftSpans>(processors: &[P]) -> u64 {
+pub(crate) fn dropped_in<P: CountsLeftSpans>(processors: &[P]) -> u64
+    ensures { result ≡ option_map_or P.dropped_over (slice_get processors.now 0) 0 }
+{
     match processors.first() {
         Some(first) => first.dropped_count(),
         None => 0,

@@ -1,8 +1,9 @@
 //! The open spans by their keys. A key is a number from 1 on, names one span, and is not used again.
 
-ghost use Rattle.std.specs.Prelude.{◌≡◌, [], IfOk, OnErr, OnOk, Some};
+ghost use Rattle.std.specs.Prelude.{◌≡◌, [], IfOk, OnErr, OnOk, Some, length};
 ghost use Rattle.otel_embed.specs.Keys.{Closes, EditsAt, Opens, SameSpans, span_at};
-ghost use Rattle.otel_embed.specs.Pipelines.{EndsAt, MayStart, StartsAt, StartsUnder};
+ghost use Rattle.otel_embed.specs.Flows.{MayStart};
+ghost use Rattle.otel_embed.specs.Pipelines.{EndsAt, StartsAt, StartsUnder};
 ghost use Rattle.otel_pipeline.specs.StartRequest.{start_request};
 
 use crate::changes_span::ChangesSpan;
@@ -45,7 +46,9 @@ impl OpenSpans {
     }
 
     /// How many spans are open.
-    pub(crate) fn len(&self) -> usize {
+    pub(crate) fn len(&self) -> usize
+        ensures { result ≡ length self.now.entries }
+    {
         self.spans.len()
     }
 
@@ -61,6 +64,7 @@ impl OpenSpans {
 
     /// Starts a span in a context, and answers its key. The place of the key comes first, so that a start that is
     /// refused has asked no processor.
+    #[inline(always)]
     pub(crate) fn start<P: SpanProcessor, S: ShouldSample, G: GivesIds>(
         &mut self,
         builder: SpanBuilder,
@@ -85,6 +89,7 @@ impl OpenSpans {
     }
 
     /// Changes the span of a key.
+    #[inline(always)]
     pub(crate) fn change<E: ChangesSpan>(
         &mut self,
         key: u64,
@@ -132,6 +137,7 @@ impl OpenSpans {
 }
 
 /// Starts a span under a key that is free, in a context.
+#[inline(always)]
 fn start_under<P: SpanProcessor, S: ShouldSample, G: GivesIds>(
     spans: &mut BTreeMap<u64, OpenSpan>,
     key: u64,

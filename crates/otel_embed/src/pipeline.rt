@@ -1,11 +1,17 @@
 //! The pipeline of a host: a processor over an exporter in memory, by the settings that the host hands in.
 
+ghost use Rattle.std.specs.Prelude.{◌≡◌, ◌++◌, ◌∷◌, [], IfOk};
+ghost use Rattle.otel_sampling.specs.Config.{IsConfigOf};
+ghost use Rattle.otel_embed.specs.Opening.{BeginsAs, MatchKind, OpensBy};
+
 use crate::error::PipelineError;
 use crate::pipeline_of::PipelineOf;
 use crate::settings::{ProcessorKind, Settings};
 use opentelemetry::InstrumentationScope;
 use otel_export::trace::{ExporterOf, InMemorySpanExporter, NoExporter};
-use otel_pipeline::trace::{FromExporter, ProviderOf, SimpleSpanProcessor};
+use otel_pipeline::trace::{
+    FromExporter, ProviderBuilderOf, ProviderOf, SimpleSpanProcessor, SpanProcessor,
+};
 use otel_processors::trace::ProcessorOf;
 use otel_resource::resource::Resource;
 use otel_sampling::trace::{
@@ -48,7 +54,9 @@ fn config_of(
     alloc: Global,
     strings: &ConfigStrings,
     seed: u64,
-) -> Result<ConfigOf<HostSampler, HostIds>, AllocError> {
+) -> Result<ConfigOf<HostSampler, HostIds>, AllocError>
+    ensures { IfOk result (IsConfigOf strings.now seed) }
+{
     let mut config = ConfigOf {
         sampler: HostSampler::AlwaysOn,
         id_generator: HostIds::Random(RandomIdGenerator::new(seed)),
@@ -59,6 +67,23 @@ fn config_of(
     Ok(config)
 }
 
+/// Adds a processor of a kind over this exporter.
+fn with_processor<P: FromExporter>(
+    builder: ProviderBuilderOf<P, HostSampler, HostIds>,
+    kind: ProcessorKind,
+    exporter: P::Exporter,
+) -> Result<ProviderBuilderOf<P, HostSampler, HostIds>, AllocError>
+    ensures { IfOk result (λ built. (made : P) × MatchKind kind (made ≡ P.simple_of exporter)
+        (P.batch_of exporter builder.batch_strings made) (P.eager_batch_of exporter builder.batch_strings made)
+        × (built ≡ record builder { processors = builder.processors ++ made ∷ [] })) }
+{
+    match kind {
+        ProcessorKind::Simple => Ok(builder.with_simple_exporter(exporter)?),
+        ProcessorKind::Batch => Ok(builder.with_batch_exporter(exporter)?),
+        ProcessorKind::Eager => Ok(builder.with_eager_batch_exporter(exporter)?),
+    }
+}
+
 /// A pipeline with one processor of a kind over this exporter, as strings configure it.
 fn pipeline_with<P: FromExporter>(
     alloc: Global,
@@ -66,7 +91,10 @@ fn pipeline_with<P: FromExporter>(
     strings: &ConfigStrings,
     seed: u64,
     exporter: P::Exporter,
-) -> Result<PipelineOf<P, HostSampler, HostIds>, AllocError> {
+) -> Result<PipelineOf<P, HostSampler, HostIds>, AllocError>
+    ensures { IfOk result (BeginsAs P.SpanProcessor (λ batch made. MatchKind kind (made ≡ P.simple_of exporter)
+        (P.batch_of exporter batch made) (P.eager_batch_of exporter batch made)) strings.now seed) }
+{
     let config = config_of(alloc, strings, seed)?;
     let resource = config.resource.clone()?;
     let batch_strings = strings.batch.clone()?;
@@ -79,19 +107,16 @@ fn pipeline_with<P: FromExporter>(
         batch_strings,
         is_disabled,
     );
-    let builder = match kind {
-        ProcessorKind::Simple => builder.with_simple_exporter(exporter)?,
-        ProcessorKind::Batch => builder.with_batch_exporter(exporter)?,
-        ProcessorKind::Eager => builder.with_eager_batch_exporter(exporter)?,
-    };
-    let provider = builder.build()?;
+    let provider = with_processor(builder, kind, exporter)?.build()?;
     tracers.push_reserved(provider.tracer_with_scope(scope));
     Ok(PipelineOf::over(alloc, provider, resource, tracers))
 }
 
 impl Pipeline {
     /// Opens a pipeline. The settings are lines `NAME=VALUE`; the seed decides all ids.
-    pub fn open(alloc: Global, settings: &[u8], seed: u64) -> Result<Pipeline, PipelineError> {
+    pub fn open(alloc: Global, settings: &[u8], seed: u64) -> Result<Pipeline, PipelineError>
+        ensures { IfOk result (λ pipeline. OpensBy ⟦<HostProcessor as SpanProcessor>⟧ seed pipeline.inside) }
+    {
         let Ok(text) = str::from_utf8(settings) else {
             return Err(PipelineError::NotUtf8);
         };

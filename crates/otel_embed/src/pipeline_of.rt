@@ -5,12 +5,15 @@ ghost use Rattle.std.specs.Prelude.{◌≡◌, ◌++◌, ◌∷◌, [], IfOk, On
 ghost use Rattle.otel_pipeline.specs.Calls.{Calls, calls_of};
 ghost use Rattle.otel_pipeline.specs.SpanHistory.{set_attribute};
 ghost use Rattle.otel_embed.specs.Pipelines.{
+  Abandons,
+  AddsTracer,
   EditsSpan,
   EndsSpan,
   IsContextUnder,
   RefusesIn,
   StartsIn,
   Stays,
+  taken,
 };
 
 use crate::changes_span::{Attributes, ChangesSpan};
@@ -35,7 +38,7 @@ pub struct PipelineOf<P, S, G> {
     pub(crate) spans: OpenSpans,
     pub(crate) gathered: Vec<KeyValue>,
     // How many spans the processor refused when memory ran out.
-    pub(crate) refused: u64,
+    pub(crate) refusals: u64,
 }
 
 impl<P, S, G> Model for PipelineOf<P, S, G> {
@@ -52,6 +55,7 @@ impl<P, S, G> Model for PipelineOf<P, S, G> {
       scopes = a.tracers.items;
       spans = a.spans;
       gathered = a.gathered.items;
+      refusals = a.refusals;
     } };
 }
 
@@ -115,6 +119,7 @@ impl<P, S, G> PipelineOf<P, S, G> {
           scopes = tracers.items;
           spans = record { entries = []; next_key = 1 };
           gathered = [];
+          refusals = 0;
         } }
     {
         PipelineOf {
@@ -125,7 +130,7 @@ impl<P, S, G> PipelineOf<P, S, G> {
             tracers,
             spans: OpenSpans::new(alloc),
             gathered: Vec::new(alloc),
-            refused: 0,
+            refusals: 0,
         }
     }
 }
@@ -141,7 +146,7 @@ impl<P: CountsLeftSpans, S: Drop, G: Drop> PipelineOf<P, S, G> {
             tracers: _,
             spans: _,
             gathered: _,
-            refused: _,
+            refusals: _,
         } = self;
         provider.close()
     }
@@ -150,9 +155,8 @@ impl<P: CountsLeftSpans, S: Drop, G: Drop> PipelineOf<P, S, G> {
 impl<P: KeepsBatches, S: ShouldSample, G: GivesIds> PipelineOf<P, S, G> {
     /// A tracer for a library, by its number.
     pub(crate) fn add_tracer(&mut self, scope: InstrumentationScope) -> Result<u64, PipelineError>
-        ensures ok { IfOk result (λ number. slice_get self.new.scopes number ≡ Some scope) }
-        ensures rest { self.new ≡ record self.old { scopes = self.new.scopes } }
-        ensures err { OnErr result (self.new.scopes ≡ self.old.scopes) }
+        ensures ok { IfOk result (λ number. AddsTracer self.old scope number self.new) }
+        ensures err { OnErr result (self.new ≡ self.old) }
     {
         let number = self.tracers.len();
         self.tracers.push(self.provider.tracer_with_scope(scope))?;
@@ -171,7 +175,7 @@ impl<P: KeepsBatches, S: ShouldSample, G: GivesIds> PipelineOf<P, S, G> {
     /// Hands out the attributes that were gathered.
     pub(crate) fn take_gathered(&mut self) -> Vec<KeyValue>
         ensures taken { result.items ≡ self.old.gathered }
-        ensures rest { self.new ≡ record self.old { gathered = [] } }
+        ensures rest { self.new ≡ taken self.old }
     {
         mem::replace(&mut self.gathered, Vec::new(self.alloc))
     }
@@ -187,6 +191,7 @@ impl<P: KeepsBatches, S: ShouldSample, G: GivesIds> PipelineOf<P, S, G> {
     }
 
     /// Changes the span of a key. Nothing else happens.
+    #[inline(always)]
     pub(crate) fn change<E: ChangesSpan>(
         &mut self,
         span: u64,
@@ -200,8 +205,8 @@ impl<P: KeepsBatches, S: ShouldSample, G: GivesIds> PipelineOf<P, S, G> {
 
     /// Sets the attributes that were gathered.
     pub fn set_attributes(&mut self, span: u64) -> Result<(), PipelineError>
-        ensures ok { OnOk result (EditsSpan self.old span (map set_attribute self.old.gathered) self.new) }
-        ensures err { OnErr result (Stays self.old self.new) }
+        ensures ok { OnOk result (EditsSpan (taken self.old) span (map set_attribute self.old.gathered) self.new) }
+        ensures err { OnErr result (Stays (taken self.old) self.new) }
     {
         let attributes = self.take_gathered();
         self.change(span, Attributes(attributes))
@@ -209,7 +214,7 @@ impl<P: KeepsBatches, S: ShouldSample, G: GivesIds> PipelineOf<P, S, G> {
 
     /// Abandons the span of a key: nothing is delivered.
     pub fn abandon(&mut self, span: u64) -> Result<(), PipelineError>
-        ensures flow { self.new.flow ≡ self.old.flow }
+        ensures ok { OnOk result (Abandons self.old span self.new) }
         ensures err { OnErr result (Stays self.old self.new) }
     {
         self.spans.abandon(span)
@@ -217,6 +222,7 @@ impl<P: KeepsBatches, S: ShouldSample, G: GivesIds> PipelineOf<P, S, G> {
 
     /// Starts a span under the span of a key, or a root where that is 0, and answers its key. It has the attributes
     /// that were gathered.
+    #[inline(always)]
     pub(crate) fn start_under(
         &mut self,
         start: HostStart,
@@ -237,6 +243,7 @@ impl<P: KeepsBatches, S: ShouldSample, G: GivesIds> PipelineOf<P, S, G> {
     }
 
     /// Starts a span in a context.
+    #[inline(always)]
     pub(crate) fn start_in(
         &mut self,
         start: HostStart,
@@ -267,7 +274,7 @@ impl<P: KeepsBatches, S: ShouldSample, G: GivesIds> PipelineOf<P, S, G> {
         ensures err { OnErr result (Stays self.old self.new) }
     {
         let refused = self.spans.end(span, &mut self.provider, moment)?;
-        self.refused = self.refused.saturating_add(refused as u64);
+        self.refusals = self.refusals.saturating_add(refused as u64);
         Ok(())
     }
 }

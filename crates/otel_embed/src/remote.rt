@@ -2,14 +2,15 @@
 
 ghost use Rattle.std.specs.Prelude.{◌≡◌, IfOk, OnErr, OnOk, Some, is_some, string_bytes};
 ghost use Rattle.otel_pipeline.specs.Calls.{calls_of};
-ghost use Rattle.otel_embed.specs.Headers.{ReadsContext};
+ghost use Rattle.otel_embed.specs.Headers.{IsContextOf, plain_headers};
 ghost use Rattle.otel_embed.specs.Keys.{span_at};
-ghost use Rattle.otel_embed.specs.Pipelines.{LinksTo, RefusesIn, SetsHeadersOf, StartsIn, Stays};
+ghost use Rattle.otel_embed.specs.Pipelines.{LinksTo, LinksToRemote, RefusesIn, SetsHeadersOf, StartsIn, Stays, taken};
 
 use crate::error::PipelineError;
-use crate::headers::{context_of, inject};
+use crate::headers::inject;
+use crate::host_headers::{HostHeaders, host_context};
 use crate::pipeline_of::{HostStart, PipelineOf};
-use opentelemetry::propagation::{Extractor, Injector};
+use opentelemetry::propagation::Injector;
 use opentelemetry::trace::{Link, SpanContext};
 use otel_pipeline::trace::{KeepsBatches, SpanEdit};
 use otel_sampling::trace::{GivesIds, ShouldSample};
@@ -17,29 +18,29 @@ use otel_sampling::trace::{GivesIds, ShouldSample};
 impl<P: KeepsBatches, S: ShouldSample, G: GivesIds> PipelineOf<P, S, G> {
     /// Starts a span as a child of the span of another process, which headers name, and with the baggage that they say.
     /// Where they name none it is a root. It has the attributes that were gathered.
-    pub(crate) fn start_from<X: Extractor>(
+    pub(crate) fn start_from(
         &mut self,
         start: HostStart,
-        headers: &X,
+        headers: HostHeaders<'_>,
         name: String,
     ) -> Result<u64, PipelineError>
         ensures ok { IfOk result (λ key. StartsIn
             (calls_of P.SpanProcessor P.Timed.own P.CountsLeftSpans.own P.KeepsBatches.own S.ShouldSample G.GivesIds)
-            (ReadsContext (X.reads headers.now)) self.old start.tracer start.kind start.moment.0 (string_bytes name)
-            key self.new) }
+            (IsContextOf (plain_headers headers.entry)) self.old start.tracer start.kind start.moment.0
+            (string_bytes name) key self.new) }
         ensures err { OnErr result (RefusesIn
             (calls_of P.SpanProcessor P.Timed.own P.CountsLeftSpans.own P.KeepsBatches.own S.ShouldSample G.GivesIds)
             self.old self.new) }
     {
         let attributes = self.take_gathered();
-        let cx = context_of(self.alloc, headers)?;
+        let cx = host_context(self.alloc, headers)?;
         self.start_in(start, cx, name, attributes)
     }
 
     /// Adds a link to another open span. It has the attributes that were gathered.
     pub fn add_link(&mut self, span: u64, linked: u64) -> Result<(), PipelineError>
         ensures ok { OnOk result (LinksTo self.old span linked self.new) }
-        ensures err { OnErr result (Stays self.old self.new) }
+        ensures err { OnErr result (Stays (taken self.old) self.new) }
     {
         let attributes = self.take_gathered();
         let target = self.spans.get(linked)?.span.span_context().clone()?;
@@ -48,15 +49,16 @@ impl<P: KeepsBatches, S: ShouldSample, G: GivesIds> PipelineOf<P, S, G> {
 
     /// Adds a link to the span of another process, which headers name; `BadArgument` where they name none. It has the
     /// attributes that were gathered.
-    pub(crate) fn add_link_from<X: Extractor>(
+    pub fn add_remote_link(
         &mut self,
         span: u64,
-        headers: &X,
+        headers: HostHeaders<'_>,
     ) -> Result<(), PipelineError>
-        ensures err { OnErr result (Stays self.old self.new) }
+        ensures ok { OnOk result (LinksToRemote self.old span (plain_headers headers.entry) self.new) }
+        ensures err { OnErr result (Stays (taken self.old) self.new) }
     {
         let attributes = self.take_gathered();
-        let cx = context_of(self.alloc, headers)?;
+        let cx = host_context(self.alloc, headers)?;
         if !cx.span_context().is_valid() {
             return Err(PipelineError::BadArgument);
         }

@@ -2,33 +2,27 @@
 
 ghost use Rattle.std.specs.Prelude.{◌≡◌, ◌++◌, ◌∷◌, [], IfOk, IsErr, OnErr, OnOk, string_bytes};
 ghost use Rattle.otel_pipeline.specs.Calls.{calls_of};
-ghost use Rattle.opentelemetry.specs.Carrier.{Texts};
-ghost use Rattle.opentelemetry.specs.Plain.{PlainValue};
+ghost use Rattle.opentelemetry.specs.Plain.{PlainStatus, PlainValue};
 ghost use Rattle.opentelemetry.specs.declared.trace.span_kind.SpanKind.{SpanKind as TheKinds};
 ghost use Rattle.otel_pipeline.specs.SpanEdits.{new_event};
-ghost use Rattle.otel_pipeline.specs.SpanHistory.{add_event, set_attribute, update_name};
-ghost use Rattle.otel_embed.specs.Headers.{ReadsContext};
-ghost use Rattle.otel_embed.specs.HostValues.{IsKind, IsValueOf};
-ghost use Rattle.otel_embed.specs.Pipelines.{EditsSpan, IsContextUnder, RefusesIn, StartsIn, Stays};
+ghost use Rattle.otel_pipeline.specs.Exceptions.{exception_event};
+ghost use Rattle.otel_pipeline.specs.SpanHistory.{add_event, set_attribute, set_status, update_name};
+ghost use Rattle.otel_embed.specs.Headers.{IsContextOf, plain_headers};
+ghost use Rattle.otel_embed.specs.HostValues.{IsKind, IsStatus, IsValueOf, host_exception, host_scope};
+ghost use Rattle.otel_embed.specs.Pipelines.{AddsTracer, EditsSpan, Identifies, IsContextUnder};
+ghost use Rattle.otel_embed.specs.Pipelines.{RefusesIn, SaysHeaders, StartsIn, Stays, taken};
 
 use crate::changes_span::MetError;
 use crate::error::PipelineError;
+use crate::host_headers::{HostHeaders, lines_of};
 use crate::pipeline_of::{HostStart, PipelineOf};
-use crate::values::{HostValue, attribute_of, optional_text, text_of};
-use opentelemetry::propagation::{Extractor, Injector, MapCarrier};
-use opentelemetry::trace::{Event, SpanKind, Status};
+use crate::values::{HostValue, attribute_of, optional_text, status_of, text_of};
+use opentelemetry::propagation::MapCarrier;
+use opentelemetry::trace::{Event, SpanKind};
 use opentelemetry::{InstrumentationScope, Moment};
 use otel_pipeline::trace::{Exception, KeepsBatches, SpanEdit};
 use otel_sampling::trace::{GivesIds, ShouldSample};
-use std::alloc::{AllocError, Global};
-
-/// The headers of a request from another process; one without bytes is not there.
-#[derive(Clone, Copy, Debug)]
-pub struct HostHeaders<'a> {
-    pub traceparent: &'a [u8],
-    pub tracestate: &'a [u8],
-    pub baggage: &'a [u8],
-}
+use std::alloc::Global;
 
 /// Who a span is.
 #[derive(Clone, Copy, Debug, PartialEq, Eq)]
@@ -38,29 +32,6 @@ pub struct SpanIdentity {
     pub trace_flags: u8,
     /// Whether the span records what it is told.
     pub is_recording: bool,
-}
-
-const HEADERS: [&str; 3] = ["traceparent", "tracestate", "baggage"];
-
-/// The headers as a carrier. One that is no text says nothing.
-fn carrier_of(alloc: Global, headers: HostHeaders<'_>) -> Result<MapCarrier, AllocError> {
-    let mut carrier = MapCarrier::new(alloc);
-    set_header(alloc, &mut carrier, "traceparent", headers.traceparent)?;
-    set_header(alloc, &mut carrier, "tracestate", headers.tracestate)?;
-    set_header(alloc, &mut carrier, "baggage", headers.baggage)?;
-    Ok(carrier)
-}
-
-fn set_header(
-    alloc: Global,
-    carrier: &mut MapCarrier,
-    name: &str,
-    bytes: &[u8],
-) -> Result<(), AllocError> {
-    match str::from_utf8(bytes) {
-        Ok(text) if !text.is_empty() => carrier.set(name, String::from_str(alloc, text)?),
-        _ => Ok(()),
-    }
 }
 
 /// The kind of a number, as the OpenTelemetry protocol counts them.
@@ -77,6 +48,41 @@ fn kind_of(number: u32) -> Result<SpanKind, PipelineError>
     }
 }
 
+/// The scope of a library. A version or a schema URL without bytes is none.
+fn scope_of(
+    alloc: Global,
+    name: &[u8],
+    version: &[u8],
+    schema_url: &[u8],
+) -> Result<InstrumentationScope, PipelineError>
+    ensures { IfOk result (λ scope. scope ≡ host_scope name.now version.now schema_url.now) }
+{
+    let mut builder = InstrumentationScope::builder(alloc, text_of(alloc, name)?);
+    if let Some(version) = optional_text(alloc, version)? {
+        builder = builder.with_version(version);
+    }
+    if let Some(schema_url) = optional_text(alloc, schema_url)? {
+        builder = builder.with_schema_url(schema_url);
+    }
+    Ok(builder.build()?)
+}
+
+/// An error that a host met. A type or a stack trace without bytes is none.
+fn exception_of(
+    alloc: Global,
+    exception_type: &[u8],
+    message: &[u8],
+    stacktrace: &[u8],
+) -> Result<Exception, PipelineError>
+    ensures { IfOk result (λ made. made ≡ host_exception exception_type.now message.now stacktrace.now) }
+{
+    Ok(Exception {
+        message: text_of(alloc, message)?,
+        exception_type: optional_text(alloc, exception_type)?,
+        stacktrace: optional_text(alloc, stacktrace)?,
+    })
+}
+
 impl<P: KeepsBatches, S: ShouldSample, G: GivesIds> PipelineOf<P, S, G> {
     /// A tracer for a library, by its number. A version or a schema URL without bytes is none.
     pub fn tracer(
@@ -84,16 +90,13 @@ impl<P: KeepsBatches, S: ShouldSample, G: GivesIds> PipelineOf<P, S, G> {
         name: &[u8],
         version: &[u8],
         schema_url: &[u8],
-    ) -> Result<u64, PipelineError> {
-        let alloc = self.alloc;
-        let mut builder = InstrumentationScope::builder(alloc, text_of(alloc, name)?);
-        if let Some(version) = optional_text(alloc, version)? {
-            builder = builder.with_version(version);
-        }
-        if let Some(schema_url) = optional_text(alloc, schema_url)? {
-            builder = builder.with_schema_url(schema_url);
-        }
-        self.add_tracer(builder.build()?)
+    ) -> Result<u64, PipelineError>
+        ensures ok { IfOk result (λ number.
+            AddsTracer self.old (host_scope name.now version.now schema_url.now) number self.new) }
+        ensures err { OnErr result (self.new ≡ self.old) }
+    {
+        let scope = scope_of(self.alloc, name, version, schema_url)?;
+        self.add_tracer(scope)
     }
 
     /// Gathers an attribute for what comes next.
@@ -139,20 +142,15 @@ impl<P: KeepsBatches, S: ShouldSample, G: GivesIds> PipelineOf<P, S, G> {
         name: &[u8],
         moment: Moment,
     ) -> Result<u64, PipelineError>
-        ensures ok { IfOk result (λ key. (asked : TheKinds) × IsKind kind asked × (texts : Texts) × StartsIn
+        ensures ok { IfOk result (λ key. (asked : TheKinds) × IsKind kind asked × StartsIn
             (calls_of P.SpanProcessor P.Timed.own P.CountsLeftSpans.own P.KeepsBatches.own S.ShouldSample G.GivesIds)
-            (ReadsContext texts) self.old tracer asked moment.0
-            name.now key self.new) }
+            (IsContextOf (plain_headers headers.entry)) self.old tracer asked moment.0 name.now key self.new) }
         ensures err { OnErr result (RefusesIn
             (calls_of P.SpanProcessor P.Timed.own P.CountsLeftSpans.own P.KeepsBatches.own S.ShouldSample G.GivesIds)
             self.old self.new) }
     {
-        let carrier = match carrier_of(self.alloc, headers) {
-            Ok(carrier) => carrier,
-            Err(error) => return self.refuse(error.into()),
-        };
         match self.asked_start(tracer, kind, name, moment) {
-            Ok((start, name)) => self.start_from(start, &carrier, name),
+            Ok((start, name)) => self.start_from(start, headers, name),
             Err(error) => self.refuse(error),
         }
     }
@@ -177,7 +175,7 @@ impl<P: KeepsBatches, S: ShouldSample, G: GivesIds> PipelineOf<P, S, G> {
 
     /// Takes what was gathered, and answers this error.
     fn refuse<T>(&mut self, error: PipelineError) -> Result<T, PipelineError>
-        ensures gathered { self.new ≡ record self.old { gathered = [] } }
+        ensures gathered { self.new ≡ taken self.old }
         ensures err { IsErr result }
     {
         let _gathered = self.take_gathered();
@@ -185,7 +183,9 @@ impl<P: KeepsBatches, S: ShouldSample, G: GivesIds> PipelineOf<P, S, G> {
     }
 
     /// Who the span of a key is.
-    pub fn identity(&self, span: u64) -> Result<SpanIdentity, PipelineError> {
+    pub fn identity(&self, span: u64) -> Result<SpanIdentity, PipelineError>
+        ensures { IfOk result (Identifies self.now span) }
+    {
         let context = self.span_context(span)?;
         Ok(SpanIdentity {
             trace_id: u128::from_be_bytes(context.trace_id().to_bytes()),
@@ -207,9 +207,9 @@ impl<P: KeepsBatches, S: ShouldSample, G: GivesIds> PipelineOf<P, S, G> {
 
     /// Adds an event, with the attributes that were gathered.
     pub fn add_event(&mut self, span: u64, name: &[u8], moment: Moment) -> Result<(), PipelineError>
-        ensures ok { OnOk result (EditsSpan self.old span
+        ensures ok { OnOk result (EditsSpan (taken self.old) span
             (add_event (new_event name.now moment.0 self.old.gathered) ∷ []) self.new) }
-        ensures err { OnErr result (Stays self.old self.new) }
+        ensures err { OnErr result (Stays (taken self.old) self.new) }
     {
         let attributes = self.take_gathered();
         let name = text_of(self.alloc, name)?;
@@ -225,31 +225,18 @@ impl<P: KeepsBatches, S: ShouldSample, G: GivesIds> PipelineOf<P, S, G> {
         message: &[u8],
         stacktrace: &[u8],
         moment: Moment,
-    ) -> Result<(), PipelineError> {
-        let alloc = self.alloc;
-        let exception = Exception {
-            message: text_of(alloc, message)?,
-            exception_type: optional_text(alloc, exception_type)?,
-            stacktrace: optional_text(alloc, stacktrace)?,
-        };
+    ) -> Result<(), PipelineError>
+        ensures ok { OnOk result (EditsSpan self.old span (add_event
+            (exception_event (host_exception exception_type.now message.now stacktrace.now) moment.0) ∷ []) self.new) }
+        ensures err { OnErr result (Stays self.old self.new) }
+    {
+        let exception = exception_of(self.alloc, exception_type, message, stacktrace)?;
         let met = MetError {
-            alloc,
+            alloc: self.alloc,
             exception,
             moment,
         };
         self.change(span, met)
-    }
-
-    /// Adds a link to the span of another process, with the attributes that were gathered.
-    pub fn add_remote_link(
-        &mut self,
-        span: u64,
-        headers: HostHeaders<'_>,
-    ) -> Result<(), PipelineError> {
-        match carrier_of(self.alloc, headers) {
-            Ok(carrier) => self.add_link_from(span, &carrier),
-            Err(error) => self.refuse(error.into()),
-        }
     }
 
     /// Says how the operation went: 0 unset, 1 well, 2 not, and only then with a description.
@@ -258,15 +245,12 @@ impl<P: KeepsBatches, S: ShouldSample, G: GivesIds> PipelineOf<P, S, G> {
         span: u64,
         code: u32,
         description: &[u8],
-    ) -> Result<(), PipelineError> {
-        let status = match code {
-            0 => Status::Unset,
-            1 => Status::Ok,
-            2 => Status::Error {
-                description: text_of(self.alloc, description)?,
-            },
-            _ => return Err(PipelineError::BadArgument),
-        };
+    ) -> Result<(), PipelineError>
+        ensures ok { OnOk result ((status : PlainStatus) × IsStatus code description.now status
+            × EditsSpan self.old span (set_status status ∷ []) self.new) }
+        ensures err { OnErr result (Stays self.old self.new) }
+    {
+        let status = status_of(self.alloc, code, description)?;
         self.change(span, SpanEdit::SetStatus(status))
     }
 
@@ -280,27 +264,11 @@ impl<P: KeepsBatches, S: ShouldSample, G: GivesIds> PipelineOf<P, S, G> {
     }
 
     /// The headers that hand the span on to another process, each `name: value`, a carriage return and a line feed.
-    pub fn headers(&self, span: u64) -> Result<String, PipelineError> {
-        let alloc = self.alloc;
-        let mut carrier = MapCarrier::new(alloc);
+    pub fn headers(&self, span: u64) -> Result<String, PipelineError>
+        ensures { IfOk result (λ lines. SaysHeaders self.now span (string_bytes lines)) }
+    {
+        let mut carrier = MapCarrier::new(self.alloc);
         self.inject(span, &mut carrier)?;
-        let mut lines = String::new(alloc);
-        for name in HEADERS {
-            if let Some(value) = carrier.get(name) {
-                push_header(&mut lines, name, value)?;
-            }
-        }
-        Ok(lines)
+        Ok(lines_of(self.alloc, &carrier)?)
     }
-}
-
-/// Appends a header that has a value.
-fn push_header(lines: &mut String, name: &str, value: &str) -> Result<(), AllocError> {
-    if value.is_empty() {
-        return Ok(());
-    }
-    lines.push_str(name)?;
-    lines.push_str(": ")?;
-    lines.push_str(value)?;
-    lines.push_str("\r\n")
 }

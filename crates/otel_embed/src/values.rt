@@ -1,10 +1,12 @@
 //! What a host hands in, as the pipeline's own values: texts are bytes, and lists of texts one text with lengths.
 
-ghost use Rattle.std.specs.Prelude.{◌≡◌, IfOk, string_bytes};
-ghost use Rattle.opentelemetry.specs.PlainValues.{plain_value};
-ghost use Rattle.otel_embed.specs.HostValues.{IsValueOf};
+ghost use Rattle.std.specs.Prelude.{◌≡◌, IfOk, map, string_bytes};
+ghost use Rattle.std.specs.Option.{option_map};
+ghost use Rattle.opentelemetry.specs.PlainValues.{plain_status, plain_value};
+ghost use Rattle.otel_embed.specs.HostValues.{AreTexts, IsStatus, IsValueOf, text_or_none, truth_of};
 
 use crate::error::PipelineError;
+use opentelemetry::trace::Status;
 use opentelemetry::{Array, Key, KeyValue, Value};
 use std::alloc::{AllocError, Global};
 
@@ -32,7 +34,9 @@ pub(crate) fn text_of(alloc: Global, bytes: &[u8]) -> Result<String, PipelineErr
 }
 
 /// The same; no bytes are no text.
-pub(crate) fn optional_text(alloc: Global, bytes: &[u8]) -> Result<Option<String>, PipelineError> {
+pub(crate) fn optional_text(alloc: Global, bytes: &[u8]) -> Result<Option<String>, PipelineError>
+    ensures { IfOk result (λ text. option_map string_bytes text ≡ text_or_none bytes.now) }
+{
     if bytes.is_empty() {
         return Ok(None);
     }
@@ -68,7 +72,9 @@ fn value_of(alloc: Global, value: HostValue<'_>) -> Result<Value, PipelineError>
 }
 
 /// The texts of these lengths; `BadArgument` where the lengths are not those of all of the bytes.
-fn texts_of(alloc: Global, bytes: &[u8], lengths: &[u64]) -> Result<Vec<String>, PipelineError> {
+fn texts_of(alloc: Global, bytes: &[u8], lengths: &[u64]) -> Result<Vec<String>, PipelineError>
+    ensures { IfOk result (λ texts. AreTexts bytes.now lengths.now (map string_bytes texts.items)) }
+{
     let mut texts = Vec::new(alloc);
     let mut rest = bytes;
     for length in lengths {
@@ -96,10 +102,30 @@ fn integers_of(alloc: Global, numbers: &[i64]) -> Result<Vec<i64>, AllocError>
     Ok(made)
 }
 
-fn truths_of(alloc: Global, bytes: &[u8]) -> Result<Vec<bool>, AllocError> {
+fn truths_of(alloc: Global, bytes: &[u8]) -> Result<Vec<bool>, AllocError>
+    ensures { IfOk result (λ truths. truths.items ≡ map truth_of bytes.now) }
+{
     let mut truths = Vec::with_capacity(alloc, bytes.len())?;
     for byte in bytes {
         truths.push(*byte != 0)?;
     }
     Ok(truths)
+}
+
+/// The status of a number: 0 unset, 1 well, 2 not, and only then with a description. `BadArgument` for another number.
+pub(crate) fn status_of(
+    alloc: Global,
+    code: u32,
+    description: &[u8],
+) -> Result<Status, PipelineError>
+    ensures { IfOk result (λ status. IsStatus code description.now (plain_status status)) }
+{
+    match code {
+        0 => Ok(Status::Unset),
+        1 => Ok(Status::Ok),
+        2 => Ok(Status::Error {
+            description: text_of(alloc, description)?,
+        }),
+        _ => Err(PipelineError::BadArgument),
+    }
 }

@@ -13,6 +13,7 @@ returns-clause-err g c =
       scopes = c.self.inside.tracers.items;
       spans = c.self.inside.spans;
       gathered = c.self.inside.gathered.items;
+      refusals = c.self.inside.refusals;
     } in
     let ended : PipelineState g.row.P.Denot g.row.S.Denot g.row.G.Denot =
     record begun { flow = record begun.flow { provider = c.start.new.provider }; spans = c.start.new.self; gathered = [] } in

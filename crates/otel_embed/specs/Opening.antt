@@ -1,0 +1,64 @@
+-- What a pipeline of a host begins as: nothing was started, exported or gathered.
+use Rattle.std.specs.Prelude.{◌≡◌, ℕ, List, [], ◌∷◌, codes, false}
+use Rattle.opentelemetry.specs.Plain.{scope_named}
+use Rattle.otel_batch.specs.PlainBatchConfig.{IsBatchConfigOf, PlainBatchConfig}
+use Rattle.otel_export.specs.StoredBatches.{none_stored}
+use Rattle.otel_export.specs.declared.trace.exporter_box.ExporterOf.TheVariants as exporters
+use Rattle.otel_pipeline.specs.ProviderBuilder.{Builds}
+use Rattle.otel_pipeline.specs.SimpleProcessor.{first_simple}
+use Rattle.otel_pipeline.specs.declared.trace.span_processor.SpanProcessor.{Ghosts}
+use Rattle.otel_processors.specs.BatchProcessor.{eager_processor, first_processor}
+use Rattle.otel_processors.specs.declared.trace.processor.ProcessorOf.TheVariants as processors
+use Rattle.otel_sampling.specs.Config.{IsConfigOf}
+use Rattle.otel_sampling.specs.ConfigStrings.{PlainBatchStrings, PlainConfigStrings, is_true}
+use Rattle.otel_sampling.specs.declared.trace.config.ConfigOf.{ConfigOf}
+use Rattle.otel_sampling.specs.declared.trace.id_generator.IdSourceOf.{IdSourceOf}
+use Rattle.otel_sampling.specs.declared.trace.sampler.SamplerOf.{SamplerOf}
+use Rattle.otel_embed.specs.Conserved.{Hosted, HostedExporter}
+use Rattle.otel_embed.specs.Pipelines.{PipelineState}
+use Rattle.otel_embed.specs.declared.settings.ProcessorKind.{ProcessorKind}
+use Rattle.otel_embed.specs.declared.settings.ProcessorKind.TheVariants as kinds
+
+-- one of three facts, by the kind of a processor
+abbrev pub MatchKind : ProcessorKind → Type 0 → Type 0 → Type 0 → Type 0
+MatchKind kinds.Simple Simple Batch Eager = Simple
+MatchKind kinds.Batch Simple Batch Eager = Batch
+MatchKind kinds.Eager Simple Batch Eager = Eager
+
+-- a pipeline that strings and a seed configure, with one processor of which this is so by its own strings
+pub record BeginsAs {P C G : Type 0} (calls : Ghosts P) (IsProcessor : PlainBatchStrings → P → Type 0)
+    (strings : PlainConfigStrings) (seed : ℕ) (pipeline : PipelineState P (SamplerOf C) (IdSourceOf G)) : Type 0 where
+  pub processor : P
+  pub is_processor : IsProcessor strings.batch processor
+  pub config : ConfigOf (SamplerOf C) (IdSourceOf G)
+  pub is_config : IsConfigOf strings seed config
+  pub builds : Builds calls (record {
+    processors = processor ∷ [];
+    config = config;
+    batch_strings = strings.batch;
+    has_given_resource = false;
+    is_disabled = is_true strings.sdk_disabled;
+  }) pipeline.flow.provider
+  pub rest : pipeline ≡ record {
+    flow = record { provider = pipeline.flow.provider; resource = config.resource; lines = [] };
+    scopes = scope_named (codes "otel") ∷ [];
+    spans = record { entries = []; next_key = 1 };
+    gathered = [];
+    refusals = 0;
+  }
+
+-- a processor of a host over an exporter
+abbrev pub IsProcessorOver : HostedExporter → ProcessorKind → PlainBatchStrings → Hosted → Type 0
+IsProcessorOver exporter kind strings made = MatchKind kind (made ≡ processors.Simple (first_simple exporter))
+    ((config : PlainBatchConfig) × IsBatchConfigOf strings config
+    × (made ≡ processors.Batch (first_processor exporter config)))
+    ((config : PlainBatchConfig) × IsBatchConfigOf strings config
+    × (made ≡ processors.Batch (eager_processor exporter config)))
+
+-- a pipeline that a seed and some settings open, strings and the kind of the processor: over an exporter in memory that
+-- stores nothing yet
+pub record OpensBy {C G : Type 0} (calls : Ghosts Hosted) (seed : ℕ)
+    (pipeline : PipelineState Hosted (SamplerOf C) (IdSourceOf G)) : Type 0 where
+  pub kind : ProcessorKind
+  pub strings : PlainConfigStrings
+  pub begins : BeginsAs calls (IsProcessorOver (exporters.Memory none_stored) kind) strings seed pipeline
