@@ -1,6 +1,9 @@
 -- What comes next, piece by piece.
 use Rattle.std.proofs.Common.{◌≡◌, ℕ, ◌+◌, Bool, true, false, cond, List, [], ◌∷◌, ◌++◌, length}
 use Rattle.std.proofs.Common.{ap, sym, subst, refl, ◌∙◌, append_assoc, append-nil, length-append, arith, add_assoc}
+use Rattle.std.proofs.Common.{◌<◌, get_or, take, map}
+use Rattle.std.proofs.lemmas.List.{map-append, take_more}
+use Rattle.otel_protobuf.specs.Wire.{fields_of, message, nested, repeated}
 use Rattle.otel_protobuf.specs.Wire.{Field, Wire, key_bytes, message_bytes, wire_bytes, wire_type}
 use Rattle.otel_protobuf.specs.Progress.{Progress, Takes, TakesFields}
 
@@ -60,3 +63,26 @@ pub one_field : {old middle new : Progress} (number : ℕ) (wire : Wire)
     → TakesFields old new ((number, wire) ∷ [])
 one_field number wire h k =
     as_bytes (ap (λ bs. key_bytes number (wire_type wire) ++ bs) (sym (append-nil (wire_bytes wire)))) (and_then h k)
+
+-- the same fields, put otherwise
+pub as_fields : {old new : Progress} {a b : List Field} → a ≡ b → TakesFields old new a → TakesFields old new b
+as_fields {old} {new} e h = subst (λ (fs : List Field). TakesFields old new fs) e h
+
+-- one message more
+repeated_more : {X : Type 0} (number : ℕ) (fields : X → List Field) (xs : List X) (i : ℕ) (x : X) → i < length xs
+    → x ≡ get_or xs i x
+    → repeated number fields (take i xs) ++ nested number (fields x) ≡ repeated number fields (take (i + 1) xs)
+repeated_more {X} number fields xs i x l is =
+    let wrap : X → Field = λ y. (number, message (fields_of (fields y))) in
+    sym (map-append wrap (take i xs) (x ∷ []))
+    ∙ ap (λ y. map wrap (take i xs ++ y ∷ [])) is
+    ∙ ap (map wrap) (sym (take_more xs i x l))
+
+pub message_more : {X : Type 0} {old middle new : Progress} (number : ℕ) (fields : X → List Field) (xs : List X)
+    (i : ℕ) (x : X) → i < length xs → x ≡ get_or xs i x
+    → TakesFields old middle (repeated number fields (take i xs))
+    → TakesFields middle new (nested number (fields x))
+    → TakesFields old new (repeated number fields (take (i + 1) xs))
+message_more number fields xs i x l is h k =
+    as_fields (repeated_more number fields xs i x l is)
+    (and_fields (repeated number fields (take i xs)) (nested number (fields x)) h k)

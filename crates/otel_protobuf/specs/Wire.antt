@@ -1,7 +1,7 @@
 -- Messages as protobuf writes them (Protocol Buffers, "Encoding"): numbered fields, one after the other. A message within
 -- a message stands as its bytes, after their length.
 use Rattle.std.specs.Prelude.{ℕ, zero, suc, ◌+◌, ◌*◌, ◌/◌, ◌%◌, ◌^◌, ◌<◌, ◌==◌, nat_lt, if◌then◌else◌, ⊤}
-use Rattle.std.specs.Prelude.{List, [], ◌∷◌, ◌++◌, length}
+use Rattle.std.specs.Prelude.{List, [], ◌∷◌, ◌++◌, length, map}
 use Rattle.std.specs.Int.{w32, w64, to_le_bytes}
 
 mutual
@@ -94,3 +94,11 @@ unless_zero number wire n = if n == 0 then [] else one number (wire n)
 abbrev pub unless_empty : ℕ → List ℕ → List Field
 unless_empty number [] = []
 unless_empty number (b ∷ bs) = one number (bytes (b ∷ bs))
+
+-- a message within another one, also where it is empty
+abbrev pub nested : ℕ → List Field → List Field
+nested number fs = one number (message (fields_of fs))
+
+-- messages of one number, in order
+abbrev pub repeated : {X : Type 0} → ℕ → (X → List Field) → List X → List Field
+repeated number fields xs = map (λ x. (number, message (fields_of (fields x)))) xs

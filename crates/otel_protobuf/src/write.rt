@@ -1,0 +1,42 @@
+//! A message at the end of bytes.
+
+ghost use Rattle.std.specs.Prelude.{◌≡◌, ◌++◌, IsTrue, OnErr, OnOk, false};
+ghost use Rattle.otel_protobuf.specs.Wire.{message_bytes};
+
+use crate::message::{Message, length_of};
+use crate::sink::Sink;
+use std::alloc::{AllocError, Global};
+use std::mem;
+
+/// Appends the bytes of a message. They are counted first, and memory is asked for once; on an error nothing is
+/// appended. A message of more bytes than a `usize` counts is one that no memory has.
+pub fn write_message<M: Message>(
+    alloc: Global,
+    out: &mut Vec<u8>,
+    message: &M,
+) -> Result<(), AllocError>
+    ensures ok { OnOk result (out.new.items ≡ out.old.items ++ message_bytes (M.fields message.now)) }
+    ensures err { OnErr result (out.new.items ≡ out.old.items) }
+{
+    let Some(size) = length_of(alloc, message) else {
+        return Err(AllocError);
+    };
+    out.reserve(size)?;
+    if push_message(alloc, out, message) {
+        Ok(())
+    } else {
+        Err(AllocError)
+    }
+}
+
+/// Appends the bytes of a message, and answers whether that went well; else nothing is appended.
+fn push_message<M: Message>(alloc: Global, out: &mut Vec<u8>, message: &M) -> bool
+    ensures whole { IsTrue result → out.new.items ≡ out.old.items ++ message_bytes (M.fields message.now) }
+    ensures cut { result ≡ false → out.new.items ≡ out.old.items }
+{
+    let mut sink = Sink::after(mem::replace(out, Vec::new(alloc)));
+    message.write(alloc, &mut sink);
+    let (bytes, is_whole) = sink.into_bytes();
+    *out = bytes;
+    is_whole
+}
