@@ -4,10 +4,6 @@
 #![tactic(auto)]
 
 pub mod laws;
-mod message;
 mod sink;
-mod write;
 
-pub use message::{Message, length_of, nested, repeated};
 pub use sink::Sink;
-pub use write::write_message;

@@ -2,7 +2,7 @@
 use Rattle.std.proofs.Common.{take}
 use Rattle.otel_protobuf.specs.Progress.{TakesFields}
 use Rattle.otel_protobuf.specs.Wire.{repeated}
-use Rattle.otel_protobuf.proofs.message.repeated.Given as goal
+use Rattle.otel_otlp_protobuf.proofs.message.repeated.Given as goal
 
 abbrev pub invariant-loop-message : goal.invariant-loop-message
 invariant-loop-message g l =

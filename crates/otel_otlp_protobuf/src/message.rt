@@ -4,11 +4,11 @@ ghost use Rattle.std.specs.Prelude.{◌≡◌, ◌++◌, IfSome, List, length};
 ghost use Rattle.otel_protobuf.specs.Progress.{Takes, TakesFields};
 ghost use Rattle.otel_protobuf.specs.Wire.{Field, after_length, message_bytes, nested, repeated};
 
-use crate::sink::Sink;
+use otel_protobuf::Sink;
 use std::alloc::Global;
 
 /// What is written as a message.
-pub trait Message {
+pub(crate) trait Message {
     ghost use Rattle.std.specs.Prelude.{List};
     ghost use Rattle.otel_protobuf.specs.Progress.{TakesFields};
     ghost use Rattle.otel_protobuf.specs.Wire.{Field};
@@ -22,7 +22,7 @@ pub trait Message {
 }
 
 /// How many bytes a message has; nothing where something went wrong.
-pub fn length_of<M: Message>(alloc: Global, message: &M) -> Option<usize>
+pub(crate) fn length_of<M: Message>(alloc: Global, message: &M) -> Option<usize>
     ensures { IfSome result (λ total. total ≡ length (message_bytes (M.fields message.now))) }
 {
     let mut count = Sink::counting(alloc);
@@ -41,7 +41,7 @@ fn contents<M: Message>(sink: &mut Sink, alloc: Global, size: usize, message: &M
 }
 
 /// A field that holds a message, also an empty one.
-pub fn nested<M: Message>(sink: &mut Sink, alloc: Global, number: u32, message: &M)
+pub(crate) fn nested<M: Message>(sink: &mut Sink, alloc: Global, number: u32, message: &M)
     ensures { TakesFields sink.old sink.new (nested number (M.fields message.now)) }
 {
     match length_of(alloc, message) {
@@ -54,7 +54,7 @@ pub fn nested<M: Message>(sink: &mut Sink, alloc: Global, number: u32, message: 
 }
 
 /// A field for each of some messages, also for empty ones.
-pub fn repeated<M: Message>(sink: &mut Sink, alloc: Global, number: u32, messages: &[M])
+pub(crate) fn repeated<M: Message>(sink: &mut Sink, alloc: Global, number: u32, messages: &[M])
     ensures { TakesFields sink.old sink.new (repeated number M.fields messages.now) }
 {
     for message in messages {

@@ -1,6 +1,6 @@
 -- What went wrong takes whatever it is given.
 use Rattle.otel_protobuf.specs.Wire.{message_bytes, nested}
-use Rattle.otel_protobuf.proofs.message.nested.Goals as goal
+use Rattle.otel_otlp_protobuf.proofs.message.nested.Goals as goal
 
 pub returns-in-None : goal.returns-in-None
 returns-in-None g c =

@@ -4,13 +4,13 @@ ghost use Rattle.std.specs.Prelude.{◌≡◌, ◌++◌, IsTrue, OnErr, OnOk, fa
 ghost use Rattle.otel_protobuf.specs.Wire.{message_bytes};
 
 use crate::message::{Message, length_of};
-use crate::sink::Sink;
+use otel_protobuf::Sink;
 use std::alloc::{AllocError, Global};
 use std::mem;
 
 /// Appends the bytes of a message. They are counted first, and memory is asked for once; on an error nothing is
 /// appended. A message of more bytes than a `usize` counts is one that no memory has.
-pub fn write_message<M: Message>(
+pub(crate) fn write_message<M: Message>(
     alloc: Global,
     out: &mut Vec<u8>,
     message: &M,

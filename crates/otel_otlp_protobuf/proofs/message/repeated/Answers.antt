@@ -1,6 +1,6 @@
 -- One message more.
 use Rattle.otel_protobuf.proofs.Taking.{message_more}
-use Rattle.otel_protobuf.proofs.message.repeated.Goals as goal
+use Rattle.otel_otlp_protobuf.proofs.message.repeated.Goals as goal
 
 pub loop-message-preserved : goal.loop-message-preserved
 loop-message-preserved g c =

@@ -1,0 +1,4 @@
+pub mod NamedRequest
+pub mod NamedSpan
+pub mod NamedValues
+pub mod Said

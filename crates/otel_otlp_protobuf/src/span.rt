@@ -1,0 +1,131 @@
+//! One span: its context, its life, its lists and its status.
+
+ghost use Rattle.std.specs.Prelude.{◌≡◌};
+ghost use Rattle.opentelemetry.specs.PlainValues.{plain_status};
+ghost use Rattle.opentelemetry.specs.Tracestate.{tracestate_text};
+ghost use Rattle.otel_otlp.specs.OtlpSpan.{code_number, flags_of, kind_number, message_text};
+ghost use Rattle.otel_otlp_protobuf.specs.NamedSpan.{event_members, link_members, span_members, status_members};
+ghost use Rattle.otel_otlp_protobuf.specs.Said.{message_fields};
+ghost use Rattle.otel_protobuf.specs.Progress.{TakesFields};
+ghost use Rattle.otel_protobuf.specs.Wire.{unless_empty};
+
+use opentelemetry::{SpanId, TraceFlags};
+use opentelemetry::trace::{Event, Link, SpanKind, Status, TraceState};
+use otel_export::trace::SpanData;
+use crate::message::{Message, nested, repeated};
+use otel_protobuf::Sink;
+use std::alloc::Global;
+
+/// The number of the flags of a trace, with bit 8, and bit 9 where a context came from elsewhere (OTLP, `SpanFlags`).
+fn flags_of(flags: TraceFlags, is_remote: bool) -> u32
+    ensures { result ≡ flags_of flags is_remote }
+{
+    let remote = if is_remote { 512 } else { 0 };
+    flags.to_u8() as u32 + 256 + remote
+}
+
+fn kind_number(kind: SpanKind) -> u64
+    ensures { result ≡ kind_number kind }
+{
+    match kind {
+        SpanKind::Internal => 1,
+        SpanKind::Server => 2,
+        SpanKind::Client => 3,
+        SpanKind::Producer => 4,
+        SpanKind::Consumer => 5,
+    }
+}
+
+fn message_of(status: &Status) -> &str
+    ensures { result.now ≡ message_text (plain_status status.now) }
+{
+    match status {
+        Status::Unset | Status::Ok => "",
+        Status::Error { description } => description.as_str(),
+    }
+}
+
+fn code_number(status: &Status) -> u64
+    ensures { result ≡ code_number (plain_status status.now) }
+{
+    match status {
+        Status::Unset => 0,
+        Status::Ok => 1,
+        Status::Error { .. } => 2,
+    }
+}
+
+/// The text of a trace state, which lies nowhere: it is made, and let go.
+fn trace_state(sink: &mut Sink, alloc: Global, state: &TraceState)
+    ensures { TakesFields sink.old sink.new (unless_empty 3 (tracestate_text state.now)) }
+{
+    match state.header(alloc) {
+        Ok(text) => sink.bytes(3, text.as_str().as_bytes()),
+        Err(_) => sink.fail(),
+    }
+}
+
+impl Message for Event {
+    ghost fields = { λ event. message_fields (event_members event) };
+
+    fn write(&self, alloc: Global, sink: &mut Sink) {
+        sink.fixed64(1, self.timestamp.0);
+        sink.bytes(2, self.name.as_str().as_bytes());
+        repeated(sink, alloc, 3, &self.attributes);
+        sink.number(4, self.dropped_attributes_count as u64);
+    }
+}
+
+impl Message for Link {
+    ghost fields = { λ link. message_fields (link_members link) };
+
+    fn write(&self, alloc: Global, sink: &mut Sink) {
+        let context = &self.span_context;
+        sink.bytes_field(1, &context.trace_id().to_bytes());
+        sink.bytes_field(2, &context.span_id().to_bytes());
+        trace_state(sink, alloc, context.trace_state());
+        repeated(sink, alloc, 4, &self.attributes);
+        sink.number(5, self.dropped_attributes_count as u64);
+        sink.fixed32(6, flags_of(context.trace_flags(), context.is_remote()));
+    }
+}
+
+impl Message for Status {
+    ghost fields = { λ status. message_fields (status_members (plain_status status)) };
+
+    fn write(&self, _alloc: Global, sink: &mut Sink) {
+        sink.bytes(2, message_of(self).as_bytes());
+        sink.number(3, code_number(self));
+    }
+}
+
+/// Which span it is: fields 1 to 8.
+fn identity(sink: &mut Sink, alloc: Global, span: &SpanData) {
+    let context = &span.span_context;
+    sink.bytes_field(1, &context.trace_id().to_bytes());
+    sink.bytes_field(2, &context.span_id().to_bytes());
+    trace_state(sink, alloc, context.trace_state());
+    if span.parent_span_id != SpanId::INVALID {
+        sink.bytes_field(4, &span.parent_span_id.to_bytes());
+    }
+    sink.bytes(5, span.name.as_str().as_bytes());
+    sink.number(6, kind_number(span.span_kind));
+    sink.fixed64(7, span.start_time.0);
+    sink.fixed64(8, span.end_time.0);
+}
+
+impl Message for SpanData {
+    ghost fields = { λ span. message_fields (span_members span) };
+
+    fn write(&self, alloc: Global, sink: &mut Sink) {
+        identity(sink, alloc, self);
+        repeated(sink, alloc, 9, &self.attributes);
+        sink.number(10, self.dropped_attributes_count as u64);
+        repeated(sink, alloc, 11, &self.events.events);
+        sink.number(12, self.events.dropped_count as u64);
+        repeated(sink, alloc, 13, &self.links.links);
+        sink.number(14, self.links.dropped_count as u64);
+        nested(sink, alloc, 15, &self.status);
+        sink.fixed32(16, flags_of(self.span_context.trace_flags(), self.parent_span_is_remote));
+    }
+}
