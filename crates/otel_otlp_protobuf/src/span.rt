@@ -5,12 +5,12 @@ ghost use Rattle.opentelemetry.specs.PlainValues.{plain_status};
 ghost use Rattle.opentelemetry.specs.Tracestate.{tracestate_text};
 ghost use Rattle.otel_otlp.specs.OtlpSpan.{code_number, flags_of, kind_number, message_text};
 ghost use Rattle.otel_otlp_protobuf.specs.NamedSpan.{event_members, link_members, span_members, status_members};
-ghost use Rattle.otel_otlp_protobuf.specs.Said.{message_fields};
+ghost use Rattle.otel_otlp_protobuf.specs.Said.{message_fields, parent_id, said_fields};
 ghost use Rattle.otel_protobuf.specs.Progress.{TakesFields};
-ghost use Rattle.otel_protobuf.specs.Wire.{unless_empty};
+ghost use Rattle.otel_protobuf.specs.Wire.{fixed32, unless_empty, unless_zero};
 
 use opentelemetry::{SpanId, TraceFlags};
-use opentelemetry::trace::{Event, Link, SpanKind, Status, TraceState};
+use opentelemetry::trace::{Event, Link, SpanContext, SpanKind, Status, TraceState};
 use otel_export::trace::SpanData;
 use crate::message::{Message, nested, repeated};
 use otel_protobuf::Sink;
@@ -55,12 +55,20 @@ fn code_number(status: &Status) -> u64
     }
 }
 
+/// The flags of a context, and where a context came from.
+fn flags(sink: &mut Sink, number: u32, context: &SpanContext, is_remote: bool)
+    ensures { TakesFields sink.old sink.new
+        (unless_zero number fixed32 (flags_of context.now.trace_flags is_remote)) }
+{
+    sink.fixed32(number, flags_of(context.trace_flags(), is_remote));
+}
+
 /// The text of a trace state, which lies nowhere: it is made, and let go.
 fn trace_state(sink: &mut Sink, alloc: Global, state: &TraceState)
     ensures { TakesFields sink.old sink.new (unless_empty 3 (tracestate_text state.now)) }
 {
     match state.header(alloc) {
-        Ok(text) => sink.bytes(3, text.as_str().as_bytes()),
+        Ok(text) => sink.bytes(3, text.as_bytes()),
         Err(_) => sink.fail(),
     }
 }
@@ -70,7 +78,7 @@ impl Message for Event {
 
     fn write(&self, alloc: Global, sink: &mut Sink) {
         sink.fixed64(1, self.timestamp.0);
-        sink.bytes(2, self.name.as_str().as_bytes());
+        sink.bytes(2, self.name.as_bytes());
         repeated(sink, alloc, 3, &self.attributes);
         sink.number(4, self.dropped_attributes_count as u64);
     }
@@ -86,7 +94,7 @@ impl Message for Link {
         trace_state(sink, alloc, context.trace_state());
         repeated(sink, alloc, 4, &self.attributes);
         sink.number(5, self.dropped_attributes_count as u64);
-        sink.fixed32(6, flags_of(context.trace_flags(), context.is_remote()));
+        flags(sink, 6, context, context.is_remote());
     }
 }
 
@@ -99,26 +107,28 @@ impl Message for Status {
     }
 }
 
-/// Which span it is: fields 1 to 8.
-fn identity(sink: &mut Sink, alloc: Global, span: &SpanData) {
-    let context = &span.span_context;
-    sink.bytes_field(1, &context.trace_id().to_bytes());
-    sink.bytes_field(2, &context.span_id().to_bytes());
-    trace_state(sink, alloc, context.trace_state());
-    if span.parent_span_id != SpanId::INVALID {
-        sink.bytes_field(4, &span.parent_span_id.to_bytes());
+/// The id of a parent, where there is one.
+fn parent(sink: &mut Sink, parent: SpanId)
+    ensures { TakesFields sink.old sink.new (said_fields 4 (parent_id parent)) }
+{
+    if parent != SpanId::INVALID {
+        sink.bytes_field(4, &parent.to_bytes());
     }
-    sink.bytes(5, span.name.as_str().as_bytes());
-    sink.number(6, kind_number(span.span_kind));
-    sink.fixed64(7, span.start_time.0);
-    sink.fixed64(8, span.end_time.0);
 }
 
 impl Message for SpanData {
     ghost fields = { λ span. message_fields (span_members span) };
 
     fn write(&self, alloc: Global, sink: &mut Sink) {
-        identity(sink, alloc, self);
+        let context = &self.span_context;
+        sink.bytes_field(1, &context.trace_id().to_bytes());
+        sink.bytes_field(2, &context.span_id().to_bytes());
+        trace_state(sink, alloc, context.trace_state());
+        parent(sink, self.parent_span_id);
+        sink.bytes(5, self.name.as_bytes());
+        sink.number(6, kind_number(self.span_kind));
+        sink.fixed64(7, self.start_time.0);
+        sink.fixed64(8, self.end_time.0);
         repeated(sink, alloc, 9, &self.attributes);
         sink.number(10, self.dropped_attributes_count as u64);
         repeated(sink, alloc, 11, &self.events.events);
@@ -126,6 +136,6 @@ impl Message for SpanData {
         repeated(sink, alloc, 13, &self.links.links);
         sink.number(14, self.links.dropped_count as u64);
         nested(sink, alloc, 15, &self.status);
-        sink.fixed32(16, flags_of(self.span_context.trace_flags(), self.parent_span_is_remote));
+        flags(sink, 16, context, self.parent_span_is_remote);
     }
 }

@@ -57,7 +57,7 @@ impl Message for Value {
         match self {
             Value::Bool(truth) => truth.write(alloc, sink),
             Value::I64(number) => number.write(alloc, sink),
-            Value::String(text) => sink.bytes_field(1, text.as_str().as_bytes()),
+            Value::String(text) => sink.bytes_field(1, text.as_bytes()),
             Value::Array(array) => nested(sink, alloc, 5, array),
         }
     }
