@@ -19,7 +19,7 @@ abbrev run_fields : List PlainSpanData → List Field
 run_fields run = message_fields (run_members run)
 
 -- a list without an item
-none_left : (spans : List PlainSpanData) → 0 ≡ length spans → [] ≡ spans
+none_left : (spans : List PlainSpanData) → length spans ≡ 0 → [] ≡ spans
 none_left [] e = refl
 none_left (span ∷ spans) e = absurd (omega arith)
 
