@@ -1,2 +1,4 @@
+pub mod Fitting
+pub mod SameJson
 pub mod SpanSteps
 pub mod Steps

@@ -1,11 +1,8 @@
 -- The fields of a message, member by member.
 use Rattle.std.proofs.Common.{◌≡◌, ℕ, List, [], ◌∷◌, ◌++◌, Option, ap, refl, map, ◌∙◌}
-use Rattle.std.specs.Option.{option_map}
-use Rattle.std.specs.Borrow.{Bor}
 use Rattle.otel_resource.specs.Resource.{non_empty}
 use Rattle.otel_otlp.specs.Otlp.{or_empty}
-use Rattle.otel_otlp_protobuf.specs.NamedValues.{many}
-use Rattle.otel_otlp_protobuf.specs.Said.{Member, items_fields, items_of, members_of, message_fields, said_fields}
+use Rattle.otel_otlp_protobuf.specs.Said.{Member, items_fields, items_of, message_fields}
 use Rattle.otel_protobuf.proofs.Taking.{and_fields, as_fields, nothing}
 use Rattle.otel_protobuf.specs.Progress.{Progress, TakesFields}
 use Rattle.otel_protobuf.specs.Wire.{Field, fields_of, message, repeated}

@@ -1,5 +1,5 @@
 -- An ended span by names and numbers (opentelemetry-proto 1.7, `trace.proto`). Members stand in the order of the JSON.
-use Rattle.std.specs.Prelude.{ℕ, List, [], ◌∷◌, codes}
+use Rattle.std.specs.Prelude.{List, [], ◌∷◌, codes}
 use Rattle.opentelemetry.specs.Plain.{PlainEvent, PlainLink, PlainStatus}
 use Rattle.opentelemetry.specs.Tracestate.{tracestate_text}
 use Rattle.otel_export.specs.PlainSpanData.{PlainSpanData}

@@ -12,11 +12,11 @@ ghost use Rattle.otel_otlp_protobuf.specs.Said.{message_fields};
 ghost use Rattle.otel_protobuf.specs.Progress.{TakesFields};
 ghost use Rattle.otel_protobuf.specs.Wire.{repeated, unless_empty};
 
+use crate::message::{Message, nested, repeated};
 use crate::value::Pair;
+use crate::write::write_message;
 use opentelemetry::InstrumentationScope;
 use otel_export::trace::SpanData;
-use crate::message::{Message, nested, repeated};
-use crate::write::write_message;
 use otel_protobuf::Sink;
 use otel_resource::resource::Resource;
 use std::alloc::{AllocError, Global};

@@ -9,10 +9,10 @@ ghost use Rattle.otel_otlp_protobuf.specs.Said.{message_fields, parent_id, said_
 ghost use Rattle.otel_protobuf.specs.Progress.{TakesFields};
 ghost use Rattle.otel_protobuf.specs.Wire.{fixed32, unless_empty, unless_zero};
 
-use opentelemetry::{SpanId, TraceFlags};
-use opentelemetry::trace::{Event, Link, SpanContext, SpanKind, Status, TraceState};
-use otel_export::trace::SpanData;
 use crate::message::{Message, nested, repeated};
+use opentelemetry::trace::{Event, Link, SpanContext, SpanKind, Status, TraceState};
+use opentelemetry::{SpanId, TraceFlags};
+use otel_export::trace::SpanData;
 use otel_protobuf::Sink;
 use std::alloc::Global;
 

@@ -6,8 +6,8 @@ ghost use Rattle.otel_otlp_protobuf.specs.NamedValues.{array_members, attribute_
 ghost use Rattle.otel_otlp_protobuf.specs.NamedValues.{text_members, truth_members, value_members};
 ghost use Rattle.otel_otlp_protobuf.specs.Said.{message_fields};
 
-use opentelemetry::{Array, Key, KeyValue, Value};
 use crate::message::{Message, nested, repeated};
+use opentelemetry::{Array, Key, KeyValue, Value};
 use otel_protobuf::Sink;
 use std::alloc::Global;
 

@@ -1,5 +1,5 @@
 -- One member after another.
-use Rattle.std.proofs.Common.{◌∙◌, ap, string_bytes}
+use Rattle.std.proofs.Common.{ap, string_bytes}
 use Rattle.otel_otlp_protobuf.proofs.Steps.{last, many_taken}
 use Rattle.otel_otlp_protobuf.specs.NamedSpan.{event_members}
 use Rattle.otel_otlp_protobuf.specs.NamedValues.{attribute_members}
