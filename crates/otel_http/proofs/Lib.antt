@@ -1,0 +1,3 @@
+pub mod FieldsLemmas
+pub mod HeadersLemmas
+pub mod LawLemmas

@@ -1,0 +1,6 @@
+pub mod Contexts
+pub mod Extraction
+pub mod Fields
+pub mod Headers
+pub mod Injection
+pub mod SetHeader

@@ -1,0 +1,47 @@
+//! The laws of headers as carriers, over the definitions alone. Each function does nothing; its contract is the law, for
+//! all values.
+
+ghost use Rattle.std.specs.Prelude.{◌≡◌, ◌≢◌, ◌≤◌, ◌∷◌, [], List, Ok, Some, length};
+ghost use Rattle.http_header.specs.FieldValue.{FieldValue};
+ghost use Rattle.http_header.specs.HeaderMap.{get_all};
+ghost use Rattle.opentelemetry.specs.Baggage.{HasDistinctNames, IsWithinLimits};
+ghost use Rattle.opentelemetry.specs.Plain.{PlainContext};
+ghost use Rattle.opentelemetry.specs.PlainContexts.{current_span_context};
+ghost use Rattle.otel_propagation.specs.StrictBaggage.{strict_header_of, written_entries};
+ghost use Rattle.otel_propagation.specs.StrictBaggage.{ExtractsStrictBaggage, InjectsStrictBaggage};
+ghost use Rattle.otel_propagation.specs.Traceparent.{CarriesSpan, ExtractsTraceContext, InjectsTraceContext};
+ghost use Rattle.otel_propagation.specs.Traceparent.{IsSpanContext, IsValid, traceparent_field};
+ghost use Rattle.otel_http.specs.Headers.{Headers, header_texts};
+
+use otel_propagation::laws::injected_span_context_is_carried;
+use otel_propagation::strict_laws::{strict_headers_are_of_the_grammar, strict_headers_are_read};
+
+/// What is written of a valid span context into headers, whoever gets these headers extracts.
+pub fn headers_carry_span_contexts()
+    ensures { (cx : PlainContext) (old new : Headers) → IsSpanContext (current_span_context cx)
+        → IsValid (current_span_context cx)
+        → InjectsTraceContext cx (header_texts old) (Ok tt) (header_texts new)
+        → CarriesSpan (header_texts new) (current_span_context cx) }
+{
+    injected_span_context_is_carried();
+}
+
+/// What is written of a baggage into headers, whoever gets these headers extracts, if it is short enough to be read.
+pub fn headers_carry_baggage()
+    ensures { (cx receiver found : PlainContext) (old new : Headers) → IsWithinLimits cx.baggage
+        → strict_header_of cx.baggage ≢ [] → length (strict_header_of cx.baggage) ≤ 8192
+        → HasDistinctNames (written_entries cx.baggage) → length (written_entries cx.baggage) ≤ 64
+        → InjectsStrictBaggage cx (header_texts old) (Ok tt) (header_texts new)
+        → ExtractsStrictBaggage receiver (header_texts new) found
+        → found.baggage ≡ written_entries cx.baggage }
+{
+    strict_headers_are_of_the_grammar();
+    strict_headers_are_read();
+}
+
+/// Two fields `traceparent` say no span context: none of them is taken (W3C Trace Context).
+pub fn two_traceparents_say_nothing()
+    ensures { (headers : Headers) (first second : FieldValue) (more : List FieldValue) (cx found : PlainContext)
+        → get_all headers traceparent_field ≡ first ∷ second ∷ more
+        → ExtractsTraceContext cx (header_texts headers) found → found ≡ cx }
+{}

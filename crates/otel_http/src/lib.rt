@@ -1,0 +1,32 @@
+// SPDX-License-Identifier: Apache-2.0
+//! Traces across HTTP: header maps as carriers, a server's span around each request of a service, and a client's span.
+#![tactic(auto)]
+
+mod fields;
+mod header_extractor;
+mod header_injector;
+pub mod laws;
+mod propagation;
+
+pub use header_extractor::HeaderExtractor;
+pub use header_injector::{HeaderInjector, SetHeaderError};
+pub use propagation::{extract_context, extract_headers, inject_context, inject_headers};
+
+#[cfg(test)]
+mod tests {
+    use super::*;
+    use http_header::HeaderMap;
+    use opentelemetry::propagation::{Extractor, Injector};
+    use std::test::Fail;
+
+    #[test]
+    fn sets_and_reads(rt: HostRuntime) -> Result<(), Fail> {
+        let alloc = rt.alloc();
+        let mut injector = HeaderInjector::new(alloc, HeaderMap::new(alloc));
+        injector.set("TraceState", String::from_str(alloc, "a=1")?)?;
+        let headers = injector.into_headers();
+        let extractor = HeaderExtractor::new(alloc, &headers)?;
+        assert_eq!(rt; extractor.get("tracestate"), Some("a=1"));
+        Ok(())
+    }
+}

@@ -1,0 +1,78 @@
+//! Contexts into headers, and out of them.
+
+ghost use Rattle.std.specs.Prelude.{IfOk};
+ghost use Rattle.otel_http.specs.Contexts.{ExtractsContext, InjectsContext, IsContextOf};
+ghost use Rattle.otel_http.specs.Headers.{header_texts};
+ghost use Rattle.otel_http.specs.Injection.{carrier_answer};
+
+use crate::{HeaderExtractor, HeaderInjector, SetHeaderError};
+use http_header::HeaderMap;
+use opentelemetry::Context;
+use opentelemetry::propagation::{Extractor, TextMapPropagator};
+use otel_propagation::propagation::{StrictBaggagePropagator, TraceContextPropagator};
+use std::alloc::{AllocError, Global};
+use std::mem;
+
+/// Writes what of a context travels into headers. On an error the texts that were set before it stay.
+pub fn inject_headers<P: TextMapPropagator>(
+    propagator: &P,
+    alloc: Global,
+    cx: &Context,
+    headers: &mut HeaderMap,
+) -> Result<(), SetHeaderError>
+    ensures { P.inject_gives propagator.now cx.now (header_texts headers.old) (carrier_answer result)
+        (header_texts headers.new) }
+{
+    let taken = mem::replace(headers, HeaderMap::new(alloc));
+    let mut injector = HeaderInjector::new(alloc, taken);
+    let injected = propagator.inject_context(alloc, cx, &mut injector);
+    let refusal = injector.refusal();
+    *headers = injector.into_headers();
+    match injected {
+        Ok(()) => Ok(()),
+        Err(_) => Err(refusal.unwrap_or(SetHeaderError::Memory)),
+    }
+}
+
+/// The context with what headers say in place of what it had.
+pub fn extract_headers<P: TextMapPropagator>(
+    propagator: &P,
+    alloc: Global,
+    cx: &Context,
+    headers: &HeaderMap,
+) -> Result<Context, AllocError>
+    ensures { IfOk result (λ found. P.extract_gives propagator.now cx.now (header_texts headers.now) found) }
+{
+    let extractor = HeaderExtractor::new(alloc, headers)?;
+    propagator.extract_with_context(alloc, cx, &extractor)
+}
+
+/// Writes a context into headers as W3C has it: the span context, and then the baggage by the strict grammar.
+pub fn inject_context(
+    alloc: Global,
+    cx: &Context,
+    headers: &mut HeaderMap,
+) -> Result<(), SetHeaderError>
+    ensures { InjectsContext cx.now headers.old (carrier_answer result) headers.new }
+{
+    inject_headers(&TraceContextPropagator::new(), alloc, cx, headers)?;
+    inject_headers(&StrictBaggagePropagator::new(), alloc, cx, headers)
+}
+
+/// The context that headers carry as W3C has it: a span context and a baggage by the strict grammar, where they are
+/// valid, and else that of a root.
+pub fn extract_context(alloc: Global, headers: &HeaderMap) -> Result<Context, AllocError>
+    ensures { IfOk result (IsContextOf headers.now) }
+{
+    let extractor = HeaderExtractor::new(alloc, headers)?;
+    both_of(alloc, &extractor)
+}
+
+/// What a carrier's texts say in place of a root's context.
+fn both_of<X: Extractor>(alloc: Global, extractor: &X) -> Result<Context, AllocError>
+    ensures { IfOk result (ExtractsContext (X.reads extractor.now)) }
+{
+    let root = Context::new();
+    let found = TraceContextPropagator::new().extract_with_context(alloc, &root, extractor)?;
+    StrictBaggagePropagator::new().extract_with_context(alloc, &found, extractor)
+}
