@@ -1,4 +1,5 @@
 pub mod Contexts
+pub mod Conventions
 pub mod Extraction
 pub mod Fields
 pub mod Headers

@@ -2,6 +2,7 @@
 //! Traces across HTTP: header maps as carriers, a server's span around each request of a service, and a client's span.
 #![tactic(auto)]
 
+mod conventions;
 mod fields;
 mod header_extractor;
 mod header_injector;
