@@ -4,4 +4,5 @@ pub mod Extraction
 pub mod Fields
 pub mod Headers
 pub mod Injection
+pub mod Serving
 pub mod SetHeader

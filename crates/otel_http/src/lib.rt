@@ -8,10 +8,13 @@ mod header_extractor;
 mod header_injector;
 pub mod laws;
 mod propagation;
+mod traced;
+mod traced_service;
 
 pub use header_extractor::HeaderExtractor;
 pub use header_injector::{HeaderInjector, SetHeaderError};
 pub use propagation::{extract_context, extract_headers, inject_context, inject_headers};
+pub use traced_service::TracedService;
 
 #[cfg(test)]
 mod tests {

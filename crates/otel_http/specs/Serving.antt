@@ -1,0 +1,134 @@
+-- A request served inside a server's span, and what is said of the service that serves it.
+use Rattle.std.specs.Prelude.{◌≡◌, ◌⊎◌, ℕ, ◌+◌, ◌-◌, ◌^◌, Bool, List, [], ◌∷◌, ◌++◌, Option, Some, Result, Ok, Err, map, min, nat_le, is_ok}
+use Rattle.std.specs.Prelude.{IsNone, if◌then◌else◌, ◌&&◌}
+use Rattle.std.specs.declared.alloc.AllocError.{AllocError}
+use Rattle.http.specs.declared.request.Request.{Request}
+use Rattle.http.specs.declared.request.Parts.{Parts}
+use Rattle.http.specs.Request.{head_of}
+use Rattle.http_server.specs.declared.response.Response.{Response}
+use Rattle.http_server.specs.Response.{IsResponse}
+use Rattle.opentelemetry.specs.Plain.{PlainContext, PlainScope, error}
+use Rattle.opentelemetry.specs.PlainContexts.{root_cx}
+use Rattle.opentelemetry.specs.PlainSpanBuilder.{PlainSpanBuilder, named_builder}
+use Rattle.opentelemetry.specs.declared.trace.span_kind.SpanKind.TheVariants.{Server}
+use Rattle.otel_sampling.specs.declared.trace.sampler.ShouldSample as sampling
+use Rattle.otel_sampling.specs.declared.trace.id_generator.GivesIds as drawing
+use Rattle.otel_pipeline.specs.InSpan.{AnswersNow, EndsOrDrops, StartsAtMost, active_in, beginning}
+use Rattle.otel_pipeline.specs.Provider.{ProviderState}
+use Rattle.otel_pipeline.specs.SpanHistory.{Edit, IsEdited, PlainSpan, after, set_attribute, set_status}
+use Rattle.otel_pipeline.specs.declared.trace.span_processor.SpanProcessor.{Ghosts}
+use Rattle.otel_http.specs.Contexts.{IsContextOf}
+use Rattle.otel_http.specs.Conventions.{HasRequestAttributes, method_name, response_attributes}
+
+-- what a service is lent: the span of the request, and the provider
+pub record Lent (P S G : Type 0) : Type 0 where
+  pub span : PlainSpan
+  pub provider : ProviderState P S G
+
+abbrev pub lent : {P S G : Type 0} → PlainSpan → ProviderState P S G → Lent P S G
+lent span provider = record { span = span; provider = provider }
+
+-- what a service does with a request in a context: what it was lent, what it answers and responds, what it leaves of
+-- what it was lent, and itself after
+abbrev pub Serving : (V P S G : Type 0) → Type 1
+Serving V P S G = V → Request (List ℕ) → PlainContext → Lent P S G → Result (Unit {0}) AllocError → Response → Lent P S G → V
+    → Type 0
+
+-- what the builder of a request's span has
+pub record IsServerBuilder (keeps_query : Bool) (head : Parts) (builder : PlainSpanBuilder) : Type 0 where
+  pub attributes : List _
+  pub has : HasRequestAttributes keeps_query head attributes
+  pub is : builder ≡ record (named_builder (method_name head.method)) {
+        span_kind = Some Server;
+        attributes = Some attributes;
+      }
+
+-- the status from which on a server failed
+abbrev pub first_failure : ℕ
+first_failure = 500
+
+-- the status of a span, by that of the response
+abbrev pub status_edits : ℕ → ℕ → List Edit
+status_edits first_error status = if nat_le first_error status then set_status (error []) ∷ [] else []
+
+-- what a span is told of its response; where there is no memory its status alone
+abbrev pub response_edits : ℕ → Bool → ℕ → List Edit
+response_edits first_error whole status =
+    status_edits first_error status
+    ++ (if whole then map set_attribute (response_attributes first_error status) else [])
+
+-- one more, up to the greatest u64
+abbrev pub one_more : ℕ → ℕ
+one_more count = min (count + 1) (2 ^ 64 - 1)
+
+-- what answers a request: the service's response, and where the service had no memory a 500 without a body
+abbrev pub Responds : Result (Unit {0}) AllocError → Response → Response → Type 0
+Responds (Ok _) given response = response ≡ given
+Responds (Err _) given response = IsResponse 500 [] [] response
+
+module _ {V P S G : Type 0} (serves : Serving V P S G) where
+  -- the service was asked once, with what it was lent, and its answer is the response
+  pub record ServesOnce (old : V) (request : Request (List ℕ)) (cx : PlainContext) (given : Lent P S G) (response : Response)
+      (left : Lent P S G) (new : V) : Type 0 where
+    pub answer : Result (Unit {0}) AllocError
+    pub own : Response
+    pub served : serves old request cx given answer own left new
+    pub edited : IsEdited given.span left.span
+    pub responds : Responds answer own response
+
+-- a service with what it is traced by
+pub record TracedState (V P S G : Type 0) : Type 0 where
+  pub service : V
+  pub provider : ProviderState P S G
+  pub scope : PlainScope
+  pub keeps_query : Bool
+  -- requests that were served without a span, and spans that lack their response or did not reach their processors
+  pub untraced : ℕ
+  pub unfinished : ℕ
+
+module _ {V P S G : Type 0} (calls : Ghosts P) (sampler : sampling.Ghosts S) (ids : drawing.Ghosts G)
+    (may_tell : ℕ → Type 0) (serves : Serving V P S G) where
+  -- a request was served inside a span that started in its context and ended after it, told of its response
+  pub record ServesTraced (old : TracedState V P S G) (request : Request (List ℕ)) (cx : PlainContext)
+      (response : Response) (new : TracedState V P S G) : Type 0 where
+    pub builder : PlainSpanBuilder
+    pub is_builder : IsServerBuilder old.keeps_query (head_of request) builder
+    pub span : PlainSpan
+    pub started : ProviderState P S G
+    pub starts : AnswersNow calls sampler ids may_tell (beginning old.scope builder cx old.provider) (Ok span) started
+    pub left : Lent P S G
+    pub serves_once : ServesOnce serves old.service request (active_in cx span) (lent span started) response left new.service
+    pub whole : Bool
+    pub end : ℕ
+    pub told : may_tell end
+    pub ended : Result ℕ AllocError
+    pub ends : EndsOrDrops calls left.provider (after (response_edits first_failure whole response.status) left.span) end
+        ended new.provider
+    pub unfinished : new.unfinished ≡ (if whole && is_ok ended then old.unfinished else one_more old.unfinished)
+    pub rest : new ≡ record old { service = new.service; provider = new.provider; unfinished = new.unfinished }
+
+  -- a request was served without a span, since there was no memory for one: at most a start happened, and it counts
+  pub record ServesUntraced (old : TracedState V P S G) (request : Request (List ℕ)) (cx : PlainContext)
+      (response : Response) (new : TracedState V P S G) : Type 0 where
+    pub builder : PlainSpanBuilder
+    pub between : ProviderState P S G
+    pub begins : (between ≡ old.provider)
+        ⊎ StartsAtMost calls sampler ids may_tell (beginning old.scope builder cx old.provider) between
+    pub span : PlainSpan
+    pub silent : IsNone span.recorded
+    pub left : Lent P S G
+    pub serves_once : ServesOnce serves old.service request cx (lent span between) response left new.service
+    pub provider : new.provider ≡ left.provider
+    pub rest : new ≡ record old {
+          service = new.service;
+          provider = new.provider;
+          untraced = one_more old.untraced;
+        }
+
+  -- what a request does: it is served in the context of its headers, traced or not; where there was no memory to read
+  -- them it is served untraced in a root's context
+  abbrev pub TracesRequest : TracedState V P S G → Request (List ℕ) → Response → TracedState V P S G → Type 0
+  TracesRequest old request response new =
+      ((cx : PlainContext) × IsContextOf (head_of request).headers cx
+        × (ServesTraced old request cx response new ⊎ ServesUntraced old request cx response new))
+      ⊎ ServesUntraced old request root_cx response new
