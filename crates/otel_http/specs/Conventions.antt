@@ -1,5 +1,5 @@
 -- The attributes of spans of HTTP (OpenTelemetry semantic conventions, "HTTP spans", stable).
-use Rattle.std.specs.Prelude.{◌≡◌, ◌⊎◌, ℕ, ◌≤◌, Bool, ◌||◌, List, [], ◌∷◌, ◌++◌, codes, map, nat_le, bytes_eq, Option, None, Some, option_map}
+use Rattle.std.specs.Prelude.{◌≡◌, ◌⊎◌, ℕ, Bool, ◌||◌, List, [], ◌∷◌, ◌++◌, codes, map, nat_le, bytes_eq, Option, None, Some}
 use Rattle.std.specs.Prelude.{MatchOption, if◌then◌else◌, option_to_list, pos}
 use Rattle.http.specs.declared.request.Parts.{Parts}
 use Rattle.http.specs.Method.{idempotent_methods, is_among}

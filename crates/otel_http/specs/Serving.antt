@@ -1,6 +1,6 @@
 -- A request served inside a server's span, and what is said of the service that serves it.
-use Rattle.std.specs.Prelude.{◌≡◌, ◌⊎◌, ℕ, ◌+◌, ◌-◌, ◌^◌, Bool, List, [], ◌∷◌, ◌++◌, Option, Some, Result, Ok, Err, map, min, nat_le, is_ok}
-use Rattle.std.specs.Prelude.{IsNone, if◌then◌else◌, ◌&&◌}
+use Rattle.std.specs.Prelude.{◌≡◌, ◌⊎◌, ℕ, ◌+◌, ◌-◌, ◌^◌, Bool, List, [], ◌∷◌, ◌++◌, Some, Result, Ok, Err, map, min, nat_le, is_ok}
+use Rattle.std.specs.Prelude.{IsNone, IsOk, if◌then◌else◌, ◌&&◌}
 use Rattle.std.specs.declared.alloc.AllocError.{AllocError}
 use Rattle.http.specs.declared.request.Request.{Request}
 use Rattle.http.specs.declared.request.Parts.{Parts}
@@ -13,10 +13,12 @@ use Rattle.opentelemetry.specs.PlainSpanBuilder.{PlainSpanBuilder, named_builder
 use Rattle.opentelemetry.specs.declared.trace.span_kind.SpanKind.TheVariants.{Server}
 use Rattle.otel_sampling.specs.declared.trace.sampler.ShouldSample as sampling
 use Rattle.otel_sampling.specs.declared.trace.id_generator.GivesIds as drawing
-use Rattle.otel_pipeline.specs.InSpan.{AnswersNow, EndsOrDrops, StartsAtMost, active_in, beginning}
+use Rattle.otel_pipeline.specs.Ending.{EndIsInfallible}
+use Rattle.otel_pipeline.specs.InSpan.{AnswersNow, Beginning, EndsOrDrops, StartsAtMost, active_in, beginning}
 use Rattle.otel_pipeline.specs.Provider.{ProviderState}
 use Rattle.otel_pipeline.specs.SpanHistory.{Edit, IsEdited, PlainSpan, after, set_attribute, set_status}
 use Rattle.otel_pipeline.specs.declared.trace.span_processor.SpanProcessor.{Ghosts}
+use Rattle.otel_http.specs.declared.traced.TheConstants.{FIRST_FAILURE}
 use Rattle.otel_http.specs.Contexts.{IsContextOf}
 use Rattle.otel_http.specs.Conventions.{HasRequestAttributes, method_name, response_attributes}
 
@@ -42,10 +44,6 @@ pub record IsServerBuilder (keeps_query : Bool) (head : Parts) (builder : PlainS
         span_kind = Some Server;
         attributes = Some attributes;
       }
-
--- the status from which on a server failed
-abbrev pub first_failure : ℕ
-first_failure = 500
 
 -- the status of a span, by that of the response
 abbrev pub status_edits : ℕ → ℕ → List Edit
@@ -76,48 +74,29 @@ module _ {V P S G : Type 0} (serves : Serving V P S G) where
     pub edited : IsEdited given.span left.span
     pub responds : Responds answer own response
 
--- a service with what it is traced by
-pub record TracedState (V P S G : Type 0) : Type 0 where
+-- a service with what it is traced by; how many requests were served without a span, and how many spans lack what they
+-- are told of their response or did not reach their processors, since there was no memory
+pub record TracedState (V P S G C : Type 0) : Type 0 where
   pub service : V
   pub provider : ProviderState P S G
   pub scope : PlainScope
+  pub clock : C
   pub keeps_query : Bool
-  -- requests that were served without a span, and spans that lack their response or did not reach their processors
   pub untraced : ℕ
   pub unfinished : ℕ
 
-module _ {V P S G : Type 0} (calls : Ghosts P) (sampler : sampling.Ghosts S) (ids : drawing.Ghosts G)
-    (may_tell : ℕ → Type 0) (serves : Serving V P S G) where
-  -- a request was served inside a span that started in its context and ended after it, told of its response
-  pub record ServesTraced (old : TracedState V P S G) (request : Request (List ℕ)) (cx : PlainContext)
-      (response : Response) (new : TracedState V P S G) : Type 0 where
-    pub builder : PlainSpanBuilder
-    pub is_builder : IsServerBuilder old.keeps_query (head_of request) builder
-    pub span : PlainSpan
-    pub started : ProviderState P S G
-    pub starts : AnswersNow calls sampler ids may_tell (beginning old.scope builder cx old.provider) (Ok span) started
-    pub left : Lent P S G
-    pub serves_once : ServesOnce serves old.service request (active_in cx span) (lent span started) response left new.service
-    pub whole : Bool
-    pub end : ℕ
-    pub told : may_tell end
-    pub ended : Result ℕ AllocError
-    pub ends : EndsOrDrops calls left.provider (after (response_edits first_failure whole response.status) left.span) end
-        ended new.provider
-    pub unfinished : new.unfinished ≡ (if whole && is_ok ended then old.unfinished else one_more old.unfinished)
-    pub rest : new ≡ record old { service = new.service; provider = new.provider; unfinished = new.unfinished }
+-- where the span of a request begins
+abbrev pub beginning_of : {V P S G C : Type 0} → TracedState V P S G C → PlainSpanBuilder → PlainContext → Beginning P S G
+beginning_of old builder cx = beginning old.scope builder cx old.provider
 
-  -- a request was served without a span, since there was no memory for one: at most a start happened, and it counts
-  pub record ServesUntraced (old : TracedState V P S G) (request : Request (List ℕ)) (cx : PlainContext)
-      (response : Response) (new : TracedState V P S G) : Type 0 where
-    pub builder : PlainSpanBuilder
-    pub between : ProviderState P S G
-    pub begins : (between ≡ old.provider)
-        ⊎ StartsAtMost calls sampler ids may_tell (beginning old.scope builder cx old.provider) between
+module _ {V P S G C : Type 0} (serves : Serving V P S G) where
+  -- a request was served without a span, which counts
+  pub record ServesWithout (old : TracedState V P S G C) (request : Request (List ℕ)) (cx : PlainContext)
+      (response : Response) (new : TracedState V P S G C) : Type 0 where
     pub span : PlainSpan
     pub silent : IsNone span.recorded
     pub left : Lent P S G
-    pub serves_once : ServesOnce serves old.service request cx (lent span between) response left new.service
+    pub serves_once : ServesOnce serves old.service request cx (lent span old.provider) response left new.service
     pub provider : new.provider ≡ left.provider
     pub rest : new ≡ record old {
           service = new.service;
@@ -125,10 +104,58 @@ module _ {V P S G : Type 0} (calls : Ghosts P) (sampler : sampling.Ghosts S) (id
           untraced = one_more old.untraced;
         }
 
-  -- what a request does: it is served in the context of its headers, traced or not; where there was no memory to read
-  -- them it is served untraced in a root's context
-  abbrev pub TracesRequest : TracedState V P S G → Request (List ℕ) → Response → TracedState V P S G → Type 0
+module _ {V P S G C : Type 0} (calls : Ghosts P) (may_tell : C → ℕ → Type 0) (serves : Serving V P S G) where
+  -- a request was served inside a span, in this context; the span was told of the response, and ended. What it was told
+  -- and where it ended is lost only where there was no memory, and then counts
+  pub record ServesInside (span : PlainSpan) (old : TracedState V P S G C) (request : Request (List ℕ)) (cx : PlainContext)
+      (response : Response) (new : TracedState V P S G C) : Type 0 where
+    pub left : Lent P S G
+    pub serves_once : ServesOnce serves old.service request cx (lent span old.provider) response left new.service
+    pub whole : Bool
+    pub end : ℕ
+    pub told : may_tell old.clock end
+    pub ended : Result ℕ AllocError
+    pub ends : EndsOrDrops calls left.provider (after (response_edits FIRST_FAILURE whole response.status) left.span) end
+        ended new.provider
+    pub free : EndIsInfallible (after (response_edits FIRST_FAILURE whole response.status) left.span) left.provider
+        → IsOk ended
+    pub unfinished : new.unfinished ≡ (if whole && is_ok ended then old.unfinished else one_more old.unfinished)
+    pub rest : new ≡ record old { service = new.service; provider = new.provider; unfinished = new.unfinished }
+
+module _ {V P S G C : Type 0} (calls : Ghosts P) (sampler : sampling.Ghosts S) (ids : drawing.Ghosts G)
+    (may_tell : C → ℕ → Type 0) (serves : Serving V P S G) where
+  -- a request was served inside a span that started in this context
+  pub record ServesTraced (old : TracedState V P S G C) (request : Request (List ℕ)) (cx : PlainContext)
+      (response : Response) (new : TracedState V P S G C) : Type 0 where
+    pub builder : PlainSpanBuilder
+    pub is_builder : IsServerBuilder old.keeps_query (head_of request) builder
+    pub span : PlainSpan
+    pub started : ProviderState P S G
+    pub starts : AnswersNow calls sampler ids (may_tell old.clock) (beginning_of old builder cx) (Ok span) started
+    pub inside : ServesInside calls may_tell serves span (record old { provider = started }) request (active_in cx span)
+        response new
+
+  -- a start was tried at most
+  abbrev pub TriesStart : TracedState V P S G C → Request (List ℕ) → PlainContext → ProviderState P S G → Type 0
+  TriesStart old request cx between =
+      (between ≡ old.provider)
+      ⊎ ((builder : PlainSpanBuilder) × IsServerBuilder old.keeps_query (head_of request) builder
+        × StartsAtMost calls sampler ids (may_tell old.clock) (beginning_of old builder cx) between)
+
+  -- a request was served without a span, since there was no memory for one
+  pub record ServesUntraced (old : TracedState V P S G C) (request : Request (List ℕ)) (cx : PlainContext)
+      (response : Response) (new : TracedState V P S G C) : Type 0 where
+    pub between : ProviderState P S G
+    pub tries : TriesStart old request cx between
+    pub without : ServesWithout serves (record old { provider = between }) request cx response new
+
+  -- a request was served in a context, traced or not
+  abbrev pub ServesIn : TracedState V P S G C → Request (List ℕ) → PlainContext → Response → TracedState V P S G C → Type 0
+  ServesIn old request cx response new = ServesTraced old request cx response new ⊎ ServesUntraced old request cx response new
+
+  -- what a request does: it is served in the context of its headers; where there was no memory to read them it is served
+  -- untraced in a root's context
+  abbrev pub TracesRequest : TracedState V P S G C → Request (List ℕ) → Response → TracedState V P S G C → Type 0
   TracesRequest old request response new =
-      ((cx : PlainContext) × IsContextOf (head_of request).headers cx
-        × (ServesTraced old request cx response new ⊎ ServesUntraced old request cx response new))
-      ⊎ ServesUntraced old request root_cx response new
+      ((cx : PlainContext) × IsContextOf (head_of request).headers cx × ServesIn old request cx response new)
+      ⊎ ServesWithout serves old request root_cx response new

@@ -14,6 +14,7 @@ mod traced_service;
 pub use header_extractor::HeaderExtractor;
 pub use header_injector::{HeaderInjector, SetHeaderError};
 pub use propagation::{extract_context, extract_headers, inject_context, inject_headers};
+pub use traced::Traced;
 pub use traced_service::TracedService;
 
 #[cfg(test)]

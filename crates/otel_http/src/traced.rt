@@ -1,13 +1,13 @@
 //! A service around a traced one: it serves each request inside a span of its own.
 
-ghost use Rattle.std.specs.Prelude.{◌≡◌, ◌⊎◌, ◌-◌, ◌^◌, IfErr, IfOk, IsNone, IsOk, OnErr, OnOk, is_ok, false, true, string_bytes};
+ghost use Rattle.std.specs.Prelude.{◌≡◌, ◌&&◌, false, true, IfOk, IsNone, IsOk, Ok, OnErr, OnOk, if◌then◌else◌, is_ok};
 ghost use Rattle.http.specs.Request.{head_of};
 ghost use Rattle.http_server.specs.Response.{IsBlank};
-ghost use Rattle.opentelemetry.specs.PlainContexts.{root_cx};
+ghost use Rattle.otel_pipeline.specs.Ending.{EndIsInfallible};
 ghost use Rattle.otel_pipeline.specs.InSpan.{AnswersNow, EndsOrDrops, StartsAtMost, active_in, beginning};
-ghost use Rattle.otel_pipeline.specs.SpanHistory.{after, IsEdited};
-ghost use Rattle.otel_http.specs.Serving.{IsServerBuilder, ServesOnce, lent, one_more, response_edits, first_failure};
-ghost use Rattle.otel_http.specs.Contexts.{IsContextOf};
+ghost use Rattle.otel_pipeline.specs.SpanHistory.{after};
+ghost use Rattle.otel_http.specs.Serving.{IsServerBuilder, ServesIn, ServesInside, ServesOnce, ServesWithout, TracesRequest};
+ghost use Rattle.otel_http.specs.Serving.{lent, one_more, response_edits};
 
 use crate::TracedService;
 use crate::conventions::{method_name, request_attributes, response_attributes};
@@ -43,16 +43,192 @@ struct Begun {
     cx: Context,
 }
 
-/// What begins a span at a provider.
-fn begin<P: SpanProcessor, S: ShouldSample, G: GivesIds>(
+impl<V, P, S, G, C> Model for Traced<V, P, S, G, C> {
+    ghost use Rattle.otel_http.specs.Serving.{TracedState};
+
+    ghost Value = { TracedState V P S G C };
+
+    ghost view = { λ traced. record {
+      service = traced.service;
+      provider = traced.provider;
+      scope = traced.tracer;
+      clock = traced.clock;
+      keeps_query = traced.keeps_query;
+      untraced = traced.untraced;
+      unfinished = traced.unfinished;
+    } };
+}
+
+impl<V, P, S, G, C> Traced<V, P, S, G, C> {
+    /// A service whose requests start spans at this provider, under the scope of this tracer, at moments that the clock
+    /// tells.
+    pub fn new(
+        alloc: Global,
+        service: V,
+        provider: ProviderOf<P, S, G>,
+        tracer: SdkTracer,
+        clock: C,
+    ) -> Traced<V, P, S, G, C>
+        ensures { result ≡ record {
+          service = service;
+          provider = provider;
+          scope = tracer;
+          clock = clock;
+          keeps_query = false;
+          untraced = 0;
+          unfinished = 0;
+        } }
+    {
+        Traced {
+            alloc,
+            service,
+            provider,
+            tracer,
+            clock,
+            keeps_query: false,
+            untraced: 0,
+            unfinished: 0,
+        }
+    }
+
+    /// The same with queries as attributes, which may have secrets in them.
+    pub fn with_url_query(mut self) -> Traced<V, P, S, G, C>
+        ensures { result ≡ record self { keeps_query = true } }
+    {
+        self.keeps_query = true;
+        self
+    }
+
+    /// How many requests were served without a span, since there was no memory for one.
+    pub fn untraced(&self) -> u64
+        ensures { result ≡ self.now.untraced }
+    {
+        self.untraced
+    }
+
+    /// How many spans lack what they are told of their response, or did not reach their processors, since there was no
+    /// memory.
+    pub fn unfinished(&self) -> u64
+        ensures { result ≡ self.now.unfinished }
+    {
+        self.unfinished
+    }
+}
+
+impl<V: TracedService<P, S, G>, P: SpanProcessor, S: ShouldSample, G: GivesIds, C: Now> Service for Traced<V, P, S, G, C> {
+    ghost use Rattle.otel_http.specs.Serving.{TracesRequest};
+
+    ghost answers = { TracesRequest P.SpanProcessor S.ShouldSample G.GivesIds C.may_tell V.serves };
+
+    /// Always `Ok`: tracing never stands in the way.
+    fn call(
+        &mut self,
+        request: &Request<Bytes>,
+        response: &mut Response,
+    ) -> Result<(), AllocError>
+        requires { IsBlank response.old }
+        ensures ok { OnOk result (TracesRequest P.SpanProcessor S.ShouldSample G.GivesIds C.may_tell V.serves
+            self.old request.now response.new self.new) }
+        ensures err { OnErr result (self.new ≡ self.old) }
+        ensures always { IsOk result }
+    {
+        match extract_context(self.alloc, request.headers()) {
+            Ok(cx) => self.serve_in(request, &cx, response),
+            Err(_) => self.serve_without(request, &Context::new(), response),
+        }
+        Ok(())
+    }
+}
+
+impl<V: TracedService<P, S, G>, P: SpanProcessor, S: ShouldSample, G: GivesIds, C: Now> Traced<V, P, S, G, C> {
+    /// Serves a request in a context, inside a span where there is memory for one.
+    fn serve_in(&mut self, request: &Request<Bytes>, cx: &Context, response: &mut Response)
+        requires { IsBlank response.old }
+        ensures { ServesIn P.SpanProcessor S.ShouldSample G.GivesIds C.may_tell V.serves self.old request.now cx.now
+            response.new self.new }
+    {
+        let Ok(builder) = server_builder(self.alloc, request, self.keeps_query) else {
+            self.serve_without(request, cx, response);
+            return;
+        };
+        match begin(&self.tracer, builder, cx, &mut self.provider, &self.clock) {
+            Ok(begun) => self.serve_inside(request, begun, response),
+            Err(_) => self.serve_without(request, cx, response),
+        }
+    }
+
+    /// Serves a request inside a span.
+    fn serve_inside(&mut self, request: &Request<Bytes>, begun: Begun, response: &mut Response)
+        requires { IsBlank response.old }
+        ensures { ServesInside P.SpanProcessor C.may_tell V.serves begun.span self.old request.now begun.cx response.new
+            self.new }
+    {
+        let Begun { mut span, cx } = begun;
+        ask(&mut self.service, request, &cx, &mut span, &mut self.provider, response);
+        let told = conclude(self.alloc, &mut span, response.status, FIRST_FAILURE);
+        let ended = end_or_drop(span, &mut self.provider, self.clock.now());
+        let is_told = told.is_ok();
+        let is_ended = ended.is_ok();
+        self.unfinished = counted_unless(self.unfinished, is_told, is_ended);
+    }
+
+    /// Serves a request without a span: with one that records nothing.
+    fn serve_without(&mut self, request: &Request<Bytes>, cx: &Context, response: &mut Response)
+        requires { IsBlank response.old }
+        ensures { ServesWithout V.serves self.old request.now cx.now response.new self.new }
+    {
+        let mut span = silent_span(self.alloc, &self.tracer, &mut self.provider);
+        ask(&mut self.service, request, cx, &mut span, &mut self.provider, response);
+        span.abandon();
+        self.untraced = self.untraced.saturating_add(1);
+    }
+}
+
+/// A count, and one more unless a span was told of its response and ended.
+fn counted_unless(count: u64, is_told: bool, is_ended: bool) -> u64
+    ensures { result ≡ (if is_told && is_ended then count else one_more count) }
+{
+    if is_told && is_ended {
+        count
+    } else {
+        count.saturating_add(1)
+    }
+}
+
+/// A span that records nothing. It takes no memory.
+fn silent_span<P: SpanProcessor, S: ShouldSample, G: GivesIds>(
+    alloc: Global,
+    tracer: &SdkTracer,
+    provider: &mut ProviderOf<P, S, G>,
+) -> Span
+    ensures silent { IsNone result.recorded }
+    ensures same { provider.new ≡ provider.old }
+{
+    let Ok(suppressed) = Context::new().with_telemetry_suppressed() else {
+        unreachable!();
+    };
+    let builder = SpanBuilder::from_name(String::new(alloc));
+    let Ok(span) = tracer.build_with_context(builder, &suppressed, provider, Moment(0)) else {
+        unreachable!();
+    };
+    span
+}
+
+/// Begins a span of a provider, at a moment that the clock tells.
+fn begin<P: SpanProcessor, S: ShouldSample, G: GivesIds, C: Now>(
     tracer: &SdkTracer,
     builder: SpanBuilder,
     cx: &Context,
     provider: &mut ProviderOf<P, S, G>,
-    now: Moment,
+    clock: &C,
 ) -> Result<Begun, AllocError>
+    ensures ok { IfOk result (λ begun. AnswersNow P.SpanProcessor S.ShouldSample G.GivesIds (C.may_tell clock.now)
+        (beginning tracer.now builder cx.now provider.old) (Ok begun.span) provider.new
+        × (begun.cx ≡ active_in cx.now begun.span)) }
+    ensures err { OnErr result (StartsAtMost P.SpanProcessor S.ShouldSample G.GivesIds (C.may_tell clock.now)
+        (beginning tracer.now builder cx.now provider.old) provider.new) }
 {
-    let span = tracer.build_with_context(builder, cx, provider, now)?;
+    let span = tracer.build_with_context(builder, cx, provider, clock.now())?;
     match context_inside(cx, &span) {
         Ok(inside) => Ok(Begun { span, cx: inside }),
         Err(_) => {
@@ -125,7 +301,8 @@ fn end_or_drop<P: SpanProcessor, S: Drop, G: Drop>(
     provider: &mut ProviderOf<P, S, G>,
     end: Moment,
 ) -> Result<usize, AllocError>
-    ensures { EndsOrDrops P.SpanProcessor provider.old span end.0 result provider.new }
+    ensures ends { EndsOrDrops P.SpanProcessor provider.old span end.0 result provider.new }
+    ensures free { EndIsInfallible span provider.old → IsOk result }
 {
     match span.finish(provider, end) {
         Ok(refused) => Ok(refused),
