@@ -7,7 +7,8 @@ use Rattle.http.specs.StatusCode.{code_digits}
 use Rattle.http_header.specs.FieldValue.{FieldValue}
 use Rattle.http_header.specs.HeaderMap.{get}
 use Rattle.http_uri.specs.Grammar.{IsAuthority, authority_host}
-use Rattle.http_uri.specs.Uri.{uri_path, uri_query}
+use Rattle.http_uri.specs.Uri.{uri_authority, uri_path, uri_query}
+use Rattle.otel_pipeline.specs.SpanEdits.{Edit, set_attribute, update_name}
 use Rattle.opentelemetry.specs.Plain.{PlainKeyValue, integer, text}
 
 -- an attribute with a text
@@ -33,9 +34,11 @@ IsHostIn value address =
     (IsAuthority value.bytes × (address ≡ Some (authority_host value.bytes)))
     ⊎ ((¬ (IsAuthority value.bytes)) × (address ≡ None))
 
--- the host of a head
+-- the host of a head: that of its target, and of `Host` where the target names none (RFC 9112, section 3.2.2)
 abbrev pub IsHostOf : Parts → Option (List ℕ) → Type 0
-IsHostOf head address = MatchOption (get head.headers (codes "host")) (address ≡ None) (λ value. IsHostIn value address)
+IsHostOf head address = MatchOption (uri_authority head.uri)
+    (MatchOption (get head.headers (codes "host")) (address ≡ None) (λ value. IsHostIn value address))
+    (λ authority. address ≡ Some (authority_host authority))
 
 -- the query of a head, where it is asked for
 abbrev pub query_of : Bool → Parts → Option (List ℕ)
@@ -66,3 +69,12 @@ abbrev pub response_attributes : ℕ → ℕ → List PlainKeyValue
 response_attributes first_error status =
     status_attribute status
     ∷ (if nat_le first_error status then text_attribute (codes "error.type") (code_digits status) ∷ [] else [])
+
+-- a space
+abbrev pub space : ℕ
+space = 32
+
+-- what a span is told of its route: the attribute, and a name with it
+abbrev pub route_edits : List ℕ → List ℕ → List Edit
+route_edits method route =
+    set_attribute (text_attribute (codes "http.route") route) ∷ update_name (method_name method ++ space ∷ route) ∷ []

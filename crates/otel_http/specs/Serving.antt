@@ -1,5 +1,5 @@
 -- A request served inside a server's span, and what is said of the service that serves it.
-use Rattle.std.specs.Prelude.{◌≡◌, ◌⊎◌, ℕ, ◌+◌, ◌-◌, ◌^◌, Bool, List, [], ◌∷◌, ◌++◌, Some, Result, Ok, Err, map, min, nat_le, is_ok}
+use Rattle.std.specs.Prelude.{◌≡◌, ◌⊎◌, ℕ, ◌+◌, ◌-◌, ◌^◌, Bool, false, List, [], ◌∷◌, ◌++◌, Some, Result, Ok, Err, map, min, nat_le, is_ok}
 use Rattle.std.specs.Prelude.{IsNone, IsOk, if◌then◌else◌, ◌&&◌}
 use Rattle.std.specs.declared.alloc.AllocError.{AllocError}
 use Rattle.http.specs.declared.request.Request.{Request}
@@ -7,10 +7,12 @@ use Rattle.http.specs.declared.request.Parts.{Parts}
 use Rattle.http.specs.Request.{head_of}
 use Rattle.http_server.specs.declared.response.Response.{Response}
 use Rattle.http_server.specs.Response.{IsResponse}
-use Rattle.opentelemetry.specs.Plain.{PlainContext, PlainScope, error}
-use Rattle.opentelemetry.specs.PlainContexts.{root_cx}
+use Rattle.opentelemetry.specs.Plain.{PlainContext, PlainKeyValue, PlainScope, PlainSpanContext, error}
+use Rattle.opentelemetry.specs.PlainContexts.{current_span_context, root_cx}
 use Rattle.opentelemetry.specs.PlainSpanBuilder.{PlainSpanBuilder, named_builder}
-use Rattle.opentelemetry.specs.declared.trace.span_kind.SpanKind.TheVariants.{Server}
+use Rattle.opentelemetry.specs.declared.trace.span_kind.SpanKind.{SpanKind}
+use Rattle.opentelemetry.specs.declared.trace.span_kind.SpanKind.TheVariants.{Client, Server}
+use Rattle.otel_export.specs.PlainSpanData.{PlainSpanData}
 use Rattle.otel_sampling.specs.declared.trace.sampler.ShouldSample as sampling
 use Rattle.otel_sampling.specs.declared.trace.id_generator.GivesIds as drawing
 use Rattle.otel_pipeline.specs.Ending.{EndIsInfallible}
@@ -36,14 +38,21 @@ abbrev pub Serving : (V P S G : Type 0) → Type 1
 Serving V P S G = V → Request (List ℕ) → PlainContext → Lent P S G → Result (Unit {0}) AllocError → Response → Lent P S G → V
     → Type 0
 
--- what the builder of a request's span has
-pub record IsServerBuilder (keeps_query : Bool) (head : Parts) (builder : PlainSpanBuilder) : Type 0 where
-  pub attributes : List _
+-- what the builder of a request's span has: the method as its name, a kind, and attributes
+pub record IsBuilder (kind : SpanKind) (keeps_query : Bool) (head : Parts) (builder : PlainSpanBuilder) : Type 0 where
+  pub attributes : List PlainKeyValue
   pub has : HasRequestAttributes keeps_query head attributes
   pub is : builder ≡ record (named_builder (method_name head.method)) {
-        span_kind = Some Server;
+        span_kind = Some kind;
         attributes = Some attributes;
       }
+
+-- of a request that is served, and of one to another service
+abbrev pub IsServerBuilder : Bool → Parts → PlainSpanBuilder → Type 0
+IsServerBuilder = IsBuilder Server
+
+abbrev pub IsClientBuilder : Parts → PlainSpanBuilder → Type 0
+IsClientBuilder = IsBuilder Client false
 
 -- the status of a span, by that of the response
 abbrev pub status_edits : ℕ → ℕ → List Edit
@@ -135,6 +144,12 @@ module _ {V P S G C : Type 0} (calls : Ghosts P) (sampler : sampling.Ghosts S) (
     pub inside : ServesInside calls may_tell serves span (record old { provider = started }) request (active_in cx span)
         response new
 
+  -- the span of such a request as it ends
+  abbrev pub ended_span : {old : TracedState V P S G C} {request : Request (List ℕ)} {cx : PlainContext} {response : Response}
+      {new : TracedState V P S G C} → ServesTraced old request cx response new → PlainSpan
+  ended_span {response = response} served =
+      after (response_edits FIRST_FAILURE served.inside.whole response.status) served.inside.left.span
+
   -- a start was tried at most
   abbrev pub TriesStart : TracedState V P S G C → Request (List ℕ) → PlainContext → ProviderState P S G → Type 0
   TriesStart old request cx between =
@@ -159,3 +174,11 @@ module _ {V P S G C : Type 0} (calls : Ghosts P) (sampler : sampling.Ghosts S) (
   TracesRequest old request response new =
       ((cx : PlainContext) × IsContextOf (head_of request).headers cx × ServesIn old request cx response new)
       ⊎ ServesWithout serves old request root_cx response new
+
+-- what is recorded of a request that is served in a context: a server's span, whose parent is the context's span and
+-- whose trace is that one's; in a root's context, of no parent and a trace of its own
+pub record IsServerSpan (cx : PlainContext) (data : PlainSpanData) : Type 0 where
+  pub kind : data.span_kind ≡ Server
+  pub parent : data.parent_span_id ≡ (current_span_context cx).span_id
+  pub trace : (parent : PlainSpanContext) → cx.span_context ≡ Some parent
+      → data.span_context.trace_id ≡ parent.trace_id

@@ -1,15 +1,17 @@
 //! The attributes of spans of HTTP (OpenTelemetry semantic conventions, "HTTP spans", stable).
 
-ghost use Rattle.std.specs.Prelude.{◌≡◌, ◌++◌, IfOk, OnOk, option_copied, option_map, string_bytes};
+ghost use Rattle.std.specs.Prelude.{◌≡◌, ◌++◌, ◌∷◌, IfOk, OnErr, OnOk, option_copied, option_map, string_bytes};
 ghost use Rattle.http.specs.Request.{head_of};
+ghost use Rattle.otel_pipeline.specs.SpanHistory.{IsEdited, after};
+ghost use Rattle.otel_http.specs.Conventions.{text_attribute};
 ghost use Rattle.otel_http.specs.Conventions.{HasRequestAttributes, IsHostIn, IsHostOf, attribute_if, is_known_method};
-ghost use Rattle.otel_http.specs.Conventions.{method_name, method_value, response_attributes, text_attribute};
+ghost use Rattle.otel_http.specs.Conventions.{method_name, method_value, response_attributes, route_edits, space};
 
-use bytes::Bytes;
 use http::{Method, Request, StatusCode};
 use http_header::{HOST, HeaderValue};
 use http_uri::{Authority, UriError};
 use opentelemetry::{Key, KeyValue, Value};
+use otel_pipeline::trace::Span;
 use std::alloc::{AllocError, Global};
 
 const METHOD: &str = "http.request.method";
@@ -18,6 +20,7 @@ const QUERY: &str = "url.query";
 const ADDRESS: &str = "server.address";
 const STATUS: &str = "http.response.status_code";
 const ERROR_TYPE: &str = "error.type";
+const ROUTE: &str = "http.route";
 
 /// Whether the conventions know a method.
 fn is_known_method(method: &Method) -> bool
@@ -77,9 +80,9 @@ fn push_text(
 }
 
 /// What the span of a request has from its start.
-pub(crate) fn request_attributes(
+pub(crate) fn request_attributes<B>(
     alloc: Global,
-    request: &Request<Bytes>,
+    request: &Request<B>,
     keeps_query: bool,
 ) -> Result<Vec<KeyValue>, AllocError>
     ensures { IfOk result (λ attributes. HasRequestAttributes keeps_query (head_of request.now) attributes.items) }
@@ -105,9 +108,12 @@ fn text_in(text: &Option<String>) -> Option<&str>
 }
 
 /// The host that a request names.
-fn host_of(alloc: Global, request: &Request<Bytes>) -> Result<Option<String>, AllocError>
+fn host_of<B>(alloc: Global, request: &Request<B>) -> Result<Option<String>, AllocError>
     ensures { IfOk result (λ host. IsHostOf (head_of request.now) (option_map (λ t. string_bytes t) host)) }
 {
+    if let Some(host) = request.uri().host() {
+        return Ok(Some(String::from_str(alloc, host)?));
+    }
     match request.headers().get(HOST) {
         Some(value) => host_in(alloc, value),
         None => Ok(None),
@@ -123,6 +129,37 @@ fn host_in(alloc: Global, value: &HeaderValue) -> Result<Option<String>, AllocEr
         Err(UriError::Invalid(_)) => Ok(None),
         Err(UriError::OutOfMemory) => Err(AllocError),
     }
+}
+
+/// Tells the span of a request its route, as `/users/{id}`: a text of the program's own, of which there are few. The span
+/// is named after it. On an error nothing changes.
+pub fn record_route(
+    alloc: Global,
+    span: &mut Span,
+    method: &Method,
+    route: &str,
+) -> Result<(), AllocError>
+    ensures ok { OnOk result (span.new ≡ after (route_edits method.now route.now) span.old) }
+    ensures err { OnErr result (span.new ≡ span.old) }
+    ensures edits { IsEdited span.old span.new }
+{
+    let name = route_name(alloc, method, route)?;
+    let attribute = text_attribute(alloc, ROUTE, route)?;
+    span.set_attribute(attribute)?;
+    let Ok(()) = span.update_name(name) else {
+        unreachable!();
+    };
+    Ok(())
+}
+
+/// The name of a span with a route.
+fn route_name(alloc: Global, method: &Method, route: &str) -> Result<String, AllocError>
+    ensures { IfOk result (λ name. string_bytes name ≡ method_name method.now ++ space ∷ route.now) }
+{
+    let mut name = String::from_str(alloc, method_name(method))?;
+    name.push_str(" ")?;
+    name.push_str(route)?;
+    Ok(name)
 }
 
 /// What a span has of its response. Statuses from the first error on are named as errors.

@@ -2,6 +2,7 @@
 //! Traces across HTTP: header maps as carriers, a server's span around each request of a service, and a client's span.
 #![tactic(auto)]
 
+mod client;
 mod conventions;
 mod fields;
 mod header_extractor;
@@ -11,6 +12,8 @@ mod propagation;
 mod traced;
 mod traced_service;
 
+pub use client::{client_span, inject_request, record_response};
+pub use conventions::record_route;
 pub use header_extractor::HeaderExtractor;
 pub use header_injector::{HeaderInjector, SetHeaderError};
 pub use propagation::{extract_context, extract_headers, inject_context, inject_headers};

@@ -60,6 +60,10 @@ impl<V, P, S, G, C> Model for Traced<V, P, S, G, C> {
 }
 
 impl<V, P, S, G, C> Traced<V, P, S, G, C> {
+    ghost use Rattle.std.specs.Borrow.{Lends, sem};
+    ghost use Rattle.otel_http.specs.contracts.traced.Traced.{the_row};
+    ghost use Rattle.otel_pipeline.specs.contracts.trace.provider.ProviderOf.{the_row as provider_row};
+
     /// A service whose requests start spans at this provider, under the scope of this tracer, at moments that the clock
     /// tells.
     pub fn new(
@@ -97,6 +101,32 @@ impl<V, P, S, G, C> Traced<V, P, S, G, C> {
     {
         self.keeps_query = true;
         self
+    }
+
+    /// The service, the provider, which is to be closed, and the clock.
+    pub fn into_parts(self) -> (V, ProviderOf<P, S, G>, C)
+        ensures { result ≡ (self.service, self.provider, self.clock) }
+    {
+        let Traced {
+            alloc: _,
+            service,
+            provider,
+            tracer: _,
+            clock,
+            keeps_query: _,
+            untraced: _,
+            unfinished: _,
+        } = self;
+        (service, provider, clock)
+    }
+
+    /// The provider, to be flushed or told the time between requests.
+    pub fn provider_mut(&mut self) -> &mut ProviderOf<P, S, G>
+        ensures* writes_back { sem 𝓛 (Lends (the_row V.row P.row S.row G.row C.row) (provider_row P.row S.row G.row)
+            self.entry result (λ provider. record self.old { provider = provider })) }
+        ensures value { result.now ≡ self.old.provider }
+    {
+        &mut self.provider
     }
 
     /// How many requests were served without a span, since there was no memory for one.
