@@ -73,7 +73,7 @@ pub joined_hidden : (values : List FieldValue) (v : FieldValue) (rest : List Fie
     → joined_text (values ++ v ∷ rest) ≡ None
 joined_hidden values v rest hidden =
     let is : list_all is_visible (values ++ v ∷ rest) ≡ false =
-        rw (list_all-append is_visible values (v ∷ rest), visible_false v.bytes hidden) (and_false (list_all is_visible values)) in
+    rw (list_all-append is_visible values (v ∷ rest), visible_false v.bytes hidden) (and_false (list_all is_visible values)) in
     rw is refl
   where
     and_false : (b : Bool) → (b && false) ≡ false

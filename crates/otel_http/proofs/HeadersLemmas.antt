@@ -119,7 +119,7 @@ pub names_read : (headers : Headers) (names : List (Bor (List ℕ))) → map (λ
 names_read headers names are = λ i d within.
     let same = get_or-map (λ (name : Bor (List ℕ)). name.now) names i d d.now within in
     let kept : All (λ name. IsTrue (is_some (header_texts headers name))) (map (λ name. name.now) names) =
-        rw are (kept_pass (λ name. is_some (header_texts headers name)) (keys headers)) in
+    rw are (kept_pass (λ name. is_some (header_texts headers name)) (keys headers)) in
     subst (λ name. IsSome (header_texts headers name)) same (kept i d.now (omega (arith, length-map names (λ (name : Bor (List ℕ)). name.now))))
 
 -- a name that a filter keeps
@@ -129,13 +129,13 @@ has_kept p [] kept name among passes same = absurd (omega (arith, among.1))
 has_kept p (other ∷ names) kept name among passes same =
     elim (Contains-append_cases (other ∷ []) names kept among) [
       | inl first ↦ elim (Contains-push_cases [] other kept first) [
-          | inl none ↦ absurd (omega (arith, none.1))
-          | inr is ↦ let t : p other ≡ true = rw is passes in rw t (inl (ap lowercase is ∙ same))
-        ]
+        | inl none ↦ absurd (omega (arith, none.1))
+        | inr is ↦ let t : p other ≡ true = rw is passes in rw t (inl (ap lowercase is ∙ same))
+      ]
       | inr later ↦ elim (cases_Bool (p other)) [
-          | inl t ↦ rw t (inr (has_kept p names kept name later passes same))
-          | inr f ↦ rw f (has_kept p names kept name later passes same)
-        ]
+        | inl t ↦ rw t (inr (has_kept p names kept name later passes same))
+        | inr f ↦ rw f (has_kept p names kept name later passes same)
+      ]
     ]
 
 -- each name that carries a text is listed

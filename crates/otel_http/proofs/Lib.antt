@@ -1,4 +1,3 @@
 pub mod FieldsLemmas
 pub mod HeadersLemmas
 pub mod LawLemmas
-pub mod ServingLemmas

@@ -7,12 +7,11 @@ use Rattle.http.specs.declared.request.Parts.{Parts}
 use Rattle.http.specs.Request.{head_of}
 use Rattle.http_server.specs.declared.response.Response.{Response}
 use Rattle.http_server.specs.Response.{IsResponse}
-use Rattle.opentelemetry.specs.Plain.{PlainContext, PlainKeyValue, PlainScope, PlainSpanContext, error}
-use Rattle.opentelemetry.specs.PlainContexts.{current_span_context, root_cx}
+use Rattle.opentelemetry.specs.Plain.{PlainContext, PlainKeyValue, PlainScope, error}
+use Rattle.opentelemetry.specs.PlainContexts.{root_cx}
 use Rattle.opentelemetry.specs.PlainSpanBuilder.{PlainSpanBuilder, named_builder}
 use Rattle.opentelemetry.specs.declared.trace.span_kind.SpanKind.{SpanKind}
 use Rattle.opentelemetry.specs.declared.trace.span_kind.SpanKind.TheVariants.{Client, Server}
-use Rattle.otel_export.specs.PlainSpanData.{PlainSpanData}
 use Rattle.otel_sampling.specs.declared.trace.sampler.ShouldSample as sampling
 use Rattle.otel_sampling.specs.declared.trace.id_generator.GivesIds as drawing
 use Rattle.otel_pipeline.specs.Ending.{EndIsInfallible}
@@ -43,9 +42,9 @@ pub record IsBuilder (kind : SpanKind) (keeps_query : Bool) (head : Parts) (buil
   pub attributes : List PlainKeyValue
   pub has : HasRequestAttributes keeps_query head attributes
   pub is : builder ≡ record (named_builder (method_name head.method)) {
-        span_kind = Some kind;
-        attributes = Some attributes;
-      }
+    span_kind = Some kind;
+    attributes = Some attributes;
+  }
 
 -- of a request that is served, and of one to another service
 abbrev pub IsServerBuilder : Bool → Parts → PlainSpanBuilder → Type 0
@@ -108,10 +107,10 @@ module _ {V P S G C : Type 0} (serves : Serving V P S G) where
     pub serves_once : ServesOnce serves old.service request cx (lent span old.provider) response left new.service
     pub provider : new.provider ≡ left.provider
     pub rest : new ≡ record old {
-          service = new.service;
-          provider = new.provider;
-          untraced = one_more old.untraced;
-        }
+      service = new.service;
+      provider = new.provider;
+      untraced = one_more old.untraced;
+    }
 
 module _ {V P S G C : Type 0} (calls : Ghosts P) (may_tell : C → ℕ → Type 0) (serves : Serving V P S G) where
   -- a request was served inside a span, in this context; the span was told of the response, and ended. What it was told
@@ -144,18 +143,12 @@ module _ {V P S G C : Type 0} (calls : Ghosts P) (sampler : sampling.Ghosts S) (
     pub inside : ServesInside calls may_tell serves span (record old { provider = started }) request (active_in cx span)
         response new
 
-  -- the span of such a request as it ends
-  abbrev pub ended_span : {old : TracedState V P S G C} {request : Request (List ℕ)} {cx : PlainContext} {response : Response}
-      {new : TracedState V P S G C} → ServesTraced old request cx response new → PlainSpan
-  ended_span {response = response} served =
-      after (response_edits FIRST_FAILURE served.inside.whole response.status) served.inside.left.span
-
   -- a start was tried at most
   abbrev pub TriesStart : TracedState V P S G C → Request (List ℕ) → PlainContext → ProviderState P S G → Type 0
   TriesStart old request cx between =
       (between ≡ old.provider)
       ⊎ ((builder : PlainSpanBuilder) × IsServerBuilder old.keeps_query (head_of request) builder
-        × StartsAtMost calls sampler ids (may_tell old.clock) (beginning_of old builder cx) between)
+      × StartsAtMost calls sampler ids (may_tell old.clock) (beginning_of old builder cx) between)
 
   -- a request was served without a span, since there was no memory for one
   pub record ServesUntraced (old : TracedState V P S G C) (request : Request (List ℕ)) (cx : PlainContext)
@@ -174,11 +167,3 @@ module _ {V P S G C : Type 0} (calls : Ghosts P) (sampler : sampling.Ghosts S) (
   TracesRequest old request response new =
       ((cx : PlainContext) × IsContextOf (head_of request).headers cx × ServesIn old request cx response new)
       ⊎ ServesWithout serves old request root_cx response new
-
--- what is recorded of a request that is served in a context: a server's span, whose parent is the context's span and
--- whose trace is that one's; in a root's context, of no parent and a trace of its own
-pub record IsServerSpan (cx : PlainContext) (data : PlainSpanData) : Type 0 where
-  pub kind : data.span_kind ≡ Server
-  pub parent : data.parent_span_id ≡ (current_span_context cx).span_id
-  pub trace : (parent : PlainSpanContext) → cx.span_context ≡ Some parent
-      → data.span_context.trace_id ≡ parent.trace_id

@@ -7,10 +7,10 @@ ghost use Rattle.otel_http.specs.Contexts.{InjectsContext};
 ghost use Rattle.otel_http.specs.Injection.{carrier_answer};
 ghost use Rattle.otel_http.specs.Serving.{IsClientBuilder, response_edits};
 
+use crate::SetHeaderError;
 use crate::conventions::{method_name, request_attributes};
 use crate::propagation::inject_context;
 use crate::traced::conclude;
-use crate::SetHeaderError;
 use http::{Request, StatusCode};
 use opentelemetry::Context;
 use opentelemetry::trace::{SpanBuilder, SpanKind};
@@ -42,7 +42,11 @@ pub fn client_span<B>(alloc: Global, request: &Request<B>) -> Result<SpanBuilder
 {
     let attributes = request_attributes(alloc, request, false)?;
     let name = String::from_str(alloc, method_name(request.method()))?;
-    Ok(SpanBuilder::from_name(name).with_kind(SpanKind::Client).with_attributes(attributes))
+    Ok(
+        SpanBuilder::from_name(name)
+            .with_kind(SpanKind::Client)
+            .with_attributes(attributes),
+    )
 }
 
 /// Tells the span of a request to another service what came back. Statuses from 400 on are errors for a client. Where

@@ -15,11 +15,17 @@ use otel_pipeline::trace::Span;
 use std::alloc::{AllocError, Global};
 
 const METHOD: &str = "http.request.method";
+
 const PATH: &str = "url.path";
+
 const QUERY: &str = "url.query";
+
 const ADDRESS: &str = "server.address";
+
 const STATUS: &str = "http.response.status_code";
+
 const ERROR_TYPE: &str = "error.type";
+
 const ROUTE: &str = "http.route";
 
 /// Whether the conventions know a method.
@@ -88,9 +94,18 @@ pub(crate) fn request_attributes<B>(
     ensures { IfOk result (λ attributes. HasRequestAttributes keeps_query (head_of request.now) attributes.items) }
 {
     let host = host_of(alloc, request)?;
-    let query = if keeps_query { request.uri().query() } else { None };
+    let query = if keeps_query {
+        request.uri().query()
+    } else {
+        None
+    };
     let mut attributes = Vec::new(alloc);
-    push_text(&mut attributes, alloc, METHOD, Some(method_value(request.method())))?;
+    push_text(
+        &mut attributes,
+        alloc,
+        METHOD,
+        Some(method_value(request.method())),
+    )?;
     push_text(&mut attributes, alloc, PATH, Some(request.uri().path()))?;
     push_text(&mut attributes, alloc, QUERY, query)?;
     push_text(&mut attributes, alloc, ADDRESS, text_in(&host))?;

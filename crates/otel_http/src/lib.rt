@@ -19,22 +19,3 @@ pub use header_injector::{HeaderInjector, SetHeaderError};
 pub use propagation::{extract_context, extract_headers, inject_context, inject_headers};
 pub use traced::Traced;
 pub use traced_service::TracedService;
-
-#[cfg(test)]
-mod tests {
-    use super::*;
-    use http_header::HeaderMap;
-    use opentelemetry::propagation::{Extractor, Injector};
-    use std::test::Fail;
-
-    #[test]
-    fn sets_and_reads(rt: HostRuntime) -> Result<(), Fail> {
-        let alloc = rt.alloc();
-        let mut injector = HeaderInjector::new(alloc, HeaderMap::new(alloc));
-        injector.set("TraceState", String::from_str(alloc, "a=1")?)?;
-        let headers = injector.into_headers();
-        let extractor = HeaderExtractor::new(alloc, &headers)?;
-        assert_eq!(rt; extractor.get("tracestate"), Some("a=1"));
-        Ok(())
-    }
-}

@@ -145,17 +145,14 @@ impl<V, P, S, G, C> Traced<V, P, S, G, C> {
     }
 }
 
-impl<V: TracedService<P, S, G>, P: SpanProcessor, S: ShouldSample, G: GivesIds, C: Now> Service for Traced<V, P, S, G, C> {
+impl<V: TracedService<P, S, G>, P: SpanProcessor, S: ShouldSample, G: GivesIds, C: Now> Service
+    for Traced<V, P, S, G, C> {
     ghost use Rattle.otel_http.specs.Serving.{TracesRequest};
 
     ghost answers = { TracesRequest P.SpanProcessor S.ShouldSample G.GivesIds C.may_tell V.serves };
 
     /// Always `Ok`: tracing never stands in the way.
-    fn call(
-        &mut self,
-        request: &Request<Bytes>,
-        response: &mut Response,
-    ) -> Result<(), AllocError>
+    fn call(&mut self, request: &Request<Bytes>, response: &mut Response) -> Result<(), AllocError>
         requires { IsBlank response.old }
         ensures ok { OnOk result (TracesRequest P.SpanProcessor S.ShouldSample G.GivesIds C.may_tell V.serves
             self.old request.now response.new self.new) }
@@ -170,7 +167,13 @@ impl<V: TracedService<P, S, G>, P: SpanProcessor, S: ShouldSample, G: GivesIds, 
     }
 }
 
-impl<V: TracedService<P, S, G>, P: SpanProcessor, S: ShouldSample, G: GivesIds, C: Now> Traced<V, P, S, G, C> {
+impl<V: TracedService<P, S, G>, P: SpanProcessor, S: ShouldSample, G: GivesIds, C: Now> Traced<
+    V,
+    P,
+    S,
+    G,
+    C,
+> {
     /// Serves a request in a context, inside a span where there is memory for one.
     fn serve_in(&mut self, request: &Request<Bytes>, cx: &Context, response: &mut Response)
         requires { IsBlank response.old }
@@ -194,7 +197,14 @@ impl<V: TracedService<P, S, G>, P: SpanProcessor, S: ShouldSample, G: GivesIds, 
             self.new }
     {
         let Begun { mut span, cx } = begun;
-        ask(&mut self.service, request, &cx, &mut span, &mut self.provider, response);
+        ask(
+            &mut self.service,
+            request,
+            &cx,
+            &mut span,
+            &mut self.provider,
+            response,
+        );
         let told = conclude(self.alloc, &mut span, response.status, FIRST_FAILURE);
         let ended = end_or_drop(span, &mut self.provider, self.clock.now());
         let is_told = told.is_ok();
@@ -208,7 +218,14 @@ impl<V: TracedService<P, S, G>, P: SpanProcessor, S: ShouldSample, G: GivesIds, 
         ensures { ServesWithout V.serves self.old request.now cx.now response.new self.new }
     {
         let mut span = silent_span(self.alloc, &self.tracer, &mut self.provider);
-        ask(&mut self.service, request, cx, &mut span, &mut self.provider, response);
+        ask(
+            &mut self.service,
+            request,
+            cx,
+            &mut span,
+            &mut self.provider,
+            response,
+        );
         span.abandon();
         self.untraced = self.untraced.saturating_add(1);
     }
@@ -285,7 +302,11 @@ fn server_builder(
 {
     let attributes = request_attributes(alloc, request, keeps_query)?;
     let name = String::from_str(alloc, method_name(request.method()))?;
-    Ok(SpanBuilder::from_name(name).with_kind(SpanKind::Server).with_attributes(attributes))
+    Ok(
+        SpanBuilder::from_name(name)
+            .with_kind(SpanKind::Server)
+            .with_attributes(attributes),
+    )
 }
 
 /// Tells a span of its response. Where there is no memory it is told its status alone.

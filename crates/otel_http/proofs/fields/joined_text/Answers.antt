@@ -26,21 +26,23 @@ loop-value-preserved c =
     let v = c.in-Some.value.now in
     let push = map-append (λ (value : Bor FieldValue). value.now) c.loop-value.yielded (c.in-Some.value ∷ []) in
     let text : string_bytes c.push_str-in-loop-value.new.self ≡ joined (values ++ v ∷ []) =
-        elim c.if-not-is_first.branch [
-          | then-not-is_first+in_ok-push_str w ↦
-              c.in_ok-push_str-2.ensures.bytes
-              ∙ ap (λ t. t ++ c.in-Ok.value.now) (ap string_bytes w.text-is ∙ w.in_ok-push_str.ensures.bytes ∙ ap (λ t. t ++ comma ∷ []) c.loop-value.invariant.0)
-              ∙ ap (λ t. (joined values ++ comma ∷ []) ++ t) c.in-Ok.ensures.ok
-              ∙ sym (joined_later values v (sym c.loop-value.invariant.1 ∙ w.if-not-is_first.true))
-          | else-not-is_first w ↦
-              c.in_ok-push_str-2.ensures.bytes
-              ∙ ap (λ t. t ++ c.in-Ok.value.now) (ap string_bytes w.text-is ∙ c.loop-value.invariant.0)
-              ∙ ap (λ t. joined values ++ t) c.in-Ok.ensures.ok
-              ∙ sym (joined_first values v (sym c.loop-value.invariant.1 ∙ w.if-not-is_first.false))
-        ] in
-    (text ∙ sym (ap joined push), sym (ap (λ xs. nat_eq (length xs) 0) push ∙ nat_eq-push values v),
-    ap (list_all is_visible) push ∙ visible_push values v c.loop-value.invariant.2 (c.in-Ok.ensures.succeeds.0 refl),
-    ap (λ xs. xs ++ c.next.new.self) push ∙ more_left values v c.next.new.self _ _ c.in-Some.ensures.steps c.loop-value.invariant.3)
+    elim c.if-not-is_first.branch [
+      | then-not-is_first+in_ok-push_str w ↦
+          c.in_ok-push_str-2.ensures.bytes
+          ∙ ap (λ t. t ++ c.in-Ok.value.now) (ap string_bytes w.text-is ∙ w.in_ok-push_str.ensures.bytes ∙ ap (λ t. t ++ comma ∷ []) c.loop-value.invariant.0)
+          ∙ ap (λ t. (joined values ++ comma ∷ []) ++ t) c.in-Ok.ensures.ok
+          ∙ sym (joined_later values v (sym c.loop-value.invariant.1 ∙ w.if-not-is_first.true))
+      | else-not-is_first w ↦
+          c.in_ok-push_str-2.ensures.bytes
+          ∙ ap (λ t. t ++ c.in-Ok.value.now) (ap string_bytes w.text-is ∙ c.loop-value.invariant.0)
+          ∙ ap (λ t. joined values ++ t) c.in-Ok.ensures.ok
+          ∙ sym (joined_first values v (sym c.loop-value.invariant.1 ∙ w.if-not-is_first.false))
+    ] in (
+      text ∙ sym (ap joined push),
+      sym (ap (λ xs. nat_eq (length xs) 0) push ∙ nat_eq-push values v),
+      ap (list_all is_visible) push ∙ visible_push values v c.loop-value.invariant.2 (c.in-Ok.ensures.succeeds.0 refl),
+      ap (λ xs. xs ++ c.next.new.self) push ∙ more_left values v c.next.new.self _ _ c.in-Some.ensures.steps c.loop-value.invariant.3,
+    )
 
 pub returns : goal.returns
 returns c =

@@ -6,5 +6,5 @@ use Rattle.otel_http.proofs.header_extractor.names_of.Given as goal
 abbrev pub invariant-loop-name : goal.invariant-loop-name
 invariant-loop-name l =
     (map (λ name. name.now) l.names.items
-      ≡ filter (λ name. is_some (header_texts l.headers name)) (map (λ name. name.now) l.yielded))
+    ≡ filter (λ name. is_some (header_texts l.headers name)) (map (λ name. name.now) l.yielded))
     × (map (λ name. name.now) l.yielded ++ l.name-iterator ≡ keys l.headers)
