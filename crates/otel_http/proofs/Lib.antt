@@ -1,3 +1,4 @@
 pub mod FieldsLemmas
 pub mod HeadersLemmas
 pub mod LawLemmas
+pub mod ServingLemmas

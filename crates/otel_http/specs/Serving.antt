@@ -7,11 +7,12 @@ use Rattle.http.specs.declared.request.Parts.{Parts}
 use Rattle.http.specs.Request.{head_of}
 use Rattle.http_server.specs.declared.response.Response.{Response}
 use Rattle.http_server.specs.Response.{IsResponse}
-use Rattle.opentelemetry.specs.Plain.{PlainContext, PlainKeyValue, PlainScope, error}
-use Rattle.opentelemetry.specs.PlainContexts.{root_cx}
+use Rattle.opentelemetry.specs.Plain.{PlainContext, PlainKeyValue, PlainScope, PlainSpanContext, error}
+use Rattle.opentelemetry.specs.PlainContexts.{current_span_context, root_cx}
 use Rattle.opentelemetry.specs.PlainSpanBuilder.{PlainSpanBuilder, named_builder}
 use Rattle.opentelemetry.specs.declared.trace.span_kind.SpanKind.{SpanKind}
 use Rattle.opentelemetry.specs.declared.trace.span_kind.SpanKind.TheVariants.{Client, Server}
+use Rattle.otel_export.specs.PlainSpanData.{PlainSpanData}
 use Rattle.otel_sampling.specs.declared.trace.sampler.ShouldSample as sampling
 use Rattle.otel_sampling.specs.declared.trace.id_generator.GivesIds as drawing
 use Rattle.otel_pipeline.specs.Ending.{EndIsInfallible}
@@ -143,6 +144,12 @@ module _ {V P S G C : Type 0} (calls : Ghosts P) (sampler : sampling.Ghosts S) (
     pub inside : ServesInside calls may_tell serves span (record old { provider = started }) request (active_in cx span)
         response new
 
+  -- the span of such a request as it ends
+  abbrev pub ended_span : {old : TracedState V P S G C} {request : Request (List ℕ)} {cx : PlainContext} {response : Response}
+      {new : TracedState V P S G C} → ServesTraced old request cx response new → PlainSpan
+  ended_span {response = response} served =
+      after (response_edits FIRST_FAILURE served.inside.whole response.status) served.inside.left.span
+
   -- a start was tried at most
   abbrev pub TriesStart : TracedState V P S G C → Request (List ℕ) → PlainContext → ProviderState P S G → Type 0
   TriesStart old request cx between =
@@ -167,3 +174,11 @@ module _ {V P S G C : Type 0} (calls : Ghosts P) (sampler : sampling.Ghosts S) (
   TracesRequest old request response new =
       ((cx : PlainContext) × IsContextOf (head_of request).headers cx × ServesIn old request cx response new)
       ⊎ ServesWithout serves old request root_cx response new
+
+-- what is recorded of a request that is served in a context: a server's span, whose parent is the context's span and
+-- whose trace is that one's; in a root's context, of no parent and a trace of its own
+pub record IsServerSpan (cx : PlainContext) (recorded : PlainSpanData) : Type 0 where
+  pub kind : recorded.span_kind ≡ Server
+  pub parent : recorded.parent_span_id ≡ (current_span_context cx).span_id
+  pub trace : (parent : PlainSpanContext) → cx.span_context ≡ Some parent
+      → recorded.span_context.trace_id ≡ parent.trace_id

@@ -1,9 +1,11 @@
 //! The laws of headers as carriers, over the definitions alone. Each function does nothing; its contract is the law, for
 //! all values.
 
-ghost use Rattle.std.specs.Prelude.{◌≡◌, ◌≢◌, ◌≤◌, ◌∷◌, [], List, Ok, length};
+ghost use Rattle.std.specs.Prelude.{◌≡◌, ◌≢◌, ◌≤◌, ◌∷◌, [], IfSome, List, Ok, length, ℕ};
 ghost use Rattle.http_header.specs.FieldValue.{FieldValue};
 ghost use Rattle.http_header.specs.HeaderMap.{get_all};
+ghost use Rattle.http.specs.declared.request.Request.{Request};
+ghost use Rattle.http_server.specs.declared.response.Response.{Response};
 ghost use Rattle.opentelemetry.specs.Baggage.{HasDistinctNames, IsWithinLimits};
 ghost use Rattle.opentelemetry.specs.Plain.{PlainContext};
 ghost use Rattle.opentelemetry.specs.PlainContexts.{current_span_context};
@@ -12,9 +14,13 @@ ghost use Rattle.otel_propagation.specs.StrictBaggage.{ExtractsStrictBaggage, In
 ghost use Rattle.otel_propagation.specs.Traceparent.{CarriesSpan, ExtractsTraceContext, InjectsTraceContext};
 ghost use Rattle.otel_propagation.specs.Traceparent.{IsSpanContext, IsValid, traceparent_field};
 ghost use Rattle.otel_http.specs.Headers.{Headers, header_texts};
+ghost use Rattle.otel_http.specs.Serving.{IsServerSpan, ServesTraced, TracedState, ended_span};
 
+use crate::TracedService;
+use otel_pipeline::trace::{Now, SpanProcessor};
 use otel_propagation::laws::injected_span_context_is_carried;
 use otel_propagation::strict_laws::{strict_headers_are_of_the_grammar, strict_headers_are_read};
+use otel_sampling::trace::{GivesIds, ShouldSample};
 
 /// What is written of a valid span context into headers, whoever gets these headers extracts.
 pub fn headers_carry_span_contexts()
@@ -44,4 +50,20 @@ pub fn two_traceparents_say_nothing()
     ensures { (headers : Headers) (first second : FieldValue) (more : List FieldValue) (cx found : PlainContext)
         → get_all headers traceparent_field ≡ first ∷ second ∷ more
         → ExtractsTraceContext cx (header_texts headers) found → found ≡ cx }
+{}
+
+/// What a span records of a request says whose it is: it is a server's span, below the span of the context that the
+/// request's headers carry, and of that one's trace.
+pub fn served_spans_follow_their_headers<
+    V: TracedService<P, S, G>,
+    P: SpanProcessor,
+    S: ShouldSample,
+    G: GivesIds,
+    C: Now,
+>()
+    ensures { (old new : TracedState V P S G C) (request : Request (List ℕ)) (cx : PlainContext) (response : Response)
+        → (served : ServesTraced P.SpanProcessor S.ShouldSample G.GivesIds C.may_tell V.serves old request cx response
+        new)
+        → IfSome (ended_span P.SpanProcessor S.ShouldSample G.GivesIds C.may_tell V.serves served).recorded
+        (IsServerSpan cx) }
 {}
