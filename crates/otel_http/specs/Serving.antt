@@ -35,8 +35,8 @@ lent span provider = record { span = span; provider = provider }
 -- what a service does with a request in a context: what it was lent, what it answers and responds, what it leaves of
 -- what it was lent, and itself after
 abbrev pub Serving : (V P S G : Type 0) → Type 1
-Serving V P S G = V → Request (List ℕ) → PlainContext → Lent P S G → Result (Unit {0}) AllocError → Response → Lent P S G → V
-    → Type 0
+Serving V P S G = V → Request (List ℕ) → PlainContext → Lent P S G → Result (Unit {0}) AllocError → Response
+    → Lent P S G → V → Type 0
 
 -- what the builder of a request's span has: the method as its name, a kind, and attributes
 pub record IsBuilder (kind : SpanKind) (keeps_query : Bool) (head : Parts) (builder : PlainSpanBuilder) : Type 0 where
@@ -75,8 +75,8 @@ Responds (Err _) given response = IsResponse 500 [] [] response
 
 module _ {V P S G : Type 0} (serves : Serving V P S G) where
   -- the service was asked once, with what it was lent, and its answer is the response
-  pub record ServesOnce (old : V) (request : Request (List ℕ)) (cx : PlainContext) (given : Lent P S G) (response : Response)
-      (left : Lent P S G) (new : V) : Type 0 where
+  pub record ServesOnce (old : V) (request : Request (List ℕ)) (cx : PlainContext) (given : Lent P S G)
+      (response : Response) (left : Lent P S G) (new : V) : Type 0 where
     pub answer : Result (Unit {0}) AllocError
     pub own : Response
     pub served : serves old request cx given answer own left new
@@ -95,7 +95,8 @@ pub record TracedState (V P S G C : Type 0) : Type 0 where
   pub unfinished : ℕ
 
 -- where the span of a request begins
-abbrev pub beginning_of : {V P S G C : Type 0} → TracedState V P S G C → PlainSpanBuilder → PlainContext → Beginning P S G
+abbrev pub beginning_of : {V P S G C : Type 0} → TracedState V P S G C → PlainSpanBuilder → PlainContext
+    → Beginning P S G
 beginning_of old builder cx = beginning old.scope builder cx old.provider
 
 module _ {V P S G C : Type 0} (serves : Serving V P S G) where
@@ -116,16 +117,16 @@ module _ {V P S G C : Type 0} (serves : Serving V P S G) where
 module _ {V P S G C : Type 0} (calls : Ghosts P) (may_tell : C → ℕ → Type 0) (serves : Serving V P S G) where
   -- a request was served inside a span, in this context; the span was told of the response, and ended. What it was told
   -- and where it ended is lost only where there was no memory, and then counts
-  pub record ServesInside (span : PlainSpan) (old : TracedState V P S G C) (request : Request (List ℕ)) (cx : PlainContext)
-      (response : Response) (new : TracedState V P S G C) : Type 0 where
+  pub record ServesInside (span : PlainSpan) (old : TracedState V P S G C) (request : Request (List ℕ))
+      (cx : PlainContext) (response : Response) (new : TracedState V P S G C) : Type 0 where
     pub left : Lent P S G
     pub serves_once : ServesOnce serves old.service request cx (lent span old.provider) response left new.service
     pub whole : Bool
     pub end : ℕ
     pub told : may_tell old.clock end
     pub ended : Result ℕ AllocError
-    pub ends : EndsOrDrops calls left.provider (after (response_edits FIRST_FAILURE whole response.status) left.span) end
-        ended new.provider
+    pub ends : EndsOrDrops calls left.provider
+        (after (response_edits FIRST_FAILURE whole response.status) left.span) end ended new.provider
     pub free : EndIsInfallible (after (response_edits FIRST_FAILURE whole response.status) left.span) left.provider
         → IsOk ended
     pub unfinished : new.unfinished ≡ (if whole && is_ok ended then old.unfinished else one_more old.unfinished)
@@ -145,8 +146,8 @@ module _ {V P S G C : Type 0} (calls : Ghosts P) (sampler : sampling.Ghosts S) (
         response new
 
   -- the span of such a request as it ends
-  abbrev pub ended_span : {old : TracedState V P S G C} {request : Request (List ℕ)} {cx : PlainContext} {response : Response}
-      {new : TracedState V P S G C} → ServesTraced old request cx response new → PlainSpan
+  abbrev pub ended_span : {old : TracedState V P S G C} {request : Request (List ℕ)} {cx : PlainContext}
+      {response : Response} {new : TracedState V P S G C} → ServesTraced old request cx response new → PlainSpan
   ended_span {response = response} served =
       after (response_edits FIRST_FAILURE served.inside.whole response.status) served.inside.left.span
 
@@ -165,8 +166,10 @@ module _ {V P S G C : Type 0} (calls : Ghosts P) (sampler : sampling.Ghosts S) (
     pub without : ServesWithout serves (record old { provider = between }) request cx response new
 
   -- a request was served in a context, traced or not
-  abbrev pub ServesIn : TracedState V P S G C → Request (List ℕ) → PlainContext → Response → TracedState V P S G C → Type 0
-  ServesIn old request cx response new = ServesTraced old request cx response new ⊎ ServesUntraced old request cx response new
+  abbrev pub ServesIn : TracedState V P S G C → Request (List ℕ) → PlainContext → Response → TracedState V P S G C
+      → Type 0
+  ServesIn old request cx response new =
+      ServesTraced old request cx response new ⊎ ServesUntraced old request cx response new
 
   -- what a request does: it is served in the context of its headers; where there was no memory to read them it is served
   -- untraced in a root's context

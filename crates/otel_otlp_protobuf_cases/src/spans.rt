@@ -23,20 +23,13 @@ fn context_of(alloc: Global, dice: &mut Dice) -> Result<SpanContext, AllocError>
     let flags = TraceFlags::new(dice.below(256) as u8);
     let is_remote = dice.coin();
     let state = state_of(alloc, dice)?;
-    Ok(SpanContext::new(
-        trace_id, span_id, flags, is_remote, state,
-    ))
+    Ok(SpanContext::new(trace_id, span_id, flags, is_remote, state))
 }
 
 fn event_of(alloc: Global, dice: &mut Dice) -> Result<Event, AllocError> {
     let name = text_of(alloc, dice)?;
     let attributes = attributes_of(alloc, dice)?;
-    Ok(Event::new(
-        name,
-        Moment(dice.number()),
-        attributes,
-        dice.count(),
-    ))
+    Ok(Event::new(name, Moment(dice.number()), attributes, dice.count()))
 }
 
 fn events_of(alloc: Global, dice: &mut Dice) -> Result<SpanEvents, AllocError> {

@@ -1,8 +1,9 @@
 //! The span of the tests.
 
 use opentelemetry::trace::{Event, Link, SpanContext, SpanKind, Status, TraceState};
-use opentelemetry::{Array, InstrumentationScope, Key, KeyValue, Moment, SpanId};
-use opentelemetry::{TraceFlags, TraceId, Value};
+use opentelemetry::{
+    Array, InstrumentationScope, Key, KeyValue, Moment, SpanId, TraceFlags, TraceId, Value,
+};
 use otel_export::trace::{SpanData, SpanEvents, SpanLinks};
 use std::alloc::Global;
 use std::process::Abort;
