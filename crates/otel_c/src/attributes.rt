@@ -1,9 +1,9 @@
 //! Attributes that are gathered for what comes next.
 
-ghost use Rattle.std.specs.Prelude.{◌≡◌, ◌==◌, List, not};
+ghost use Rattle.std.specs.Prelude.{◌≡◌, ◌≢◌, ◌==◌, List, map, not};
 ghost use Rattle.opentelemetry.specs.Plain.{boolean, booleans, integer, integers, text, texts};
-ghost use Rattle.otel_c.specs.Handles.{Gathers, Turns};
-ghost use Rattle.otel_embed.specs.HostValues.{IsValueOf};
+ghost use Rattle.otel_c.specs.Handles.{Gathers, Turns, TurnsIfOpen};
+ghost use Rattle.otel_embed.specs.HostValues.{AreTexts, IsValueOf, truth_of};
 
 use crate::handle::Handle;
 use crate::status::{OTEL_CLOSED, status_of_result};
@@ -14,7 +14,8 @@ use std::alloc::Global;
 fn gather(alloc: Global, handle: &mut Handle, key: &[u8], value: HostValue<'_>) -> u32
     ensures ok { result ≡ 0 → Turns (Gathers key.now (IsValueOf value.entry))
         handle.old.held.pipeline handle.new.held.pipeline }
-    ensures open { handle.new.is_open ≡ handle.old.is_open }
+    ensures stays { result ≢ 0 → TurnsIfOpen (λ p q. q.inside ≡ p.inside)
+        handle.old.held.pipeline handle.new.held.pipeline }
 {
     let Some(mut pipeline) = handle.take(alloc) else {
         return OTEL_CLOSED;
@@ -33,7 +34,8 @@ pub extern "C" fn otel_with_text(
 ) -> u32
     ensures ok { result ≡ 0 → Turns (Gathers key.now (λ made. made ≡ text value.now))
         handle.old.held.pipeline handle.new.held.pipeline }
-    ensures open { handle.new.is_open ≡ handle.old.is_open }
+    ensures stays { result ≢ 0 → TurnsIfOpen (λ p q. q.inside ≡ p.inside)
+        handle.old.held.pipeline handle.new.held.pipeline }
 {
     gather(alloc, handle, key, HostValue::Text(value))
 }
@@ -47,7 +49,8 @@ pub extern "C" fn otel_with_integer(
 ) -> u32
     ensures ok { result ≡ 0 → Turns (Gathers key.now (λ made. made ≡ integer value))
         handle.old.held.pipeline handle.new.held.pipeline }
-    ensures open { handle.new.is_open ≡ handle.old.is_open }
+    ensures stays { result ≢ 0 → TurnsIfOpen (λ p q. q.inside ≡ p.inside)
+        handle.old.held.pipeline handle.new.held.pipeline }
 {
     gather(alloc, handle, key, HostValue::Integer(value))
 }
@@ -56,7 +59,8 @@ pub extern "C" fn otel_with_integer(
 pub extern "C" fn otel_with_bool(alloc: Global, handle: &mut Handle, key: &[u8], value: u32) -> u32
     ensures ok { result ≡ 0 → Turns (Gathers key.now (λ made. made ≡ boolean (not (value == 0))))
         handle.old.held.pipeline handle.new.held.pipeline }
-    ensures open { handle.new.is_open ≡ handle.old.is_open }
+    ensures stays { result ≢ 0 → TurnsIfOpen (λ p q. q.inside ≡ p.inside)
+        handle.old.held.pipeline handle.new.held.pipeline }
 {
     gather(alloc, handle, key, HostValue::Truth(value != 0))
 }
@@ -69,9 +73,11 @@ pub extern "C" fn otel_with_texts(
     values: &[u8],
     lengths: &[u64],
 ) -> u32
-    ensures ok { result ≡ 0 → Turns (Gathers key.now (λ made. (list : List _) × (made ≡ texts list)))
+    ensures ok { result ≡ 0 → Turns (Gathers key.now (λ made. (list : List _)
+        × AreTexts values.now lengths.now list × (made ≡ texts list)))
         handle.old.held.pipeline handle.new.held.pipeline }
-    ensures open { handle.new.is_open ≡ handle.old.is_open }
+    ensures stays { result ≢ 0 → TurnsIfOpen (λ p q. q.inside ≡ p.inside)
+        handle.old.held.pipeline handle.new.held.pipeline }
 {
     let value = HostValue::Texts {
         texts: values,
@@ -89,7 +95,8 @@ pub extern "C" fn otel_with_integers(
 ) -> u32
     ensures ok { result ≡ 0 → Turns (Gathers key.now (λ made. made ≡ integers values.now))
         handle.old.held.pipeline handle.new.held.pipeline }
-    ensures open { handle.new.is_open ≡ handle.old.is_open }
+    ensures stays { result ≢ 0 → TurnsIfOpen (λ p q. q.inside ≡ p.inside)
+        handle.old.held.pipeline handle.new.held.pipeline }
 {
     gather(alloc, handle, key, HostValue::Integers(values))
 }
@@ -101,9 +108,10 @@ pub extern "C" fn otel_with_bools(
     key: &[u8],
     values: &[u8],
 ) -> u32
-    ensures ok { result ≡ 0 → Turns (Gathers key.now (λ made. (list : List _) × (made ≡ booleans list)))
+    ensures ok { result ≡ 0 → Turns (Gathers key.now (λ made. made ≡ booleans (map truth_of values.now)))
         handle.old.held.pipeline handle.new.held.pipeline }
-    ensures open { handle.new.is_open ≡ handle.old.is_open }
+    ensures stays { result ≢ 0 → TurnsIfOpen (λ p q. q.inside ≡ p.inside)
+        handle.old.held.pipeline handle.new.held.pipeline }
 {
     gather(alloc, handle, key, HostValue::Truths(values))
 }

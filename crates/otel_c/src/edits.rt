@@ -1,12 +1,13 @@
 //! Edits of a span.
 
-ghost use Rattle.std.specs.Prelude.{◌≡◌, ◌==◌, ◌∷◌, [], map, not};
-ghost use Rattle.opentelemetry.specs.Plain.{boolean, integer, text};
+ghost use Rattle.std.specs.Prelude.{◌≡◌, ◌≢◌, ◌==◌, ◌∷◌, [], map, not};
+ghost use Rattle.opentelemetry.specs.Plain.{PlainStatus, boolean, integer, text};
+ghost use Rattle.otel_pipeline.specs.Exceptions.{exception_event};
 ghost use Rattle.otel_pipeline.specs.SpanEdits.{new_event};
-ghost use Rattle.otel_pipeline.specs.SpanHistory.{add_event, set_attribute, update_name};
-ghost use Rattle.otel_c.specs.Handles.{SetsOn, Turns};
-ghost use Rattle.otel_embed.specs.HostValues.{IsValueOf};
-ghost use Rattle.otel_embed.specs.Pipelines.{EditsSpan, LinksTo};
+ghost use Rattle.otel_pipeline.specs.SpanHistory.{add_event, set_attribute, set_status, update_name};
+ghost use Rattle.otel_c.specs.Handles.{SetsOn, Turns, TurnsIfOpen};
+ghost use Rattle.otel_embed.specs.HostValues.{IsStatus, IsValueOf, host_exception};
+ghost use Rattle.otel_embed.specs.Pipelines.{EditsSpan, LinksTo, Stays, taken};
 
 use crate::handle::Handle;
 use crate::status::{OTEL_CLOSED, status_of_result};
@@ -18,7 +19,8 @@ use std::alloc::Global;
 fn set(alloc: Global, handle: &mut Handle, span: u64, key: &[u8], value: HostValue<'_>) -> u32
     ensures ok { result ≡ 0 → Turns (SetsOn span key.now (IsValueOf value.entry))
         handle.old.held.pipeline handle.new.held.pipeline }
-    ensures open { handle.new.is_open ≡ handle.old.is_open }
+    ensures stays { result ≢ 0 → TurnsIfOpen (λ p q. Stays p.inside q.inside)
+        handle.old.held.pipeline handle.new.held.pipeline }
 {
     let Some(mut pipeline) = handle.take(alloc) else {
         return OTEL_CLOSED;
@@ -38,7 +40,8 @@ pub extern "C" fn otel_set_text(
 ) -> u32
     ensures ok { result ≡ 0 → Turns (SetsOn span key.now (λ made. made ≡ text value.now))
         handle.old.held.pipeline handle.new.held.pipeline }
-    ensures open { handle.new.is_open ≡ handle.old.is_open }
+    ensures stays { result ≢ 0 → TurnsIfOpen (λ p q. Stays p.inside q.inside)
+        handle.old.held.pipeline handle.new.held.pipeline }
 {
     set(alloc, handle, span, key, HostValue::Text(value))
 }
@@ -53,7 +56,8 @@ pub extern "C" fn otel_set_integer(
 ) -> u32
     ensures ok { result ≡ 0 → Turns (SetsOn span key.now (λ made. made ≡ integer value))
         handle.old.held.pipeline handle.new.held.pipeline }
-    ensures open { handle.new.is_open ≡ handle.old.is_open }
+    ensures stays { result ≢ 0 → TurnsIfOpen (λ p q. Stays p.inside q.inside)
+        handle.old.held.pipeline handle.new.held.pipeline }
 {
     set(alloc, handle, span, key, HostValue::Integer(value))
 }
@@ -68,16 +72,19 @@ pub extern "C" fn otel_set_bool(
 ) -> u32
     ensures ok { result ≡ 0 → Turns (SetsOn span key.now (λ made. made ≡ boolean (not (value == 0))))
         handle.old.held.pipeline handle.new.held.pipeline }
-    ensures open { handle.new.is_open ≡ handle.old.is_open }
+    ensures stays { result ≢ 0 → TurnsIfOpen (λ p q. Stays p.inside q.inside)
+        handle.old.held.pipeline handle.new.held.pipeline }
 {
     set(alloc, handle, span, key, HostValue::Truth(value != 0))
 }
 
 #[unsafe(no_mangle)]
 pub extern "C" fn otel_set_attributes(alloc: Global, handle: &mut Handle, span: u64) -> u32
-    ensures ok { result ≡ 0 → Turns (λ p q. EditsSpan p.inside span (map set_attribute p.inside.gathered) q.inside)
+    ensures ok { result ≡ 0 → Turns (λ p q.
+        EditsSpan (taken p.inside) span (map set_attribute p.inside.gathered) q.inside)
         handle.old.held.pipeline handle.new.held.pipeline }
-    ensures open { handle.new.is_open ≡ handle.old.is_open }
+    ensures stays { result ≢ 0 → TurnsIfOpen (λ p q. Stays (taken p.inside) q.inside)
+        handle.old.held.pipeline handle.new.held.pipeline }
 {
     let Some(mut pipeline) = handle.take(alloc) else {
         return OTEL_CLOSED;
@@ -95,10 +102,11 @@ pub extern "C" fn otel_add_event(
     name: &[u8],
     moment: u64,
 ) -> u32
-    ensures ok { result ≡ 0 → Turns (λ p q. EditsSpan p.inside span
+    ensures ok { result ≡ 0 → Turns (λ p q. EditsSpan (taken p.inside) span
         (add_event (new_event name.now moment p.inside.gathered) ∷ []) q.inside)
         handle.old.held.pipeline handle.new.held.pipeline }
-    ensures open { handle.new.is_open ≡ handle.old.is_open }
+    ensures stays { result ≢ 0 → TurnsIfOpen (λ p q. Stays (taken p.inside) q.inside)
+        handle.old.held.pipeline handle.new.held.pipeline }
 {
     let Some(mut pipeline) = handle.take(alloc) else {
         return OTEL_CLOSED;
@@ -118,7 +126,11 @@ pub extern "C" fn otel_record_exception(
     stacktrace: &[u8],
     moment: u64,
 ) -> u32
-    ensures { handle.new.is_open ≡ handle.old.is_open }
+    ensures ok { result ≡ 0 → Turns (λ p q. EditsSpan p.inside span (add_event
+        (exception_event (host_exception exception_type.now message.now stacktrace.now) moment) ∷ []) q.inside)
+        handle.old.held.pipeline handle.new.held.pipeline }
+    ensures stays { result ≢ 0 → TurnsIfOpen (λ p q. Stays p.inside q.inside)
+        handle.old.held.pipeline handle.new.held.pipeline }
 {
     let Some(mut pipeline) = handle.take(alloc) else {
         return OTEL_CLOSED;
@@ -134,7 +146,8 @@ pub extern "C" fn otel_record_exception(
 pub extern "C" fn otel_add_link(alloc: Global, handle: &mut Handle, span: u64, linked: u64) -> u32
     ensures ok { result ≡ 0 → Turns (λ p q. LinksTo p.inside span linked q.inside)
         handle.old.held.pipeline handle.new.held.pipeline }
-    ensures open { handle.new.is_open ≡ handle.old.is_open }
+    ensures stays { result ≢ 0 → TurnsIfOpen (λ p q. Stays (taken p.inside) q.inside)
+        handle.old.held.pipeline handle.new.held.pipeline }
 {
     let Some(mut pipeline) = handle.take(alloc) else {
         return OTEL_CLOSED;
@@ -152,7 +165,11 @@ pub extern "C" fn otel_set_status(
     code: u32,
     description: &[u8],
 ) -> u32
-    ensures { handle.new.is_open ≡ handle.old.is_open }
+    ensures ok { result ≡ 0 → Turns (λ p q. (status : PlainStatus) × IsStatus code description.now status
+        × EditsSpan p.inside span (set_status status ∷ []) q.inside)
+        handle.old.held.pipeline handle.new.held.pipeline }
+    ensures stays { result ≢ 0 → TurnsIfOpen (λ p q. Stays p.inside q.inside)
+        handle.old.held.pipeline handle.new.held.pipeline }
 {
     let Some(mut pipeline) = handle.take(alloc) else {
         return OTEL_CLOSED;
@@ -171,7 +188,8 @@ pub extern "C" fn otel_update_name(
 ) -> u32
     ensures ok { result ≡ 0 → Turns (λ p q. EditsSpan p.inside span (update_name name.now ∷ []) q.inside)
         handle.old.held.pipeline handle.new.held.pipeline }
-    ensures open { handle.new.is_open ≡ handle.old.is_open }
+    ensures stays { result ≢ 0 → TurnsIfOpen (λ p q. Stays p.inside q.inside)
+        handle.old.held.pipeline handle.new.held.pipeline }
 {
     let Some(mut pipeline) = handle.take(alloc) else {
         return OTEL_CLOSED;

@@ -1,8 +1,10 @@
 //! What becomes of ended spans, and how many are where.
 
-ghost use Rattle.std.specs.Prelude.{◌≡◌, length};
-ghost use Rattle.otel_c.specs.Handles.{Turns};
-ghost use Rattle.otel_embed.specs.Pipelines.{DrainsInto, FlowsBy, flushed, ran, shut};
+ghost use Rattle.std.specs.Prelude.{◌≡◌, ◌≢◌, ◌⊎◌, None};
+ghost use Rattle.otel_c.specs.Handles.{Holds, ShowsNumbers, Turns, TurnsIfOpen};
+ghost use Rattle.otel_embed.specs.Flows.{flushed, ran, shut};
+ghost use Rattle.otel_embed.specs.Pipelines.{CountsIn, DrainsInto, FlowsBy};
+ghost use Rattle.otel_embed.specs.declared.numbers.Numbers.{Numbers as TheNumbers};
 
 use crate::handle::Handle;
 use crate::status::{OTEL_BUFFER_TOO_SMALL, OTEL_CLOSED, OTEL_OK, status_of, status_of_result};
@@ -23,7 +25,9 @@ pub struct Counts {
     pub lost_batches: u64,
 }
 
-fn counts_of(numbers: Numbers) -> Counts {
+fn counts_of(numbers: Numbers) -> Counts
+    ensures { ShowsNumbers numbers result }
+{
     Counts {
         open_spans: numbers.open_spans,
         waiting_spans: numbers.waiting_spans,
@@ -35,10 +39,10 @@ fn counts_of(numbers: Numbers) -> Counts {
 
 #[unsafe(no_mangle)]
 pub extern "C" fn otel_flush(alloc: Global, handle: &mut Handle) -> u32
-    ensures ok { result ≡ 0 → Turns
-        (λ p q. FlowsBy ⟦<HostInside as HostPipeline>⟧.calls flushed p.inside q.inside)
+    ensures flows { TurnsIfOpen (λ p q.
+        FlowsBy ⟦<HostInside as HostPipeline>⟧.calls flushed (result ≡ 0) p.inside q.inside)
         handle.old.held.pipeline handle.new.held.pipeline }
-    ensures open { handle.new.is_open ≡ handle.old.is_open }
+    ensures closed { handle.old.held.pipeline ≡ None → result ≡ 1 }
 {
     let Some(mut pipeline) = handle.take(alloc) else {
         return OTEL_CLOSED;
@@ -50,10 +54,10 @@ pub extern "C" fn otel_flush(alloc: Global, handle: &mut Handle) -> u32
 
 #[unsafe(no_mangle)]
 pub extern "C" fn otel_run(alloc: Global, handle: &mut Handle, moment: u64) -> u32
-    ensures ok { result ≡ 0 → Turns
-        (λ p q. FlowsBy ⟦<HostInside as HostPipeline>⟧.calls (ran moment) p.inside q.inside)
+    ensures flows { TurnsIfOpen (λ p q.
+        FlowsBy ⟦<HostInside as HostPipeline>⟧.calls (ran moment) (result ≡ 0) p.inside q.inside)
         handle.old.held.pipeline handle.new.held.pipeline }
-    ensures open { handle.new.is_open ≡ handle.old.is_open }
+    ensures closed { handle.old.held.pipeline ≡ None → result ≡ 1 }
 {
     let Some(mut pipeline) = handle.take(alloc) else {
         return OTEL_CLOSED;
@@ -70,10 +74,11 @@ pub extern "C" fn otel_drain(
     buffer: &mut [u8],
     lines_length: &mut usize,
 ) -> u32
-    ensures ok { result ≡ 0 → Turns (λ p q. DrainsInto ⟦<HostInside as HostPipeline>⟧.calls p.inside buffer.old
-        lines_length.new buffer.new q.inside) handle.old.held.pipeline handle.new.held.pipeline }
-    ensures open { handle.new.is_open ≡ handle.old.is_open }
-    ensures buffer { length buffer.new ≡ length buffer.old }
+    ensures ok { (result ≡ 0) ⊎ (result ≡ 8) → Turns (λ p q.
+        DrainsInto ⟦<HostInside as HostPipeline>⟧.calls p.inside buffer.old lines_length.new buffer.new q.inside)
+        handle.old.held.pipeline handle.new.held.pipeline }
+    ensures stays { result ≢ 0 → result ≢ 8 → TurnsIfOpen (λ p q. q.inside ≡ p.inside)
+        handle.old.held.pipeline handle.new.held.pipeline × (buffer.new ≡ buffer.old) }
 {
     let Some(mut pipeline) = handle.take(alloc) else {
         return OTEL_CLOSED;
@@ -95,7 +100,10 @@ pub extern "C" fn otel_drain(
 
 #[unsafe(no_mangle)]
 pub extern "C" fn otel_count(alloc: Global, handle: &mut Handle, numbers: &mut Counts) -> u32
-    ensures open { handle.new.is_open ≡ handle.old.is_open }
+    ensures ok { result ≡ 0 → Holds (λ p. (counted : TheNumbers)
+        × CountsIn ⟦<HostInside as HostPipeline>⟧.calls p.inside counted × ShowsNumbers counted numbers.new)
+        handle.old.held.pipeline }
+    ensures stays { handle.new.held.pipeline ≡ handle.old.held.pipeline }
 {
     let Some(pipeline) = handle.take(alloc) else {
         return OTEL_CLOSED;
@@ -107,10 +115,10 @@ pub extern "C" fn otel_count(alloc: Global, handle: &mut Handle, numbers: &mut C
 
 #[unsafe(no_mangle)]
 pub extern "C" fn otel_shutdown(alloc: Global, handle: &mut Handle) -> u32
-    ensures ok { result ≡ 0 → Turns
-        (λ p q. FlowsBy ⟦<HostInside as HostPipeline>⟧.calls shut p.inside q.inside)
+    ensures flows { TurnsIfOpen (λ p q.
+        FlowsBy ⟦<HostInside as HostPipeline>⟧.calls shut (result ≡ 0) p.inside q.inside)
         handle.old.held.pipeline handle.new.held.pipeline }
-    ensures open { handle.new.is_open ≡ handle.old.is_open }
+    ensures closed { handle.old.held.pipeline ≡ None → result ≡ 1 }
 {
     let Some(mut pipeline) = handle.take(alloc) else {
         return OTEL_CLOSED;

@@ -1,5 +1,5 @@
 // SPDX-License-Identifier: Apache-2.0
-//! The trace pipeline for C, as a static library: what `hosts/c/otel.h` declares. A handle is the caller's memory, zeros
+//! The trace pipeline for C, as a static library: what `hosts/c/otel.h` declares. A handle is memory of the caller, zeros
 //! at first. Each export answers a status, and none asks anything of its caller beyond the types of its arguments.
 #![tactic(auto)]
 

@@ -1,6 +1,10 @@
 //! A pipeline's beginning and end.
 
-ghost use Rattle.std.specs.Prelude.{◌≡◌, length, false, true};
+ghost use Rattle.std.specs.Prelude.{◌≡◌, ◌≢◌, ◌↔◌, None, false, true};
+ghost use Rattle.otel_c.specs.Handles.{Holds, Turns};
+ghost use Rattle.otel_embed.specs.HostValues.{host_scope};
+ghost use Rattle.otel_embed.specs.Opening.{OpensBy};
+ghost use Rattle.otel_embed.specs.Pipelines.{AddsTracer};
 
 use crate::handle::Handle;
 use crate::status::{
@@ -8,12 +12,15 @@ use crate::status::{
     write_text,
 };
 use otel_embed::Pipeline;
+use otel_embed::pipeline::HostProcessor;
+use otel_pipeline::trace::SpanProcessor;
 use std::alloc::Global;
 
 #[unsafe(no_mangle)]
 pub extern "C" fn otel_open(alloc: Global, handle: &mut Handle, settings: &[u8], seed: u64) -> u32
-    ensures ok { result ≡ 0 → (handle.old.is_open ≡ false) × (handle.new.is_open ≡ true) }
-    ensures refused { (result ≡ 0 → ⊥) → handle.new.is_open ≡ handle.old.is_open }
+    ensures ok { result ≡ 0 → (handle.old.held.pipeline ≡ None) × Holds (λ p.
+        OpensBy ⟦<HostProcessor as SpanProcessor>⟧ seed p.inside) handle.new.held.pipeline }
+    ensures refused { result ≢ 0 → handle.new.held.pipeline ≡ handle.old.held.pipeline }
 {
     if handle.is_open {
         return OTEL_ALREADY_OPEN;
@@ -38,8 +45,8 @@ pub extern "C" fn otel_ignored_settings(
     buffer: &mut [u8],
     text_length: &mut usize,
 ) -> u32
-    ensures open { handle.new.is_open ≡ handle.old.is_open }
-    ensures buffer { length buffer.new ≡ length buffer.old }
+    ensures stays { handle.new.held.pipeline ≡ handle.old.held.pipeline }
+    ensures refused { result ≢ 0 → buffer.new ≡ buffer.old }
 {
     let Some(pipeline) = handle.take(alloc) else {
         return OTEL_CLOSED;
@@ -58,7 +65,10 @@ pub extern "C" fn otel_tracer(
     schema_url: &[u8],
     tracer: &mut u64,
 ) -> u32
-    ensures open { handle.new.is_open ≡ handle.old.is_open }
+    ensures ok { result ≡ 0 → Turns (λ p q. AddsTracer p.inside (host_scope name.now version.now schema_url.now)
+        tracer.new q.inside) handle.old.held.pipeline handle.new.held.pipeline }
+    ensures stays { result ≢ 0 → handle.new.held.pipeline ≡ handle.old.held.pipeline }
+    ensures refused { result ≢ 0 → tracer.new ≡ tracer.old }
 {
     let Some(mut pipeline) = handle.take(alloc) else {
         return OTEL_CLOSED;
@@ -71,7 +81,8 @@ pub extern "C" fn otel_tracer(
 /// Lets go of all that the handle owns; it may be opened again.
 #[unsafe(no_mangle)]
 pub extern "C" fn otel_close(alloc: Global, handle: &mut Handle) -> u32
-    ensures { handle.new.is_open ≡ false }
+    ensures closed { handle.new.held.pipeline ≡ None }
+    ensures ok { (result ≡ 0) ↔ (handle.old.is_open ≡ true) }
 {
     match handle.take(alloc) {
         Some(_pipeline) => OTEL_OK,

@@ -1,11 +1,18 @@
 //! Spans between processes, by headers.
 
-ghost use Rattle.std.specs.Prelude.{◌≡◌, ◌≢◌, length};
+ghost use Rattle.std.specs.Prelude.{◌≡◌, ◌≢◌, ◌⊎◌, [], List, ℕ};
+ghost use Rattle.opentelemetry.specs.declared.trace.span_kind.SpanKind.{SpanKind as TheKinds};
+ghost use Rattle.otel_c.specs.Handles.{CopiesText, Holds, Turns, TurnsIfOpen};
+ghost use Rattle.otel_embed.specs.Headers.{IsContextOf};
+ghost use Rattle.otel_embed.specs.HostValues.{IsKind};
+ghost use Rattle.otel_embed.specs.Pipelines.{LinksToRemote, RefusesIn, SaysHeaders, StartsIn, Stays, taken};
 
 use crate::handle::Handle;
 use crate::status::{OTEL_CLOSED, status_of, status_of_result, write_number, write_text};
 use opentelemetry::Moment;
 use otel_embed::HostHeaders;
+use otel_embed::pipeline::HostInside;
+use otel_embed::pipeline_of::HostPipeline;
 use std::alloc::Global;
 
 #[unsafe(no_mangle)]
@@ -21,7 +28,16 @@ pub extern "C" fn otel_start_remote(
     moment: u64,
     key: &mut u64,
 ) -> u32
-    ensures open { handle.new.is_open ≡ handle.old.is_open }
+    ensures ok { result ≡ 0 → Turns (λ p q. (asked : TheKinds) × IsKind kind asked × StartsIn
+        ⟦<HostInside as HostPipeline>⟧.calls (IsContextOf (record {
+          traceparent = traceparent.now;
+          tracestate = tracestate.now;
+          baggage = baggage.now;
+        })) p.inside tracer asked moment name.now key.new q.inside)
+        handle.old.held.pipeline handle.new.held.pipeline }
+    ensures stays { result ≢ 0 → TurnsIfOpen (λ p q.
+        RefusesIn ⟦<HostInside as HostPipeline>⟧.calls p.inside q.inside)
+        handle.old.held.pipeline handle.new.held.pipeline }
     ensures refused { result ≢ 0 → key.new ≡ key.old }
 {
     let Some(mut pipeline) = handle.take(alloc) else {
@@ -47,7 +63,13 @@ pub extern "C" fn otel_add_remote_link(
     traceparent: &[u8],
     tracestate: &[u8],
 ) -> u32
-    ensures { handle.new.is_open ≡ handle.old.is_open }
+    ensures ok { result ≡ 0 → Turns (λ p q. LinksToRemote p.inside span (record {
+      traceparent = traceparent.now;
+      tracestate = tracestate.now;
+      baggage = [];
+    }) q.inside) handle.old.held.pipeline handle.new.held.pipeline }
+    ensures stays { result ≢ 0 → TurnsIfOpen (λ p q. Stays (taken p.inside) q.inside)
+        handle.old.held.pipeline handle.new.held.pipeline }
 {
     let Some(mut pipeline) = handle.take(alloc) else {
         return OTEL_CLOSED;
@@ -70,8 +92,10 @@ pub extern "C" fn otel_inject(
     buffer: &mut [u8],
     text_length: &mut usize,
 ) -> u32
-    ensures open { handle.new.is_open ≡ handle.old.is_open }
-    ensures buffer { length buffer.new ≡ length buffer.old }
+    ensures ok { (result ≡ 0) ⊎ (result ≡ 8) → Holds (λ p. (lines : List ℕ) × SaysHeaders p.inside span lines
+        × CopiesText lines buffer.old result text_length.new buffer.new) handle.old.held.pipeline }
+    ensures stays { handle.new.held.pipeline ≡ handle.old.held.pipeline }
+    ensures refused { result ≢ 0 → buffer.new ≡ buffer.old }
 {
     let Some(pipeline) = handle.take(alloc) else {
         return OTEL_CLOSED;

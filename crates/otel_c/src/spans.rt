@@ -1,10 +1,11 @@
 //! The life of a span: its start, who it is, its end.
 
 ghost use Rattle.std.specs.Prelude.{◌≡◌, ◌≢◌};
-ghost use Rattle.otel_c.specs.Handles.{Turns};
+ghost use Rattle.otel_c.specs.Handles.{Holds, ShowsIdentity, Turns, TurnsIfOpen};
 ghost use Rattle.opentelemetry.specs.declared.trace.span_kind.SpanKind.{SpanKind as TheKinds};
 ghost use Rattle.otel_embed.specs.HostValues.{IsKind};
-ghost use Rattle.otel_embed.specs.Pipelines.{EndsSpan, IsContextUnder, StartsIn};
+ghost use Rattle.otel_embed.specs.Pipelines.{Abandons, EndsSpan, Identifies, IsContextUnder, RefusesIn, StartsIn, Stays};
+ghost use Rattle.otel_embed.specs.declared.span_calls.SpanIdentity.{SpanIdentity as TheIdentity};
 
 use crate::handle::Handle;
 use crate::status::{OTEL_CLOSED, OTEL_OK, status_of, status_of_result, write_number};
@@ -25,7 +26,9 @@ pub struct Identity {
     pub is_recording: u32,
 }
 
-fn identity_of(identity: SpanIdentity) -> Identity {
+fn identity_of(identity: SpanIdentity) -> Identity
+    ensures { ShowsIdentity identity result }
+{
     Identity {
         trace_id_high: (identity.trace_id >> 64) as u64,
         trace_id_low: (identity.trace_id & 0xffff_ffff_ffff_ffff) as u64,
@@ -50,7 +53,9 @@ pub extern "C" fn otel_start(
         ⟦<HostInside as HostPipeline>⟧.calls (IsContextUnder p.inside.spans parent) p.inside tracer asked moment
         name.now key.new q.inside)
         handle.old.held.pipeline handle.new.held.pipeline }
-    ensures open { handle.new.is_open ≡ handle.old.is_open }
+    ensures stays { result ≢ 0 → TurnsIfOpen (λ p q.
+        RefusesIn ⟦<HostInside as HostPipeline>⟧.calls p.inside q.inside)
+        handle.old.held.pipeline handle.new.held.pipeline }
     ensures refused { result ≢ 0 → key.new ≡ key.old }
 {
     let Some(mut pipeline) = handle.take(alloc) else {
@@ -70,7 +75,9 @@ pub extern "C" fn otel_identity(
     span: u64,
     identity: &mut Identity,
 ) -> u32
-    ensures open { handle.new.is_open ≡ handle.old.is_open }
+    ensures ok { result ≡ 0 → Holds (λ p. (who : TheIdentity) × Identifies p.inside span who
+        × ShowsIdentity who identity.new) handle.old.held.pipeline }
+    ensures stays { handle.new.held.pipeline ≡ handle.old.held.pipeline }
     ensures refused { result ≢ 0 → identity.new ≡ identity.old }
 {
     let Some(pipeline) = handle.take(alloc) else {
@@ -92,7 +99,8 @@ pub extern "C" fn otel_end(alloc: Global, handle: &mut Handle, span: u64, moment
     ensures ok { result ≡ 0 → Turns
         (λ p q. EndsSpan ⟦<HostInside as HostPipeline>⟧.calls.processor p.inside span moment q.inside)
         handle.old.held.pipeline handle.new.held.pipeline }
-    ensures open { handle.new.is_open ≡ handle.old.is_open }
+    ensures stays { result ≢ 0 → TurnsIfOpen (λ p q. Stays p.inside q.inside)
+        handle.old.held.pipeline handle.new.held.pipeline }
 {
     let Some(mut pipeline) = handle.take(alloc) else {
         return OTEL_CLOSED;
@@ -104,9 +112,10 @@ pub extern "C" fn otel_end(alloc: Global, handle: &mut Handle, span: u64, moment
 
 #[unsafe(no_mangle)]
 pub extern "C" fn otel_abandon(alloc: Global, handle: &mut Handle, span: u64) -> u32
-    ensures ok { result ≡ 0 → Turns (λ p q. q.inside.flow ≡ p.inside.flow)
+    ensures ok { result ≡ 0 → Turns (λ p q. Abandons p.inside span q.inside)
         handle.old.held.pipeline handle.new.held.pipeline }
-    ensures open { handle.new.is_open ≡ handle.old.is_open }
+    ensures stays { result ≢ 0 → TurnsIfOpen (λ p q. Stays p.inside q.inside)
+        handle.old.held.pipeline handle.new.held.pipeline }
 {
     let Some(mut pipeline) = handle.take(alloc) else {
         return OTEL_CLOSED;

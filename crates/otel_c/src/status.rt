@@ -1,6 +1,7 @@
 //! What an export answers.
 
-ghost use Rattle.std.specs.Prelude.{◌≡◌, ◌≢◌, ◌↔◌, IfOk, IsOk, OnErr, length};
+ghost use Rattle.std.specs.Prelude.{◌≡◌, ◌≢◌, ◌↔◌, IfOk, IsOk, OnErr};
+ghost use Rattle.otel_c.specs.Handles.{CopiesText};
 
 use otel_embed::PipelineError;
 
@@ -32,7 +33,8 @@ pub const OTEL_FAILED: u32 = 9;
 
 /// The status of an error.
 pub(crate) fn status_of(error: PipelineError) -> u32
-    ensures { result ≢ 0 }
+    ensures failed { result ≢ 0 }
+    ensures is_no_length { result ≢ 8 }
 {
     match error {
         PipelineError::OutOfMemory => OTEL_OUT_OF_MEMORY,
@@ -70,7 +72,7 @@ pub(crate) fn write_number(answer: Result<u64, PipelineError>, to: &mut u64) -> 
 
 /// Copies a text into a buffer where that has room for it, and says its length.
 pub(crate) fn write_text(text: &str, buffer: &mut [u8], text_length: &mut usize) -> u32
-    ensures buffer { length buffer.new ≡ length buffer.old }
+    ensures { CopiesText text.now buffer.old result text_length.new buffer.new }
 {
     let bytes = text.as_bytes();
     *text_length = bytes.len();

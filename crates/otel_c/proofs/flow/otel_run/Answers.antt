@@ -1,6 +1,14 @@
 use Rattle.std.proofs.Common.{◌∙◌, Some, ap, sym}
-use Rattle.otel_c.proofs.Turning.{turned}
+use Rattle.otel_c.proofs.Turning.{turned_if_open}
 use Rattle.otel_c.proofs.flow.otel_run.Goals as goal
 
-pub returns-clause-ok : goal.returns-clause-ok
-returns-clause-ok c = λ _. turned _ _ _ c.deref_mut.result.now _ (c.in-Some.ensures.some.1 ∙ ap Some (sym c.deref_mut.ensures.value)) c.put.ensures.1 c.run_due-ran.ensures
+pub returns-clause-flows : goal.returns-clause-flows
+returns-clause-flows c =
+    let flows = c.run_due-ran.ensures in
+    let status = c.status_of_result.ensures in
+    turned_if_open _ _ _ c.deref_mut.result.now _ (c.in-Some.ensures.some.1 ∙ ap Some (sym c.deref_mut.ensures.value)) c.put.ensures.1 (record {
+      answer = flows.answer;
+      answers = flows.answers;
+      says = (λ is. status.0 (flows.says.0 is), λ is. flows.says.1 (status.1 is));
+      rest = flows.rest;
+    })
