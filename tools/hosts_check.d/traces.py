@@ -2,7 +2,7 @@
 """What came to the collector, and what must hold of it.
 
 A sampled request leaves three spans: the front service's server span, the client span of its call below that, and the
-server span of the service behind, below that one. One that its caller did not sample leaves none.
+server span of the service after it, below that one. One that its caller did not sample leaves none.
 """
 
 import json

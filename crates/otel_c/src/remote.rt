@@ -92,7 +92,8 @@ pub extern "C" fn otel_inject(
     buffer: &mut [u8],
     text_length: &mut usize,
 ) -> u32
-    ensures ok { (result ≡ 0) ⊎ (result ≡ 8) → Holds (λ p. (lines : List ℕ) × SaysHeaders p.inside span lines
+    ensures ok { (result ≡ 0) ⊎ (result ≡ 8) → Holds (λ p. (lines : List ℕ)
+        × SaysHeaders p.inside span lines
         × CopiesText lines buffer.old result text_length.new buffer.new) handle.old.held.pipeline }
     ensures stays { handle.new.held.pipeline ≡ handle.old.held.pipeline }
     ensures refused { result ≢ 0 → buffer.new ≡ buffer.old }

@@ -1,4 +1,4 @@
-//! A service behind `Traced`, over the bytes of a connection.
+//! A service inside `Traced`, over the bytes of a connection.
 
 use bytes::{BufMut, Bytes};
 use http::Request;

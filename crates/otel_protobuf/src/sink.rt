@@ -106,7 +106,8 @@ impl Sink {
 
     /// Counts bytes that it then need not be given, and answers whether it does: it does not where they are to be written.
     pub fn skip(&mut self, more: usize) -> bool
-        ensures skipped { IsTrue result → (bytes : List ℕ) → length bytes ≡ more → Takes self.old self.new bytes }
+        ensures skipped { IsTrue result → (bytes : List ℕ) → length bytes ≡ more
+            → Takes self.old self.new bytes }
         ensures not { result ≡ false → self.new ≡ self.old }
     {
         if !self.only_counts {
