@@ -5,6 +5,7 @@
 mod exporter;
 pub mod fits;
 pub mod laws;
+pub mod parts;
 pub mod queue;
 mod request;
 mod span;

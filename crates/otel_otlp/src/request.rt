@@ -1,6 +1,6 @@
 //! The request of a batch: its resource, and its spans by the scopes that made them.
 
-ghost use Rattle.std.specs.Prelude.{◌≡◌, ◌≤◌, ◌↔◌, ◌++◌, ◌∷◌, [], IsOk, IsTrue, OnErr, OnOk, Some, drop, length, map, take};
+ghost use Rattle.std.specs.Prelude.{◌≡◌, ◌++◌, ◌∷◌, [], IsOk, OnErr, OnOk, Some, length, map, take};
 ghost use Rattle.std.specs.FinMap.{entries};
 ghost use Rattle.json.specs.Json.{document};
 ghost use Rattle.json.specs.Tree.{json_tokens};
@@ -11,6 +11,7 @@ ghost use Rattle.otel_otlp.specs.OtlpSpan.{span_json};
 ghost use Rattle.otel_otlp.specs.OtlpValues.{pair_json};
 ghost use Rattle.otel_otlp.specs.ScopeRuns.{run_scope, scope_runs};
 
+use crate::parts::run_length;
 use crate::tokens::RequestWriter;
 use opentelemetry::InstrumentationScope;
 use otel_export::trace::SpanData;
@@ -18,28 +19,8 @@ use otel_resource::resource::Resource;
 use std::alloc::{AllocError, Global};
 use std::mem;
 
-/// Whether two spans have one scope.
-fn has_scope_of(span: &SpanData, other: &SpanData) -> bool
-    ensures { IsTrue result ↔ (span.now.instrumentation_scope ≡ other.now.instrumentation_scope) }
-{
-    span.instrumentation_scope == other.instrumentation_scope
-}
-
 /// How many digits the longest id has.
 const ID_DIGITS: usize = 32;
-
-/// How many of the spans after the first one are in its run.
-fn run_length(first: &SpanData, after: &[SpanData]) -> usize
-    ensures within { result ≤ length after.now }
-    ensures run { scope_runs (first.now ∷ after.now)
-        ≡ (first.now ∷ take result after.now) ∷ scope_runs (drop result after.now) }
-{
-    let mut count = 0;
-    while count < after.len() && has_scope_of(&after[count], first) {
-        count += 1;
-    }
-    count
-}
 
 impl RequestWriter {
     fn scope(&mut self, scope: &InstrumentationScope) -> Result<(), AllocError>

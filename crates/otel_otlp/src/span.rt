@@ -1,59 +1,20 @@
 //! One span: its context, its life, its lists and its status.
 
-ghost use Rattle.std.specs.Prelude.{◌≡◌, ◌++◌, ◌∷◌, [], codes};
+ghost use Rattle.std.specs.Prelude.{◌++◌, ◌∷◌, [], codes};
 ghost use Rattle.json.specs.Tree.{json_tokens};
 ghost use Rattle.opentelemetry.specs.PlainValues.{plain_status};
 ghost use Rattle.otel_otlp.specs.Fields.{Adds, fields_tokens, list_tokens};
 ghost use Rattle.otel_otlp.specs.OtlpSpan.{code_number, context_fields, event_json, events_fields, flags_of};
-ghost use Rattle.otel_otlp.specs.OtlpSpan.{identity_fields, kind_number, link_json, links_fields, message_text};
+ghost use Rattle.otel_otlp.specs.OtlpSpan.{identity_fields, kind_number, link_json, links_fields};
 ghost use Rattle.otel_otlp.specs.OtlpSpan.{name_fields, parent_fields, recording_fields, span_json, status_json};
 ghost use Rattle.otel_otlp.specs.OtlpSpan.{time_fields};
 ghost use Rattle.otel_otlp.specs.OtlpValues.{number_field};
 
+use crate::parts::{code_number, flags_of, kind_number, message_of};
 use crate::tokens::RequestWriter;
-use opentelemetry::TraceFlags;
-use opentelemetry::trace::{Event, Link, SpanContext, SpanKind, Status};
+use opentelemetry::trace::{Event, Link, SpanContext, Status};
 use otel_export::trace::{SpanData, SpanEvents, SpanLinks};
 use std::alloc::{AllocError, Global};
-
-/// The number of the flags of a trace, with bit 8, and bit 9 where a context came from elsewhere (OTLP, `SpanFlags`).
-fn flags_of(flags: TraceFlags, is_remote: bool) -> u64
-    ensures { result ≡ flags_of flags is_remote }
-{
-    let remote = if is_remote { 512 } else { 0 };
-    flags.to_u8() as u64 + 256 + remote
-}
-
-fn kind_number(kind: SpanKind) -> u64
-    ensures { result ≡ kind_number kind }
-{
-    match kind {
-        SpanKind::Internal => 1,
-        SpanKind::Server => 2,
-        SpanKind::Client => 3,
-        SpanKind::Producer => 4,
-        SpanKind::Consumer => 5,
-    }
-}
-
-fn message_of(status: &Status) -> &str
-    ensures { result.now ≡ message_text (plain_status status.now) }
-{
-    match status {
-        Status::Unset | Status::Ok => "",
-        Status::Error { description } => description.as_str(),
-    }
-}
-
-fn code_number(status: &Status) -> u64
-    ensures { result ≡ code_number (plain_status status.now) }
-{
-    match status {
-        Status::Unset => 0,
-        Status::Ok => 1,
-        Status::Error { .. } => 2,
-    }
-}
 
 impl RequestWriter {
     fn context(&mut self, alloc: Global, context: &SpanContext) -> Result<(), AllocError>
@@ -70,7 +31,7 @@ impl RequestWriter {
         ensures { Adds result self.old self.new
             (fields_tokens (number_field (codes "flags") (flags_of context.now.trace_flags is_remote) ∷ [])) }
     {
-        self.number_field("flags", flags_of(context.trace_flags(), is_remote))
+        self.number_field("flags", flags_of(context.trace_flags(), is_remote) as u64)
     }
 
     fn event(&mut self, event: &Event) -> Result<(), AllocError>

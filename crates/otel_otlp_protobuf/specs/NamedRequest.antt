@@ -2,6 +2,7 @@
 -- `resource.proto` and `common.proto`): an `ExportTraceServiceRequest`.
 use Rattle.std.specs.Prelude.{ℕ, List, [], ◌∷◌, codes}
 use Rattle.std.specs.FinMap.{entries}
+use Rattle.std.specs.List.{flat_map}
 use Rattle.opentelemetry.specs.Plain.{PlainScope}
 use Rattle.otel_resource.specs.Resource.{PlainResource}
 use Rattle.otel_export.specs.PlainSpanData.{PlainSpanData}
@@ -10,7 +11,7 @@ use Rattle.otel_otlp.specs.ScopeRuns.{run_scope, scope_runs}
 use Rattle.otel_otlp_protobuf.specs.NamedSpan.{span_members}
 use Rattle.otel_otlp_protobuf.specs.NamedValues.{attribute_members, many, pair_members}
 use Rattle.otel_otlp_protobuf.specs.Said.{Member, members_of, message, message_fields, number, text}
-use Rattle.otel_protobuf.specs.Wire.{message_bytes}
+use Rattle.otel_protobuf.specs.Wire.{after_length, message_bytes}
 
 -- `InstrumentationScope`
 abbrev pub scope_members : PlainScope → List Member
@@ -51,3 +52,11 @@ request_members resource batch =
 -- the bytes of the request
 abbrev pub request_bytes : PlainResource → List PlainSpanData → List ℕ
 request_bytes resource batch = message_bytes (message_fields (request_members resource batch))
+
+-- the same after how many they are
+abbrev pub delimited_bytes : PlainResource → List PlainSpanData → List ℕ
+delimited_bytes resource batch = after_length (request_bytes resource batch)
+
+-- the requests of batches, as a file holds them one after the other
+abbrev pub delimited_requests : PlainResource → List (List PlainSpanData) → List ℕ
+delimited_requests resource batches = flat_map (delimited_bytes resource) batches

@@ -10,4 +10,4 @@ mod span;
 mod value;
 mod write;
 
-pub use request::write_request_protobuf;
+pub use request::{write_delimited_requests, write_request_protobuf};

@@ -1,11 +1,12 @@
 //! The request of a batch: its resource, and its spans by the scopes that made them.
 
-ghost use Rattle.std.specs.Prelude.{◌≡◌, ◌≤◌, ◌↔◌, ◌++◌, ◌∷◌, IsTrue, OnErr, OnOk, drop, length, take};
+ghost use Rattle.std.specs.Prelude.{◌≡◌, ◌++◌, IsOk, OnErr, OnOk, [], length, map, take};
 ghost use Rattle.std.specs.FinMap.{entries};
 ghost use Rattle.std.specs.Option.{option_copied};
 ghost use Rattle.otel_otlp.specs.Otlp.{or_empty};
 ghost use Rattle.otel_otlp.specs.ScopeRuns.{run_scope, scope_runs};
-ghost use Rattle.otel_otlp_protobuf.specs.NamedRequest.{request_bytes, request_members, resource_members};
+ghost use Rattle.otel_otlp_protobuf.specs.NamedRequest.{delimited_bytes, delimited_requests, request_bytes};
+ghost use Rattle.otel_otlp_protobuf.specs.NamedRequest.{request_members, resource_members};
 ghost use Rattle.otel_otlp_protobuf.specs.NamedRequest.{resource_spans_members, run_members, scope_members};
 ghost use Rattle.otel_otlp_protobuf.specs.NamedRequest.{scope_spans_members};
 ghost use Rattle.otel_otlp_protobuf.specs.Said.{message_fields};
@@ -14,32 +15,13 @@ ghost use Rattle.otel_protobuf.specs.Wire.{repeated, unless_empty};
 
 use crate::message::{Message, nested, repeated};
 use crate::value::Pair;
-use crate::write::write_message;
+use crate::write::{write_after_length, write_message};
 use opentelemetry::InstrumentationScope;
 use otel_export::trace::SpanData;
+use otel_otlp::parts::run_length;
 use otel_protobuf::Sink;
 use otel_resource::resource::Resource;
 use std::alloc::{AllocError, Global};
-
-/// Whether two spans have one scope.
-fn has_scope_of(span: &SpanData, other: &SpanData) -> bool
-    ensures { IsTrue result ↔ (span.now.instrumentation_scope ≡ other.now.instrumentation_scope) }
-{
-    span.instrumentation_scope == other.instrumentation_scope
-}
-
-/// How many of the spans after the first one are in its run.
-fn run_length(first: &SpanData, after: &[SpanData]) -> usize
-    ensures within { result ≤ length after.now }
-    ensures run { scope_runs (first.now ∷ after.now)
-        ≡ (first.now ∷ take result after.now) ∷ scope_runs (drop result after.now) }
-{
-    let mut count = 0;
-    while count < after.len() && has_scope_of(&after[count], first) {
-        count += 1;
-    }
-    count
-}
 
 /// A text that may be left out, and is empty then.
 fn optional(sink: &mut Sink, number: u32, text: Option<&str>)
@@ -149,4 +131,57 @@ pub fn write_request_protobuf(
 {
     let spans = ResourceSpans { resource, batch };
     write_message(alloc, out, &Request { spans })
+}
+
+/// Appends the same request after its length. On an error nothing is appended.
+fn write_delimited(
+    alloc: Global,
+    out: &mut Vec<u8>,
+    resource: &Resource,
+    batch: &[SpanData],
+) -> Result<(), AllocError>
+    ensures ok { OnOk result (out.new.items ≡ out.old.items ++ delimited_bytes resource.now batch.now) }
+    ensures err { OnErr result (out.new.items ≡ out.old.items) }
+{
+    let spans = ResourceSpans { resource, batch };
+    write_after_length(alloc, out, &Request { spans })
+}
+
+/// Appends the requests of batches, each after its length, as a file holds them one after the other. On an error
+/// nothing is appended.
+pub fn write_delimited_requests(
+    alloc: Global,
+    out: &mut Vec<u8>,
+    resource: &Resource,
+    batches: &[Vec<SpanData>],
+) -> Result<(), AllocError>
+    ensures ok { OnOk result (out.new.items
+        ≡ out.old.items ++ delimited_requests resource.now (map (λ batch. batch.items) batches.now)) }
+    ensures err { OnErr result (out.new.items ≡ out.old.items) }
+    ensures free { batches.now ≡ [] → IsOk result }
+{
+    let begun = out.len();
+    let written = push_delimited_requests(alloc, out, resource, batches);
+    if written.is_err() {
+        out.truncate(begun);
+    }
+    written
+}
+
+/// The same, but on an error a beginning of the requests stays.
+fn push_delimited_requests(
+    alloc: Global,
+    out: &mut Vec<u8>,
+    resource: &Resource,
+    batches: &[Vec<SpanData>],
+) -> Result<(), AllocError>
+    ensures ok { OnOk result (out.new.items
+        ≡ out.old.items ++ delimited_requests resource.now (map (λ batch. batch.items) batches.now)) }
+    ensures front { take (length out.old.items) out.new.items ≡ out.old.items }
+    ensures free { batches.now ≡ [] → IsOk result }
+{
+    for batch in batches {
+        write_delimited(alloc, out, resource, batch)?;
+    }
+    Ok(())
 }

@@ -1,59 +1,20 @@
 //! One span: its context, its life, its lists and its status.
 
-ghost use Rattle.std.specs.Prelude.{◌≡◌};
 ghost use Rattle.opentelemetry.specs.PlainValues.{plain_status};
 ghost use Rattle.opentelemetry.specs.Tracestate.{tracestate_text};
-ghost use Rattle.otel_otlp.specs.OtlpSpan.{code_number, flags_of, kind_number, message_text};
+ghost use Rattle.otel_otlp.specs.OtlpSpan.{code_number, flags_of, kind_number};
 ghost use Rattle.otel_otlp_protobuf.specs.NamedSpan.{event_members, link_members, span_members, status_members};
 ghost use Rattle.otel_otlp_protobuf.specs.Said.{message_fields, parent_id, said_fields};
 ghost use Rattle.otel_protobuf.specs.Progress.{TakesFields};
 ghost use Rattle.otel_protobuf.specs.Wire.{fixed32, unless_empty, unless_zero};
 
 use crate::message::{Message, nested, repeated};
-use opentelemetry::trace::{Event, Link, SpanContext, SpanKind, Status, TraceState};
-use opentelemetry::{SpanId, TraceFlags};
+use opentelemetry::SpanId;
+use opentelemetry::trace::{Event, Link, SpanContext, Status, TraceState};
 use otel_export::trace::SpanData;
+use otel_otlp::parts::{code_number, flags_of, kind_number, message_of};
 use otel_protobuf::Sink;
 use std::alloc::Global;
-
-/// The number of the flags of a trace, with bit 8, and bit 9 where a context came from elsewhere (OTLP, `SpanFlags`).
-fn flags_of(flags: TraceFlags, is_remote: bool) -> u32
-    ensures { result ≡ flags_of flags is_remote }
-{
-    let remote = if is_remote { 512 } else { 0 };
-    flags.to_u8() as u32 + 256 + remote
-}
-
-fn kind_number(kind: SpanKind) -> u64
-    ensures { result ≡ kind_number kind }
-{
-    match kind {
-        SpanKind::Internal => 1,
-        SpanKind::Server => 2,
-        SpanKind::Client => 3,
-        SpanKind::Producer => 4,
-        SpanKind::Consumer => 5,
-    }
-}
-
-fn message_of(status: &Status) -> &str
-    ensures { result.now ≡ message_text (plain_status status.now) }
-{
-    match status {
-        Status::Unset | Status::Ok => "",
-        Status::Error { description } => description.as_str(),
-    }
-}
-
-fn code_number(status: &Status) -> u64
-    ensures { result ≡ code_number (plain_status status.now) }
-{
-    match status {
-        Status::Unset => 0,
-        Status::Ok => 1,
-        Status::Error { .. } => 2,
-    }
-}
 
 /// The flags of a context, and where a context came from.
 fn flags(sink: &mut Sink, number: u32, context: &SpanContext, is_remote: bool)

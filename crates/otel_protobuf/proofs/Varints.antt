@@ -47,6 +47,12 @@ large (suc n) h =
     ∙ ap (λ bs. (128 + suc n % 128) ∷ bs)
     (enough n (suc n / 128) (suc n / 128) (less (suc n) n h (omega arith)) (omega arith))
 
+-- a varint is a byte at least
+pub varint_some : (n : ℕ) → 1 ≤ length (varint_bytes n)
+varint_some n =
+    ⊎_elim (λ l. let one = ap length (small n l) in omega (arith, one))
+    (λ l. let more = ap length (large n l) in omega (arith, more)) (cases_lt n 128)
+
 -- a varint reads back, whatever comes after it
 put_together : (n : ℕ) (rest : List ℕ)
     → ◌≡◌ {A = Read ℕ} (Some (128 + n % 128 - 128 + 128 * (n / 128), rest)) (Some (n, rest))

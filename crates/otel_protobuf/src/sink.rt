@@ -164,6 +164,13 @@ impl Sink {
         ensures { Takes self.old self.new (key_bytes number 2 ++ varint_bytes length) }
     {
         self.key(number, 2);
+        self.length(length);
+    }
+
+    /// How many bytes come next.
+    pub fn length(&mut self, length: usize)
+        ensures { Takes self.old self.new (varint_bytes length) }
+    {
         self.varint(length as u64);
     }
 

@@ -2,7 +2,7 @@
 use Rattle.std.proofs.Common.{◌≡◌, false, true, IsTrue, ap, subst, ◌∙◌, arith}
 use Rattle.std.proofs.lemmas.List.{get_or_read}
 use Rattle.otel_otlp.proofs.Runs.{first_run}
-use Rattle.otel_otlp_protobuf.proofs.request.run_length.Goals as goal
+use Rattle.otel_otlp.proofs.parts.run_length.Goals as goal
 
 pub returns-else-has_scope_of-clause-run : goal.returns-else-has_scope_of-clause-run
 returns-else-has_scope_of-clause-run c =

@@ -1,6 +1,6 @@
 -- The spans so far are in the run.
 use Rattle.std.proofs.Common.{◌≡◌, ◌-◌, ◌<◌, ◌≤◌, ℕ, get_or, length}
-use Rattle.otel_otlp.proofs.request.run_length.Given as goal
+use Rattle.otel_otlp.proofs.parts.run_length.Given as goal
 
 abbrev pub invariant-loop-count : goal.invariant-loop-count
 invariant-loop-count l = record {

@@ -1,6 +1,6 @@
 -- Two scopes are one where they look the same.
 use Rattle.opentelemetry.specs.SameParts.{same_scope_decides}
-use Rattle.otel_otlp_protobuf.proofs.request.has_scope_of.Goals as goal
+use Rattle.otel_otlp.proofs.parts.has_scope_of.Goals as goal
 
 pub returns : goal.returns
 returns c =
