@@ -3,12 +3,15 @@ use Rattle.std.proofs.Common.{◌≡◌, ◌≤◌, ◌<◌, ◌-◌, ◌∙◌,
 use Rattle.std.proofs.Math.ListN.{get_or}
 use Rattle.std.proofs.lemmas.List.{take_all}
 use Rattle.std.specs.Str.Parse.{digits_value}
-use Rattle.otel_trace_run.specs.Arguments.{Asks, AsksForNothing, AsksUnread, GivesColumns, Names, NamesAsked, NamesAskedGiven, NamesGiven, NamesProcessor, NamesSizes, NamesText, NamesUnread, PlainMode, WriteSizes, otlp, picture, steps, trace, word_of}
+use Rattle.otel_trace_run.specs.Arguments.{Asks, AsksForNothing, AsksUnread, GivesColumns, Names, NamesAsked, NamesAskedGiven, NamesEncoding, NamesGiven, NamesProcessor, NamesSizes, NamesText, NamesUnread, PlainMode, WriteSizes, otlp, picture, steps, trace, word_of}
 use Rattle.otel_trace_run.specs.GivenAttributes.{GivesUnread}
 use Rattle.otel_trace_run.proofs.GivenLemmas.{none_unread}
 use Rattle.otel_trace_run.specs.declared.mode.Asked.{Asked}
+use Rattle.otel_trace_run.specs.declared.mode.AskedExport.{AskedExport}
 use Rattle.otel_trace_run.specs.declared.mode.AskedProcessor.{AskedProcessor}
 use Rattle.otel_trace_run.specs.declared.mode.AskedProcessor.TheVariants as asks
+use Rattle.otel_trace_run.specs.declared.mode.Encoding.{Encoding}
+use Rattle.otel_trace_run.specs.declared.mode.Encoding.TheVariants as encodings
 use Rattle.otel_trace_run.specs.declared.picture.PictureForm.TheVariants as forms
 use Rattle.otel_trace_steps.specs.declared.steps.Sizes.{Sizes}
 
@@ -148,14 +151,44 @@ asked_given_once words asked other given more h k =
     let same : make_asked asked.seed asked.processor ≡ make_asked other.seed other.processor = rw (seed, named.0) refl in
     (same, named.1)
 
+-- words name one encoding, and one rest after it
+pub encoding_once : (words : List (List ℕ)) (encoding other : Encoding) (rest more : List (List ℕ))
+    → NamesEncoding words encoding rest → NamesEncoding words other more → (encoding ≡ other) × (rest ≡ more)
+encoding_once words encodings.Json encodings.Json rest more h k = (refl, h.0 ∙ sym k.0)
+encoding_once words encodings.Json encodings.Protobuf rest more h k = absurd (h.1 more k)
+encoding_once words encodings.Protobuf encodings.Json rest more h k = absurd (k.1 rest h)
+encoding_once words encodings.Protobuf encodings.Protobuf rest more h k =
+    let same : codes "protobuf" ∷ rest ≡ codes "protobuf" ∷ more = sym h ∙ k in
+    let after : rest ≡ more = cc in
+    (refl, after)
+
+-- what is asked of the mode `otlp`, part by part
+abbrev make_export : Encoding → Asked → AskedExport
+make_export encoding asked = record { encoding = encoding; asked = asked }
+
+-- what is named after the encoding is named once
+pub otlp_once : (words : List (List ℕ)) (encoding other : Encoding) (rest more : List (List ℕ)) (asked second : Asked)
+    (given later : List (List ℕ)) → NamesEncoding words encoding rest → NamesAskedGiven rest asked given
+    → NamesEncoding words other more → NamesAskedGiven more second later
+    → (encoding ≡ other) × (asked ≡ second) × (given ≡ later)
+otlp_once words encoding other rest more asked second given later is h too k =
+    let named = encoding_once words encoding other rest more is too in
+    let same = asked_given_once more asked second given later
+    (subst (λ (texts : List (List ℕ)). NamesAskedGiven texts asked given) named.1 h) k in
+    (named.0, same.0, same.1)
+
 -- what is found of the attributes, after the word of the mode
-pub unread_found : (words : List (List ℕ)) (asked : Asked) (given : List (List ℕ)) (found : Option (Bor (List ℕ)))
-    → NamesAskedGiven words asked given → GivesUnread given (option_copied found)
+pub unread_found : (words rest : List (List ℕ)) (encoding : Encoding) (asked : Asked) (given : List (List ℕ))
+    (found : Option (Bor (List ℕ))) → NamesEncoding words encoding rest
+    → NamesAskedGiven rest asked given → GivesUnread given (option_copied found)
     → MatchOption found ((member : List ℕ) → NamesUnread words member → ⊥) (λ m. NamesUnread words m.now)
-unread_found words asked given None named unread = λ member h.
-    let same = asked_given_once words asked h.asked given h.given named h.named in
-    none_unread h.given member (subst (λ (texts : List (List ℕ)). GivesUnread texts None) same.1 unread) h.unread
-unread_found words asked given (Some member) named unread = record {
+unread_found words rest encoding asked given None is named unread = λ member h.
+    let same = otlp_once words encoding h.encoding rest h.rest asked h.asked given h.given is named h.names h.named in
+    none_unread h.given member (subst (λ (texts : List (List ℕ)). GivesUnread texts None) same.2 unread) h.unread
+unread_found words rest encoding asked given (Some member) is named unread = record {
+  encoding = encoding;
+  rest = rest;
+  names = is;
   asked = asked;
   given = given;
   named = named;
@@ -190,8 +223,13 @@ names_once : (words : List (List ℕ)) (mode other : PlainMode) → word_of mode
     → mode ≡ other
 names_once words (trace asked) (trace other) e h k = ap trace (asked_once words asked other h k)
 names_once words (steps sizes) (steps other) e h k = ap steps (sizes_once words sizes other h k)
-names_once words (otlp asked given) (otlp other more) e h k =
-    let same = asked_given_once words asked other given more h.named k.named in rw (same.0, same.1) refl
+names_once words (otlp export given) (otlp other more) e h k =
+    let same = otlp_once words export.encoding other.encoding h.rest k.rest export.asked other.asked given more
+    h.encoding h.named k.encoding k.named in
+    let asked : make_export export.encoding export.asked ≡ make_export other.encoding other.asked =
+    rw (same.0, same.1) refl in
+    let whole : export ≡ other = asked in
+    rw (whole, same.2) refl
 names_once words (picture asked (forms.Text columns)) (picture other (forms.Text wide)) e h k =
     let same = text_once words asked other columns wide h k in rw (same.0, same.1) refl
 names_once words (picture asked forms.Svg) (picture other forms.Svg) e h k =
@@ -212,13 +250,13 @@ names_once words (steps sizes) (picture other (forms.Text wide)) e h k =
     let differ : codes "steps" ≡ codes "picture" = e in let no : ⊥ = cc in absurd no
 names_once words (steps sizes) (picture other forms.Svg) e h k =
     let differ : codes "steps" ≡ codes "svg" = e in let no : ⊥ = cc in absurd no
-names_once words (otlp asked given) (trace other) e h k =
+names_once words (otlp export given) (trace other) e h k =
     let differ : codes "otlp" ≡ codes "trace" = e in let no : ⊥ = cc in absurd no
-names_once words (otlp asked given) (steps others) e h k =
+names_once words (otlp export given) (steps others) e h k =
     let differ : codes "otlp" ≡ codes "steps" = e in let no : ⊥ = cc in absurd no
-names_once words (otlp asked given) (picture other (forms.Text wide)) e h k =
+names_once words (otlp export given) (picture other (forms.Text wide)) e h k =
     let differ : codes "otlp" ≡ codes "picture" = e in let no : ⊥ = cc in absurd no
-names_once words (otlp asked given) (picture other forms.Svg) e h k =
+names_once words (otlp export given) (picture other forms.Svg) e h k =
     let differ : codes "otlp" ≡ codes "svg" = e in let no : ⊥ = cc in absurd no
 names_once words (picture asked (forms.Text columns)) (trace other) e h k =
     let differ : codes "picture" ≡ codes "trace" = e in let no : ⊥ = cc in absurd no
@@ -261,6 +299,6 @@ module _ (words : List (List ℕ)) (word : List ℕ) (after : List (List ℕ)) (
       by : (mode : PlainMode) → word_of mode ≡ word → Names after mode → ⊥
       by (trace asked) e h = let differ : codes "trace" ≡ codes "picture" = e ∙ is in let no : ⊥ = cc in absurd no
       by (steps sizes) e h = let differ : codes "steps" ≡ codes "picture" = e ∙ is in let no : ⊥ = cc in absurd no
-      by (otlp asked given) e h = let differ : codes "otlp" ≡ codes "picture" = e ∙ is in let no : ⊥ = cc in absurd no
+      by (otlp export given) e h = let differ : codes "otlp" ≡ codes "picture" = e ∙ is in let no : ⊥ = cc in absurd no
       by (picture asked (forms.Text columns)) e h = none asked columns h
       by (picture asked forms.Svg) e h = let differ : codes "svg" ≡ codes "picture" = e ∙ is in let no : ⊥ = cc in absurd no

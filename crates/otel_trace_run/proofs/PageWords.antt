@@ -20,7 +20,7 @@ letter_between word letter e least most = (omega (arith, e, least), omega (arith
 mode_letter : (mode : PlainMode) → IsModeLetter (word_of mode)
 mode_letter (trace asked) = letter_between (codes "trace") 116 refl (omega arith) (omega arith)
 mode_letter (steps sizes) = letter_between (codes "steps") 115 refl (omega arith) (omega arith)
-mode_letter (otlp asked given) = letter_between (codes "otlp") 111 refl (omega arith) (omega arith)
+mode_letter (otlp export given) = letter_between (codes "otlp") 111 refl (omega arith) (omega arith)
 mode_letter (picture asked (forms.Text columns)) = letter_between (codes "picture") 112 refl (omega arith) (omega arith)
 mode_letter (picture asked forms.Svg) = letter_between (codes "svg") 115 refl (omega arith) (omega arith)
 

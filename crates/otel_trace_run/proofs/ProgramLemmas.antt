@@ -87,7 +87,7 @@ module _ {C D E : Type 0} (calls : Calls (MemoryProcessor C D) (SamplerOf E) (Li
   mode_begun : (mode : PlainMode) (s : Streams) (bad_line : Option ℕ) → GivesWhole calls paints mode s bad_line → GivesBeginning calls paints mode s
   mode_begun (trace asked) s bad_line h = asked_begun calls asked s bad_line h
   mode_begun (steps sizes) s bad_line h = steps_begun (machine_of sizes) s bad_line h
-  mode_begun (otlp asked given) s bad_line h = exporting_begun calls asked given s bad_line h
+  mode_begun (otlp export given) s bad_line h = exporting_begun calls export given s bad_line h
   mode_begun (picture asked form) s bad_line h = drawing_begun calls (paints form) asked s bad_line h
 
   -- a run of a mode is one of the same mode

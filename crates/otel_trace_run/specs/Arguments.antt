@@ -5,8 +5,11 @@ use Rattle.otel_trace_lines.specs.Lines.{IsDecimal64}
 use Rattle.otel_trace_steps.specs.declared.steps.Sizes.{Sizes}
 use Rattle.otel_trace_run.specs.GivenAttributes.{GivesUnread}
 use Rattle.otel_trace_run.specs.declared.mode.Asked.{Asked}
+use Rattle.otel_trace_run.specs.declared.mode.AskedExport.{AskedExport}
 use Rattle.otel_trace_run.specs.declared.mode.AskedProcessor.{AskedProcessor}
 use Rattle.otel_trace_run.specs.declared.mode.AskedProcessor.TheVariants as asks
+use Rattle.otel_trace_run.specs.declared.mode.Encoding.{Encoding}
+use Rattle.otel_trace_run.specs.declared.mode.Encoding.TheVariants as encodings
 use Rattle.otel_trace_run.specs.declared.mode.Mode.{Mode}
 use Rattle.otel_trace_run.specs.declared.mode.Mode.TheVariants as modes
 use Rattle.otel_trace_run.specs.declared.picture.PictureForm.{PictureForm}
@@ -40,16 +43,27 @@ pub record NamesAskedGiven (words : List (List ℕ)) (asked : Asked) (given : Li
   pub named : NamesGiven after asked.processor given
   pub words_are : words ≡ digits ∷ after
 
--- the same, where each attribute reads of the string that is given
-pub record NamesOtlp (words : List (List ℕ)) (asked : Asked) (given : List (List ℕ)) : Type 0 where
-  pub named : NamesAskedGiven words asked given
+-- the encoding that a first word asks for, JSON where it asks for none, and the words after it
+abbrev pub NamesEncoding : List (List ℕ) → Encoding → List (List ℕ) → Type 0
+NamesEncoding words encodings.Json rest =
+    (rest ≡ words) × ((after : List (List ℕ)) → words ≡ codes "protobuf" ∷ after → ⊥)
+NamesEncoding words encodings.Protobuf rest = words ≡ codes "protobuf" ∷ rest
+
+-- the same, and after it the words of a provider, where each attribute reads of the string that is given
+pub record NamesOtlp (words : List (List ℕ)) (export : AskedExport) (given : List (List ℕ)) : Type 0 where
+  pub rest : List (List ℕ)
+  pub encoding : NamesEncoding words export.encoding rest
+  pub named : NamesAskedGiven rest export.asked given
   pub read : GivesUnread given None
 
 -- the same, where this attribute is the first that does not read
 pub record NamesUnread (words : List (List ℕ)) (member : List ℕ) : Type 0 where
+  pub encoding : Encoding
+  pub rest : List (List ℕ)
+  pub names : NamesEncoding words encoding rest
   pub asked : Asked
   pub given : List (List ℕ)
-  pub named : NamesAskedGiven words asked given
+  pub named : NamesAskedGiven rest asked given
   pub unread : GivesUnread given (Some member)
 
 -- words that would ask for the mode `otlp`, if this attribute read
@@ -86,20 +100,20 @@ pub data PlainMode : Type 0 where
   trace : Asked → PlainMode
   steps : Sizes → PlainMode
   -- with the attributes string, if one is given
-  otlp : Asked → List (List ℕ) → PlainMode
+  otlp : AskedExport → List (List ℕ) → PlainMode
   picture : Asked → PictureForm → PlainMode
 
 abbrev pub plain_mode : Mode → PlainMode
 plain_mode (modes.Trace asked) = trace asked
 plain_mode (modes.Steps sizes) = steps sizes
-plain_mode (modes.Otlp asked given) = otlp asked (map string_bytes given.now)
+plain_mode (modes.Otlp export given) = otlp export (map string_bytes given.now)
 plain_mode (modes.Picture asked form) = picture asked form
 
 -- the word of a mode
 abbrev pub word_of : PlainMode → List ℕ
 word_of (trace asked) = codes "trace"
 word_of (steps sizes) = codes "steps"
-word_of (otlp asked given) = codes "otlp"
+word_of (otlp export given) = codes "otlp"
 word_of (picture asked (forms.Text columns)) = codes "picture"
 word_of (picture asked forms.Svg) = codes "svg"
 
@@ -107,7 +121,7 @@ word_of (picture asked forms.Svg) = codes "svg"
 abbrev pub Names : List (List ℕ) → PlainMode → Type 0
 Names words (trace asked) = NamesAsked words asked
 Names words (steps sizes) = NamesSizes words sizes
-Names words (otlp asked given) = NamesOtlp words asked given
+Names words (otlp export given) = NamesOtlp words export given
 Names words (picture asked (forms.Text columns)) = NamesText words asked columns
 Names words (picture asked forms.Svg) = NamesAsked words asked
 

@@ -1,4 +1,4 @@
--- What the mode `otlp` does with its streams: each batch that a session exports is a line.
+-- What the mode `otlp` does with its streams: each batch that a session exports is a request.
 use Rattle.std.specs.Prelude.{◌≡◌, ℕ, List, Option, drop, length, sum_by, true}
 use Rattle.std.proofs.Common.{inl, inr}
 use Rattle.std.specs.Io.KnownBytes.{Appends}
@@ -8,21 +8,37 @@ use Rattle.otel_export.specs.Streams.{AppendsBeginning}
 use Rattle.otel_trace_lines.specs.ReplyForm.{Form}
 use Rattle.otel_trace_lines.specs.declared.dialect.Dialect.TheVariants as dialects
 use Rattle.otel_otlp.specs.Otlp.{otlp_lines}
+use Rattle.otel_otlp_protobuf.specs.NamedRequest.{delimited_requests}
 use Rattle.otel_pipeline.specs.Provider.{ProviderState}
 use Rattle.otel_trace_run.specs.Streams.{EndsAs, Streams}
 use Rattle.otel_trace_run.specs.TraceRuns.{TracesBegun, TracesSome, TracesWhole}
+use Rattle.otel_trace_run.specs.declared.mode.Encoding.{Encoding}
+use Rattle.otel_trace_run.specs.declared.mode.Encoding.TheVariants as encodings
 use Rattle.otel_trace_run.specs.declared.run_end.RunEnd.{RunEnd}
 use Rattle.otel_trace_session.specs.Calls.{Calls, stored_of_first}
 use Rattle.otel_trace_session.specs.Shown.{all_stored}
 use Rattle.otel_trace_session.specs.Turns.{SessionState}
 
--- lines by the extended grammar, and replies as the lines of their batches; an answer is not written, and a dropped
+-- how requests are written, and the resource that they are of
+pub record Encoded : Type 0 where
+  pub encoding : Encoding
+  pub resource : PlainResource
+
+-- the requests of batches of a resource, in an encoding
+abbrev pub in_encoding : Encoding → PlainResource → List (List PlainSpanData) → List ℕ
+in_encoding encodings.Json resource batches = otlp_lines resource batches
+in_encoding encodings.Protobuf resource batches = delimited_requests resource batches
+
+abbrev pub encoded : Encoded → List (List PlainSpanData) → List ℕ
+encoded requests batches = in_encoding requests.encoding requests.resource batches
+
+-- lines by the extended grammar, and replies as the requests of their batches; an answer is not written, and a dropped
 -- span is a failure, since nothing else would tell it
-abbrev pub otlp_form : PlainResource → Form
-otlp_form resource = record {
+abbrev pub otlp_form : Encoded → Form
+otlp_form requests = record {
   dialect = dialects.Extended;
-  reply = λ reply. otlp_lines resource reply.exported;
-  rest = λ batches. otlp_lines resource batches;
+  reply = λ reply. encoded requests reply.exported;
+  rest = λ batches. encoded requests batches;
   minds_drops = true;
 }
 
@@ -46,21 +62,21 @@ module _ {P S G : Type 0} (calls : Calls P S G) (form : Form) where
   run_reaches provider s (inl nothing) = provider
   run_reaches provider s (inr traced) = session_reaches traced.0 s traced.2
 
-module _ {P S G : Type 0} (calls : Calls P S G) (resource : PlainResource) where
-  -- one session carried out the whole input, up to its first bad line, and closed; the output was given the lines of
+module _ {P S G : Type 0} (calls : Calls P S G) (requests : Encoded) where
+  -- one session carried out the whole input, up to its first bad line, and closed; the output was given the requests of
   -- all batches that it exported, in order. No span was dropped at a full queue
   pub record ExportsAll (provider : ProviderState P S G) (s : Streams) (bad_line : Option ℕ) : Type 0 where
-    pub traces : TracesWhole calls (otlp_form resource) provider s bad_line
-    pub lines : Appends s.output s.output_after
-        (otlp_lines resource (exported_since calls provider traces.2.finishes.closes.provider))
+    pub traces : TracesWhole calls (otlp_form requests) provider s bad_line
+    pub written : Appends s.output s.output_after
+        (encoded requests (exported_since calls provider traces.2.finishes.closes.provider))
     pub drops_none : sum_by calls.queues.dropped_over traces.2.finishes.closes.provider.processors ≡ 0
 
-  -- the same of a run that failed: the output was given a beginning of the lines of all batches that its session
+  -- the same of a run that failed: the output was given a beginning of the requests of all batches that its session
   -- exported so far, in order
   pub record ExportsSome (provider : ProviderState P S G) (s : Streams) : Type 0 where
-    pub traces : TracesBegun calls (otlp_form resource) provider s
-    pub lines : AppendsBeginning s.output s.output_after (otlp_lines resource
-        (exported_since calls provider (run_reaches calls (otlp_form resource) provider s traces)))
+    pub traces : TracesBegun calls (otlp_form requests) provider s
+    pub written : AppendsBeginning s.output s.output_after (encoded requests
+        (exported_since calls provider (run_reaches calls (otlp_form requests) provider s traces)))
 
   -- what a session did whose batches are written, by how it ended
   abbrev pub ExportsUnder : ProviderState P S G → Streams → RunEnd → Type 0

@@ -21,12 +21,13 @@ use Rattle.otel_processors.specs.declared.trace.processor.ProcessorOf.TheVariant
 use Rattle.otel_trace_lines.specs.ReplyForm.{reply_lines}
 use Rattle.otel_trace_session.specs.Calls.{Calls}
 use Rattle.otel_trace_run.specs.Arguments.{PlainMode, otlp, picture, steps, trace}
-use Rattle.otel_trace_run.specs.OtlpRuns.{ExportsAll, ExportsSome}
+use Rattle.otel_trace_run.specs.OtlpRuns.{Encoded, ExportsAll, ExportsSome}
 use Rattle.otel_trace_run.specs.PictureRuns.{DrawsAll, DrawsSome, Painting}
 use Rattle.otel_trace_run.specs.StepRuns.{StepsBegun, StepsSized}
 use Rattle.otel_trace_run.specs.Streams.{EndsAs, EndsWith, Streams}
 use Rattle.otel_trace_run.specs.TraceRuns.{TracesBegun, TracesWhole}
 use Rattle.otel_trace_run.specs.declared.mode.Asked.{Asked}
+use Rattle.otel_trace_run.specs.declared.mode.AskedExport.{AskedExport}
 use Rattle.otel_trace_run.specs.declared.mode.AskedProcessor.{AskedProcessor}
 use Rattle.otel_trace_run.specs.declared.mode.AskedProcessor.TheVariants as asks
 use Rattle.otel_trace_run.specs.declared.picture.PictureForm.{PictureForm}
@@ -82,21 +83,6 @@ module _ {C D E : Type 0} (calls : Calls (MemoryProcessor C D) (SamplerOf E) (Li
       ⊎ ((provider : ProviderState (MemoryProcessor C D) (SamplerOf E) (List ℕ))
       × IsProviderOf false asked provider × TracesBegun calls reply_lines provider s)
 
-  -- the output was given the lines of the batches that a session exported over the whole input, under the provider that
-  -- is asked for, of the resource that the strings describe
-  abbrev pub ExportsAsked : List (List ℕ) → Streams → Option ℕ → Type 0
-  ExportsAsked given s bad_line = (resource : PlainResource) × IsDetected (strings_given given) resource
-      × (provider : ProviderState (MemoryProcessor C D) (SamplerOf E) (List ℕ))
-      × IsProviderOf true asked provider × ExportsAll calls resource provider s bad_line
-
-  -- the output was given a beginning of the lines of the batches that such a session exported so far; or nothing, where
-  -- there was no memory for the resource or the provider
-  abbrev pub BeginsExporting : List (List ℕ) → Streams → Type 0
-  BeginsExporting given s = Appends s.output s.output_after []
-      ⊎ ((resource : PlainResource) × IsDetected (strings_given given) resource
-      × (provider : ProviderState (MemoryProcessor C D) (SamplerOf E) (List ℕ))
-      × IsProviderOf true asked provider × ExportsSome calls resource provider s)
-
   -- the output was given the picture of the spans that a session exported over the whole input, under the provider that
   -- is asked for
   abbrev pub DrawsAsked : Painting → Streams → Option ℕ → Type 0
@@ -109,11 +95,31 @@ module _ {C D E : Type 0} (calls : Calls (MemoryProcessor C D) (SamplerOf E) (Li
       ⊎ ((provider : ProviderState (MemoryProcessor C D) (SamplerOf E) (List ℕ))
       × IsProviderOf true asked provider × DrawsSome calls Paints provider s)
 
+-- the requests of a resource, in the encoding that is asked for
+abbrev pub requests_of : AskedExport → PlainResource → Encoded
+requests_of export resource = record { encoding = export.encoding; resource = resource }
+
+module _ {C D E : Type 0} (calls : Calls (MemoryProcessor C D) (SamplerOf E) (List ℕ)) (export : AskedExport) where
+  -- the output was given the requests of the batches that a session exported over the whole input, under the provider
+  -- that is asked for, of the resource that the strings describe
+  abbrev pub ExportsAsked : List (List ℕ) → Streams → Option ℕ → Type 0
+  ExportsAsked given s bad_line = (resource : PlainResource) × IsDetected (strings_given given) resource
+      × (provider : ProviderState (MemoryProcessor C D) (SamplerOf E) (List ℕ))
+      × IsProviderOf true export.asked provider × ExportsAll calls (requests_of export resource) provider s bad_line
+
+  -- the output was given a beginning of the requests of the batches that such a session exported so far; or nothing,
+  -- where there was no memory for the resource or the provider
+  abbrev pub BeginsExporting : List (List ℕ) → Streams → Type 0
+  BeginsExporting given s = Appends s.output s.output_after []
+      ⊎ ((resource : PlainResource) × IsDetected (strings_given given) resource
+      × (provider : ProviderState (MemoryProcessor C D) (SamplerOf E) (List ℕ))
+      × IsProviderOf true export.asked provider × ExportsSome calls (requests_of export resource) provider s)
+
 -- whether a mode says why a line is bad: in those whose texts are fixed it does not
 abbrev pub says_reasons : PlainMode → Bool
 says_reasons (trace asked) = false
 says_reasons (steps sizes) = false
-says_reasons (otlp asked given) = true
+says_reasons (otlp export given) = true
 says_reasons (picture asked form) = true
 
 module _ {C D E : Type 0} (calls : Calls (MemoryProcessor C D) (SamplerOf E) (List ℕ))
@@ -122,14 +128,14 @@ module _ {C D E : Type 0} (calls : Calls (MemoryProcessor C D) (SamplerOf E) (Li
   abbrev pub GivesWhole : PlainMode → Streams → Option ℕ → Type 0
   GivesWhole (trace asked) s bad_line = TracesAsked calls asked s bad_line
   GivesWhole (steps sizes) s bad_line = StepsSized sizes s bad_line
-  GivesWhole (otlp asked given) s bad_line = ExportsAsked calls asked given s bad_line
+  GivesWhole (otlp export given) s bad_line = ExportsAsked calls export given s bad_line
   GivesWhole (picture asked form) s bad_line = DrawsAsked calls asked (paints form) s bad_line
 
   -- the output was given a beginning of that
   abbrev pub GivesBeginning : PlainMode → Streams → Type 0
   GivesBeginning (trace asked) s = BeginsAsked calls asked s
   GivesBeginning (steps sizes) s = StepsBegun sizes s
-  GivesBeginning (otlp asked given) s = BeginsExporting calls asked given s
+  GivesBeginning (otlp export given) s = BeginsExporting calls export given s
   GivesBeginning (picture asked form) s = BeginsDrawing calls asked (paints form) s
 
   -- what a run of a mode did, by how it ended

@@ -8,6 +8,7 @@ ghost use Rattle.otel_trace_run.specs.Arguments.{
   GivesColumns,
   NamesAsked,
   NamesAskedGiven,
+  NamesEncoding,
   NamesGiven,
   NamesOtlp,
   NamesProcessor,
@@ -32,7 +33,7 @@ pub enum Mode<'w> {
     /// One batch queue of these sizes.
     Steps(Sizes),
     /// One session, whose batches are written, with the attributes string that describes the resource, if one is given.
-    Otlp(Asked, &'w [String]),
+    Otlp(AskedExport, &'w [String]),
     /// One session, whose spans are drawn at the end.
     Picture(Asked, PictureForm),
 }
@@ -56,6 +57,22 @@ pub struct Asked {
     pub processor: AskedProcessor,
 }
 
+/// What a mode is asked for whose batches are written.
+#[derive(Clone, Copy, Debug, PartialEq, Eq)]
+pub struct AskedExport {
+    pub encoding: Encoding,
+    pub asked: Asked,
+}
+
+/// How a batch is written.
+#[derive(Clone, Copy, Debug, PartialEq, Eq)]
+pub enum Encoding {
+    /// As a line of JSON.
+    Json,
+    /// As the bytes of protobuf, after how many they are.
+    Protobuf,
+}
+
 /// The processor that such a mode is asked for.
 #[derive(Clone, Copy, Debug, PartialEq, Eq)]
 pub enum AskedProcessor {
@@ -76,8 +93,8 @@ pub fn parse_mode(words: &[String]) -> Option<Mode<'_>>
         "trace" => Some(Mode::Trace(parse_asked(after)?)),
         "steps" => Some(Mode::Steps(parse_sizes(after)?)),
         "otlp" => {
-            let (asked, given) = parse_otlp(after)?;
-            Some(Mode::Otlp(asked, given))
+            let (export, given) = parse_otlp(after)?;
+            Some(Mode::Otlp(export, given))
         }
         "picture" => {
             let (asked, given) = parse_asked_and_given(after)?;
@@ -122,16 +139,27 @@ fn parse_asked_and_given(words: &[String]) -> Option<(Asked, &[String])>
     }
 }
 
-/// The same, where each attribute reads of the string that is given.
-fn parse_otlp(words: &[String]) -> Option<(Asked, &[String])>
+/// The encoding that the first of these words asks for, JSON where it asks for none, and the words after it.
+fn encoding_and_rest(words: &[String]) -> (Encoding, &[String])
+    ensures { NamesEncoding (map string_bytes words.now) result.0 (map string_bytes result.1.now) }
+{
+    match words {
+        [word, after @ ..] if word.as_str() == "protobuf" => (Encoding::Protobuf, after),
+        _ => (Encoding::Json, words),
+    }
+}
+
+/// The same and what is asked for after it, where each attribute reads of the string that is given.
+fn parse_otlp(words: &[String]) -> Option<(AskedExport, &[String])>
     ensures { MatchOption result
-        ((asked : Asked) (given : List (List ℕ)) → NamesOtlp (map string_bytes words.now) asked given → ⊥)
+        ((export : AskedExport) (given : List (List ℕ)) → NamesOtlp (map string_bytes words.now) export given → ⊥)
         (λ found. NamesOtlp (map string_bytes words.now) found.0 (map string_bytes found.1.now)) }
 {
-    let (asked, given) = parse_asked_and_given(words)?;
+    let (encoding, after) = encoding_and_rest(words);
+    let (asked, given) = parse_asked_and_given(after)?;
     match unread_member(given) {
         Some(_) => None,
-        None => Some((asked, given)),
+        None => Some((AskedExport { encoding, asked }, given)),
     }
 }
 
@@ -153,7 +181,8 @@ fn unread_after(words: &[String]) -> Option<&str>
         ((member : List ℕ) → NamesUnread (map string_bytes words.now) member → ⊥)
         (λ member. NamesUnread (map string_bytes words.now) member.now) }
 {
-    let (_, given) = parse_asked_and_given(words)?;
+    let (_, after) = encoding_and_rest(words);
+    let (_, given) = parse_asked_and_given(after)?;
     unread_member(given)
 }
 

@@ -1,18 +1,19 @@
-//! The mode `otlp`: each batch that a session exports is a line of the OpenTelemetry protocol's JSON, and no reply is
-//! written.
+//! The mode `otlp`: each batch that a session exports is a request of the OpenTelemetry protocol, as a line of its JSON
+//! or in the bytes of protobuf after their length, and no reply is written.
 
 ghost use Rattle.std.specs.Prelude.{◌≡◌, ◌++◌, [], IfOk, IsOk, OnErr, OnOk, map, string_bytes};
 ghost use Rattle.otel_resource.specs.DetectedResource.{IsDetected};
-ghost use Rattle.otel_otlp.specs.Otlp.{otlp_lines};
-ghost use Rattle.otel_trace_run.specs.OtlpRuns.{ExportsUnder, otlp_form};
+ghost use Rattle.otel_trace_run.specs.OtlpRuns.{ExportsUnder, encoded, otlp_form};
 ghost use Rattle.otel_trace_run.specs.Program.{strings_given};
 ghost use Rattle.otel_trace_run.specs.Streams.{streams};
 ghost use Rattle.otel_trace_session.specs.Calls.{calls_of};
 
+use crate::mode::Encoding;
 use crate::run_end::RunEnd;
 use crate::trace_stream::trace_input;
 use otel_export::trace::SpanData;
 use otel_otlp::write_requests;
+use otel_otlp_protobuf::write_delimited_requests;
 use otel_pipeline::trace::{KeepsBatches, ProviderOf};
 use otel_resource::resource::{Resource, ResourceStrings};
 use otel_sampling::trace::{GivesIds, ShouldSample};
@@ -21,37 +22,45 @@ use std::alloc::{AllocError, Global};
 use std::io::{Read, Write};
 use std::marker::Model;
 
-/// Replies as the lines of their batches, of one resource. Answers are not written.
+/// Replies as the requests of their batches, of one resource. Answers are not written.
 #[derive(Drop)]
-struct OtlpLines {
+struct OtlpRequests {
+    encoding: Encoding,
     resource: Resource,
     alloc: Global,
 }
 
-impl Model for OtlpLines {
-    ghost use Rattle.otel_resource.specs.Resource.{PlainResource};
+impl Model for OtlpRequests {
+    ghost use Rattle.std.specs.Coded.{codes};
     ghost use Rattle.otel_resource.specs.ResourceCode.{resource_code};
+    ghost use Rattle.otel_trace_run.specs.OtlpRuns.{Encoded};
+    ghost use Rattle.otel_trace_run.specs.contracts.mode.Encoding.{the_row};
 
-    ghost Value = { PlainResource };
+    ghost Value = { Encoded };
 
-    ghost coded = { resource_code };
+    ghost coded = { Prim.hlevel (codes, the_row.coded, resource_code) };
 
-    ghost view = { λ lines. lines.resource };
+    ghost view = { λ requests. record { encoding = requests.encoding; resource = requests.resource } };
 }
 
-impl OtlpLines {
-    /// Writes the lines of batches, or nothing where memory runs out.
-    fn write_lines(&self, output: &mut Vec<u8>, batches: &[Vec<SpanData>]) -> Result<(), AllocError>
+impl OtlpRequests {
+    /// Writes the requests of batches, or nothing where memory runs out.
+    fn write(&self, output: &mut Vec<u8>, batches: &[Vec<SpanData>]) -> Result<(), AllocError>
         ensures ok { OnOk result (output.new.items ≡ output.old.items
-            ++ otlp_lines self.now (map (λ batch. batch.items) batches.now)) }
+            ++ encoded self.now (map (λ batch. batch.items) batches.now)) }
         ensures err { OnErr result (output.new.items ≡ output.old.items) }
-        ensures free { otlp_lines self.now (map (λ batch. batch.items) batches.now) ≡ [] → IsOk result }
+        ensures free { encoded self.now (map (λ batch. batch.items) batches.now) ≡ [] → IsOk result }
     {
-        write_requests(self.alloc, output, &self.resource, batches)
+        match self.encoding {
+            Encoding::Json => write_requests(self.alloc, output, &self.resource, batches),
+            Encoding::Protobuf => {
+                write_delimited_requests(self.alloc, output, &self.resource, batches)
+            }
+        }
     }
 }
 
-impl ReplyForm for OtlpLines {
+impl ReplyForm for OtlpRequests {
     ghost use Rattle.otel_trace_run.specs.OtlpRuns.{otlp_form};
 
     ghost form = { otlp_form };
@@ -62,7 +71,7 @@ impl ReplyForm for OtlpLines {
         exported: &[Vec<SpanData>],
         _answer: Answer,
     ) -> Result<(), AllocError> {
-        self.write_lines(output, exported)
+        self.write(output, exported)
     }
 
     fn write_rest(
@@ -70,7 +79,7 @@ impl ReplyForm for OtlpLines {
         output: &mut Vec<u8>,
         batches: &[Vec<SpanData>],
     ) -> Result<(), AllocError> {
-        self.write_lines(output, batches)
+        self.write(output, batches)
     }
 
     fn minds_drops(&self) -> bool {
@@ -106,16 +115,21 @@ pub(crate) fn resource_of(alloc: Global, given: &[String]) -> Result<Resource, A
 pub(crate) fn export_input<P: KeepsBatches, S: ShouldSample, G: GivesIds, R: Read, W: Write>(
     alloc: Global,
     provider: ProviderOf<P, S, G>,
+    encoding: Encoding,
     resource: Resource,
     input: &mut R,
     output: &mut W,
 ) -> RunEnd
     ensures { ExportsUnder
         (calls_of P.SpanProcessor P.Timed.own P.CountsLeftSpans.own P.KeepsBatches.own S.ShouldSample G.GivesIds)
-        resource provider
+        (record { encoding = encoding; resource = resource }) provider
         (streams (R.remaining input.old) (R.remaining input.new) (W.contents output.old) (W.contents output.new))
         result }
 {
-    let mut lines = OtlpLines { resource, alloc };
-    trace_input(alloc, provider, &mut lines, input, output)
+    let mut requests = OtlpRequests {
+        encoding,
+        resource,
+        alloc,
+    };
+    trace_input(alloc, provider, &mut requests, input, output)
 }

@@ -36,8 +36,8 @@ pub const HELP: &str =
     \x20   writes a reply for each, example: otel_trace trace 0 simple < request.txt\n\
     otel_trace steps Q B P\n\
     \x20   steps a batch queue, example: otel_trace steps 2 2 1 < steps.txt\n\
-    otel_trace otlp SEED simple [ATTRIBUTES]\n\
-    otel_trace otlp SEED batch Q B [ATTRIBUTES]\n\
+    otel_trace otlp [protobuf] SEED simple [ATTRIBUTES]\n\
+    otel_trace otlp [protobuf] SEED batch Q B [ATTRIBUTES]\n\
     \x20   writes a line of OTLP JSON for each batch, example: otel_trace otlp 0 simple service.name=shop < request.txt\n\
     otel_trace picture SEED simple [COLUMNS]\n\
     otel_trace picture SEED batch Q B [COLUMNS]\n\
@@ -62,11 +62,11 @@ pub const STEPS_HELP: &str = "otel_trace steps Q B P\n\
     \n\
     example: otel_trace steps 2 2 1 < steps.txt\n";
 
-pub const OTLP_HELP: &str = "otel_trace otlp SEED simple [ATTRIBUTES]\n\
-    otel_trace otlp SEED batch Q B [ATTRIBUTES]\n\
+pub const OTLP_HELP: &str = "otel_trace otlp [protobuf] SEED simple [ATTRIBUTES]\n\
+    otel_trace otlp [protobuf] SEED batch Q B [ATTRIBUTES]\n\
     \n\
-    Writes a line of OTLP JSON for each batch that is exported. ATTRIBUTES, as key=value,key=value, describe the\n\
-    resource.\n\
+    Writes a line of OTLP JSON for each batch that is exported, or after the word protobuf the bytes of its request,\n\
+    after how many they are. ATTRIBUTES, as key=value,key=value, describe the resource.\n\
     \n\
     example: otel_trace otlp 0 simple service.name=shop < request.txt\n";
 
@@ -89,7 +89,7 @@ pub const SVG_HELP: &str = "otel_trace svg SEED simple\n\
 const USAGE: &str = "usage: otel_trace trace SEED simple | trace SEED batch Q B | steps Q B P\n";
 
 pub const OTLP_USAGE: &str =
-    "usage: otel_trace otlp SEED simple [ATTRIBUTES] | otlp SEED batch Q B [ATTRIBUTES]\n";
+    "usage: otel_trace otlp [protobuf] SEED simple [ATTRIBUTES] | otlp [protobuf] SEED batch Q B [ATTRIBUTES]\n";
 
 pub const PICTURE_USAGE: &str =
     "usage: otel_trace picture SEED simple [COLUMNS] | picture SEED batch Q B [COLUMNS]\n";

@@ -25,7 +25,7 @@ ghost use Rattle.otel_trace_run.specs.Program.{Runs, RunsTo};
 ghost use Rattle.otel_trace_run.specs.Reasons.{IsFault};
 ghost use Rattle.otel_trace_run.specs.Streams.{Reports, streams};
 
-use crate::mode::{Asked, Mode, parse_mode, unread_attribute};
+use crate::mode::{Asked, AskedExport, Mode, parse_mode, unread_attribute};
 use crate::otlp::{export_input, resource_of};
 use crate::pages::{OTLP_USAGE, Page, parse_page, text_of, usage_for};
 use crate::picture::{PictureForm, SpanPainter, draw_input};
@@ -108,7 +108,7 @@ fn run_mode<R: Read, W: Write>(alloc: Global, mode: Mode, input: &mut R, output:
     match mode {
         Mode::Trace(asked) => run_trace(alloc, asked, input, output),
         Mode::Steps(sizes) => step_input(alloc, sizes, input, output),
-        Mode::Otlp(asked, given) => run_otlp(alloc, asked, given, input, output),
+        Mode::Otlp(export, given) => run_otlp(alloc, export, given, input, output),
         Mode::Picture(asked, form) => run_picture(alloc, asked, form, input, output),
     }
 }
@@ -139,22 +139,22 @@ fn run_trace<R: Read, W: Write>(
 /// for it or for its resource.
 fn run_otlp<R: Read, W: Write>(
     alloc: Global,
-    asked: Asked,
+    export: AskedExport,
     given: &[String],
     input: &mut R,
     output: &mut W,
 ) -> RunEnd
     ensures { RunsTo
         ⟦<TraceProvider as SessionProvider>⟧.calls ⟦<PictureForm as SpanPainter>⟧.paints
-        (otlp asked (map string_bytes given.now))
+        (otlp export (map string_bytes given.now))
         (streams (R.remaining input.old) (R.remaining input.new) (W.contents output.old) (W.contents output.new))
         result }
 {
     let Ok(resource) = resource_of(alloc, given) else {
         return RunEnd::Failed;
     };
-    match make_provider(alloc, asked, true) {
-        Ok(provider) => export_input(alloc, provider, resource, input, output),
+    match make_provider(alloc, export.asked, true) {
+        Ok(provider) => { export_input(alloc, provider, export.encoding, resource, input, output) }
         Err(_) => RunEnd::Failed,
     }
 }

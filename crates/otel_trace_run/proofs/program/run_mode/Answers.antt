@@ -9,5 +9,5 @@ pub returns-in-Otlp : goal.returns-in-Otlp
 returns-in-Otlp g c =
     let s = streams (g.R.Read.remaining c.args.input.now) (g.R.Read.remaining c.run_otlp.new.input)
     (g.W.Write.contents c.args.output.now) (g.W.Write.contents c.run_otlp.new.output) in
-    runs_same _ _ (plain_mode c.args.mode) (otlp c.in-Otlp.asked (map string_bytes c.in-Otlp.given.now)) s c.run_otlp.result
+    runs_same _ _ (plain_mode c.args.mode) (otlp c.in-Otlp.export (map string_bytes c.in-Otlp.given.now)) s c.run_otlp.result
     (ap plain_mode (sym c.in-Otlp.is)) c.run_otlp.ensures
