@@ -1,8 +1,9 @@
 """A stand-in for a collector, on the loopback alone: it answers as OTLP over HTTP has it, and notes what came.
 
-`POST /v1/traces` with `application/json` is answered by 200 and `{}`, or `partialSuccess` where a span came before; a
-body that cannot be read by 400 and a `Status`; another type or an encoding by 415; another path by 404. What a client
-sent that has closed the connection meanwhile is not taken.
+`POST /v1/traces` is answered by 200 and a response without members, or `partialSuccess` where a span came before; a
+body that cannot be read by 400 and a `Status`; a type that is neither JSON nor protobuf, or an encoding, by 415; another
+path by 404. Answers are of the type of the request. What a client sent that has closed the connection meanwhile is not
+taken.
 """
 
 import collections
@@ -15,7 +16,7 @@ import threading
 from http.server import BaseHTTPRequestHandler, ThreadingHTTPServer
 
 PATH = "/v1/traces"
-TYPE = "application/json"
+JSON, PROTOBUF = "application/json", "application/x-protobuf"
 # Codes of `google.rpc.Code`.
 INVALID_ARGUMENT, NOT_FOUND, UNIMPLEMENTED, UNAVAILABLE = 3, 5, 12, 14
 
@@ -39,8 +40,8 @@ def name_of(key):
 class Received:
     """What came: spans by their ids, in order, and what was wrong."""
 
-    def __init__(self, read, failing, last, kept):
-        self.read = read
+    def __init__(self, readers, failing, last, kept):
+        self.readers = readers
         self.failing = failing
         self.last = last
         self.kept = kept
@@ -59,7 +60,7 @@ class Received:
             self.turned_away += is_busy
             return is_busy
 
-    def take(self, body, is_left):
+    def take(self, kind, body, is_left):
         """Takes a body: the keys of its spans that came before. A fault where it cannot be read.
 
         It is not taken, and the answer is None, where whoever sent it no longer waits, and so has to send it again.
@@ -69,14 +70,15 @@ class Received:
             if self.requests == self.last:
                 self.is_over.set()
             try:
-                found = [(key_of(it[0]), it) for it in spans_of(self.read(body))]
+                tree = self.readers[kind](body)
+                found = [(key_of(it[0]), it) for it in spans_of(tree)]
             except Exception as fault:
                 self.faults.append(f"request {self.requests} cannot be read: {fault}")
                 raise
             if is_left():
                 self.left += 1
                 return None
-            self.keep(body)
+            self.keep(body if kind == JSON else json.dumps(tree, ensure_ascii=False, separators=(",", ":")).encode())
             twice = []
             for key, span in found:
                 if key in self.spans:
@@ -90,6 +92,26 @@ class Received:
         if self.kept:
             self.kept.write(body.removesuffix(b"\n") + b"\n")
             self.kept.flush()
+
+
+def varint(number):
+    """A number by seven bits a byte."""
+    return bytes([number]) if number < 128 else bytes([128 + number % 128]) + varint(number // 128)
+
+
+def texts_of(number, text):
+    """A field of protobuf that holds a text or a message."""
+    return varint(8 * number + 2) + varint(len(text)) + text
+
+
+def status_bytes(code, message):
+    """A `Status` of `google.rpc`."""
+    return varint(8) + varint(code) + texts_of(2, message.encode())
+
+
+def partial_bytes(rejected, message):
+    """A response that rejects so many spans."""
+    return texts_of(1, varint(8) + varint(rejected) + texts_of(2, message.encode()))
 
 
 class Answers(BaseHTTPRequestHandler):
@@ -109,21 +131,24 @@ class Answers(BaseHTTPRequestHandler):
         body = self.rfile.read(int(length))
         if self.path != PATH:
             return self.refuse(404, NOT_FOUND, f"nothing is at {self.path}, traces are posted to {PATH}")
-        if self.headers.get_content_type() != TYPE or self.headers.get("Content-Encoding", "identity") != "identity":
-            return self.refuse(415, UNIMPLEMENTED, f"only {TYPE} without an encoding is read")
+        kind = self.headers.get_content_type()
+        if kind not in self.received.readers or self.headers.get("Content-Encoding", "identity") != "identity":
+            types = " and ".join(self.received.readers)
+            return self.refuse(415, UNIMPLEMENTED, f"{types} without an encoding is what is read")
         if self.received.turns_away():
             return self.refuse(self.failing_status, UNAVAILABLE, "as --fail asks", [("Retry-After", "1")])
         try:
-            twice = self.received.take(body, self.is_left)
+            twice = self.received.take(kind, body, self.is_left)
         except self.fault_type as fault:
             return self.refuse(400, INVALID_ARGUMENT, str(fault))
         if twice is None:
             self.close_connection = True
             return None
         if not twice:
-            return self.answer(200, {})
+            return self.answer(200, {}, b"")
         message = f"came before: {', '.join(name_of(it) for it in twice)}"
-        return self.answer(200, {"partialSuccess": {"rejectedSpans": str(len(twice)), "errorMessage": message}})
+        tree = {"partialSuccess": {"rejectedSpans": str(len(twice)), "errorMessage": message}}
+        return self.answer(200, tree, partial_bytes(len(twice), message))
 
     def is_left(self):
         """Whether the client has closed the connection before it was answered."""
@@ -137,12 +162,16 @@ class Answers(BaseHTTPRequestHandler):
         self.refuse(405, UNIMPLEMENTED, "requests are posted", [("Allow", "POST")])
 
     def refuse(self, status, code, message, headers=()):
-        self.answer(status, {"code": code, "message": message}, headers)
+        self.answer(status, {"code": code, "message": message}, status_bytes(code, message), headers)
 
-    def answer(self, status, tree, headers=()):
-        text = json.dumps(tree).encode()
+    def answer(self, status, tree, message, headers=()):
+        """Answers by a tree, or by the bytes of the same message where the request was of protobuf."""
+        is_protobuf = self.headers.get_content_type() == PROTOBUF
+        text = message if is_protobuf else json.dumps(tree).encode()
         self.send_response(status)
-        fixed = [("Content-Type", TYPE), ("Content-Length", str(len(text))), ("Connection", "close")]
+        fixed = [("Content-Type", PROTOBUF if is_protobuf else JSON), ("Content-Length", str(len(text)))]
+        if self.close_connection:
+            fixed.append(("Connection", "close"))
         for name, value in [*fixed, *headers]:
             self.send_header(name, value)
         self.end_headers()
@@ -187,14 +216,14 @@ def show(spans):
             print(f"  {span['spanId']} parent {span['parentSpanId'] or 'none'} {json.dumps(span['name'])}")
 
 
-def serve(words, read, fault_type):
+def serve(words, readers, fault_type):
     """Serves as the words ask, until it has had its requests or a signal comes, and answers whether all was well.
 
-    `read` makes a tree of a body, or raises a fault of this type. It is asked by one thread at a time.
+    `readers` make a tree of a body of their type, or raise a fault of this type. One thread asks them at a time.
     """
-    expected = expected_spans(words.expect, read) if words.expect else None
+    expected = expected_spans(words.expect, readers[JSON]) if words.expect else None
     kept = open(words.keep, "ab") if words.keep else None
-    received = Received(read, words.fail, words.requests, kept)
+    received = Received(readers, words.fail, words.requests, kept)
     how = {"received": received, "fault_type": fault_type, "failing_status": words.fail_with}
     server = Server(("127.0.0.1", words.serve), type("AnswersHere", (Answers,), how))
     serving = threading.Thread(target=server.serve_forever, args=(0.05,))
