@@ -1,5 +1,5 @@
 -- What was done to a pipeline was done to that of its handle.
-use Rattle.std.proofs.Common.{◌≡◌, ◌≢◌, ℕ, Option, Some, Result, Ok, Err, IfOk, OnErr, sym, subst}
+use Rattle.std.proofs.Common.{◌≡◌, ◌≢◌, ℕ, Bool, false, Option, None, Some, is_some, Result, Ok, Err, IfOk, OnErr, refl, sym, subst}
 use Rattle.otel_embed.specs.declared.pipeline.Pipeline.{Pipeline}
 use Rattle.otel_c.specs.Handles.{Holds, Turns, TurnsIfOpen}
 
@@ -8,6 +8,11 @@ turned Does was now p q e f did = subst (λ (x : Option Pipeline). Turns Does x 
 
 pub turned_if_open : (Does : Pipeline → Pipeline → Type 0) (was now : Option Pipeline) (p q : Pipeline) → was ≡ Some p → now ≡ Some q → Does p q → TurnsIfOpen Does was now
 turned_if_open Does was now p q e f did = subst (λ (x : Option Pipeline). TurnsIfOpen Does x now) (sym e) (subst (λ (y : Option Pipeline). TurnsIfOpen Does (Some p) y) (sym f) did)
+
+-- a handle that is not open holds none
+pub holds_none : (is_open : Bool) (held : Option Pipeline) → is_open ≡ is_some held → is_open ≡ false → held ≡ None
+holds_none is_open None says is_closed = refl
+holds_none is_open (Some p) says is_closed = absurd cc
 
 -- what holds of the pipeline that was put into a handle
 pub put_holds : (Is : Pipeline → Type 0) (now : Option Pipeline) (p q : Pipeline) → now ≡ Some q → q ≡ p → Is p → Holds Is now

@@ -1,7 +1,7 @@
 //! A pipeline's beginning and end.
 
-ghost use Rattle.std.specs.Prelude.{◌≡◌, ◌≢◌, ◌↔◌, None, false, true};
-ghost use Rattle.otel_c.specs.Handles.{Holds, Turns};
+ghost use Rattle.std.specs.Prelude.{◌≡◌, ◌≢◌, ◌↔◌, ◌⊎◌, None, false, string_bytes, true};
+ghost use Rattle.otel_c.specs.Handles.{CopiesText, Holds, Turns};
 ghost use Rattle.otel_embed.specs.HostValues.{host_scope};
 ghost use Rattle.otel_embed.specs.Opening.{OpensBy};
 ghost use Rattle.otel_embed.specs.Pipelines.{AddsTracer};
@@ -18,8 +18,9 @@ use std::alloc::Global;
 
 #[unsafe(no_mangle)]
 pub extern "C" fn otel_open(alloc: Global, handle: &mut Handle, settings: &[u8], seed: u64) -> u32
-    ensures ok { result ≡ 0 → (handle.old.held.pipeline ≡ None) × Holds (λ p.
-        OpensBy ⟦<HostProcessor as SpanProcessor>⟧ seed p.inside) handle.new.held.pipeline }
+    ensures ok { result ≡ 0 → (handle.old.held.pipeline ≡ None) × Holds (λ p. OpensBy
+        ⟦<HostProcessor as SpanProcessor>⟧ settings.now seed p.inside (string_bytes p.ignored))
+        handle.new.held.pipeline }
     ensures refused { result ≢ 0 → handle.new.held.pipeline ≡ handle.old.held.pipeline }
 {
     if handle.is_open {
@@ -45,6 +46,8 @@ pub extern "C" fn otel_ignored_settings(
     buffer: &mut [u8],
     text_length: &mut usize,
 ) -> u32
+    ensures ok { (result ≡ 0) ⊎ (result ≡ 8) → Holds (λ p.
+        CopiesText (string_bytes p.ignored) buffer.old result text_length.new buffer.new) handle.old.held.pipeline }
     ensures stays { handle.new.held.pipeline ≡ handle.old.held.pipeline }
     ensures refused { result ≢ 0 → buffer.new ≡ buffer.old }
 {

@@ -1,14 +1,11 @@
 -- What each call of a pipeline does to its flow.
-use Rattle.std.proofs.Common.{◌≡◌, ◌⊎◌, inl, inr, ℕ, List, [], Result, refl, ap}
-use Rattle.opentelemetry.specs.Plain.{PlainContext}
-use Rattle.otel_resource.specs.Resource.{PlainResource}
+use Rattle.std.proofs.Common.{◌≡◌, ◌⊎◌, inl, inr, [], Result, refl, ap}
 use Rattle.otel_export.specs.declared.error.OTelSdkError.{OTelSdkError}
 use Rattle.otel_pipeline.specs.Calls.{Calls}
-use Rattle.otel_pipeline.specs.Provider.{ProviderState}
 use Rattle.otel_pipeline.specs.StartRequest.{StartRequest}
 use Rattle.otel_embed.specs.Conserved.{CallsDo, FlowStays}
 use Rattle.otel_embed.specs.Flows.{Answers, Did, DoesTo, Flow, MayStart, delivered_by, ended, handed_by, rested, started, flushed, ran, shut, drained}
-use Rattle.otel_embed.specs.Pipelines.{PipelineState, RefusesIn}
+use Rattle.otel_embed.specs.Pipelines.{PipelineState}
 
 module _ {P S G : Type 0} (calls : Calls P S G) where
   keeps_resource : (old new : PipelineState P S G) → FlowStays calls old new → new.flow.resource ≡ old.flow.resource

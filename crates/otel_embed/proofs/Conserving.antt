@@ -1,12 +1,11 @@
 -- Each call keeps account of spans and of lines, and so does every list of calls.
-use Rattle.std.proofs.Common.{◌≡◌, ◌∙◌, ◌⊎◌, inl, inr, ℕ, Bool, List, [], ◌∷◌, ◌++◌, map, Result, Ok, Err, MatchBool, ◌||◌, true, false, refl, sym, ap, subst, append_assoc, append-nil}
+use Rattle.std.proofs.Common.{◌≡◌, ◌∙◌, ◌⊎◌, inl, inr, ℕ, Bool, List, [], ◌∷◌, ◌++◌, map, Result, Ok, MatchBool, ◌||◌, true, false, refl, sym, ap, subst, append_assoc, append-nil}
 use Rattle.std.specs.List.{flat_map}
 use Rattle.std.proofs.lemmas.List.Concat.{flat_map-append}
 use Rattle.otel_resource.specs.Resource.{PlainResource}
 use Rattle.otel_export.specs.declared.error.OTelSdkError.{OTelSdkError}
-use Rattle.otel_export.specs.KeptBatches.{OnlyAdds}
 use Rattle.otel_export.specs.PlainSpanData.{PlainSpanData}
-use Rattle.otel_export.specs.StoredBatches.{StoredBatches, all_stored, all_taken}
+use Rattle.otel_export.specs.StoredBatches.{StoredBatches, all_stored}
 use Rattle.otel_pipeline.specs.Calls.{Calls}
 use Rattle.otel_pipeline.specs.Deliveries.{Delivery, EachFollows}
 use Rattle.otel_pipeline.specs.Each.{error_count}
@@ -14,7 +13,7 @@ use Rattle.otel_pipeline.specs.Ending.{deliveries}
 use Rattle.otel_pipeline.specs.FirstProcessor.{stored_of_first}
 use Rattle.otel_pipeline.specs.ProcessorKeeps.{OnlyAppends}
 use Rattle.otel_pipeline.specs.Provider.{FlushesProcessor, ProviderState, RunsProcessor, ShutsDown, ShutsProcessor, shut_answer}
-use Rattle.otel_pipeline.specs.SpanHistory.{PlainSpan, span_of}
+use Rattle.otel_pipeline.specs.SpanHistory.{span_of}
 use Rattle.otel_pipeline.specs.StartRequest.{StartRequest}
 use Rattle.otel_pipeline.specs.Starting.{OnlyDraws}
 use Rattle.otel_pipeline.proofs.EndLemmas.{ends_followed}
@@ -22,7 +21,7 @@ use Rattle.otel_pipeline.proofs.FirstKeeps.{AddsToFirst, adds_nothing, delivers_
 use Rattle.otel_pipeline.proofs.Following.{EachFollows-append, EachFollows-asked, EachFollows-same}
 use Rattle.otel_pipeline.proofs.Starting.{answers_told, refused_draws}
 use Rattle.otel_otlp.specs.Otlp.{otlp_line, otlp_lines}
-use Rattle.otel_embed.specs.Conserved.{Conserves, CallsConserve, DoAll}
+use Rattle.otel_embed.specs.Conserved.{CallsConserve, DoAll}
 use Rattle.otel_embed.specs.Flows.{Did, rested, started, ended, flushed, ran, shut, drained, DoesTo, DoesToProvider, Flow, MayStart, delivered_by, handed_by, lines_held}
 
 abbrev Batches : Type 0

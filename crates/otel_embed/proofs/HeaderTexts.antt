@@ -1,10 +1,10 @@
 -- The headers that a host hands in, as texts of a carrier.
-use Rattle.std.proofs.Common.{◌≡◌, ◌≢◌, ◌∙◌, ℕ, List, Option, Some, None, refl, sym, subst, codes}
+use Rattle.std.proofs.Common.{◌≡◌, ◌∙◌, ℕ, List, Option, None, sym, subst, codes}
 use Rattle.std.specs.Cmp.Lexicographic.{slice_cmp}
 use Rattle.std.specs.FinMap as fin
 use Rattle.std.specs.Ordering.{nat_cmp}
 use Rattle.std.specs.Str.{str_to_ascii_lowercase}
-use Rattle.opentelemetry.specs.Carrier.{IsOtherName, Texts}
+use Rattle.opentelemetry.specs.Carrier.{Texts}
 use Rattle.opentelemetry.specs.TextMap.{TextMap, texts_of}
 use Rattle.otel_embed.specs.Headers.{AddsHeader, AreHeaders, PlainHeaders, SaysHeader}
 

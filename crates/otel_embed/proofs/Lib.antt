@@ -1,5 +1,5 @@
 -- Each call keeps account of spans and of lines; headers are set one after another; a refused start leaves the spans;
--- bytes of an id give it back.
+-- bytes of an id give it back; the settings of a text are those of its last lines.
 pub mod Conserving
 pub mod Refusing
 pub mod SettingHeaders
@@ -7,4 +7,6 @@ pub mod Hearing
 pub mod IdBytes
 pub mod CallFlows
 pub mod HeaderTexts
+pub mod SettingMaps
+pub mod LastLines
 pub mod Opening

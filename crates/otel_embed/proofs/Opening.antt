@@ -1,10 +1,22 @@
--- The provider that a pipeline opens over is what the builder of its one processor builds.
-use Rattle.std.proofs.Common.{◌≡◌, ◌++◌, ◌∷◌, [], Bool, false, List, subst, sym}
-use Rattle.otel_sampling.specs.ConfigStrings.{PlainBatchStrings}
+-- The provider that a pipeline opens over is what the builder of its one processor builds; and what opens by the settings
+-- of a text opens by that text.
+use Rattle.std.proofs.Common.{◌≡◌, ◌++◌, ◌∷◌, ◌∙◌, [], ℕ, Bool, false, List, ap, subst, sym}
+use Rattle.opentelemetry.specs.TextMap.{TextMap}
+use Rattle.otel_sampling.specs.ConfigStrings.{PlainBatchStrings, PlainConfigStrings}
 use Rattle.otel_sampling.specs.declared.trace.config.ConfigOf.{ConfigOf}
+use Rattle.otel_sampling.specs.declared.trace.id_generator.IdSourceOf.{IdSourceOf}
+use Rattle.otel_sampling.specs.declared.trace.sampler.SamplerOf.{SamplerOf}
+use Rattle.otel_export.specs.StoredBatches.{StoredBatches, none_stored}
+use Rattle.otel_export.specs.declared.trace.exporter_box.ExporterOf.TheVariants as exporters
 use Rattle.otel_pipeline.specs.Provider.{ProviderState}
 use Rattle.otel_pipeline.specs.ProviderBuilder.{BuilderState, Builds}
 use Rattle.otel_pipeline.specs.declared.trace.span_processor.SpanProcessor.{Ghosts}
+use Rattle.otel_embed.specs.Conserved.{Hosted}
+use Rattle.otel_embed.specs.IgnoredSettings.{ListsIgnored}
+use Rattle.otel_embed.specs.Opening.{BeginsAs, IsProcessorOver, OpensBy}
+use Rattle.otel_embed.specs.Pipelines.{PipelineState}
+use Rattle.otel_embed.specs.SettingLines.{AreStringsOf, processor_kind, settings_of}
+use Rattle.otel_embed.specs.declared.settings.ProcessorKind.{ProcessorKind}
 
 module _ {P S G : Type 0} (calls : Ghosts P) (config : ConfigOf S G) (made : P) where
   -- a builder of no processor, and one to which this one was added
@@ -22,3 +34,17 @@ module _ {P S G : Type 0} (calls : Ghosts P) (config : ConfigOf S G) (made : P) 
       let over_strings = subst (λ (s : PlainBatchStrings). Builds calls (record (empty_builder s disabled) { processors = made ∷ [] }) provider) strings over_begun in
       let over_all = subst (λ (d : Bool). Builds calls (record (empty_builder batch d) { processors = made ∷ [] }) provider) off over_strings in
       subst (λ (p : ProviderState P S G). Builds calls (record (empty_builder batch is_disabled) { processors = made ∷ [] }) p) (sym same) over_all
+
+-- what strings and a kind open is what the text opens that they are of
+pub opened_by : {C G : Type 0} (calls : Ghosts Hosted) (text given : List ℕ) (settings : TextMap) (strings : PlainConfigStrings) (kind : ProcessorKind) (stored : StoredBatches) (seed : ℕ)
+    (pipeline : PipelineState Hosted (SamplerOf C) (IdSourceOf G)) (ignored : List ℕ) → given ≡ text → settings ≡ settings_of given → AreStringsOf settings strings → kind ≡ processor_kind settings
+    → stored ≡ none_stored → BeginsAs calls (IsProcessorOver (exporters.Memory stored) kind) strings seed pipeline → ListsIgnored settings strings ignored → OpensBy calls text seed pipeline ignored
+opened_by calls text given settings strings kind stored seed pipeline ignored is_text are_settings are_strings is_kind is_empty begins lists =
+    let of_text : settings ≡ settings_of text = are_settings ∙ ap settings_of is_text in
+    record {
+      strings = strings;
+      are_strings = subst (λ (s : TextMap). AreStringsOf s strings) of_text are_strings;
+      begins = subst (λ (k : ProcessorKind). BeginsAs calls (IsProcessorOver (exporters.Memory none_stored) k) strings seed pipeline) (is_kind ∙ ap processor_kind of_text)
+          (subst (λ (s : StoredBatches). BeginsAs calls (IsProcessorOver (exporters.Memory s) kind) strings seed pipeline) is_empty begins);
+      lists = subst (λ (s : TextMap). ListsIgnored s strings ignored) of_text lists;
+    }

@@ -8,7 +8,7 @@ use Rattle.otel_export.specs.declared.trace.exporter_box.ExporterOf.{ExporterOf}
 use Rattle.otel_export.specs.declared.trace.exporter_box.ExporterOf.TheVariants as exporters
 use Rattle.otel_export.specs.declared.trace.no_exporter.NoExporter.{NoExporter}
 use Rattle.otel_pipeline.specs.Calls.{Calls}
-use Rattle.otel_pipeline.specs.Deliveries.{Delivery, EachFollows}
+use Rattle.otel_pipeline.specs.Deliveries.{EachFollows}
 use Rattle.otel_pipeline.specs.FirstProcessor.{stored_of_first}
 use Rattle.otel_pipeline.specs.SimpleProcessor.{SimpleProcessor}
 use Rattle.otel_pipeline.specs.SpanHistory.{Edit}

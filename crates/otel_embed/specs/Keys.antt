@@ -1,10 +1,10 @@
 -- The open spans of a pipeline by their keys: numbers from 1 on, each of which names one span for ever.
-use Rattle.std.specs.Prelude.{◌≡◌, ◌≤◌, ◌<◌, ◌+◌, ℕ, List, Option, Some, None, if◌then◌else◌, map}
+use Rattle.std.specs.Prelude.{◌≡◌, ◌≤◌, ◌<◌, ◌+◌, ℕ, List, Option, Some, None, if◌then◌else◌}
 use Rattle.std.specs.Ordering.{nat_cmp}
 use Rattle.std.specs.BTreeMap.{is_at}
 use Rattle.std.specs.Map.{lookup}
 use Rattle.opentelemetry.specs.Plain.{PlainContext}
-use Rattle.otel_pipeline.specs.SpanHistory.{Edit, PlainSpan, after, ended}
+use Rattle.otel_pipeline.specs.SpanHistory.{Edit, PlainSpan, after}
 
 -- an open span, and the context that it was started in
 pub record OpenedSpan : Type 0 where

@@ -4,4 +4,6 @@ pub mod Headers
 pub mod Flows
 pub mod Pipelines
 pub mod Conserved
+pub mod SettingLines
+pub mod IgnoredSettings
 pub mod Opening

@@ -15,7 +15,9 @@ use Rattle.otel_sampling.specs.declared.trace.config.ConfigOf.{ConfigOf}
 use Rattle.otel_sampling.specs.declared.trace.id_generator.IdSourceOf.{IdSourceOf}
 use Rattle.otel_sampling.specs.declared.trace.sampler.SamplerOf.{SamplerOf}
 use Rattle.otel_embed.specs.Conserved.{Hosted, HostedExporter}
+use Rattle.otel_embed.specs.IgnoredSettings.{ListsIgnored}
 use Rattle.otel_embed.specs.Pipelines.{PipelineState}
+use Rattle.otel_embed.specs.SettingLines.{AreStringsOf, processor_kind, settings_of}
 use Rattle.otel_embed.specs.declared.settings.ProcessorKind.{ProcessorKind}
 use Rattle.otel_embed.specs.declared.settings.ProcessorKind.TheVariants as kinds
 
@@ -55,10 +57,12 @@ IsProcessorOver exporter kind strings made = MatchKind kind (made ≡ processors
     ((config : PlainBatchConfig) × IsBatchConfigOf strings config
     × (made ≡ processors.Batch (eager_processor exporter config)))
 
--- a pipeline that a seed and some settings open, strings and the kind of the processor: over an exporter in memory that
--- stores nothing yet
-pub record OpensBy {C G : Type 0} (calls : Ghosts Hosted) (seed : ℕ)
-    (pipeline : PipelineState Hosted (SamplerOf C) (IdSourceOf G)) : Type 0 where
-  pub kind : ProcessorKind
+-- a pipeline that a text of settings and a seed open: over an exporter in memory that stores nothing yet, with a list
+-- of what is ignored
+pub record OpensBy {C G : Type 0} (calls : Ghosts Hosted) (text : List ℕ) (seed : ℕ)
+    (pipeline : PipelineState Hosted (SamplerOf C) (IdSourceOf G)) (ignored : List ℕ) : Type 0 where
   pub strings : PlainConfigStrings
-  pub begins : BeginsAs calls (IsProcessorOver (exporters.Memory none_stored) kind) strings seed pipeline
+  pub are_strings : AreStringsOf (settings_of text) strings
+  pub begins : BeginsAs calls (IsProcessorOver (exporters.Memory none_stored) (processor_kind (settings_of text)))
+      strings seed pipeline
+  pub lists : ListsIgnored (settings_of text) strings ignored

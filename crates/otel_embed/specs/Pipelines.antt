@@ -1,6 +1,6 @@
 -- A pipeline, and what its calls do to it.
 use Rattle.std.specs.Prelude.{◌≡◌, ◌==◌, ◌⊎◌, ◌++◌, ◌+◌, ◌-◌, ◌%◌, ◌^◌, ◌≤◌, ◌<◌, ℕ, drop, length, min, is_some}
-use Rattle.std.specs.Prelude.{◌↔◌, List, [], ◌∷◌, Option, Some, None, Result, IsOk, MatchBool, slice_get}
+use Rattle.std.specs.Prelude.{◌↔◌, List, [], ◌∷◌, Some, None, Result, IsOk, MatchBool, slice_get}
 use Rattle.std.specs.Option.{option_map_or}
 use Rattle.opentelemetry.specs.Carrier.{Texts}
 use Rattle.opentelemetry.specs.Plain.{PlainContext, PlainKeyValue, PlainScope}

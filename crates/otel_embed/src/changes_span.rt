@@ -24,7 +24,6 @@ impl ChangesSpan for SpanEdit {
 
     ghost edits = { λ edit. plain_edit edit ∷ [] };
 
-    #[inline(always)]
     fn apply(self, span: &mut Span) -> Result<(), AllocError> {
         span.edit(self)
     }
@@ -40,7 +39,6 @@ impl ChangesSpan for Attributes {
 
     ghost edits = { λ attributes. map set_attribute attributes.0.items };
 
-    #[inline(always)]
     fn apply(self, span: &mut Span) -> Result<(), AllocError> {
         span.set_attributes(self.0)
     }
@@ -61,7 +59,6 @@ impl ChangesSpan for MetError {
 
     ghost edits = { λ met. add_event (exception_event met.exception met.moment.0) ∷ [] };
 
-    #[inline(always)]
     fn apply(self, span: &mut Span) -> Result<(), AllocError> {
         span.record_exception(self.alloc, self.exception, self.moment)
     }

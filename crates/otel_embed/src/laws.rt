@@ -2,6 +2,7 @@
 
 ghost use Rattle.otel_pipeline.specs.Calls.{calls_of};
 ghost use Rattle.otel_embed.specs.Conserved.{CallsConserve, CallsDo, HearsWhatItHolds, Hosted};
+ghost use Rattle.otel_embed.specs.SettingLines.{LastLinesCount};
 
 use crate::pipeline::HostInside;
 use crate::pipeline_of::HostPipeline;
@@ -27,4 +28,9 @@ pub fn each_call_does<P: KeepsBatches, S: ShouldSample, G: GivesIds>()
 /// that were handed out, those that are held and the spans in the queue are all that it heard.
 pub fn hosts_hear_what_they_hold()
     ensures { (p : Hosted) → HearsWhatItHolds ⟦<HostInside as HostPipeline>⟧.calls p }
+{}
+
+/// The setting of a name is what the last line of that name says.
+pub fn last_lines_count()
+    ensures { LastLinesCount }
 {}

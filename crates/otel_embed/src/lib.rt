@@ -8,6 +8,7 @@ pub mod error;
 mod flow;
 mod headers;
 pub mod host_headers;
+mod ignored;
 pub mod laws;
 pub mod numbers;
 mod open_span;

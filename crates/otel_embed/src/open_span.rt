@@ -42,7 +42,6 @@ impl OpenSpan {
     }
 
     /// Makes a change of the span.
-    #[inline(always)]
     pub(crate) fn change<E: ChangesSpan>(&mut self, change: E) -> Result<(), AllocError>
         ensures ok { OnOk result (self.new ≡ record self.old { span = after (E.edits change) self.old.span }) }
         ensures err { OnErr result (self.new ≡ self.old) }

@@ -64,7 +64,6 @@ impl OpenSpans {
 
     /// Starts a span in a context, and answers its key. The place of the key comes first, so that a start that is
     /// refused has asked no processor.
-    #[inline(always)]
     pub(crate) fn start<P: SpanProcessor, S: ShouldSample, G: GivesIds>(
         &mut self,
         builder: SpanBuilder,
@@ -89,7 +88,6 @@ impl OpenSpans {
     }
 
     /// Changes the span of a key.
-    #[inline(always)]
     pub(crate) fn change<E: ChangesSpan>(
         &mut self,
         key: u64,
@@ -137,7 +135,6 @@ impl OpenSpans {
 }
 
 /// Starts a span under a key that is free, in a context.
-#[inline(always)]
 fn start_under<P: SpanProcessor, S: ShouldSample, G: GivesIds>(
     spans: &mut BTreeMap<u64, OpenSpan>,
     key: u64,

@@ -1,6 +1,6 @@
 //! The pipeline of a host: a processor over an exporter in memory, by the settings that the host hands in.
 
-ghost use Rattle.std.specs.Prelude.{◌≡◌, ◌++◌, ◌∷◌, [], IfOk};
+ghost use Rattle.std.specs.Prelude.{◌≡◌, ◌++◌, ◌∷◌, [], IfOk, string_bytes};
 ghost use Rattle.otel_sampling.specs.Config.{IsConfigOf};
 ghost use Rattle.otel_embed.specs.Opening.{BeginsAs, MatchKind, OpensBy};
 
@@ -115,7 +115,8 @@ fn pipeline_with<P: FromExporter>(
 impl Pipeline {
     /// Opens a pipeline. The settings are lines `NAME=VALUE`; the seed decides all ids.
     pub fn open(alloc: Global, settings: &[u8], seed: u64) -> Result<Pipeline, PipelineError>
-        ensures { IfOk result (λ pipeline. OpensBy ⟦<HostProcessor as SpanProcessor>⟧ seed pipeline.inside) }
+        ensures { IfOk result (λ pipeline. OpensBy
+            ⟦<HostProcessor as SpanProcessor>⟧ settings.now seed pipeline.inside (string_bytes pipeline.ignored)) }
     {
         let Ok(text) = str::from_utf8(settings) else {
             return Err(PipelineError::NotUtf8);
@@ -130,7 +131,9 @@ impl Pipeline {
 
     /// The names of the settings that were ignored, each with a line feed after it: those that nobody knows, and those
     /// whose values do not read.
-    pub fn ignored_settings(&self) -> &str {
+    pub fn ignored_settings(&self) -> &str
+        ensures { result.now ≡ string_bytes self.now.ignored }
+    {
         self.ignored.as_str()
     }
 }

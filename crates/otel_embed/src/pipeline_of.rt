@@ -191,7 +191,6 @@ impl<P: KeepsBatches, S: ShouldSample, G: GivesIds> PipelineOf<P, S, G> {
     }
 
     /// Changes the span of a key. Nothing else happens.
-    #[inline(always)]
     pub(crate) fn change<E: ChangesSpan>(
         &mut self,
         span: u64,
@@ -222,7 +221,6 @@ impl<P: KeepsBatches, S: ShouldSample, G: GivesIds> PipelineOf<P, S, G> {
 
     /// Starts a span under the span of a key, or a root where that is 0, and answers its key. It has the attributes
     /// that were gathered.
-    #[inline(always)]
     pub(crate) fn start_under(
         &mut self,
         start: HostStart,
@@ -243,7 +241,6 @@ impl<P: KeepsBatches, S: ShouldSample, G: GivesIds> PipelineOf<P, S, G> {
     }
 
     /// Starts a span in a context.
-    #[inline(always)]
     pub(crate) fn start_in(
         &mut self,
         start: HostStart,

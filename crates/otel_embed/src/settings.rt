@@ -1,16 +1,21 @@
 //! The settings of a pipeline: lines `NAME=VALUE`, as the variables of an environment. Their names are those that the
 //! OpenTelemetry specification gives ("Environment Variable Specification"), and one of our own for the processor.
 
-ghost use Rattle.std.specs.Prelude.{◌≡◌};
+ghost use Rattle.std.specs.Prelude.{◌≡◌, IfOk, OnOk, string_bytes};
+ghost use Rattle.opentelemetry.specs.TextMap.{text_map};
+ghost use Rattle.otel_embed.specs.IgnoredSettings.{ListsIgnored};
+ghost use Rattle.otel_embed.specs.SettingLines.{AreStringsOf, kind_named, named_kind, processor_kind, setting_of};
+ghost use Rattle.otel_embed.specs.SettingLines.{settings_of, with_line};
 
+use crate::ignored::{push_faults, push_unread};
 use otel_host::{EnvError, Variables, config_strings_in};
 use otel_sampling::trace::ConfigStrings;
-use std::alloc::{AllocError, AllocFailed, Global};
+use std::alloc::{AllocError, Global};
 use std::collections::BTreeMap;
 use std::marker::Model;
 
 /// The setting that says when a processor exports.
-const PROCESSOR: &str = "OTEL_SPAN_PROCESSOR";
+pub(crate) const PROCESSOR: &str = "OTEL_SPAN_PROCESSOR";
 
 /// When ended spans are exported.
 #[derive(Clone, Copy, Debug, PartialEq, Eq)]
@@ -29,12 +34,22 @@ pub(crate) struct Settings {
     values: BTreeMap<String, String>,
 }
 
-impl Variables for Settings {
-    ghost use Rattle.std.specs.Prelude.{◌≡◌, string_bytes};
-    ghost use Rattle.std.specs.Option.{option_map};
-    ghost use Rattle.std.specs.BTreeMap.{get_by_text};
+impl Model for Settings {
+    ghost use Rattle.std.specs.Coded.{coded_list, coded_ℕ};
+    ghost use Rattle.std.specs.FinMap.{code};
+    ghost use Rattle.opentelemetry.specs.TextMap.{TextMap, text_map};
 
-    ghost holds = { λ settings name found. found ≡ option_map string_bytes (get_by_text settings.values name) };
+    ghost Value = { TextMap };
+
+    ghost coded = { code (coded_list coded_ℕ) (coded_list coded_ℕ) };
+
+    ghost view = { λ a. text_map a.values };
+}
+
+impl Variables for Settings {
+    ghost use Rattle.otel_embed.specs.SettingLines.{IsSetting};
+
+    ghost holds = { IsSetting };
 
     fn value(&self, name: &'static str) -> Result<Option<String>, EnvError> {
         match self.values.get(name) {
@@ -49,22 +64,20 @@ impl Variables for Settings {
 
 impl Settings {
     /// Reads lines. A line without an equals sign is a name without a value; of two lines of one name the later counts.
-    pub(crate) fn read(alloc: Global, text: &str) -> Result<Settings, AllocError> {
+    pub(crate) fn read(alloc: Global, text: &str) -> Result<Settings, AllocError>
+        ensures { IfOk result (λ settings. settings ≡ settings_of text.now) }
+    {
         let mut values = BTreeMap::new(alloc);
         for line in text.lines() {
-            if line.is_empty() {
-                continue;
-            }
-            let (name, value) = line.split_once('=').unwrap_or((line, ""));
-            let name = String::from_str(alloc, name)?;
-            let value = String::from_str(alloc, value)?;
-            let _earlier = values.insert(name, value)?;
+            add_line(alloc, &mut values, line)?;
         }
         Ok(Settings { values })
     }
 
     /// The strings that configure an SDK.
-    pub(crate) fn strings(&self, alloc: Global) -> Result<ConfigStrings, AllocError> {
+    pub(crate) fn strings(&self, alloc: Global) -> Result<ConfigStrings, AllocError>
+        ensures { IfOk result (AreStringsOf self.now) }
+    {
         match config_strings_in(alloc, self, "otel") {
             Ok(strings) => Ok(strings),
             Err(_) => Err(AllocError),
@@ -72,11 +85,10 @@ impl Settings {
     }
 
     /// When spans are exported; eager where nothing is said, or what does not read.
-    pub(crate) fn processor_kind(&self) -> ProcessorKind {
-        match self.values.get(PROCESSOR) {
-            Some(text) => kind_of(text.as_str()).unwrap_or(ProcessorKind::Eager),
-            None => ProcessorKind::Eager,
-        }
+    pub(crate) fn processor_kind(&self) -> ProcessorKind
+        ensures { result ≡ processor_kind self.now }
+    {
+        named_kind(&self.values).unwrap_or(ProcessorKind::Eager)
     }
 
     /// The names of the settings that are ignored, each with a line feed after it: those that nobody knows, and those
@@ -85,27 +97,49 @@ impl Settings {
         &self,
         alloc: Global,
         strings: &ConfigStrings,
-    ) -> Result<String, AllocError> {
+    ) -> Result<String, AllocError>
+        ensures { IfOk result (λ names. ListsIgnored self.now strings.now (string_bytes names)) }
+    {
         let mut names = String::new(alloc);
-        for (name, value) in &self.values {
-            if !is_known(name.as_str()) || is_no_kind(name.as_str(), value.as_str()) {
-                push_line(&mut names, name.as_str())?;
-            }
-        }
-        for fault in &strings.faults(alloc)? {
-            push_line(&mut names, fault.setting.name())?;
-        }
+        push_unread(&mut names, &self.values)?;
+        let faults = strings.faults(alloc)?;
+        push_faults(&mut names, &faults)?;
         Ok(names)
     }
 }
 
-fn push_line(names: &mut String, name: &str) -> Result<(), AllocError> {
-    names.push_str(name)?;
-    names.push('\n')
+/// The name and the value of a line.
+fn setting_of(line: &str) -> (&str, &str)
+    ensures { (result.0.now ≡ (setting_of line.now).0) × (result.1.now ≡ (setting_of line.now).1) }
+{
+    match line.split_once('=') {
+        Some(setting) => setting,
+        None => (line, ""),
+    }
 }
 
-/// The kind of a processor that a text names.
-fn kind_of(text: &str) -> Option<ProcessorKind> {
+/// Adds the setting of a line, in place of an earlier one of its name; an empty line is none.
+fn add_line(
+    alloc: Global,
+    values: &mut BTreeMap<String, String>,
+    line: &str,
+) -> Result<(), AllocError>
+    ensures { OnOk result (text_map values.new ≡ with_line (text_map values.old) line.now) }
+{
+    if line.is_empty() {
+        return Ok(());
+    }
+    let (name, value) = setting_of(line);
+    let name = String::from_str(alloc, name)?;
+    let value = String::from_str(alloc, value)?;
+    let _earlier = values.insert(name, value)?;
+    Ok(())
+}
+
+/// The kind of processor that a text names.
+fn kind_named(text: &str) -> Option<ProcessorKind>
+    ensures { result ≡ kind_named text.now }
+{
     match text {
         "simple" => Some(ProcessorKind::Simple),
         "batch" => Some(ProcessorKind::Batch),
@@ -114,32 +148,12 @@ fn kind_of(text: &str) -> Option<ProcessorKind> {
     }
 }
 
-/// Whether a setting is that of the processor, and names none.
-fn is_no_kind(name: &str, value: &str) -> bool {
-    name == PROCESSOR && kind_of(value).is_none()
-}
-
-/// Whether a setting has a meaning here.
-fn is_known(name: &str) -> bool {
-    match name {
-        PROCESSOR
-        | "OTEL_RESOURCE_ATTRIBUTES"
-        | "OTEL_SERVICE_NAME"
-        | "OTEL_SDK_DISABLED"
-        | "OTEL_TRACES_SAMPLER"
-        | "OTEL_TRACES_SAMPLER_ARG"
-        | "OTEL_BSP_SCHEDULE_DELAY"
-        | "OTEL_BSP_MAX_QUEUE_SIZE"
-        | "OTEL_BSP_MAX_EXPORT_BATCH_SIZE"
-        | "OTEL_BSP_EXPORT_TIMEOUT"
-        | "OTEL_ATTRIBUTE_COUNT_LIMIT"
-        | "OTEL_ATTRIBUTE_VALUE_LENGTH_LIMIT"
-        | "OTEL_SPAN_ATTRIBUTE_COUNT_LIMIT"
-        | "OTEL_SPAN_ATTRIBUTE_VALUE_LENGTH_LIMIT"
-        | "OTEL_SPAN_EVENT_COUNT_LIMIT"
-        | "OTEL_SPAN_LINK_COUNT_LIMIT"
-        | "OTEL_EVENT_ATTRIBUTE_COUNT_LIMIT"
-        | "OTEL_LINK_ATTRIBUTE_COUNT_LIMIT" => true,
-        _ => false,
+/// The kind of processor that settings name.
+pub(crate) fn named_kind(values: &BTreeMap<String, String>) -> Option<ProcessorKind>
+    ensures { result ≡ named_kind (text_map values.now) }
+{
+    match values.get(PROCESSOR) {
+        Some(text) => kind_named(text.as_str()),
+        None => None,
     }
 }

@@ -1,22 +1,7 @@
-use Rattle.std.proofs.Common.{subst}
-use Rattle.otel_export.specs.StoredBatches.{StoredBatches}
-use Rattle.otel_export.specs.declared.trace.exporter_box.ExporterOf.TheVariants as exporters
-use Rattle.otel_embed.specs.Opening.{IsProcessorOver}
+use Rattle.otel_embed.proofs.Opening.{opened_by}
 use Rattle.otel_embed.proofs.pipeline.Pipeline.open.Goals as goal
 
 pub returns : goal.returns
 returns c =
-    let begins = c.in_ok-inside.ensures in
-    record {
-      kind = c.processor_kind.result;
-      strings = c.in_ok-strings.strings;
-      begins = record {
-        processor = begins.processor;
-        is_processor = subst (λ (stored : StoredBatches). IsProcessorOver (exporters.Memory stored) c.processor_kind.result c.in_ok-strings.strings.batch begins.processor)
-            c.new.ensures.kept begins.is_processor;
-        config = begins.config;
-        is_config = begins.is_config;
-        builds = begins.builds;
-        rest = begins.rest;
-      };
-    }
+    opened_by _ c.args.settings.now c.in-Ok.text.now c.in_ok-settings.settings c.in_ok-strings.strings c.processor_kind.result _ c.args.seed _ _ c.in-Ok.ensures.cases.0 c.in_ok-settings.ensures c.in_ok-strings.ensures
+    c.processor_kind.ensures c.new.ensures.kept c.in_ok-inside.ensures c.in_ok-ignored.ensures

@@ -1,10 +1,10 @@
-use Rattle.std.proofs.Common.{rules, ◌≡◌, ◌∙◌, ◌∷◌, [], List, subst}
+use Rattle.std.proofs.Common.{rules, ◌≡◌, ◌∙◌, ◌∷◌, [], subst}
 use Rattle.opentelemetry.proofs.Clauses.{on_ok_map}
 use Rattle.opentelemetry.specs.Plain.{PlainLink}
 use Rattle.opentelemetry.specs.PlainContexts.{current_span_context}
 use Rattle.otel_pipeline.specs.SpanEdits.{new_link}
 use Rattle.otel_pipeline.specs.SpanHistory.{add_link}
-use Rattle.otel_embed.specs.Pipelines.{EditsSpan, PipelineState, taken}
+use Rattle.otel_embed.specs.Pipelines.{EditsSpan, PipelineState}
 use Rattle.otel_embed.proofs.pipeline_of.PipelineOf.add_remote_link.Goals as goal
 
 pub returns-clause-ok : goal.returns-clause-ok
