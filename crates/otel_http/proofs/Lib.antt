@@ -1,3 +1,4 @@
+pub mod ConnectionLemmas
 pub mod FieldsLemmas
 pub mod HeadersLemmas
 pub mod LawLemmas

@@ -1,6 +1,6 @@
 -- What a served request's span records.
-use Rattle.std.proofs.Common.{◌≡◌, ◌++◌, Bool, true, false, ◌||◌, List, [], ◌∷◌, Option, Some, None, Ok, MatchBool, IfSome, refl, sym, ap, ◌∙◌, subst, unwrap_or}
-use Rattle.opentelemetry.specs.Plain.{PlainContext, PlainScope, PlainSpanContext}
+use Rattle.std.proofs.Common.{◌≡◌, ◌++◌, Bool, true, false, ◌||◌, List, [], ◌∷◌, Option, Some, None, MatchBool, IfSome, refl, ap, ◌∙◌}
+use Rattle.opentelemetry.specs.Plain.{PlainContext, PlainSpanContext}
 use Rattle.opentelemetry.specs.PlainContexts.{current_span_context}
 use Rattle.opentelemetry.specs.PlainSpanBuilder.{PlainSpanBuilder}
 use Rattle.opentelemetry.specs.declared.trace.span_kind.SpanKind.TheVariants.{Server}
@@ -8,9 +8,8 @@ use Rattle.otel_sampling.specs.declared.trace.sampler.SamplingDecision.{Sampling
 use Rattle.otel_sampling.specs.declared.trace.sampler.SamplingDecision.TheVariants as decisions
 use Rattle.otel_sampling.specs.declared.trace.sampler.ShouldSample as sampling
 use Rattle.otel_sampling.specs.declared.trace.id_generator.GivesIds as drawing
-use Rattle.otel_export.specs.PlainSpanData.{PlainSpanData}
 use Rattle.otel_pipeline.specs.Provider.{ProviderState, unstarted_context}
-use Rattle.otel_pipeline.specs.SpanHistory.{Edit, PlainSpan, SpanHistory, SpanStart, after, begun, edited, over, recording, span_of}
+use Rattle.otel_pipeline.specs.SpanHistory.{Edit, PlainSpan, SpanHistory, SpanStart, after, begun, edited, over, span_of}
 use Rattle.otel_pipeline.specs.StartRequest.{StartRequest, start_request}
 use Rattle.otel_pipeline.specs.Starting.{DecidesStart, DrawsTraceId, Starts, StartsOpen}
 use Rattle.otel_pipeline.specs.declared.trace.span_processor.SpanProcessor.{Ghosts}

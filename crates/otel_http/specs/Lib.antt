@@ -1,3 +1,4 @@
+pub mod Connections
 pub mod Contexts
 pub mod Conventions
 pub mod Extraction

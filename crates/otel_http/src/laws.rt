@@ -5,6 +5,7 @@ ghost use Rattle.std.specs.Prelude.{◌≡◌, ◌≢◌, ◌≤◌, ◌∷◌, 
 ghost use Rattle.http_header.specs.FieldValue.{FieldValue};
 ghost use Rattle.http_header.specs.HeaderMap.{get_all};
 ghost use Rattle.http.specs.declared.request.Request.{Request};
+ghost use Rattle.http_server.specs.Exchange.{Call, Chain};
 ghost use Rattle.http_server.specs.declared.response.Response.{Response};
 ghost use Rattle.opentelemetry.specs.Baggage.{HasDistinctNames, IsWithinLimits};
 ghost use Rattle.opentelemetry.specs.Plain.{PlainContext};
@@ -13,8 +14,9 @@ ghost use Rattle.otel_propagation.specs.StrictBaggage.{strict_header_of, written
 ghost use Rattle.otel_propagation.specs.StrictBaggage.{ExtractsStrictBaggage, InjectsStrictBaggage};
 ghost use Rattle.otel_propagation.specs.Traceparent.{CarriesSpan, ExtractsTraceContext, InjectsTraceContext};
 ghost use Rattle.otel_propagation.specs.Traceparent.{IsSpanContext, IsValid, traceparent_field};
+ghost use Rattle.otel_http.specs.Connections.{AnswersCalls};
 ghost use Rattle.otel_http.specs.Headers.{Headers, header_texts};
-ghost use Rattle.otel_http.specs.Serving.{IsServerSpan, ServesTraced, TracedState, ended_span};
+ghost use Rattle.otel_http.specs.Serving.{IsServerSpan, ServesTraced, TracedState, TracesRequest, ended_span};
 
 use crate::TracedService;
 use otel_pipeline::trace::{Now, SpanProcessor};
@@ -66,4 +68,19 @@ pub fn served_spans_follow_their_headers<
         new)
         → IfSome (ended_span P.SpanProcessor S.ShouldSample G.GivesIds C.may_tell V.serves served).recorded
         (IsServerSpan cx) }
+{}
+
+/// Over the requests that a connection answered, in order: each ended one span of its own, after the service answered
+/// it and before the next one came, and no span where there was no memory for one, which counts. That these are the
+/// requests in the bytes that the connection received is what `http_server` says of it.
+pub fn each_answer_ends_a_span<
+    V: TracedService<P, S, G>,
+    P: SpanProcessor,
+    S: ShouldSample,
+    G: GivesIds,
+    C: Now,
+>()
+    ensures { (old new : TracedState V P S G C) (calls : List Call)
+        → Chain (TracesRequest P.SpanProcessor S.ShouldSample G.GivesIds C.may_tell V.serves) old calls new
+        → AnswersCalls P.SpanProcessor S.ShouldSample G.GivesIds C.may_tell V.serves old calls new }
 {}

@@ -2,6 +2,7 @@
 //! Traces across HTTP: header maps as carriers, a server's span around each request of a service, and a client's span.
 #![tactic(auto)]
 
+mod begun;
 mod client;
 mod conventions;
 mod fields;
@@ -12,6 +13,7 @@ mod propagation;
 mod traced;
 mod traced_service;
 
+pub use begun::{Begun, begin_span, end_or_drop};
 pub use client::{client_span, inject_request, record_response};
 pub use conventions::record_route;
 pub use header_extractor::HeaderExtractor;

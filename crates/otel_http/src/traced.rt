@@ -3,13 +3,12 @@
 ghost use Rattle.std.specs.Prelude.{◌≡◌, ◌&&◌, false, true, IfOk, IsNone, IsOk, Ok, OnErr, OnOk, if◌then◌else◌, is_ok};
 ghost use Rattle.http.specs.Request.{head_of};
 ghost use Rattle.http_server.specs.Response.{IsBlank};
-ghost use Rattle.otel_pipeline.specs.Ending.{EndIsInfallible};
-ghost use Rattle.otel_pipeline.specs.InSpan.{AnswersNow, EndsOrDrops, StartsAtMost, active_in, beginning};
 ghost use Rattle.otel_pipeline.specs.SpanHistory.{after};
 ghost use Rattle.otel_http.specs.Serving.{IsServerBuilder, ServesIn, ServesInside, ServesOnce, ServesWithout, TracesRequest};
 ghost use Rattle.otel_http.specs.Serving.{lent, one_more, response_edits};
 
 use crate::TracedService;
+use crate::begun::{Begun, begin_span, end_or_drop};
 use crate::conventions::{method_name, request_attributes, response_attributes};
 use crate::propagation::extract_context;
 use bytes::Bytes;
@@ -35,12 +34,6 @@ pub struct Traced<V, P, S, G, C> {
     keeps_query: bool,
     untraced: u64,
     unfinished: u64,
-}
-
-/// A span that has started, and the context in which it is active.
-struct Begun {
-    span: Span,
-    cx: Context,
 }
 
 impl<V, P, S, G, C> Model for Traced<V, P, S, G, C> {
@@ -184,7 +177,7 @@ impl<V: TracedService<P, S, G>, P: SpanProcessor, S: ShouldSample, G: GivesIds, 
             self.serve_without(request, cx, response);
             return;
         };
-        match begin(&self.tracer, builder, cx, &mut self.provider, &self.clock) {
+        match begin_span(&self.tracer, builder, cx, &mut self.provider, &self.clock) {
             Ok(begun) => self.serve_inside(request, begun, response),
             Err(_) => self.serve_without(request, cx, response),
         }
@@ -261,37 +254,6 @@ fn silent_span<P: SpanProcessor, S: ShouldSample, G: GivesIds>(
     span
 }
 
-/// Begins a span of a provider, at a moment that the clock tells.
-fn begin<P: SpanProcessor, S: ShouldSample, G: GivesIds, C: Now>(
-    tracer: &SdkTracer,
-    builder: SpanBuilder,
-    cx: &Context,
-    provider: &mut ProviderOf<P, S, G>,
-    clock: &C,
-) -> Result<Begun, AllocError>
-    ensures ok { IfOk result (λ begun. AnswersNow P.SpanProcessor S.ShouldSample G.GivesIds (C.may_tell clock.now)
-        (beginning tracer.now builder cx.now provider.old) (Ok begun.span) provider.new
-        × (begun.cx ≡ active_in cx.now begun.span)) }
-    ensures err { OnErr result (StartsAtMost P.SpanProcessor S.ShouldSample G.GivesIds (C.may_tell clock.now)
-        (beginning tracer.now builder cx.now provider.old) provider.new) }
-{
-    let span = tracer.build_with_context(builder, cx, provider, clock.now())?;
-    match context_inside(cx, &span) {
-        Ok(inside) => Ok(Begun { span, cx: inside }),
-        Err(_) => {
-            span.abandon();
-            Err(AllocError)
-        }
-    }
-}
-
-/// The context in which a span is active.
-fn context_inside(cx: &Context, span: &Span) -> Result<Context, AllocError>
-    ensures { IfOk result (λ inside. inside ≡ active_in cx.now span.now) }
-{
-    cx.with_span_context(span.span_context().clone()?)
-}
-
 /// What a request's span begins with.
 fn server_builder(
     alloc: Global,
@@ -343,23 +305,5 @@ fn ask<V: TracedService<P, S, G>, P, S, G>(
     if let Err(_) = service.serve(request, cx, span, provider, response) {
         response.clear();
         response.status = StatusCode::INTERNAL_SERVER_ERROR;
-    }
-}
-
-/// Ends a span. Where there is no memory to hand it to its processors it is dropped.
-fn end_or_drop<P: SpanProcessor, S: Drop, G: Drop>(
-    span: Span,
-    provider: &mut ProviderOf<P, S, G>,
-    end: Moment,
-) -> Result<usize, AllocError>
-    ensures ends { EndsOrDrops P.SpanProcessor provider.old span end.0 result provider.new }
-    ensures free { EndIsInfallible span provider.old → IsOk result }
-{
-    match span.finish(provider, end) {
-        Ok(refused) => Ok(refused),
-        Err(failed) => {
-            failed.value.abandon();
-            Err(AllocError)
-        }
     }
 }

@@ -4,19 +4,19 @@ use Rattle.otel_http.proofs.traced.Traced.serve_in.Goals as goal
 pub returns-in_default : goal.returns-in_default
 returns-in_default g c = inr (record { between = c.args.self.now.provider; tries = inl refl; without = c.serve_without.ensures })
 
-pub returns-in-Ok-begin : goal.returns-in-Ok-begin
-returns-in-Ok-begin g c = rw (← c.self.view_is) (inl (record {
+pub returns-in-Ok-begin_span : goal.returns-in-Ok-begin_span
+returns-in-Ok-begin_span g c = rw (← c.self.view_is) (inl (record {
   builder = c.in-Ok.builder;
   is_builder = c.in-Ok.ensures;
-  span = c.in-Ok-begin.begun.span;
-  started = c.begin.new.provider;
-  starts = c.in-Ok-begin.ensures.ok.0;
-  inside = rw c.in-Ok-begin.ensures.ok.1 at c.serve_inside.ensures;
+  span = c.in-Ok-begin_span.begun.span;
+  started = c.begin_span.new.provider;
+  starts = c.in-Ok-begin_span.ensures.ok.0;
+  inside = rw c.in-Ok-begin_span.ensures.ok.1 at c.serve_inside.ensures;
 }))
 
 pub returns-in-Err : goal.returns-in-Err
 returns-in-Err g c = rw (← c.self.view_is) (inr (record {
-  between = c.begin.new.provider;
+  between = c.begin_span.new.provider;
   tries = inr (c.in-Ok.builder, c.in-Ok.ensures, c.in-Err.ensures.err);
   without = c.serve_without-in-Err.ensures;
 }))
