@@ -1,0 +1,6 @@
+pub mod AnswerLemmas
+pub mod BodyLemmas
+pub mod FollowLemmas
+pub mod HeadLemmas
+pub mod PostLemmas
+pub mod RetryLemmas
