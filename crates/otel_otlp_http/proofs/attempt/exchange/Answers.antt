@@ -1,0 +1,24 @@
+-- An answer was read.
+use Rattle.std.proofs.Common.{ℕ, List, subst}
+use Rattle.std.specs.Io.KnownBytes.{Appends}
+use Rattle.otel_otlp_http.proofs.AttemptLemmas.{answered_exchange}
+use Rattle.otel_otlp_http.proofs.attempt.exchange.Goals as goal
+
+pub returns-in-Ok : goal.returns-in-Ok
+returns-in-Ok g c = λ asked.
+    let read = c.in-Ok.ensures.read in
+    let answer = c.in-Ok.answer in
+    let sent = λ (bs : List ℕ).
+    Appends (g.S.Write.contents c.args.stream.now) (g.S.Write.contents c.write_whole.new.writer) bs in
+    answered_exchange g.S.Write.contents g.S.Read.remaining c.args.encoding c.args.post.text.items c.args.stream.now
+    c.read_answer.new.reader answer.keeps c.judge.result (record {
+      between = c.write_whole.new.writer;
+      received = read.0;
+      status = answer.status;
+      retry_after = answer.retry_after;
+      body = answer.body.items;
+      writes = subst sent c.deref.ensures.value c.in_default.ensures.ok;
+      reads = read.1;
+      answer = read.2 asked;
+      judges = c.judge.ensures;
+    })

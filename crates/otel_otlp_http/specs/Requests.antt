@@ -1,0 +1,31 @@
+-- The request of a batch (OTLP 1.7, "OTLP/HTTP").
+use Rattle.std.specs.Prelude.{ℕ, List, codes, length}
+use Rattle.otel_resource.specs.Resource.{PlainResource}
+use Rattle.otel_export.specs.PlainSpanData.{PlainSpanData}
+use Rattle.otel_otlp.specs.Otlp.{otlp_text}
+use Rattle.otel_otlp_protobuf.specs.NamedRequest.{request_bytes}
+use Rattle.otel_http_post.specs.Endpoint.{PlainEndpoint}
+use Rattle.otel_http_post.specs.declared.error.PostError.{PostError}
+use Rattle.otel_http_post.specs.Refusal.{RefusesPost}
+use Rattle.otel_http_post.specs.Request.{post_text}
+use Rattle.otel_otlp_http.specs.declared.encoding.Encoding.{Encoding}
+use Rattle.otel_otlp_http.specs.declared.encoding.Encoding.TheVariants as encodings
+
+abbrev pub content_type : Encoding → List ℕ
+content_type encodings.Protobuf = codes "application/x-protobuf"
+content_type encodings.Json = codes "application/json"
+
+-- the body of a batch: its request in protobuf, or in JSON
+abbrev pub body_bytes : Encoding → PlainResource → List PlainSpanData → List ℕ
+body_bytes encodings.Protobuf resource batch = request_bytes resource batch
+body_bytes encodings.Json resource batch = otlp_text resource batch
+
+-- the text of the request: a post to the endpoint, with this body
+abbrev pub batch_request : PlainEndpoint → Encoding → PlainResource → List PlainSpanData → List ℕ
+batch_request endpoint encoding resource batch =
+    post_text endpoint (content_type encoding) (body_bytes encoding resource batch)
+
+-- why there is no request of a batch: the endpoint makes none with such a body, or there was no memory
+abbrev pub Unmakes : PlainEndpoint → Encoding → PlainResource → List PlainSpanData → PostError → Type 0
+Unmakes endpoint encoding resource batch error =
+    RefusesPost endpoint (content_type encoding) (length (body_bytes encoding resource batch)) error

@@ -1,0 +1,17 @@
+// SPDX-License-Identifier: Apache-2.0
+//! The exporter of OTLP over HTTP: a post for each batch, over a stream that its host opened.
+#![tactic(auto)]
+
+mod attempt;
+mod encoding;
+mod exporter;
+mod failure;
+mod protobuf;
+mod request;
+mod success;
+mod verdict;
+
+pub use encoding::Encoding;
+pub use exporter::OtlpHttpExporter;
+pub use failure::ExportFailure;
+pub use otel_http_post::{AnswerError, Endpoint, PostError};

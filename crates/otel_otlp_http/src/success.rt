@@ -1,0 +1,64 @@
+//! What a success says of the spans: how many were rejected (OTLP 1.7, "Partial Success").
+
+ghost use Rattle.std.specs.Prelude.{◌≡◌, IfOk, Some};
+ghost use Rattle.json.specs.Value.{value_view};
+ghost use Rattle.otel_otlp_http.specs.Success.{Rejects, SaysJson, count_of, rejected_in_json};
+
+use crate::encoding::Encoding;
+use crate::protobuf::rejected_in_protobuf;
+use json::{Error, Scratch, Value};
+use otel_http_post::read_count;
+use std::alloc::{AllocError, Global};
+
+/// A count in JSON: a text of digits, as 64 bits are written there, or a number.
+fn count(value: &Value<'_>) -> Option<u64>
+    ensures { result ≡ count_of (Some (value_view value.now)) }
+{
+    match value {
+        Value::Null => Some(0),
+        Value::String(digits) | Value::Number(digits) => read_count(digits.as_bytes()),
+        _ => None,
+    }
+}
+
+/// How many spans an answer in JSON says were rejected.
+fn rejected_by(response: &Value<'_>) -> Option<u64>
+    ensures { result ≡ rejected_in_json (value_view response.now) }
+{
+    let Some(partial) = response.get("partialSuccess") else {
+        return Some(0);
+    };
+    match partial.get("rejectedSpans") {
+        Some(spans) => count(spans),
+        None => Some(0),
+    }
+}
+
+/// How many spans the bytes of an answer in JSON say were rejected, where they are one.
+fn rejected_by_text(alloc: Global, body: &[u8]) -> Result<Option<u64>, AllocError>
+    ensures { IfOk result (SaysJson body.now) }
+{
+    let mut scratch = Scratch::new(alloc);
+    match Value::from_slice(alloc, body, &mut scratch) {
+        Ok(response) => Ok(rejected_by(&response)),
+        Err(Error::OutOfMemory) => Err(AllocError),
+        Err(_) => Ok(None),
+    }
+}
+
+/// How many spans the body of a success says were rejected, where it reads. An empty one says none.
+pub(crate) fn rejected_spans(
+    alloc: Global,
+    encoding: Encoding,
+    body: &[u8],
+) -> Result<Option<u64>, AllocError>
+    ensures { IfOk result (Rejects encoding body.now) }
+{
+    if body.is_empty() {
+        return Ok(Some(0));
+    }
+    match encoding {
+        Encoding::Protobuf => Ok(rejected_in_protobuf(body)),
+        Encoding::Json => rejected_by_text(alloc, body),
+    }
+}
