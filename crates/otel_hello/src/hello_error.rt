@@ -9,7 +9,7 @@ use thiserror::Error;
 /// What ended the program with status 1.
 #[derive(Debug, Drop, Error)]
 pub enum HelloError {
-    #[error("usage: otel_hello [fixed]")]
+    #[error("usage: otel_hello [fixed | post HOST]")]
     Usage,
     #[error("cannot read the arguments: {0}")]
     Arguments(io::Error),

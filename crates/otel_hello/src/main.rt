@@ -3,29 +3,51 @@
 //! itself. Its spans have true moments and ids of their own, it is configured by the environment, and it writes what a
 //! collector reads to its standard output: lines of the OpenTelemetry protocol's JSON. What fails is named on standard
 //! error, and ends it with status 1. With the argument `fixed` it does the same by a clock, an environment and a seed
-//! that are the same at each run.
+//! that are the same at each run. With `post HOST` it sends its spans over HTTP, in protobuf: standard output and input
+//! are then a connection to that host.
 #![tactic(auto)]
 
+mod connection;
 mod fixed;
 mod hello;
 mod hello_error;
 
+use crate::connection::StdConnection;
 use crate::fixed::{FixedClock, NoVariables};
 use crate::hello::trace_hello;
 use crate::hello_error::HelloError;
-use opentelemetry_sdk::trace::{ConfigStrings, Now, ProcessorOf, SimpleSpanProcessor};
+use opentelemetry_sdk::trace::{CloseReport, ConfigStrings, Now, ProcessorOf, SimpleSpanProcessor};
 use otel_host::{HostClock, config_strings, config_strings_in, random_seed};
+use otel_http_post::Endpoint;
 use otel_otlp::OtlpJsonExporter;
+use otel_otlp_http::{Encoding, OtlpHttpExporter};
+use std::alloc::{AllocError, Global};
 use std::process::ExitCode;
-use std::rt::Stdout;
+use std::rt::{Stdin, Stdout};
 use std::{env, io};
 
 /// What the program's service is called where the environment does not name it, after `unknown_service:`.
 const PROGRAM: &str = "otel_hello";
 
-type Exporter = OtlpJsonExporter<Stdout>;
+/// Where collectors take spans.
+const PATH: &str = "/v1/traces";
 
-type Processor = ProcessorOf<Exporter, SimpleSpanProcessor<Exporter>>;
+type LineExporter = OtlpJsonExporter<Stdout>;
+
+type LineProcessor = ProcessorOf<LineExporter, SimpleSpanProcessor<LineExporter>>;
+
+type PostExporter = OtlpHttpExporter<StdConnection<Stdin, Stdout>>;
+
+type PostProcessor = ProcessorOf<PostExporter, SimpleSpanProcessor<PostExporter>>;
+
+/// What the arguments ask for.
+#[derive(Drop)]
+enum Asked {
+    Lines,
+    Fixed,
+    /// To this host.
+    Post(String),
+}
 
 fn main(rt: HostRuntime) -> io::Result<ExitCode> {
     match run(&rt) {
@@ -39,40 +61,83 @@ fn main(rt: HostRuntime) -> io::Result<ExitCode> {
 
 /// Asks the host for a clock, a seed and strings, or takes fixed ones, and traces a greeting.
 fn run(rt: &HostRuntime) -> Result<(), HelloError> {
-    if asks_for_fixed(rt)? {
-        let clock = HostClock::new(FixedClock::new())?;
-        let strings = config_strings_in(rt.alloc(), &NoVariables, PROGRAM)?;
-        trace_to_stdout(rt, clock, &strings, 1)
-    } else {
-        let clock = HostClock::new(rt)?;
-        let seed = random_seed(rt)?;
-        let strings = config_strings(rt, PROGRAM)?;
-        trace_to_stdout(rt, clock, &strings, seed)
+    match parse_arguments(rt)? {
+        Asked::Fixed => {
+            let clock = HostClock::new(FixedClock::new())?;
+            let strings = config_strings_in(rt.alloc(), &NoVariables, PROGRAM)?;
+            write_lines(rt, clock, &strings, 1)
+        }
+        Asked::Lines => {
+            let clock = HostClock::new(rt)?;
+            let seed = random_seed(rt)?;
+            let strings = config_strings(rt, PROGRAM)?;
+            write_lines(rt, clock, &strings, seed)
+        }
+        Asked::Post(host) => {
+            let clock = HostClock::new(rt)?;
+            let seed = random_seed(rt)?;
+            let strings = config_strings(rt, PROGRAM)?;
+            post(rt, clock, &strings, seed, host)
+        }
     }
 }
 
-/// Whether the one argument is `fixed`. Without an argument it is not; others are an error.
-fn asks_for_fixed(rt: &HostRuntime) -> Result<bool, HelloError> {
+/// What the arguments ask for; without one, lines.
+fn parse_arguments(rt: &HostRuntime) -> Result<Asked, HelloError> {
     let mut words = env::args(rt).map_err(HelloError::Arguments)?.skip(1);
     let Some(word) = words.next() else {
-        return Ok(false);
+        return Ok(Asked::Lines);
     };
-    if word.as_str() == "fixed" && words.next().is_none() {
-        return Ok(true);
+    let host = words.next();
+    if words.next().is_some() {
+        return Err(HelloError::Usage);
     }
-    Err(HelloError::Usage)
+    match (word.as_str(), host) {
+        ("fixed", None) => Ok(Asked::Fixed),
+        ("post", Some(host)) => Ok(Asked::Post(host)),
+        _ => Err(HelloError::Usage),
+    }
 }
 
-/// Traces a greeting to standard output. An error too where a span was not exported.
-fn trace_to_stdout<C: Now + Drop>(
+/// Traces a greeting to standard output.
+fn write_lines<C: Now + Drop>(
     rt: &HostRuntime,
     clock: C,
     strings: &ConfigStrings,
     seed: u64,
 ) -> Result<(), HelloError> {
     name_faults(rt, strings)?;
-    let exporter = OtlpJsonExporter::new(rt.alloc(), rt.stdout());
-    let report = trace_hello::<Processor, C>(rt.alloc(), clock, strings, seed, exporter)?;
+    let exporter = LineExporter::new(rt.alloc(), rt.stdout());
+    let report = trace_hello::<LineProcessor, C>(rt.alloc(), clock, strings, seed, exporter)?;
+    conclude(report)
+}
+
+/// Traces a greeting to a host.
+fn post<C: Now + Drop>(
+    rt: &HostRuntime,
+    clock: C,
+    strings: &ConfigStrings,
+    seed: u64,
+    host: String,
+) -> Result<(), HelloError> {
+    name_faults(rt, strings)?;
+    let connection = StdConnection {
+        input: rt.stdin(),
+        output: rt.stdout(),
+    };
+    let endpoint = endpoint_at(rt.alloc(), host)?;
+    let exporter = PostExporter::new(rt.alloc(), endpoint, Encoding::Protobuf, connection);
+    let report = trace_hello::<PostProcessor, C>(rt.alloc(), clock, strings, seed, exporter)?;
+    conclude(report)
+}
+
+/// Where a host takes spans.
+fn endpoint_at(alloc: Global, host: String) -> Result<Endpoint, AllocError> {
+    Ok(Endpoint::new(alloc, String::from_str(alloc, PATH)?, host))
+}
+
+/// What became of the spans. An error too where one was not exported.
+fn conclude(report: CloseReport) -> Result<(), HelloError> {
     report.result?;
     match report.stranded.saturating_add(report.left_open) {
         0 => Ok(()),
