@@ -1,0 +1,11 @@
+use Rattle.otel_shop.proofs.StatusLemmas.{all_statuses}
+use Rattle.otel_shop.proofs.serving.serve_shop.Goals as goal
+
+pub returns : goal.returns
+returns g c =
+    let called = c.serve.ensures.calls in (
+      called.0,
+      called.1,
+      all_statuses g.P.SpanProcessor g.S.ShouldSample g.G.GivesIds g.C.Now.may_tell
+          g.B.Service.answers called.0 c.args.shop.now c.serve.new.service called.2,
+    )

@@ -1,0 +1,208 @@
+//! Shops that are traced, each at a provider of its own, and what is served by them.
+
+use crate::no_backend::NoBackend;
+use crate::serving::serve_shop;
+use crate::shop::{SCOPE, Shop};
+use http_server::{Connection, Service};
+use opentelemetry::InstrumentationScope;
+use opentelemetry_sdk::error::OTelSdkResult;
+use opentelemetry_sdk::resource::Resource;
+use opentelemetry_sdk::trace::{
+    CloseReport, ConfigOf, ConfigStrings, CountsLeftSpans, FromExporter, IdSourceOf, Now,
+    ProviderOf, RandomIdGenerator, SamplerOf, SpanLimits,
+};
+use otel_http::Traced;
+use otel_probability::ConsistentProbabilityBased;
+use std::alloc::{AllocError, AllocFailed, Global};
+use std::io;
+use std::io::{Read, Write};
+
+/// Below which bound the slow page counts primes.
+const BOUND: u32 = 10_000;
+
+/// The samplers of the SDK, and one that strings do not name. No part of a provider is boxed, so that all of it is
+/// known when the program is built.
+type ShopSampler = SamplerOf<ConsistentProbabilityBased>;
+
+type ShopIds = IdSourceOf<RandomIdGenerator>;
+
+type Provider<P> = ProviderOf<P, ShopSampler, ShopIds>;
+
+/// A shop over a backend, whose requests are traced.
+type TracedShop<B, P, C> = Traced<Shop<B, C>, P, ShopSampler, ShopIds, C>;
+
+/// What a provider is made by.
+#[derive(Drop)]
+pub struct Settings {
+    pub strings: ConfigStrings,
+    pub shop_seed: u64,
+    pub backend_seed: u64,
+    /// Whether no span is to record.
+    pub is_disabled: bool,
+}
+
+/// What became of the spans of a shop.
+#[derive(Debug, Drop)]
+pub struct SpanReport {
+    pub flushed: OTelSdkResult,
+    pub closed: CloseReport,
+    /// How many requests had no span, since there was no memory.
+    pub untraced: u64,
+    /// How many spans lack something, since there was no memory.
+    pub unfinished: u64,
+}
+
+/// What became of a connection, and of the spans of the shop that served it.
+#[derive(Debug, Drop)]
+pub struct Served {
+    pub connection: io::Result<()>,
+    pub spans: SpanReport,
+}
+
+/// What a shop is made of: its exporter, the seed of its ids, and clocks that tell the same time, one for the spans of
+/// its requests and one for those of what it asks.
+#[derive(Drop)]
+pub struct Parts<E, C> {
+    pub exporter: E,
+    pub seed: u64,
+    pub clock: C,
+    pub client_clock: C,
+}
+
+/// Serves the requests of a connection by a shop whose backend is another one in the same process, and closes both.
+/// Answers what became of the backend's spans too, and `AllocError` where there was no memory to begin.
+pub fn serve_traced<P: FromExporter + CountsLeftSpans, C: Now + Drop, R: Read, W: Write>(
+    alloc: Global,
+    settings: &Settings,
+    shop_parts: Parts<P::Exporter, C>,
+    backend_parts: Parts<P::Exporter, C>,
+    connection: &mut Connection,
+    reader: &mut R,
+    writer: &mut W,
+) -> Result<(Served, SpanReport), AllocError> {
+    let backend = traced_shop::<NoBackend, P, C>(alloc, NoBackend, settings, backend_parts)?;
+    let (backend, served) = serve_over::<TracedShop<NoBackend, P, C>, P, C, R, W>(
+        alloc, backend, settings, shop_parts, connection, reader, writer,
+    );
+    let (_nobody, backend_spans) = close(backend);
+    Ok((served?, backend_spans))
+}
+
+/// Serves the requests of a connection by a shop over a backend, and closes the shop. Answers the backend too.
+fn serve_over<B: Service, P: FromExporter + CountsLeftSpans, C: Now + Drop, R: Read, W: Write>(
+    alloc: Global,
+    backend: B,
+    settings: &Settings,
+    parts: Parts<P::Exporter, C>,
+    connection: &mut Connection,
+    reader: &mut R,
+    writer: &mut W,
+) -> (B, Result<Served, AllocError>) {
+    match traced_shop::<B, P, C>(alloc, backend, settings, parts) {
+        Ok(mut shop) => {
+            let outcome = serve_shop(connection, &mut shop, reader, writer);
+            let (backend, spans) = close(shop);
+            (
+                backend,
+                Ok(Served {
+                    connection: outcome,
+                    spans,
+                }),
+            )
+        }
+        Err(failed) => (failed.value, Err(AllocError)),
+    }
+}
+
+/// A shop over a backend, which comes back where there is no memory.
+fn traced_shop<B, P: FromExporter, C: Now + Drop>(
+    alloc: Global,
+    backend: B,
+    settings: &Settings,
+    parts: Parts<P::Exporter, C>,
+) -> Result<TracedShop<B, P, C>, AllocFailed<B>> {
+    let Ok(scope) = shop_scope(alloc) else {
+        return Err(AllocFailed { value: backend });
+    };
+    let Parts {
+        exporter,
+        seed,
+        clock,
+        client_clock,
+    } = parts;
+    let Ok(provider) = provider_with::<P>(alloc, settings, seed, exporter) else {
+        return Err(AllocFailed { value: backend });
+    };
+    let shop = Shop {
+        alloc,
+        backend,
+        clock: client_clock,
+        bound: BOUND,
+    };
+    let tracer = provider.tracer_with_scope(scope);
+    Ok(Traced::new(alloc, shop, provider, tracer, clock))
+}
+
+/// The scope of a shop's spans.
+fn shop_scope(alloc: Global) -> Result<InstrumentationScope, AllocError> {
+    InstrumentationScope::builder(alloc, String::from_str(alloc, SCOPE)?).build()
+}
+
+/// A provider with an eager batch processor over this exporter.
+fn provider_with<P: FromExporter>(
+    alloc: Global,
+    settings: &Settings,
+    seed: u64,
+    exporter: P::Exporter,
+) -> Result<Provider<P>, AllocError> {
+    let config = config_of(alloc, &settings.strings, seed)?;
+    let batch_strings = settings.strings.batch.clone()?;
+    let provider = Provider::<P>::builder_with_config(
+        alloc,
+        config,
+        batch_strings,
+        settings.is_disabled,
+    ).with_eager_batch_exporter(exporter)?
+        .build()?;
+    Ok(provider)
+}
+
+/// What the strings configure, with ids of this seed.
+fn config_of(
+    alloc: Global,
+    strings: &ConfigStrings,
+    seed: u64,
+) -> Result<ConfigOf<ShopSampler, ShopIds>, AllocError> {
+    let mut config = ConfigOf {
+        sampler: ShopSampler::AlwaysOn,
+        id_generator: ShopIds::Random(RandomIdGenerator::new(seed)),
+        span_limits: SpanLimits::default(),
+        resource: Resource::builder_empty(alloc).build(),
+    };
+    config.set_from_strings(alloc, strings, seed)?;
+    Ok(config)
+}
+
+/// Exports what waits and closes the provider of a shop. Answers the backend too.
+fn close<B, P: CountsLeftSpans, C: Drop>(traced: TracedShop<B, P, C>) -> (B, SpanReport) {
+    let untraced = traced.untraced();
+    let unfinished = traced.unfinished();
+    let (shop, mut provider, _clock) = traced.into_parts();
+    let Shop {
+        alloc: _,
+        backend,
+        clock: _,
+        bound: _,
+    } = shop;
+    let flushed = provider.force_flush();
+    let closed = provider.close();
+    (
+        backend,
+        SpanReport {
+            flushed,
+            closed,
+            untraced,
+            unfinished,
+        },
+    )
+}
