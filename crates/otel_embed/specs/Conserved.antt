@@ -18,7 +18,8 @@ use Rattle.otel_processors.specs.declared.trace.processor.ProcessorOf.TheVariant
 use Rattle.otel_otlp.specs.Otlp.{otlp_lines}
 use Rattle.otel_embed.specs.Flows.{Answers, Did, DoesTo, Flow, delivered_by, ended, handed_by, lines_held, rested, started}
 use Rattle.otel_embed.specs.Keys.{OpenedSpan, span_at}
-use Rattle.otel_embed.specs.Pipelines.{EditsSpan, EndsSpan, PipelineState, RefusesIn, StartsAt}
+use Rattle.otel_embed.specs.KeyedSpans.{StartsAt}
+use Rattle.otel_embed.specs.Pipelines.{EditsSpan, EndsSpan, PipelineState, RefusesIn}
 
 module _ {P S G : Type 0} (calls : Calls P S G) where
   -- calls did this to a flow, one after another

@@ -1,4 +1,5 @@
 pub mod Keys
+pub mod KeyedSpans
 pub mod HostValues
 pub mod Headers
 pub mod Flows

@@ -7,21 +7,17 @@ use Rattle.opentelemetry.specs.Plain.{PlainContext, PlainKeyValue, PlainScope}
 use Rattle.opentelemetry.specs.PlainContexts.{current_span_context, root_cx}
 use Rattle.opentelemetry.specs.PlainSpanBuilder.{PlainSpanBuilder}
 use Rattle.opentelemetry.specs.declared.trace.span_kind.SpanKind.{SpanKind}
-use Rattle.otel_sampling.specs.declared.trace.sampler.ShouldSample as sampling
-use Rattle.otel_sampling.specs.declared.trace.id_generator.GivesIds as drawing
 use Rattle.otel_export.specs.declared.error.OTelSdkError.{OTelSdkError}
 use Rattle.otel_pipeline.specs.Calls.{Calls}
-use Rattle.otel_pipeline.specs.Ending.{Ends}
 use Rattle.otel_pipeline.specs.FirstProcessor.{losses_of_first}
-use Rattle.otel_pipeline.specs.Provider.{ProviderState}
 use Rattle.otel_pipeline.specs.SpanEdits.{new_link}
-use Rattle.otel_pipeline.specs.SpanHistory.{Edit, SpanHistory, add_link, span_of}
+use Rattle.otel_pipeline.specs.SpanHistory.{Edit, add_link}
 use Rattle.otel_pipeline.specs.StartRequest.{StartRequest, start_request}
-use Rattle.otel_pipeline.specs.Starting.{Starts}
 use Rattle.otel_pipeline.specs.declared.trace.span_processor.SpanProcessor.{Ghosts}
 use Rattle.otel_embed.specs.Flows.{Answers, Did, DoesTo, Flow, MayStart, drained}
 use Rattle.otel_embed.specs.Headers.{IsContextOf, PlainHeaders, SetsContext, header_lines}
-use Rattle.otel_embed.specs.Keys.{Closes, EditsAt, OpenedSpan, OpenedSpans, Opens, Puts, SameSpans, span_at}
+use Rattle.otel_embed.specs.Keys.{Closes, EditsAt, OpenedSpan, OpenedSpans, SameSpans, span_at}
+use Rattle.otel_embed.specs.KeyedSpans.{EndsAt, StartsAt}
 use Rattle.otel_embed.specs.declared.numbers.Numbers.{Numbers}
 use Rattle.otel_embed.specs.declared.span_calls.SpanIdentity.{SpanIdentity}
 
@@ -53,29 +49,6 @@ host_builder name kind attributes = record {
   events = None;
   links = None;
 }
-
-module _ {P S G : Type 0} (calls : Ghosts P) (sampler : sampling.Ghosts S) (ids : drawing.Ghosts G) where
-  -- a span was started as it was asked for, under a key that was free
-  pub record StartsUnder (old : ProviderState P S G) (spans : OpenedSpans) (request : StartRequest) (key : ℕ)
-      (new : ProviderState P S G) (later : OpenedSpans) : Type 0 where
-    pub history : SpanHistory
-    pub starts : Starts calls sampler ids old request history new
-    pub was_free : span_at spans key ≡ None
-    pub puts : Puts spans key (Some (record { span = span_of history; cx = request.cx })) later
-
-  -- a span was started as it was asked for, under the next key
-  pub record StartsAt (old : ProviderState P S G) (spans : OpenedSpans) (request : StartRequest) (key : ℕ)
-      (new : ProviderState P S G) (later : OpenedSpans) : Type 0 where
-    pub history : SpanHistory
-    pub starts : Starts calls sampler ids old request history new
-    pub opens : Opens spans key (record { span = span_of history; cx = request.cx }) later
-
--- the span of a key has ended, which names none from then on, and so many processors refused it
-pub record EndsAt {P S G : Type 0} (calls : Ghosts P) (old : ProviderState P S G) (spans : OpenedSpans)
-    (key moment refused : ℕ) (new : ProviderState P S G) (later : OpenedSpans) : Type 0 where
-  pub found : OpenedSpan
-  pub ends : Ends calls old found.span moment refused new
-  pub closes : Closes spans key found later
 
 module _ {P S G : Type 0} (calls : Calls P S G) where
   -- a host's span was started in a context of which this is so, with the attributes that were gathered

@@ -3,7 +3,7 @@
 ghost use Rattle.std.specs.Prelude.{◌≡◌, [], IfOk, OnErr, OnOk, Some, length};
 ghost use Rattle.otel_embed.specs.Keys.{Closes, EditsAt, Opens, SameSpans, span_at};
 ghost use Rattle.otel_embed.specs.Flows.{MayStart};
-ghost use Rattle.otel_embed.specs.Pipelines.{EndsAt, StartsAt, StartsUnder};
+ghost use Rattle.otel_embed.specs.KeyedSpans.{EndsAt, StartsAt, StartsUnder};
 ghost use Rattle.otel_pipeline.specs.StartRequest.{start_request};
 
 use crate::changes_span::ChangesSpan;
