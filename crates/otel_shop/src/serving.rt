@@ -1,8 +1,10 @@
 //! A connection whose requests a traced shop answers.
 
-ghost use Rattle.std.specs.Prelude.{◌≡◌, ◌++◌, All, List};
+ghost use Rattle.std.specs.Prelude.{◌≡◌, ◌++◌, ℕ, All, List, OnOk};
+ghost use Rattle.std.specs.Io.KnownBytes.{Appends, Consumes};
 ghost use Rattle.http_server.specs.Connection.{history};
 ghost use Rattle.http_server.specs.Exchange.{Call};
+ghost use Rattle.http_server.specs.History.{IsDone};
 ghost use Rattle.otel_shop.specs.Statuses.{IsAnsweredCall};
 
 use crate::shop::Shop;
@@ -12,7 +14,8 @@ use otel_http::Traced;
 use std::io;
 use std::io::{Read, Write};
 
-/// Serves the requests of a connection until it ends. Each that was answered got the status of its path.
+/// Serves the requests of a connection until it ends, and on `Ok` it has. What was read of it and written to it are the
+/// reader's and the writer's bytes. Each request that was answered got the status of its path.
 pub fn serve_shop<
     B: Service,
     P: SpanProcessor,
@@ -27,7 +30,12 @@ pub fn serve_shop<
     reader: &mut R,
     writer: &mut W,
 ) -> io::Result<()>
-    ensures { (calls : List Call) × ((history connection.new).calls ≡ (history connection.old).calls ++ calls)
+    ensures done { OnOk result (IsDone (history connection.new)) }
+    ensures read { (more : List ℕ) × Consumes (R.remaining reader.old) (R.remaining reader.new) more
+        × ((history connection.new).received ≡ (history connection.old).received ++ more) }
+    ensures written { (more : List ℕ) × Appends (W.contents writer.old) (W.contents writer.new) more
+        × ((history connection.new).sent ≡ (history connection.old).sent ++ more) }
+    ensures answers { (calls : List Call) × ((history connection.new).calls ≡ (history connection.old).calls ++ calls)
         × All IsAnsweredCall calls }
 {
     serve(connection, shop, reader, writer)

@@ -1,8 +1,8 @@
 use Rattle.otel_shop.proofs.StatusLemmas.{all_statuses}
 use Rattle.otel_shop.proofs.serving.serve_shop.Goals as goal
 
-pub returns : goal.returns
-returns g c =
+pub returns-clause-answers : goal.returns-clause-answers
+returns-clause-answers g c =
     let called = c.serve.ensures.calls in (
       called.0,
       called.1,
