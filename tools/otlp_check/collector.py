@@ -131,12 +131,12 @@ class Answers(BaseHTTPRequestHandler):
         body = self.rfile.read(int(length))
         if self.path != PATH:
             return self.refuse(404, NOT_FOUND, f"nothing is at {self.path}, traces are posted to {PATH}")
+        if self.received.turns_away():
+            return self.refuse(self.failing_status, UNAVAILABLE, "as --fail asks", [("Retry-After", "1")])
         kind = self.headers.get_content_type()
         if kind not in self.received.readers or self.headers.get("Content-Encoding", "identity") != "identity":
             types = " and ".join(self.received.readers)
             return self.refuse(415, UNIMPLEMENTED, f"{types} without an encoding is what is read")
-        if self.received.turns_away():
-            return self.refuse(self.failing_status, UNAVAILABLE, "as --fail asks", [("Retry-After", "1")])
         try:
             twice = self.received.take(kind, body, self.is_left)
         except self.fault_type as fault:
