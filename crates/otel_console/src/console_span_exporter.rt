@@ -1,6 +1,6 @@
 //! The exporter that writes a line of text for each span.
 
-ghost use Rattle.std.specs.Prelude.{◌≡◌, OnOk};
+ghost use Rattle.std.specs.Prelude.{◌≡◌, ◌∷◌, [], OnOk};
 ghost use Rattle.otel_console.specs.Console.{HoldsSpans, IsInternalFailure, WritesLines, new_exporter, next_lines};
 
 use otel_export::error::{OTelSdkError, OTelSdkResult};
@@ -149,6 +149,26 @@ impl<W: Write + Drop> ConsoleSpanExporter<W> {
     }
 }
 
+impl<W: Write + Drop> ConsoleSpanExporter<W> {
+    ghost use Rattle.otel_export.specs.Telling.{Tells};
+    ghost use Rattle.otel_console.specs.Console.{Writes};
+
+    /// Writes the lines of a batch, as `export` does.
+    fn write(&mut self, batch: &Vec<SpanData>) -> OTelSdkResult
+        ensures told { Tells self.old.written (batch.now.items ∷ []) self.new.written }
+        ensures gives { Writes W.contents self.old batch.now.items result self.new }
+    {
+        if self.is_shut {
+            self.has_failed = true;
+            return Err(OTelSdkError::AlreadyShutdown);
+        }
+        self.written.push(batch);
+        let answer = self.stream.write(batch);
+        self.has_failed = self.has_failed || answer.is_err();
+        answer
+    }
+}
+
 impl<W: Write + Drop> SpanExporter for ConsoleSpanExporter<W> {
     ghost use Rattle.std.specs.Prelude.{◌≡◌};
     ghost use Rattle.otel_console.specs.Console.{Shuts, Writes};
@@ -164,13 +184,12 @@ impl<W: Write + Drop> SpanExporter for ConsoleSpanExporter<W> {
     /// `InternalFailure` names what failed of the stream, `OutOfMemory` says that nothing was written. After a shutdown
     /// it is `AlreadyShutdown`.
     fn export(&mut self, batch: Vec<SpanData>) -> OTelSdkResult {
-        if self.is_shut {
-            self.has_failed = true;
-            return Err(OTelSdkError::AlreadyShutdown);
-        }
-        self.written.push(&batch);
-        let answer = self.stream.write(&batch);
-        self.has_failed = self.has_failed || answer.is_err();
+        self.write(&batch)
+    }
+
+    fn export_from(&mut self, batch: &mut Vec<SpanData>) -> OTelSdkResult {
+        let answer = self.write(batch);
+        batch.clear();
         answer
     }
 

@@ -113,6 +113,15 @@ impl<E: SpanExporter, F: SpanFilter> SpanExporter for FilteringExporter<E, F> {
         self.exporter.export(kept)
     }
 
+    fn export_from(&mut self, batch: &mut Vec<SpanData>) -> OTelSdkResult {
+        self.handed.push(batch);
+        retain_kept(&self.filter, batch);
+        if batch.is_empty() {
+            return Ok(());
+        }
+        self.exporter.export_from(batch)
+    }
+
     fn shutdown_with_timeout(&mut self, timeout: Duration) -> OTelSdkResult {
         self.exporter.shutdown_with_timeout(timeout)
     }

@@ -159,6 +159,30 @@ fn send<W: Write>(alloc: Global, writer: &mut W, line: &[u8], is_cut: &mut bool)
     }
 }
 
+impl<W: Write + Drop> OtlpJsonExporter<W> {
+    ghost use Rattle.otel_export.specs.Telling.{Tells};
+    ghost use Rattle.otel_otlp.specs.LineExporter.{Writes, told_by};
+
+    /// Writes the line of a batch, as `export` does.
+    fn write(&mut self, batch: &Vec<SpanData>) -> OTelSdkResult
+        ensures told { Tells (told_by self.old) (batch.now.items ∷ []) (told_by self.new) }
+        ensures gives { Writes W.contents self.old batch.now.items result self.new }
+    {
+        if self.is_shut {
+            self.has_failed = true;
+            return Err(OTelSdkError::AlreadyShutdown);
+        }
+        let Some(resource) = &self.resource else {
+            self.has_failed = true;
+            return Err(OTelSdkError::OutOfMemory);
+        };
+        self.written.push_pair(resource, batch);
+        let answer = self.stream.write(resource, batch);
+        self.has_failed = self.has_failed || answer.is_err();
+        answer
+    }
+}
+
 impl<W: Write + Drop> SpanExporter for OtlpJsonExporter<W> {
     ghost use Rattle.otel_otlp.specs.LineExporter.{Shuts, TakesResource, Writes, told_by};
 
@@ -172,17 +196,12 @@ impl<W: Write + Drop> SpanExporter for OtlpJsonExporter<W> {
 
     /// `InternalFailure` names what failed of the stream. After a shutdown it is `AlreadyShutdown`.
     fn export(&mut self, batch: Vec<SpanData>) -> OTelSdkResult {
-        if self.is_shut {
-            self.has_failed = true;
-            return Err(OTelSdkError::AlreadyShutdown);
-        }
-        let Some(resource) = &self.resource else {
-            self.has_failed = true;
-            return Err(OTelSdkError::OutOfMemory);
-        };
-        self.written.push_pair(resource, &batch);
-        let answer = self.stream.write(resource, &batch);
-        self.has_failed = self.has_failed || answer.is_err();
+        self.write(&batch)
+    }
+
+    fn export_from(&mut self, batch: &mut Vec<SpanData>) -> OTelSdkResult {
+        let answer = self.write(batch);
+        batch.clear();
         answer
     }
 

@@ -194,6 +194,12 @@ impl<S: Read + Write + Drop> SpanExporter for OtlpHttpExporter<S> {
         }
     }
 
+    /// The list goes with the batch, which may be kept.
+    fn export_from(&mut self, batch: &mut Vec<SpanData>) -> OTelSdkResult {
+        let none = Vec::new(self.alloc);
+        self.export(mem::replace(batch, none))
+    }
+
     fn shutdown_with_timeout(&mut self, _timeout: Duration) -> OTelSdkResult {
         if self.is_shut {
             return Err(OTelSdkError::AlreadyShutdown);

@@ -1,6 +1,6 @@
 //! The steps of the worker. Only `pull` needs memory, and only with an empty hand where spans wait: room for a whole
-//! batch. `close` writes a reason to each request that it drops, which is empty where there is no memory. What an
-//! exporter itself takes is its own.
+//! batch, which the exporter may have left from the one before. `close` writes a reason to each request that it drops,
+//! which is empty where there is no memory. What an exporter itself takes is its own.
 
 ghost use Rattle.std.specs.Prelude.{◌≡◌};
 ghost use Rattle.otel_batch.specs.DrainResult.{first_failure};
@@ -138,9 +138,8 @@ impl<E: SpanExporter> BatchMachine<E> {
         let Worker::Handing = self.worker else {
             return Outcome::NotEnabled;
         };
-        let batch = mem::replace(&mut self.hand, Vec::new(self.alloc));
-        let count = batch.len();
-        let answer = self.exporter.export(batch);
+        let count = self.hand.len();
+        let answer = self.exporter.export_from(&mut self.hand);
         let error = error_of(&answer, self.alloc);
         keep_failure(&mut self.result, answer);
         self.worker = Worker::Subtracting(count);

@@ -13,6 +13,7 @@ ghost use Rattle.otel_export.specs.Telling.{Tells};
 use crate::error::OTelSdkResult;
 use crate::trace::SpanData;
 use otel_resource::resource::Resource;
+use std::mem;
 use std::time::Duration;
 
 /// Sends ended spans to a backend (OpenTelemetry specification, "Span Exporter"). An exporter writes `export`,
@@ -42,6 +43,18 @@ pub trait SpanExporter: Drop {
     fn export(&mut self, batch: Vec<SpanData>) -> OTelSdkResult
         ensures told { Tells (told self.old) (batch.items ∷ []) (told self.new) }
         ensures gives { export_gives self.old batch.items result self.new };
+
+    /// The same for a list that its caller keeps: it comes back empty, and has its room still where the exporter is
+    /// through with the spans, so that the next batch need not ask for that. By default the list as it is goes to
+    /// `export`.
+    fn export_from(&mut self, batch: &mut Vec<SpanData>) -> OTelSdkResult
+        ensures told { Tells (told self.old) (batch.old.items ∷ []) (told self.new) }
+        ensures gives { export_gives self.old batch.old.items result self.new }
+        ensures emptied { batch.new.items ≡ [] }
+    {
+        let none = Vec::new(*batch.allocator());
+        self.export(mem::replace(batch, none))
+    }
 
     /// No batch comes after it. Errors as those of `export`; a second one may be `AlreadyShutdown`.
     fn shutdown_with_timeout(&mut self, timeout: Duration) -> OTelSdkResult
@@ -91,6 +104,11 @@ impl SpanExporter for Box<dyn SpanExporter> {
     fn export(&mut self, batch: Vec<SpanData>) -> OTelSdkResult {
         let inner = &mut **self;
         inner.export(batch)
+    }
+
+    fn export_from(&mut self, batch: &mut Vec<SpanData>) -> OTelSdkResult {
+        let inner = &mut **self;
+        inner.export_from(batch)
     }
 
     fn shutdown_with_timeout(&mut self, timeout: Duration) -> OTelSdkResult {

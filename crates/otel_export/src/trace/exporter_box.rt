@@ -46,6 +46,13 @@ impl<M: SpanExporter, C: SpanExporter> SpanExporter for ExporterOf<M, C> {
         }
     }
 
+    fn export_from(&mut self, batch: &mut Vec<SpanData>) -> OTelSdkResult {
+        match self {
+            ExporterOf::Memory(memory) => memory.export_from(batch),
+            ExporterOf::Custom(custom) => custom.export_from(batch),
+        }
+    }
+
     fn shutdown_with_timeout(&mut self, timeout: Duration) -> OTelSdkResult {
         match self {
             ExporterOf::Memory(memory) => memory.shutdown_with_timeout(timeout),
