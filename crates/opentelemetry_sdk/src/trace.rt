@@ -12,9 +12,9 @@ pub use otel_export::trace::{
     StoresBatches,
 };
 pub use otel_pipeline::trace::{
-    BeginsSpan, CloseReport, CountsLeftSpans, Exception, FromExporter, HoldsSpan, InSpan,
-    KeepsBatches, Now, ProviderBuilderOf, ProviderOf, SdkTracer, SimpleSpanProcessor, Span,
-    SpanEdit, SpanEndError, SpanProcessor, Timed, Tracer,
+    BeginsSpan, CloseReport, CountsLeftSpans, EmptiedBlock, Exception, FromExporter, HoldsSpan,
+    InSpan, KeepsBatches, Now, ProviderBuilderOf, ProviderOf, SdkTracer, SimpleSpanProcessor, Span,
+    SpanBlock, SpanEdit, SpanEndError, SpanProcessor, Timed, Tracer,
 };
 pub use otel_processors::trace::{
     BatchSpanProcessor, BatchSpanProcessorBuilder, Processor, ProcessorOf,

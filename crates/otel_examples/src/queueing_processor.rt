@@ -19,7 +19,9 @@ ghost use Rattle.std.specs.Prelude.{◌≡◌, []};
 use opentelemetry::Context;
 use opentelemetry_sdk::Resource;
 use opentelemetry_sdk::error::OTelSdkResult;
-use opentelemetry_sdk::trace::{CountsLeftSpans, Span, SpanData, SpanExporter, SpanProcessor};
+use opentelemetry_sdk::trace::{
+    CountsLeftSpans, Span, SpanBlock, SpanData, SpanExporter, SpanProcessor,
+};
 use std::alloc::{AllocError, Global};
 use std::mem;
 use std::time::Duration;
@@ -77,6 +79,16 @@ impl<E: SpanExporter> SpanProcessor for QueueingProcessor<E> {
         }
         self.waiting.push(span)?;
         Ok(())
+    }
+
+    // Each span waits out of its block, and no block is given back. A processor that keeps spans writes these two itself,
+    // since the borrow checker does not follow their defaults there.
+    fn on_end_block(&mut self, span: SpanBlock) -> Result<(), AllocError> {
+        self.on_end(span.into_data())
+    }
+
+    fn take_emptied(&mut self) -> Option<Vec<SpanData>> {
+        None
     }
 
     /// The queue is empty afterwards, also where the exporter answers an error: the batch was handed over.

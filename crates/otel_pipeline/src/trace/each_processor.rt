@@ -9,7 +9,7 @@ ghost use Rattle.otel_pipeline.specs.Provider.{FlushesProcessor, RunsProcessor, 
 ghost use Rattle.otel_pipeline.specs.Starting.{PassesThrough};
 ghost use Rattle.otel_pipeline.specs.SpanHistory.{IsEdited, ended_at};
 
-use crate::trace::{CountsLeftSpans, Span, SpanProcessor, Timed};
+use crate::trace::{CountsLeftSpans, Span, SpanBlock, SpanProcessor, Timed};
 use opentelemetry::{Context, Moment};
 use otel_export::error::OTelSdkResult;
 use otel_export::trace::SpanData;
@@ -47,12 +47,12 @@ pub(crate) fn start_each<P: SpanProcessor>(processors: &mut [P], span: &mut Span
     }
 }
 
-/// Each but the last gets a copy of what an ended span recorded, the last one the original. The answer is how many
-/// refused.
+/// Each but the last gets a copy of what an ended span recorded, the last one the original in its block. The answer is
+/// how many refused.
 pub(crate) fn end_each<P: SpanProcessor>(
     processors: &mut [P],
     copies: Vec<SpanData>,
-    original: SpanData,
+    original: SpanBlock,
 ) -> usize
     requires { copies.items ≡ replicate (length processors.old - 1) original }
     ensures { AsksAll (TakesAndTells P.SpanProcessor original) processors.old processors.new result }
@@ -61,7 +61,7 @@ pub(crate) fn end_each<P: SpanProcessor>(
         return 0;
     };
     let refused = end_copies(&mut processors[..last], copies);
-    match processors[last].on_end(original) {
+    match processors[last].on_end_block(original) {
         Ok(()) => refused,
         Err(_) => refused + 1,
     }

@@ -19,7 +19,9 @@ use crate::trace::each_processor::{
     copies_of, dropped_by, end_each, flush_each, left_open_by, run_each, shutdown_each, start_each,
     stranded_by,
 };
-use crate::trace::{CloseReport, CountsLeftSpans, SdkTracer, Span, SpanProcessor, Timed};
+use crate::trace::{
+    CloseReport, CountsLeftSpans, SdkTracer, Span, SpanBlock, SpanProcessor, Timed,
+};
 use opentelemetry::trace::SpanBuilder;
 use opentelemetry::{Context, InstrumentationScope, Moment, SpanId, TraceId};
 use otel_export::error::{OTelSdkError, OTelSdkResult};
@@ -175,8 +177,23 @@ impl<P: SpanProcessor, S: Drop, G: Drop> ProviderOf<P, S, G> {
         start_each(&mut self.processors, span, cx);
     }
 
+    /// Room for the data of a span that is to start: what the last processor gives back, or none.
+    #[inline(always)]
+    pub(crate) fn take_room(&mut self) -> Vec<SpanData>
+        ensures room { result.items ≡ [] }
+        ensures same { self.new ≡ self.old }
+    {
+        let alloc = self.allocator();
+        let Some(last) = self.processors.len().checked_sub(1) else {
+            return Vec::new(alloc);
+        };
+        self.processors[last]
+            .take_emptied()
+            .unwrap_or(Vec::new(alloc))
+    }
+
     /// A span has ended: each processor gets its copy, the last one the original. The answer is how many refused.
-    pub(crate) fn deliver(&mut self, copies: Vec<SpanData>, original: SpanData) -> usize
+    pub(crate) fn deliver(&mut self, copies: Vec<SpanData>, original: SpanBlock) -> usize
         requires { copies.items ≡ replicate (length self.old.processors - 1) original }
         ensures asked { AsksAll (TakesAndTells P.SpanProcessor original) self.old.processors self.new.processors
             result }

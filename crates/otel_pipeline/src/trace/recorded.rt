@@ -1,10 +1,12 @@
 //! What a span has recorded, in a block of its own, so that the span itself moves lightly.
 
-ghost use Rattle.std.specs.Prelude.{◌≡◌, Some, None, is_some, IfOk, option_copied};
+ghost use Rattle.std.specs.Prelude.{◌≡◌, [], Some, None, is_some, IfOk, option_copied};
 
+use crate::trace::SpanBlock;
 use otel_export::trace::SpanData;
 use std::alloc::{AllocError, Global};
 use std::marker::Model;
+use std::mem;
 
 /// The data of a span while it records. To contracts it is the data, where there is any.
 #[derive(Drop)]
@@ -34,12 +36,17 @@ impl Recorded {
         }
     }
 
-    /// This data, in a block that is taken for it.
+    /// This data, in the room of this list, or where that has none in a block that is taken for it.
     #[inline(always)]
-    pub(crate) fn new(alloc: Global, span: SpanData) -> Result<Recorded, AllocError>
+    pub(crate) fn new(room: Vec<SpanData>, span: SpanData) -> Result<Recorded, AllocError>
+        requires { room.items ≡ [] }
         ensures { IfOk result (λ recorded. recorded ≡ Some span) }
     {
-        let mut data = Vec::with_capacity(alloc, 1)?;
+        let mut data = if room.capacity() == 0 {
+            Vec::with_capacity(*room.allocator(), 1)?
+        } else {
+            room
+        };
         data.push_reserved(span);
         Ok(Recorded { data })
     }
@@ -56,13 +63,17 @@ impl Recorded {
         self.data.first()
     }
 
-    /// Takes the data out, and leaves nothing.
+    /// Takes the data out in its block, and leaves nothing.
     #[inline(always)]
-    pub(crate) fn take(&mut self) -> Option<SpanData>
+    pub(crate) fn take(&mut self, alloc: Global) -> Option<SpanBlock>
         ensures taken { result ≡ self.old }
         ensures none { self.new ≡ None }
     {
-        self.data.pop()
+        if self.data.is_empty() {
+            return None;
+        }
+        let data = mem::replace(&mut self.data, Vec::new(alloc));
+        Some(SpanBlock::of(data))
     }
 
     pub(crate) fn clear(&mut self)

@@ -1,10 +1,10 @@
 //! The processor that exports each sampled span as soon as it ends, in a batch of its own (OpenTelemetry specification,
 //! "Simple processor").
 
-ghost use Rattle.std.specs.Prelude.{◌≡◌, ◌∷◌, [], IfOk};
+ghost use Rattle.std.specs.Prelude.{◌≡◌};
 ghost use Rattle.otel_pipeline.specs.SimpleProcessor.{first_simple};
 
-use crate::trace::{CountsLeftSpans, Span, SpanProcessor};
+use crate::trace::{CountsLeftSpans, Span, SpanBlock, SpanProcessor};
 use opentelemetry::Context;
 use otel_export::error::OTelSdkResult;
 use otel_export::trace::{SpanData, SpanExporter, StoresBatches};
@@ -96,13 +96,20 @@ impl<E: SpanExporter> SpanProcessor for SimpleSpanProcessor<E> {
 
     fn on_start(&mut self, _span: &mut Span, _cx: &Context) {}
 
-    #[inline(always)]
     fn on_end(&mut self, span: SpanData) -> Result<(), AllocError> {
-        if self.is_shut || !span.span_context.trace_flags().is_sampled() {
+        if self.is_shut || !span.span_context.is_sampled() {
             return Ok(());
         }
-        let batch = batch_of(self.alloc, span)?;
-        if self.exporter.export(batch).is_err() {
+        self.on_end_block(SpanBlock::new(self.alloc, span)?)
+    }
+
+    /// It takes no memory.
+    #[inline(always)]
+    fn on_end_block(&mut self, span: SpanBlock) -> Result<(), AllocError> {
+        if self.is_shut || !span.data().span_context.is_sampled() {
+            return Ok(());
+        }
+        if self.exporter.export(span.into_batch()).is_err() {
             self.failed_exports = self.failed_exports.saturating_add(1);
         }
         Ok(())
@@ -145,14 +152,4 @@ impl<E: SpanExporter> CountsLeftSpans for SimpleSpanProcessor<E> {
     fn dropped_count(&self) -> u64 {
         0
     }
-}
-
-/// A batch of one span.
-#[inline(always)]
-fn batch_of(alloc: Global, span: SpanData) -> Result<Vec<SpanData>, AllocError>
-    ensures { IfOk result (λ batch. batch.items ≡ span ∷ []) }
-{
-    let mut batch = Vec::with_capacity(alloc, 1)?;
-    batch.push_reserved(span);
-    Ok(batch)
 }

@@ -13,7 +13,7 @@ ghost use Rattle.otel_pipeline.specs.SpanHistory as history;
 ghost use Rattle.otel_pipeline.specs.declared.trace.span.SpanEndError.TheVariants as errors;
 
 use super::span_edit;
-use crate::trace::{ProviderOf, Recorded, SpanEdit, SpanProcessor};
+use crate::trace::{ProviderOf, Recorded, SpanBlock, SpanEdit, SpanProcessor};
 use opentelemetry::trace::{Event, Link, SpanContext, Status};
 use opentelemetry::{KeyValue, Moment};
 use otel_export::trace::SpanData;
@@ -258,11 +258,11 @@ impl Span {
     }
 
     /// What was recorded; no edit reaches the span any more.
-    fn take_recorded(&mut self) -> Option<SpanData>
+    fn take_recorded(&mut self, alloc: Global) -> Option<SpanBlock>
         ensures recorded { result ≡ self.old.recorded }
         ensures ended { self.new ≡ history.ended self.old }
     {
-        self.recorded.take()
+        self.recorded.take(alloc)
     }
 
     /// Ends the span at this moment: each processor of the provider is given what the span recorded, also after one
@@ -290,11 +290,11 @@ impl Span {
             return Ok(0);
         }
         let copies = provider.copies_for_end(recorded, timestamp)?;
-        let Some(mut recorded) = self.take_recorded() else {
+        let Some(mut block) = self.take_recorded(provider.allocator()) else {
             unreachable!();
         };
-        recorded.end_time = timestamp;
-        Ok(provider.deliver(copies, recorded))
+        block.end_at(timestamp);
+        Ok(provider.deliver(copies, block))
     }
 
     /// Ends the span as `end_with_timestamp` does, and spends it. Where there is no memory for the copies it comes back

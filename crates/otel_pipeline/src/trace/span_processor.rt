@@ -14,7 +14,7 @@
 //! telling, and a relation for each call between the processor before it, what it is given and answers, and the
 //! processor after it.
 
-ghost use Rattle.std.specs.Prelude.{◌≡◌, ℕ, OnOk, Result};
+ghost use Rattle.std.specs.Prelude.{◌≡◌, ℕ, [], IfSome, OnOk, Result};
 ghost use Rattle.std.specs.Duration.{as_nanos};
 ghost use Rattle.std.specs.declared.alloc.AllocError.{AllocError};
 ghost use Rattle.opentelemetry.specs.Plain.{PlainContext};
@@ -24,7 +24,7 @@ ghost use Rattle.otel_export.specs.PlainSpanData.{PlainSpanData};
 ghost use Rattle.otel_pipeline.specs.ProcessorTelling.{ProcessorTelling, TakesNothing, TakesSpan, silent};
 ghost use Rattle.otel_pipeline.specs.SpanHistory.{PlainSpan, IsEdited};
 
-use crate::trace::Span;
+use crate::trace::{Span, SpanBlock};
 use opentelemetry::Context;
 use otel_export::error::OTelSdkResult;
 use otel_export::trace::SpanData;
@@ -67,6 +67,26 @@ pub trait SpanProcessor: Drop {
     fn on_end(&mut self, span: SpanData) -> Result<(), AllocError>
         ensures told { TakesSpan (told self.old) span result (told self.new) }
         ensures gives { end_gives self.old span result self.new };
+
+    /// The same for a span that comes in the block in which it was recorded, as it does to the last processor of a
+    /// provider. One that hands each span on as a batch takes the block for it; by default the data comes out of it.
+    #[inline(always)]
+    fn on_end_block(&mut self, span: SpanBlock) -> Result<(), AllocError>
+        ensures told { TakesSpan (told self.old) span result (told self.new) }
+        ensures gives { end_gives self.old span result self.new }
+    {
+        self.on_end(span.into_data())
+    }
+
+    /// The list of a block that it is through with, emptied, so that the next span to start need not ask for its block;
+    /// by default there is none. To contracts the processor stays as it was.
+    #[inline(always)]
+    fn take_emptied(&mut self) -> Option<Vec<SpanData>>
+        ensures emptied { IfSome result (λ list. list.items ≡ []) }
+        ensures same { self.new ≡ self.old }
+    {
+        None
+    }
 
     /// Should export what waits, and answer what its exporter answered; what it does by its contracts is `flush_gives`.
     fn force_flush(&mut self) -> OTelSdkResult
@@ -125,6 +145,16 @@ impl SpanProcessor for Box<dyn SpanProcessor> {
     fn on_end(&mut self, span: SpanData) -> Result<(), AllocError> {
         let inner = &mut **self;
         inner.on_end(span)
+    }
+
+    fn on_end_block(&mut self, span: SpanBlock) -> Result<(), AllocError> {
+        let inner = &mut **self;
+        inner.on_end_block(span)
+    }
+
+    fn take_emptied(&mut self) -> Option<Vec<SpanData>> {
+        let inner = &mut **self;
+        inner.take_emptied()
     }
 
     fn force_flush(&mut self) -> OTelSdkResult {

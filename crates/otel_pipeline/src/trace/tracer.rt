@@ -126,9 +126,8 @@ impl SdkTracer {
             let alloc = provider.allocator();
             return Ok(Span::not_recording(alloc, span_context, span_limits));
         }
-        let alloc = provider.allocator();
         let mut started = begin(
-            alloc,
+            provider.take_room(),
             &self.scope,
             builder,
             parent,
@@ -220,9 +219,9 @@ fn start_flags(parent: &SpanContext, decision: SamplingDecision) -> TraceFlags
     }
 }
 
-/// The span that records what its builder, the sampler and the tracer give it.
+/// The span that records what its builder, the sampler and the tracer give it, in this room.
 fn begin(
-    alloc: Global,
+    room: Vec<SpanData>,
     scope: &InstrumentationScope,
     builder: SpanBuilder,
     parent: &SpanContext,
@@ -231,6 +230,7 @@ fn begin(
     now: Moment,
     span_limits: SpanLimits,
 ) -> Result<Span, AllocError>
+    requires { room.items ≡ [] }
     ensures { IfOk result (λ span. span ≡ recording
         (start_of scope.now builder parent.now now.0 span_limits span_context (added_attributes added)) []) }
 {
@@ -242,6 +242,7 @@ fn begin(
         events,
         links,
     } = builder;
+    let alloc = *room.allocator();
     let (attributes, dropped_attributes_count) = attributes_within(
         alloc,
         attributes,
@@ -266,6 +267,6 @@ fn begin(
         status: Status::Unset,
         instrumentation_scope,
     };
-    let recorded = Recorded::new(alloc, data)?;
+    let recorded = Recorded::new(room, data)?;
     Ok(Span::recording(span_context, recorded, span_limits))
 }

@@ -21,7 +21,7 @@ use otel_batch::machine::{BatchMachine, Request};
 use otel_batch::trace::BatchConfig;
 use otel_export::error::{OTelSdkError, OTelSdkResult};
 use otel_export::trace::{SpanData, SpanExporter, StoresBatches};
-use otel_pipeline::trace::{CountsLeftSpans, Span, SpanProcessor, Timed};
+use otel_pipeline::trace::{CountsLeftSpans, EmptiedBlock, Span, SpanBlock, SpanProcessor, Timed};
 use otel_resource::resource::Resource;
 use std::alloc::{AllocError, Global};
 use std::marker::Model;
@@ -37,6 +37,8 @@ pub struct BatchSpanProcessor<E> {
     last_tick: Option<Moment>,
     is_eager: bool,
     failed_exports: u64,
+    // The block of the last span that came in one.
+    emptied: EmptiedBlock,
     alloc: Global,
 }
 
@@ -139,6 +141,7 @@ impl<E: SpanExporter> BatchSpanProcessor<E> {
             last_tick: None,
             is_eager: false,
             failed_exports: 0,
+            emptied: EmptiedBlock::none(),
             alloc,
         })
     }
@@ -259,6 +262,18 @@ impl<E: SpanExporter> SpanProcessor for BatchSpanProcessor<E> {
         }
         offer_span(&mut self.machine, span);
         Ok(())
+    }
+
+    #[inline(always)]
+    fn on_end_block(&mut self, span: SpanBlock) -> Result<(), AllocError> {
+        let (data, emptied) = span.into_parts();
+        self.emptied.keep(emptied);
+        self.on_end(data)
+    }
+
+    #[inline(always)]
+    fn take_emptied(&mut self) -> Option<Vec<SpanData>> {
+        self.emptied.take()
     }
 
     fn force_flush(&mut self) -> OTelSdkResult {

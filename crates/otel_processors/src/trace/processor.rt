@@ -6,7 +6,8 @@ use otel_batch::trace::BatchConfigBuilder;
 use otel_export::error::OTelSdkResult;
 use otel_export::trace::{ExporterBox, SpanData, SpanExporter, StoresBatches};
 use otel_pipeline::trace::{
-    CountsLeftSpans, FromExporter, KeepsBatches, SimpleSpanProcessor, Span, SpanProcessor, Timed,
+    CountsLeftSpans, FromExporter, KeepsBatches, SimpleSpanProcessor, Span, SpanBlock,
+    SpanProcessor, Timed,
 };
 use otel_resource::resource::Resource;
 use otel_sampling::trace::BatchStrings;
@@ -64,6 +65,24 @@ impl<E: SpanExporter, C: SpanProcessor> SpanProcessor for ProcessorOf<E, C> {
             ProcessorOf::Simple(simple) => simple.on_end(span),
             ProcessorOf::Batch(batch) => batch.on_end(span),
             ProcessorOf::Custom(custom) => custom.on_end(span),
+        }
+    }
+
+    #[inline(always)]
+    fn on_end_block(&mut self, span: SpanBlock) -> Result<(), AllocError> {
+        match self {
+            ProcessorOf::Simple(simple) => simple.on_end_block(span),
+            ProcessorOf::Batch(batch) => batch.on_end_block(span),
+            ProcessorOf::Custom(custom) => custom.on_end_block(span),
+        }
+    }
+
+    #[inline(always)]
+    fn take_emptied(&mut self) -> Option<Vec<SpanData>> {
+        match self {
+            ProcessorOf::Simple(simple) => simple.take_emptied(),
+            ProcessorOf::Batch(batch) => batch.take_emptied(),
+            ProcessorOf::Custom(custom) => custom.take_emptied(),
         }
     }
 

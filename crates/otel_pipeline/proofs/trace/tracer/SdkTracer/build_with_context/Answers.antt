@@ -1,10 +1,11 @@
 use Rattle.opentelemetry.specs.PlainContexts.{current_span_context}
-use Rattle.std.proofs.Common.{◌≡◌, ◌≢◌, ◌||◌, [], rules, true}
+use Rattle.std.proofs.Common.{◌≡◌, ◌≢◌, ◌||◌, [], rules, subst, true}
 use Rattle.opentelemetry.proofs.Clauses.{fails_on_err}
 use Rattle.otel_sampling.specs.Sampling.{PlainSamplingResult}
 use Rattle.otel_sampling.specs.declared.trace.sampler.SamplingDecision.TheVariants as decisions
 use Rattle.otel_pipeline.specs.StartRequest.{StartRequest, start_as, start_question, start_span_context}
 use Rattle.otel_pipeline.specs.SpanHistory.{recording, not_recording}
+use Rattle.otel_pipeline.specs.Starting.{PassesThrough}
 use Rattle.otel_pipeline.proofs.Starting.{starts_dropped, starts_none, starts_recording, taken}
 use Rattle.otel_pipeline.proofs.trace.tracer.SdkTracer.build_with_context.Goals as goal
 
@@ -32,9 +33,12 @@ returns-in-Ok-clause-answers g c =
     let asked : answer ≡ g.S.ShouldSample.answer drawn.sampler (start_question c.args.cx.now c.draw_ids-trace_id.result.0 c.args.builder) = search rules in
     let kept : answer.decision ≢ decisions.Drop = search rules in
     let span_is : c.in-Ok.span ≡ recording (start_as request c.args.provider.now.span_limits c.draw_ids-trace_id.result.0 c.draw_ids-trace_id.result.1 answer) [] = search rules in
+    let same : c.take_room.new.self ≡ drawn = c.take_room.ensures.same in
     starts_recording g.P.SpanProcessor g.S.ShouldSample g.G.GivesIds c.args.provider.now drawn c.tell_start.new.self request
     c.draw_ids-trace_id.result.0 c.draw_ids-trace_id.result.1 answer c.in-Ok.span c.tell_start.new.span (search rules) c.draw_ids-trace_id.ensures.draws c.draw_ids-trace_id.ensures.rest asked kept span_is
-    c.tell_start.ensures.edits c.tell_start.ensures.gives c.tell_start.ensures.rest
+    c.tell_start.ensures.edits
+    (subst (λ given. PassesThrough g.P.SpanProcessor c.args.cx.now c.in-Ok.span given.processors c.tell_start.new.self.processors c.tell_start.new.span) same c.tell_start.ensures.gives)
+    (subst (λ given. c.tell_start.new.self ≡ record given { processors = c.tell_start.new.self.processors }) same c.tell_start.ensures.rest)
 
 pub returns-in_err-context-clause-free : goal.returns-in_err-context-clause-free
 returns-in_err-context-clause-free g c =
