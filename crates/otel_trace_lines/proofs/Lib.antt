@@ -1,5 +1,7 @@
 pub mod Cuts
 pub mod FieldLemmas
+pub mod FirstByte
+pub mod HexBytesLemmas
 pub mod KindLemmas
 pub mod JoinedLines
 pub mod JoinedTexts

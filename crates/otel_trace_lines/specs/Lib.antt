@@ -1,6 +1,7 @@
 pub mod AnswerText
 pub mod Commands
 pub mod Dialects
+pub mod HexBytes
 pub mod Lines
 pub mod PlainReply
 pub mod ReplyForm

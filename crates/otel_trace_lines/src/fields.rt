@@ -1,6 +1,6 @@
 //! The parts of a line: fields, each ended by a space, numbers, and the line itself.
 
-ghost use Rattle.std.specs.Prelude.{◌≡◌, ℕ, ◌<◌, List, [], ◌∷◌, ◌++◌, length, Option, None, Some, IfOk, IsOk, IsTrue, ◌↔◌, MatchOption, codes, position, ◌==◌, is_some, true};
+ghost use Rattle.std.specs.Prelude.{◌≡◌, ◌≢◌, ℕ, ◌<◌, All, List, slice_index, take, [], ◌∷◌, ◌++◌, length, Option, None, Some, IfOk, IsOk, IsTrue, ◌↔◌, MatchOption, codes, position, ◌==◌, is_some, true};
 ghost use Rattle.std.specs.Str.Lines.{lines as lines_of, strip_carriage_return};
 ghost use Rattle.otel_trace_lines.specs.Dialects.{MayHave};
 ghost use Rattle.otel_trace_lines.specs.Lines.{
@@ -20,6 +20,7 @@ ghost use Rattle.otel_trace_lines.specs.Lines.{
 };
 
 use crate::dialect::Dialect;
+use memchr::memchr;
 use opentelemetry::Moment;
 use opentelemetry::trace::{SpanKind, Status};
 use std::alloc::{AllocError, Global};
@@ -152,11 +153,37 @@ pub fn first_field(text: &str) -> Option<(&str, &str)>
         ((front rest : List ℕ) → IsField front → text.now ≡ front ++ 32 ∷ rest → ⊥)
         (λ parts. IsField parts.0.now × (text.now ≡ parts.0.now ++ 32 ∷ parts.1.now)) }
 {
-    let (field, rest) = text.split_once(' ')?;
+    let (field, rest) = split_at_space(text)?;
     if field.is_empty() {
         return None;
     }
     Some((field, rest))
+}
+
+/// A text up to its first space, and what stands after that; none where there is no space. Inlined into the reading of a
+/// line it would take more.
+#[inline(never)]
+fn split_at_space(text: &str) -> Option<(&str, &str)>
+    ensures { MatchOption result
+        (All (λ b. b ≢ 32) text.now)
+        (λ parts. All (λ b. b ≢ 32) parts.0.now × (text.now ≡ parts.0.now ++ 32 ∷ parts.1.now)) }
+{
+    let end = first_space(text.as_bytes())?;
+    Some((&text[..end], &text[end + 1..]))
+}
+
+/// Where the first space stands; none where there is no space.
+fn first_space(text: &[u8]) -> Option<usize>
+    ensures { MatchOption result
+        (All (λ b. b ≢ 32) text.now)
+        (λ end. (end < length text.now) × (slice_index text.now end ≡ 32) × All (λ b. b ≢ 32) (take end text.now)) }
+{
+    for (i, byte) in text.iter().enumerate() {
+        if *byte == b' ' {
+            return Some(i);
+        }
+    }
+    None
 }
 
 /// The moment that digits write; none where it is out of range, or where anything but digits stands there.
@@ -222,7 +249,7 @@ pub fn first_line(text: &[u8]) -> Option<(&[u8], &[u8])>
 fn line_feed(text: &[u8]) -> Option<usize>
     ensures { result ≡ position (λ b. b == 10) text.now }
 {
-    text.iter().position(|b| *b == b'\n')
+    memchr(b'\n', text)
 }
 
 /// A line without the one carriage return at its end, if it has one.

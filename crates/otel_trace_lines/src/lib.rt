@@ -5,6 +5,7 @@
 
 pub mod command;
 pub mod dialect;
+mod digits;
 mod extended;
 pub mod fields;
 pub mod laws;

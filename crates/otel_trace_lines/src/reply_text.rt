@@ -2,16 +2,19 @@
 //! and is then written whole by `write_text` or not at all.
 
 ghost use Rattle.std.specs.Prelude.{◌≡◌, ◌++◌, ◌∷◌, [], IfOk, IsOk, OnOk, OnErr, map, string_bytes};
+ghost use Rattle.std.specs.Fmt.{decimal};
+ghost use Rattle.opentelemetry.specs.Hex.{hex_text};
 ghost use Rattle.opentelemetry.specs.Text.{TextGrows};
 ghost use Rattle.opentelemetry.specs.PlainValues.{plain_status};
 ghost use Rattle.otel_propagation.specs.Traceparent.{context_text};
 ghost use Rattle.otel_export.specs.PlainSpanData.{spans_in};
 ghost use Rattle.otel_trace_lines.specs.AnswerText.{answer_line, reply_text};
-ghost use Rattle.otel_trace_lines.specs.ReplyText.{listed, spaced, comma_before, status_text, attribute_text, attributes_text, event_text, events_text, links_text, identity_text, span_line, span_lines, started_line, dropped_line, header_line, headers_lines};
+ghost use Rattle.otel_trace_lines.specs.ReplyText.{line, listed, spaced, comma_before, status_text, attribute_text, attributes_text, event_text, events_text, links_text, identity_text, span_line, span_lines, started_line, dropped_line, header_line, headers_lines};
 
+use crate::digits::{Digits, push_decimal};
 use crate::reply::Answer;
 use opentelemetry::trace::{Event, Status};
-use opentelemetry::{KeyValue, SpanId, TraceFlags, TraceId};
+use opentelemetry::{KeyValue, SpanId, TraceFlags, TraceId, Value};
 use otel_export::trace::{SpanData, SpanEvents, SpanLinks};
 use std::alloc::AllocError;
 use std::fmt::Write;
@@ -31,9 +34,9 @@ fn push_status(text: &mut String, status: &Status) -> Result<(), AllocError>
 fn push_event(text: &mut String, event: &Event) -> Result<(), AllocError>
     ensures { OnOk result (TextGrows text.old (event_text event.now) text.new) }
 {
-    let name = event.name.as_str();
-    let moment = event.timestamp.0;
-    write!(text, "{name}@{moment}")
+    text.push_str(event.name.as_str())?;
+    text.push('@')?;
+    push_decimal(text, event.timestamp.0)
 }
 
 /// A comma before each item but the first.
@@ -47,9 +50,12 @@ pub fn push_comma(text: &mut String, i: usize) -> Result<(), AllocError>
 fn push_attribute(text: &mut String, attribute: &KeyValue) -> Result<(), AllocError>
     ensures { OnOk result (TextGrows text.old (attribute_text attribute.now) text.new) }
 {
-    let key = attribute.key.as_str();
-    let value = &attribute.value;
-    write!(text, "{key}={value}")
+    text.push_str(attribute.key.as_str())?;
+    text.push('=')?;
+    match &attribute.value {
+        Value::String(value) => text.push_str(value.as_str()),
+        value => write!(text, "{value}"),
+    }
 }
 
 /// The attributes in brackets.
@@ -69,10 +75,10 @@ fn push_attribute_list(text: &mut String, attributes: &[KeyValue]) -> Result<(),
 fn push_attributes(text: &mut String, span: &SpanData) -> Result<(), AllocError>
     ensures { OnOk result (TextGrows text.old (attributes_text span.now) text.new) }
 {
-    let dropped = span.dropped_attributes_count;
     text.push_str("attrs ")?;
     push_attribute_list(text, span.attributes.as_slice())?;
-    write!(text, " {dropped}")
+    text.push(' ')?;
+    push_decimal(text, u64::from(span.dropped_attributes_count))
 }
 
 /// The events in brackets.
@@ -92,19 +98,20 @@ fn push_event_list(text: &mut String, events: &[Event]) -> Result<(), AllocError
 fn push_events(text: &mut String, events: &SpanEvents) -> Result<(), AllocError>
     ensures { OnOk result (TextGrows text.old (events_text events.now) text.new) }
 {
-    let dropped = events.dropped_count;
     text.push_str("events ")?;
     push_event_list(text, events.events.as_slice())?;
-    write!(text, " {dropped}")
+    text.push(' ')?;
+    push_decimal(text, u64::from(events.dropped_count))
 }
 
 /// How many links were kept, and how many were not.
 fn push_links(text: &mut String, links: &SpanLinks) -> Result<(), AllocError>
     ensures { OnOk result (TextGrows text.old (links_text links.now) text.new) }
 {
-    let kept = links.links.len();
-    let dropped = links.dropped_count;
-    write!(text, "links {kept} {dropped}")
+    text.push_str("links ")?;
+    push_decimal(text, links.links.len() as u64)?;
+    text.push(' ')?;
+    push_decimal(text, u64::from(links.dropped_count))
 }
 
 /// The events and links of a span.
@@ -118,22 +125,39 @@ fn push_events_and_links(text: &mut String, span: &SpanData) -> Result<(), Alloc
     push_links(text, &span.links)
 }
 
+/// Which span it is and when it ran, with a space after each part.
+#[inline(always)]
+fn ids_and_times(span: &SpanData) -> Digits
+    ensures { result ≡ spaced (hex_text 32 span.now.span_context.trace_id
+        ∷ hex_text 16 span.now.span_context.span_id ∷ hex_text 16 span.now.parent_span_id
+        ∷ hex_text 2 span.now.span_context.trace_flags
+        ∷ decimal span.now.start_time ∷ decimal span.now.end_time ∷ [] ∷ []) }
+{
+    let mut digits = Digits::new();
+    digits.put(b' ');
+    digits.put_decimal(span.end_time.0);
+    digits.put(b' ');
+    digits.put_decimal(span.start_time.0);
+    digits.put(b' ');
+    digits.put_flags(span.span_context.trace_flags());
+    digits.put(b' ');
+    digits.put_span_id(span.parent_span_id);
+    digits.put(b' ');
+    digits.put_span_id(span.span_context.span_id());
+    digits.put(b' ');
+    digits.put_trace_id(span.span_context.trace_id());
+    digits
+}
+
 /// Which span it is, what it is called, when it ran and how it went.
 #[tactic(auto, using(std::proofs::lemmas::List::append_assoc))]
 fn push_identity(text: &mut String, span: &SpanData) -> Result<(), AllocError>
     ensures { OnOk result (TextGrows text.old (identity_text span.now) text.new) }
 {
-    let trace_id = span.span_context.trace_id();
-    let span_id = span.span_context.span_id();
-    let parent = span.parent_span_id;
-    let flags = span.span_context.trace_flags();
-    let start = span.start_time.0;
-    let end = span.end_time.0;
-    let name = span.name.as_str();
-    write!(
-        text,
-        "span {trace_id} {span_id} {parent} {flags} {start} {end} {name} "
-    )?;
+    text.push_str("span ")?;
+    text.push_str(ids_and_times(span).as_str())?;
+    text.push_str(span.name.as_str())?;
+    text.push(' ')?;
     push_status(text, &span.status)
 }
 
@@ -173,16 +197,24 @@ fn push_batches(text: &mut String, batches: &[Vec<SpanData>]) -> Result<(), Allo
     Ok(())
 }
 
-/// Who a span is.
+/// Who a span is, at the end of a line.
 fn push_context(
     text: &mut String,
     trace_id: TraceId,
     span_id: SpanId,
     trace_flags: TraceFlags,
 ) -> Result<(), AllocError>
-    ensures { OnOk result (TextGrows text.old (context_text trace_id span_id trace_flags) text.new) }
+    ensures { OnOk result (TextGrows text.old (line (context_text trace_id span_id trace_flags)) text.new) }
 {
-    write!(text, "00-{trace_id}-{span_id}-{trace_flags}")
+    let mut digits = Digits::new();
+    digits.put(b'\n');
+    digits.put_flags(trace_flags);
+    digits.put(b'-');
+    digits.put_span_id(span_id);
+    digits.put(b'-');
+    digits.put_trace_id(trace_id);
+    text.push_str("00-")?;
+    text.push_str(digits.as_str())
 }
 
 /// `started` and who the new span is.
@@ -196,8 +228,7 @@ fn push_started(
     ensures { OnOk result (TextGrows text.old (started_line trace_id span_id trace_flags) text.new) }
 {
     text.push_str("started ")?;
-    push_context(text, trace_id, span_id, trace_flags)?;
-    text.push('\n')
+    push_context(text, trace_id, span_id, trace_flags)
 }
 
 /// `dropped` and who the new span is.
@@ -211,8 +242,7 @@ fn push_dropped(
     ensures { OnOk result (TextGrows text.old (dropped_line trace_id span_id trace_flags) text.new) }
 {
     text.push_str("dropped ")?;
-    push_context(text, trace_id, span_id, trace_flags)?;
-    text.push('\n')
+    push_context(text, trace_id, span_id, trace_flags)
 }
 
 /// The line of a header: its name, `=` and its text.
