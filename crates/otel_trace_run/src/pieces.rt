@@ -11,8 +11,8 @@ use std::io;
 use std::io::{ErrorKind, Read};
 use std::marker::Model;
 
-/// How many bytes a read asks for.
-const CHUNK: usize = 64 * 1024;
+/// How many bytes a read asks for: few enough that the memory of a piece's commands is used again by those of the next.
+const CHUNK: usize = 8 * 1024;
 
 /// What was read of an input: complete lines, and after them the line that is not ended yet.
 #[derive(Drop)]

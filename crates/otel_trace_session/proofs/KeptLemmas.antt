@@ -1,35 +1,23 @@
 -- The batches that the first processor of a session keeps over a turn, and how many it loses.
-use Rattle.std.proofs.Common.{◌≡◌, ℕ, List, [], ◌∷◌, Result, Option, Some, None, Bool, true, false, IsFalse, ◌||◌, MatchBool, refl, ap, rules}
-use Rattle.opentelemetry.specs.Plain.{PlainContext, PlainScope}
+use Rattle.std.proofs.Common.{◌≡◌, ℕ, List, Option, Some, None, false, IsFalse, ◌||◌, ap, rules}
+use Rattle.opentelemetry.specs.Plain.{PlainScope}
 use Rattle.opentelemetry.specs.PlainContexts.{root_cx}
 use Rattle.opentelemetry.specs.PlainSpanBuilder.{PlainSpanBuilder}
-use Rattle.otel_export.specs.declared.error.OTelSdkError.{OTelSdkError}
-use Rattle.otel_sampling.specs.declared.trace.sampler.SamplingDecision.{SamplingDecision}
-use Rattle.otel_sampling.specs.declared.trace.sampler.SamplingDecision.TheVariants as decisions
-use Rattle.otel_export.specs.PlainSpanData.{PlainSpanData}
-use Rattle.otel_pipeline.specs.Each.{Each}
-use Rattle.otel_pipeline.specs.Ending.{Delivers, TakesAndTells}
-use Rattle.otel_export.specs.KeptBatches.{OnlyAdds, adds_none}
 use Rattle.otel_pipeline.specs.ProcessorKeeps.{OnlyAppends}
-use Rattle.otel_pipeline.specs.Provider.{unstarted_context, FlushesProcessor, ProviderState, RunsProcessor, ShutsDown, ShutsProcessor, shut_answer}
-use Rattle.otel_pipeline.specs.SpanHistory.{PlainSpan, SpanStart, SpanHistory, begun, over, span_of}
-use Rattle.otel_pipeline.specs.StartRequest.{StartRequest}
-use Rattle.otel_pipeline.specs.Starting.{PassesThrough, DecidesStart, StartsOpen}
-use Rattle.otel_pipeline.specs.declared.trace.span_processor.SpanProcessor.{Ghosts}
-use Rattle.otel_pipeline.specs.declared.trace.timed.Timed as timing
-use Rattle.otel_pipeline.specs.declared.trace.keeps_batches.KeepsBatches as keeping
+use Rattle.otel_pipeline.specs.Provider.{shut_answer}
+use Rattle.otel_pipeline.specs.SpanHistory.{SpanHistory, begun, over, span_of}
 use Rattle.otel_trace_lines.specs.declared.reply.Answer.{Answer}
 use Rattle.otel_trace_lines.specs.declared.reply.Answer.TheVariants as answers
 use Rattle.otel_trace_session.specs.Actions.{PlainAction, PlainCall, PlainOrigin, at_root, under, from_header, call_flush, call_run, call_shutdown}
 use Rattle.otel_trace_session.specs.Actions.{start_span, edit_span, inject_span, end_span, call_provider, link_span, ends_span, may_lose}
-use Rattle.otel_trace_session.specs.Calls.{Calls, losses_of_first, stored_of_first}
+use Rattle.otel_trace_session.specs.Calls.{Calls, losses_of_first}
 use Rattle.otel_trace_session.specs.Headers.{child_cx}
 use Rattle.otel_trace_session.specs.OpenSpans.{Histories}
 use Rattle.otel_trace_session.specs.SpanTurns.{ChildTurn, EndTurn, InjectTurn, Start, StartsAfter, StartsFrom, request_of, start_in}
 use Rattle.otel_trace_session.specs.Turn.{AsksNobody, Course, Turn}
 use Rattle.otel_trace_session.specs.ProviderTurns.{AsksProvider, CallGives}
 use Rattle.otel_trace_session.specs.Turns.{TakesAction}
-use Rattle.otel_pipeline.proofs.FirstKeeps.{AddsToFirst, LosesNothing, adds_nothing, loses_nothing, started_loses, delivery_grows, flush_grows, run_grows, shutdown_grows}
+use Rattle.otel_pipeline.proofs.FirstKeeps.{AddsToFirst, LosesNothing, loses_nothing, started_loses, delivery_grows, flush_grows, run_grows, shutdown_grows}
 
 module _ {P S G : Type 0} (calls : Calls P S G) (law : OnlyAppends calls.processor calls.timer calls.keeps.stored) where
   -- batches come only after those that are kept

@@ -5,6 +5,7 @@ pub mod EmptiedLemmas
 pub mod FeedLemmas
 pub mod HeaderLemmas
 pub mod HeardLemmas
+pub mod HeldLemmas
 pub mod KeptLemmas
 pub mod NamedLemmas
 pub mod RunLemmas

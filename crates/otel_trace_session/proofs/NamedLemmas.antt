@@ -17,7 +17,7 @@ use Rattle.otel_pipeline.specs.SpanHistory.{PlainSpan, SpanHistory, HasHistory, 
 use Rattle.otel_pipeline.proofs.SpanLaws.{keeps_history, over_history}
 use Rattle.otel_trace_lines.specs.declared.reply.Answer.{Answer}
 use Rattle.otel_trace_session.specs.Calls.{Calls}
-use Rattle.otel_trace_session.specs.OpenSpans.{ChildMayStart, Describe, HaveHistories, Histories, MayStart, NamedSpans, SameSpans, by_name, is_name, named}
+use Rattle.otel_trace_session.specs.OpenSpans.{ChildMayStart, Describe, HaveHistories, Histories, MayStart, NamedSpans, PutsSpan, SameSpans, by_name, is_name, named}
 use Rattle.otel_trace_session.specs.Headers.{child_cx}
 use Rattle.otel_trace_session.specs.Turn.{TurnsFromAny, Turn}
 
@@ -29,17 +29,17 @@ named-lookup (entry ∷ entries) q = ap (cond (is_name q (string_bytes entry.0))
 pub named-get : {Y : Type 0} (m : BTreeMap (String Y) PlainSpan) (q : List ℕ) → named (by_name m.entries) q ≡ get_by_text m q
 named-get m q = named-lookup m.entries q
 
--- a name was given a span, and each other name has what it had
-abbrev pub PutsSpan : NamedSpans → List ℕ → PlainSpan → NamedSpans → Type 0
-PutsSpan old name span new = (q : List ℕ) → named new q ≡ (if is_name q name then Some span else named old q)
+-- one name was given a span or lost it
+pub updates_named : {Y : Type 0} (m n : BTreeMap (String Y) PlainSpan) (s : List ℕ) (w : Option PlainSpan) → UpdatesBy string_cmp (λ k. slice_cmp nat_cmp s (string_bytes k)) m n w
+    → (q : List ℕ) → named (by_name n.entries) q ≡ cond (is_name q s) w (named (by_name m.entries) q)
+updates_named m n s w h q =
+    named-get n q ∙ btree_map_updates_text s m n w h q
+    ∙ ap (λ (b : Bool). cond b w (get_by_text m q)) (sym (is_eq-slice_cmp s q) ∙ (eq_by_cmp_equiv nat_list_cmp_total).symm s q)
+    ∙ ap (λ (o : Option PlainSpan). cond (is_name q s) w o) (sym (named-get m q))
 
--- one name was given a span
 pub puts_span : {Y : Type 0} (m n : BTreeMap (String Y) PlainSpan) (s : List ℕ) (span : PlainSpan) → UpdatesBy string_cmp (λ k. slice_cmp nat_cmp s (string_bytes k)) m n (Some span)
     → PutsSpan (by_name m.entries) s span (by_name n.entries)
-puts_span m n s span h = λ q.
-    named-get n q ∙ btree_map_updates_text s m n (Some span) h q
-    ∙ ap (λ (b : Bool). cond b (Some span) (get_by_text m q)) (sym (is_eq-slice_cmp s q) ∙ (eq_by_cmp_equiv nat_list_cmp_total).symm s q)
-    ∙ ap (λ (o : Option PlainSpan). cond (is_name q s) (Some span) o) (sym (named-get m q))
+puts_span m n s span h = updates_named m n s (Some span) h
 
 -- a name is its own
 pub is_itself : (q : List ℕ) → is_name q q ≡ true
@@ -56,6 +56,10 @@ put_there spans s span q true e h = sym h ∙ ap (named spans) (sym (same_name q
 -- a span put where it stands changes nothing
 pub put_same : (old new : NamedSpans) (s : List ℕ) (span : PlainSpan) → named old s ≡ Some span → PutsSpan old s span new → SameSpans old new
 put_same old new s span there put = λ q. put q ∙ put_there old s span q (is_name q s) refl there
+
+-- and a name that keeps its span was given it
+pub same_puts : (old new : NamedSpans) (s : List ℕ) (span : PlainSpan) → named old s ≡ Some span → SameSpans old new → PutsSpan old s span new
+same_puts old new s span there same = λ q. same q ∙ sym (put_there old s span q (is_name q s) refl there)
 
 -- entries that stay
 pub same_entries : {Y : Type 0} (old new : List (String Y × PlainSpan)) → new ≡ old → SameSpans (by_name old) (by_name new)

@@ -14,10 +14,10 @@ use Rattle.otel_trace_lines.specs.declared.reply.Answer.{Answer}
 use Rattle.otel_trace_lines.specs.declared.reply.Answer.TheVariants as answers
 use Rattle.otel_trace_session.specs.Calls.{Calls}
 use Rattle.otel_trace_session.specs.Headers.{AnswersHeaders, child_cx}
-use Rattle.otel_trace_session.specs.OpenSpans.{AnswersInject, Describe, Histories, NamedSpans, SameSpans, edit_answer, edited_history, edited_in, is_name, link_answer, linked_by, linked_in, named, with_history}
+use Rattle.otel_trace_session.specs.OpenSpans.{AnswersInject, Describe, Histories, NamedSpans, PutsSpan, SameSpans, edit_answer, edited_history, edited_in, is_name, link_answer, linked_by, linked_in, named, with_history}
 use Rattle.otel_trace_session.specs.SpanTurns.{BeginsHistory, ChildTurn, EndTurn, Start, StartTurn}
 use Rattle.otel_trace_session.specs.Turn.{Course, TurnsFromAny, TurnsFrom, Turn}
-use Rattle.otel_trace_session.proofs.NamedLemmas.{PutsSpan, put_same, same_name}
+use Rattle.otel_trace_session.proofs.NamedLemmas.{put_same, same_name}
 
 describes_if : (b : Bool) (history : SpanHistory) (o : Option SpanHistory) (found : Option PlainSpan) → found ≡ option_map span_of o → (if b then Some (span_of history) else found) ≡ option_map span_of (if b then Some history else o)
 describes_if true history o found e = refl
@@ -35,7 +35,7 @@ describes_over : (histories : Histories) (old new : NamedSpans) (span : List ℕ
 describes_over histories old new span found describes there put = describes_same histories old new describes (put_same old new span found there put)
 
 -- what is said of an edit, by the span
-abbrev said : Option PlainSpan → Answer
+abbrev pub said : Option PlainSpan → Answer
 said None = answers.NoSuchSpan
 said (Some found) = if is_some found.recorded then answers.Ok else answers.Ignored
 

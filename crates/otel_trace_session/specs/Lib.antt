@@ -1,6 +1,7 @@
 pub mod Actions
 pub mod Calls
 pub mod Closing
+pub mod Ended
 pub mod Fed
 pub mod Headers
 pub mod Laws

@@ -16,6 +16,7 @@ use Rattle.otel_trace_lines.specs.declared.reply.Answer.{Answer}
 use Rattle.otel_trace_lines.specs.declared.reply.Answer.TheVariants as answers
 use Rattle.otel_trace_lines.specs.declared.reply.SpanIdentity.{SpanIdentity}
 use Rattle.otel_trace_session.specs.Calls.{Calls}
+use Rattle.otel_trace_session.specs.Ended.{EndedIdentity, ended_span}
 use Rattle.otel_trace_session.specs.Headers.{AnswersHeaders, SaysContext, child_cx}
 
 -- spans, each under the bytes by which commands call it
@@ -39,9 +40,25 @@ HaveHistories spans = (name : List ℕ) (span : PlainSpan) → named spans name 
 abbrev pub by_name : {Y X : Type 0} → List (String Y × X) → List (List ℕ × X)
 by_name entries = map (λ entry. (string_bytes entry.0, entry.1)) entries
 
+-- the same of what is kept of spans that are over
+abbrev pub finished_by_name : {Y : Type 0} → List (String Y × EndedIdentity) → NamedSpans
+finished_by_name entries = map (λ entry. (string_bytes entry.0, ended_span entry.1)) entries
+
+-- the spans of a session: the open ones, and under each other name what is over
+abbrev pub held_spans : {Y : Type 0} → List (String Y × PlainSpan) → List (String Y × EndedIdentity) → NamedSpans
+held_spans running finished = by_name running ++ finished_by_name finished
+
 -- each name has what it had
 abbrev pub SameSpans : NamedSpans → NamedSpans → Type 0
 SameSpans old new = (q : List ℕ) → named new q ≡ named old q
+
+-- a name was given a span, and each other name has what it had
+abbrev pub PutsSpan : NamedSpans → List ℕ → PlainSpan → NamedSpans → Type 0
+PutsSpan old name span new = (q : List ℕ) → named new q ≡ (if is_name q name then Some span else named old q)
+
+-- a name has no span any more, and each other name has what it had
+abbrev pub DropsSpan : NamedSpans → List ℕ → NamedSpans → Type 0
+DropsSpan old name new = (q : List ℕ) → named new q ≡ (if is_name q name then None else named old q)
 
 -- the history of the span of each name, where a start made it
 abbrev pub Histories : Type 0

@@ -71,7 +71,7 @@ pub(crate) fn carry_out<P: KeepsBatches, S: ShouldSample, G: GivesIds>(
             spans.edit(span.as_str(), edit)
         }
         Action::Inject { span } => spans.inject(alloc, span.as_str()),
-        Action::End { span, moment } => spans.end(span.as_str(), provider, moment),
+        Action::End { span, moment } => spans.end(alloc, span.as_str(), provider, moment),
         Action::Call(call) => Ok(answer_to_call(call_provider(provider, call))),
     }
 }

@@ -5,9 +5,11 @@
 mod actions;
 mod carry_out;
 mod closing;
+mod ended_span;
 mod headers;
 pub mod laws;
 mod open_spans;
 pub mod session;
+mod span_maps;
 
 pub use session::{ClosedSession, FeedError, RunError, Session};

@@ -1,7 +1,7 @@
 //! The spans of a session by name. They must be spent: each is abandoned when the session closes.
 
-ghost use Rattle.std.specs.Prelude.{◌≡◌, [], IfOk, OnErr, codes, string_bytes, if◌then◌else◌};
-ghost use Rattle.std.specs.Option.{option_map};
+ghost use Rattle.std.specs.Prelude.{◌≡◌, [], ◌++◌, IfOk, None, OnErr, codes, is_some, string_bytes, if◌then◌else◌};
+ghost use Rattle.std.specs.Option.{option_copied, option_map};
 ghost use Rattle.opentelemetry.specs.Plain.{scope_named};
 ghost use Rattle.opentelemetry.specs.PlainContexts.{root_cx};
 ghost use Rattle.otel_pipeline.specs.Exceptions.{exception_event};
@@ -15,6 +15,7 @@ ghost use Rattle.otel_trace_session.specs.OpenSpans.{
   HaveHistories,
   Histories,
   MayStart,
+  NamedSpans,
   SameSpans,
   by_name,
   edit_answer,
@@ -23,13 +24,16 @@ ghost use Rattle.otel_trace_session.specs.OpenSpans.{
   link_answer,
   linked_in,
   named,
+  finished_by_name,
   start_answer,
 };
 ghost use Rattle.otel_trace_session.specs.SpanTurns.{ChildTurn, EndTurn, StartTurn, start_in};
 ghost use Rattle.otel_trace_session.specs.Turn.{TurnsFromAny};
 
+use crate::ended_span::EndedSpan;
 use crate::headers::answer_with_headers;
-use opentelemetry::trace::{Link, SpanBuilder};
+use crate::span_maps::{abandon_all, abandon_one, keep_identity};
+use opentelemetry::trace::{Link, SpanBuilder, SpanContext};
 use opentelemetry::{Context, Moment};
 use otel_pipeline::trace::{
     Exception, KeepsBatches, ProviderOf, SdkTracer, Span, SpanEdit, SpanProcessor,
@@ -54,19 +58,21 @@ pub(crate) fn tracer_of<P, S, G>(
     provider.tracer(String::from_str(alloc, SCOPE_NAME)?)
 }
 
-/// Spans by name.
+/// Spans by name: the open ones, and of those that are over who they were. Under a name that has an open span the other
+/// map says nothing.
 pub(crate) struct OpenSpans {
-    spans: BTreeMap<String, Span>,
+    running: BTreeMap<String, Span>,
+    finished: BTreeMap<String, EndedSpan>,
 }
 
 impl Model for OpenSpans {
-    ghost use Rattle.otel_trace_session.specs.OpenSpans.{HaveHistories, NamedSpans, by_name};
+    ghost use Rattle.otel_trace_session.specs.OpenSpans.{HaveHistories, NamedSpans, held_spans};
 
     ghost Value = { NamedSpans };
 
-    ghost view = { λ a. by_name a.spans.entries };
+    ghost view = { λ a. held_spans a.running.entries a.finished.entries };
 
-    ghost invariant = { λ a. HaveHistories (by_name a.spans.entries) };
+    ghost invariant = { λ a. HaveHistories (held_spans a.running.entries a.finished.entries) };
 }
 
 impl OpenSpans {
@@ -74,7 +80,8 @@ impl OpenSpans {
         ensures { result ≡ [] }
     {
         OpenSpans {
-            spans: BTreeMap::new(alloc),
+            running: BTreeMap::new(alloc),
+            finished: BTreeMap::new(alloc),
         }
     }
 
@@ -82,7 +89,7 @@ impl OpenSpans {
     pub(crate) fn have_histories(&self)
         ensures { HaveHistories self.now }
     {
-        let _spans = &self.spans;
+        let _running = &self.running;
     }
 
     /// Starts a span under a name in a context. The name's place in the map comes first, so that a start that is
@@ -105,7 +112,10 @@ impl OpenSpans {
             provider.old cx.now builder now.0 (named self.old (string_bytes span)) provider.new) }
         ensures err { OnErr result (SameSpans self.old self.new) }
     {
-        start_under(&mut self.spans, span, cx, tracer, provider, builder, now)
+        if self.finished.contains_key(span.as_str()) {
+            return Ok(Answer::SpanExists);
+        }
+        start_under(&mut self.running, span, cx, tracer, provider, builder, now)
     }
 
     /// Starts a span under a name, as a child of the span of another name.
@@ -139,11 +149,24 @@ impl OpenSpans {
         ensures { IfOk result (λ cx. cx
             ≡ option_map (λ found. child_cx found.span_context) (named self.now span.now)) }
     {
-        let Some(found) = self.spans.get(span) else {
+        let Some(found) = self.find(span) else {
             return Ok(None);
         };
-        let cx = Context::new().with_span_context(found.span_context().clone()?)?;
+        let cx = Context::new().with_span_context(found.clone()?)?;
         Ok(Some(cx))
+    }
+
+    /// Who the span of a name is, open or over.
+    fn find(&self, span: &str) -> Option<&SpanContext>
+        ensures { option_copied result ≡ option_map (λ found. found.span_context) (named self.now span.now) }
+    {
+        if let Some(found) = self.running.get(span) {
+            return Some(found.span_context());
+        }
+        match self.finished.get(span) {
+            Some(ended) => Some(ended.span_context()),
+            None => None,
+        }
     }
 
     /// What is said of the headers of the span of a name.
@@ -164,8 +187,8 @@ impl OpenSpans {
             × Describe (edited_in histories span.now (plain_edit edit)) self.new) }
         ensures err { OnErr result (SameSpans self.old self.new) }
     {
-        let Some(found) = self.spans.get_mut(span) else {
-            return Ok(Answer::NoSuchSpan);
+        let Some(found) = self.running.get_mut(span) else {
+            return Ok(answer_to_late(&self.finished, span));
         };
         let is_recording = found.is_recording();
         found.edit(edit)?;
@@ -185,8 +208,8 @@ impl OpenSpans {
             × Describe (edited_in histories span.now (add_event (exception_event exception moment.0))) self.new) }
         ensures err { OnErr result (SameSpans self.old self.new) }
     {
-        let Some(found) = self.spans.get_mut(span) else {
-            return Ok(Answer::NoSuchSpan);
+        let Some(found) = self.running.get_mut(span) else {
+            return Ok(answer_to_late(&self.finished, span));
         };
         let is_recording = found.is_recording();
         found.record_exception(alloc, exception, moment)?;
@@ -216,16 +239,16 @@ impl OpenSpans {
         ensures { IfOk result (λ link. link
             ≡ option_map (λ found. new_link found.span_context []) (named self.now target.now)) }
     {
-        let Some(found) = self.spans.get(target) else {
+        let Some(found) = self.find(target) else {
             return Ok(None);
         };
-        let context = found.span_context().clone()?;
-        Ok(Some(Link::new(context, Vec::new(alloc), 0)))
+        Ok(Some(Link::new(found.clone()?, Vec::new(alloc), 0)))
     }
 
-    /// Ends the span of a name.
+    /// Ends the span of a name. Who it was is kept first, so that an end that is refused changed nothing.
     pub(crate) fn end<P: SpanProcessor, S: Drop, G: Drop>(
         &mut self,
+        alloc: Global,
         span: &str,
         provider: &mut ProviderOf<P, S, G>,
         moment: Moment,
@@ -234,22 +257,40 @@ impl OpenSpans {
             (turn.before.histories span.now) turn) provider.old self.old answer provider.new self.new) }
         ensures err { OnErr result (SameSpans self.old self.new × (provider.new ≡ provider.old)) }
     {
-        let Some(found) = self.spans.get_mut(span) else {
-            return Ok(Answer::NoSuchSpan);
+        let Some(found) = self.running.get_mut(span) else {
+            return Ok(answer_to_late(&self.finished, span));
         };
         let is_recording = found.is_recording();
+        keep_identity(alloc, &mut self.finished, span, found)?;
         let refused = found.end_with_timestamp(provider, moment)?;
+        abandon_one(&mut self.running, span);
         Ok(answer_to_end(is_recording, refused))
     }
 
-    /// Spends them: each span is abandoned.
+    /// Spends them: each open span is abandoned.
     pub(crate) fn abandon(self) {
-        let OpenSpans { spans } = self;
-        abandon_all(spans);
+        let OpenSpans {
+            running,
+            finished: _,
+        } = self;
+        abandon_all(running);
     }
 }
 
-/// Starts a span under a name of a map, in a context. The name's place comes first.
+/// What is said of an edit or an end of a span that is not open, by those that are over.
+fn answer_to_late(finished: &BTreeMap<String, EndedSpan>, span: &str) -> Answer
+    ensures { result ≡ (if is_some (named (finished_by_name finished.now.entries) span.now) then Answer.Ignored
+        else Answer.NoSuchSpan) }
+{
+    if finished.contains_key(span) {
+        Answer::Ignored
+    } else {
+        Answer::NoSuchSpan
+    }
+}
+
+/// Starts a span under a name of a map, in a context. The name's place comes first. It is a start also among the rest
+/// of a session's spans, where none of them has the name.
 fn start_under<P: KeepsBatches, S: ShouldSample, G: GivesIds>(
     spans: &mut BTreeMap<String, Span>,
     span: String,
@@ -259,10 +300,11 @@ fn start_under<P: KeepsBatches, S: ShouldSample, G: GivesIds>(
     builder: SpanBuilder,
     now: Moment,
 ) -> Result<Answer, AllocError>
-    ensures ok { IfOk result (λ answer. TurnsFromAny (StartTurn
+    ensures ok { IfOk result (λ answer. (rest : NamedSpans) → named rest (string_bytes span) ≡ None
+        → TurnsFromAny (StartTurn
         (calls_of P.SpanProcessor P.Timed.own P.CountsLeftSpans.own P.KeepsBatches.own S.ShouldSample G.GivesIds)
         (start_in tracer.now cx.now (string_bytes span) builder now.0))
-        provider.old (by_name spans.old.entries) answer provider.new (by_name spans.new.entries)) }
+        provider.old (by_name spans.old.entries ++ rest) answer provider.new (by_name spans.new.entries ++ rest)) }
     ensures asks { OnErr result (MayStart
         (calls_of P.SpanProcessor P.Timed.own P.CountsLeftSpans.own P.KeepsBatches.own S.ShouldSample G.GivesIds)
         provider.old cx.now builder now.0 (named (by_name spans.old.entries) (string_bytes span))
@@ -332,12 +374,4 @@ fn answer_to_end(is_recording: bool, refused: usize) -> Answer
     } else {
         Answer::Ignored
     }
-}
-
-/// The last one goes first, since none then moves up in its place.
-fn abandon_all(mut spans: BTreeMap<String, Span>) {
-    while let Some((_name, span)) = spans.pop_last() {
-        span.abandon();
-    }
-    spans.destroy_empty();
 }

@@ -1,5 +1,5 @@
 use Rattle.std.specs.BTreeMap.{btree_map_len}
-use Rattle.otel_trace_session.proofs.open_spans.abandon_all.Given as goal
+use Rattle.otel_trace_session.proofs.span_maps.abandon_all.Given as goal
 
 abbrev pub decreases-loop-name : goal.decreases-loop-name
 decreases-loop-name l = btree_map_len l.spans
