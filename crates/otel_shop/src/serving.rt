@@ -35,8 +35,8 @@ pub fn serve_shop<
         × ((history connection.new).received ≡ (history connection.old).received ++ more) }
     ensures written { (more : List ℕ) × Appends (W.contents writer.old) (W.contents writer.new) more
         × ((history connection.new).sent ≡ (history connection.old).sent ++ more) }
-    ensures answers { (calls : List Call) × ((history connection.new).calls ≡ (history connection.old).calls ++ calls)
-        × All IsAnsweredCall calls }
+    ensures answers { (calls : List Call)
+        × ((history connection.new).calls ≡ (history connection.old).calls ++ calls) × All IsAnsweredCall calls }
 {
     serve(connection, shop, reader, writer)
 }
