@@ -5,6 +5,7 @@ use Rattle.std.specs.List.{AllByRecursion}
 use Rattle.std.proofs.lemmas.List.Elements.{All-from_recursion}
 use Rattle.otel_picture.specs.Rows.{HasAncestors, IsRoot, IsUnder, StandUnder}
 use Rattle.otel_picture.specs.declared.rows.Row.{Row}
+use Rattle.otel_picture.proofs.Under.{nearest_contains}
 
 abbrev Counts : List (Option ℕ) → Row → Type 0
 Counts parents row = (count : ℕ) → HasAncestors parents count row.span → row.level ≡ count
@@ -16,7 +17,7 @@ counts_under parents before row f under zero h =
 counts_under parents before row f under (suc count) h =
     let same : h.0 ≡ under.parent.span = let e = sym h.1 ∙ under.known in cc in
     under.level ∙ ap (λ n. suc n)
-    (f under.parent under.is_before count (subst (λ p. HasAncestors parents count p) same h.2))
+    (f under.parent (nearest_contains row.level before under.parent under.is_nearest) count (subst (λ p. HasAncestors parents count p) same h.2))
 
 counts_row : (parents : List (Option ℕ)) (before : List Row) (row : Row)
     → ((r : Row) → Contains before r → Counts parents r)

@@ -4,16 +4,15 @@ use Rattle.std.proofs.Common.{if◌then◌else◌, sym, ap, add-one, append-nil,
 use Rattle.std.proofs.Common.{position}
 use Rattle.std.proofs.lemmas.List.{get_or-map, length-map}
 use Rattle.std.proofs.lemmas.List.Quantifiers.{position-Some}
-use Rattle.otel_export.specs.PlainSpanData.{PlainSpanData}
-use Rattle.otel_picture.specs.Parents.{parent_in}
+use Rattle.otel_shown.specs.Shown.{PlainShownSpan}
+use Rattle.otel_picture.specs.Families.{is_of, parent_in, places_below}
 use Rattle.otel_picture.specs.declared.rows.Mark.{Mark}
-use Rattle.otel_picture.specs.Traces.{is_of, places_below}
 
-pub of_at : (spans : List PlainSpanData) (trace place : ℕ) (span : PlainSpanData) → place < length spans
-    → span ≡ get_or spans place span → is_of spans trace place ≡ (span.span_context.trace_id == trace)
+pub of_at : (spans : List PlainShownSpan) (trace place : ℕ) (span : PlainShownSpan) → place < length spans
+    → span ≡ get_or spans place span → is_of spans trace place ≡ (span.trace_id == trace)
 of_at spans trace place span there read =
-    get_or-map (λ (s : PlainSpanData). s.span_context.trace_id == trace) spans place span false there
-    ∙ ap (λ (s : PlainSpanData). s.span_context.trace_id == trace) (sym read)
+    get_or-map (λ (s : PlainShownSpan). s.trace_id == trace) spans place span false there
+    ∙ ap (λ (s : PlainShownSpan). s.trace_id == trace) (sym read)
 
 pub place_more : (passes : ℕ → Bool) (count : ℕ) (places : List ℕ) → passes count ≡ true
     → places ≡ places_below passes count → places ++ count ∷ [] ≡ places_below passes (count + 1)

@@ -1,66 +1,22 @@
--- A row put in keeps each row after its parent's.
+-- Rows as they are put in: what holds of those so far holds of one more.
 use Rattle.std.proofs.Common.{◌≡◌, ◌<◌, ◌≤◌, ◌⊎◌, inl, inr, ℕ, zero, suc, Bool, true, false, Option, Some, List}
 use Rattle.std.proofs.Common.{[], ◌∷◌, ◌+◌, ◌==◌, ◌∙◌, if◌then◌else◌, get_or, set, length, sym, subst, ap, refl, arith}
-use Rattle.std.proofs.Common.{All, Contains, insert, count_by, take, drop, add-one, ◌&&◌}
-use Rattle.std.proofs.lemmas.Bool.{cases_eq, eq-eqb, false≢true, ne_eqb}
+use Rattle.std.proofs.Common.{All, insert, count_by, take, drop, add-one, ◌&&◌}
+use Rattle.std.specs.List.{AllByRecursion}
+use Rattle.std.proofs.lemmas.Bool.{cases_eq, eq-eqb, eqb-true, false≢true, ne_eqb}
 use Rattle.std.proofs.lemmas.List.{length-set, get_or-set_same, get_or-set_other, get_or_default}
 use Rattle.std.proofs.lemmas.List.Edits.{length-insert}
-use Rattle.std.proofs.lemmas.List.Elements.{All-append, All-cons, All-drop, All-take, All-weaker}
+use Rattle.std.proofs.lemmas.List.Elements.{All-append, All-cons, All-drop, All-from_recursion, All-take, All-weaker}
+use Rattle.std.proofs.lemmas.List.Elements.{recursion_from_All}
 use Rattle.std.proofs.lemmas.List.Sums.{sum_by-cons, sum_by-insert, sum_by-set}
-use Rattle.otel_picture.specs.Rows.{ArePlaced, HasAncestors, IsLeft, IsPutIn, IsRoot, IsUnder, StandUnder, parent_of}
-use Rattle.otel_picture.specs.Rows.{IsTurn, rows_of}
+use Rattle.otel_picture.specs.Orders.{AreInOrder, Precedes, comes_before, is_later_root}
+use Rattle.otel_picture.specs.Placed.{ArePlaced, IsLastReady, IsPutIn, WaitInFront}
+use Rattle.otel_picture.specs.Rows.{HasAncestors, IsLeft, IsTurn, StandUnder, is_ready, parent_of, rows_of}
+use Rattle.otel_picture.specs.declared.rows.Mark.{Mark}
 use Rattle.otel_picture.specs.declared.rows.Row.{Row}
-
-contains_at : (row r : Row) (before more : List Row) → ((r : Row) → Contains before r → Contains more r)
-    → (k : ℕ) → k < length (row ∷ before) → get_or (row ∷ before) k r ≡ r → Contains (row ∷ more) r
-contains_at row r before more f zero l e = (0, omega arith, e)
-contains_at row r before more f (suc k) l e =
-    let there = f r (k, omega arith, e) in (suc there.0, omega (arith, there.1), there.2)
-
-contains_more : (row : Row) (before : List Row) (r : Row) → Contains before r → Contains (row ∷ before) r
-contains_more row before r h = (suc h.0, omega (arith, h.1), h.2)
-
-under_more : (parents : List (Option ℕ)) (before more : List Row) (row : Row)
-    → ((r : Row) → Contains before r → Contains more r)
-    → IsRoot parents row ⊎ IsUnder parents before row → IsRoot parents row ⊎ IsUnder parents more row
-under_more parents before more row f (inl root) = inl root
-under_more parents before more row f (inr under) = inr (record {
-  parent = under.parent;
-  known = under.known;
-  level = under.level;
-  is_before = f under.parent under.is_before;
-})
-
-stand_more : (parents : List (Option ℕ)) (before more rows : List Row)
-    → ((r : Row) → Contains before r → Contains more r) → StandUnder parents before rows → StandUnder parents more rows
-stand_more parents before more [] f h = tt
-stand_more parents before more (row ∷ rows) f h = (
-  under_more parents before more row f h.0,
-  stand_more parents (row ∷ before) (row ∷ more) rows
-      (λ r at. contains_at row r before more f at.0 at.1 at.2) h.1,
-)
-
-pub insert_root : (parents : List (Option ℕ)) (before rows : List Row) (at : ℕ) (row : Row) → IsRoot parents row
-    → StandUnder parents before rows → StandUnder parents before (insert rows at row)
-insert_root parents before rows zero row root h =
-    (inl root, stand_more parents before (row ∷ before) rows (contains_more row before) h)
-insert_root parents before [] (suc at) row root h = (inl root, tt)
-insert_root parents before (r ∷ rows) (suc at) row root h =
-    (h.0, insert_root parents (r ∷ before) rows at row root h.1)
-
-pub insert_under : (parents : List (Option ℕ)) (before rows : List Row) (at : ℕ) (row : Row) → at < length rows
-    → parent_of parents row.span ≡ Some (get_or rows at row).span → row.level ≡ suc (get_or rows at row).level
-    → StandUnder parents before rows → StandUnder parents before (insert rows (suc at) row)
-insert_under parents before [] at row l known level h = absurd (omega arith)
-insert_under parents before (r ∷ rows) zero row l known level h = (
-  h.0,
-  (
-    inr (record { parent = r; known = known; level = level; is_before = (0, omega arith, refl) }),
-    stand_more parents (r ∷ before) (row ∷ r ∷ before) rows (contains_more row (r ∷ before)) h.1,
-  ),
-)
-insert_under parents before (r ∷ rows) (suc at) row l known level h =
-    (h.0, insert_under parents (r ∷ before) rows at row (omega arith) known level h.1)
+use Rattle.otel_picture.proofs.Ordering.{before_total, counted_at, none_above, one_here, put_in_order}
+use Rattle.otel_picture.proofs.Ordering.{roots_after, roots_before}
+use Rattle.otel_picture.proofs.Under.{insert_root, insert_under}
 
 -- how many rows a span has after a row put in
 one_more : (span other : ℕ) (row : Row) (placed : List Bool) (rows : List Row) (at : ℕ) → row.span ≡ span
@@ -100,14 +56,51 @@ all_there parents rows at row here all =
     (All-cons (λ r. r.span < length parents) row (drop at rows) here
     (All-drop (λ r. r.span < length parents) at rows all))
 
-pub placed_more : (parents : List (Option ℕ)) (placed : List Bool) (old new : List Row) (span : ℕ)
-    → ArePlaced parents placed old → IsLeft placed span → IsPutIn parents old new span
-    → ArePlaced parents (set placed span true) new
-placed_more parents placed old new span before left put =
+-- a span that is left after one more has its row was left before, and is another
+left_before : (placed : List Bool) (span other : ℕ) → span < length placed → IsLeft (set placed span true) other
+    → (other ≡ span → ⊥) × IsLeft placed other
+left_before placed span other there h = elim (cases_eq other span) [
+  | inl same ↦ absurd (false≢true (sym h.left ∙ ap (λ k. get_or (set placed span true) k true) same
+      ∙ get_or-set_same placed span true true there))
+  | inr different ↦ (
+      different,
+      record {
+        there = omega (arith, h.there, length-set placed span true);
+        left = sym (get_or-set_other placed span other true true different) ∙ h.left;
+      },
+    )
+]
+
+abbrev Waits : List Mark → List (Option ℕ) → List Bool → Row → Type 0
+Waits marks parents placed row = 0 < row.level → (span : ℕ) → IsLeft placed span
+    → parent_of parents span ≡ parent_of parents row.span → comes_before marks span row.span ≡ true
+
+wait_more : (marks : List Mark) (parents : List (Option ℕ)) (placed : List Bool) (old : List Row) (at span : ℕ)
+    (row : Row) → span < length placed → row.span ≡ span
+    → (0 < row.level → (other : ℕ) → IsLeft placed other → (other ≡ span → ⊥)
+    → parent_of parents other ≡ parent_of parents span → comes_before marks other span ≡ true)
+    → WaitInFront marks parents placed old → WaitInFront marks parents (set placed span true) (insert old at row)
+wait_more marks parents placed old at span row there shows waits before =
+    let kept : All (Waits marks parents (set placed span true)) old =
+    All-weaker (Waits marks parents placed) (Waits marks parents (set placed span true))
+    (λ r h deep other left same. h deep other (left_before placed span other there left).1 same) old before in
+    All-append (Waits marks parents (set placed span true)) (take at old) (row ∷ drop at old)
+    (All-take (Waits marks parents (set placed span true)) at old kept)
+    (All-cons (Waits marks parents (set placed span true)) row (drop at old)
+    (λ deep other left same.
+        let was = left_before placed span other there left in
+        ap (λ k. comes_before marks other k) shows
+        ∙ waits deep other was.1 was.0 (same ∙ ap (λ k. parent_of parents k) shows))
+    (All-drop (Waits marks parents (set placed span true)) at old kept))
+
+pub placed_more : (marks : List Mark) (parents : List (Option ℕ)) (placed : List Bool) (old new : List Row) (span : ℕ)
+    → ArePlaced marks parents placed old → IsLeft placed span → IsPutIn marks parents placed old new span
+    → ArePlaced marks parents (set placed span true) new
+placed_more marks parents placed old new span before left put =
     let missing : get_or placed span false ≡ false =
     get_or_default placed span false true left.there ∙ left.left in
     let counted = sum_by-set (λ (b : Bool). if b then 1 else 0) placed span true true left.there in
-    subst (λ rows. ArePlaced parents (set placed span true) rows) (sym put.is) (record {
+    subst (λ rows. ArePlaced marks parents (set placed span true) rows) (sym put.is) (record {
       alike = length-set placed span true ∙ before.alike;
       once = λ other. one_more span other put.row placed old put.at put.shows left.there missing (before.once other)
           (cases_eq other span);
@@ -115,17 +108,55 @@ placed_more parents placed old new span before left put =
       under = subst (λ rows. StandUnder parents [] rows) put.is put.under;
       shallow = all_rows old put.at put.row put.within put.shallow before.shallow;
       there = all_there parents old put.at put.row (omega (arith, left.there, before.alike, put.shows)) before.there;
+      in_order = subst (λ rows. AreInOrder marks parents rows) put.is put.in_order;
+      wait = wait_more marks parents placed old put.at span put.row left.there put.shows put.waits before.wait;
     })
 
+-- a span whose parent has a row is ready while it is left
+ready_under : (parents : List (Option ℕ)) (placed : List Bool) (parent other : ℕ) → IsLeft placed other
+    → parent_of parents other ≡ Some parent → get_or placed parent false ≡ true → is_ready parents placed other ≡ true
+ready_under parents placed parent other left of over = rw (left.left, of, over) refl
+
+-- a span that has a row is placed
+placed_of : (marks : List Mark) (parents : List (Option ℕ)) (placed : List Bool) (rows : List Row) (span : ℕ)
+    (held : Bool) → ArePlaced marks parents placed rows → 0 < rows_of span rows → get_or placed span false ≡ held
+    → held ≡ true
+placed_of marks parents placed rows span true before some e = refl
+placed_of marks parents placed rows span false before some e =
+    let none : rows_of span rows ≡ 0 = before.once span ∙ ap (λ (b : Bool). if b then 1 else 0) e in
+    absurd (omega (arith, some, none))
+
+-- siblings that have a row are later than a span that has none
+later_siblings : (marks : List Mark) (parents : List (Option ℕ)) (placed : List Bool) (rows : List Row) (row : Row)
+    → IsLeft placed row.span → 0 < row.level → AllByRecursion (Waits marks parents placed) rows
+    → AllByRecursion (Precedes marks parents row) rows
+later_siblings marks parents placed [] row left deep h = tt
+later_siblings marks parents placed (r ∷ rows) row left deep h = (
+  λ siblings. elim siblings [
+    | inl roots ↦ absurd (omega (arith, deep, roots.0))
+    | inr both ↦ h.0 both.1 row.span left both.2
+  ],
+  later_siblings marks parents placed rows row left deep h.1,
+)
+
 -- a row put in after its parent's
-pub put_after : (parents : List (Option ℕ)) (placed : List Bool) (old new : List Row) (at span : ℕ) (parent : Row)
-    → ArePlaced parents placed old → at < length old → parent ≡ get_or old at parent
+pub put_after : (marks : List Mark) (parents : List (Option ℕ)) (placed : List Bool) (old new : List Row)
+    (at span : ℕ) (parent : Row) → ArePlaced marks parents placed old → IsLeft placed span
+    → IsLastReady marks parents placed span → at < length old → parent ≡ get_or old at parent
     → parent_of parents span ≡ Some (get_or old at parent).span
-    → new ≡ insert old (at + 1) (record { span = span; level = parent.level + 1 }) → IsPutIn parents old new span
-put_after parents placed old new at span parent before there read known is =
+    → new ≡ insert old (at + 1) (record { span = span; level = parent.level + 1 })
+    → IsPutIn marks parents placed old new span
+put_after marks parents placed old new at span parent before left last there read known is =
     let row : Row = record { span = span; level = parent.level + 1 } in
     let low : parent.level < length old =
     subst (λ (r : Row). r.level < length old) (sym read) (before.shallow at parent there) in
+    let of : parent_of parents span ≡ Some parent.span = known ∙ ap (λ (r : Row). Some r.span) (sym read) in
+    let shown : 0 < rows_of parent.span old = counted_at parent.span old at parent there
+    (ap (λ (r : Row). r.span) (sym read)) in
+    let over : get_or placed parent.span false ≡ true =
+    placed_of marks parents placed old parent.span _ before shown refl in
+    let once : rows_of parent.span [] + rows_of parent.span old ≤ 1 =
+    omega (arith, before.once parent.span ∙ ap (λ (b : Bool). if b then 1 else 0) over) in
     record {
       row = row;
       at = at + 1;
@@ -137,6 +168,17 @@ put_after parents placed old new at span parent before there read known is =
           (known ∙ ap (λ (r : Row). Some r.span) (get_or_default old at parent row there))
           (add-one parent.level ∙ ap (λ (r : Row). suc r.level) (read ∙ get_or_default old at parent row there))
           before.under);
+      in_order = rw (is, add-one) (put_in_order marks parents old (suc at) row
+          (none_above marks parents [] old at row parent parent.span before.under once there
+          (ap (λ (r : Row). r.span) (sym read)) of (omega arith))
+          (recursion_from_All (Precedes marks parents row) (drop (suc at) old)
+          (All-drop (Precedes marks parents row) (suc at) old
+          (All-from_recursion (Precedes marks parents row) old
+          (later_siblings marks parents placed old row left (omega arith)
+          (recursion_from_All (Waits marks parents placed) old before.wait)))))
+          before.in_order);
+      waits = λ deep other also ne same. before_total marks span other (λ e. ne (sym e))
+          (last other also.there (ready_under parents placed parent.span other also (same ∙ of) over));
     }
 
 both_true : (a b : Bool) → a && b ≡ true → b ≡ true
@@ -144,24 +186,49 @@ both_true true b h = h
 both_true false b h = absurd (false≢true h)
 
 -- a row without its parent's is a root's
-root_of : (parents : List (Option ℕ)) (placed : List Bool) (rows : List Row) (span : ℕ)
-    → ArePlaced parents placed rows
+root_of : (marks : List Mark) (parents : List (Option ℕ)) (placed : List Bool) (rows : List Row) (span : ℕ)
+    → ArePlaced marks parents placed rows
     → ((parent : ℕ) → parent_of parents span ≡ Some parent → rows_of parent rows ≡ 0)
     → IsTurn parents placed span → (count : ℕ) → HasAncestors parents count span → count ≡ 0
-root_of parents placed rows span before none (inr endless) count h = absurd (endless count h)
-root_of parents placed rows span before none (inl ready) zero h = refl
-root_of parents placed rows span before none (inl ready) (suc count) h =
+root_of marks parents placed rows span before none (inr endless) count h = absurd (endless count h)
+root_of marks parents placed rows span before none (inl ready) zero h = refl
+root_of marks parents placed rows span before none (inl ready) (suc count) h =
     let over : get_or placed h.0 false ≡ true = both_true _ _ (rw h.1 at ready) in
     let one : rows_of h.0 rows ≡ 1 = before.once h.0 ∙ ap (λ (b : Bool). if b then 1 else 0) over in
     absurd (omega (arith, one, none h.0 h.1))
 
-pub put_root : (parents : List (Option ℕ)) (placed : List Bool) (old new : List Row) (at span : ℕ)
-    → ArePlaced parents placed old → at ≤ length old
+-- the span of no row
+none_shown : (span : ℕ) (rows : List Row) → rows_of span rows ≡ 0 → AllByRecursion (λ r. span ≡ r.span → ⊥) rows
+none_shown span [] h = tt
+none_shown span (r ∷ rows) h =
+    let sum = sum_by-cons (λ (x : Row). if x.span == span then 1 else 0) r rows in (
+      λ e. absurd (omega (arith, h, one_here span r rows (sym e))),
+      none_shown span rows (omega (arith, h, sum)),
+    )
+
+both_of : (P Q : Row → Type 0) (rows : List Row) → AllByRecursion P rows → AllByRecursion Q rows
+    → AllByRecursion (λ r. P r × Q r) rows
+both_of P Q [] h k = tt
+both_of P Q (r ∷ rows) h k = ((h.0, k.0), both_of P Q rows h.1 k.1)
+
+two_true : (a b : Bool) → a && b ≡ true → (a ≡ true) × (b ≡ true)
+two_true true b h = (refl, h)
+two_true false b h = absurd (false≢true h)
+
+pub put_root : (marks : List Mark) (parents : List (Option ℕ)) (placed : List Bool) (old new : List Row)
+    (at span : ℕ) → ArePlaced marks parents placed old → IsLeft placed span → at ≤ length old
     → ((parent : ℕ) → parent_of parents span ≡ Some parent → rows_of parent old ≡ 0)
     → IsTurn parents placed span
-    → new ≡ insert old at (record { span = span; level = 0 }) → IsPutIn parents old new span
-put_root parents placed old new at span before within none turn is =
+    → All (λ row. is_later_root marks span row ≡ false) (take at old)
+    → ((row : Row) → at < length old → is_later_root marks span (get_or old at row) ≡ true)
+    → new ≡ insert old at (record { span = span; level = 0 }) → IsPutIn marks parents placed old new span
+put_root marks parents placed old new at span before left within none turn earlier later is =
     let row : Row = record { span = span; level = 0 } in
+    let missing : rows_of span old ≡ 0 = before.once span
+    ∙ ap (λ (b : Bool). if b then 1 else 0) (get_or_default placed span false true left.there ∙ left.left) in
+    let first : at < length old → ((get_or old at row).level ≡ 0)
+    × (comes_before marks span (get_or old at row).span ≡ true) =
+    λ l. let two = two_true _ _ (later row l) in (eqb-true _ _ two.0, two.1) in
     record {
       row = row;
       at = at;
@@ -170,7 +237,17 @@ put_root parents placed old new at span before within none turn is =
       shows = refl;
       shallow = omega arith;
       under = rw is (insert_root parents [] old at row
-          (record { level = refl; ancestors = root_of parents placed old span before none turn }) before.under);
+          (record { level = refl; ancestors = root_of marks parents placed old span before none turn })
+          (λ l. (first l).0) before.under);
+      in_order = rw is (put_in_order marks parents old at row
+          (roots_before marks parents (take at old) row refl
+          (both_of (λ r. span ≡ r.span → ⊥) (λ r. is_later_root marks span r ≡ false) (take at old)
+          (recursion_from_All (λ r. span ≡ r.span → ⊥) (take at old)
+          (All-take (λ r. span ≡ r.span → ⊥) at old
+          (All-from_recursion (λ r. span ≡ r.span → ⊥) old (none_shown span old missing))))
+          (recursion_from_All (λ r. is_later_root marks span r ≡ false) (take at old) earlier)))
+          (roots_after marks parents old at row refl first before.in_order) before.in_order);
+      waits = λ deep. absurd (omega (arith, deep));
     }
 
 -- where no span is left, there are as many rows as spans
@@ -191,7 +268,8 @@ not_left : (placed : List Bool) (span : ℕ) (held : Bool) → span < length pla
 not_left placed span true there h e = get_or_default placed span false true there ∙ e
 not_left placed span false there h e = absurd (h (record { there = there; left = e }))
 
-pub each_placed : (parents : List (Option ℕ)) (placed : List Bool) (rows : List Row) → ArePlaced parents placed rows
+pub each_placed : (marks : List Mark) (parents : List (Option ℕ)) (placed : List Bool) (rows : List Row)
+    → ArePlaced marks parents placed rows
     → ((span : ℕ) → IsLeft placed span → ⊥) → (span : ℕ) → span < length placed → rows_of span rows ≡ 1
-each_placed parents placed rows before h span there =
+each_placed marks parents placed rows before h span there =
     before.once span ∙ ap (λ (b : Bool). if b then 1 else 0) (not_left placed span _ there (h span) refl)

@@ -1,7 +1,55 @@
--- Where moments stand in a picture.
-use Rattle.std.specs.Prelude.{ℕ, ◌-◌, ◌*◌, ◌/◌, ◌==◌, min, if◌then◌else◌}
+-- Where moments stand in a picture, and how long a span was by itself.
+use Rattle.std.specs.Prelude.{ℕ, suc, ◌-◌, ◌+◌, ◌*◌, ◌/◌, ◌==◌, List, [], ◌∷◌, min, max, nat_le, if◌then◌else◌}
+use Rattle.otel_picture.specs.Orders.{mark_at, start_at}
+use Rattle.otel_picture.specs.declared.bar.Sweep.{Sweep}
+use Rattle.otel_picture.specs.declared.rows.Mark.{Mark}
+use Rattle.otel_picture.specs.declared.rows.Row.{Row}
 
 -- the column of a moment, on a scale from a first moment to a last one, in a room of so many columns
 abbrev pub column : (first last columns moment : ℕ) → ℕ
 column first last columns moment =
     if first == last then 0 else min (columns - 1) ((moment - first) * columns / (last - first))
+
+-- the earliest of a moment and the starts of marks
+abbrev pub earliest : ℕ → List Mark → ℕ
+earliest moment [] = moment
+earliest moment (mark ∷ marks) = earliest (min moment mark.start) marks
+
+-- the latest of a moment and the starts and ends of marks
+abbrev pub latest : ℕ → List Mark → ℕ
+latest moment [] = moment
+latest moment (mark ∷ marks) = latest (max (max moment mark.start) mark.end) marks
+
+-- the first moment of a trace, and the last
+abbrev pub first_of : List Mark → ℕ
+first_of marks = earliest (start_at marks 0) marks
+
+abbrev pub last_of : List Mark → ℕ
+last_of marks = latest (start_at marks 0) marks
+
+-- how long a span was
+abbrev pub length_of : Mark → ℕ
+length_of mark = mark.end - mark.start
+
+-- a sweep over a span's time goes on over a child
+abbrev pub sweep_over : ℕ → Sweep → Mark → Sweep
+sweep_over end sweep child =
+    let begin : ℕ = max sweep.until (min end child.start) in
+    record { until = max begin (min end child.end); free = sweep.free + (begin - sweep.until) }
+
+-- a sweep goes on over the children of a row of a level: the rows after it, up to the first that is not under it, that
+-- stand one level below
+abbrev pub sweep_rows : List Mark → (level end : ℕ) → Sweep → List Row → Sweep
+sweep_rows marks level end sweep [] = sweep
+sweep_rows marks level end sweep (row ∷ rows) =
+    if nat_le row.level level then sweep
+    else sweep_rows marks level end
+    (if row.level == suc level then sweep_over end sweep (mark_at marks row.span) else sweep) rows
+
+-- how long none of its children ran while a span did, by the rows after its own
+abbrev pub self_time : List Mark → Row → List Row → ℕ
+self_time marks row rest =
+    let mark : Mark = mark_at marks row.span in
+    let end : ℕ = max mark.start mark.end in
+    let swept : Sweep = sweep_rows marks row.level end (record { until = mark.start; free = 0 }) rest in
+    swept.free + (end - swept.until)

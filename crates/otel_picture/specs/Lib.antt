@@ -1,5 +1,11 @@
 pub mod Bars
-pub mod Parents
+pub mod Durations
+pub mod Families
+pub mod Groups
+pub mod Orders
+pub mod Placed
 pub mod Rows
+pub mod RowTexts
+pub mod Sheets
 pub mod Texts
 pub mod Traces

@@ -1,7 +1,7 @@
 -- The rows of a trace's picture: which span stands where, and how far under its ancestors. A span is a number, its
 -- place in order of export; of each the number of its parent is known, or that no parent is in the picture.
-use Rattle.std.specs.Prelude.{◌≡◌, ◌<◌, ◌≤◌, ℕ, zero, suc, Bool, true, false, Option, Some, None, List, [], ◌∷◌, Contains}
-use Rattle.std.specs.Prelude.{◌&&◌, ◌==◌, ◌⊎◌, get_or, length, not, count_by, insert, All, if◌then◌else◌}
+use Rattle.std.specs.Prelude.{◌≡◌, ◌<◌, ◌≤◌, ℕ, zero, suc, Bool, true, false, Option, Some, None, List, [], ◌∷◌}
+use Rattle.std.specs.Prelude.{◌&&◌, ◌==◌, ◌⊎◌, get_or, length, not, count_by, insert, All, if◌then◌else◌, nat_lt}
 use Rattle.otel_picture.specs.declared.rows.Row.{Row}
 
 -- the parent of a span
@@ -23,14 +23,19 @@ pub record IsRoot (parents : List (Option ℕ)) (row : Row) : Type 0 where
   pub level : row.level ≡ 0
   pub ancestors : (count : ℕ) → HasAncestors parents count row.span → count ≡ 0
 
--- a row under its parent's, which is among those before it
+-- the last one of rows, which come last first, that stands less than so many levels under a root
+abbrev pub nearest_above : ℕ → List Row → Option Row
+nearest_above level [] = None
+nearest_above level (row ∷ before) = if nat_lt row.level level then Some row else nearest_above level before
+
+-- a row under its parent's, which is the nearest above it of a lower level, by one
 pub record IsUnder (parents : List (Option ℕ)) (before : List Row) (row : Row) : Type 0 where
   pub parent : Row
   pub known : parent_of parents row.span ≡ Some parent.span
   pub level : row.level ≡ suc parent.level
-  pub is_before : Contains before parent
+  pub is_nearest : nearest_above row.level before ≡ Some parent
 
--- each row is a root, or after its parent's row and one level under it
+-- each row is a root, or after its parent's row and one level under it: the rows, last first, are read on
 abbrev pub StandUnder : List (Option ℕ) → List Row → List Row → Type 0
 StandUnder parents before [] = Unit {0}
 StandUnder parents before (row ∷ rows) =
@@ -62,22 +67,3 @@ IsStuck parents placed = (span : ℕ) → span < length placed → is_ready pare
 abbrev pub IsTurn : List (Option ℕ) → List Bool → ℕ → Type 0
 IsTurn parents placed span =
     (is_ready parents placed span ≡ true) ⊎ ((count : ℕ) → ¬ HasAncestors parents count span)
-
--- the rows so far, where these spans have one
-pub record ArePlaced (parents : List (Option ℕ)) (placed : List Bool) (rows : List Row) : Type 0 where
-  pub alike : length placed ≡ length parents
-  pub once : (span : ℕ) → rows_of span rows ≡ (if get_or placed span false then 1 else 0)
-  pub no_more : length rows ≡ count_by (λ has_row. has_row) placed
-  pub under : StandUnder parents [] rows
-  pub shallow : All (λ row. row.level < length rows) rows
-  pub there : All (λ row. row.span < length parents) rows
-
--- the row of a span was put in
-pub record IsPutIn (parents : List (Option ℕ)) (old new : List Row) (span : ℕ) : Type 0 where
-  pub row : Row
-  pub at : ℕ
-  pub within : at ≤ length old
-  pub is : new ≡ insert old at row
-  pub shows : row.span ≡ span
-  pub shallow : row.level ≤ length old
-  pub under : StandUnder parents [] new

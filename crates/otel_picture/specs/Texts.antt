@@ -1,19 +1,76 @@
 -- Texts of pictures.
 use Rattle.std.specs.Prelude.{◌≡◌, ◌≢◌, ℕ, ◌/◌, ◌%◌, ◌==◌, ◌&&◌, ◌||◌, ◌++◌, ◌⊎◌, Bool, List, All, codes, decimal, encode_utf8}
 use Rattle.std.specs.Prelude.{if◌then◌else◌, nat_le, nat_lt, not}
+use Rattle.std.specs.Prelude.{◌-◌, length, zero, suc, [], ◌∷◌, true, false, unwrap_or}
+use Rattle.std.specs.Fmt.{radix_digits}
 use Rattle.std.specs.List.{flat_map}
-
--- nanoseconds in the greatest unit of seconds, milliseconds, microseconds and nanoseconds that divides them
-abbrev pub duration_text : ℕ → List ℕ
-duration_text nanoseconds =
-    if nanoseconds % 1000000000 == 0 then decimal (nanoseconds / 1000000000) ++ codes "s" else
-    (if nanoseconds % 1000000 == 0 then decimal (nanoseconds / 1000000) ++ codes "ms" else
-    (if nanoseconds % 1000 == 0 then decimal (nanoseconds / 1000) ++ codes "us" else
-    (decimal nanoseconds ++ codes "ns")))
+use Rattle.std.specs.Str.{chars}
+use Rattle.unicode_width.specs.Width.{char_width}
+use Rattle.otel_picture.specs.declared.texts.Room.{Room}
 
 -- a control character of the first or the second block
 abbrev pub is_control : ℕ → Bool
 is_control c = nat_lt c 32 || (nat_le 127 c && nat_lt c 160)
+
+-- a character as the text form shows it: a control character by its number in two digits of base 16
+abbrev pub shown_char : ℕ → List ℕ
+shown_char c =
+    if is_control c then codes "\\x" ++ (radix_digits 16 false (c / 16) ++ radix_digits 16 false (c % 16))
+    else encode_utf8 c
+
+abbrev pub shown_text : List ℕ → List ℕ
+shown_text text = flat_map shown_char (chars text)
+
+-- a character of ASCII so many times
+abbrev pub times : ℕ → ℕ → List ℕ
+times zero c = []
+times (suc count) c = times count c ++ c ∷ []
+
+-- the columns that a character takes in a terminal
+abbrev pub char_columns : ℕ → ℕ
+char_columns c = unwrap_or (char_width false c) 0
+
+-- what is left of a room after one more character. One that finds no place shuts it to those after it
+abbrev pub room_after : Room → ℕ → Room
+room_after room c =
+    if room.is_open && nat_le (char_columns c) room.left
+    then record { left = room.left - char_columns c; is_open = true }
+    else record { left = room.left; is_open = false }
+
+-- what characters leave of a room
+abbrev pub room_left : Room → List ℕ → Room
+room_left room [] = room
+room_left room (c ∷ cs) = room_left (room_after room c) cs
+
+-- those of the characters that find place
+abbrev pub fitting_text : Room → List ℕ → List ℕ
+fitting_text room [] = []
+fitting_text room (c ∷ cs) =
+    (if (room_after room c).is_open then encode_utf8 c else []) ++ fitting_text (room_after room c) cs
+
+-- a room of so many columns
+abbrev pub room_of : ℕ → Room
+room_of columns = record { left = columns; is_open = true }
+
+-- a text cut to so many columns, before an ellipsis where it takes more
+abbrev pub cut_text : ℕ → List ℕ → List ℕ
+cut_text columns text =
+    if (room_left (room_of columns) (chars text)).is_open then text
+    else fitting_text (room_of (columns - 1)) (chars text) ++ encode_utf8 8230
+
+-- the columns that a text leaves that is cut so
+abbrev pub columns_left : ℕ → List ℕ → ℕ
+columns_left columns text =
+    if (room_left (room_of columns) (chars text)).is_open then (room_left (room_of columns) (chars text)).left
+    else (room_left (room_of (columns - 1)) (chars text)).left
+
+-- a text in a room of so many columns: cut, and with blanks after it
+abbrev pub in_room : ℕ → List ℕ → List ℕ
+in_room columns text = cut_text columns text ++ times (columns_left columns text) 32
+
+-- a text of ASCII at the right of a room, if it finds place there
+abbrev pub at_right : ℕ → List ℕ → List ℕ
+at_right columns text = times (columns - length text) 32 ++ text
 
 -- a character that XML 1.0 can have (section 2.2)
 abbrev pub is_xml_char : ℕ → Bool

@@ -1,12 +1,37 @@
--- Spans by trace.
-use Rattle.std.specs.Prelude.{ℕ, zero, suc, Bool, false, List, [], ◌∷◌, ◌++◌, ◌==◌, get_or, if◌then◌else◌, map}
-use Rattle.otel_export.specs.PlainSpanData.{PlainSpanData}
+-- Traces as they are drawn.
+use Rattle.std.specs.Prelude.{◌≡◌, ◌<◌, ℕ, List, All, length}
+use Rattle.std.specs.List.{AllZip}
+use Rattle.otel_shown.specs.Shown.{PlainShownSpan}
+use Rattle.otel_picture.specs.Families.{is_of, marks_at, places_below, trace_ids}
+use Rattle.otel_picture.specs.Placed.{AreRows}
+use Rattle.otel_picture.specs.declared.rows.Mark.{Mark}
+use Rattle.otel_picture.specs.declared.rows.Row.{Row}
+use Rattle.otel_picture.specs.declared.trace.Trace.{Trace}
 
--- the numbers below a count that pass a test, in order
-abbrev pub places_below : (ℕ → Bool) → ℕ → List ℕ
-places_below passes zero = []
-places_below passes (suc count) = places_below passes count ++ (if passes count then count ∷ [] else [])
+-- a trace: its id, a mark a span, in order, and a row a span
+pub record PlainTrace : Type 0 where
+  pub trace_id : ℕ
+  pub marks : List Mark
+  pub rows : List Row
 
--- whether the span at a place is of a trace
-abbrev pub is_of : List PlainSpanData → ℕ → ℕ → Bool
-is_of spans trace place = get_or (map (λ span. span.span_context.trace_id == trace) spans) place false
+abbrev pub plain_trace : Trace → PlainTrace
+plain_trace trace = record {
+  trace_id = trace.trace_id;
+  marks = trace.family.marks.items;
+  rows = trace.rows.items;
+}
+
+-- the trace of this id, whose spans stand at these places
+pub record IsTraceAt (spans : List PlainShownSpan) (trace_id : ℕ) (places : List ℕ) (trace : PlainTrace) : Type 0 where
+  pub id : trace.trace_id ≡ trace_id
+  pub marks : trace.marks ≡ marks_at spans places
+  pub there : All (λ mark. mark.place < length spans) trace.marks
+  pub rows : AreRows trace.marks trace.rows
+
+-- the trace of an id: it has all spans of that
+abbrev pub IsTraceOf : List PlainShownSpan → ℕ → PlainTrace → Type 0
+IsTraceOf spans trace_id trace = IsTraceAt spans trace_id (places_below (is_of spans trace_id) (length spans)) trace
+
+-- the traces of spans, in the order in which each first comes
+abbrev pub AreTraces : List PlainShownSpan → List PlainTrace → Type 0
+AreTraces spans traces = AllZip (IsTraceOf spans) (trace_ids spans) traces

@@ -1,7 +1,10 @@
-//! Bars: which columns of a room a span covers on its trace's scale.
+//! Bars: which columns of a room a span covers on its trace's scale, and how long it was by itself.
 
-ghost use Rattle.std.specs.Prelude.{◌≡◌, ◌<◌, ◌≤◌, max};
-ghost use Rattle.otel_picture.specs.Bars.{column};
+ghost use Rattle.std.specs.Prelude.{◌≡◌, ◌<◌, ◌≤◌, All, length, max};
+ghost use Rattle.otel_picture.specs.Bars.{column, first_of, last_of, self_time, sweep_over, sweep_rows};
+ghost use Rattle.otel_picture.specs.Orders.{start_at};
+
+use crate::rows::{Mark, Row};
 
 /// A trace's scale: its first moment and its last, and the room that its bars have.
 #[derive(Clone, Copy, Debug, PartialEq, Eq)]
@@ -22,6 +25,29 @@ pub struct Bar {
 }
 
 impl Scale {
+    /// The scale of a trace's spans, from their first start to their last end, for bars in so many columns.
+    pub(crate) fn of(marks: &[Mark], columns: u32) -> Scale
+        requires { 0 < columns }
+        ensures first { result.first ≡ first_of marks.now }
+        ensures last { result.last ≡ last_of marks.now }
+        ensures columns { result.columns ≡ columns }
+    {
+        let mut first = match marks.first() {
+            Some(mark) => mark.start,
+            None => 0,
+        };
+        let mut last = first;
+        for mark in marks {
+            first = first.min(mark.start);
+            last = last.max(mark.start).max(mark.end);
+        }
+        Scale {
+            first,
+            last,
+            columns,
+        }
+    }
+
     /// The column of a moment.
     pub fn column(&self, moment: u64) -> u32
         ensures formula { result ≡ column self.now.first self.now.last self.now.columns moment }
@@ -46,4 +72,63 @@ impl Scale {
             end: self.column(start.max(end)),
         }
     }
+}
+
+/// A walk along the time of a span: how far it is, and for how long of it no child ran, in nanoseconds.
+#[derive(Clone, Copy, Debug, PartialEq, Eq)]
+struct Sweep {
+    until: u64,
+    free: u64,
+}
+
+/// Goes on over a child of a span that ends at a moment.
+fn sweep_over(end: u64, sweep: Sweep, child: Mark) -> Sweep
+    requires within { sweep.until ≤ end }
+    requires fits { sweep.free ≤ sweep.until }
+    ensures is { result ≡ sweep_over end sweep child }
+    ensures within { result.until ≤ end }
+    ensures fits { result.free ≤ result.until }
+{
+    let begin = sweep.until.max(end.min(child.start));
+    Sweep {
+        until: begin.max(end.min(child.end)),
+        free: sweep.free + (begin - sweep.until),
+    }
+}
+
+/// Goes on over the children of a row of a level, which are among the rows after it.
+fn sweep_rows(marks: &[Mark], level: usize, end: u64, begun: Sweep, rest: &[Row]) -> Sweep
+    requires there { All (λ row. row.span < length marks.now) rest.now }
+    requires within { begun.until ≤ end }
+    requires fits { begun.free ≤ begun.until }
+    ensures is { result ≡ sweep_rows marks.now level end begun rest.now }
+    ensures within { result.until ≤ end }
+    ensures fits { result.free ≤ result.until }
+{
+    let mut sweep = begun;
+    for row in rest {
+        if row.level <= level {
+            break;
+        }
+        if row.level == level + 1 {
+            sweep = sweep_over(end, sweep, marks[row.span]);
+        }
+    }
+    sweep
+}
+
+/// How many nanoseconds none of its children ran while a span did, by the rows after its own.
+pub(crate) fn self_time(marks: &[Mark], row: Row, rest: &[Row]) -> u64
+    requires here { row.span < length marks.now }
+    requires there { All (λ row. row.span < length marks.now) rest.now }
+    ensures { result ≡ self_time marks.now row rest.now }
+{
+    let mark = marks[row.span];
+    let end = mark.start.max(mark.end);
+    let begun = Sweep {
+        until: mark.start,
+        free: 0,
+    };
+    let swept = sweep_rows(marks, row.level, end, begun, rest);
+    swept.free + (end - swept.until)
 }

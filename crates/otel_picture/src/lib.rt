@@ -9,9 +9,14 @@
 #![tactic(auto)]
 
 pub mod bar;
-mod escapes;
+mod durations;
+pub mod families;
 pub mod laws;
+pub mod layout;
+mod row_text;
 pub mod rows;
-pub mod svg;
+mod sheet;
+mod texts;
+pub mod trace;
 pub mod traces;
 pub mod write_text;

@@ -6,15 +6,14 @@
 //! one of a circle is next, as a root.
 
 ghost use Rattle.std.specs.Prelude.{◌≡◌, ◌<◌, ◌≤◌, ℕ, Bool, true, false, Some, [], length, All, IfNone, IfOk, IfSome};
-ghost use Rattle.std.specs.Prelude.{OnOk, get_or, max, vec_len};
-ghost use Rattle.otel_picture.specs.Rows.{AreKnown, ArePlaced, HasAncestors, IsLeft, IsPutIn, IsStuck, IsTurn};
-ghost use Rattle.otel_picture.specs.Rows.{StandUnder};
-ghost use Rattle.otel_picture.specs.Bars.{column};
-ghost use Rattle.otel_picture.specs.declared.rows.Mark.{Mark};
+ghost use Rattle.std.specs.Prelude.{OnOk, get_or, take, vec_len};
+ghost use Rattle.otel_picture.specs.Orders.{comes_before, is_later_root, start_at};
+ghost use Rattle.otel_picture.specs.Placed.{ArePlaced, AreRows, IsLastReady, IsPutIn};
+ghost use Rattle.otel_picture.specs.Families.{parents_in};
+ghost use Rattle.otel_picture.specs.Rows.{AreKnown, IsLeft, IsStuck, IsTurn};
 ghost use Rattle.otel_picture.specs.declared.rows.Row.{Row};
 ghost use Rattle.otel_picture.specs.Rows.{is_ready, parent_of, rows_of};
 
-use crate::bar::{Bar, Scale};
 use opentelemetry::SpanId;
 use std::alloc::{AllocError, Global};
 
@@ -25,7 +24,8 @@ pub struct Row {
     pub level: usize,
 }
 
-/// What a picture takes of a span beside its texts: where it stands in order of export, and when it was.
+/// What a picture takes of a span beside its texts: where it stands in order of export, and when it was, in nanoseconds
+/// since 1970.
 #[derive(Clone, Copy, Debug, PartialEq, Eq)]
 pub struct Mark {
     pub place: usize,
@@ -42,6 +42,7 @@ pub struct Family {
     pub parents: Vec<Option<usize>>,
     ghost alike: { vec_len parents ≡ vec_len marks },
     ghost known: { AreKnown parents.items },
+    ghost of_marks: { parents.items ≡ parents_in marks.items },
 }
 
 impl Family {
@@ -54,7 +55,9 @@ impl Family {
         }
     }
 
-    fn start(&self, span: usize) -> u64 {
+    fn start(&self, span: usize) -> u64
+        ensures { result ≡ start_at self.now.marks.items span }
+    {
         match self.marks.get(span) {
             Some(mark) => mark.start,
             None => 0,
@@ -62,7 +65,9 @@ impl Family {
     }
 
     /// Whether a span comes before another by start and order of export.
-    fn is_before(&self, span: usize, other: usize) -> bool {
+    fn is_before(&self, span: usize, other: usize) -> bool
+        ensures { result ≡ comes_before self.now.marks.items span other }
+    {
         let start = self.start(span);
         let other_start = self.start(other);
         start < other_start || start == other_start && span < other
@@ -87,6 +92,7 @@ impl Family {
         requires { length placed.now ≡ vec_len self.now.parents }
         ensures ready { IfSome result (λ span. is_ready self.now.parents.items placed.now span ≡ true) }
         ensures left { IfSome result (λ span. IsLeft placed.now span) }
+        ensures last { IfSome result (λ span. IsLastReady self.now.marks.items self.now.parents.items placed.now span) }
         ensures none { IfNone result
             ((span : ℕ) → span < length placed.now → is_ready self.now.parents.items placed.now span ≡ false) }
     {
@@ -101,7 +107,8 @@ impl Family {
 
     /// Whether there is a span that follows another.
     fn follows(&self, last: Option<usize>, span: usize) -> bool
-        ensures { IfNone last (result ≡ false) }
+        ensures none { IfNone last (result ≡ false) }
+        ensures some { IfSome last (λ last. result ≡ comes_before self.now.marks.items span last) }
     {
         match last {
             Some(last) => self.is_before(span, last),
@@ -160,6 +167,7 @@ impl Family {
         requires { length placed.now ≡ vec_len self.now.parents }
         ensures left { IfSome result (λ span. IsLeft placed.now span) }
         ensures turn { IfSome result (λ span. IsTurn self.now.parents.items placed.now span) }
+        ensures last { IfSome result (λ span. IsLastReady self.now.marks.items self.now.parents.items placed.now span) }
         ensures none { IfNone result ((span : ℕ) → ¬ IsLeft placed.now span) }
     {
         match self.last_ready(placed) {
@@ -169,43 +177,6 @@ impl Family {
                 Some(self.circle_head(placed, span))
             }
         }
-    }
-
-    /// Whether a span names a parent that is not in the picture.
-    pub fn is_orphan(&self, row: Row) -> bool
-        requires { row.span < vec_len self.now.marks }
-    {
-        self.marks[row.span].parent != SpanId::INVALID && self.parent(row.span).is_none()
-    }
-
-    /// The trace's scale, from its first start to its last end, for bars in so many columns.
-    pub fn scale(&self, columns: u32) -> Scale
-        requires { 0 < columns }
-        ensures { result.columns ≡ columns }
-    {
-        let mut first = self.start(0);
-        let mut last = first;
-        for mark in &self.marks {
-            first = first.min(mark.start);
-            last = last.max(mark.start).max(mark.end);
-        }
-        Scale {
-            first,
-            last,
-            columns,
-        }
-    }
-
-    /// The bar of a row's span, by its own moments.
-    pub fn bar(&self, scale: &Scale, row: Row) -> Bar
-        requires { row.span < vec_len self.now.marks }
-        ensures begin { (d : Mark) → result.begin ≡ column scale.now.first scale.now.last scale.now.columns
-            (get_or self.now.marks.items row.span d).start }
-        ensures end { (d : Mark) → result.end ≡ column scale.now.first scale.now.last scale.now.columns
-            (max (get_or self.now.marks.items row.span d).start (get_or self.now.marks.items row.span d).end) }
-    {
-        let mark = self.marks[row.span];
-        scale.bar(mark.start, mark.end)
     }
 
     /// Where the row of a span's parent stands.
@@ -222,7 +193,10 @@ impl Family {
 
     /// Where the row of a root comes: in front of the first root that is later.
     fn root_place(&self, rows: &[Row], span: usize) -> usize
-        ensures { result ≤ length rows.now }
+        ensures within { result ≤ length rows.now }
+        ensures earlier { All (λ row. is_later_root self.now.marks.items span row ≡ false) (take result rows.now) }
+        ensures later { (row : Row) → result < length rows.now
+            → is_later_root self.now.marks.items span (get_or rows.now result row) ≡ true }
     {
         let mut place = 0;
         while place < rows.len() && !self.is_later_root(rows[place], span) {
@@ -231,15 +205,20 @@ impl Family {
         place
     }
 
-    fn is_later_root(&self, row: Row, span: usize) -> bool {
+    fn is_later_root(&self, row: Row, span: usize) -> bool
+        ensures { result ≡ is_later_root self.now.marks.items span row }
+    {
         row.level == 0 && self.is_before(span, row.span)
     }
 
     /// Puts in the row of a span whose turn it is.
     fn put_in(&self, rows: &mut Vec<Row>, placed: &[bool], span: usize) -> Result<(), AllocError>
-        requires placed { ArePlaced self.now.parents.items placed.now rows.old.items }
+        requires placed { ArePlaced self.now.marks.items self.now.parents.items placed.now rows.old.items }
+        requires left { IsLeft placed.now span }
         requires turn { IsTurn self.now.parents.items placed.now span }
-        ensures { OnOk result (IsPutIn self.now.parents.items rows.old.items rows.new.items span) }
+        requires last { IsLastReady self.now.marks.items self.now.parents.items placed.now span }
+        ensures { OnOk result (IsPutIn self.now.marks.items self.now.parents.items placed.now
+            rows.old.items rows.new.items span) }
     {
         match self.parent_row(rows, span) {
             Some(at) => {
@@ -255,13 +234,9 @@ impl Family {
     }
 }
 
-/// The rows of a trace's picture: one a span, each after its parent's.
-pub fn rows(alloc: Global, family: &Family) -> Result<Vec<Row>, AllocError>
-    ensures each_once { IfOk result (λ rows. (span : ℕ) → span < vec_len family.now.parents
-        → rows_of span rows.items ≡ 1) }
-    ensures no_more { IfOk result (λ rows. vec_len rows ≡ vec_len family.now.parents) }
-    ensures there { IfOk result (λ rows. All (λ row. row.span < vec_len family.now.parents) rows.items) }
-    ensures under { IfOk result (λ rows. StandUnder family.now.parents.items [] rows.items) }
+/// The rows of a trace's picture: one a span, each after its parent's, and siblings by start.
+pub(crate) fn rows(alloc: Global, family: &Family) -> Result<Vec<Row>, AllocError>
+    ensures { IfOk result (λ rows. AreRows family.now.marks.items rows.items) }
 {
     let count = family.parents.len();
     let mut placed = vec![in alloc; false; count]?;

@@ -1,179 +1,217 @@
 //! Pictures of traces as text.
 
-ghost use Rattle.std.specs.Prelude.{◌≡◌, ◌<◌, ◌++◌, ℕ, All, List, OnErr, OnOk, length, vec_len};
+ghost use Rattle.std.specs.Prelude.{◌≡◌, true, ◌<◌, ◌≤◌, ◌++◌, ◌*◌, ◌/◌, All, IfOk, List, OnErr, OnOk, length, map, string_bytes};
+ghost use Rattle.opentelemetry.specs.Text.{TextGrows};
+ghost use Rattle.otel_picture.specs.RowTexts.{
+  apart_text,
+  axis_text,
+  errors_in,
+  errors_text,
+  head_text,
+  layout_of,
+  legend_text,
+  picture_text,
+  ruler_text,
+  service_text,
+  tick_text,
+  ticks_in,
+  ticks_text,
+  title_text,
+  trace_text,
+  traces_text,
+};
+ghost use Rattle.otel_picture.specs.Sheets.{plain_sheet};
+ghost use Rattle.otel_picture.specs.Traces.{AreTraces, PlainTrace, plain_trace};
 
-use crate::bar::{Bar, Scale};
-use crate::escapes::{push_duration, push_in_room, push_shown, push_times};
-use crate::rows::{Family, Row, rows};
-use crate::traces::{begins_trace, family_of, places_of};
-use opentelemetry::trace::Status;
-use opentelemetry::{SpanId, TraceId};
-use otel_export::trace::SpanData;
+use crate::durations::push_duration;
+use crate::layout::Layout;
+use crate::sheet::{Sheet, first_service};
+use crate::texts::{push_in_room, push_shown, push_times};
+use crate::trace::Trace;
+use crate::traces::traces_of;
+use otel_shown::ShownSpan;
 use std::alloc::{AllocError, Global};
 use std::fmt::Write;
 
-/// How many columns a picture has where nobody says.
-pub const COLUMNS: u32 = 72;
-
-/// Blanks in front of a name: two a level, at most all but four of its room.
-fn indentation(level: usize, room: usize) -> usize {
-    level.saturating_mul(2).min(room.saturating_sub(4))
-}
-
-/// The columns of a name and of a bar: a third of the whole each.
-fn room_of(columns: u32) -> u32
-    ensures { 0 < result }
+/// How many ticks an axis of so many columns has.
+fn ticks_in(columns: u32) -> u32
+    ensures is { result ≡ ticks_in columns }
+    ensures some { 0 < result }
 {
-    columns.clamp(20, 400) / 3
+    (columns / 12).min(8).max(3)
 }
 
-fn push_name(
+/// The moment at a place of an axis.
+fn moment_at(duration: u64, columns: u32, place: u32) -> u64
+    requires wide { 0 < columns }
+    requires within { place ≤ columns }
+    ensures { result ≡ duration * place / columns }
+{
+    let moment = u128::from(duration) * u128::from(place) / u128::from(columns);
+    moment as u64
+}
+
+/// A tick, and the moment where it stands, if there is room.
+fn push_tick(
     alloc: Global,
     text: &mut String,
-    span: &SpanData,
-    indent: usize,
-    is_orphan: bool,
-    room: usize,
-) -> Result<(), AllocError> {
-    let mut shown = String::new(alloc);
-    if is_orphan {
-        shown.push('~')?;
-    }
-    push_shown(&mut shown, span.name.as_str())?;
-    push_times(text, ' ', indent)?;
-    push_in_room(text, shown.as_str(), room.saturating_sub(indent))
-}
-
-fn push_bar(text: &mut String, bar: Bar, room: u32) -> Result<(), AllocError> {
-    push_times(text, ' ', bar.begin as usize)?;
-    push_times(text, '=', (bar.end - bar.begin) as usize)?;
-    text.push('=')?;
-    let after = room.saturating_sub(bar.end).saturating_sub(1);
-    push_times(text, ' ', after as usize)
-}
-
-/// Its offset from the trace's first moment, and its length.
-pub(crate) fn push_moments(
-    text: &mut String,
-    first: u64,
-    span: &SpanData,
-) -> Result<(), AllocError> {
-    let start = span.start_time.0;
-    let end = span.end_time.0;
-    text.push_str(" +")?;
-    push_duration(text, start.saturating_sub(first))?;
-    text.push(' ')?;
-    push_duration(text, end.saturating_sub(start))
-}
-
-/// An error, marked and described.
-pub(crate) fn push_error(text: &mut String, status: &Status) -> Result<(), AllocError> {
-    if let Status::Error { description } = status {
-        text.push_str(" ! ")?;
-        push_shown(text, description.as_str())?;
-    }
-    Ok(())
-}
-
-fn push_row(
-    alloc: Global,
-    text: &mut String,
-    spans: &[SpanData],
-    family: &Family,
-    scale: &Scale,
-    row: Row,
+    duration: u64,
+    columns: u32,
+    cell: u32,
+    place: u32,
 ) -> Result<(), AllocError>
-    requires there { All (λ mark. mark.place < length spans.now) family.now.marks.items }
-    requires row { row.span < vec_len family.now.marks }
+    requires wide { 0 < columns }
+    requires within { place ≤ columns }
+    ensures { OnOk result (TextGrows text.old (tick_text duration columns cell place) text.new) }
 {
-    let span = &spans[family.marks[row.span].place];
-    let room = scale.columns as usize;
-    let indent = indentation(row.level, room);
-    let is_orphan = family.is_orphan(row);
-    push_name(alloc, text, span, indent, is_orphan, room)?;
-    text.push(' ')?;
-    let bar = family.bar(scale, row);
-    push_bar(text, bar, scale.columns)?;
-    push_moments(text, scale.first, span)?;
-    push_error(text, &span.status)?;
-    text.push('\n')
+    if cell < 9 {
+        return push_in_room(text, "|", cell as usize);
+    }
+    let mut tick = String::from_str(alloc, "|")?;
+    push_duration(&mut tick, moment_at(duration, columns, place))?;
+    push_in_room(text, tick.as_str(), cell as usize)
 }
 
-fn push_head(
-    text: &mut String,
-    trace: TraceId,
-    count: usize,
-    scale: &Scale,
-) -> Result<(), AllocError> {
-    write!(text, "trace {trace}  spans: {count}  ")?;
-    push_duration(text, scale.last - scale.first)?;
-    text.push('\n')
+/// The axis of bars.
+fn push_axis(alloc: Global, text: &mut String, duration: u64, columns: u32) -> Result<(), AllocError>
+    requires { 0 < columns }
+    ensures { OnOk result (TextGrows text.old (axis_text duration columns) text.new) }
+{
+    let ticks = ticks_in(columns);
+    let cell = columns / ticks;
+    for tick in 0..ticks {
+        push_tick(alloc, text, duration, columns, cell, tick * cell)?;
+    }
+    push_times(text, ' ', (columns - ticks * cell) as usize)
 }
 
-fn push_rows(
-    alloc: Global,
-    text: &mut String,
-    spans: &[SpanData],
-    family: &Family,
-    scale: &Scale,
-) -> Result<(), AllocError>
-    requires { All (λ mark. mark.place < length spans.now) family.now.marks.items }
+/// What the numbers are.
+fn push_legend(text: &mut String, layout: Layout) -> Result<(), AllocError>
+    ensures { OnOk result (TextGrows text.old (legend_text layout) text.new) }
 {
-    for row in &rows(alloc, family)? {
-        push_row(alloc, text, spans, family, scale, *row)?;
+    if layout.has_numbers {
+        text.push_str("    start   length")?;
+    }
+    if layout.has_self_time {
+        text.push_str("     self")?;
     }
     Ok(())
 }
 
-fn push_trace(
-    alloc: Global,
-    text: &mut String,
-    spans: &[SpanData],
-    trace: TraceId,
-    room: u32,
-) -> Result<(), AllocError>
-    requires { 0 < room }
-{
-    let places = places_of(alloc, spans, trace)?;
-    let family = family_of(alloc, spans, &places)?;
-    let scale = family.scale(room);
-    push_head(text, trace, places.len(), &scale)?;
-    push_rows(alloc, text, spans, &family, &scale)
-}
+impl Sheet<'_> {
+    /// A trace, and how many spans it has.
+    fn push_title(&self, text: &mut String) -> Result<(), AllocError>
+        ensures { OnOk result (TextGrows text.old (title_text (plain_sheet self.now)) text.new) }
+    {
+        let trace = self.trace.trace_id;
+        let count = self.trace.family.marks.len();
+        write!(text, "trace {trace}  spans: {count}  ")
+    }
 
-fn push_pictures(
-    alloc: Global,
-    text: &mut String,
-    spans: &[SpanData],
-    room: u32,
-) -> Result<(), AllocError>
-    requires { 0 < room }
-{
-    for place in 0..spans.len() {
-        if begins_trace(spans, place) {
-            if !text.is_empty() {
-                text.push('\n')?;
-            }
-            let span = &spans[place];
-            push_trace(alloc, text, spans, span.span_context.trace_id(), room)?;
+    /// How many spans failed, where any did.
+    fn push_errors(&self, text: &mut String) -> Result<(), AllocError>
+        ensures { OnOk result (TextGrows text.old (errors_text (errors_in (plain_sheet self.now))) text.new) }
+    {
+        let errors = self.errors();
+        if errors == 0 {
+            return Ok(());
         }
+        write!(text, "  errors: {errors}")
+    }
+
+    /// The same, how long it was, and how many spans failed.
+    fn push_head(&self, text: &mut String) -> Result<(), AllocError>
+        ensures { OnOk result (TextGrows text.old (head_text (plain_sheet self.now)) text.new) }
+    {
+        self.push_title(text)?;
+        push_duration(text, self.scale.last - self.scale.first)?;
+        self.push_errors(text)?;
+        text.push('\n')?;
+        Ok(())
+    }
+
+    /// The service that all of its spans have; none where they have several.
+    fn service_of(&self, alloc: Global) -> Result<String, AllocError>
+        ensures { IfOk result (λ service. string_bytes service ≡ service_text (plain_sheet self.now)) }
+    {
+        let mut service = String::new(alloc);
+        if !self.is_mixed {
+            let first = first_service(self.spans, &self.trace.family.marks);
+            push_shown(&mut service, first)?;
+        }
+        Ok(service)
+    }
+
+    /// The line above the rows: the service, where all have one, the axis, and what the numbers are.
+    fn push_ruler(&self, alloc: Global, text: &mut String) -> Result<(), AllocError>
+        ensures { OnOk result (TextGrows text.old (ruler_text (plain_sheet self.now)) text.new) }
+    {
+        let service = self.service_of(alloc)?;
+        push_in_room(text, service.as_str(), self.layout.name)?;
+        text.push(' ')?;
+        push_axis(alloc, text, self.scale.last - self.scale.first, self.layout.bar)?;
+        push_legend(text, self.layout)?;
+        text.push('\n')
+    }
+
+    fn push_trace(&self, alloc: Global, text: &mut String) -> Result<(), AllocError>
+        ensures { OnOk result (TextGrows text.old (trace_text (plain_sheet self.now)) text.new) }
+    {
+        self.push_head(text)?;
+        self.push_ruler(alloc, text)?;
+        self.push_rows(alloc, text)
+    }
+
+    /// A trace, after an empty line where it is not the first one.
+    fn push_apart(&self, alloc: Global, text: &mut String, is_first: bool) -> Result<(), AllocError>
+        ensures { OnOk result (TextGrows text.old (apart_text is_first (plain_sheet self.now)) text.new) }
+    {
+        if is_first {
+            return self.push_trace(alloc, text);
+        }
+        text.push('\n')?;
+        self.push_trace(alloc, text)
+    }
+}
+
+/// Appends traces, with an empty line between them.
+fn push_traces(
+    alloc: Global,
+    text: &mut String,
+    spans: &[ShownSpan],
+    traces: &[Trace],
+    layout: Layout,
+) -> Result<(), AllocError>
+    requires wide { 0 < layout.bar }
+    requires there { All (λ trace. All (λ mark. mark.place < length spans.now) trace.family.marks.items) traces.now }
+    ensures { OnOk result (TextGrows text.old
+        (traces_text layout spans.now true (map plain_trace traces.now)) text.new) }
+{
+    let mut left = traces;
+    let mut is_first = true;
+    while let Some((trace, rest)) = left.split_first() {
+        Sheet::of(spans, trace, layout).push_apart(alloc, text, is_first)?;
+        left = rest;
+        is_first = false;
     }
     Ok(())
 }
 
-/// Appends the pictures of the traces of spans, which stand in order of export, for so many columns, at least 20 and at
-/// most 400. On an error nothing is appended.
+/// Appends the pictures of the traces of spans, which stand in order of export, for so many columns, of which 20 at least
+/// and 400 at most count. On an error nothing is appended.
 pub fn write_text(
     alloc: Global,
     out: &mut Vec<u8>,
-    spans: &[SpanData],
+    spans: &[ShownSpan],
     columns: u32,
 ) -> Result<(), AllocError>
-    ensures ok { OnOk result ((text : List ℕ) × (out.new.items ≡ out.old.items ++ text)) }
+    ensures ok { OnOk result ((traces : List PlainTrace) × AreTraces spans.now traces
+        × (out.new.items ≡ out.old.items ++ picture_text columns spans.now traces)) }
     ensures err { OnErr result (out.new.items ≡ out.old.items) }
 {
+    let traces = traces_of(alloc, spans)?;
     let mut text = String::new(alloc);
-    push_pictures(alloc, &mut text, spans, room_of(columns))?;
+    push_traces(alloc, &mut text, spans, &traces, Layout::of(columns))?;
     out.extend_from_slice(text.as_bytes())?;
     Ok(())
 }
