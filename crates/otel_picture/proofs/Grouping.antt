@@ -1,6 +1,6 @@
 -- Groups of places by trace: with one span more, and what they are in the end.
-use Rattle.std.proofs.Common.{◌≡◌, ◌≢◌, ◌<◌, ◌≤◌, ◌⊎◌, inl, inr, ℕ, zero, suc, Bool, true, false, List, [], ◌∷◌, ◌++◌}
-use Rattle.std.proofs.Common.{◌+◌, ◌-◌, ◌==◌, ◌||◌, ◌∙◌, All, add-one, ap, append-nil, arith, get_or, if◌then◌else◌, length, length-append}
+use Rattle.std.proofs.Common.{◌≡◌, ◌≢◌, ◌<◌, ◌≤◌, inl, inr, ℕ, zero, suc, Bool, true, false, List, [], ◌∷◌, ◌++◌}
+use Rattle.std.proofs.Common.{◌+◌, ◌==◌, ◌||◌, ◌∙◌, All, ap, arith, get_or, if◌then◌else◌, length, length-append}
 use Rattle.std.proofs.Common.{map, nat_eq, refl, set, subst, sym, take}
 use Rattle.std.specs.List.{fold, list_any, position_or_len}
 use Rattle.std.proofs.lemmas.Bool.{cases_eq, cases_lt, eq-eqb, eqb-true, false≢true, ne_eqb}
@@ -175,8 +175,8 @@ begun spans place trace keys old new of before none added =
         | inr last ↦
             let at : other ≡ length keys = omega (arith, last, below, length-append keys (trace ∷ [])) in
             λ e. key_apart keys one trace (omega (arith, first, at)) none
-                (sym (get_or-append_seam keys trace [] 0) ∙ ap (λ n. get_or (keys ++ trace ∷ []) n 0) (sym at)
-                ∙ sym e ∙ get_or_append_left keys (trace ∷ []) 0 one (omega (arith, first, at)))
+            (sym (get_or-append_seam keys trace [] 0) ∙ ap (λ n. get_or (keys ++ trace ∷ []) n 0) (sym at)
+            ∙ sym e ∙ get_or_append_left keys (trace ∷ []) 0 one (omega (arith, first, at)))
       ];
       each = λ number group below. elim (cases_lt number (length keys)) [
         | inl there ↦ subst (λ id. IsGroup id (places_below (is_of spans id) (place + 1)) (get_or new number group))

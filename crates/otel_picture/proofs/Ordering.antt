@@ -1,11 +1,11 @@
 -- A row put in keeps siblings in order.
 use Rattle.std.proofs.Common.{◌≡◌, ◌<◌, ◌≤◌, ◌⊎◌, inl, inr, ℕ, zero, suc, Bool, true, false, Option, Some, None, List}
-use Rattle.std.proofs.Common.{[], ◌∷◌, ◌++◌, ◌+◌, ◌==◌, ◌&&◌, ◌||◌, ◌∙◌, get_or, length, sym, ap, refl, arith, insert, take, drop}
-use Rattle.std.proofs.Common.{nat_lt, if◌then◌else◌, count_by}
+use Rattle.std.proofs.Common.{[], ◌∷◌, ◌+◌, ◌==◌, ◌&&◌, ◌||◌, ◌∙◌, get_or, length, sym, ap, refl, arith, insert, take, drop}
+use Rattle.std.proofs.Common.{nat_lt, if◌then◌else◌}
 use Rattle.std.specs.List.{AllByRecursion}
 use Rattle.std.proofs.lemmas.Bool.{cases_eq, cases_lt, eq-eqb, false≢true, le-ltb, lt-ltb, ne_eqb}
 use Rattle.std.proofs.lemmas.List.Sums.{sum_by-cons}
-use Rattle.otel_picture.specs.Orders.{AreInOrder, AreSiblings, Precedes, comes_before, start_at}
+use Rattle.otel_picture.specs.Orders.{AreInOrder, Precedes, comes_before, start_at}
 use Rattle.otel_picture.specs.Rows.{IsRoot, IsUnder, StandUnder, nearest_above, parent_of, rows_of}
 use Rattle.otel_picture.specs.declared.rows.Mark.{Mark}
 use Rattle.otel_picture.specs.declared.rows.Row.{Row}
@@ -81,8 +81,11 @@ not_before marks span other last h k = elim (true_or_false (comes_before marks s
 
 pub not_itself : (marks : List Mark) (span : ℕ) → comes_before marks span span ≡ false
 not_itself marks span =
-    rw (le-ltb (start_at marks span) (start_at marks span) (omega arith),
-    eq-eqb (start_at marks span) (start_at marks span) refl, le-ltb span span (omega arith)) refl
+    rw (
+      le-ltb (start_at marks span) (start_at marks span) (omega arith),
+      eq-eqb (start_at marks span) (start_at marks span) refl,
+      le-ltb span span (omega arith),
+    ) refl
 
 pub not_both : (marks : List Mark) (span other : ℕ) → comes_before marks span other ≡ true
     → comes_before marks other span ≡ false
@@ -124,10 +127,10 @@ counted_above level parent (r ∷ before) q h e = elim (cases_lt r.level level) 
       let here : r.span ≡ parent = ap (λ (x : Row). x.span) same ∙ e in
       omega (arith, one_here parent r before here)
   | inr high ↦ omega (
-      arith,
-      sum_by-cons (λ (x : Row). if x.span == parent then 1 else 0) r before,
-      counted_above level parent before q (rw (le-ltb r.level level high) at h) e,
-    )
+    arith,
+    sum_by-cons (λ (x : Row). if x.span == parent then 1 else 0) r before,
+    counted_above level parent before q (rw (le-ltb r.level level high) at h) e,
+  )
 ]
 
 pub counted_at : (parent : ℕ) (rows : List Row) (at : ℕ) (d : Row) → at < length rows → (get_or rows at d).span ≡ parent

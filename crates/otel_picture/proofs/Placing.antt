@@ -63,12 +63,12 @@ left_before placed span other there h = elim (cases_eq other span) [
   | inl same ↦ absurd (false≢true (sym h.left ∙ ap (λ k. get_or (set placed span true) k true) same
       ∙ get_or-set_same placed span true true there))
   | inr different ↦ (
-      different,
-      record {
-        there = omega (arith, h.there, length-set placed span true);
-        left = sym (get_or-set_other placed span other true true different) ∙ h.left;
-      },
-    )
+    different,
+    record {
+      there = omega (arith, h.there, length-set placed span true);
+      left = sym (get_or-set_other placed span other true true different) ∙ h.left;
+    },
+  )
 ]
 
 abbrev Waits : List Mark → List (Option ℕ) → List Bool → Row → Type 0
@@ -88,9 +88,9 @@ wait_more marks parents placed old at span row there shows waits before =
     (All-take (Waits marks parents (set placed span true)) at old kept)
     (All-cons (Waits marks parents (set placed span true)) row (drop at old)
     (λ deep other left same.
-        let was = left_before placed span other there left in
-        ap (λ k. comes_before marks other k) shows
-        ∙ waits deep other was.1 was.0 (same ∙ ap (λ k. parent_of parents k) shows))
+    let was = left_before placed span other there left in
+    ap (λ k. comes_before marks other k) shows
+    ∙ waits deep other was.1 was.0 (same ∙ ap (λ k. parent_of parents k) shows))
     (All-drop (Waits marks parents (set placed span true)) at old kept))
 
 pub placed_more : (marks : List Mark) (parents : List (Option ℕ)) (placed : List Bool) (old new : List Row) (span : ℕ)

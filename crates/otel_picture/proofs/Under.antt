@@ -1,8 +1,8 @@
 -- A row put in keeps each row after its parent's, the nearest above of a lower level.
 use Rattle.std.proofs.Common.{◌≡◌, ◌<◌, ◌≤◌, ◌⊎◌, inl, inr, ℕ, zero, suc, Bool, true, false, Option, Some, None, List, Contains}
 use Rattle.std.proofs.Common.{[], ◌∷◌, ◌++◌, ◌∙◌, if◌then◌else◌, get_or, length, sym, ap, refl, arith, insert, nat_lt}
-use Rattle.std.proofs.lemmas.Bool.{cases_lt, le-ltb, lt-ltb, ltb-true}
-use Rattle.otel_picture.specs.Rows.{IsRoot, IsUnder, StandUnder, nearest_above, parent_of}
+use Rattle.std.proofs.lemmas.Bool.{cases_lt, le-ltb, lt-ltb}
+use Rattle.otel_picture.specs.Rows.{IsRoot, StandUnder, nearest_above, parent_of}
 use Rattle.otel_picture.specs.declared.rows.Row.{Row}
 
 -- a row is the nearest above, by whether it is of a lower level
@@ -47,11 +47,11 @@ stand_skip parents xs p row ys (z ∷ rows) under h = (
   elim h.0 [
     | inl root ↦ inl root
     | inr below ↦ inr (record {
-        parent = below.parent;
-        known = below.known;
-        level = below.level;
-        is_nearest = nearest_skip z.level xs p row ys below.parent under below.level below.is_nearest;
-      })
+      parent = below.parent;
+      known = below.known;
+      level = below.level;
+      is_nearest = nearest_skip z.level xs p row ys below.parent under below.level below.is_nearest;
+    })
   ],
   stand_skip parents (z ∷ xs) p row ys rows under h.1,
 )
@@ -83,11 +83,11 @@ stand_behind parents xs root row ys (z ∷ rows) none h = (
   elim h.0 [
     | inl top ↦ inl top
     | inr below ↦ inr (record {
-        parent = below.parent;
-        known = below.known;
-        level = below.level;
-        is_nearest = nearest_stops z.level xs root row ys none (omega (arith, below.level)) ∙ below.is_nearest;
-      })
+      parent = below.parent;
+      known = below.known;
+      level = below.level;
+      is_nearest = nearest_stops z.level xs root row ys none (omega (arith, below.level)) ∙ below.is_nearest;
+    })
   ],
   stand_behind parents (z ∷ xs) root row ys rows none h.1,
 )

@@ -1,5 +1,5 @@
 -- Traces beside their ids.
-use Rattle.std.proofs.Common.{◌≡◌, ◌<◌, ◌++◌, ◌∷◌, [], ◌∙◌, ℕ, List, All, length, map}
+use Rattle.std.proofs.Common.{◌≡◌, ◌<◌, ◌++◌, ◌∷◌, [], ℕ, List, All, length, map}
 use Rattle.std.specs.List.{AllByRecursion, AllZip}
 use Rattle.otel_shown.specs.Shown.{PlainShownSpan}
 use Rattle.otel_picture.specs.Traces.{IsTraceAt, IsTraceOf, PlainTrace, plain_trace}

@@ -1,5 +1,5 @@
 -- Durations as people read them: in the unit that fits, with at most four significant digits, and cut, not rounded.
-use Rattle.std.specs.Prelude.{ℕ, ◌/◌, ◌%◌, ◌*◌, ◌-◌, ◌+◌, ◌==◌, List, [], ◌∷◌, ◌++◌, codes, decimal, if◌then◌else◌, nat_lt}
+use Rattle.std.specs.Prelude.{ℕ, ◌/◌, ◌%◌, ◌-◌, ◌+◌, ◌==◌, List, [], ◌∷◌, ◌++◌, codes, decimal, if◌then◌else◌, nat_lt}
 
 -- how many nanoseconds one unit of the last digit is that is shown of a duration
 abbrev pub step_of : ℕ → ℕ

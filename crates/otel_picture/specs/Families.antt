@@ -1,5 +1,5 @@
 -- Spans by trace, and within a trace who is whose parent.
-use Rattle.std.specs.Prelude.{◌≡◌, ℕ, zero, suc, Bool, false, List, [], ◌∷◌, ◌++◌, ◌==◌, Option, None, get_or, length, map, nat_eq}
+use Rattle.std.specs.Prelude.{ℕ, zero, suc, Bool, false, List, [], ◌∷◌, ◌++◌, ◌==◌, Option, None, get_or, length, map, nat_eq}
 use Rattle.std.specs.Prelude.{if◌then◌else◌, position}
 use Rattle.std.specs.List.{fold}
 use Rattle.opentelemetry.specs.Plain.{unset}

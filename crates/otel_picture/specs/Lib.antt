@@ -7,5 +7,6 @@ pub mod Placed
 pub mod Rows
 pub mod RowTexts
 pub mod Sheets
+pub mod SvgTexts
 pub mod Texts
 pub mod Traces

@@ -1,5 +1,5 @@
 -- Rows as they are put in, one after the other, and all rows of a trace.
-use Rattle.std.specs.Prelude.{◌≡◌, ◌<◌, ◌≤◌, ℕ, suc, Bool, true, false, List, [], ◌∷◌, Option, All, count_by, get_or, insert}
+use Rattle.std.specs.Prelude.{◌≡◌, ◌<◌, ◌≤◌, ℕ, Bool, true, false, List, [], Option, All, count_by, get_or, insert}
 use Rattle.std.specs.Prelude.{if◌then◌else◌, length}
 use Rattle.otel_picture.specs.Families.{parents_in}
 use Rattle.otel_picture.specs.Orders.{AreInOrder, comes_before}

@@ -1,7 +1,7 @@
 -- What the text form writes: a trace's head and axis, and a row a span.
-use Rattle.std.specs.Prelude.{◌≡◌, ℕ, zero, suc, ◌+◌, ◌-◌, ◌*◌, ◌/◌, ◌==◌, ◌&&◌, Bool, true, false, List, [], ◌∷◌, ◌++◌}
+use Rattle.std.specs.Prelude.{ℕ, zero, suc, ◌-◌, ◌*◌, ◌/◌, ◌==◌, ◌&&◌, Bool, true, false, List, [], ◌∷◌, ◌++◌}
 use Rattle.std.specs.Prelude.{codes, count_by, decimal, encode_utf8, if◌then◌else◌, is_none, length, max, min, nat_le}
-use Rattle.std.specs.Prelude.{nat_lt, not}
+use Rattle.std.specs.Prelude.{not}
 use Rattle.std.specs.List.{list_any}
 use Rattle.std.specs.Str.{bytes_eq}
 use Rattle.opentelemetry.specs.Hex.{hex_text}
@@ -33,6 +33,10 @@ layout_of given =
       has_numbers = has_numbers;
       has_self_time = has_self_time;
     }
+
+-- the rooms of the SVG form: names have 40 columns of text, bars 460 units
+abbrev pub svg_layout : Layout
+svg_layout = record { columns = 120; name = 40; bar = 460; has_numbers = true; has_self_time = false }
 
 -- what is drawn of a trace, and how
 pub record PlainSheet : Type 0 where

@@ -1,7 +1,7 @@
 -- The rows of a trace's picture: which span stands where, and how far under its ancestors. A span is a number, its
 -- place in order of export; of each the number of its parent is known, or that no parent is in the picture.
-use Rattle.std.specs.Prelude.{◌≡◌, ◌<◌, ◌≤◌, ℕ, zero, suc, Bool, true, false, Option, Some, None, List, [], ◌∷◌}
-use Rattle.std.specs.Prelude.{◌&&◌, ◌==◌, ◌⊎◌, get_or, length, not, count_by, insert, All, if◌then◌else◌, nat_lt}
+use Rattle.std.specs.Prelude.{◌≡◌, ◌<◌, ℕ, zero, suc, Bool, true, false, Option, Some, None, List, [], ◌∷◌}
+use Rattle.std.specs.Prelude.{◌&&◌, ◌==◌, ◌⊎◌, get_or, length, not, count_by, if◌then◌else◌, nat_lt}
 use Rattle.otel_picture.specs.declared.rows.Row.{Row}
 
 -- the parent of a span

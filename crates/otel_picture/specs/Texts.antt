@@ -1,5 +1,5 @@
 -- Texts of pictures.
-use Rattle.std.specs.Prelude.{◌≡◌, ◌≢◌, ℕ, ◌/◌, ◌%◌, ◌==◌, ◌&&◌, ◌||◌, ◌++◌, ◌⊎◌, Bool, List, All, codes, decimal, encode_utf8}
+use Rattle.std.specs.Prelude.{◌≡◌, ◌≢◌, ℕ, ◌/◌, ◌%◌, ◌==◌, ◌&&◌, ◌||◌, ◌++◌, ◌⊎◌, Bool, List, All, codes, encode_utf8}
 use Rattle.std.specs.Prelude.{if◌then◌else◌, nat_le, nat_lt, not}
 use Rattle.std.specs.Prelude.{◌-◌, length, zero, suc, [], ◌∷◌, true, false, unwrap_or}
 use Rattle.std.specs.Fmt.{radix_digits}

@@ -10,9 +10,13 @@ use std::alloc::AllocError;
 use std::fmt::Write;
 
 const SECOND: u64 = 1_000_000_000;
+
 const MINUTE: u64 = 60 * SECOND;
+
 const HOUR: u64 = 60 * MINUTE;
+
 const DAY: u64 = 24 * HOUR;
+
 const YEAR: u64 = 365 * DAY;
 
 /// How many nanoseconds one unit of the last digit is that is shown of a duration.

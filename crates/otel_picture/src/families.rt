@@ -97,7 +97,11 @@ fn parents_of(alloc: Global, marks: &[Mark]) -> Result<Vec<Option<usize>>, Alloc
 }
 
 /// The spans of a trace, which stand at these places.
-pub(crate) fn family_of(alloc: Global, spans: &[ShownSpan], places: &[usize]) -> Result<Family, AllocError>
+pub(crate) fn family_of(
+    alloc: Global,
+    spans: &[ShownSpan],
+    places: &[usize],
+) -> Result<Family, AllocError>
     requires { All (λ place. place < length spans.now) places.now }
     ensures { IfOk result (λ family. family.marks.items ≡ marks_at spans.now places.now) }
 {

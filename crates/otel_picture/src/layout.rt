@@ -1,7 +1,7 @@
 //! The rooms of the text form: how many columns a row has for the name of its span, for its bar and for numbers.
 
 ghost use Rattle.std.specs.Prelude.{◌≡◌, ◌<◌, ◌≤◌};
-ghost use Rattle.otel_picture.specs.RowTexts.{layout_of};
+ghost use Rattle.otel_picture.specs.RowTexts.{layout_of, svg_layout};
 
 /// How many columns a picture has where nobody says.
 pub const COLUMNS: u32 = 72;
@@ -20,6 +20,19 @@ pub struct Layout {
 }
 
 impl Layout {
+    /// The rooms of the SVG form: names have 40 columns of text, bars 460 units.
+    pub(crate) fn svg() -> Layout
+        ensures { result ≡ svg_layout }
+    {
+        Layout {
+            columns: 120,
+            name: 40,
+            bar: 460,
+            has_numbers: true,
+            has_self_time: false,
+        }
+    }
+
     /// The rooms of so many columns, of which 20 at least and 400 at most count.
     pub fn of(columns: u32) -> Layout
         ensures is { result ≡ layout_of columns }

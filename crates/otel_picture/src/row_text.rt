@@ -131,7 +131,7 @@ impl Sheet<'_> {
     }
 
     /// The span of a row.
-    fn span_of(&self, row: Row) -> &ShownSpan
+    pub(crate) fn span_of(&self, row: Row) -> &ShownSpan
         requires { row.span < length self.now.trace.now.family.marks.items }
         ensures { result.now ≡ row_span (plain_sheet self.now) row }
     {
@@ -155,7 +155,11 @@ impl Sheet<'_> {
         let label = label_of(alloc, self.span_of(row), self.is_orphan(row), self.is_mixed)?;
         let indent = self.indent_of(row);
         push_times(text, ' ', indent)?;
-        push_in_room(text, label.as_str(), self.layout.name.saturating_sub(indent))
+        push_in_room(
+            text,
+            label.as_str(),
+            self.layout.name.saturating_sub(indent),
+        )
     }
 
     /// Its bar, after the sign of one that failed.
@@ -177,7 +181,12 @@ impl Sheet<'_> {
             return Ok(());
         }
         let mark = self.trace.family.marks[row.span];
-        push_number(alloc, text, "+", mark.start.saturating_sub(self.scale.first))?;
+        push_number(
+            alloc,
+            text,
+            "+",
+            mark.start.saturating_sub(self.scale.first),
+        )?;
         push_number(alloc, text, "", mark.end.saturating_sub(mark.start))
     }
 
@@ -201,7 +210,13 @@ impl Sheet<'_> {
     }
 
     /// The end of a row, and a line of its own for what went wrong.
-    fn push_note(&self, alloc: Global, text: &mut String, indent: usize, status: &Status) -> Result<(), AllocError>
+    fn push_note(
+        &self,
+        alloc: Global,
+        text: &mut String,
+        indent: usize,
+        status: &Status,
+    ) -> Result<(), AllocError>
         ensures { OnOk result (TextGrows text.old
             (note_text (plain_sheet self.now) indent (plain_status status.now)) text.new) }
     {
@@ -219,7 +234,13 @@ impl Sheet<'_> {
     }
 
     /// The row of a span, by the rows after it.
-    fn push_row(&self, alloc: Global, text: &mut String, row: Row, rest: &[Row]) -> Result<(), AllocError>
+    fn push_row(
+        &self,
+        alloc: Global,
+        text: &mut String,
+        row: Row,
+        rest: &[Row],
+    ) -> Result<(), AllocError>
         requires here { row.span < length self.now.trace.now.family.marks.items }
         requires there { All (λ row. row.span < length self.now.trace.now.family.marks.items) rest.now }
         ensures { OnOk result (TextGrows text.old (row_text (plain_sheet self.now) row rest.now) text.new) }

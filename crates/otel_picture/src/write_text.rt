@@ -42,7 +42,7 @@ fn ticks_in(columns: u32) -> u32
 }
 
 /// The moment at a place of an axis.
-fn moment_at(duration: u64, columns: u32, place: u32) -> u64
+pub(crate) fn moment_at(duration: u64, columns: u32, place: u32) -> u64
     requires wide { 0 < columns }
     requires within { place ≤ columns }
     ensures { result ≡ duration * place / columns }
@@ -73,7 +73,12 @@ fn push_tick(
 }
 
 /// The axis of bars.
-fn push_axis(alloc: Global, text: &mut String, duration: u64, columns: u32) -> Result<(), AllocError>
+fn push_axis(
+    alloc: Global,
+    text: &mut String,
+    duration: u64,
+    columns: u32,
+) -> Result<(), AllocError>
     requires { 0 < columns }
     ensures { OnOk result (TextGrows text.old (axis_text duration columns) text.new) }
 {
@@ -100,7 +105,7 @@ fn push_legend(text: &mut String, layout: Layout) -> Result<(), AllocError>
 
 impl Sheet<'_> {
     /// A trace, and how many spans it has.
-    fn push_title(&self, text: &mut String) -> Result<(), AllocError>
+    pub(crate) fn push_title(&self, text: &mut String) -> Result<(), AllocError>
         ensures { OnOk result (TextGrows text.old (title_text (plain_sheet self.now)) text.new) }
     {
         let trace = self.trace.trace_id;
@@ -109,7 +114,7 @@ impl Sheet<'_> {
     }
 
     /// How many spans failed, where any did.
-    fn push_errors(&self, text: &mut String) -> Result<(), AllocError>
+    pub(crate) fn push_errors(&self, text: &mut String) -> Result<(), AllocError>
         ensures { OnOk result (TextGrows text.old (errors_text (errors_in (plain_sheet self.now))) text.new) }
     {
         let errors = self.errors();
@@ -131,7 +136,7 @@ impl Sheet<'_> {
     }
 
     /// The service that all of its spans have; none where they have several.
-    fn service_of(&self, alloc: Global) -> Result<String, AllocError>
+    pub(crate) fn service_of(&self, alloc: Global) -> Result<String, AllocError>
         ensures { IfOk result (λ service. string_bytes service ≡ service_text (plain_sheet self.now)) }
     {
         let mut service = String::new(alloc);
@@ -149,7 +154,12 @@ impl Sheet<'_> {
         let service = self.service_of(alloc)?;
         push_in_room(text, service.as_str(), self.layout.name)?;
         text.push(' ')?;
-        push_axis(alloc, text, self.scale.last - self.scale.first, self.layout.bar)?;
+        push_axis(
+            alloc,
+            text,
+            self.scale.last - self.scale.first,
+            self.layout.bar,
+        )?;
         push_legend(text, self.layout)?;
         text.push('\n')
     }

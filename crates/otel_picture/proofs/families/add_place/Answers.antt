@@ -8,7 +8,7 @@ pub returns-then-number-len : goal.returns-then-number-len
 returns-then-number-len c = record {
   joins = λ old_group l.
       let same = sym (get_or_default c.args.groups.now.items c.args.number old_group c.index_mut.result.now l
-          ∙ sym c.index_mut.ensures.value) in (
+      ∙ sym c.index_mut.ensures.value) in (
         record { trace_id = c.index_mut.result.now.trace_id; places = c.push.new.self },
         record {
           trace_is = ap (λ (g : Group). g.trace_id) same;

@@ -1,11 +1,6 @@
 -- One span more.
-use Rattle.std.proofs.Common.{◌∙◌, ◌+◌, ◌++◌, ◌∷◌, [], List, ℕ, add-one, ap, map, nat_eq, sym}
-use Rattle.std.specs.List.{fold}
-use Rattle.std.proofs.lemmas.List.{map-append, take_more}
-use Rattle.std.proofs.lemmas.List.Sums.{fold-append}
-use Rattle.indexmap.specs.IndexSet.{insert_key}
+use Rattle.std.proofs.Common.{ap}
 use Rattle.otel_shown.specs.Shown.{PlainShownSpan}
-use Rattle.otel_picture.specs.Families.{trace_ids}
 use Rattle.otel_picture.proofs.Grouping.{one_more_place, one_more_trace}
 use Rattle.otel_picture.proofs.families.groups_of.Goals as goal
 

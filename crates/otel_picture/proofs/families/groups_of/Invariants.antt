@@ -1,7 +1,5 @@
 -- The groups of the spans so far.
-use Rattle.std.proofs.Common.{◌≡◌, map, nat_eq, take}
-use Rattle.std.specs.List.{fold}
-use Rattle.indexmap.specs.IndexSet.{insert_key}
+use Rattle.std.proofs.Common.{◌≡◌, take}
 use Rattle.otel_picture.specs.Groups.{AreGroups}
 use Rattle.otel_picture.specs.Families.{trace_ids}
 use Rattle.otel_picture.proofs.families.groups_of.Given as goal

@@ -1,5 +1,5 @@
 -- One tick more.
-use Rattle.std.proofs.Common.{◌≡◌, ◌*◌, ◌/◌, add-one, string_bytes}
+use Rattle.std.proofs.Common.{◌*◌, ◌/◌, add-one, string_bytes}
 use Rattle.otel_picture.specs.RowTexts.{tick_text, ticks_text}
 use Rattle.otel_picture.proofs.Joined.{then_more}
 use Rattle.otel_picture.proofs.write_text.push_axis.Goals as goal

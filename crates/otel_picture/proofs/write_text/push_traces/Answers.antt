@@ -2,7 +2,6 @@
 use Rattle.std.proofs.Common.{false, ◌<◌, ◌++◌, ◌∙◌, All, ap, length, map, string_bytes, subst}
 use Rattle.std.proofs.lemmas.List.Elements.{All-head, All-rest}
 use Rattle.otel_picture.specs.RowTexts.{apart_text, sheet_of, traces_text}
-use Rattle.otel_picture.specs.Sheets.{plain_sheet}
 use Rattle.otel_picture.specs.Traces.{plain_trace}
 use Rattle.otel_picture.specs.declared.rows.Mark.{Mark}
 use Rattle.otel_picture.specs.declared.trace.Trace.{Trace}

@@ -91,13 +91,13 @@ loop-span-preserved c =
                   if_some _ _ c.loop-span.last (λ s e r. sym e ∙ v.if-not-follows.false) v.follows.ensures.some
               | else-is_ready-via-else-is_ready v ↦
                   when_some _ c.loop-span.last
-                      (λ s r. absurd (false≢true (sym (sym c.is_ready.ensures ∙ v.if-is_ready.false) ∙ r)))
+                  (λ s r. absurd (false≢true (sym (sym c.is_ready.ensures ∙ v.if-is_ready.false) ∙ r)))
             ]);
         none = one_more (λ k. is_ready parents placed k ≡ false) c.loop-span.last span c.loop-span.invariant.none
             (elim w.else-is_ready.branch [
               | else-is_ready-via-then-is_ready+else-not-follows v ↦
                   if_none _ _ c.loop-span.last (λ e. absurd (false≢true (sym e ∙ v.if-not-follows.false)))
-                      v.follows.ensures.none
+                  v.follows.ensures.none
               | else-is_ready-via-else-is_ready v ↦
                   when_none _ c.loop-span.last (sym c.is_ready.ensures ∙ v.if-is_ready.false)
             ]);

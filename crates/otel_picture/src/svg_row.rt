@@ -1,0 +1,292 @@
+//! The lines of the SVG form, a span each: its name, its bar with marks for events, its numbers, and a title.
+
+ghost use Rattle.std.specs.Prelude.{◌≡◌, ◌<◌, ◌+◌, ◌-◌, ◌++◌, IfOk, OnOk, codes, length, string_bytes};
+ghost use Rattle.std.specs.List.{flat_map};
+ghost use Rattle.opentelemetry.specs.PlainValues.{plain_status};
+ghost use Rattle.opentelemetry.specs.Text.{TextGrows};
+ghost use Rattle.otel_picture.specs.RowTexts.{sheet_column};
+ghost use Rattle.otel_picture.specs.Sheets.{plain_sheet};
+ghost use Rattle.otel_picture.specs.SvgTexts.{
+  class_text,
+  colour_of,
+  down,
+  event_svg,
+  fact_text,
+  fault_text,
+  note_of,
+  place_svg,
+  svg_bar,
+  svg_name,
+  svg_numbers,
+  svg_numbers_text,
+  svg_row,
+  svg_rows,
+  svg_shapes,
+  title_of,
+  whose_text,
+};
+
+use crate::bar::Bar;
+use crate::durations::push_duration;
+use crate::row_text::{kind_text, label_of};
+use crate::rows::Row;
+use crate::sheet::{Sheet, is_error};
+use crate::svg_parts::{
+    down, line_after, push_fact, push_label, push_mark, push_place, push_title,
+};
+use crate::texts::push_cut;
+use opentelemetry::trace::Status;
+use otel_shown::{ShownEvent, ShownSpan};
+use std::alloc::{AllocError, Global};
+use std::fmt::Write;
+
+/// The colour of a service, one of eight.
+fn colour_of(service: &str) -> u64
+    ensures { result ≡ colour_of service.now }
+{
+    let mut colour = 0;
+    for byte in service.as_bytes() {
+        colour = (colour + u64::from(*byte)) % 8;
+    }
+    colour
+}
+
+/// Appends the class of a bar.
+#[tactic(auto, unfolding(crate::specs::SvgTexts::class_text))]
+fn push_class(out: &mut String, span: &ShownSpan) -> Result<(), AllocError>
+    ensures { OnOk result (TextGrows out.old (class_text span.now) out.new) }
+{
+    let colour = colour_of(span.service.as_str());
+    write!(out, "s{colour}")?;
+    if is_error(&span.status) {
+        return out.push_str(" error");
+    }
+    Ok(())
+}
+
+/// Appends what went wrong, as a line of a title.
+fn push_fault(out: &mut String, status: &Status) -> Result<(), AllocError>
+    ensures { OnOk result (TextGrows out.old (fault_text (plain_status status.now)) out.new) }
+{
+    match status {
+        Status::Error { description } => {
+            out.push_str("\n! ")?;
+            out.push_str(description.as_str())
+        }
+        _ => Ok(()),
+    }
+}
+
+/// Appends what went wrong, after the numbers.
+fn push_note(out: &mut String, status: &Status) -> Result<(), AllocError>
+    ensures { OnOk result (TextGrows out.old (note_of (plain_status status.now)) out.new) }
+{
+    match status {
+        Status::Error { description } => {
+            out.push_str(" ! ")?;
+            out.push_str(description.as_str())
+        }
+        _ => Ok(()),
+    }
+}
+
+/// Whose span it is, and of what kind.
+fn push_whose(out: &mut String, span: &ShownSpan) -> Result<(), AllocError>
+    ensures { OnOk result (TextGrows out.old (whose_text span.now) out.new) }
+{
+    out.push_str(span.name.as_str())?;
+    out.push_str(kind_text(span.kind))?;
+    out.push_str("\n@")?;
+    out.push_str(span.service.as_str())
+}
+
+/// The title of a bar.
+fn title_of(alloc: Global, span: &ShownSpan) -> Result<String, AllocError>
+    ensures { IfOk result (λ title. string_bytes title ≡ title_of span.now) }
+{
+    let mut title = String::new(alloc);
+    push_whose(&mut title, span)?;
+    push_fact(&mut title, "start", span.start_time.0)?;
+    push_fact(&mut title, "end", span.end_time.0)?;
+    push_fault(&mut title, &span.status)?;
+    title.push_str(span.attributes.as_str())?;
+    Ok(title)
+}
+
+/// Appends where a bar is, and how wide.
+fn push_bar_place(out: &mut String, line: u64, bar: Bar) -> Result<(), AllocError>
+    ensures { OnOk result (TextGrows out.old
+        (place_svg (310 + bar.begin) (down line 4) (bar.end - bar.begin + 1)) out.new) }
+{
+    let width = u64::from(bar.end - bar.begin) + 1;
+    push_place(out, 310 + u64::from(bar.begin), down(line, 4), width)
+}
+
+/// The title of an event.
+fn event_title_of(alloc: Global, event: &ShownEvent) -> Result<String, AllocError>
+    ensures { IfOk result (λ title. string_bytes title ≡ event.now.name ++ fact_text (codes "at") event.now.timestamp) }
+{
+    let mut title = String::from_str(alloc, event.name.as_str())?;
+    push_fact(&mut title, "at", event.timestamp.0)?;
+    Ok(title)
+}
+
+impl Sheet<'_> {
+    /// How far to the right a moment is, in units.
+    fn svg_place(&self, moment: u64) -> u64
+        ensures { result ≡ 310 + sheet_column (plain_sheet self.now) moment }
+    {
+        310 + u64::from(self.scale.column(moment))
+    }
+
+    /// A mark where an event happened, and its title.
+    fn push_event(
+        &self,
+        alloc: Global,
+        out: &mut String,
+        line: u64,
+        event: &ShownEvent,
+    ) -> Result<(), AllocError>
+        ensures { OnOk result (TextGrows out.old (event_svg (plain_sheet self.now) line event.now) out.new) }
+    {
+        let title = event_title_of(alloc, event)?;
+        push_mark(out, self.svg_place(event.timestamp.0), down(line, 3))?;
+        push_title(out, title.as_str())?;
+        out.push_str("</path>")
+    }
+
+    /// The marks of a span's events.
+    fn push_events(
+        &self,
+        alloc: Global,
+        out: &mut String,
+        line: u64,
+        span: &ShownSpan,
+    ) -> Result<(), AllocError>
+        ensures { OnOk result (TextGrows out.old
+            (flat_map (event_svg (plain_sheet self.now) line) span.now.events) out.new) }
+    {
+        for event in &span.events {
+            self.push_event(alloc, out, line, event)?;
+        }
+        Ok(())
+    }
+
+    /// The name of a span, moved in by its level.
+    fn push_svg_name(
+        &self,
+        alloc: Global,
+        out: &mut String,
+        line: u64,
+        row: Row,
+    ) -> Result<(), AllocError>
+        requires { row.span < length self.now.trace.now.family.marks.items }
+        ensures { OnOk result (TextGrows out.old (svg_name (plain_sheet self.now) line row) out.new) }
+    {
+        let indent = row.level.min(10);
+        let label = label_of(alloc, self.span_of(row), self.is_orphan(row), self.is_mixed)?;
+        let mut cut = String::new(alloc);
+        push_cut(&mut cut, label.as_str(), 40 - 2 * indent)?;
+        push_label(out, 10 + 14 * indent as u64, down(line, 15), cut.as_str())
+    }
+
+    /// The bar of a span, from the column of its start to that of its end.
+    fn push_svg_bar(&self, out: &mut String, line: u64, span: &ShownSpan) -> Result<(), AllocError>
+        ensures { OnOk result (TextGrows out.old (svg_bar (plain_sheet self.now) line span.now) out.new) }
+    {
+        let bar = self.scale.bar(span.start_time.0, span.end_time.0);
+        out.push_str("<rect class=\"")?;
+        push_class(out, span)?;
+        push_bar_place(out, line, bar)?;
+        Ok(())
+    }
+
+    /// Offset, length, and what went wrong.
+    fn svg_numbers_of(&self, alloc: Global, row: Row) -> Result<String, AllocError>
+        requires { row.span < length self.now.trace.now.family.marks.items }
+        ensures { IfOk result (λ numbers. string_bytes numbers ≡ svg_numbers_text (plain_sheet self.now) row) }
+    {
+        let mark = self.trace.family.marks[row.span];
+        let span = self.span_of(row);
+        let mut numbers = String::from_str(alloc, "+")?;
+        push_duration(&mut numbers, mark.start.saturating_sub(self.scale.first))?;
+        numbers.push(' ')?;
+        push_duration(&mut numbers, mark.end.saturating_sub(mark.start))?;
+        push_note(&mut numbers, &span.status)?;
+        Ok(numbers)
+    }
+
+    /// The same, cut to their room.
+    fn push_svg_numbers(
+        &self,
+        alloc: Global,
+        out: &mut String,
+        line: u64,
+        row: Row,
+    ) -> Result<(), AllocError>
+        requires { row.span < length self.now.trace.now.family.marks.items }
+        ensures { OnOk result (TextGrows out.old (svg_numbers (plain_sheet self.now) line row) out.new) }
+    {
+        let numbers = self.svg_numbers_of(alloc, row)?;
+        let mut cut = String::new(alloc);
+        push_cut(&mut cut, numbers.as_str(), 24)?;
+        push_label(out, 778, down(line, 15), cut.as_str())
+    }
+
+    /// What a line shows of a span, but its title.
+    fn push_svg_shapes(
+        &self,
+        alloc: Global,
+        out: &mut String,
+        line: u64,
+        row: Row,
+    ) -> Result<(), AllocError>
+        requires { row.span < length self.now.trace.now.family.marks.items }
+        ensures { OnOk result (TextGrows out.old (svg_shapes (plain_sheet self.now) line row) out.new) }
+    {
+        let span = self.span_of(row);
+        self.push_svg_name(alloc, out, line, row)?;
+        self.push_svg_bar(out, line, span)?;
+        self.push_events(alloc, out, line, span)?;
+        self.push_svg_numbers(alloc, out, line, row)?;
+        Ok(())
+    }
+
+    /// The line of a span.
+    fn push_svg_row(
+        &self,
+        alloc: Global,
+        out: &mut String,
+        line: u64,
+        row: Row,
+    ) -> Result<(), AllocError>
+        requires { row.span < length self.now.trace.now.family.marks.items }
+        ensures { OnOk result (TextGrows out.old (svg_row (plain_sheet self.now) line row) out.new) }
+    {
+        let title = title_of(alloc, self.span_of(row))?;
+        out.push_str("<g>")?;
+        push_title(out, title.as_str())?;
+        self.push_svg_shapes(alloc, out, line, row)?;
+        out.push_str("</g>\n")
+    }
+
+    /// The lines of all spans, from this one on.
+    pub(crate) fn push_svg_rows(
+        &self,
+        alloc: Global,
+        out: &mut String,
+        line: u64,
+    ) -> Result<(), AllocError>
+        ensures { OnOk result (TextGrows out.old
+            (svg_rows (plain_sheet self.now) line self.now.trace.now.rows.items) out.new) }
+    {
+        let mut line = line;
+        let mut left = self.trace.rows.as_slice();
+        while let Some((row, rest)) = left.split_first() {
+            self.push_svg_row(alloc, out, line, *row)?;
+            left = rest;
+            line = line_after(line, 1);
+        }
+        Ok(())
+    }
+}
