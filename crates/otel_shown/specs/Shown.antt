@@ -1,0 +1,58 @@
+-- What contracts see of a span as a picture shows it, and which one shows an exported span.
+use Rattle.std.specs.Prelude.{ℕ, List, ◌∷◌, ◌++◌, map}
+use Rattle.std.specs.List.{flat_map}
+use Rattle.opentelemetry.specs.Plain.{PlainEvent, PlainKeyValue, PlainStatus}
+use Rattle.opentelemetry.specs.ValueText.{value_text}
+use Rattle.opentelemetry.specs.declared.trace.span_kind.SpanKind.{SpanKind}
+use Rattle.otel_export.specs.PlainSpanData.{PlainSpanData}
+
+-- when something happened within a span, and what it is called
+pub record PlainShownEvent : Type 0 where
+  pub timestamp : ℕ
+  pub name : List ℕ
+
+-- what a picture shows of a span; its attributes are one text, its parent is zero where it has none
+pub record PlainShownSpan : Type 0 where
+  pub trace_id : ℕ
+  pub span_id : ℕ
+  pub parent_span_id : ℕ
+  pub name : List ℕ
+  pub service : List ℕ
+  pub kind : SpanKind
+  pub start_time : ℕ
+  pub end_time : ℕ
+  pub status : PlainStatus
+  pub attributes : List ℕ
+  pub events : List PlainShownEvent
+
+-- a line feed, a key, an equals sign and the text of a value
+abbrev pub pair_line : List ℕ → List ℕ → List ℕ
+pair_line key value = 10 ∷ (key ++ 61 ∷ value)
+
+-- the line of an attribute
+abbrev pub attribute_line : PlainKeyValue → List ℕ
+attribute_line attribute = pair_line attribute.key (value_text attribute.value)
+
+-- the lines of attributes, in order
+abbrev pub attribute_lines : List PlainKeyValue → List ℕ
+attribute_lines attributes = flat_map attribute_line attributes
+
+-- an event without its attributes
+abbrev pub shown_event : PlainEvent → PlainShownEvent
+shown_event event = record { timestamp = event.timestamp; name = event.name }
+
+-- an exported span of a service
+abbrev pub shown_span : List ℕ → PlainSpanData → PlainShownSpan
+shown_span service span = record {
+  trace_id = span.span_context.trace_id;
+  span_id = span.span_context.span_id;
+  parent_span_id = span.parent_span_id;
+  name = span.name;
+  service = service;
+  kind = span.span_kind;
+  start_time = span.start_time;
+  end_time = span.end_time;
+  status = span.status;
+  attributes = attribute_lines span.attributes;
+  events = map shown_event span.events.events;
+}
