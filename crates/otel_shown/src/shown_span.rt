@@ -32,6 +32,9 @@ pub struct ShownSpan {
     pub events: Vec<ShownEvent>,
 }
 
+// A summary of a file keeps all of its spans.
+const _: () = prove!(std::mem::size_of::<ShownSpan>() <= 192);
+
 impl Model for ShownSpan {
     ghost use Rattle.std.specs.Prelude.{string_bytes};
     ghost use Rattle.opentelemetry.specs.PlainValues.{plain_status};
@@ -108,7 +111,7 @@ fn shown_events(alloc: Global, kept: SpanEvents) -> Result<Vec<ShownEvent>, Allo
     ensures { IfOk result (λ events. events.items ≡ map shown_event kept.events) }
 {
     let mut events = Vec::with_capacity(alloc, kept.events.len())?;
-    for event in kept {
+    for event in kept.events {
         events.push(ShownEvent {
             timestamp: event.timestamp,
             name: event.name,
