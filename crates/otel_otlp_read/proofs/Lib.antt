@@ -1,0 +1,9 @@
+pub mod Depths
+pub mod Digits
+pub mod Documents
+pub mod FirstByte
+pub mod Items
+pub mod LeftLines
+pub mod LineReading
+pub mod Listing
+pub mod Turns
