@@ -10,6 +10,7 @@ mod event;
 mod fault;
 mod input;
 mod kind;
+pub mod laws;
 mod lines;
 mod member;
 mod number;
