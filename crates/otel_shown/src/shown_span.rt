@@ -32,6 +32,9 @@ pub struct ShownSpan {
     pub events: Vec<ShownEvent>,
 }
 
+// A summary of a file keeps all of its spans.
+const _: () = prove!(std::mem::size_of::<ShownSpan>() <= 192);
+
 impl Model for ShownSpan {
     ghost use Rattle.std.specs.Prelude.{string_bytes};
     ghost use Rattle.opentelemetry.specs.PlainValues.{plain_status};

@@ -1,0 +1,84 @@
+-- The text of a batch, and the lines of batches, are read back.
+use Rattle.std.proofs.Common.{◌≡◌, ◌+◌, ◌==◌, ℕ, true, false, cond, List, [], ◌∷◌, ◌++◌, map, Some, Ok}
+use Rattle.std.proofs.Common.{refl, sym, ap, ◌∙◌}
+use Rattle.std.proofs.lemmas.List.{map-append}
+use Rattle.std.proofs.lemmas.List.Concat.{flat_map-cons}
+use Rattle.std.specs.List.{AllByRecursion, slice_split}
+use Rattle.std.specs.Str.{IsUtf8}
+use Rattle.json.specs.Json.{Json, document}
+use Rattle.json.specs.Print.{print_from}
+use Rattle.otel_resource.specs.Resource.{PlainResource}
+use Rattle.otel_export.specs.PlainSpanData.{PlainSpanData, spans_in}
+use Rattle.otel_otlp.specs.Fits.{SpanFits}
+use Rattle.otel_otlp.specs.Otlp.{otlp_lines, otlp_text}
+use Rattle.otel_shown.specs.Shown.{PlainShownSpan, shown_span}
+use Rattle.otel_otlp_read.specs.Inputs.{PlainReadText, and_read, begins_with_json, is_blank, is_json, of_document, of_line}
+use Rattle.otel_otlp_read.specs.Inputs.{read_document, read_input, read_lines, text_lines}
+use Rattle.otel_otlp_read.specs.Requests.{read_request, service_of}
+use Rattle.otel_otlp_read.proofs.Documents.{read_json}
+
+-- a text that is UTF-8 and JSON
+pub document_back : (text : List ℕ) (j : Json) (spans : List PlainShownSpan) → IsUtf8 text → document text ≡ Some j
+    → read_request j ≡ Ok spans → read_document text ≡ Ok spans
+document_back text j spans utf8 is e = read_json text j utf8 is ∙ e
+
+-- the text of a batch begins with a brace
+not_blank : (resource : PlainResource) (batch : List PlainSpanData) → is_blank (otlp_text resource batch) ≡ false
+unfolding print_from
+not_blank resource batch = refl
+
+module _ (resource : PlainResource) where
+  abbrev pub Reads : List PlainSpanData → Type 0
+  Reads batch = read_document (otlp_text resource batch) ≡ Ok (map (shown_span (service_of resource)) batch)
+
+  -- each batch is read, where each that fits is
+  pub each_reads : (batches : List (List PlainSpanData))
+      → ((batch : List PlainSpanData) → AllByRecursion SpanFits batch → IsUtf8 (otlp_text resource batch) → Reads batch)
+      → AllByRecursion (AllByRecursion SpanFits) batches
+      → AllByRecursion (λ batch. IsUtf8 (otlp_text resource batch)) batches → AllByRecursion Reads batches
+  each_reads [] reads h k = tt
+  each_reads (batch ∷ batches) reads h k = (reads batch h.0 k.0, each_reads batches reads h.1 k.1)
+
+  -- a line of a batch
+  line_back : (number : ℕ) (batch : List PlainSpanData) → Reads batch
+      → of_line number (otlp_text resource batch)
+      ≡ record { spans = map (shown_span (service_of resource)) batch; faults = [] }
+  line_back number batch h =
+      ap (λ t. cond t (record { spans = []; faults = [] }) (of_document number (read_document (otlp_text resource batch))))
+      (not_blank resource batch)
+      ∙ ap (of_document number) h
+
+  abbrev pub all_of : List (List PlainSpanData) → PlainReadText
+  all_of batches = record { spans = map (shown_span (service_of resource)) (spans_in batches); faults = [] }
+
+  lines_back : (number : ℕ) (batches : List (List PlainSpanData)) → AllByRecursion Reads batches
+      → read_lines number (map (otlp_text resource) batches ++ [] ∷ []) ≡ all_of batches
+  unfolding read_lines
+  lines_back number [] h = refl
+  lines_back number (batch ∷ batches) h =
+      ap (λ first. and_read first (read_lines (number + 1) (map (otlp_text resource) batches ++ [] ∷ [])))
+      (line_back number batch h.0)
+      ∙ ap (λ rest. and_read (record { spans = map (shown_span (service_of resource)) batch; faults = [] }) rest)
+      (lines_back (number + 1) batches h.1)
+      ∙ ap (λ spans. record { spans = spans; faults = [] })
+      (sym (map-append (shown_span (service_of resource)) batch (spans_in batches))
+      ∙ ap (map (shown_span (service_of resource))) (sym (flat_map-cons (λ spans. spans) batch batches)))
+
+  begins_back : (batches : List (List PlainSpanData)) → AllByRecursion Reads batches
+      → begins_with_json (map (otlp_text resource) batches ++ [] ∷ []) ≡ true
+  unfolding begins_with_json
+  begins_back [] h = refl
+  begins_back (batch ∷ batches) h =
+      ap (λ t. cond t (begins_with_json (map (otlp_text resource) batches ++ [] ∷ []))
+      (is_json (read_document (otlp_text resource batch)))) (not_blank resource batch)
+      ∙ ap is_json h.0
+
+  pub input_back : (batches : List (List PlainSpanData)) → AllByRecursion Reads batches
+      → slice_split (λ b. b == 10) (otlp_lines resource batches) ≡ map (otlp_text resource) batches ++ [] ∷ []
+      → read_input (otlp_lines resource batches) ≡ all_of batches
+  unfolding read_input
+  input_back batches h cut =
+      let text = otlp_lines resource batches in
+      let whole = cond (is_json (read_document text)) (of_document 1 (read_document text)) (read_lines 1 (text_lines text)) in
+      ap (λ t. cond t (read_lines 1 (text_lines text)) whole) (ap begins_with_json cut ∙ begins_back batches h)
+      ∙ ap (read_lines 1) cut ∙ lines_back 1 batches h

@@ -1,0 +1,14 @@
+pub mod Depths
+pub mod Digits
+pub mod DigitsRead
+pub mod Documents
+pub mod FirstByte
+pub mod InputsRead
+pub mod Items
+pub mod LeftLines
+pub mod LineReading
+pub mod Listing
+pub mod RequestsRead
+pub mod SpansRead
+pub mod Turns
+pub mod ValuesRead

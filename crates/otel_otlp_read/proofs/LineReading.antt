@@ -1,0 +1,91 @@
+-- Reading line by line, as a loop does.
+use Rattle.std.proofs.Common.{◌≡◌, ◌+◌, ◌<◌, ◌≤◌, ◌⊎◌, ℕ, Bool, true, false, cond, List, [], ◌∷◌, Option, None, Some}
+use Rattle.std.proofs.Common.{IfSome, length, refl, sym, ap, ◌∙◌, arith, inl, inr, append_assoc, append-nil}
+use Rattle.std.specs.Borrow.{Bor}
+use Rattle.otel_otlp_read.specs.Inputs.{PlainReadText, and_read, begins_with_json, is_blank, is_json, lines_after}
+use Rattle.otel_otlp_read.specs.Inputs.{nothing_read, of_document, of_line, read_document, read_input, read_lines, text_lines}
+use Rattle.otel_otlp_read.proofs.LeftLines.{left, left_text}
+
+-- the lines that are left, of which this is the first
+pub first_of_left : (text : Option (Bor (List ℕ))) (rest : Bor (List ℕ)) (line : List ℕ) (after : Option (Bor (List ℕ)))
+    → text ≡ Some rest → text_lines rest.now ≡ line ∷ lines_after (left_text after)
+    → lines_after (left_text text) ≡ line ∷ lines_after (left_text after)
+first_of_left text rest line after is cut = ap (λ (o : Option (Bor (List ℕ))). lines_after (left_text o)) is ∙ cut
+
+pub begins_blank : (line : List ℕ) (lines : List (List ℕ)) → is_blank line ≡ true
+    → begins_with_json (line ∷ lines) ≡ begins_with_json lines
+unfolding begins_with_json
+begins_blank line lines is = ap (λ t. cond t (begins_with_json lines) (is_json (read_document line))) is
+
+pub begins_there : (line : List ℕ) (lines : List (List ℕ)) → is_blank line ≡ false
+    → begins_with_json (line ∷ lines) ≡ is_json (read_document line)
+unfolding begins_with_json
+begins_there line lines is = ap (λ t. cond t (begins_with_json lines) (is_json (read_document line))) is
+
+pub begins_none : begins_with_json [] ≡ true
+unfolding begins_with_json
+begins_none = refl
+
+-- nothing more
+pub and_nothing : (read : PlainReadText) → and_read read nothing_read ≡ read
+and_nothing read = λ i. record { spans = append-nil read.spans i; faults = append-nil read.faults i }
+
+pub read_none : (number : ℕ) (read : PlainReadText) → and_read read (read_lines number []) ≡ read
+unfolding read_lines
+read_none number read = and_nothing read
+
+-- a line that is blank, and one that is not
+pub line_blank : (number : ℕ) (line : List ℕ) (read : PlainReadText) → is_blank line ≡ true
+    → and_read read (of_line number line) ≡ read
+line_blank number line read is =
+    ap (λ t. and_read read (cond t nothing_read (of_document number (read_document line)))) is ∙ and_nothing read
+
+pub line_there : (number : ℕ) (line : List ℕ) (read : PlainReadText) → is_blank line ≡ false
+    → and_read read (of_line number line) ≡ and_read read (of_document number (read_document line))
+line_there number line read is =
+    ap (λ t. and_read read (cond t nothing_read (of_document number (read_document line)))) is
+
+-- one line more
+pub read_step : (number : ℕ) (line : List ℕ) (lines : List (List ℕ)) (read now : PlainReadText)
+    → now ≡ and_read read (of_line number line)
+    → and_read now (read_lines (number + 1) lines) ≡ and_read read (read_lines number (line ∷ lines))
+unfolding read_lines
+read_step number line lines read now is =
+    let first = of_line number line in
+    let others = read_lines (number + 1) lines in
+    ap (λ r. and_read r others) is
+    ∙ λ i. record {
+      spans = append_assoc read.spans first.spans others.spans i;
+      faults = append_assoc read.faults first.faults others.faults i;
+    }
+
+-- fewer bytes are left
+pub left_falls : (after : Option (Bor (List ℕ))) (rest : Bor (List ℕ))
+    → IfSome after (λ a. length a.now < length rest.now) → left (left_text after) ≤ length rest.now
+left_falls None rest h = omega arith
+left_falls (Some a) rest h = omega arith
+
+-- an input read line by line, or as a whole
+pub input_lines : (text : List ℕ)
+    → (begins_with_json (text_lines text) ≡ true) ⊎ (is_json (read_document text) ≡ false)
+    → read_lines 1 (text_lines text) ≡ read_input text
+unfolding read_input
+input_lines text (inl begins) =
+    sym (ap (λ t. cond t (read_lines 1 (text_lines text))
+    (cond (is_json (read_document text)) (of_document 1 (read_document text)) (read_lines 1 (text_lines text)))) begins)
+input_lines text (inr none) =
+    sym (ap (λ t. cond (begins_with_json (text_lines text)) (read_lines 1 (text_lines text))
+    (cond t (of_document 1 (read_document text)) (read_lines 1 (text_lines text)))) none
+    ∙ same (begins_with_json (text_lines text)) (read_lines 1 (text_lines text)))
+  where
+    same : (t : Bool) (read : PlainReadText) → cond t read read ≡ read
+    same true read = refl
+    same false read = refl
+
+pub input_whole : (text : List ℕ) → begins_with_json (text_lines text) ≡ false → is_json (read_document text) ≡ true
+    → of_document 1 (read_document text) ≡ read_input text
+unfolding read_input
+input_whole text begins whole =
+    sym (ap (λ t. cond t (read_lines 1 (text_lines text))
+    (cond (is_json (read_document text)) (of_document 1 (read_document text)) (read_lines 1 (text_lines text)))) begins
+    ∙ ap (λ t. cond t (of_document 1 (read_document text)) (read_lines 1 (text_lines text))) whole)

@@ -1,0 +1,129 @@
+-- A span that is written is read back as it is shown.
+use Rattle.std.proofs.Common.{◌≡◌, ◌<◌, ◌^◌, ℕ, zero, suc, cond, List, [], ◌∷◌, map, codes, Some, Ok}
+use Rattle.std.proofs.Common.{refl, ap, ◌∙◌, arith}
+use borrow.Author.Tests.{ne_eqb}
+use Rattle.std.proofs.lemmas.Fmt.{decimal_digit}
+use Rattle.std.proofs.lemmas.List.Concat.{flat_map_single}
+use Rattle.std.specs.Fmt.{decimal}
+use Rattle.std.specs.List.{AllByRecursion}
+use Rattle.opentelemetry.specs.Hex.{hex_text}
+use Rattle.opentelemetry.specs.Plain.{PlainEvent, PlainKeyValue, PlainStatus, unset, error, ok}
+use Rattle.opentelemetry.specs.declared.trace.span_kind.SpanKind.{SpanKind}
+use Rattle.opentelemetry.specs.declared.trace.span_kind.SpanKind.TheVariants as kinds
+use Rattle.otel_export.specs.PlainSpanData.{PlainSpanData}
+use Rattle.otel_otlp.specs.Fits.{AttributeFits, EventFits, SpanFits}
+use Rattle.otel_otlp.specs.OtlpSpan.{event_json, kind_number, parent_text, span_json, status_json}
+use Rattle.otel_otlp.specs.OtlpValues.{attribute_json}
+use Rattle.otel_shown.specs.Shown.{PlainShownEvent, PlainShownSpan, shown_event, shown_span}
+use Rattle.otel_shown.specs.Shown as shown
+use Rattle.otel_otlp_read.specs.declared.fault.Fault.TheVariants as faults
+use Rattle.otel_otlp_read.specs.Reading.{◌>>=◌, joined, needed, only}
+use Rattle.otel_otlp_read.specs.Numbers.{id_of, is_integer, moment_of, parent_number, parent_of, whole_number}
+use Rattle.otel_otlp_read.specs.SpanParts.{attribute_line, attributes_of, event_in, events_of, kind_of}
+use Rattle.otel_otlp_read.specs.SpanParts.{numbered_code, numbered_kind, span_in, status_in, status_of}
+use Rattle.otel_otlp_read.specs.SpanParts.{status_with}
+use Rattle.otel_otlp_read.proofs.DigitsRead.{decimal_whole, hex_id, hex_parent}
+use Rattle.otel_otlp_read.proofs.ValuesRead.{attribute_back, joined_back, listed-items_of}
+
+-- a moment
+moment_back : (n : ℕ) → n < 2 ^ 64 → needed faults.TimeForm (whole_number (decimal n)) ≡ Ok n
+moment_back n small = ap (needed faults.TimeForm) (decimal_whole n small)
+
+-- a parent's id, which is empty where there is none
+some_parent : (n : ℕ) → parent_text (suc n) ≡ hex_text 16 (suc n)
+some_parent n = ap (λ none. cond none [] (hex_text 16 (suc n))) (ne_eqb (suc n) 0 (λ e. omega arith))
+
+parent_back : (n : ℕ) → n < 2 ^ 64 → parent_number (parent_text n) ≡ Some n
+parent_back zero small = refl
+parent_back (suc n) small = ap parent_number (some_parent n) ∙ hex_parent (suc n) (omega arith)
+
+-- a kind
+kind_back : (kind : SpanKind) → numbered_kind (decimal (kind_number kind)) ≡ Ok kind
+unfolding numbered_kind is_integer whole_number
+kind_back kinds.Internal = ap numbered_kind (decimal_digit 1 (omega arith))
+kind_back kinds.Server = ap numbered_kind (decimal_digit 2 (omega arith))
+kind_back kinds.Client = ap numbered_kind (decimal_digit 3 (omega arith))
+kind_back kinds.Producer = ap numbered_kind (decimal_digit 4 (omega arith))
+kind_back kinds.Consumer = ap numbered_kind (decimal_digit 5 (omega arith))
+
+-- a status
+status_back : (status : PlainStatus) → status_in (status_json status) ≡ Ok status
+unfolding status_in numbered_code is_integer whole_number
+status_back unset = ap (λ t. numbered_code t >>= λ code. Ok (status_with code [])) (decimal_digit 0 (omega arith))
+status_back ok = ap (λ t. numbered_code t >>= λ code. Ok (status_with code [])) (decimal_digit 1 (omega arith))
+status_back (error description) =
+    ap (λ t. numbered_code t >>= λ code. Ok (status_with code description)) (decimal_digit 2 (omega arith))
+
+-- an event
+event_back : (event : PlainEvent) → EventFits event → event_in (event_json event) ≡ Ok (shown_event event)
+unfolding event_in
+event_back event h =
+    ap (λ r. r >>= λ timestamp. Ok (record { timestamp = timestamp; name = event.name })) (moment_back event.timestamp h.timestamp)
+
+-- attributes, as they stand in a member
+attributes_back : (attributes : List PlainKeyValue) → AllByRecursion AttributeFits attributes
+    → joined attribute_line (map attribute_json attributes) ≡ Ok (shown.attribute_lines attributes)
+attributes_back attributes h =
+    joined_back attribute_json attribute_line shown.attribute_line AttributeFits attribute_back attributes h
+
+-- and events
+all_events_back : (events : List PlainEvent) → AllByRecursion EventFits events
+    → joined (λ item. only (event_in item)) (map event_json events) ≡ Ok (map shown_event events)
+all_events_back events h =
+    joined_back event_json (λ item. only (event_in item)) (λ e. shown_event e ∷ []) EventFits
+    (λ e k. ap only (event_back e k)) events h
+    ∙ ap Ok (flat_map_single shown_event events)
+
+-- the members of a span that is written
+module _ (span : PlainSpanData) (h : SpanFits span) where
+  trace_id_back : id_of (codes "traceId") 32 faults.TraceIdMissing faults.TraceIdForm (span_json span)
+      ≡ Ok span.span_context.trace_id
+  trace_id_back =
+      ap (needed faults.TraceIdForm) (hex_id 32 span.span_context.trace_id (omega (arith, h.span_context.trace_id)))
+
+  span_id_back : id_of (codes "spanId") 16 faults.SpanIdMissing faults.SpanIdForm (span_json span)
+      ≡ Ok span.span_context.span_id
+  span_id_back =
+      ap (needed faults.SpanIdForm) (hex_id 16 span.span_context.span_id (omega (arith, h.span_context.span_id)))
+
+  parent_id_back : parent_of (codes "parentSpanId") (span_json span) ≡ Ok span.parent_span_id
+  parent_id_back = ap (needed faults.ParentForm) (parent_back span.parent_span_id h.parent_span_id)
+
+  span_kind_back : kind_of (span_json span) ≡ Ok span.span_kind
+  span_kind_back = kind_back span.span_kind
+
+  start_back : moment_of (codes "startTimeUnixNano") (span_json span) ≡ Ok span.start_time
+  start_back = moment_back span.start_time h.start_time
+
+  end_back : moment_of (codes "endTimeUnixNano") (span_json span) ≡ Ok span.end_time
+  end_back = moment_back span.end_time h.end_time
+
+  span_status_back : status_of (span_json span) ≡ Ok span.status
+  span_status_back = status_back span.status
+
+  span_attributes_back : attributes_of (span_json span) ≡ Ok (shown.attribute_lines span.attributes)
+  unfolding attributes_of
+  span_attributes_back =
+      ap (joined attribute_line) (listed-items_of (map attribute_json span.attributes))
+      ∙ attributes_back span.attributes h.attributes
+
+  span_events_back : events_of (span_json span) ≡ Ok (map shown_event span.events.events)
+  unfolding events_of
+  span_events_back =
+      ap (joined (λ item. only (event_in item))) (listed-items_of (map event_json span.events.events))
+      ∙ all_events_back span.events.events h.events
+
+  pub span_back : (service : List ℕ) → span_in service (span_json span) ≡ Ok (shown_span service span)
+  unfolding span_in
+  span_back service =
+      rw (
+        trace_id_back,
+        span_id_back,
+        parent_id_back,
+        span_kind_back,
+        start_back,
+        end_back,
+        span_status_back,
+        span_attributes_back,
+        span_events_back,
+      ) refl

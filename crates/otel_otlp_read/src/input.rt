@@ -1,0 +1,138 @@
+//! Whole inputs: a document a line, or one document over many lines.
+
+ghost use Rattle.std.specs.Prelude.{◌≡◌, IfOk, OnOk};
+ghost use Rattle.otel_otlp_read.specs.Inputs.{begins_with_json, is_json, of_document, read_document, read_input, read_lines};
+ghost use Rattle.otel_otlp_read.specs.Inputs.{text_lines};
+
+use crate::document::read_document;
+use crate::fault::{Fault, ReadError};
+use crate::lines::{first_line, is_blank};
+use json::Scratch;
+use otel_shown::ShownSpan;
+use std::alloc::{AllocError, Global};
+use std::marker::Model;
+
+/// A line that could not be read, by its number from 1, and why.
+#[derive(Clone, Copy, Debug, PartialEq, Eq)]
+pub struct LineFault {
+    pub line: u64,
+    pub fault: Fault,
+}
+
+/// What an input holds: the spans of all its documents that read, in order, and the others by their lines.
+#[derive(Debug, Drop)]
+pub struct ReadText {
+    pub spans: Vec<ShownSpan>,
+    pub faults: Vec<LineFault>,
+}
+
+impl Model for ReadText {
+    ghost use Rattle.otel_otlp_read.specs.Inputs.{PlainReadText};
+
+    ghost Value = { PlainReadText };
+
+    ghost view = { λ read. record { spans = read.spans.items; faults = read.faults.items } };
+}
+
+impl ReadText {
+    ghost use Rattle.otel_otlp_read.specs.Inputs.{and_read, nothing_read};
+
+    /// Nothing.
+    fn new(alloc: Global) -> ReadText
+        ensures { result ≡ nothing_read }
+    {
+        ReadText {
+            spans: Vec::new(alloc),
+            faults: Vec::new(alloc),
+        }
+    }
+
+    /// Appends what is read of a document that begins in a line.
+    fn add(
+        &mut self,
+        alloc: Global,
+        number: u64,
+        text: &[u8],
+        scratch: &mut Scratch,
+    ) -> Result<(), AllocError>
+        ensures { OnOk result (self.new ≡ and_read self.old (of_document number (read_document text.now))) }
+    {
+        match read_document(alloc, text, scratch) {
+            Ok(mut spans) => self.spans.append(&mut spans),
+            Err(ReadError::Fault(fault)) => {
+                self.faults.push(LineFault {
+                    line: number,
+                    fault,
+                })?;
+                Ok(())
+            }
+            Err(ReadError::OutOfMemory) => Err(AllocError),
+        }
+    }
+}
+
+/// Whether a text is JSON, by what is read of it.
+fn is_json(alloc: Global, text: &[u8], scratch: &mut Scratch) -> Result<bool, AllocError>
+    ensures { IfOk result (λ is. is ≡ is_json (read_document text.now)) }
+{
+    match read_document(alloc, text, scratch) {
+        Ok(_) => Ok(true),
+        Err(ReadError::Fault(fault)) => Ok(fault.is_of_json()),
+        Err(ReadError::OutOfMemory) => Err(AllocError),
+    }
+}
+
+/// Whether the first line that is not blank is JSON, if there is one.
+fn begins_with_json(alloc: Global, text: &[u8], scratch: &mut Scratch) -> Result<bool, AllocError>
+    ensures { IfOk result (λ is. is ≡ begins_with_json (text_lines text.now)) }
+{
+    let mut left = Some(text);
+    while let Some(rest) = left {
+        let (line, after) = first_line(rest);
+        if !is_blank(line) {
+            return is_json(alloc, line, scratch);
+        }
+        left = after;
+    }
+    Ok(true)
+}
+
+/// Reads each line that is not blank as a document.
+fn read_lines(alloc: Global, text: &[u8], scratch: &mut Scratch) -> Result<ReadText, AllocError>
+    ensures { IfOk result (λ read. read ≡ read_lines 1 (text_lines text.now)) }
+{
+    let mut read = ReadText::new(alloc);
+    let mut number: u64 = 1;
+    let mut left = Some(text);
+    while let Some(rest) = left {
+        let (line, after) = first_line(rest);
+        if !is_blank(line) {
+            read.add(alloc, number, line, scratch)?;
+        }
+        number += 1;
+        left = after;
+    }
+    Ok(read)
+}
+
+/// Reads a text as one document.
+fn read_whole(alloc: Global, text: &[u8], scratch: &mut Scratch) -> Result<ReadText, AllocError>
+    ensures { IfOk result (λ read. read ≡ of_document 1 (read_document text.now)) }
+{
+    let mut read = ReadText::new(alloc);
+    read.add(alloc, 1, text, scratch)?;
+    Ok(read)
+}
+
+/// Reads an input: each line that is not blank is a document, lines counted from 1. Where the first such line is no
+/// JSON, and the text as a whole is, it is that one document, as a file that is laid out for people. A line that does
+/// not read is named, and the spans of all others are there. Fails only where memory runs out.
+pub fn read_text(alloc: Global, text: &[u8]) -> Result<ReadText, AllocError>
+    ensures { IfOk result (λ read. read ≡ read_input text.now) }
+{
+    let mut scratch = Scratch::new(alloc);
+    if begins_with_json(alloc, text, &mut scratch)? || !is_json(alloc, text, &mut scratch)? {
+        return read_lines(alloc, text, &mut scratch);
+    }
+    read_whole(alloc, text, &mut scratch)
+}

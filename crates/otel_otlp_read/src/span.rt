@@ -1,0 +1,49 @@
+//! A span of a request.
+
+ghost use Rattle.json.specs.Value.{value_view};
+ghost use Rattle.otel_otlp_read.specs.Reading.{Gives};
+ghost use Rattle.otel_otlp_read.specs.SpanParts.{span_in};
+
+use crate::attributes::attributes;
+use crate::event::events;
+use crate::fault::{Fault, ReadError};
+use crate::kind::kind;
+use crate::member::{object, text};
+use crate::number::{moment, parent_span_id, span_id, trace_id};
+use crate::status::status;
+use json::Value;
+use otel_shown::ShownSpan;
+use std::alloc::Global;
+
+/// A span, as it is shown, of a service.
+#[tactic(auto, unfolding(crate::specs::SpanParts::span_in))]
+pub(crate) fn span(alloc: Global, service: &str, span: &Value) -> Result<ShownSpan, ReadError>
+    ensures { Gives (λ span. span) result (span_in service.now (value_view span.now)) }
+{
+    object(span, Fault::SpanType)?;
+    let trace_id = trace_id(span)?;
+    let span_id = span_id(span)?;
+    let parent_span_id = parent_span_id(span)?;
+    let name = text(span, "name", Fault::NameType)?;
+    let kind = kind(span)?;
+    let start_time = moment(span, "startTimeUnixNano")?;
+    let end_time = moment(span, "endTimeUnixNano")?;
+    let status = status(alloc, span)?;
+    let attributes = attributes(alloc, span)?;
+    let events = events(alloc, span)?;
+    let name = String::from_str(alloc, name)?;
+    let service = String::from_str(alloc, service)?;
+    Ok(ShownSpan {
+        trace_id,
+        span_id,
+        parent_span_id,
+        name,
+        service,
+        kind,
+        start_time,
+        end_time,
+        status,
+        attributes,
+        events,
+    })
+}
