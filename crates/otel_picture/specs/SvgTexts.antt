@@ -1,5 +1,5 @@
 -- What the SVG form writes: a file, and of each trace a head, an axis and a line a span.
-use Rattle.std.specs.Prelude.{ℕ, ◌+◌, ◌-◌, ◌*◌, ◌/◌, ◌%◌, ◌^◌, List, [], ◌∷◌, ◌++◌}
+use Rattle.std.specs.Prelude.{ℕ, ◌+◌, ◌-◌, ◌*◌, ◌/◌, ◌%◌, ◌^◌, ◌==◌, List, [], ◌∷◌, ◌++◌}
 use Rattle.std.specs.Prelude.{codes, decimal, if◌then◌else◌, length, max, min, sum}
 use Rattle.std.specs.List.{flat_map}
 use Rattle.std.specs.Str.{chars}
@@ -82,7 +82,8 @@ fault_text (error description) = codes "\n! " ++ description
 
 -- whose span it is, and of what kind
 abbrev pub whose_text : PlainShownSpan → List ℕ
-whose_text span = span.name ++ (kind_text span.kind ++ (codes "\n@" ++ span.service))
+whose_text span =
+    span.name ++ (kind_text span.kind ++ (if length span.service == 0 then [] else codes "\n@" ++ span.service))
 
 -- the title of a bar: name, service, kind, moments in nanoseconds since 1970, what went wrong, and attributes
 abbrev pub title_of : PlainShownSpan → List ℕ

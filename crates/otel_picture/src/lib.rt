@@ -1,11 +1,15 @@
 // SPDX-License-Identifier: Apache-2.0
-//! Pictures of traces from exported spans: a block a trace, in the order in which traces were first exported, and in it
-//! a row a span, children after their parent by start, then by order of export.
+//! Pictures of traces, from spans of any producer: a block a trace, in the order in which traces first come, and in it a
+//! row a span, children after their parent by start, then by order of export. `specs/RowTexts.antt` says what the text
+//! form writes, `specs/SvgTexts.antt` what the SVG form does.
 //!
-//! A row of the text form has a third of the columns for the name, two blanks a level in front of it, at most all but
-//! four of the room; a blank; a third for the bar, on the trace's scale; and after it, not cut, offset and length, and
-//! `!` with the description of an error. `~` stands before a name whose parent is not in the picture. Of a circle of
-//! parents the first span stands as a root.
+//! A row of the text form is as wide as the columns that it is given, 20 to 400. Of these, numbers take 18 from 48
+//! columns on, the offset and the length of a span, and from 96 on 9 more, the time in which none of its children ran;
+//! of the others the name takes two fifths and the bar the rest. Two blanks a level stand in front of a name. `~` stands
+//! before one whose parent is not in the picture, `@` and the service after it where a trace has several, and the kind
+//! where it is not internal. A name is cut by the columns that it takes, with an ellipsis. `·` in a bar is an event, `!`
+//! before it says that the span failed, and what went wrong stands on a line of its own. Of a circle of parents the first
+//! span stands as a root.
 #![tactic(auto)]
 
 pub mod bar;

@@ -96,6 +96,9 @@ fn push_whose(out: &mut String, span: &ShownSpan) -> Result<(), AllocError>
 {
     out.push_str(span.name.as_str())?;
     out.push_str(kind_text(span.kind))?;
+    if span.service.is_empty() {
+        return Ok(());
+    }
     out.push_str("\n@")?;
     out.push_str(span.service.as_str())
 }

@@ -2,6 +2,7 @@ pub mod Arguments
 pub mod GivenAttributes
 pub mod OtlpRuns
 pub mod Pages
+pub mod Paintings
 pub mod PictureRuns
 pub mod Pieces
 pub mod Program

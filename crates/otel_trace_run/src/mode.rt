@@ -21,7 +21,7 @@ ghost use Rattle.otel_trace_run.specs.Program.{says_reasons};
 
 use crate::given_attributes::unread_member;
 use crate::picture::PictureForm;
-use otel_picture::write_text::COLUMNS;
+use otel_picture::layout::COLUMNS;
 use otel_trace_lines::fields::parse_decimal;
 use otel_trace_steps::Sizes;
 

@@ -1,9 +1,11 @@
 //! The modes `picture` and `svg`: at the end of the input all spans that a session exported over it are drawn, and no
 //! reply is written. So these modes hold the input and its spans, and their memory grows with both.
 
-ghost use Rattle.std.specs.Prelude.{◌≡◌, ◌++◌, IfOk, IfSome, OnOk, List, ℕ, map};
+ghost use Rattle.std.specs.Prelude.{◌≡◌, ◌++◌, [], IfOk, IfSome, OnOk, List, ℕ, map};
 ghost use Rattle.otel_export.specs.PlainSpanData.{PlainSpanData, spans_in};
+ghost use Rattle.otel_shown.specs.Shown.{shown_span};
 ghost use Rattle.otel_trace_lines.specs.Commands.{plain_commands};
+ghost use Rattle.otel_trace_run.specs.Paintings.{Draws};
 ghost use Rattle.otel_trace_run.specs.PictureRuns.{DrawsLines, DrawsUnder};
 ghost use Rattle.otel_trace_run.specs.PictureRuns.{ReadsScript, RunsOut, RunsShutdown, says_shut};
 ghost use Rattle.otel_trace_run.specs.Streams.{WhyBad, streams};
@@ -19,6 +21,7 @@ use otel_picture::svg::write_svg;
 use otel_picture::write_text::write_text;
 use otel_pipeline::trace::{KeepsBatches, ProviderOf};
 use otel_sampling::trace::{GivesIds, ShouldSample};
+use otel_shown::ShownSpan;
 use otel_trace_lines::{Answer, Command, Dialect, Reply, ReplyLines, Script, parse};
 use otel_trace_session::Session;
 use std::alloc::{AllocError, Global};
@@ -28,16 +31,16 @@ use std::io::{Read, Write};
 /// What draws spans.
 pub trait SpanPainter {
     /// What is said of spans, in order of export, and of the text that is drawn of them.
-    ghost paints: { Self → List PlainSpanData → List ℕ → Type 0 } = { λ _ _ _. Unit {0} };
+    ghost paints: { Self → List PlainSpanData → List ℕ → Type 0 };
 
     /// Appends a picture of spans, which stand in order of export.
     fn paint(
         &self,
         alloc: Global,
         output: &mut Vec<u8>,
-        spans: &[SpanData],
+        spans: Vec<SpanData>,
     ) -> Result<(), AllocError>
-        ensures { OnOk result ((picture : List ℕ) × paints self.now spans.now picture
+        ensures { OnOk result ((picture : List ℕ) × paints self.now spans.items picture
             × (output.new.items ≡ output.old.items ++ picture)) };
 }
 
@@ -50,18 +53,49 @@ pub enum PictureForm {
     Svg,
 }
 
+impl PictureForm {
+    /// Appends a picture of shown spans.
+    pub(crate) fn draw(
+        self,
+        alloc: Global,
+        output: &mut Vec<u8>,
+        spans: &[ShownSpan],
+    ) -> Result<(), AllocError>
+        ensures { OnOk result ((picture : List ℕ) × Draws self spans.now picture
+            × (output.new.items ≡ output.old.items ++ picture)) }
+    {
+        match self {
+            PictureForm::Text { columns } => write_text(alloc, output, spans, columns),
+            PictureForm::Svg => write_svg(alloc, output, spans),
+        }
+    }
+}
+
 impl SpanPainter for PictureForm {
+    ghost use Rattle.otel_trace_run.specs.Paintings.{Paints};
+
+    ghost paints = { Paints };
+
     fn paint(
         &self,
         alloc: Global,
         output: &mut Vec<u8>,
-        spans: &[SpanData],
+        spans: Vec<SpanData>,
     ) -> Result<(), AllocError> {
-        match self {
-            PictureForm::Text { columns } => write_text(alloc, output, spans, *columns),
-            PictureForm::Svg => write_svg(alloc, output, spans),
-        }
+        let shown = shown_spans(alloc, spans)?;
+        self.draw(alloc, output, &shown)
     }
+}
+
+/// Exported spans as they are shown: nobody says whose they are.
+fn shown_spans(alloc: Global, spans: Vec<SpanData>) -> Result<Vec<ShownSpan>, AllocError>
+    ensures { IfOk result (λ shown. shown.items ≡ map (shown_span []) spans.items) }
+{
+    let mut shown = Vec::with_capacity(alloc, spans.len())?;
+    for span in spans {
+        shown.push(ShownSpan::of(alloc, String::new(alloc), span)?)?;
+    }
+    Ok(shown)
 }
 
 /// What was drawn of an input, and its first bad line, from 1 and with empty lines counted.
@@ -136,7 +170,7 @@ fn draw_lines<P: KeepsBatches, S: ShouldSample, G: GivesIds, D: SpanPainter, R: 
 {
     let (script, reason) = read_script(alloc, input).ok()?;
     let spans = exported_by(alloc, session, script.commands)?;
-    let picture = paint_picture(alloc, painter, &spans).ok()?;
+    let picture = paint_picture(alloc, painter, spans).ok()?;
     Some(Drawn {
         picture,
         bad_line: script.bad_line,
@@ -247,9 +281,9 @@ fn push_batches(spans: &mut Vec<SpanData>, batches: Vec<Vec<SpanData>>) -> Resul
 fn paint_picture<D: SpanPainter>(
     alloc: Global,
     painter: &D,
-    spans: &[SpanData],
+    spans: Vec<SpanData>,
 ) -> Result<Vec<u8>, AllocError>
-    ensures { IfOk result (λ picture. D.paints painter.now spans.now picture.items) }
+    ensures { IfOk result (λ picture. D.paints painter.now spans.items picture.items) }
 {
     let mut picture = Vec::new(alloc);
     painter.paint(alloc, &mut picture, spans)?;
