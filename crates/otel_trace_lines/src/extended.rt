@@ -1,7 +1,7 @@
 //! The fields of the commands that only the extended grammar has.
 
 ghost use Rattle.std.specs.Prelude.{IfOk, IsOk, codes};
-ghost use Rattle.otel_trace_lines.specs.Lines.{AreFields, FieldsGive};
+ghost use Rattle.otel_trace_lines.specs.Found.{AreFields, FieldsGive};
 
 use crate::command::Command;
 use crate::fields::{

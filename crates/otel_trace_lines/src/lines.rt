@@ -4,18 +4,16 @@ ghost use Rattle.std.specs.Prelude.{◌≡◌, ℕ, ◌<◌, List, [], ◌∷◌
 ghost use Rattle.std.specs.Str.Lines.{lines as lines_of, strip_carriage_return};
 ghost use Rattle.otel_trace_lines.specs.Commands.{PlainCommand, plain_commands};
 ghost use Rattle.otel_trace_lines.specs.Dialects.{HasFixedFields};
-ghost use Rattle.otel_trace_lines.specs.Lines.{
+ghost use Rattle.otel_trace_lines.specs.Found.{
   AreFields,
   AreFieldsIn,
   FieldsGive,
   FieldsGiveIn,
   IsCommand,
   LineGives,
-  SpellsNothing,
-  TextSpells,
   WordGives,
-  field,
 };
+ghost use Rattle.otel_trace_lines.specs.Lines.{SpellsNothing, TextSpells, field};
 
 use crate::command::Command;
 use crate::dialect::Dialect;
