@@ -10,7 +10,7 @@ use Rattle.opentelemetry.specs.declared.trace.span_kind.SpanKind.{SpanKind}
 use Rattle.opentelemetry.specs.declared.trace.span_kind.SpanKind.TheVariants as kinds
 use Rattle.opentelemetry.specs.Plain.{PlainStatus, unset, error, ok}
 use Rattle.otel_trace_lines.specs.Commands.{PlainCommand, start, child, remote, attr, event, status, inject, end, flush}
-use Rattle.otel_trace_lines.specs.Commands.{run, shutdown, set_int, set_bool, link, exception, event_with, has_more}
+use Rattle.otel_trace_lines.specs.Commands.{run, shutdown, set_int, set_bool, link, exception, event_with, forget, has_more}
 use Rattle.otel_trace_lines.specs.Dialects.{HasWord, MayHave, without_comments}
 use Rattle.otel_trace_lines.specs.declared.dialect.Dialect.{Dialect}
 
@@ -112,6 +112,7 @@ form_of (exception span kind moment message) =
     field (codes "exception") (field span (field kind (instant moment (rest_of_line message))))
 form_of (event_with span name moment key value) =
     field (codes "event") (field span (field name (instant moment (field key (rest_of_line value)))))
+form_of (forget span) = field (codes "forget") (last_field span)
 
 -- the field in front of a form, if there is one
 abbrev pub word_of : LineForm → List ℕ

@@ -80,3 +80,16 @@ pub(crate) fn exception_of(alloc: Global, fields: &str) -> Result<Option<Command
         message: String::from_str(alloc, message)?,
     }))
 }
+
+/// The field of `forget SPAN`.
+pub(crate) fn forget_of(alloc: Global, field: &str) -> Result<Option<Command>, AllocError>
+    ensures found { IfOk result (FieldsGive (codes "forget") field.now) }
+    ensures free { ¬ AreFields (codes "forget") field.now → IsOk result }
+{
+    if !is_field(field) {
+        return Ok(None);
+    }
+    Ok(Some(Command::Forget {
+        span: String::from_str(alloc, field)?,
+    }))
+}
