@@ -270,7 +270,8 @@ impl Sheet<'_> {
         out.push_str("<g>")?;
         push_title(out, title.as_str())?;
         self.push_svg_shapes(alloc, out, line, row)?;
-        out.push_str("</g>\n")
+        out.push_str("</g>\n")?;
+        Ok(())
     }
 
     /// The lines of all spans, from this one on.

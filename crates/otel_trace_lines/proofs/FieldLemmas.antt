@@ -4,7 +4,8 @@ use Rattle.std.proofs.lemmas.List.Elements.{All-tail, All-from_recursion}
 use Rattle.otel_trace_lines.specs.Commands.{PlainCommand, plain_command, start, child, remote, attr, event, status, inject, end, flush, run, shutdown, set_int, set_bool, link, exception, event_with, has_more}
 use Rattle.opentelemetry.specs.Plain.{PlainStatus, unset, error, ok}
 use Rattle.otel_trace_lines.specs.declared.command.Command.{Command}
-use Rattle.otel_trace_lines.specs.Lines.{IsDecimal64, IsField, IsStatus, LineForm, sort, start_form, field, last_field, time, outcome, rest_of_line, whole, truth, instant, IsInteger64, IsTruth, IsOfForm, form_of, word_of, LineGives, HasFields, AreFields, AreFieldsIn, IsCommand, FieldsGive, FieldsGiveIn, WordGives}
+use Rattle.otel_trace_lines.specs.Lines.{IsDecimal64, IsField, IsStatus, LineForm, start_form, field, last_field, time, outcome, rest_of_line, whole, truth, instant, IsOfForm, form_of, word_of}
+use Rattle.otel_trace_lines.specs.Found.{LineGives, HasFields, AreFields, AreFieldsIn, IsCommand, FieldsGive, FieldsGiveIn, WordGives}
 use Rattle.opentelemetry.specs.declared.trace.span_kind.SpanKind.{SpanKind}
 use Rattle.std.specs.Option.{is_some}
 use Rattle.std.proofs.lemmas.Str.Parse.{digit_at}

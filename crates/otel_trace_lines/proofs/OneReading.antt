@@ -3,7 +3,7 @@ use Rattle.std.proofs.Common.{◌≡◌, ◌≢◌, ℕ, ℤ, Bool, true, false,
 use Rattle.std.specs.Str.Lines.{lines}
 use Rattle.std.specs.Str.Parse.{digits_value}
 use Rattle.opentelemetry.specs.Plain.{PlainStatus, unset, error, ok}
-use Rattle.otel_trace_lines.specs.Commands.{PlainCommand, start, child, remote, attr, event, status, inject, end, flush, run, shutdown, set_int, set_bool, link, exception, event_with}
+use Rattle.otel_trace_lines.specs.Commands.{PlainCommand, start, child, remote, attr, event, status, inject, end, flush, run, shutdown, set_int, set_bool, link, exception, event_with, forget}
 use Rattle.otel_trace_lines.specs.Lines.{IsDecimal64, IsStatus, LineForm, field, last_field, time, outcome, rest_of_line, whole, truth, instant, sort, start_form, kind_word, IsInteger64, IsTruth, IsOfForm, form_of, Reads, IsBad, Spell, TextSpells}
 use Rattle.otel_trace_lines.specs.Dialects.{without_comments}
 use Rattle.otel_trace_lines.specs.declared.dialect.Dialect.{Dialect}
@@ -130,6 +130,8 @@ same_command (exception s k m t) (exception s' k' m' t') h = cc
 same_command (exception s k m t) _ h = search rules
 same_command (event_with s n m k v) (event_with s' n' m' k' v') h = cc
 same_command (event_with s n m k v) _ h = search rules
+same_command (forget s) (forget s') h = cc
+same_command (forget s) _ h = search rules
 
 -- a line reads as one command at most
 pub one_command : (dialect : Dialect) (line : List ℕ) (command other : PlainCommand) → Reads dialect line command → Reads dialect line other → other ≡ command

@@ -1,11 +1,11 @@
 -- Reading line by line: what the lines so far spell, and one line more.
-use Rattle.std.proofs.Common.{◌≡◌, ◌≢◌, ℕ, ◌+◌, List, [], ◌∷◌, ◌++◌, length, map, Option, None, Some, refl, sym, ap, subst, ◌∙◌, arith}
+use Rattle.std.proofs.Common.{◌≡◌, ◌≢◌, ℕ, ◌+◌, List, [], ◌∷◌, ◌++◌, length, Option, None, Some, refl, sym, ap, subst, ◌∙◌, arith}
 use Rattle.std.proofs.lemmas.List.{append_assoc, append-nil, length_push, length-map, map-append}
 use Rattle.std.specs.Str.Lines.{lines}
 use Rattle.otel_trace_lines.specs.Commands.{PlainCommand}
 use Rattle.otel_trace_lines.specs.Dialects.{without_comment, without_comments}
 use Rattle.otel_trace_lines.specs.declared.dialect.Dialect.{Dialect}
-use Rattle.otel_trace_lines.specs.Lines.{Reads, Spell, SpellsNothing, StopsAt, TextSpells}
+use Rattle.otel_trace_lines.specs.Lines.{Reads, Spell, SpellsNothing, TextSpells}
 use Rattle.otel_trace_lines.proofs.OneReading.{none_filled, none_read}
 
 -- an empty line more spells nothing more

@@ -6,7 +6,8 @@ use Rattle.otel_trace_lines.specs.declared.reply.Answer.{Answer}
 use Rattle.otel_trace_lines.specs.declared.reply.Answer.TheVariants as answers
 use Rattle.otel_export.specs.ErrorText.{error_text}
 use Rattle.otel_trace_lines.specs.ReplyText.{line, span_lines, started_line, dropped_line, ok_line, headers_lines}
-use Rattle.otel_trace_lines.specs.ReplyText.{no_headers_line, ignored_line, no_such_span_line, span_exists_line, ended_line}
+use Rattle.otel_trace_lines.specs.ReplyText.{no_headers_line, ignored_line, no_such_span_line, span_exists_line}
+use Rattle.otel_trace_lines.specs.ReplyText.{still_open_line, ended_line}
 
 -- the line of an answer; headers have one each
 abbrev pub answer_line : Answer → List ℕ
@@ -18,6 +19,7 @@ answer_line answers.NoHeaders = no_headers_line
 answer_line answers.Ignored = ignored_line
 answer_line answers.NoSuchSpan = no_such_span_line
 answer_line answers.SpanExists = span_exists_line
+answer_line answers.StillOpen = still_open_line
 answer_line (answers.Ended refused) = ended_line
 answer_line (answers.Failed error) = line (error_text error)
 

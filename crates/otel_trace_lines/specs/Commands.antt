@@ -38,6 +38,8 @@ pub data PlainCommand : Type 0 where
   exception : List ℕ → List ℕ → ℕ → List ℕ → PlainCommand
   -- an event, and after its moment the key and the value of its attribute
   event_with : List ℕ → List ℕ → ℕ → List ℕ → List ℕ → PlainCommand
+  -- the span's text
+  forget : List ℕ → PlainCommand
 
 -- what a command asks for
 abbrev pub plain_command : Command → PlainCommand
@@ -61,6 +63,7 @@ plain_command (commands.Exception span kind moment message) =
     exception (string_bytes span) (string_bytes kind) moment.0 (string_bytes message)
 plain_command (commands.EventWithAttribute span name moment key value) =
     event_with (string_bytes span) (string_bytes name) moment.0 (string_bytes key) (string_bytes value)
+plain_command (commands.Forget span) = forget (string_bytes span)
 
 -- whether a command has what only the extended grammar writes after a moment
 abbrev pub has_more : PlainCommand → Bool

@@ -1,19 +1,16 @@
 -- Which commands a text spells, line by line. Lines are those of the text, in std's word: each ends in a line feed and
 -- loses the one carriage return in front of it, and a rest after the last line feed, if not empty, is a line as it is.
 use Rattle.std.specs.Prelude.{◌≡◌, ◌≢◌, ℕ, ℤ, Bool, true, false, ◌+◌, ◌^◌, ◌<◌, List, [], ◌∷◌, ◌++◌, length, Option}
-use Rattle.std.specs.Prelude.{Some, None, All, codes, IsUtf8, slice_index, FitsSigned, is_some}
+use Rattle.std.specs.Prelude.{Some, None, All, codes, IsUtf8, slice_index, FitsSigned}
 use Rattle.std.specs.Option.{option_map}
 use Rattle.std.specs.Str.Lines.{lines}
 use Rattle.std.specs.Str.Parse.{IsNumeral, digits_value, signed_digits_value, without_leading_sign}
 use Rattle.std.specs.Int.{w64}
 use Rattle.opentelemetry.specs.declared.trace.span_kind.SpanKind.{SpanKind}
 use Rattle.opentelemetry.specs.declared.trace.span_kind.SpanKind.TheVariants as kinds
-use Rattle.opentelemetry.specs.declared.trace.status.Status.{Status}
 use Rattle.opentelemetry.specs.Plain.{PlainStatus, unset, error, ok}
-use Rattle.opentelemetry.specs.PlainValues.{plain_status}
-use Rattle.otel_trace_lines.specs.declared.command.Command.{Command}
-use Rattle.otel_trace_lines.specs.Commands.{PlainCommand, start, child, remote, attr, event, status, inject, end, flush, run, shutdown}
-use Rattle.otel_trace_lines.specs.Commands.{set_int, set_bool, link, exception, event_with, has_more, plain_command}
+use Rattle.otel_trace_lines.specs.Commands.{PlainCommand, start, child, remote, attr, event, status, inject, end, flush}
+use Rattle.otel_trace_lines.specs.Commands.{run, shutdown, set_int, set_bool, link, exception, event_with, forget, has_more}
 use Rattle.otel_trace_lines.specs.Dialects.{HasWord, MayHave, without_comments}
 use Rattle.otel_trace_lines.specs.declared.dialect.Dialect.{Dialect}
 
@@ -115,6 +112,7 @@ form_of (exception span kind moment message) =
     field (codes "exception") (field span (field kind (instant moment (rest_of_line message))))
 form_of (event_with span name moment key value) =
     field (codes "event") (field span (field name (instant moment (field key (rest_of_line value)))))
+form_of (forget span) = field (codes "forget") (last_field span)
 
 -- the field in front of a form, if there is one
 abbrev pub word_of : LineForm → List ℕ
@@ -162,66 +160,3 @@ module _ (dialect : Dialect) where
   -- a text that spells no command: its lines up to the first bad one are empty
   abbrev pub SpellsNothing : List ℕ → Type 0
   SpellsNothing text = (bad_line : Option ℕ) × TextSpells text [] bad_line
-
-  -- a line that reads as a command
-  abbrev pub IsCommand : List ℕ → Type 0
-  IsCommand line = (command : PlainCommand) × Reads line command
-
-  -- what is found in a line: a command as which it reads, and none only where it reads as none
-  abbrev pub LineGives : List ℕ → Option Command → Type 0
-  LineGives line None = (command : PlainCommand) → Reads line command → ⊥
-  LineGives line (Some command) = Reads line (plain_command command)
-
--- a form that begins with a word, and these fields are of the form after its space
-abbrev pub HasFields : List ℕ → List ℕ → LineForm → Type 0
-HasFields word fields (field front after) = (front ≡ word) × IsOfForm fields after
-HasFields word fields _ = ⊥
-
--- after this word's space these fields are a command's
-abbrev pub AreFields : List ℕ → List ℕ → Type 0
-AreFields word fields = (command : PlainCommand) × HasFields word fields (form_of command)
-
--- the same of a command that the dialect has
-abbrev pub AreFieldsIn : Dialect → List ℕ → List ℕ → Type 0
-AreFieldsIn dialect word fields =
-    (command : PlainCommand) × HasFields word fields (form_of command) × MayHave dialect (has_more command)
-
--- a text that spells a status
-abbrev pub SpellsStatus : List ℕ → Type 0
-SpellsStatus text = (how : PlainStatus) × IsStatus text how
-
--- what is found after a word: a command of that word whose fields stand there, and none only where there is none
-abbrev pub FieldsGive : List ℕ → List ℕ → Option Command → Type 0
-FieldsGive word fields None = (command : PlainCommand) → HasFields word fields (form_of command) → ⊥
-FieldsGive word fields (Some command) = HasFields word fields (form_of (plain_command command))
-
--- the same of commands that the dialect has
-abbrev pub FieldsGiveIn : Dialect → List ℕ → List ℕ → Option Command → Type 0
-FieldsGiveIn dialect word fields None = (command : PlainCommand) → HasFields word fields (form_of command)
-    → MayHave dialect (has_more command) → ⊥
-FieldsGiveIn dialect word fields (Some command) =
-    HasFields word fields (form_of (plain_command command)) × MayHave dialect (has_more (plain_command command))
-
--- what is found where a word is all of a line: a command of that word alone, and none only where there is none
-abbrev pub WordGives : List ℕ → Option Command → Type 0
-WordGives word None = (command : PlainCommand) → form_of command ≡ last_field word → ⊥
-WordGives word (Some command) = form_of (plain_command command) ≡ last_field word
-
--- what is found where a status is to stand: the status, and none only where there is none
-abbrev pub StatusGives : List ℕ → Option Status → Type 0
-StatusGives text None = (how : PlainStatus) → IsStatus text how → ⊥
-StatusGives text (Some how) = IsStatus text (plain_status how)
-
--- what is found where an integer is to stand, and where a truth value is
-abbrev pub IntegerGives : List ℕ → Option ℤ → Type 0
-IntegerGives text None = (number : ℤ) → IsInteger64 text number → ⊥
-IntegerGives text (Some number) = IsInteger64 text number
-
-abbrev pub TruthGives : List ℕ → Option Bool → Type 0
-TruthGives text None = (value : Bool) → IsTruth text value → ⊥
-TruthGives text (Some value) = IsTruth text value
-
--- what is found where a kind is to stand
-abbrev pub KindGives : List ℕ → Option SpanKind → Type 0
-KindGives text None = (kind : SpanKind) → text ≡ kind_word kind → ⊥
-KindGives text (Some kind) = text ≡ kind_word kind

@@ -104,6 +104,10 @@ no_such_span_line = line (codes "no such span")
 abbrev pub span_exists_line : List ℕ
 span_exists_line = line (codes "span exists")
 
+-- what answers that the name of a recording span be given up
+abbrev pub still_open_line : List ℕ
+still_open_line = line (codes "still open")
+
 -- what answers an end of a recording span
 abbrev pub ended_line : List ℕ
 ended_line = line (codes "ended")

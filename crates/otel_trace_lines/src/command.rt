@@ -100,6 +100,10 @@ pub enum Command {
         key: String,
         value: String,
     },
+    /// Give up the name of a span that is over.
+    Forget {
+        span: String,
+    },
 }
 
 impl Command {

@@ -8,8 +8,8 @@ ghost use Rattle.otel_trace_lines.specs.Dialects.{HasWord, IsOfExtended, without
 #[derive(Clone, Copy, Debug, PartialEq, Eq)]
 pub enum Dialect {
     Plain,
-    /// With comments, lines that begin with `#`, and with the commands `int`, `bool`, `link` and `exception`. A start
-    /// may end in the kind of its span, and an event in an attribute.
+    /// With comments, lines that begin with `#`, and with the commands `int`, `bool`, `link`, `exception` and `forget`.
+    /// A start may end in the kind of its span, and an event in an attribute.
     Extended,
 }
 
@@ -42,5 +42,5 @@ impl Dialect {
 fn is_of_extended(word: &str) -> bool
     ensures { IsTrue result ↔ IsOfExtended word.now }
 {
-    matches!(word, "int" | "bool" | "link" | "exception")
+    matches!(word, "int" | "bool" | "link" | "exception" | "forget")
 }

@@ -1,7 +1,7 @@
 //! The fields of the commands that only the extended grammar has.
 
 ghost use Rattle.std.specs.Prelude.{IfOk, IsOk, codes};
-ghost use Rattle.otel_trace_lines.specs.Lines.{AreFields, FieldsGive};
+ghost use Rattle.otel_trace_lines.specs.Found.{AreFields, FieldsGive};
 
 use crate::command::Command;
 use crate::fields::{
@@ -78,5 +78,18 @@ pub(crate) fn exception_of(alloc: Global, fields: &str) -> Result<Option<Command
         exception_type: String::from_str(alloc, exception_type)?,
         moment,
         message: String::from_str(alloc, message)?,
+    }))
+}
+
+/// The field of `forget SPAN`.
+pub(crate) fn forget_of(alloc: Global, field: &str) -> Result<Option<Command>, AllocError>
+    ensures found { IfOk result (FieldsGive (codes "forget") field.now) }
+    ensures free { ¬ AreFields (codes "forget") field.now → IsOk result }
+{
+    if !is_field(field) {
+        return Ok(None);
+    }
+    Ok(Some(Command::Forget {
+        span: String::from_str(alloc, field)?,
     }))
 }

@@ -3,15 +3,11 @@
 ghost use Rattle.std.specs.Prelude.{◌≡◌, ◌≢◌, ℕ, ◌<◌, All, List, slice_index, take, [], ◌∷◌, ◌++◌, length, Option, None, Some, IfOk, IsOk, IsTrue, ◌↔◌, MatchOption, codes, position, ◌==◌, is_some, true};
 ghost use Rattle.std.specs.Str.Lines.{lines as lines_of, strip_carriage_return};
 ghost use Rattle.otel_trace_lines.specs.Dialects.{MayHave};
+ghost use Rattle.otel_trace_lines.specs.Found.{IntegerGives, KindGives, SpellsStatus, StatusGives, TruthGives};
 ghost use Rattle.otel_trace_lines.specs.Lines.{
   IsField,
   IsDecimal64,
-  IntegerGives,
   IsOfForm,
-  KindGives,
-  SpellsStatus,
-  StatusGives,
-  TruthGives,
   field,
   instant,
   rest_of_line,

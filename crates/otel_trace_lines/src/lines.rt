@@ -4,22 +4,20 @@ ghost use Rattle.std.specs.Prelude.{◌≡◌, ℕ, ◌<◌, List, [], ◌∷◌
 ghost use Rattle.std.specs.Str.Lines.{lines as lines_of, strip_carriage_return};
 ghost use Rattle.otel_trace_lines.specs.Commands.{PlainCommand, plain_commands};
 ghost use Rattle.otel_trace_lines.specs.Dialects.{HasFixedFields};
-ghost use Rattle.otel_trace_lines.specs.Lines.{
+ghost use Rattle.otel_trace_lines.specs.Found.{
   AreFields,
   AreFieldsIn,
   FieldsGive,
   FieldsGiveIn,
   IsCommand,
   LineGives,
-  SpellsNothing,
-  TextSpells,
   WordGives,
-  field,
 };
+ghost use Rattle.otel_trace_lines.specs.Lines.{SpellsNothing, TextSpells, field};
 
 use crate::command::Command;
 use crate::dialect::Dialect;
-use crate::extended::{bool_of, exception_of, int_of, link_of};
+use crate::extended::{bool_of, exception_of, forget_of, int_of, link_of};
 use crate::fields::{
     field_and_moment, first_field, first_line, is_field, moment_and_attribute, moment_and_kind,
     moment_of, read_status, three_fields_and_rest, two_fields_and_rest,
@@ -139,6 +137,7 @@ fn other_with_fields(alloc: Global, word: &str, fields: &str) -> Result<Option<C
         "bool" => bool_of(alloc, fields),
         "link" => link_of(alloc, fields),
         "exception" => exception_of(alloc, fields),
+        "forget" => forget_of(alloc, fields),
         _ => Ok(None),
     }
 }

@@ -34,10 +34,12 @@ pub enum Answer {
     NoHeaders,
     /// The span is not recording, so nothing was done.
     Ignored,
-    /// No start made the name.
+    /// No span has the name: no start made it, or it was given up.
     NoSuchSpan,
     /// The name is taken.
     SpanExists,
+    /// The span is recording, so its name was not given up.
+    StillOpen,
     /// The span has ended, and so many processors refused it when memory runs out.
     Ended(usize),
     /// The flush or the shutdown of the provider failed.

@@ -279,6 +279,7 @@ fn push_answer(text: &mut String, answer: Answer) -> Result<(), AllocError>
         Answer::Ignored => text.push_str("ignored\n"),
         Answer::NoSuchSpan => text.push_str("no such span\n"),
         Answer::SpanExists => text.push_str("span exists\n"),
+        Answer::StillOpen => text.push_str("still open\n"),
         Answer::Ended(_) => text.push_str("ended\n"),
         Answer::Failed(error) => writeln!(text, "{error}"),
     }

@@ -28,6 +28,7 @@ reason_text reasons.Int = codes "int wants a span, a key and an integer of 64 bi
 reason_text reasons.Bool = codes "bool wants a span, a key, and true or false"
 reason_text reasons.Link = codes "link wants a span, and the span that it points to"
 reason_text reasons.Exception = codes "exception wants a span, a type, a moment and a text"
+reason_text reasons.Forget = codes "forget wants a span"
 reason_text reasons.Number = codes "a moment is digits alone, at most 18446744073709551615"
 reason_text reasons.FieldTooMany = codes "a field too many"
 reason_text reasons.SpaceTooMany = codes "a space too many"
@@ -70,10 +71,12 @@ ExplainsWord word reasons.Int = word ≡ codes "int"
 ExplainsWord word reasons.Bool = word ≡ codes "bool"
 ExplainsWord word reasons.Link = word ≡ codes "link"
 ExplainsWord word reasons.Exception = word ≡ codes "exception"
+ExplainsWord word reasons.Forget = word ≡ codes "forget"
 ExplainsWord word reasons.NoCommand = (word ≢ codes "start") × (word ≢ codes "child") × (word ≢ codes "remote")
     × (word ≢ codes "attr") × (word ≢ codes "event") × (word ≢ codes "status") × (word ≢ codes "inject")
     × (word ≢ codes "end") × (word ≢ codes "run") × (word ≢ codes "flush") × (word ≢ codes "shutdown")
     × (word ≢ codes "int") × (word ≢ codes "bool") × (word ≢ codes "link") × (word ≢ codes "exception")
+    × (word ≢ codes "forget")
 ExplainsWord word reasons.FieldTooMany = (word ≡ codes "flush") ⊎ (word ≡ codes "shutdown")
 ExplainsWord word _ = ⊥
 

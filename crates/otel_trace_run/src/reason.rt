@@ -26,6 +26,7 @@ pub enum Reason {
     Bool,
     Link,
     Exception,
+    Forget,
     /// Its last field is to be a number.
     Number,
     FieldTooMany,
@@ -56,6 +57,7 @@ pub(crate) fn text_of(reason: Reason) -> &'static str
         Reason::Bool => "bool wants a span, a key, and true or false",
         Reason::Link => "link wants a span, and the span that it points to",
         Reason::Exception => "exception wants a span, a type, a moment and a text",
+        Reason::Forget => "forget wants a span",
         Reason::Number => "a moment is digits alone, at most 18446744073709551615",
         Reason::FieldTooMany => "a field too many",
         Reason::SpaceTooMany => "a space too many",
@@ -119,6 +121,7 @@ fn reason_of_word(word: &str) -> Reason
         "bool" => Reason::Bool,
         "link" => Reason::Link,
         "exception" => Reason::Exception,
+        "forget" => Reason::Forget,
         "flush" | "shutdown" => Reason::FieldTooMany,
         _ => Reason::NoCommand,
     }
@@ -134,7 +137,7 @@ fn reason_after(word: &str, fields: &str) -> Reason
         Reason::End => reason_before_moment(fields, 1, wants),
         Reason::Start | Reason::Event => reason_before_moment_and_more(fields, 2, wants),
         Reason::Child | Reason::Remote => reason_before_moment_and_more(fields, 3, wants),
-        Reason::Inject | Reason::FieldTooMany => reason_of_last(fields, wants),
+        Reason::Inject | Reason::Forget | Reason::FieldTooMany => reason_of_last(fields, wants),
         Reason::Status | Reason::Link => reason_before_text(fields, 1, wants),
         Reason::Attr | Reason::Int | Reason::Bool => reason_before_text(fields, 2, wants),
         Reason::Exception => reason_before_text(fields, 3, wants),

@@ -12,14 +12,15 @@ use Rattle.otel_pipeline.specs.SpanHistory.{SpanHistory, Edit, begun, over, data
 use Rattle.otel_pipeline.proofs.Following.{EachFollows-same, delivered_follows}
 use Rattle.otel_trace_lines.specs.declared.reply.Answer.{Answer}
 use Rattle.otel_trace_lines.specs.declared.reply.Answer.TheVariants as answers
-use Rattle.otel_trace_session.specs.Actions.{PlainAction, PlainCall, at_root, under, from_header, start_span, edit_span, inject_span, end_span, call_provider, link_span}
+use Rattle.otel_trace_session.specs.Actions.{PlainAction, PlainCall, at_root, under, from_header, start_span, edit_span, inject_span, end_span, call_provider, link_span, forget_span}
 use Rattle.otel_trace_session.specs.Calls.{Calls}
 use Rattle.otel_trace_session.specs.Headers.{SaysContext, child_cx}
-use Rattle.otel_trace_session.specs.OpenSpans.{AnswersInject, Describe, Histories, NamedSpans, edited_in, linked_in}
+use Rattle.otel_trace_session.specs.OpenSpans.{AnswersInject, Describe, Histories, NamedSpans, edited_in, forgotten_in, linked_in}
 use Rattle.otel_trace_session.specs.ProviderTurns.{CallGives, Shuts, call_answer}
-use Rattle.otel_trace_session.specs.SpanTurns.{ChildTurn, EditTurn, EndTurn, LinkTurn, Start, StartTurn, StartsAfter, start_in}
+use Rattle.otel_trace_session.specs.SpanTurns.{ChildTurn, EditTurn, EndTurn, ForgetTurn, LinkTurn, Start, StartTurn, StartsAfter, start_in}
 use Rattle.otel_trace_session.specs.Turn.{AsksNobody, Course, TurnsFromAny, Turn}
 use Rattle.otel_trace_session.specs.Turns.{IsCarriedOut, TakesAction}
+use Rattle.otel_trace_session.proofs.ForgetLemmas.{Forgets}
 use Rattle.otel_trace_session.proofs.KeptLemmas.{turn_grows}
 use Rattle.otel_trace_session.proofs.TurnLemmas.{Childs, Edits, EndsNamed, Links}
 
@@ -92,6 +93,14 @@ module _ {P S G : Type 0} (calls : Calls P S G) (law : OnlyAppends calls.process
       let turn : Turn P S G = record { before = record before { provider = p }; answer = answer; delivered = []; after = record before { provider = p; histories = linked_in before.histories span target } } in
       let h : LinkTurn span target turn = record { says = linked.0; delivers = refl; rest = refl } in
       record { delivered = []; histories = linked_in before.histories span target; is = carried (link_span span target) turn (nobody_follows calls _ _ turn h) h; describes = linked.1 }
+
+  -- a name that is given up
+  pub carries_forget : (p : ProviderState P S G) (old new : NamedSpans) (span : List ℕ) (answer : Answer) → Forgets old span answer new → TurnsFromAny (IsCarriedOut calls scope (forget_span span)) p old answer p new
+  carries_forget p old new span answer made = λ before describes.
+      let gone = made before.histories describes in
+      let turn : Turn P S G = record { before = record before { provider = p }; answer = answer; delivered = []; after = record before { provider = p; histories = forgotten_in before.histories span } } in
+      let h : ForgetTurn span turn = record { says = gone.0; delivers = refl; rest = refl } in
+      record { delivered = []; histories = forgotten_in before.histories span; is = carried (forget_span span) turn (nobody_follows calls _ _ turn h) h; describes = gone.1 }
 
   -- the headers of a span
   pub carries_inject : (p : ProviderState P S G) (spans : NamedSpans) (span : List ℕ) (answer : Answer) → ((histories : Histories) → Describe histories spans → AnswersInject (histories span) answer)

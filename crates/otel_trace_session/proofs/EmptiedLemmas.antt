@@ -11,7 +11,7 @@ use Rattle.otel_pipeline.specs.declared.trace.span_processor.SpanProcessor.{Ghos
 use Rattle.otel_trace_lines.specs.Commands.{PlainCommand}
 use Rattle.otel_trace_lines.specs.PlainReply.{PlainReply}
 use Rattle.otel_trace_lines.specs.declared.reply.Answer.TheVariants as answers
-use Rattle.otel_trace_session.specs.Actions.{PlainAction, PlainCall, action_of, call_flush, call_run, call_shutdown, start_span, edit_span, inject_span, end_span, call_provider, link_span}
+use Rattle.otel_trace_session.specs.Actions.{PlainAction, PlainCall, action_of, call_flush, call_run, call_shutdown, start_span, edit_span, inject_span, end_span, call_provider, link_span, forget_span}
 use Rattle.otel_trace_session.specs.Calls.{Calls}
 use Rattle.otel_trace_session.specs.ProviderTurns.{AsksProvider, CallGives, EmptiesIfOk, call_answer}
 use Rattle.otel_trace_session.specs.Shown.{EmptiedAfter}
@@ -71,6 +71,7 @@ module _ {P S G : Type 0} (calls : Calls P S G) where
   one_empties scope (start_span origin span builder moment) turn h is e = absurd (search (rules, is))
   one_empties scope (edit_span span edit) turn h is e = absurd (search (rules, is))
   one_empties scope (link_span span target) turn h is e = absurd (search (rules, is))
+  one_empties scope (forget_span span) turn h is e = absurd (search (rules, is))
   one_empties scope (inject_span span) turn h is e = absurd (search (rules, is))
   one_empties scope (end_span span moment) turn h is e = absurd (search (rules, is))
   one_empties scope (call_provider call) turn h is e = call_empties call turn h is e

@@ -16,7 +16,7 @@ use Rattle.otel_trace_lines.specs.Commands.{PlainCommand}
 use Rattle.otel_trace_lines.specs.declared.reply.Answer.{Answer}
 use Rattle.otel_trace_lines.specs.declared.reply.Answer.TheVariants as answers
 use Rattle.otel_trace_session.specs.Actions.{PlainAction, PlainCall, PlainOrigin, action_of, is_shutdown, at_root, under, from_header, call_flush, call_run, call_shutdown}
-use Rattle.otel_trace_session.specs.Actions.{start_span, edit_span, inject_span, end_span, call_provider, link_span}
+use Rattle.otel_trace_session.specs.Actions.{start_span, edit_span, inject_span, end_span, call_provider, link_span, forget_span}
 use Rattle.otel_trace_session.specs.Calls.{Calls}
 use Rattle.otel_trace_session.specs.Headers.{child_cx}
 use Rattle.otel_trace_session.specs.OpenSpans.{Histories}
@@ -77,6 +77,7 @@ module _ {P S G : Type 0} (calls : Calls P S G) where
   one_closes_none scope (start_span origin span builder moment) turn e h = origin_closes_none scope origin span builder moment turn h
   one_closes_none scope (edit_span span edit) turn e h = nobody_closes_none _ _ turn h
   one_closes_none scope (link_span span target) turn e h = nobody_closes_none _ _ turn h
+  one_closes_none scope (forget_span span) turn e h = nobody_closes_none _ _ turn h
   one_closes_none scope (inject_span span) turn e h = told_stays turn (ap (λ (c : Course P S G). map calls.processor.told c.provider.processors) h.rest)
   one_closes_none scope (end_span span moment) turn e h = end_closes_none (turn.before.histories span) span moment turn h
   one_closes_none scope (call_provider call) turn e h = call_closes_none call turn e h
@@ -105,6 +106,7 @@ module _ {P S G : Type 0} (calls : Calls P S G) where
   shut_delivers_none scope (start_span origin span builder moment) turn shut h = origin_delivers_none scope origin span builder moment turn h
   shut_delivers_none scope (edit_span span edit) turn shut h = h.delivers
   shut_delivers_none scope (link_span span target) turn shut h = h.delivers
+  shut_delivers_none scope (forget_span span) turn shut h = h.delivers
   shut_delivers_none scope (inject_span span) turn shut h = h.delivers
   shut_delivers_none scope (end_span span moment) turn shut h = shut_end_delivers_none (turn.before.histories span) span moment turn shut h
   shut_delivers_none scope (call_provider call) turn shut h = h.delivers
@@ -124,6 +126,7 @@ module _ {P S G : Type 0} (calls : Calls P S G) where
   shutdown_shuts scope (start_span origin span builder moment) turn e h = cc
   shutdown_shuts scope (edit_span span edit) turn e h = cc
   shutdown_shuts scope (link_span span target) turn e h = cc
+  shutdown_shuts scope (forget_span span) turn e h = cc
   shutdown_shuts scope (inject_span span) turn e h = cc
   shutdown_shuts scope (end_span span moment) turn e h = cc
   shutdown_shuts scope (call_provider call) turn e h = (call_shuts call turn e h, h.delivers)

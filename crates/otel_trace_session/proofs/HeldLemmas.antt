@@ -1,5 +1,5 @@
 -- The spans of a session in two maps: the open ones stand before those that are over.
-use Rattle.std.proofs.Common.{◌≡◌, ℕ, Bool, true, false, cond, if◌then◌else◌, List, [], ◌∷◌, ◌++◌, is_some, string_bytes, String, Option, Some, None, refl, sym, ◌∙◌, ap, subst}
+use Rattle.std.proofs.Common.{◌≡◌, ℕ, Bool, true, false, ◌||◌, cond, if◌then◌else◌, List, [], ◌∷◌, ◌++◌, is_some, string_bytes, String, Option, Some, None, refl, sym, ◌∙◌, ap, subst}
 use Rattle.std.specs.Ordering.{nat_cmp}
 use Rattle.std.specs.Cmp.{eq_by_cmp_equiv}
 use Rattle.std.specs.Cmp.Lexicographic.{slice_cmp, nat_list_cmp_total}
@@ -15,7 +15,7 @@ use Rattle.otel_pipeline.specs.declared.trace.span_processor.SpanProcessor.{Ghos
 use Rattle.otel_trace_lines.specs.declared.reply.Answer.{Answer}
 use Rattle.otel_trace_lines.specs.declared.reply.Answer.TheVariants as answers
 use Rattle.otel_trace_session.specs.Ended.{EndedIdentity, ended_span}
-use Rattle.otel_trace_session.specs.OpenSpans.{DropsSpan, NamedSpans, PutsSpan, SameSpans, is_name, named, finished_by_name}
+use Rattle.otel_trace_session.specs.OpenSpans.{DropsSpan, NamedSpans, PutsSpan, SameSpans, is_name, named, finished_by_name, records}
 use Rattle.otel_trace_session.specs.Turn.{TurnsFromAny}
 use Rattle.otel_trace_session.proofs.NamedLemmas.{same_name, same_puts}
 use Rattle.otel_trace_session.proofs.TurnLemmas.{Edits, EndsNamed, edits_absent, edits_there, ends_absent, ends_there, said}
@@ -107,6 +107,36 @@ puts_moved old new rest more s span gone put = λ q. named-append new more q ∙
     ∙ ap (or_else (cond (is_name q s) None (named old q))) (put q) ∙ moved (is_name q s) span (named old q) (named rest q)
     ∙ ap (cond (is_name q s) (Some span)) (sym (named-append old rest q))
 
+dropped : (b : Bool) (found rest : Option PlainSpan) → or_else (cond b None found) (cond b None rest) ≡ cond b None (or_else found rest)
+dropped true found rest = refl
+dropped false found rest = refl
+
+-- a name that neither has any more
+pub drops_both : (old new rest more : NamedSpans) (s : List ℕ) → DropsSpan old s new → DropsSpan rest s more → DropsSpan (old ++ rest) s (new ++ more)
+drops_both old new rest more s gone also = λ q. named-append new more q ∙ ap (λ (o : Option PlainSpan). or_else o (named more q)) (gone q)
+    ∙ ap (or_else (cond (is_name q s) None (named old q))) (also q) ∙ dropped (is_name q s) (named old q) (named rest q)
+    ∙ ap (cond (is_name q s) None) (sym (named-append old rest q))
+
+-- whether one of them has a name
+either_some : (found rest : Option PlainSpan) → (is_some found || is_some rest) ≡ is_some (or_else found rest)
+either_some None rest = refl
+either_some (Some span) rest = refl
+
+pub is_in_either : (spans rest : NamedSpans) (s : List ℕ) → (is_some (named spans s) || is_some (named rest s)) ≡ is_some (named (spans ++ rest) s)
+is_in_either spans rest s = either_some (named spans s) (named rest s) ∙ ap is_some (sym (named-append spans rest s))
+
+-- whether the span of a name records: the first one does
+first_records : (found rest : Option PlainSpan) → records found ≡ true → records (or_else found rest) ≡ true
+first_records None rest is = cc
+first_records (Some span) rest is = is
+
+pub records_before : (spans rest : NamedSpans) (s : List ℕ) → records (named spans s) ≡ true → records (named (spans ++ rest) s) ≡ true
+records_before spans rest s is = ap records (named-append spans rest s) ∙ first_records (named spans s) (named rest s) is
+
+neither_records : (found rest : Option PlainSpan) → records found ≡ false → records rest ≡ false → records (or_else found rest) ≡ false
+neither_records None rest none over = over
+neither_records (Some span) rest none over = none
+
 -- what is kept of spans that are over, by name
 kept_first : (b : Bool) (kept : EndedIdentity) (found : Option PlainSpan) (more : Option EndedIdentity) → found ≡ option_map ended_span more
     → cond b (Some (ended_span kept)) found ≡ option_map ended_span (cond b (Some kept) more)
@@ -142,6 +172,25 @@ puts_kept m n s kept h = λ q. named-finished n q
     ∙ ap (option_map ended_span) (btree_map_updates_text s m n (Some kept) h q
     ∙ ap (λ (b : Bool). cond b (Some kept) (get_by_text m q)) (sym (is_eq-slice_cmp s q) ∙ (eq_by_cmp_equiv nat_list_cmp_total).symm s q))
     ∙ sym (kept_first (is_name q s) kept (named (finished_by_name m.entries) q) (get_by_text m q) (named-finished m q))
+
+dropped_kept : (b : Bool) (found : Option PlainSpan) (more : Option EndedIdentity) → found ≡ option_map ended_span more → cond b None found ≡ option_map ended_span (cond b None more)
+dropped_kept true found more e = refl
+dropped_kept false found more e = e
+
+pub drops_kept : {Y : Type 0} (m n : BTreeMap (String Y) EndedIdentity) (s : List ℕ) → UpdatesBy string_cmp (λ k. slice_cmp nat_cmp s (string_bytes k)) m n None → DropsSpan (finished_by_name m.entries) s (finished_by_name n.entries)
+drops_kept m n s h = λ q. named-finished n q
+    ∙ ap (option_map ended_span) (btree_map_updates_text s m n None h q
+    ∙ ap (λ (b : Bool). cond b None (get_by_text m q)) (sym (is_eq-slice_cmp s q) ∙ (eq_by_cmp_equiv nat_list_cmp_total).symm s q))
+    ∙ sym (dropped_kept (is_name q s) (named (finished_by_name m.entries) q) (get_by_text m q) (named-finished m q))
+
+-- what is over records nothing
+over_records : (kept : Option EndedIdentity) → records (option_map ended_span kept) ≡ false
+over_records None = refl
+over_records (Some kept) = refl
+
+pub records_nowhere : {Y : Type 0} (spans : NamedSpans) (m : BTreeMap (String Y) EndedIdentity) (s : List ℕ) → records (named spans s) ≡ false → records (named (spans ++ finished_by_name m.entries) s) ≡ false
+records_nowhere spans m s none = ap records (named-append spans (finished_by_name m.entries) s)
+    ∙ neither_records (named spans s) (named (finished_by_name m.entries) s) none (ap records (named-finished m s) ∙ over_records (get_by_text m s))
 
 -- entries that stay
 pub same_kept : {Y : Type 0} (old new : List (String Y × EndedIdentity)) → new ≡ old → SameSpans (finished_by_name old) (finished_by_name new)

@@ -9,7 +9,7 @@ use Rattle.otel_pipeline.specs.SpanHistory.{SpanHistory, begun, over, span_of}
 use Rattle.otel_trace_lines.specs.declared.reply.Answer.{Answer}
 use Rattle.otel_trace_lines.specs.declared.reply.Answer.TheVariants as answers
 use Rattle.otel_trace_session.specs.Actions.{PlainAction, PlainCall, PlainOrigin, at_root, under, from_header, call_flush, call_run, call_shutdown}
-use Rattle.otel_trace_session.specs.Actions.{start_span, edit_span, inject_span, end_span, call_provider, link_span, ends_span, may_lose}
+use Rattle.otel_trace_session.specs.Actions.{start_span, edit_span, inject_span, end_span, call_provider, link_span, forget_span, ends_span, may_lose}
 use Rattle.otel_trace_session.specs.Calls.{Calls, losses_of_first}
 use Rattle.otel_trace_session.specs.Headers.{child_cx}
 use Rattle.otel_trace_session.specs.OpenSpans.{Histories}
@@ -59,6 +59,7 @@ module _ {P S G : Type 0} (calls : Calls P S G) (law : OnlyAppends calls.process
   turn_grows scope (start_span origin span builder moment) turn h = (origin_loses scope origin span builder moment turn h).0
   turn_grows scope (edit_span span edit) turn h = (nobody_loses _ _ turn h).0
   turn_grows scope (link_span span target) turn h = (nobody_loses _ _ turn h).0
+  turn_grows scope (forget_span span) turn h = (nobody_loses _ _ turn h).0
   turn_grows scope (inject_span span) turn h = (inject_loses span turn h).0
   turn_grows scope (end_span span moment) turn h = end_grows (turn.before.histories span) span moment turn h
   turn_grows scope (call_provider call) turn h = call_grows call turn h
@@ -69,6 +70,7 @@ module _ {P S G : Type 0} (calls : Calls P S G) (law : OnlyAppends calls.process
   turn_loses_none scope (start_span origin span builder moment) turn h e _ = (origin_loses scope origin span builder moment turn h).1
   turn_loses_none scope (edit_span span edit) turn h e _ = (nobody_loses _ _ turn h).1
   turn_loses_none scope (link_span span target) turn h e _ = (nobody_loses _ _ turn h).1
+  turn_loses_none scope (forget_span span) turn h e _ = (nobody_loses _ _ turn h).1
   turn_loses_none scope (inject_span span) turn h e _ = (inject_loses span turn h).1
   turn_loses_none scope (end_span span moment) turn h e _ = cc
   turn_loses_none scope (call_provider call) turn h e keeps = absurd (search (rules, keeps))

@@ -3,11 +3,13 @@ pub mod CarryLemmas
 pub mod CloseLemmas
 pub mod EmptiedLemmas
 pub mod FeedLemmas
+pub mod ForgetLemmas
 pub mod HeaderLemmas
 pub mod HeardLemmas
 pub mod HeldLemmas
 pub mod KeptLemmas
 pub mod NamedLemmas
+pub mod PersistLemmas
 pub mod RunLemmas
 pub mod ShownLemmas
 pub mod Streaming

@@ -17,7 +17,7 @@ use Rattle.otel_pipeline.specs.SpanHistory.{PlainSpan, SpanHistory, HasHistory, 
 use Rattle.otel_pipeline.proofs.SpanLaws.{keeps_history, over_history}
 use Rattle.otel_trace_lines.specs.declared.reply.Answer.{Answer}
 use Rattle.otel_trace_session.specs.Calls.{Calls}
-use Rattle.otel_trace_session.specs.OpenSpans.{ChildMayStart, Describe, HaveHistories, Histories, MayStart, NamedSpans, PutsSpan, SameSpans, by_name, is_name, named}
+use Rattle.otel_trace_session.specs.OpenSpans.{ChildMayStart, Describe, DropsSpan, HaveHistories, Histories, MayStart, NamedSpans, PutsSpan, SameSpans, by_name, is_name, named}
 use Rattle.otel_trace_session.specs.Headers.{child_cx}
 use Rattle.otel_trace_session.specs.Turn.{TurnsFromAny, Turn}
 
@@ -101,6 +101,14 @@ put_history spans span was q false have has e = have q was e
 -- spans with histories have them still where one is put that has one
 pub puts_history : (old new : NamedSpans) (name : List ℕ) (span : PlainSpan) → HaveHistories old → HasHistory span → PutsSpan old name span new → HaveHistories new
 puts_history old new name span have has put = λ q was there. put_history old span was q (is_name q name) have has (sym (put q) ∙ there)
+
+drop_history : (spans : NamedSpans) (was : PlainSpan) (q : List ℕ) (b : Bool) → HaveHistories spans → (if b then None else named spans q) ≡ Some was → HasHistory was
+drop_history spans was q true have e = cc
+drop_history spans was q false have e = have q was e
+
+-- and where one is dropped
+pub drops_history : (old new : NamedSpans) (name : List ℕ) → HaveHistories old → DropsSpan old name new → HaveHistories new
+drops_history old new name have gone = λ q was there. drop_history old was q (is_name q name) have (sym (gone q) ∙ there)
 
 pub same_histories : (old new : NamedSpans) → HaveHistories old → SameSpans old new → HaveHistories new
 same_histories old new have same = λ q was there. have q was (sym (same q) ∙ there)

@@ -1,6 +1,6 @@
 -- Each child that commands started agrees with its parent, as the session then stands, and so do theirs.
-use Rattle.std.proofs.Common.{◌≡◌, ℕ, Bool, true, false, if◌then◌else◌, ◌||◌, ◌&&◌, List, [], ◌∷◌, Option, Some, None, MatchBool, map, ◌⊎◌, inl, inr, refl, sym, ◌∙◌, ap, subst}
-use Rattle.std.proofs.lemmas.Option.{none-some, same_Some}
+use Rattle.std.proofs.Common.{◌≡◌, ℕ, Bool, true, false, not, if◌then◌else◌, ◌||◌, ◌&&◌, List, [], ◌∷◌, Option, Some, None, MatchBool, map, ◌⊎◌, inl, inr, refl, sym, ◌∙◌, ap, subst}
+use Rattle.std.proofs.lemmas.Option.{same_Some}
 use Rattle.std.specs.Option.{option_map}
 use Rattle.opentelemetry.specs.Plain.{PlainScope, PlainSpanContext}
 use Rattle.opentelemetry.specs.PlainContexts.{root_cx}
@@ -8,8 +8,7 @@ use Rattle.opentelemetry.specs.PlainSpanBuilder.{PlainSpanBuilder}
 use Rattle.otel_sampling.specs.Agreement.{Agrees}
 use Rattle.otel_pipeline.specs.Hops.{GoesByParents}
 use Rattle.otel_pipeline.specs.Provider.{unstarted_context, ProviderState}
-use Rattle.otel_pipeline.specs.SpanEdits.{add_link, new_link}
-use Rattle.otel_pipeline.specs.SpanHistory.{PlainSpan, SpanHistory, Edit, begun, over, span_of}
+use Rattle.otel_pipeline.specs.SpanHistory.{PlainSpan, SpanHistory, begun, over, span_of}
 use Rattle.otel_pipeline.specs.StartRequest.{StartRequest}
 use Rattle.otel_pipeline.specs.Starting.{StartsOpen}
 use Rattle.otel_pipeline.proofs.AgreementLemmas.{child_agrees, child_of_start}
@@ -18,67 +17,34 @@ use Rattle.otel_trace_lines.specs.PlainReply.{PlainReply}
 use Rattle.otel_trace_lines.specs.declared.reply.Answer.{Answer}
 use Rattle.otel_trace_lines.specs.declared.reply.Answer.TheVariants as answers
 use Rattle.otel_trace_session.specs.Actions.{PlainAction, PlainCall, PlainOrigin, action_of, is_shutdown, at_root, under, from_header, call_flush, call_run, call_shutdown}
-use Rattle.otel_trace_session.specs.Actions.{start_span, edit_span, inject_span, end_span, call_provider, link_span}
+use Rattle.otel_trace_session.specs.Actions.{start_span, edit_span, inject_span, end_span, call_provider, link_span, forget_span}
 use Rattle.otel_trace_session.specs.Calls.{Calls}
 use Rattle.otel_trace_session.specs.Headers.{child_cx}
-use Rattle.otel_trace_session.specs.OpenSpans.{Describe, Histories, NamedSpans, edited_history, edited_in, is_name, linked_by, with_history}
-use Rattle.otel_trace_session.specs.SpanTurns.{ChildTurn, EndTurn, Start, StartsAfter, StartsFrom, request_of, start_in}
+use Rattle.otel_trace_session.specs.OpenSpans.{Describe, Histories, NamedSpans, is_name}
+use Rattle.otel_trace_session.specs.SpanTurns.{ChildTurn, EndTurn, ForgetTurn, Start, StartsAfter, StartsFrom, request_of, start_in}
 use Rattle.otel_trace_session.specs.ProviderTurns.{AsksProvider, CallGives}
-use Rattle.otel_trace_session.specs.Traces.{ChildrenAgree, KeepsContexts, made_span, with_child, with_children}
+use Rattle.otel_trace_session.specs.Traces.{ChildrenAgree, NoneForgotten, forgets, is_forgotten, made_span, with_child, with_children}
 use Rattle.otel_trace_session.specs.Turn.{AsksNobody, Course, Turn}
-use Rattle.otel_trace_session.specs.Turns.{AreTurns, Replied, TakesAction, reply_of}
+use Rattle.otel_trace_session.specs.Turns.{AreTurns, TakesAction, reply_of}
 use Rattle.otel_trace_session.proofs.TakingLemmas.{replied_sampler, replied_shut}
 use Rattle.otel_trace_session.proofs.NamedLemmas.{by_history, is_itself, same_name}
+use Rattle.otel_trace_session.proofs.PersistLemmas.{PersistsAt, all_persist, context_of, forget_persists, from_next, neither, one_persists, persists_on}
 
--- the span context of a history
-abbrev context_of : SpanHistory → PlainSpanContext
-context_of h = (span_of h).span_context
+-- a shutdown gives no name up
+shutdown_forgets_none : (action : PlainAction) (answer : Answer) (q : List ℕ) → is_shutdown action ≡ true → forgets action answer q ≡ false
+shutdown_forgets_none (start_span origin span builder moment) answer q e = refl
+shutdown_forgets_none (edit_span span edit) answer q e = refl
+shutdown_forgets_none (link_span span target) answer q e = refl
+shutdown_forgets_none (inject_span span) answer q e = refl
+shutdown_forgets_none (end_span span moment) answer q e = refl
+shutdown_forgets_none (call_provider call) answer q e = refl
+shutdown_forgets_none (forget_span span) answer q e = cc
 
--- each name that has a history keeps one with its span context
-abbrev Persists : Histories → Histories → Type 0
-Persists old new = (q : List ℕ) (h : SpanHistory) → old q ≡ Some h → (g : SpanHistory) × (new q ≡ Some g) × (context_of g ≡ context_of h)
-
-persists_same : (old new : Histories) → new ≡ old → Persists old new
-persists_same old new e q h there = (h, ap (λ (histories : Histories). histories q) e ∙ there, refl)
-
-persists_on : (old middle new : Histories) → Persists old middle → Persists middle new → Persists old new
-persists_on old middle new first rest q h there =
-    let one = first q h there in
-    let two = rest q one.0 one.1 in
-    (two.0, two.1, two.2 ∙ one.2)
-
--- a history that is put under a new name
-beside_by : (histories : Histories) (name : List ℕ) (new h : SpanHistory) (q : List ℕ) (b : Bool) → is_name q name ≡ b → histories name ≡ None → histories q ≡ Some h
-    → (if b then Some new else histories q) ≡ Some h
-beside_by histories name new h q true e none there = absurd (none-some h (sym none ∙ ap histories (sym (same_name q name e)) ∙ there))
-beside_by histories name new h q false e none there = there
-
-put_persists : (histories : Histories) (name : List ℕ) (new : SpanHistory) → histories name ≡ None → Persists histories (with_history histories name new)
-put_persists histories name new none q h there = (h, beside_by histories name new h q (is_name q name) refl none there, refl)
-
--- a history that goes on under its name
-again_by : (histories : Histories) (name : List ℕ) (old new h : SpanHistory) (q : List ℕ) (b : Bool) → is_name q name ≡ b → histories name ≡ Some old → context_of new ≡ context_of old → histories q ≡ Some h
-    → (g : SpanHistory) × ((if b then Some new else histories q) ≡ Some g) × (context_of g ≡ context_of h)
-again_by histories name old new h q true e is context there =
-    let same = same_Some old h (sym is ∙ ap histories (sym (same_name q name e)) ∙ there) in
-    (new, refl, context ∙ ap context_of same)
-again_by histories name old new h q false e is context there = (h, there, refl)
-
-again_persists : (histories : Histories) (name : List ℕ) (old new : SpanHistory) → histories name ≡ Some old → context_of new ≡ context_of old → Persists histories (with_history histories name new)
-again_persists histories name old new is context q h there = again_by histories name old new h q (is_name q name) refl is context there
-
--- a history that is edited under its name
-edited_context : (edit : Edit) (h : SpanHistory) → context_of (edited_history edit h) ≡ context_of h
-edited_context edit (over context limits) = refl
-edited_context edit (begun from edits) = refl
-
-edited_by : (histories : Histories) (span : List ℕ) (edit : Edit) (h : SpanHistory) (q : List ℕ) (b : Bool) → is_name q span ≡ b → histories q ≡ Some h
-    → (g : SpanHistory) × ((if b then option_map (edited_history edit) (histories span) else histories q) ≡ Some g) × (context_of g ≡ context_of h)
-edited_by histories span edit h q true e there = (edited_history edit h, ap (option_map (edited_history edit)) (ap histories (sym (same_name q span e)) ∙ there), edited_context edit h)
-edited_by histories span edit h q false e there = (h, there, refl)
-
-edited_persists : (histories : Histories) (span : List ℕ) (edit : Edit) → Persists histories (edited_in histories span edit)
-edited_persists histories span edit q h there = edited_by histories span edit h q (is_name q span) refl there
+-- the first of two without the second
+but_not : (a b : Bool) → (a && not b) ≡ true → (a ≡ true) × (b ≡ false)
+but_not true true e = cc
+but_not true false e = (refl, refl)
+but_not false b e = cc
 
 -- what a name has that a history was put under
 put_there : (b : Bool) (new : SpanHistory) (found : Option SpanHistory) → b ≡ true → (if b then Some new else found) ≡ Some new
@@ -101,74 +67,7 @@ true_is_no : (b : Bool) → b ≡ false → b ≡ true → ⊥
 true_is_no true e f = cc
 true_is_no false e f = cc
 
--- a child that was not started joins no trace
-not_made : (root : PlainSpanContext) (is_in : List ℕ → Bool) (histories : Histories) (span parent : List ℕ) (builder : PlainSpanBuilder) (moment : ℕ) (answer : Answer) → made_span answer ≡ false → EachAgrees root is_in histories
-    → EachAgrees root (with_child is_in (start_span (under parent) span builder moment) answer) histories
-not_made root is_in histories span parent builder moment answer none agree q e = by (which (is_in q) (is_name q span) (is_in parent) (made_span answer) e)
-  where
-    by : (is_in q ≡ true) ⊎ ((is_name q span ≡ true) × (is_in parent ≡ true) × (made_span answer ≡ true)) → (h : SpanHistory) × (histories q ≡ Some h) × Agrees root (context_of h)
-    by (inl is) = agree q is
-    by (inr also) = absurd (true_is_no (made_span answer) none also.2)
-
--- one that was started, of what its parent and it came to be
-joined : (root : PlainSpanContext) (is_in : List ℕ → Bool) (histories : Histories) (span parent : List ℕ) (builder : PlainSpanBuilder) (moment : ℕ) (answer : Answer) (father new : SpanHistory)
-    → histories parent ≡ Some father → histories span ≡ Some new → (Agrees root (context_of father) → Agrees root (context_of new)) → EachAgrees root is_in histories
-    → EachAgrees root (with_child is_in (start_span (under parent) span builder moment) answer) histories
-joined root is_in histories span parent builder moment answer father new is_father is_new also agree q e = by (which (is_in q) (is_name q span) (is_in parent) (made_span answer) e)
-  where
-    by : (is_in q ≡ true) ⊎ ((is_name q span ≡ true) × (is_in parent ≡ true) × (made_span answer ≡ true)) → (h : SpanHistory) × (histories q ≡ Some h) × Agrees root (context_of h)
-    by (inl is) = agree q is
-    by (inr other) =
-        let found = agree parent other.1 in
-        let same = same_Some found.0 father (sym found.1 ∙ is_father) in
-        (new, ap histories (same_name q span other.0) ∙ is_new, also (subst (λ (h : SpanHistory). Agrees root (context_of h)) same found.2))
-
 module _ {P S G : Type 0} (calls : Calls P S G) where
-  -- histories keep their span contexts over a turn
-  abbrev PersistsIn : Turn P S G → Type 0
-  PersistsIn turn = Persists turn.before.histories turn.after.histories
-
-  same_persists : (turn : Turn P S G) → turn.after.histories ≡ turn.before.histories → PersistsIn turn
-  same_persists turn e = persists_same turn.before.histories turn.after.histories e
-
-  nobody_persists : (said : Answer) (turn : Turn P S G) → AsksNobody said turn.before.histories turn → PersistsIn turn
-  nobody_persists said turn h = same_persists turn (ap (λ (c : Course P S G). c.histories) h.rest)
-
-  start_persists : (found : Option SpanHistory) (asked : Start) (turn : Turn P S G) → turn.before.histories asked.span ≡ found → StartsAfter calls found asked turn → PersistsIn turn
-  start_persists (Some history) asked turn e h = nobody_persists answers.SpanExists turn h
-  start_persists None asked turn e h = subst (Persists turn.before.histories) (sym h.histories) (put_persists turn.before.histories asked.span h.history e)
-
-  child_persists : (found : Option SpanHistory) (asked : Start) (turn : Turn P S G) → ChildTurn calls asked found turn → PersistsIn turn
-  child_persists None asked turn h = nobody_persists answers.NoSuchSpan turn h
-  child_persists (Some parent) asked turn h = start_persists (turn.before.histories asked.span) (record asked { cx = child_cx (span_of parent).span_context }) turn refl h
-
-  edit_persists : (said : Answer) (span : List ℕ) (edit : Edit) (turn : Turn P S G) → AsksNobody said (edited_in turn.before.histories span edit) turn → PersistsIn turn
-  edit_persists said span edit turn h = subst (Persists turn.before.histories) (sym (ap (λ (c : Course P S G). c.histories) h.rest)) (edited_persists turn.before.histories span edit)
-
-  link_persists : (found : Option SpanHistory) (said : Answer) (span : List ℕ) (turn : Turn P S G) → AsksNobody said (linked_by found turn.before.histories span) turn → PersistsIn turn
-  link_persists None said span turn h = nobody_persists said turn h
-  link_persists (Some target) said span turn h = edit_persists said span (add_link (new_link (span_of target).span_context [])) turn h
-
-  end_persists : (found : Option SpanHistory) (span : List ℕ) (moment : ℕ) (turn : Turn P S G) → turn.before.histories span ≡ found → EndTurn calls.processor span moment found turn → PersistsIn turn
-  end_persists None span moment turn e h = nobody_persists answers.NoSuchSpan turn h
-  end_persists (Some (over context limits)) span moment turn e h = nobody_persists answers.Ignored turn h
-  end_persists (Some (begun from edits)) span moment turn e h =
-      subst (Persists turn.before.histories) (sym h.histories) (again_persists turn.before.histories span (begun from edits) (over from.span_context from.limits) e refl)
-
-  origin_persists : (scope : PlainScope) (origin : PlainOrigin) (span : List ℕ) (builder : PlainSpanBuilder) (moment : ℕ) (turn : Turn P S G) → StartsFrom calls scope origin span builder moment turn → PersistsIn turn
-  origin_persists scope at_root span builder moment turn h = start_persists (turn.before.histories span) (start_in scope root_cx span builder moment) turn refl h
-  origin_persists scope (under parent) span builder moment turn h = child_persists (turn.before.histories parent) (start_in scope root_cx span builder moment) turn h
-  origin_persists scope (from_header header) span builder moment turn h = start_persists (turn.before.histories span) (start_in scope h.cx span builder moment) turn refl h.starts
-
-  -- over any action
-  one_persists : (scope : PlainScope) (action : PlainAction) (turn : Turn P S G) → TakesAction calls scope action turn → PersistsIn turn
-  one_persists scope (start_span origin span builder moment) turn h = origin_persists scope origin span builder moment turn h
-  one_persists scope (edit_span span edit) turn h = edit_persists _ span _ turn h
-  one_persists scope (link_span span target) turn h = link_persists (turn.before.histories target) _ span turn h
-  one_persists scope (inject_span span) turn h = same_persists turn (ap (λ (c : Course P S G). c.histories) h.rest)
-  one_persists scope (end_span span moment) turn h = end_persists (turn.before.histories span) span moment turn refl h
-  one_persists scope (call_provider call) turn h = same_persists turn (ap (λ (c : Course P S G). c.histories) h.rest)
-
   -- the provider stays as open as it was, with its sampler
   abbrev Stays : ProviderState P S G → ProviderState P S G → Type 0
   Stays old new = (new.is_shut ≡ old.is_shut) × (new.sampler ≡ old.sampler)
@@ -212,109 +111,149 @@ module _ {P S G : Type 0} (calls : Calls P S G) where
   one_stays scope (start_span origin span builder moment) turn e h = origin_stays scope origin span builder moment turn h
   one_stays scope (edit_span span edit) turn e h = nobody_stays _ _ turn h
   one_stays scope (link_span span target) turn e h = nobody_stays _ _ turn h
+  one_stays scope (forget_span span) turn e h = nobody_stays _ _ turn h
   one_stays scope (inject_span span) turn e h = stays turn.before.provider turn.after.provider turn.before.provider (ap (λ (c : Course P S G). c.provider) h.rest) (refl, refl)
   one_stays scope (end_span span moment) turn e h = end_stays (turn.before.histories span) span moment turn h
   one_stays scope (call_provider call) turn e h = call_stays call turn e h
 
-  -- a child joins the traces of its parent
-  taken_joins : (found : Option SpanHistory) (scope : PlainScope) (root : PlainSpanContext) (is_in : List ℕ → Bool) (last : Histories) (turn : Turn P S G) (span parent : List ℕ) (builder : PlainSpanBuilder) (moment : ℕ) (father : SpanHistory)
-      → GoesByParents calls.sampler turn.before.provider.sampler → turn.before.provider.is_shut ≡ false → turn.before.histories parent ≡ Some father → Persists turn.before.histories last → Persists turn.after.histories last → EachAgrees root is_in last
-      → StartsAfter calls found (start_in scope (child_cx (span_of father).span_context) span builder moment) turn → EachAgrees root (with_child is_in (start_span (under parent) span builder moment) turn.answer) last
-  taken_joins (Some history) scope root is_in last turn span parent builder moment father by_parents is_open there before after agree h =
-      not_made root is_in last span parent builder moment turn.answer (ap made_span h.says) agree
-  taken_joins None scope root is_in last turn span parent builder moment father by_parents is_open there before after agree h =
-      let cx = child_cx (span_of father).span_context in
-      let is_child = child_of_start calls.processor calls.sampler calls.ids turn.before.provider turn.after.provider (request_of (start_in scope cx span builder moment)) h.history (span_of father).span_context by_parents is_open refl refl h.starts in
-      let put : turn.after.histories span ≡ Some h.history = ap (λ (histories : Histories). histories span) h.histories ∙ put_there (is_name span span) h.history (turn.before.histories span) (is_itself span) in
-      let then_father = before parent father there in
-      let then_child = after span h.history put in
-      joined root is_in last span parent builder moment turn.answer then_father.0 then_child.0 then_father.1 then_child.1
-      (λ agrees. subst (Agrees root) (sym then_child.2) (child_agrees root (context_of father) (context_of h.history) (subst (Agrees root) then_father.2 agrees) is_child)) agree
+  -- the first names of a trace, which nobody gives up, and whose spans agree with a root in the end
+  module _ (root : PlainSpanContext) (first : List ℕ → Bool) (last : Histories) (agree : EachAgrees root first last) where
+    -- a name is one of the first, or the span that it has now agrees
+    abbrev IsJoined : Histories → List ℕ → Type 0
+    IsJoined histories q = (first q ≡ true) ⊎ ((h : SpanHistory) × (histories q ≡ Some h) × Agrees root (context_of h))
 
-  child_joins : (found : Option SpanHistory) (scope : PlainScope) (root : PlainSpanContext) (is_in : List ℕ → Bool) (last : Histories) (turn : Turn P S G) (span parent : List ℕ) (builder : PlainSpanBuilder) (moment : ℕ)
-      → GoesByParents calls.sampler turn.before.provider.sampler → turn.before.provider.is_shut ≡ false → turn.before.histories parent ≡ found → Persists turn.before.histories last → Persists turn.after.histories last → EachAgrees root is_in last
-      → ChildTurn calls (start_in scope root_cx span builder moment) found turn → EachAgrees root (with_child is_in (start_span (under parent) span builder moment) turn.answer) last
-  child_joins None scope root is_in last turn span parent builder moment by_parents is_open e before after agree h =
-      not_made root is_in last span parent builder moment turn.answer (ap made_span h.says) agree
-  child_joins (Some father) scope root is_in last turn span parent builder moment by_parents is_open e before after agree h =
-      taken_joins (turn.before.histories span) scope root is_in last turn span parent builder moment father by_parents is_open e before after agree h
+    -- each of these names is so
+    abbrev AreJoined : (List ℕ → Bool) → Histories → Type 0
+    AreJoined is_in histories = (q : List ℕ) → is_in q ≡ true → IsJoined histories q
 
-  origin_joins : (scope : PlainScope) (root : PlainSpanContext) (is_in : List ℕ → Bool) (last : Histories) (origin : PlainOrigin) (span : List ℕ) (builder : PlainSpanBuilder) (moment : ℕ) (turn : Turn P S G)
-      → GoesByParents calls.sampler turn.before.provider.sampler → turn.before.provider.is_shut ≡ false → Persists turn.before.histories last → Persists turn.after.histories last → EachAgrees root is_in last
-      → StartsFrom calls scope origin span builder moment turn → EachAgrees root (with_child is_in (start_span origin span builder moment) turn.answer) last
-  origin_joins scope root is_in last at_root span builder moment turn by_parents is_open before after agree h = agree
-  origin_joins scope root is_in last (under parent) span builder moment turn by_parents is_open before after agree h =
-      child_joins (turn.before.histories parent) scope root is_in last turn span parent builder moment by_parents is_open refl before after agree h
-  origin_joins scope root is_in last (from_header header) span builder moment turn by_parents is_open before after agree h = agree
+    persists_joined : (q : List ℕ) (old new : Histories) → PersistsAt q old new → IsJoined old q → IsJoined new q
+    persists_joined q old new persists (inl is) = inl is
+    persists_joined q old new persists (inr found) =
+        let kept = persists found.0 found.1 in inr (kept.0, kept.1, subst (Agrees root) (sym kept.2) found.2)
 
-  one_joins : (scope : PlainScope) (root : PlainSpanContext) (is_in : List ℕ → Bool) (last : Histories) (action : PlainAction) (turn : Turn P S G)
-      → GoesByParents calls.sampler turn.before.provider.sampler → turn.before.provider.is_shut ≡ false → Persists turn.before.histories last → Persists turn.after.histories last → EachAgrees root is_in last
-      → TakesAction calls scope action turn → EachAgrees root (with_child is_in action turn.answer) last
-  one_joins scope root is_in last (start_span origin span builder moment) turn by_parents is_open before after agree h =
-      origin_joins scope root is_in last origin span builder moment turn by_parents is_open before after agree h
-  one_joins scope root is_in last (edit_span span edit) turn by_parents is_open before after agree h = agree
-  one_joins scope root is_in last (link_span span target) turn by_parents is_open before after agree h = agree
-  one_joins scope root is_in last (inject_span span) turn by_parents is_open before after agree h = agree
-  one_joins scope root is_in last (end_span span moment) turn by_parents is_open before after agree h = agree
-  one_joins scope root is_in last (call_provider call) turn by_parents is_open before after agree h = agree
+    -- in the end a name that is so has a span that agrees
+    joined_agrees : (q : List ℕ) → IsJoined last q → (h : SpanHistory) × (last q ≡ Some h) × Agrees root (context_of h)
+    joined_agrees q (inl is) = agree q is
+    joined_agrees q (inr found) = found
 
-  -- what persists from where a session stands after a reply
-  from_next : (course next new : Course P S G) → Replied calls course next → Persists next.histories new.histories → Persists course.histories new.histories
-  from_next course next new replied h = subst (λ (histories : Histories). Persists histories new.histories) replied.histories h
+    -- a father that is so agrees, where the first names keep their spans until the end
+    father_agrees : (parent : List ℕ) (now : Histories) (father : SpanHistory) → (first parent ≡ true → PersistsAt parent now last) → now parent ≡ Some father → IsJoined now parent → Agrees root (context_of father)
+    father_agrees parent now father keeps there (inl is) =
+        let kept = keeps is father there in
+        let found = agree parent is in
+        let same = same_Some found.0 kept.0 (sym found.1 ∙ kept.1) in
+        subst (Agrees root) kept.2 (subst (λ (h : SpanHistory). Agrees root (context_of h)) same found.2)
+    father_agrees parent now father keeps there (inr found) =
+        let same = same_Some found.0 father (sym found.1 ∙ there) in
+        subst (λ (h : SpanHistory). Agrees root (context_of h)) same found.2
 
-  -- commands one after another
-  all_persist : (scope : PlainScope) (old new : Course P S G) (commands : List PlainCommand) (turns : List (Turn P S G)) → AreTurns calls scope old commands turns new → Persists old.histories new.histories
-  all_persist scope old new [] [] h = persists_same old.histories new.histories (ap (λ (c : Course P S G). c.histories) h)
-  all_persist scope old new [] (turn ∷ turns) h = absurd h
-  all_persist scope old new (command ∷ commands) [] h = absurd h
-  all_persist scope old new (command ∷ commands) (turn ∷ turns) h = subst (λ (c : Course P S G). Persists c.histories new.histories) h.0
-      (persists_on turn.before.histories turn.after.histories new.histories (one_persists scope (action_of command) turn h.1.is_turn) (from_next turn.after h.3.0 new h.3.1 (all_persist scope h.3.0 new commands turns h.3.2)))
+    -- a child that was started is so
+    taken_joins : (found : Option SpanHistory) (scope : PlainScope) (turn : Turn P S G) (span parent q : List ℕ) (builder : PlainSpanBuilder) (moment : ℕ) (father : SpanHistory)
+        → GoesByParents calls.sampler turn.before.provider.sampler → turn.before.provider.is_shut ≡ false → Agrees root (context_of father) → is_name q span ≡ true → made_span turn.answer ≡ true
+        → StartsAfter calls found (start_in scope (child_cx (span_of father).span_context) span builder moment) turn → IsJoined turn.after.histories q
+    taken_joins (Some history) scope turn span parent q builder moment father by_parents is_open agrees name made h =
+        absurd (true_is_no (made_span turn.answer) (ap made_span h.says) made)
+    taken_joins None scope turn span parent q builder moment father by_parents is_open agrees name made h =
+        let cx = child_cx (span_of father).span_context in
+        let is_child = child_of_start calls.processor calls.sampler calls.ids turn.before.provider turn.after.provider (request_of (start_in scope cx span builder moment)) h.history (span_of father).span_context by_parents is_open refl refl h.starts in
+        let put : turn.after.histories span ≡ Some h.history = ap (λ (histories : Histories). histories span) h.histories ∙ put_there (is_name span span) h.history (turn.before.histories span) (is_itself span) in
+        inr (h.history, ap turn.after.histories (same_name q span name) ∙ put, child_agrees root (context_of father) (context_of h.history) agrees is_child)
 
-  all_join : (scope : PlainScope) (root : PlainSpanContext) (is_in : List ℕ → Bool) (old new : Course P S G) (commands : List PlainCommand) (turns : List (Turn P S G))
-      → GoesByParents calls.sampler old.provider.sampler → old.provider.is_shut ≡ false → EachAgrees root is_in new.histories
-      → AreTurns calls scope old commands turns new → EachAgrees root (with_children is_in commands (map (reply_of calls) turns)) new.histories
-  all_join scope root is_in old new [] [] by_parents is_open agree h = agree
-  all_join scope root is_in old new [] (turn ∷ turns) by_parents is_open agree h = absurd h
-  all_join scope root is_in old new (command ∷ commands) [] by_parents is_open agree h = absurd h
-  all_join scope root is_in old new (command ∷ commands) (turn ∷ turns) by_parents is_open agree h = by (is_shutdown (action_of command)) refl
-      (λ next still stays_open joins. all_join scope root next h.3.0 new commands turns (subst (GoesByParents calls.sampler) (sym (replied_sampler calls turn.after h.3.0 h.3.1)) still)
-      (replied_shut calls turn.after h.3.0 h.3.1 ∙ stays_open) joins h.3.2)
-    where
-      after : Persists turn.after.histories new.histories
-      after = from_next turn.after h.3.0 new h.3.1 (all_persist scope h.3.0 new commands turns h.3.2)
+    child_joins : (found : Option SpanHistory) (scope : PlainScope) (turn : Turn P S G) (span parent q : List ℕ) (builder : PlainSpanBuilder) (moment : ℕ)
+        → GoesByParents calls.sampler turn.before.provider.sampler → turn.before.provider.is_shut ≡ false → (first parent ≡ true → PersistsAt parent turn.before.histories last) → turn.before.histories parent ≡ found
+        → IsJoined turn.before.histories parent → is_name q span ≡ true → made_span turn.answer ≡ true → ChildTurn calls (start_in scope root_cx span builder moment) found turn → IsJoined turn.after.histories q
+    child_joins None scope turn span parent q builder moment by_parents is_open keeps e is name made h =
+        absurd (true_is_no (made_span turn.answer) (ap made_span h.says) made)
+    child_joins (Some father) scope turn span parent q builder moment by_parents is_open keeps e is name made h =
+        taken_joins (turn.before.histories span) scope turn span parent q builder moment father by_parents is_open (father_agrees parent turn.before.histories father keeps e is) name made h
 
-      goes : GoesByParents calls.sampler turn.before.provider.sampler
-      goes = subst (λ (c : Course P S G). GoesByParents calls.sampler c.provider.sampler) (sym h.0) by_parents
+    -- over an action that leaves the names of the trace
+    stays_joined : (scope : PlainScope) (is_in : List ℕ → Bool) (action : PlainAction) (turn : Turn P S G) → ((q : List ℕ) → forgets action turn.answer q ≡ false) → AreJoined is_in turn.before.histories → TakesAction calls scope action turn
+        → AreJoined is_in turn.after.histories
+    stays_joined scope is_in action turn none joined h q is = persists_joined q turn.before.histories turn.after.histories (one_persists calls scope action turn q (none q) h) (joined q is)
 
-      opened : turn.before.provider.is_shut ≡ false
-      opened = ap (λ (c : Course P S G). c.provider.is_shut) h.0 ∙ is_open
+    -- and over the start of a child
+    under_joins : (scope : PlainScope) (is_in : List ℕ → Bool) (parent span : List ℕ) (builder : PlainSpanBuilder) (moment : ℕ) (turn : Turn P S G) (q : List ℕ)
+        → GoesByParents calls.sampler turn.before.provider.sampler → turn.before.provider.is_shut ≡ false → ((q : List ℕ) → first q ≡ true → PersistsAt q turn.before.histories last) → AreJoined is_in turn.before.histories
+        → StartsFrom calls scope (under parent) span builder moment turn → (is_in q ≡ true) ⊎ ((is_name q span ≡ true) × (is_in parent ≡ true) × (made_span turn.answer ≡ true)) → IsJoined turn.after.histories q
+    under_joins scope is_in parent span builder moment turn q by_parents is_open keeps joined h (inl is) = stays_joined scope is_in (start_span (under parent) span builder moment) turn (λ p. refl) joined h q is
+    under_joins scope is_in parent span builder moment turn q by_parents is_open keeps joined h (inr also) =
+        child_joins (turn.before.histories parent) scope turn span parent q builder moment by_parents is_open (keeps parent) refl (joined parent also.1) also.0 also.2 h
 
-      by : (b : Bool) → is_shutdown (action_of command) ≡ b
-          → ((next : List ℕ → Bool) → GoesByParents calls.sampler turn.after.provider.sampler → turn.after.provider.is_shut ≡ false → EachAgrees root next new.histories → EachAgrees root (with_children next commands (map (reply_of calls) turns)) new.histories)
-          → EachAgrees root (if b then is_in else with_children (with_child is_in (action_of command) turn.answer) commands (map (reply_of calls) turns)) new.histories
-      by true e on = agree
-      by false e on =
-          let stay = one_stays scope (action_of command) turn e h.1.is_turn in
-          let one = one_persists scope (action_of command) turn h.1.is_turn in
-          on (with_child is_in (action_of command) turn.answer) (subst (GoesByParents calls.sampler) (sym stay.1) goes) (stay.0 ∙ opened)
-          (one_joins scope root is_in new.histories (action_of command) turn goes opened (persists_on turn.before.histories turn.after.histories new.histories one after) after agree h.1.is_turn)
+    origin_joins : (scope : PlainScope) (is_in : List ℕ → Bool) (origin : PlainOrigin) (span : List ℕ) (builder : PlainSpanBuilder) (moment : ℕ) (turn : Turn P S G)
+        → GoesByParents calls.sampler turn.before.provider.sampler → turn.before.provider.is_shut ≡ false → ((q : List ℕ) → first q ≡ true → PersistsAt q turn.before.histories last) → AreJoined is_in turn.before.histories
+        → StartsFrom calls scope origin span builder moment turn → AreJoined (with_child is_in (start_span origin span builder moment) turn.answer) turn.after.histories
+    origin_joins scope is_in at_root span builder moment turn by_parents is_open keeps joined h = stays_joined scope is_in (start_span at_root span builder moment) turn (λ q. refl) joined h
+    origin_joins scope is_in (from_header header) span builder moment turn by_parents is_open keeps joined h = stays_joined scope is_in (start_span (from_header header) span builder moment) turn (λ q. refl) joined h
+    origin_joins scope is_in (under parent) span builder moment turn by_parents is_open keeps joined h = λ q e.
+        under_joins scope is_in parent span builder moment turn q by_parents is_open keeps joined h (which (is_in q) (is_name q span) (is_in parent) (made_span turn.answer) e)
 
-  -- the spans of names, by histories that they have
-  pub contexts_kept : (scope : PlainScope) (old new : Course P S G) (commands : List PlainCommand) (turns : List (Turn P S G)) (were are : NamedSpans)
-      → Describe old.histories were → Describe new.histories are → AreTurns calls scope old commands turns new → KeepsContexts were are
-  contexts_kept scope old new commands turns were are first last h q was there =
-      let found = by_history (old.histories q) was (sym there ∙ first q) in
-      let kept = all_persist scope old new commands turns h q found.0 found.1 in
-      (span_of kept.0, last q ∙ ap (option_map span_of) kept.1, kept.2 ∙ ap (λ (s : PlainSpan). s.span_context) found.2)
+    forget_joins : (scope : PlainScope) (is_in : List ℕ → Bool) (span : List ℕ) (turn : Turn P S G) → AreJoined is_in turn.before.histories → ForgetTurn span turn → AreJoined (with_child is_in (forget_span span) turn.answer) turn.after.histories
+    forget_joins scope is_in span turn joined h q e =
+        let parts = but_not (is_in q) (forgets (forget_span span) turn.answer q) e in
+        persists_joined q turn.before.histories turn.after.histories (forget_persists calls span q turn parts.1 h) (joined q parts.0)
+
+    one_joins : (scope : PlainScope) (is_in : List ℕ → Bool) (action : PlainAction) (turn : Turn P S G)
+        → GoesByParents calls.sampler turn.before.provider.sampler → turn.before.provider.is_shut ≡ false → ((q : List ℕ) → first q ≡ true → PersistsAt q turn.before.histories last) → AreJoined is_in turn.before.histories
+        → TakesAction calls scope action turn → AreJoined (with_child is_in action turn.answer) turn.after.histories
+    one_joins scope is_in (start_span origin span builder moment) turn by_parents is_open keeps joined h = origin_joins scope is_in origin span builder moment turn by_parents is_open keeps joined h
+    one_joins scope is_in (edit_span span edit) turn by_parents is_open keeps joined h = stays_joined scope is_in (edit_span span edit) turn (λ q. refl) joined h
+    one_joins scope is_in (link_span span target) turn by_parents is_open keeps joined h = stays_joined scope is_in (link_span span target) turn (λ q. refl) joined h
+    one_joins scope is_in (inject_span span) turn by_parents is_open keeps joined h = stays_joined scope is_in (inject_span span) turn (λ q. refl) joined h
+    one_joins scope is_in (end_span span moment) turn by_parents is_open keeps joined h = stays_joined scope is_in (end_span span moment) turn (λ q. refl) joined h
+    one_joins scope is_in (call_provider call) turn by_parents is_open keeps joined h = stays_joined scope is_in (call_provider call) turn (λ q. refl) joined h
+    one_joins scope is_in (forget_span span) turn by_parents is_open keeps joined h = forget_joins scope is_in span turn joined h
+
+    -- commands one after another
+    all_join : (scope : PlainScope) (is_in : List ℕ → Bool) (old new : Course P S G) (commands : List PlainCommand) (turns : List (Turn P S G))
+        → GoesByParents calls.sampler old.provider.sampler → old.provider.is_shut ≡ false → NoneForgotten first commands (map (reply_of calls) turns) → new.histories ≡ last → AreJoined is_in old.histories
+        → AreTurns calls scope old commands turns new → EachAgrees root (with_children is_in commands (map (reply_of calls) turns)) last
+    all_join scope is_in old new [] [] by_parents is_open none ends joined h = λ q e.
+        joined_agrees q (subst (λ (histories : Histories). IsJoined histories q) (sym (ap (λ (c : Course P S G). c.histories) h) ∙ ends) (joined q e))
+    all_join scope is_in old new [] (turn ∷ turns) by_parents is_open none ends joined h = absurd h
+    all_join scope is_in old new (command ∷ commands) [] by_parents is_open none ends joined h = absurd h
+    all_join scope is_in old new (command ∷ commands) (turn ∷ turns) by_parents is_open none ends joined h = by (is_shutdown (action_of command)) refl
+        (λ next still stays_open joins. all_join scope next h.3.0 new commands turns (subst (GoesByParents calls.sampler) (sym (replied_sampler calls turn.after h.3.0 h.3.1)) still)
+        (replied_shut calls turn.after h.3.0 h.3.1 ∙ stays_open) (λ q is. (others q is).1) ends (subst (AreJoined next) (sym h.3.1.histories) joins) h.3.2)
+      where
+        others : (q : List ℕ) → first q ≡ true → (forgets (action_of command) turn.answer q ≡ false) × (is_forgotten commands (map (reply_of calls) turns) q ≡ false)
+        others q is = neither (forgets (action_of command) turn.answer q) (is_forgotten commands (map (reply_of calls) turns) q) (none q is)
+
+        -- to the end, where the name is not given up
+        after : (q : List ℕ) → is_forgotten commands (map (reply_of calls) turns) q ≡ false → PersistsAt q turn.after.histories last
+        after q other = subst (PersistsAt q turn.after.histories) ends (from_next calls q turn.after h.3.0 new h.3.1 (all_persist calls scope q h.3.0 new commands turns other h.3.2))
+
+        before : (q : List ℕ) → forgets (action_of command) turn.answer q ≡ false → is_forgotten commands (map (reply_of calls) turns) q ≡ false → PersistsAt q turn.before.histories last
+        before q one other = persists_on q turn.before.histories turn.after.histories last (one_persists calls scope (action_of command) turn q one h.1.is_turn) (after q other)
+
+        found : AreJoined is_in turn.before.histories
+        found = subst (λ (c : Course P S G). AreJoined is_in c.histories) (sym h.0) joined
+
+        goes : GoesByParents calls.sampler turn.before.provider.sampler
+        goes = subst (λ (c : Course P S G). GoesByParents calls.sampler c.provider.sampler) (sym h.0) by_parents
+
+        opened : turn.before.provider.is_shut ≡ false
+        opened = ap (λ (c : Course P S G). c.provider.is_shut) h.0 ∙ is_open
+
+        by : (b : Bool) → is_shutdown (action_of command) ≡ b
+            → ((next : List ℕ → Bool) → GoesByParents calls.sampler turn.after.provider.sampler → turn.after.provider.is_shut ≡ false → AreJoined next turn.after.histories → EachAgrees root (with_children next commands (map (reply_of calls) turns)) last)
+            → EachAgrees root (if b then (λ q. is_in q && not (is_forgotten commands (map (reply_of calls) turns) q)) else with_children (with_child is_in (action_of command) turn.answer) commands (map (reply_of calls) turns)) last
+        by true e on = λ q is.
+            let parts = but_not (is_in q) (is_forgotten commands (map (reply_of calls) turns) q) is in
+            joined_agrees q (persists_joined q turn.before.histories last (before q (shutdown_forgets_none (action_of command) turn.answer q e) parts.1) (found q parts.0))
+        by false e on =
+            let stay = one_stays scope (action_of command) turn e h.1.is_turn in
+            on (with_child is_in (action_of command) turn.answer) (subst (GoesByParents calls.sampler) (sym stay.1) goes) (stay.0 ∙ opened)
+            (one_joins scope is_in (action_of command) turn goes opened (λ q is. before q (others q is).0 (others q is).1) found h.1.is_turn)
 
   pub children_agree : (scope : PlainScope) (old new : Course P S G) (commands : List PlainCommand) (turns : List (Turn P S G)) (replies : List PlainReply) (are : NamedSpans)
       → Describe new.histories are → replies ≡ map (reply_of calls) turns → AreTurns calls scope old commands turns new
       → GoesByParents calls.sampler old.provider.sampler → old.provider.is_shut ≡ false → ChildrenAgree commands replies are
   children_agree scope old new commands turns replies are last told h by_parents is_open =
-      subst (λ (rs : List PlainReply). ChildrenAgree commands rs are) (sym told) (λ root is_in agree q e.
+      subst (λ (rs : List PlainReply). ChildrenAgree commands rs are) (sym told) (λ root is_in none agree q e.
       let agreed : EachAgrees root is_in new.histories = λ p is.
       let there = agree p is in
       let found = by_history (new.histories p) there.0 (sym there.1 ∙ last p) in
       (found.0, found.1, subst (λ (s : PlainSpan). Agrees root s.span_context) (sym found.2) there.2) in
-      let also = all_join scope root is_in old new commands turns by_parents is_open agreed h q e in
+      let also = all_join root is_in new.histories agreed scope is_in old new commands turns by_parents is_open none refl (λ p is. inl is) h q e in
       (span_of also.0, last q ∙ ap (option_map span_of) also.1, also.2))

@@ -1,5 +1,5 @@
 -- What a command does, whatever its words: it starts a span, edits one, links it to another, tells its headers, ends
--- it, or calls the provider.
+-- it, gives its name up, or calls the provider.
 use Rattle.std.specs.Prelude.{ℕ, Bool, true, false, List, [], ◌∷◌, Option, Some, None, string_bytes}
 use Rattle.opentelemetry.specs.Plain.{PlainKeyValue, PlainValue, boolean, integer, text}
 use Rattle.opentelemetry.specs.PlainSpanBuilder.{PlainSpanBuilder, named_builder}
@@ -7,7 +7,7 @@ use Rattle.opentelemetry.specs.declared.trace.span_kind.SpanKind.{SpanKind}
 use Rattle.otel_pipeline.specs.Exceptions.{PlainException, exception_event}
 use Rattle.otel_pipeline.specs.SpanEdits.{Edit, add_event, new_event, plain_edit, set_attribute, set_status}
 use Rattle.otel_trace_lines.specs.Commands.{PlainCommand, start, child, remote, attr, event, status, inject, end, flush}
-use Rattle.otel_trace_lines.specs.Commands.{run, shutdown, set_int, set_bool, link, exception, event_with}
+use Rattle.otel_trace_lines.specs.Commands.{run, shutdown, set_int, set_bool, link, exception, event_with, forget}
 use Rattle.otel_trace_session.specs.declared.actions.Action.{Action}
 use Rattle.otel_trace_session.specs.declared.actions.Action.TheVariants as actions
 use Rattle.otel_trace_session.specs.declared.actions.Origin.{Origin}
@@ -38,6 +38,7 @@ pub data PlainAction : Type 0 where
   call_provider : PlainCall → PlainAction
   -- the span's name in commands, the name of the span that it points to
   link_span : List ℕ → List ℕ → PlainAction
+  forget_span : List ℕ → PlainAction
 
 -- a name, and a kind, if one is given
 abbrev pub builder_of : List ℕ → Option SpanKind → PlainSpanBuilder
@@ -75,6 +76,7 @@ action_of (exception span kind moment message) =
     edit_span span (add_event (exception_event (exception_with message kind) moment))
 action_of (event_with span name moment key value) =
     edit_span span (event_edit name moment (record { key = key; value = text value } ∷ []))
+action_of (forget span) = forget_span span
 
 -- whether an action may end a span
 abbrev pub ends_span : PlainAction → Bool
@@ -120,3 +122,4 @@ plain_action (actions.Exception span met moment) =
     edit_span (string_bytes span) (add_event (exception_event met moment.0))
 plain_action (actions.EventWithAttribute span name moment attribute) =
     edit_span (string_bytes span) (event_edit (string_bytes name) moment.0 (attribute ∷ []))
+plain_action (actions.Forget span) = forget_span (string_bytes span)

@@ -45,11 +45,11 @@ module _ {P S G : Type 0} (calls : Calls P S G) where
       → GoesByParents calls.sampler old.provider.sampler → old.provider.is_shut ≡ false
       → ChildrenAgree commands replies new.spans
 
-  -- a name that has a span keeps one with its span context
+  -- a name that has a span keeps one with its span context, unless it is given up
   abbrev pub ContextsAreKept : Type 0
   ContextsAreKept = (old new : SessionState P S G) (histories : Histories) (commands : List PlainCommand)
       (replies : List PlainReply) → Describe histories old.spans → TookTurns calls old histories commands replies new
-      → KeepsContexts old.spans new.spans
+      → KeepsContexts commands replies old.spans new.spans
 
   -- the replies show the batches that came meanwhile, in order and each once
   abbrev pub RepliesShowAll : Type 0

@@ -1,7 +1,7 @@
 -- The spans of a session by name, the histories that they have, and what a start that is refused may have done. A
 -- history is a start and the edits since; none is stored.
 use Rattle.std.specs.Prelude.{◌≡◌, ℕ, Bool, List, [], ◌∷◌, ◌++◌, Option, Some, None, is_some, map, string_bytes, String}
-use Rattle.std.specs.Prelude.{if◌then◌else◌, ◌⊎◌}
+use Rattle.std.specs.Prelude.{if◌then◌else◌, ◌⊎◌, false}
 use Rattle.std.specs.Option.{option_map}
 use Rattle.std.specs.Ordering.{nat_cmp}
 use Rattle.std.specs.Cmp.Lexicographic.{slice_cmp}
@@ -101,10 +101,30 @@ abbrev pub link_answer : Option SpanHistory → Option SpanHistory → Answer
 link_answer None span = answers.NoSuchSpan
 link_answer (Some target) span = edit_answer span
 
+-- histories after the name of a span was given up, by the history that it had: it has none, where that is over
+abbrev pub forgotten_by : Option SpanHistory → Histories → List ℕ → Histories
+forgotten_by None old span = old
+forgotten_by (Some (over context limits)) old span = λ q. if is_name q span then None else old q
+forgotten_by (Some (begun from edits)) old span = old
+
+abbrev pub forgotten_in : Histories → List ℕ → Histories
+forgotten_in old span = forgotten_by (old span) old span
+
+-- what is said where a name is to be given up, by its history
+abbrev pub forget_answer : Option SpanHistory → Answer
+forget_answer None = answers.NoSuchSpan
+forget_answer (Some (over context limits)) = answers.Ok
+forget_answer (Some (begun from edits)) = answers.StillOpen
+
 -- what is said of the headers of a span, by its history, also where that is over
 abbrev pub AnswersInject : Option SpanHistory → Answer → Type 0
 AnswersInject None answer = answer ≡ answers.NoSuchSpan
 AnswersInject (Some history) answer = AnswersHeaders (span_of history).span_context answer
+
+-- whether there is a span, and it records
+abbrev pub records : Option PlainSpan → Bool
+records None = false
+records (Some span) = is_some span.recorded
 
 -- who a span is
 abbrev pub identity_of : PlainSpan → SpanIdentity

@@ -1,5 +1,5 @@
--- The turns of commands of one span: its start, its edits, its links, its headers and its end, by the history that its
--- name has.
+-- The turns of commands of one span: its start, its edits, its links, its headers, its end, and when its name is given
+-- up, by the history that its name has.
 use Rattle.std.specs.Prelude.{◌≡◌, ℕ, List, [], Option, Some, None, map}
 use Rattle.opentelemetry.specs.Plain.{PlainContext, PlainScope}
 use Rattle.opentelemetry.specs.PlainContexts.{root_cx}
@@ -14,8 +14,8 @@ use Rattle.otel_trace_lines.specs.declared.reply.Answer.TheVariants as answers
 use Rattle.otel_trace_session.specs.Actions.{PlainOrigin, at_root, under, from_header}
 use Rattle.otel_trace_session.specs.Calls.{Calls}
 use Rattle.otel_trace_session.specs.Headers.{SaysContext, child_cx}
-use Rattle.otel_trace_session.specs.OpenSpans.{AnswersInject, edit_answer, edited_in, link_answer, linked_in}
-use Rattle.otel_trace_session.specs.OpenSpans.{start_answer, with_history}
+use Rattle.otel_trace_session.specs.OpenSpans.{AnswersInject, edit_answer, edited_in, forget_answer, forgotten_in}
+use Rattle.otel_trace_session.specs.OpenSpans.{link_answer, linked_in, start_answer, with_history}
 use Rattle.otel_trace_session.specs.Turn.{AsksNobody, OnlyAnswers, Turn}
 
 -- what a start asks for: its scope and context, by which name commands call the span, what it is to
@@ -88,6 +88,11 @@ abbrev pub LinkTurn : {P S G : Type 0} → List ℕ → List ℕ → Turn P S G 
 LinkTurn span target turn = AsksNobody
     (link_answer (turn.before.histories target) (turn.before.histories span))
     (linked_in turn.before.histories span target) turn
+
+-- the name of a span whose history is over has none any more, and may be given one again
+abbrev pub ForgetTurn : {P S G : Type 0} → List ℕ → Turn P S G → Type 0
+ForgetTurn span turn =
+    AsksNobody (forget_answer (turn.before.histories span)) (forgotten_in turn.before.histories span) turn
 
 -- the headers of the span of a name are told, and nothing changes
 pub record InjectTurn {P S G : Type 0} (span : List ℕ) (turn : Turn P S G) : Type 0 where

@@ -10,7 +10,7 @@ use Rattle.otel_trace_lines.specs.declared.command.Command.{Command}
 use Rattle.otel_trace_lines.specs.declared.reply.Answer.{Answer}
 use Rattle.otel_pipeline.specs.SpanHistory.{PlainSpan}
 use Rattle.otel_trace_session.specs.Actions.{PlainAction, PlainOrigin, action_of, at_root, under, from_header, start_span}
-use Rattle.otel_trace_session.specs.Actions.{call_provider}
+use Rattle.otel_trace_session.specs.Actions.{call_provider, forget_span}
 use Rattle.otel_trace_session.specs.Calls.{Calls}
 use Rattle.otel_trace_session.specs.OpenSpans.{ChildMayStart, MayStart, NamedSpans, RemoteMayStart, SameSpans, named}
 use Rattle.otel_trace_session.specs.Shown.{session_losses, session_stored}
@@ -29,11 +29,13 @@ module _ {P S G : Type 0} (calls : Calls P S G) where
   MayStartFrom p spans (from_header header) builder moment found q =
       RemoteMayStart calls p header builder moment found q
 
-  -- what an action that is refused may have done to it: nothing, but for a start. Its own calls are not refused
+  -- what an action that is refused may have done to it: nothing, but for a start. Its own calls are not refused, nor
+  -- that a name is given up
   abbrev pub MayAsk : ProviderState P S G → NamedSpans → PlainAction → ProviderState P S G → Type 0
   MayAsk p spans (start_span origin span builder moment) q =
       MayStartFrom p spans origin builder moment (named spans span) q
   MayAsk p spans (call_provider call) q = ⊥
+  MayAsk p spans (forget_span span) q = ⊥
   MayAsk p spans _ q = q ≡ p
 
   -- an action was refused: each name has the span that it had, and no processor was asked

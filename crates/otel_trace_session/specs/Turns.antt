@@ -9,11 +9,11 @@ use Rattle.otel_trace_lines.specs.Commands.{PlainCommand, plain_commands}
 use Rattle.otel_trace_lines.specs.PlainReply.{PlainReply}
 use Rattle.otel_trace_lines.specs.declared.command.Command.{Command}
 use Rattle.otel_trace_session.specs.Actions.{PlainAction, action_of, may_lose, start_span, edit_span, inject_span, end_span}
-use Rattle.otel_trace_session.specs.Actions.{call_provider, link_span}
+use Rattle.otel_trace_session.specs.Actions.{call_provider, forget_span, link_span}
 use Rattle.otel_trace_session.specs.Calls.{Calls, batches_of_first, losses_of_first, stored_of_first}
 use Rattle.otel_trace_session.specs.OpenSpans.{Describe, Histories, NamedSpans}
 use Rattle.otel_trace_session.specs.ProviderTurns.{AsksProvider, CallGives}
-use Rattle.otel_trace_session.specs.SpanTurns.{EditTurn, EndTurn, InjectTurn, LinkTurn, StartsFrom}
+use Rattle.otel_trace_session.specs.SpanTurns.{EditTurn, EndTurn, ForgetTurn, InjectTurn, LinkTurn, StartsFrom}
 use Rattle.otel_trace_session.specs.Taking.{TakesShown}
 use Rattle.otel_trace_session.specs.Turn.{Course, Turn}
 
@@ -50,6 +50,7 @@ module _ {P S G : Type 0} (calls : Calls P S G) where
   TakesAction scope (end_span span moment) turn = EndTurn calls.processor span moment (turn.before.histories span) turn
   TakesAction scope (call_provider call) turn = AsksProvider (CallGives calls call) turn
   TakesAction scope (link_span span target) turn = LinkTurn span target turn
+  TakesAction scope (forget_span span) turn = ForgetTurn span turn
 
   -- an action was carried out in a turn: each processor follows what it delivered, and batches came only after those
   -- that the first one keeps

@@ -1,5 +1,5 @@
-//! What a command does, whatever its words: a span starts, is edited, is linked to another, tells its headers or ends,
-//! or the provider is called. So a command that edits a span is known here alone, and to those who read its line.
+//! What a command does, whatever its words: a span starts, is edited, is linked to another, tells its headers, ends or
+//! gives its name up, or the provider is called. So a command that edits a span is known here alone, and to those who read its line.
 
 ghost use Rattle.std.specs.Prelude.{◌≡◌, [], ◌∷◌, IfOk, string_bytes};
 ghost use Rattle.opentelemetry.specs.PlainValues.{plain_value};
@@ -69,6 +69,10 @@ pub(crate) enum Action {
         name: String,
         moment: Moment,
         attribute: KeyValue,
+    },
+    /// The name of a span that is over is given up.
+    Forget {
+        span: String,
     },
 }
 
@@ -160,6 +164,7 @@ pub(crate) fn action_of(alloc: Global, command: Command) -> Action
             moment,
             attribute: KeyValue::new(Key::new(key), Value::String(value)),
         },
+        Command::Forget { span } => Action::Forget { span },
     }
 }
 

@@ -72,6 +72,7 @@ pub(crate) fn carry_out<P: KeepsBatches, S: ShouldSample, G: GivesIds>(
         }
         Action::Inject { span } => spans.inject(alloc, span.as_str()),
         Action::End { span, moment } => spans.end(alloc, span.as_str(), provider, moment),
+        Action::Forget { span } => Ok(spans.forget(span.as_str())),
         Action::Call(call) => Ok(answer_to_call(call_provider(provider, call))),
     }
 }

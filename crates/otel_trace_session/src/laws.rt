@@ -32,13 +32,14 @@ pub fn runs_are_heard<P: KeepsBatches, S: ShouldSample, G: GivesIds>()
         (calls_of P.SpanProcessor P.Timed.own P.CountsLeftSpans.own P.KeepsBatches.own S.ShouldSample G.GivesIds) }
 {}
 
-/// At a provider that is open, under a sampler that goes by parents, each trace is sampled whole.
+/// At a provider that is open, under a sampler that goes by parents, each trace is sampled whole, as far as its spans
+/// have their names.
 pub fn runs_keep_traces_whole<P: KeepsBatches, S: ShouldSample, G: GivesIds>()
     ensures { TracesAreWhole
         (calls_of P.SpanProcessor P.Timed.own P.CountsLeftSpans.own P.KeepsBatches.own S.ShouldSample G.GivesIds) }
 {}
 
-/// A name that has a span keeps one with its span context.
+/// A name that has a span keeps one with its span context, unless it is given up.
 pub fn runs_keep_contexts<P: KeepsBatches, S: ShouldSample, G: GivesIds>()
     ensures { ContextsAreKept
         (calls_of P.SpanProcessor P.Timed.own P.CountsLeftSpans.own P.KeepsBatches.own S.ShouldSample G.GivesIds) }

@@ -10,6 +10,7 @@ mod headers;
 pub mod laws;
 mod open_spans;
 pub mod session;
+mod span_answers;
 mod span_maps;
 
 pub use session::{ClosedSession, FeedError, RunError, Session};

@@ -1,6 +1,6 @@
 //! The spans of a session by name. They must be spent: each is abandoned when the session closes.
 
-ghost use Rattle.std.specs.Prelude.{◌≡◌, [], ◌++◌, IfOk, None, OnErr, codes, is_some, string_bytes, if◌then◌else◌};
+ghost use Rattle.std.specs.Prelude.{◌≡◌, [], ◌++◌, IfOk, None, OnErr, codes, string_bytes};
 ghost use Rattle.std.specs.Option.{option_copied, option_map};
 ghost use Rattle.opentelemetry.specs.Plain.{scope_named};
 ghost use Rattle.opentelemetry.specs.PlainContexts.{root_cx};
@@ -20,11 +20,12 @@ ghost use Rattle.otel_trace_session.specs.OpenSpans.{
   by_name,
   edit_answer,
   edited_in,
+  forget_answer,
+  forgotten_in,
   identity_of,
   link_answer,
   linked_in,
   named,
-  finished_by_name,
   start_answer,
 };
 ghost use Rattle.otel_trace_session.specs.SpanTurns.{ChildTurn, EndTurn, StartTurn, start_in};
@@ -32,7 +33,8 @@ ghost use Rattle.otel_trace_session.specs.Turn.{TurnsFromAny};
 
 use crate::ended_span::EndedSpan;
 use crate::headers::answer_with_headers;
-use crate::span_maps::{abandon_all, abandon_one, keep_identity};
+use crate::span_answers::{answer_to_edit, answer_to_end, answer_to_forget, answer_to_late};
+use crate::span_maps::{abandon_all, abandon_one, drop_identity, has_recording, keep_identity};
 use opentelemetry::trace::{Link, SpanBuilder, SpanContext};
 use opentelemetry::{Context, Moment};
 use otel_pipeline::trace::{
@@ -263,8 +265,22 @@ impl OpenSpans {
         let is_recording = found.is_recording();
         keep_identity(alloc, &mut self.finished, span, found)?;
         let refused = found.end_with_timestamp(provider, moment)?;
-        abandon_one(&mut self.running, span);
+        let _was_open = abandon_one(&mut self.running, span);
         Ok(answer_to_end(is_recording, refused))
+    }
+
+    /// Gives up the name of a span that is over: nothing is kept of it.
+    pub(crate) fn forget(&mut self, span: &str) -> Answer
+        ensures { (histories : Histories) → Describe histories self.old
+            → (result ≡ forget_answer (histories span.now))
+            × Describe (forgotten_in histories span.now) self.new }
+    {
+        if has_recording(&self.running, span) {
+            return Answer::StillOpen;
+        }
+        let was_open = abandon_one(&mut self.running, span);
+        let was_over = drop_identity(&mut self.finished, span);
+        answer_to_forget(was_open, was_over)
     }
 
     /// Spends them: each open span is abandoned.
@@ -274,18 +290,6 @@ impl OpenSpans {
             finished: _,
         } = self;
         abandon_all(running);
-    }
-}
-
-/// What is said of an edit or an end of a span that is not open, by those that are over.
-fn answer_to_late(finished: &BTreeMap<String, EndedSpan>, span: &str) -> Answer
-    ensures { result ≡ (if is_some (named (finished_by_name finished.now.entries) span.now) then Answer.Ignored
-        else Answer.NoSuchSpan) }
-{
-    if finished.contains_key(span) {
-        Answer::Ignored
-    } else {
-        Answer::NoSuchSpan
     }
 }
 
@@ -351,27 +355,5 @@ fn identity(span: &Span) -> SpanIdentity
         trace_id: context.trace_id(),
         span_id: context.span_id(),
         trace_flags: context.trace_flags(),
-    }
-}
-
-/// What is said of an edit of a span that was recording or not.
-fn answer_to_edit(is_recording: bool) -> Answer
-    ensures { result ≡ (if is_recording then Answer.Ok else Answer.Ignored) }
-{
-    if is_recording {
-        Answer::Ok
-    } else {
-        Answer::Ignored
-    }
-}
-
-/// What is said of the end of a span that was recording or not, and that so many processors refused.
-fn answer_to_end(is_recording: bool, refused: usize) -> Answer
-    ensures { result ≡ (if is_recording then Answer.Ended refused else Answer.Ignored) }
-{
-    if is_recording {
-        Answer::Ended(refused)
-    } else {
-        Answer::Ignored
     }
 }

@@ -1,7 +1,7 @@
 -- There are no two fields, or no truth value after them.
-use Rattle.std.proofs.Common.{◌≡◌, Bool, refl, rules, string_bytes}
+use Rattle.std.proofs.Common.{refl}
 use Rattle.otel_trace_lines.specs.Commands.{set_bool}
-use Rattle.otel_trace_lines.specs.Lines.{truth, IsOfForm, IsTruth, field}
+use Rattle.otel_trace_lines.specs.Lines.{truth}
 use Rattle.otel_trace_lines.proofs.FieldLemmas.{only_bool, ends_as, ends_with, one_rest}
 use Rattle.otel_trace_lines.proofs.extended.bool_of.Goals as goal
 

@@ -1,5 +1,5 @@
 -- There are no two fields, or no moment and message after them.
-use Rattle.std.proofs.Common.{◌≡◌, refl, rules, string_bytes}
+use Rattle.std.proofs.Common.{refl}
 use Rattle.otel_trace_lines.specs.Commands.{exception}
 use Rattle.otel_trace_lines.specs.Lines.{instant, rest_of_line}
 use Rattle.otel_trace_lines.proofs.FieldLemmas.{only_exception, ends_as, ends_with, one_rest}

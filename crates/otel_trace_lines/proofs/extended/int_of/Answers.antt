@@ -1,10 +1,10 @@
 -- There are no two fields, or no integer after them.
-use Rattle.std.proofs.Common.{◌≡◌, ℤ, refl, rules, string_bytes}
+use Rattle.std.proofs.Common.{◌≡◌, refl, rules, string_bytes}
 use Rattle.std.specs.Prelude.{FitsSigned}
 use Rattle.std.specs.Int.{w64}
 use Rattle.std.proofs.lemmas.Int.{to_z-of_z}
 use Rattle.otel_trace_lines.specs.Commands.{set_int}
-use Rattle.otel_trace_lines.specs.Lines.{whole, IsOfForm, IsInteger64, field}
+use Rattle.otel_trace_lines.specs.Lines.{whole}
 use Rattle.otel_trace_lines.proofs.FieldLemmas.{only_int, ends_as, ends_with, one_rest}
 use Rattle.otel_trace_lines.proofs.extended.int_of.Goals as goal
 

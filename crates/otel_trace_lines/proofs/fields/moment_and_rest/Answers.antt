@@ -1,5 +1,4 @@
 -- The first field is no moment, or there is none.
-use Rattle.std.proofs.Common.{rules, refl}
 use Rattle.otel_trace_lines.proofs.FieldLemmas.{same_field}
 use Rattle.otel_trace_lines.proofs.fields.moment_and_rest.Goals as goal
 

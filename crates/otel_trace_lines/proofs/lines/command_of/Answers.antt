@@ -2,7 +2,7 @@
 use Rattle.std.proofs.Common.{◌≡◌, ◌++◌, ◌∷◌, IsUtf8, rules}
 use Rattle.opentelemetry.proofs.Clauses.{if_ok_map}
 use Rattle.otel_trace_lines.specs.Dialects.{HasWord}
-use Rattle.otel_trace_lines.proofs.FieldLemmas.{fields_give_line, fields_make_line, word_gives_line}
+use Rattle.otel_trace_lines.proofs.FieldLemmas.{fields_give_line, word_gives_line}
 use Rattle.otel_trace_lines.proofs.lines.command_of.Goals as goal
 
 pub returns-else-not-has_word-clause-found : goal.returns-else-not-has_word-clause-found

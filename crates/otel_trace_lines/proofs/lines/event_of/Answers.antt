@@ -3,7 +3,8 @@ use Rattle.std.proofs.Common.{ℕ, List, true, codes, refl}
 use Rattle.otel_trace_lines.specs.Commands.{event, event_with}
 use Rattle.otel_trace_lines.specs.Dialects.{MayHave}
 use Rattle.otel_trace_lines.specs.declared.dialect.Dialect.{Dialect}
-use Rattle.otel_trace_lines.specs.Lines.{AreFieldsIn, IsOfForm, field, instant, rest_of_line, time}
+use Rattle.otel_trace_lines.specs.Lines.{IsOfForm, field, instant, rest_of_line, time}
+use Rattle.otel_trace_lines.specs.Found.{AreFieldsIn}
 use Rattle.otel_trace_lines.proofs.FieldLemmas.{only_event, ends_as, ends_with, one_rest}
 use Rattle.otel_trace_lines.proofs.lines.event_of.Goals as goal
 

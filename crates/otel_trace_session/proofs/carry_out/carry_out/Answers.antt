@@ -7,7 +7,7 @@ use Rattle.otel_pipeline.specs.Exceptions.{exception_event}
 use Rattle.otel_pipeline.specs.SpanEdits.{Edit, add_event, plain_edit}
 use Rattle.otel_trace_lines.specs.Commands.{plain_command}
 use Rattle.otel_trace_lines.specs.declared.reply.Answer.{Answer}
-use Rattle.otel_trace_session.specs.Actions.{PlainAction, action_of, at_root, under, from_header, start_span, edit_span, inject_span, end_span, call_provider, link_span}
+use Rattle.otel_trace_session.specs.Actions.{PlainAction, action_of, at_root, under, from_header, start_span, edit_span, inject_span, end_span, call_provider, link_span, forget_span}
 use Rattle.otel_trace_session.specs.Actions.{event_edit, plain_action, plain_call, plain_origin}
 use Rattle.otel_trace_session.specs.Calls.{calls_of}
 use Rattle.otel_trace_session.specs.OpenSpans.{AnswersInject, Describe, Histories}
@@ -18,7 +18,8 @@ use Rattle.otel_trace_session.specs.Turn.{TurnsFromAny}
 use Rattle.otel_trace_session.specs.Turns.{IsCarriedOut}
 use Rattle.otel_trace_session.specs.declared.actions.Origin.{Origin}
 use Rattle.otel_trace_session.proofs.NamedLemmas.{on_err_both, refused_start_asks_none}
-use Rattle.otel_trace_session.proofs.CarryLemmas.{carries_call, carries_child, carries_edit, carries_end, carries_inject, carries_link, carries_remote, carries_start}
+use Rattle.otel_trace_session.proofs.CarryLemmas.{carries_call, carries_child, carries_edit, carries_end, carries_forget, carries_inject, carries_link, carries_remote, carries_start}
+use Rattle.otel_trace_session.proofs.ForgetLemmas.{Forgets}
 use Rattle.otel_trace_session.proofs.TurnLemmas.{Childs, Edits, EndsNamed, Links}
 use Rattle.otel_trace_session.proofs.carry_out.carry_out.Goals as goal
 
@@ -156,3 +157,12 @@ returns-in-Call-clause-ok g c =
     subst (λ (answer : Answer). TurnsFromAny (IsCarriedOut calls c.args.tracer.now (action_of (plain_command c.args.command))) c.args.provider.now c.args.spans.now answer c.call_provider.new.provider c.args.spans.now) (sym c.answer_to_call.ensures)
     (subst (λ (action : PlainAction). TurnsFromAny (IsCarriedOut calls c.args.tracer.now action) c.args.provider.now c.args.spans.now (call_answer c.call_provider.result) c.call_provider.new.provider c.args.spans.now) does
     (carries_call calls g.met.P.KeepsBatches.appends c.args.tracer.now call c.args.provider.now c.call_provider.new.provider c.args.spans.now c.call_provider.result c.call_provider.ensures.gives c.call_provider.ensures.told))
+
+pub returns-in-Forget-clause-ok : goal.returns-in-Forget-clause-ok
+returns-in-Forget-clause-ok g c =
+    let calls = calls_of g.P.SpanProcessor g.P.Timed g.P.CountsLeftSpans g.P.KeepsBatches g.S.ShouldSample g.G.GivesIds in
+    let span = string_bytes c.in-Forget.span in
+    let does : forget_span span ≡ action_of (plain_command c.args.command) = ap plain_action (sym c.in-Forget.is) ∙ c.action_of.ensures in
+    subst (λ (action : PlainAction). TurnsFromAny (IsCarriedOut calls c.args.tracer.now action) c.args.provider.now c.args.spans.now c.forget.result c.args.provider.now c.forget.new.self) does
+    (carries_forget calls g.met.P.KeepsBatches.appends c.args.tracer.now c.args.provider.now c.args.spans.now c.forget.new.self span c.forget.result
+    (subst (λ (called : List ℕ). Forgets c.args.spans.now called c.forget.result c.forget.new.self) c.as_str-in-Forget.ensures.value c.forget.ensures))

@@ -52,11 +52,11 @@ returns-clause-ok g c =
     let running = c.self.inside.running in
     let finished = c.self.inside.finished in
     let middle = c.get_mut.follows.lender c.end_with_timestamp.new.self in
-    let new = c.abandon_one.new.running in
+    let new = c.abandon_one-was_open.new.running in
     let more = finished_by_name c.keep_identity.new.finished.entries in
     let there : named (by_name running.entries) c.args.span.now ≡ Some c.in-Some.found.now = named-get running c.args.span.now ∙ sym c.in-Some.ensures.value in
     let put = puts_span running middle c.args.span.now c.end_with_timestamp.new.self ((c.get_mut.follows.holds c.end_with_timestamp.new.self).3 (search rules)) in
-    let gone = drops_put (by_name running.entries) (by_name middle.entries) (by_name new.entries) c.args.span.now c.end_with_timestamp.new.self put c.abandon_one.ensures in
+    let gone = drops_put (by_name running.entries) (by_name middle.entries) (by_name new.entries) c.args.span.now c.end_with_timestamp.new.self put c.abandon_one-was_open.ensures.gone in
     subst (λ (old : NamedSpans). TurnsFromAny (EndsNamed g.P.SpanProcessor c.args.span.now c.args.moment.0) c.args.provider.now old c.answer_to_end.result c.end_with_timestamp.new.provider (by_name new.entries ++ more)) c.self.view_is
     (ends_there g.P.SpanProcessor c.args.provider.now c.end_with_timestamp.new.provider (held_spans running.entries finished.entries) (by_name new.entries ++ more) c.args.span.now c.args.moment.0 c.in-Some.found.now c.answer_to_end.result
     (there_before (by_name running.entries) (finished_by_name finished.entries) c.args.span.now c.in-Some.found.now there) (record {
@@ -95,9 +95,9 @@ invariant_of-self-2 g c =
     let running = c.self.inside.running in
     let finished = c.self.inside.finished in
     let middle = c.get_mut.follows.lender c.end_with_timestamp.new.self in
-    let new = c.abandon_one.new.running in
+    let new = c.abandon_one-was_open.new.running in
     let more = finished_by_name c.keep_identity.new.finished.entries in
     let put = puts_span running middle c.args.span.now c.end_with_timestamp.new.self ((c.get_mut.follows.holds c.end_with_timestamp.new.self).3 (search rules)) in
-    let gone = drops_put (by_name running.entries) (by_name middle.entries) (by_name new.entries) c.args.span.now c.end_with_timestamp.new.self put c.abandon_one.ensures in
+    let gone = drops_put (by_name running.entries) (by_name middle.entries) (by_name new.entries) c.args.span.now c.end_with_timestamp.new.self put c.abandon_one-was_open.ensures.gone in
     puts_history (held_spans running.entries finished.entries) (by_name new.entries ++ more) c.args.span.now (ended c.in-Some.found.now) c.self.invariant (ended_has c.in-Some.found.now)
     (puts_moved (by_name running.entries) (by_name new.entries) (finished_by_name finished.entries) more c.args.span.now (ended c.in-Some.found.now) gone c.in_ok-keep_identity.ensures.ok)
