@@ -10,3 +10,4 @@ pub mod ReasonLemmas
 pub mod StepStream
 pub mod TraceEnds
 pub mod TraceStream
+pub mod ViewWords

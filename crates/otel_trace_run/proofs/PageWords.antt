@@ -17,7 +17,7 @@ IsModeLetter word = (110 < first_letter word) × (first_letter word < 117)
 letter_between : (word : List ℕ) (letter : ℕ) → first_letter word ≡ letter → 110 < letter → letter < 117 → IsModeLetter word
 letter_between word letter e least most = (omega (arith, e, least), omega (arith, e, most))
 
-mode_letter : (mode : PlainMode) → IsModeLetter (word_of mode)
+pub mode_letter : (mode : PlainMode) → IsModeLetter (word_of mode)
 mode_letter (trace asked) = letter_between (codes "trace") 116 refl (omega arith) (omega arith)
 mode_letter (steps sizes) = letter_between (codes "steps") 115 refl (omega arith) (omega arith)
 mode_letter (otlp export given) = letter_between (codes "otlp") 111 refl (omega arith) (omega arith)
@@ -41,6 +41,7 @@ no_page_of word [] pages.Steps l h = h
 no_page_of word [] pages.Otlp l h = h
 no_page_of word [] pages.Picture l h = h
 no_page_of word [] pages.Svg l h = h
+no_page_of word [] pages.View l h = h
 no_page_of word (mode ∷ []) page l h = no_help word l h.0
 no_page_of word (mode ∷ other ∷ more) page l h = h
 

@@ -10,3 +10,4 @@ pub mod Reasons
 pub mod StepRuns
 pub mod Streams
 pub mod TraceRuns
+pub mod Views

@@ -6,7 +6,7 @@ use Rattle.otel_trace_run.specs.Arguments.{AsksUnread, usage_text}
 use Rattle.otel_trace_run.specs.declared.pages.Page.{Page}
 use Rattle.otel_trace_run.specs.declared.pages.Page.TheVariants as pages
 use Rattle.otel_trace_run.specs.declared.pages.TheConstants.{HELP, OTLP_HELP, OTLP_USAGE, PICTURE_HELP, PICTURE_USAGE}
-use Rattle.otel_trace_run.specs.declared.pages.TheConstants.{STEPS_HELP, SVG_HELP, SVG_USAGE, TRACE_HELP, VERSION}
+use Rattle.otel_trace_run.specs.declared.pages.TheConstants.{STEPS_HELP, SVG_HELP, SVG_USAGE, TRACE_HELP, VERSION, VIEW_HELP, VIEW_USAGE}
 
 -- the text of a page, as the program's source has it
 abbrev pub page_text : Page → List ℕ
@@ -16,6 +16,7 @@ page_text pages.Steps = STEPS_HELP.now
 page_text pages.Otlp = OTLP_HELP.now
 page_text pages.Picture = PICTURE_HELP.now
 page_text pages.Svg = SVG_HELP.now
+page_text pages.View = VIEW_HELP.now
 page_text pages.Version = VERSION.now
 
 -- the words that ask for help, and for the version
@@ -38,6 +39,7 @@ ModePage word pages.Steps = word ≡ codes "steps"
 ModePage word pages.Otlp = word ≡ codes "otlp"
 ModePage word pages.Picture = word ≡ codes "picture"
 ModePage word pages.Svg = word ≡ codes "svg"
+ModePage word pages.View = word ≡ codes "view"
 ModePage word _ = ⊥
 
 -- words that ask for a page: one for help or for the version, or one for help and that of a mode
@@ -56,7 +58,9 @@ pub record WordUsage (word text : List ℕ) : Type 0 where
   pub otlp : word ≡ codes "otlp" → text ≡ OTLP_USAGE.now
   pub picture : word ≡ codes "picture" → text ≡ PICTURE_USAGE.now
   pub svg : word ≡ codes "svg" → text ≡ SVG_USAGE.now
-  pub other : word ≢ codes "otlp" → word ≢ codes "picture" → word ≢ codes "svg" → text ≡ usage_text
+  pub view : word ≡ codes "view" → text ≡ VIEW_USAGE.now
+  pub other : word ≢ codes "otlp" → word ≢ codes "picture" → word ≢ codes "svg" → word ≢ codes "view"
+      → text ≡ usage_text
 
 -- the usage of the mode that the first word names, or else that of the first two modes
 abbrev pub IsUsage : List (List ℕ) → List ℕ → Type 0

@@ -15,5 +15,6 @@ pub mod reason;
 pub mod run_end;
 mod step_stream;
 mod trace_stream;
+pub mod view;
 
 pub use program::run_program;

@@ -249,7 +249,7 @@ fn sizes_in(queue: &str, batch: &str, producers: &str) -> Option<Sizes>
 }
 
 /// The columns that the first word gives, or 72 where there is none; none where it gives none.
-fn parse_columns(given: &[String]) -> Option<u32>
+pub(crate) fn parse_columns(given: &[String]) -> Option<u32>
     ensures { MatchOption result
         ((columns : ℕ) → GivesColumns (map string_bytes given.now) columns → ⊥)
         (λ columns. GivesColumns (map string_bytes given.now) columns) }

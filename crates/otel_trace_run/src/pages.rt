@@ -23,6 +23,7 @@ pub enum Page {
     Otlp,
     Picture,
     Svg,
+    View,
     Version,
 }
 
@@ -45,6 +46,9 @@ pub const HELP: &str =
     otel_trace svg SEED simple\n\
     otel_trace svg SEED batch Q B\n\
     \x20   draws them as SVG, example: otel_trace svg 1 simple < checkout.txt > checkout.svg\n\
+    otel_trace view [COLUMNS]\n\
+    otel_trace view svg\n\
+    \x20   draws traces out of OTLP JSON of any producer, example: otel_trace view < spans.jsonl\n\
     otel_trace help [MODE]\n\
     otel_trace version\n";
 
@@ -85,6 +89,14 @@ pub const SVG_HELP: &str = "otel_trace svg SEED simple\n\
     \n\
     example: otel_trace svg 1 simple < checkout.txt > checkout.svg\n";
 
+pub const VIEW_HELP: &str = "otel_trace view [COLUMNS]\n\
+    otel_trace view svg\n\
+    \n\
+    Draws traces at the end of the input, which is OTLP JSON of any producer: a request a line, or one over many lines.\n\
+    A line that does not read is named, and the others are drawn. COLUMNS are 20 to 400, and 72 where none are given.\n\
+    \n\
+    example: otel_trace view 120 < spans.jsonl\n";
+
 /// What is said of arguments that ask for nothing. It names the first two modes alone, for whoever compares it.
 const USAGE: &str = "usage: otel_trace trace SEED simple | trace SEED batch Q B | steps Q B P\n";
 
@@ -95,6 +107,8 @@ pub const PICTURE_USAGE: &str =
     "usage: otel_trace picture SEED simple [COLUMNS] | picture SEED batch Q B [COLUMNS]\n";
 
 pub const SVG_USAGE: &str = "usage: otel_trace svg SEED simple | svg SEED batch Q B\n";
+
+pub const VIEW_USAGE: &str = "usage: otel_trace view [COLUMNS] | view svg\n";
 
 /// The text of a page.
 pub(crate) fn text_of(page: Page) -> &'static str
@@ -107,6 +121,7 @@ pub(crate) fn text_of(page: Page) -> &'static str
         Page::Otlp => OTLP_HELP,
         Page::Picture => PICTURE_HELP,
         Page::Svg => SVG_HELP,
+        Page::View => VIEW_HELP,
         Page::Version => VERSION,
     }
 }
@@ -152,6 +167,7 @@ fn page_of_mode(word: &str, mode: &str) -> Option<Page>
         "otlp" => Some(Page::Otlp),
         "picture" => Some(Page::Picture),
         "svg" => Some(Page::Svg),
+        "view" => Some(Page::View),
         _ => None,
     }
 }
@@ -185,6 +201,7 @@ fn usage_of(word: &str) -> &'static str
         "otlp" => OTLP_USAGE,
         "picture" => PICTURE_USAGE,
         "svg" => SVG_USAGE,
+        "view" => VIEW_USAGE,
         _ => USAGE,
     }
 }

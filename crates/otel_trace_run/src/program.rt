@@ -24,6 +24,7 @@ ghost use Rattle.otel_trace_run.specs.Pages.{
 ghost use Rattle.otel_trace_run.specs.Program.{Runs, RunsTo};
 ghost use Rattle.otel_trace_run.specs.Reasons.{IsFault};
 ghost use Rattle.otel_trace_run.specs.Streams.{Reports, streams};
+ghost use Rattle.otel_trace_run.specs.Views.{AsksForNoView, AsksView, Views};
 
 use crate::mode::{Asked, AskedExport, Mode, parse_mode, unread_attribute};
 use crate::otlp::{export_input, resource_of};
@@ -34,26 +35,28 @@ use crate::reason::{Reason, text_of as reason_text_of};
 use crate::run_end::RunEnd;
 use crate::step_stream::step_input;
 use crate::trace_stream::trace_input;
+use crate::view::{parse_view, view_input};
 use otel_export::stream::write_whole;
 use otel_trace_lines::ReplyLines;
 use std::alloc::Global;
 use std::io::{Read, Write};
 
 /// The exit status where all went well.
-const DONE: u8 = 0;
+pub(crate) const DONE: u8 = 0;
 
 /// The exit status where reading, writing, closing or memory failed, or a batch was lost.
-const FAILED: u8 = 1;
+pub(crate) const FAILED: u8 = 1;
 
 /// The exit status of a bad line or of wrong arguments.
-const REFUSED: u8 = 2;
+pub(crate) const REFUSED: u8 = 2;
 
 /// Runs the program over any reader and writers, and answers its exit status: 0 at the end of the input; 2 for a bad
 /// line or wrong arguments; 1 where reading, writing or the closing fails, memory is missing or a batch was lost, also
 /// where 2 would be due. `words` are the arguments without the program's name; wrong ones are found before anything is
 /// read. Lines are answered as they come: what answers them is written and sent on before more is read, and a run of
 /// status 1 has written a beginning of what one of status 0 writes. After a bad line nothing is read. A picture is
-/// written at the end of the input, which is read to that whatever its lines are.
+/// written at the end of the input, which is read to that whatever its lines are. A view draws the lines that read, and
+/// names the others.
 pub fn run_program<R: Read, W: Write, F: Write>(
     alloc: Global,
     words: &[String],
@@ -62,7 +65,7 @@ pub fn run_program<R: Read, W: Write, F: Write>(
     faults: &mut F,
 ) -> u8
     ensures usage { (result ≤ 2) × (AsksForNothing (map string_bytes words.now)
-        → AsksForNoPage (map string_bytes words.now)
+        → AsksForNoPage (map string_bytes words.now) → AsksForNoView (map string_bytes words.now)
         → (input.new ≡ input.old) × (output.new ≡ output.old) × (result ≢ 0)
         × (result ≡ 2 → (text : List ℕ) × SaysUsage (map string_bytes words.now) text
         × Appends (F.contents faults.old) (F.contents faults.new) text)) }
@@ -74,9 +77,16 @@ pub fn run_program<R: Read, W: Write, F: Write>(
         ⟦<TraceProvider as SessionProvider>⟧.calls ⟦<PictureForm as SpanPainter>⟧.paints mode
         (streams (R.remaining input.old) (R.remaining input.new) (W.contents output.old) (W.contents output.new))
         (faults.new ≡ faults.old) (Appends (F.contents faults.old) (F.contents faults.new)) result }
+    ensures views { (form : PictureForm) → AsksView (map string_bytes words.now) form
+        → (found : PictureForm) × AsksView (map string_bytes words.now) found × Views found
+        (streams (R.remaining input.old) (R.remaining input.new) (W.contents output.old) (W.contents output.new))
+        (faults.new ≡ faults.old) (Appends (F.contents faults.old) (F.contents faults.new)) result }
 {
     if let Some(page) = parse_page(words) {
         return show(text_of(page), output);
+    }
+    if let Some(form) = parse_view(words) {
+        return view_input(alloc, form, input, output, faults);
     }
     match parse_mode(words) {
         None => refuse_words(alloc, words, faults),

@@ -1,0 +1,62 @@
+-- The mode `view`: traces of any producer are drawn, out of OTLP JSON.
+use Rattle.std.specs.Prelude.{◌≡◌, ◌≢◌, ◌⊎◌, ◌≤◌, ℕ, List, [], ◌∷◌, ◌++◌, codes, decimal, length}
+use Rattle.std.specs.Io.KnownBytes.{Appends, IsAtEnd}
+use Rattle.std.specs.List.{flat_map}
+use Rattle.otel_export.specs.Streams.{AppendsBeginning}
+use Rattle.otel_otlp_read.specs.Faults.{fault_text}
+use Rattle.otel_otlp_read.specs.Inputs.{PlainReadText, read_input}
+use Rattle.otel_otlp_read.specs.declared.input.LineFault.{LineFault}
+use Rattle.otel_trace_run.specs.Arguments.{GivesColumns}
+use Rattle.otel_trace_run.specs.Paintings.{Draws}
+use Rattle.otel_trace_run.specs.Streams.{AreAll, Streams}
+use Rattle.otel_trace_run.specs.declared.picture.PictureForm.{PictureForm}
+use Rattle.otel_trace_run.specs.declared.picture.PictureForm.TheVariants as forms
+
+-- what stands after the word `view`: a number of columns, if one is given, or the word `svg`
+abbrev pub NamesView : List (List ℕ) → PictureForm → Type 0
+NamesView given (forms.Text columns) = (length given ≤ 1) × GivesColumns given columns
+NamesView given forms.Svg = given ≡ codes "svg" ∷ []
+
+-- words ask for a view
+pub record AsksView (words : List (List ℕ)) (form : PictureForm) : Type 0 where
+  pub given : List (List ℕ)
+  pub named : NamesView given form
+  pub words_are : words ≡ codes "view" ∷ given
+
+-- words that ask for none
+abbrev pub AsksForNoView : List (List ℕ) → Type 0
+AsksForNoView words = (form : PictureForm) → AsksView words form → ⊥
+
+-- a line that does not read, and why
+abbrev pub fault_line : LineFault → List ℕ
+fault_line found =
+    codes "line " ++ (decimal found.line ++ (codes ": " ++ (fault_text found.fault ++ codes "\n")))
+
+abbrev pub fault_lines : List LineFault → List ℕ
+fault_lines = flat_map fault_line
+
+-- the spans of a whole input were drawn, and these of its lines did not read
+pub record DrawsView (form : PictureForm) (s : Streams) (faults : List LineFault) : Type 0 where
+  pub bytes : List ℕ
+  pub picture : List ℕ
+  pub all : AreAll s.input bytes
+  pub at_end : IsAtEnd s.input_after
+  pub drawn : Draws form (read_input bytes).spans picture
+  pub written : Appends s.output s.output_after picture
+  pub faults_are : faults ≡ (read_input bytes).faults
+
+-- nothing of a view was written, or a beginning
+pub record BeginsView (form : PictureForm) (s : Streams) : Type 0 where
+  pub spans_text : List ℕ
+  pub written : AppendsBeginning s.output s.output_after spans_text
+  pub is : (spans_text ≡ []) ⊎ ((bytes : List ℕ) × AreAll s.input bytes × Draws form (read_input bytes).spans spans_text)
+
+-- a view by the exit status: 0 where each line read, and nothing is said; 2 where some did not, which are named; 1 where
+-- it failed
+pub record Views (form : PictureForm) (s : Streams) (Silent : Type 0) (Says : List ℕ → Type 0) (status : ℕ)
+    : Type 0 where
+  pub small : status ≤ 2
+  pub done : status ≡ 0 → DrawsView form s [] × Silent
+  pub named : status ≡ 2 → (faults : List LineFault) × (faults ≢ []) × DrawsView form s faults
+      × Says (fault_lines faults)
+  pub failed : status ≡ 1 → BeginsView form s
