@@ -1,5 +1,6 @@
 //! What a command does, whatever its words: a span starts, is edited, is linked to another, tells its headers, ends or
-//! gives its name up, or the provider is called. So a command that edits a span is known here alone, and to those who read its line.
+//! gives its name up, or the provider is called. So a command that edits a span is known here alone, and to those who
+//! read its line.
 
 ghost use Rattle.std.specs.Prelude.{◌≡◌, [], ◌∷◌, IfOk, string_bytes};
 ghost use Rattle.opentelemetry.specs.PlainValues.{plain_value};

@@ -3,6 +3,7 @@
 //! memory.
 
 mod fixtures;
+mod forgotten;
 mod program;
 mod refused_memory;
 mod refused_runs;

@@ -11,7 +11,7 @@ use std::alloc::Global;
 use std::process::Abort;
 
 /// What a span, its child and a remote one live through, a command a line.
-const LIVES: [&[u8]; 15] = [
+const LIVES: [&[u8]; 16] = [
     b"start s a 1",
     b"child c s b 2",
     b"remote r 00-4bf92f3577b34da6a3ce929d0e0e4736-00f067aa0ba902b7-01 w 3",
@@ -27,6 +27,7 @@ const LIVES: [&[u8]; 15] = [
     b"run 7",
     b"flush",
     b"shutdown",
+    b"forget c",
 ];
 
 /// Runs the command of a line. The answer is whether it found memory.
@@ -128,7 +129,7 @@ fn lived<P: KeepsBatches>(rt: &impl Abort, alloc: Global, processor: P) -> [usiz
 #[test]
 fn a_run_that_found_no_memory_succeeds_again(rt: HostRuntime) {
     let [replies, fitting, told] = lived(&rt, rt.alloc(), exporting(rt.alloc()));
-    assert_eq!(rt; (replies, fitting, told), (15, 15, 2));
+    assert_eq!(rt; (replies, fitting, told), (16, 16, 2));
 }
 
 /// Feeds a line, and feeds it again where it found no memory, which must put nothing out. The answer is whether it did.
