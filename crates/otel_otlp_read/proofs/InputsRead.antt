@@ -1,6 +1,8 @@
 -- The text of a batch, and the lines of batches, are read back.
+use Rattle.std.specs.Prelude.{◌&&◌, is_some}
 use Rattle.std.proofs.Common.{◌≡◌, ◌+◌, ◌==◌, ℕ, true, false, cond, List, [], ◌∷◌, ◌++◌, map, Some, Ok}
 use Rattle.std.proofs.Common.{refl, sym, ap, ◌∙◌}
+use Rattle.std.proofs.lemmas.Str.{is_utf8-from_IsUtf8}
 use Rattle.std.proofs.lemmas.List.{map-append}
 use Rattle.std.proofs.lemmas.List.Concat.{flat_map-cons}
 use Rattle.std.specs.List.{AllByRecursion, slice_split}
@@ -22,14 +24,19 @@ pub document_back : (text : List ℕ) (j : Json) (spans : List PlainShownSpan) �
     → read_request j ≡ Ok spans → read_document text ≡ Ok spans
 document_back text j spans utf8 is e = read_json text j utf8 is ∙ e
 
+pub json_back : (text : List ℕ) (j : Json) → IsUtf8 text → document text ≡ Some j → is_json text ≡ true
+json_back text j utf8 is = ap (λ t. t && is_some (document text)) (is_utf8-from_IsUtf8 text utf8) ∙ ap is_some is
+
 -- the text of a batch begins with a brace
 not_blank : (resource : PlainResource) (batch : List PlainSpanData) → is_blank (otlp_text resource batch) ≡ false
 unfolding print_from
 not_blank resource batch = refl
 
 module _ (resource : PlainResource) where
-  abbrev pub Reads : List PlainSpanData → Type 0
-  Reads batch = read_document (otlp_text resource batch) ≡ Ok (map (shown_span (service_of resource)) batch)
+  -- the text of a batch is JSON, and read as its spans
+  pub record Reads (batch : List PlainSpanData) : Type 0 where
+    pub json : is_json (otlp_text resource batch) ≡ true
+    pub spans : read_document (otlp_text resource batch) ≡ Ok (map (shown_span (service_of resource)) batch)
 
   -- each batch is read, where each that fits is
   pub each_reads : (batches : List (List PlainSpanData))
@@ -46,7 +53,7 @@ module _ (resource : PlainResource) where
   line_back number batch h =
       ap (λ t. cond t (record { spans = []; faults = [] }) (of_document number (read_document (otlp_text resource batch))))
       (not_blank resource batch)
-      ∙ ap (of_document number) h
+      ∙ ap (of_document number) h.spans
 
   abbrev pub all_of : List (List PlainSpanData) → PlainReadText
   all_of batches = record { spans = map (shown_span (service_of resource)) (spans_in batches); faults = [] }
@@ -70,8 +77,8 @@ module _ (resource : PlainResource) where
   begins_back [] h = refl
   begins_back (batch ∷ batches) h =
       ap (λ t. cond t (begins_with_json (map (otlp_text resource) batches ++ [] ∷ []))
-      (is_json (read_document (otlp_text resource batch)))) (not_blank resource batch)
-      ∙ ap is_json h.0
+      (is_json (otlp_text resource batch))) (not_blank resource batch)
+      ∙ h.0.json
 
   pub input_back : (batches : List (List PlainSpanData)) → AllByRecursion Reads batches
       → slice_split (λ b. b == 10) (otlp_lines resource batches) ≡ map (otlp_text resource) batches ++ [] ∷ []
@@ -79,6 +86,6 @@ module _ (resource : PlainResource) where
   unfolding read_input
   input_back batches h cut =
       let text = otlp_lines resource batches in
-      let whole = cond (is_json (read_document text)) (of_document 1 (read_document text)) (read_lines 1 (text_lines text)) in
+      let whole = cond (is_json text) (of_document 1 (read_document text)) (read_lines 1 (text_lines text)) in
       ap (λ t. cond t (read_lines 1 (text_lines text)) whole) (ap begins_with_json cut ∙ begins_back batches h)
       ∙ ap (read_lines 1) cut ∙ lines_back 1 batches h

@@ -15,12 +15,12 @@ first_of_left text rest line after is cut = ap (λ (o : Option (Bor (List ℕ)))
 pub begins_blank : (line : List ℕ) (lines : List (List ℕ)) → is_blank line ≡ true
     → begins_with_json (line ∷ lines) ≡ begins_with_json lines
 unfolding begins_with_json
-begins_blank line lines is = ap (λ t. cond t (begins_with_json lines) (is_json (read_document line))) is
+begins_blank line lines is = ap (λ t. cond t (begins_with_json lines) (is_json line)) is
 
 pub begins_there : (line : List ℕ) (lines : List (List ℕ)) → is_blank line ≡ false
-    → begins_with_json (line ∷ lines) ≡ is_json (read_document line)
+    → begins_with_json (line ∷ lines) ≡ is_json line
 unfolding begins_with_json
-begins_there line lines is = ap (λ t. cond t (begins_with_json lines) (is_json (read_document line))) is
+begins_there line lines is = ap (λ t. cond t (begins_with_json lines) (is_json line)) is
 
 pub begins_none : begins_with_json [] ≡ true
 unfolding begins_with_json
@@ -67,12 +67,12 @@ left_falls (Some a) rest h = omega arith
 
 -- an input read line by line, or as a whole
 pub input_lines : (text : List ℕ)
-    → (begins_with_json (text_lines text) ≡ true) ⊎ (is_json (read_document text) ≡ false)
+    → (begins_with_json (text_lines text) ≡ true) ⊎ (is_json text ≡ false)
     → read_lines 1 (text_lines text) ≡ read_input text
 unfolding read_input
 input_lines text (inl begins) =
     sym (ap (λ t. cond t (read_lines 1 (text_lines text))
-    (cond (is_json (read_document text)) (of_document 1 (read_document text)) (read_lines 1 (text_lines text)))) begins)
+    (cond (is_json text) (of_document 1 (read_document text)) (read_lines 1 (text_lines text)))) begins)
 input_lines text (inr none) =
     sym (ap (λ t. cond (begins_with_json (text_lines text)) (read_lines 1 (text_lines text))
     (cond t (of_document 1 (read_document text)) (read_lines 1 (text_lines text)))) none
@@ -82,10 +82,10 @@ input_lines text (inr none) =
     same true read = refl
     same false read = refl
 
-pub input_whole : (text : List ℕ) → begins_with_json (text_lines text) ≡ false → is_json (read_document text) ≡ true
+pub input_whole : (text : List ℕ) → begins_with_json (text_lines text) ≡ false → is_json text ≡ true
     → of_document 1 (read_document text) ≡ read_input text
 unfolding read_input
 input_whole text begins whole =
     sym (ap (λ t. cond t (read_lines 1 (text_lines text))
-    (cond (is_json (read_document text)) (of_document 1 (read_document text)) (read_lines 1 (text_lines text)))) begins
+    (cond (is_json text) (of_document 1 (read_document text)) (read_lines 1 (text_lines text)))) begins
     ∙ ap (λ t. cond t (of_document 1 (read_document text)) (read_lines 1 (text_lines text))) whole)

@@ -1,5 +1,5 @@
 -- What a fault says.
-use Rattle.std.specs.Prelude.{ℕ, List, codes, Bool, true, false}
+use Rattle.std.specs.Prelude.{ℕ, List, codes}
 use Rattle.otel_otlp_read.specs.declared.fault.Fault.{Fault}
 use Rattle.otel_otlp_read.specs.declared.fault.Fault.TheVariants as faults
 
@@ -41,42 +41,3 @@ fault_text faults.IntForm = codes "an intValue is a whole number of 64 bits with
 fault_text faults.DoubleForm = codes "a doubleValue is a number, NaN, Infinity or -Infinity"
 fault_text faults.BytesForm = codes "a bytesValue is no text"
 fault_text faults.ListForm = codes "an arrayValue or a kvlistValue is an object with a list of values"
-
--- whether it is a fault of a text that is JSON
-abbrev pub is_json_fault : Fault → Bool
-is_json_fault faults.NotJson = false
-is_json_fault faults.RequestType = true
-is_json_fault faults.ResourceSpansMissing = true
-is_json_fault faults.ResourceSpansType = true
-is_json_fault faults.ResourceSpansItem = true
-is_json_fault faults.ResourceType = true
-is_json_fault faults.ScopeSpansName = true
-is_json_fault faults.ScopeSpansType = true
-is_json_fault faults.ScopeSpansItem = true
-is_json_fault faults.SpansType = true
-is_json_fault faults.SpanType = true
-is_json_fault faults.TraceIdMissing = true
-is_json_fault faults.TraceIdForm = true
-is_json_fault faults.SpanIdMissing = true
-is_json_fault faults.SpanIdForm = true
-is_json_fault faults.ParentForm = true
-is_json_fault faults.NameType = true
-is_json_fault faults.KindForm = true
-is_json_fault faults.TimeForm = true
-is_json_fault faults.StatusType = true
-is_json_fault faults.CodeForm = true
-is_json_fault faults.MessageType = true
-is_json_fault faults.AttributesType = true
-is_json_fault faults.AttributeType = true
-is_json_fault faults.KeyType = true
-is_json_fault faults.EventsType = true
-is_json_fault faults.EventType = true
-is_json_fault faults.ValueType = true
-is_json_fault faults.ValueKinds = true
-is_json_fault faults.ValueDepth = true
-is_json_fault faults.StringForm = true
-is_json_fault faults.BoolForm = true
-is_json_fault faults.IntForm = true
-is_json_fault faults.DoubleForm = true
-is_json_fault faults.BytesForm = true
-is_json_fault faults.ListForm = true

@@ -1,6 +1,6 @@
 -- Whole inputs: a document a line, or one document over many lines.
-use Rattle.std.specs.Prelude.{ℕ, ◌+◌, ◌||◌, ◌==◌, Bool, true, List, [], ◌∷◌, ◌++◌, Option, Some, None}
-use Rattle.std.specs.Prelude.{Result, Ok, Err, if◌then◌else◌}
+use Rattle.std.specs.Prelude.{ℕ, ◌+◌, ◌&&◌, ◌||◌, ◌==◌, Bool, true, List, [], ◌∷◌, ◌++◌, Option, Some, None}
+use Rattle.std.specs.Prelude.{Result, Ok, Err, if◌then◌else◌, is_some}
 use Rattle.std.specs.List.{list_all, slice_split}
 use Rattle.std.specs.Str.{is_utf8}
 use Rattle.json.specs.Json.{Json, document}
@@ -8,7 +8,6 @@ use Rattle.otel_shown.specs.Shown.{PlainShownSpan}
 use Rattle.otel_otlp_read.specs.declared.fault.Fault.{Fault}
 use Rattle.otel_otlp_read.specs.declared.fault.Fault.TheVariants as faults
 use Rattle.otel_otlp_read.specs.declared.input.LineFault.{LineFault}
-use Rattle.otel_otlp_read.specs.Faults.{is_json_fault}
 use Rattle.otel_otlp_read.specs.Requests.{read_request}
 
 -- the spans of the request that a text is, if it is JSON
@@ -62,18 +61,17 @@ unfoldable pub read_lines : ℕ → List (List ℕ) → PlainReadText
 read_lines number [] = nothing_read
 read_lines number (line ∷ lines) = and_read (of_line number line) (read_lines (number + 1) lines)
 
--- whether what is read of a text says that it is JSON
-abbrev pub is_json : Result (List PlainShownSpan) Fault → Bool
-is_json (Ok spans) = true
-is_json (Err fault) = is_json_fault fault
+-- whether a text is JSON
+abbrev pub is_json : List ℕ → Bool
+is_json text = is_utf8 text && is_some (document text)
 
 -- whether the first line that is not blank is JSON, if there is one
 unfoldable pub begins_with_json : List (List ℕ) → Bool
 begins_with_json [] = true
-begins_with_json (line ∷ lines) = if is_blank line then begins_with_json lines else is_json (read_document line)
+begins_with_json (line ∷ lines) = if is_blank line then begins_with_json lines else is_json line
 
 -- an input: a document a line; but where its first line is no JSON, and it is as a whole, one document
 unfoldable pub read_input : List ℕ → PlainReadText
 read_input text =
     if begins_with_json (text_lines text) then read_lines 1 (text_lines text) else
-    (if is_json (read_document text) then of_document 1 (read_document text) else read_lines 1 (text_lines text))
+    (if is_json text then of_document 1 (read_document text) else read_lines 1 (text_lines text))

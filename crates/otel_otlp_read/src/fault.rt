@@ -1,7 +1,7 @@
 //! Why a document could not be read.
 
 ghost use Rattle.std.specs.Prelude.{◌≡◌};
-ghost use Rattle.otel_otlp_read.specs.Faults.{fault_text, is_json_fault};
+ghost use Rattle.otel_otlp_read.specs.Faults.{fault_text};
 
 use std::alloc::{AllocError, AllocFailed};
 use std::fmt;
@@ -92,16 +92,6 @@ impl Fault {
             Fault::DoubleForm => "a doubleValue is a number, NaN, Infinity or -Infinity",
             Fault::BytesForm => "a bytesValue is no text",
             Fault::ListForm => "an arrayValue or a kvlistValue is an object with a list of values",
-        }
-    }
-
-    /// Whether it is a fault of a text that is JSON.
-    pub fn is_of_json(self) -> bool
-        ensures { result ≡ is_json_fault self }
-    {
-        match self {
-            Fault::NotJson => false,
-            _ => true,
         }
     }
 }

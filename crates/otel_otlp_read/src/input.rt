@@ -7,7 +7,7 @@ ghost use Rattle.otel_otlp_read.specs.Inputs.{text_lines};
 use crate::document::read_document;
 use crate::fault::{Fault, ReadError};
 use crate::lines::{first_line, is_blank};
-use json::Scratch;
+use json::{Scratch, is_valid};
 use otel_shown::ShownSpan;
 use std::alloc::{AllocError, Global};
 use std::marker::Model;
@@ -71,26 +71,25 @@ impl ReadText {
     }
 }
 
-/// Whether a text is JSON, by what is read of it.
-fn is_json(alloc: Global, text: &[u8], scratch: &mut Scratch) -> Result<bool, AllocError>
-    ensures { IfOk result (λ is. is ≡ is_json (read_document text.now)) }
+/// Whether a text is JSON.
+fn is_json(text: &[u8], scratch: &mut Scratch) -> Result<bool, AllocError>
+    ensures { IfOk result (λ is. is ≡ is_json text.now) }
 {
-    match read_document(alloc, text, scratch) {
-        Ok(_) => Ok(true),
-        Err(ReadError::Fault(fault)) => Ok(fault.is_of_json()),
-        Err(ReadError::OutOfMemory) => Err(AllocError),
+    match str::from_utf8(text) {
+        Ok(text) => is_valid(text, scratch),
+        Err(_) => Ok(false),
     }
 }
 
 /// Whether the first line that is not blank is JSON, if there is one.
-fn begins_with_json(alloc: Global, text: &[u8], scratch: &mut Scratch) -> Result<bool, AllocError>
+fn begins_with_json(text: &[u8], scratch: &mut Scratch) -> Result<bool, AllocError>
     ensures { IfOk result (λ is. is ≡ begins_with_json (text_lines text.now)) }
 {
     let mut left = Some(text);
     while let Some(rest) = left {
         let (line, after) = first_line(rest);
         if !is_blank(line) {
-            return is_json(alloc, line, scratch);
+            return is_json(line, scratch);
         }
         left = after;
     }
@@ -131,7 +130,7 @@ pub fn read_text(alloc: Global, text: &[u8]) -> Result<ReadText, AllocError>
     ensures { IfOk result (λ read. read ≡ read_input text.now) }
 {
     let mut scratch = Scratch::new(alloc);
-    if begins_with_json(alloc, text, &mut scratch)? || !is_json(alloc, text, &mut scratch)? {
+    if begins_with_json(text, &mut scratch)? || !is_json(text, &mut scratch)? {
         return read_lines(alloc, text, &mut scratch);
     }
     read_whole(alloc, text, &mut scratch)

@@ -37,5 +37,6 @@ pub fn lines_are_read()
         ≡ record { spans = map (shown_span (service_of resource)) (spans_in batches); faults = [] } }
 {
     what_is_written_is_read();
+    lines_read_back();
     lines_are_cut();
 }

@@ -1,6 +1,6 @@
 -- Line by line, or as a whole.
 use Rattle.std.proofs.Common.{◌≡◌, ◌∙◌, ◌⊎◌, IfOk, sym, subst, true, false, inl, inr}
-use Rattle.otel_otlp_read.specs.Inputs.{PlainReadText, begins_with_json, is_json, read_document, text_lines}
+use Rattle.otel_otlp_read.specs.Inputs.{PlainReadText, begins_with_json, is_json, text_lines}
 use Rattle.otel_otlp_read.proofs.LineReading.{input_lines, input_whole}
 use Rattle.otel_otlp_read.proofs.input.read_text.Goals as goal
 use Rattle.otel_otlp_read.proofs.input.read_text.Goals.{then-branch-via-then-branch, then-branch-via-else-branch+in_ok-is_json+then-not-branch}
@@ -8,7 +8,7 @@ use Rattle.otel_otlp_read.proofs.input.read_text.Goals.{then-branch-via-then-bra
 pub returns-then-branch : goal.returns-then-branch
 returns-then-branch c =
     let text = c.args.text.now in
-    let why : (begins_with_json (text_lines text) ≡ true) ⊎ (is_json (read_document text) ≡ false) =
+    let why : (begins_with_json (text_lines text) ≡ true) ⊎ (is_json text ≡ false) =
     elim c.then-branch.branch [
       | then-branch-via-then-branch w ↦ inl (sym (c.in_ok-begins_with_json.ensures {u = tt}) ∙ w.if-branch.true)
       | then-branch-via-else-branch+in_ok-is_json+then-not-branch w ↦
