@@ -11,3 +11,4 @@ pub mod StepStream
 pub mod TraceEnds
 pub mod TraceStream
 pub mod ViewWords
+pub mod Viewing

@@ -1,5 +1,5 @@
 -- The mode `view`: traces of any producer are drawn, out of OTLP JSON.
-use Rattle.std.specs.Prelude.{◌≡◌, ◌≢◌, ◌⊎◌, ◌≤◌, ℕ, List, [], ◌∷◌, ◌++◌, codes, decimal, length}
+use Rattle.std.specs.Prelude.{◌≡◌, ◌≢◌, ◌⊎◌, ◌≤◌, ℕ, List, [], ◌∷◌, ◌++◌, Option, codes, decimal, length}
 use Rattle.std.specs.Io.KnownBytes.{Appends, IsAtEnd}
 use Rattle.std.specs.List.{flat_map}
 use Rattle.otel_export.specs.Streams.{AppendsBeginning}
@@ -35,21 +35,26 @@ fault_line found =
 abbrev pub fault_lines : List LineFault → List ℕ
 fault_lines = flat_map fault_line
 
--- the spans of a whole input were drawn, and these of its lines did not read
-pub record DrawsView (form : PictureForm) (s : Streams) (faults : List LineFault) : Type 0 where
+-- an input was read to its end; this is the picture of its spans, and these of its lines do not read
+pub record ReadsView (form : PictureForm) (input after : Option (List ℕ)) (picture : List ℕ) (faults : List LineFault)
+    : Type 0 where
   pub bytes : List ℕ
-  pub picture : List ℕ
-  pub all : AreAll s.input bytes
-  pub at_end : IsAtEnd s.input_after
+  pub all : AreAll input bytes
+  pub at_end : IsAtEnd after
   pub drawn : Draws form (read_input bytes).spans picture
-  pub written : Appends s.output s.output_after picture
   pub faults_are : faults ≡ (read_input bytes).faults
 
--- nothing of a view was written, or a beginning
-pub record BeginsView (form : PictureForm) (s : Streams) : Type 0 where
-  pub spans_text : List ℕ
-  pub written : AppendsBeginning s.output s.output_after spans_text
-  pub is : (spans_text ≡ []) ⊎ ((bytes : List ℕ) × AreAll s.input bytes × Draws form (read_input bytes).spans spans_text)
+-- the picture of a whole input was written
+pub record DrawsView (form : PictureForm) (s : Streams) (faults : List LineFault) : Type 0 where
+  pub picture : List ℕ
+  pub reads : ReadsView form s.input s.input_after picture faults
+  pub written : Appends s.output s.output_after picture
+
+-- nothing was written, or a beginning of the picture of a whole input
+abbrev pub BeginsView : PictureForm → Streams → Type 0
+BeginsView form s = AppendsBeginning s.output s.output_after []
+    ⊎ ((picture : List ℕ) × (faults : List LineFault) × ReadsView form s.input s.input_after picture faults
+    × AppendsBeginning s.output s.output_after picture)
 
 -- a view by the exit status: 0 where each line read, and nothing is said; 2 where some did not, which are named; 1 where
 -- it failed

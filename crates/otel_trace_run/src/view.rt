@@ -1,7 +1,7 @@
 //! The mode `view`: the traces of an input of OTLP JSON, of any producer, are drawn. The input is read to its end, and then
 //! its picture is written; lines that do not read are named after that.
 
-ghost use Rattle.std.specs.Prelude.{◌≡◌, ◌⊎◌, IfSome, IfOk, MatchOption, OnOk, map, string_bytes};
+ghost use Rattle.std.specs.Prelude.{◌≡◌, ◌≢◌, ◌⊎◌, [], ◌∷◌, ◌↔◌, IfOk, IfSome, IsTrue, MatchOption, OnOk, codes, map, string_bytes};
 ghost use Rattle.std.specs.Io.KnownBytes.{Appends};
 ghost use Rattle.opentelemetry.specs.Text.{TextGrows};
 ghost use Rattle.otel_trace_run.specs.Streams.{streams};
@@ -11,6 +11,7 @@ ghost use Rattle.otel_trace_run.specs.Views.{
   BeginsView,
   DrawsView,
   NamesView,
+  ReadsView,
   Views,
   fault_line,
   fault_lines,
@@ -44,13 +45,23 @@ fn form_of(given: &[String]) -> Option<PictureForm>
         ((form : PictureForm) → NamesView (map string_bytes given.now) form → ⊥)
         (λ form. NamesView (map string_bytes given.now) form) }
 {
+    if given.len() > 1 {
+        return None;
+    }
+    if is_svg(given) {
+        return Some(PictureForm::Svg);
+    }
+    let columns = parse_columns(given)?;
+    Some(PictureForm::Text { columns })
+}
+
+/// Whether words are the word `svg` alone.
+fn is_svg(given: &[String]) -> bool
+    ensures { IsTrue result ↔ (map string_bytes given.now ≡ codes "svg" ∷ []) }
+{
     match given {
-        [word] if word.as_str() == "svg" => Some(PictureForm::Svg),
-        [] | [_] => {
-            let columns = parse_columns(given)?;
-            Some(PictureForm::Text { columns })
-        }
-        _ => None,
+        [word] => word.as_str() == "svg",
+        _ => false,
     }
 }
 
@@ -86,21 +97,31 @@ fn draw_view<R: Read, W: Write>(
         (streams (R.remaining input.old) (R.remaining input.new) (W.contents output.old) (W.contents output.new))
         found.items) }
 {
+    let (picture, found) = read_view(alloc, form, input)?;
+    let Ok(()) = write_whole(output, &picture) else {
+        return None;
+    };
+    Some(found)
+}
+
+/// Reads an input to its end, and gives the picture of its spans and the lines that do not read. None where reading or
+/// memory failed.
+fn read_view<R: Read>(
+    alloc: Global,
+    form: PictureForm,
+    input: &mut R,
+) -> Option<(Vec<u8>, Vec<LineFault>)>
+    ensures { IfSome result (λ found.
+        ReadsView form (R.remaining input.old) (R.remaining input.new) found.0.items found.1.items) }
+{
     let mut text = Vec::new(alloc);
     let Ok(_) = input.read_to_end(&mut text) else {
         return None;
     };
-    let Ok(read) = read_text(alloc, &text) else {
-        return None;
-    };
+    let read = read_text(alloc, &text).ok()?;
     let mut picture = Vec::new(alloc);
-    let Ok(()) = form.draw(alloc, &mut picture, &read.spans) else {
-        return None;
-    };
-    let Ok(()) = write_whole(output, &picture) else {
-        return None;
-    };
-    Some(read.faults)
+    form.draw(alloc, &mut picture, &read.spans).ok()?;
+    Some((picture, read.faults))
 }
 
 /// Appends the line that names a fault.

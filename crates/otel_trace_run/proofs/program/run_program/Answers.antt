@@ -42,5 +42,8 @@ returns-in-Some-parse_mode-clause-runs g c = λ mode asks.
     runs_asked _ _ _ mode (plain_mode c.in-Some-parse_mode.mode) s c.run_mode-end.result c.says_reasons-says_reasons.result _ _ c.status_of.result asks c.in-Some-parse_mode.ensures
     c.run_mode-end.ensures c.says_reasons-says_reasons.ensures c.status_of.ensures
 
+pub returns-in-None-clause-views : goal.returns-in-None-clause-views
+returns-in-None-clause-views g c = λ form asks. ?
+
 pub returns-in-None-clause-runs : goal.returns-in-None-clause-runs
 returns-in-None-clause-runs g c = λ mode asks. absurd (c.in-None.ensures mode asks)

@@ -1,0 +1,15 @@
+-- The lines that do not read are named, if there are any.
+use Rattle.std.proofs.Common.{◌≡◌, subst}
+use Rattle.std.specs.Io.KnownBytes.{Appends}
+use Rattle.otel_trace_run.specs.Streams.{streams}
+use Rattle.otel_trace_run.specs.Views.{DrawsView}
+use Rattle.otel_trace_run.proofs.Viewing.{views_by}
+use Rattle.otel_trace_run.proofs.view.view_input.Goals as goal
+
+pub returns-in-Some : goal.returns-in-Some
+returns-in-Some g c =
+    let s = streams (g.R.Read.remaining c.args.input.now) (g.R.Read.remaining c.draw_view.new.input)
+    (g.W.Write.contents c.args.output.now) (g.W.Write.contents c.draw_view.new.output) in
+    views_by c.args.form s c.deref.result.now (c.name_faults.new.faults ≡ c.args.faults.now)
+    (Appends (g.F.Write.contents c.args.faults.now) (g.F.Write.contents c.name_faults.new.faults)) c.name_faults.result
+    (rw c.deref.ensures.value c.in-Some.ensures) c.name_faults.ensures
