@@ -71,10 +71,14 @@ abbrev pub AsksUnread : List (List ℕ) → List ℕ → Type 0
 AsksUnread [] member = ⊥
 AsksUnread (word ∷ after) member = (word ≡ codes "otlp") × NamesUnread after member
 
--- the columns that a word gives, 20 at least and 400 at most, or 72 where none does
+-- digits write a number of columns, 20 at least and 400 at most
+abbrev pub WritesColumns : List ℕ → ℕ → Type 0
+WritesColumns digits columns = IsDecimal64 digits columns × (20 ≤ columns) × (columns ≤ 400)
+
+-- the columns that a word gives, or 72 where none does
 abbrev pub GivesColumns : List (List ℕ) → ℕ → Type 0
 GivesColumns [] columns = columns ≡ 72
-GivesColumns (digits ∷ more) columns = IsDecimal64 digits columns × (20 ≤ columns) × (columns ≤ 400)
+GivesColumns (digits ∷ more) columns = WritesColumns digits columns
 
 -- the words of a provider, and a number of columns, if one is given
 pub record NamesText (words : List (List ℕ)) (asked : Asked) (columns : ℕ) : Type 0 where

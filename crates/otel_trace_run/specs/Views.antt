@@ -6,16 +6,22 @@ use Rattle.otel_export.specs.Streams.{AppendsBeginning}
 use Rattle.otel_otlp_read.specs.Faults.{fault_text}
 use Rattle.otel_otlp_read.specs.Inputs.{PlainReadText, read_input}
 use Rattle.otel_otlp_read.specs.declared.input.LineFault.{LineFault}
-use Rattle.otel_trace_run.specs.Arguments.{GivesColumns}
+use Rattle.otel_trace_run.specs.Arguments.{WritesColumns}
 use Rattle.otel_trace_run.specs.Paintings.{Draws}
 use Rattle.otel_trace_run.specs.Streams.{AreAll, Streams}
 use Rattle.otel_trace_run.specs.declared.picture.PictureForm.{PictureForm}
 use Rattle.otel_trace_run.specs.declared.picture.PictureForm.TheVariants as forms
 
+-- the form that a word names: a number of columns, or the word `svg`
+abbrev pub WordView : List ℕ → PictureForm → Type 0
+WordView word (forms.Text columns) = WritesColumns word columns
+WordView word forms.Svg = word ≡ codes "svg"
+
 -- what stands after the word `view`: a number of columns, if one is given, or the word `svg`
 abbrev pub NamesView : List (List ℕ) → PictureForm → Type 0
-NamesView given (forms.Text columns) = (length given ≤ 1) × GivesColumns given columns
-NamesView given forms.Svg = given ≡ codes "svg" ∷ []
+NamesView [] form = form ≡ forms.Text 72
+NamesView (word ∷ []) form = WordView word form
+NamesView (word ∷ other ∷ more) form = ⊥
 
 -- words ask for a view
 pub record AsksView (words : List (List ℕ)) (form : PictureForm) : Type 0 where

@@ -15,6 +15,7 @@ ghost use Rattle.otel_trace_run.specs.Arguments.{
   NamesSizes,
   NamesUnread,
   WriteSizes,
+  WritesColumns,
   plain_mode,
 };
 ghost use Rattle.otel_trace_run.specs.Program.{says_reasons};
@@ -249,19 +250,26 @@ fn sizes_in(queue: &str, batch: &str, producers: &str) -> Option<Sizes>
 }
 
 /// The columns that the first word gives, or 72 where there is none; none where it gives none.
-pub(crate) fn parse_columns(given: &[String]) -> Option<u32>
+fn parse_columns(given: &[String]) -> Option<u32>
     ensures { MatchOption result
         ((columns : ℕ) → GivesColumns (map string_bytes given.now) columns → ⊥)
         (λ columns. GivesColumns (map string_bytes given.now) columns) }
 {
     match given {
         [] => Some(COLUMNS),
-        [columns, ..] => {
-            let number = parse_decimal(columns.as_str())?;
-            if number < 20 || number > 400 {
-                return None;
-            }
-            Some(number as u32)
-        }
+        [columns, ..] => columns_of(columns.as_str()),
     }
+}
+
+/// The columns that a word gives; none where it gives none.
+pub(crate) fn columns_of(digits: &str) -> Option<u32>
+    ensures { MatchOption result
+        ((columns : ℕ) → WritesColumns digits.now columns → ⊥)
+        (λ columns. WritesColumns digits.now columns) }
+{
+    let number = parse_decimal(digits)?;
+    if number < 20 || number > 400 {
+        return None;
+    }
+    Some(number as u32)
 }

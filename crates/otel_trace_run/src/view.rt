@@ -1,7 +1,7 @@
 //! The mode `view`: the traces of an input of OTLP JSON, of any producer, are drawn. The input is read to its end, and then
 //! its picture is written; lines that do not read are named after that.
 
-ghost use Rattle.std.specs.Prelude.{◌≡◌, ◌≢◌, ◌⊎◌, [], ◌∷◌, ◌↔◌, IfOk, IfSome, IsTrue, MatchOption, OnOk, codes, map, string_bytes};
+ghost use Rattle.std.specs.Prelude.{◌≡◌, ◌≢◌, ◌⊎◌, [], IfOk, IfSome, MatchOption, OnOk, map, string_bytes};
 ghost use Rattle.std.specs.Io.KnownBytes.{Appends};
 ghost use Rattle.opentelemetry.specs.Text.{TextGrows};
 ghost use Rattle.otel_trace_run.specs.Streams.{streams};
@@ -13,15 +13,17 @@ ghost use Rattle.otel_trace_run.specs.Views.{
   NamesView,
   ReadsView,
   Views,
+  WordView,
   fault_line,
   fault_lines,
 };
 
-use crate::mode::parse_columns;
+use crate::mode::columns_of;
 use crate::picture::PictureForm;
 use crate::program::{DONE, FAILED, REFUSED};
 use otel_export::stream::write_whole;
-use otel_otlp_read::{LineFault, ReadText, read_text};
+use otel_otlp_read::{LineFault, read_text};
+use otel_picture::layout::COLUMNS;
 use std::alloc::{AllocError, Global};
 use std::fmt::Write as _;
 use std::io::{Read, Write};
@@ -45,23 +47,25 @@ fn form_of(given: &[String]) -> Option<PictureForm>
         ((form : PictureForm) → NamesView (map string_bytes given.now) form → ⊥)
         (λ form. NamesView (map string_bytes given.now) form) }
 {
-    if given.len() > 1 {
-        return None;
+    match given {
+        [] => Some(PictureForm::Text { columns: COLUMNS }),
+        [word] => form_of_word(word.as_str()),
+        _ => None,
     }
-    if is_svg(given) {
-        return Some(PictureForm::Svg);
-    }
-    let columns = parse_columns(given)?;
-    Some(PictureForm::Text { columns })
 }
 
-/// Whether words are the word `svg` alone.
-fn is_svg(given: &[String]) -> bool
-    ensures { IsTrue result ↔ (map string_bytes given.now ≡ codes "svg" ∷ []) }
+/// The form that a word names: `svg`, or a number of columns; none where it names none.
+fn form_of_word(word: &str) -> Option<PictureForm>
+    ensures { MatchOption result
+        ((form : PictureForm) → WordView word.now form → ⊥)
+        (λ form. WordView word.now form) }
 {
-    match given {
-        [word] => word.as_str() == "svg",
-        _ => false,
+    match word {
+        "svg" => Some(PictureForm::Svg),
+        digits => {
+            let columns = columns_of(digits)?;
+            Some(PictureForm::Text { columns })
+        }
     }
 }
 

@@ -43,7 +43,7 @@ returns-in-Some-parse_mode-clause-runs g c = λ mode asks.
     c.run_mode-end.ensures c.says_reasons-says_reasons.ensures c.status_of.ensures
 
 pub returns-in-None-clause-views : goal.returns-in-None-clause-views
-returns-in-None-clause-views g c = λ form asks. ?
+returns-in-None-clause-views g c = λ form asks. absurd (c.in_default-parse_view.ensures form asks)
 
 pub returns-in-None-clause-runs : goal.returns-in-None-clause-runs
 returns-in-None-clause-runs g c = λ mode asks. absurd (c.in-None.ensures mode asks)
