@@ -1,5 +1,5 @@
 -- Words that ask for a view ask for no page and for no other mode.
-use Rattle.std.proofs.Common.{◌≡◌, ◌<◌, ◌∷◌, ℕ, List, [], ap, arith, codes, inl, inr, refl, subst, sym, ◌∙◌}
+use Rattle.std.proofs.Common.{◌≡◌, ◌∷◌, ℕ, List, [], ap, arith, codes, inl, inr, subst, sym, ◌∙◌}
 use Rattle.std.proofs.Math.ListN.{get_or}
 use Rattle.otel_trace_run.specs.Arguments.{Asks, PlainMode, word_of}
 use Rattle.otel_trace_run.specs.Pages.{AsksForPage, IsHelpWord, IsVersionWord}

@@ -1,10 +1,10 @@
 -- The mode `view`: traces of any producer are drawn, out of OTLP JSON.
-use Rattle.std.specs.Prelude.{◌≡◌, ◌≢◌, ◌⊎◌, ◌≤◌, ℕ, List, [], ◌∷◌, ◌++◌, Option, codes, decimal, length}
+use Rattle.std.specs.Prelude.{◌≡◌, ◌≢◌, ◌⊎◌, ◌≤◌, ℕ, List, [], ◌∷◌, ◌++◌, Option, codes, decimal}
 use Rattle.std.specs.Io.KnownBytes.{Appends, IsAtEnd}
 use Rattle.std.specs.List.{flat_map}
 use Rattle.otel_export.specs.Streams.{AppendsBeginning}
 use Rattle.otel_otlp_read.specs.Faults.{fault_text}
-use Rattle.otel_otlp_read.specs.Inputs.{PlainReadText, read_input}
+use Rattle.otel_otlp_read.specs.Inputs.{read_input}
 use Rattle.otel_otlp_read.specs.declared.input.LineFault.{LineFault}
 use Rattle.otel_trace_run.specs.Arguments.{WritesColumns}
 use Rattle.otel_trace_run.specs.Paintings.{Draws}

@@ -1,8 +1,7 @@
 -- The lines that do not read are named, if there are any.
-use Rattle.std.proofs.Common.{◌≡◌, subst}
+use Rattle.std.proofs.Common.{◌≡◌}
 use Rattle.std.specs.Io.KnownBytes.{Appends}
 use Rattle.otel_trace_run.specs.Streams.{streams}
-use Rattle.otel_trace_run.specs.Views.{DrawsView}
 use Rattle.otel_trace_run.proofs.Viewing.{views_by}
 use Rattle.otel_trace_run.proofs.view.view_input.Goals as goal
 
