@@ -6,9 +6,11 @@ use otel_case_rows::spans::{short_span_of, short_spans_of, spans_of};
 use otel_case_rows::values::{attributes_of, given_text};
 use otel_export::trace::SpanData;
 use otel_otlp::write_request;
+use otel_picture::layout::COLUMNS;
 use otel_picture::svg::write_svg;
-use otel_picture::write_text::{COLUMNS, write_text};
+use otel_picture::write_text::write_text;
 use otel_resource::resource::Resource;
+use otel_trace_run::picture::shown_spans;
 use std::alloc::Global;
 
 /// Answers a row whose word is one of these; false where it is none.
@@ -50,25 +52,22 @@ fn resource_of(alloc: Global, text: &str) -> Result<Resource, RowError> {
 fn make_picture(alloc: Global, row: &Row) -> Result<Vec<u8>, RowError> {
     let columns = small_number_of(row.field(0))?;
     let mut written = Vec::new(alloc);
-    write_text(
-        alloc,
-        &mut written,
-        &short_spans_of(alloc, row, 1)?,
-        columns,
-    )?;
+    let spans = shown_spans(alloc, short_spans_of(alloc, row, 1)?)?;
+    write_text(alloc, &mut written, &spans, columns)?;
     Ok(written)
 }
 
 fn svg_of(alloc: Global, row: &Row) -> Result<Vec<u8>, RowError> {
     let mut written = Vec::new(alloc);
-    write_svg(alloc, &mut written, &short_spans_of(alloc, row, 0)?)?;
+    let spans = shown_spans(alloc, short_spans_of(alloc, row, 0)?)?;
+    write_svg(alloc, &mut written, &spans)?;
     Ok(written)
 }
 
 /// The picture of so many spans, each under the one before it.
 fn picture_of_chain(alloc: Global, row: &Row) -> Result<Vec<u8>, RowError> {
     let mut written = Vec::new(alloc);
-    let chain = chain_of(alloc, small_number_of(row.field(0))?)?;
+    let chain = shown_spans(alloc, chain_of(alloc, small_number_of(row.field(0))?)?)?;
     write_text(alloc, &mut written, &chain, COLUMNS)?;
     Ok(written)
 }

@@ -88,7 +88,7 @@ impl SpanPainter for PictureForm {
 }
 
 /// Exported spans as they are shown: nobody says whose they are.
-fn shown_spans(alloc: Global, spans: Vec<SpanData>) -> Result<Vec<ShownSpan>, AllocError>
+pub fn shown_spans(alloc: Global, spans: Vec<SpanData>) -> Result<Vec<ShownSpan>, AllocError>
     ensures { IfOk result (λ shown. shown.items ≡ map (shown_span []) spans.items) }
 {
     let mut shown = Vec::with_capacity(alloc, spans.len())?;
