@@ -4,7 +4,7 @@ use Rattle.std.proofs.lemmas.Nat.{le-div, div-add-mod'}
 use Rattle.std.proofs.lemmas.Grind.{common_steps}
 use Rattle.otel_picture.specs.Bars.{column}
 
-div_follows : (m n k : ℕ) → 0 < k → m ≤ n → m / k ≤ n / k
+pub div_follows : (m n k : ℕ) → 0 < k → m ≤ n → m / k ≤ n / k
 div_follows m n k p h = le-div (m / k) n k p (omega (arith, div-add-mod' m k))
 
 pub column_follows : (first last columns earlier later : ℕ) → first ≤ last → earlier ≤ later

@@ -1,7 +1,8 @@
 //! Laws of pictures. Each function does nothing; its contract is the law, for all values.
 
-ghost use Rattle.std.specs.Prelude.{ℕ, ◌≡◌, ◌≤◌, All, List, Option, [], max};
+ghost use Rattle.std.specs.Prelude.{ℕ, ◌≡◌, ◌<◌, ◌≤◌, ◌+◌, All, List, Option, [], max};
 ghost use Rattle.otel_picture.specs.Bars.{column};
+ghost use Rattle.otel_picture.specs.Durations.{shown_duration, step_of};
 ghost use Rattle.otel_picture.specs.Rows.{HasAncestors, StandUnder};
 ghost use Rattle.otel_picture.specs.Texts.{IsPiece, escaped_char};
 ghost use Rattle.otel_picture.specs.declared.rows.Row.{Row};
@@ -27,4 +28,11 @@ pub fn levels_count_ancestors()
 /// What the SVG form writes for a character is an entity, or bytes that begin nothing in XML.
 pub fn escapes_are_pieces()
     ensures { (c : ℕ) → IsPiece (escaped_char c) }
+{}
+
+/// What is shown of a duration is not greater than it and less than one unit of its last digit away, and of two
+/// durations the longer one is not shown as shorter.
+pub fn durations_are_cut()
+    ensures close { (n : ℕ) → (shown_duration n ≤ n) × (n < shown_duration n + step_of n) }
+    ensures follow { (shorter longer : ℕ) → shorter ≤ longer → shown_duration shorter ≤ shown_duration longer }
 {}
