@@ -34,5 +34,6 @@ pub fn escapes_are_pieces()
 /// durations the longer one is not shown as shorter.
 pub fn durations_are_cut()
     ensures close { (n : ℕ) → (shown_duration n ≤ n) × (n < shown_duration n + step_of n) }
-    ensures follow { (shorter longer : ℕ) → shorter ≤ longer → shown_duration shorter ≤ shown_duration longer }
+    ensures follow { (shorter longer : ℕ)
+        → shorter ≤ longer → shown_duration shorter ≤ shown_duration longer }
 {}

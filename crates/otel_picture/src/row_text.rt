@@ -93,7 +93,8 @@ fn sign_of(status: &Status) -> &'static str
 impl Sheet<'_> {
     /// Whether an event happened in a column.
     fn happens_in(&self, events: &[ShownEvent], column: u32) -> bool
-        ensures { result ≡ list_any (λ event. sheet_column (plain_sheet self.now) event.timestamp == column) events.now }
+        ensures { result
+            ≡ list_any (λ event. sheet_column (plain_sheet self.now) event.timestamp == column) events.now }
     {
         for event in events {
             if self.scale.column(event.timestamp.0) == column {

@@ -92,7 +92,8 @@ impl Family {
         requires { length placed.now ≡ vec_len self.now.parents }
         ensures ready { IfSome result (λ span. is_ready self.now.parents.items placed.now span ≡ true) }
         ensures left { IfSome result (λ span. IsLeft placed.now span) }
-        ensures last { IfSome result (λ span. IsLastReady self.now.marks.items self.now.parents.items placed.now span) }
+        ensures last { IfSome result (λ span.
+            IsLastReady self.now.marks.items self.now.parents.items placed.now span) }
         ensures none { IfNone result
             ((span : ℕ) → span < length placed.now → is_ready self.now.parents.items placed.now span ≡ false) }
     {
@@ -167,7 +168,8 @@ impl Family {
         requires { length placed.now ≡ vec_len self.now.parents }
         ensures left { IfSome result (λ span. IsLeft placed.now span) }
         ensures turn { IfSome result (λ span. IsTurn self.now.parents.items placed.now span) }
-        ensures last { IfSome result (λ span. IsLastReady self.now.marks.items self.now.parents.items placed.now span) }
+        ensures last { IfSome result (λ span.
+            IsLastReady self.now.marks.items self.now.parents.items placed.now span) }
         ensures none { IfNone result ((span : ℕ) → ¬ IsLeft placed.now span) }
     {
         match self.last_ready(placed) {

@@ -127,7 +127,8 @@ fn push_bar_place(out: &mut String, line: u64, bar: Bar) -> Result<(), AllocErro
 
 /// The title of an event.
 fn event_title_of(alloc: Global, event: &ShownEvent) -> Result<String, AllocError>
-    ensures { IfOk result (λ title. string_bytes title ≡ event.now.name ++ fact_text (codes "at") event.now.timestamp) }
+    ensures { IfOk result (λ title.
+        string_bytes title ≡ event.now.name ++ fact_text (codes "at") event.now.timestamp) }
 {
     let mut title = String::from_str(alloc, event.name.as_str())?;
     push_fact(&mut title, "at", event.timestamp.0)?;
