@@ -1,10 +1,12 @@
 //! Laws of pictures. Each function does nothing; its contract is the law, for all values.
 
-ghost use Rattle.std.specs.Prelude.{ℕ, ◌≡◌, ◌<◌, ◌≤◌, ◌+◌, All, List, Option, [], max};
-ghost use Rattle.otel_picture.specs.Bars.{column};
+ghost use Rattle.std.specs.Prelude.{ℕ, ◌≡◌, ◌<◌, ◌≤◌, ◌+◌, All, List, Option, [], length, max};
+ghost use Rattle.otel_picture.specs.Bars.{column, first_of, last_of};
 ghost use Rattle.otel_picture.specs.Durations.{shown_duration, step_of};
+ghost use Rattle.otel_picture.specs.Orders.{mark_at};
 ghost use Rattle.otel_picture.specs.Rows.{HasAncestors, StandUnder};
 ghost use Rattle.otel_picture.specs.Texts.{IsPiece, escaped_char};
+ghost use Rattle.otel_picture.specs.declared.rows.Mark.{Mark};
 ghost use Rattle.otel_picture.specs.declared.rows.Row.{Row};
 
 /// Columns follow time: an earlier moment stands in no later column, so of two spans the earlier start begins no
@@ -36,4 +38,15 @@ pub fn durations_are_cut()
     ensures close { (n : ℕ) → (shown_duration n ≤ n) × (n < shown_duration n + step_of n) }
     ensures follow { (shorter longer : ℕ)
         → shorter ≤ longer → shown_duration shorter ≤ shown_duration longer }
+{}
+
+/// A scale goes from the least start of its spans to their greatest moment, the later of a start and an end.
+pub fn scales_fit()
+    ensures holds { (marks : List Mark) (place : ℕ) → place < length marks
+        → (first_of marks ≤ (mark_at marks place).start)
+        × (max (mark_at marks place).start (mark_at marks place).end ≤ last_of marks) }
+    ensures begins { (marks : List Mark) → 0 < length marks
+        → (place : ℕ) × (place < length marks) × ((mark_at marks place).start ≡ first_of marks) }
+    ensures ends { (marks : List Mark) → 0 < length marks → (place : ℕ) × (place < length marks)
+        × (max (mark_at marks place).start (mark_at marks place).end ≡ last_of marks) }
 {}
