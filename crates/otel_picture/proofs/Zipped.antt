@@ -1,17 +1,10 @@
 -- Traces beside their ids.
-use Rattle.std.proofs.Common.{◌≡◌, ◌<◌, ◌++◌, ◌∷◌, [], ℕ, List, All, length, map}
+use Rattle.std.proofs.Common.{◌≡◌, ◌<◌, ◌∷◌, [], ℕ, List, All, length, map}
 use Rattle.std.specs.List.{AllByRecursion, AllZip}
 use Rattle.otel_shown.specs.Shown.{PlainShownSpan}
 use Rattle.otel_picture.specs.Traces.{IsTraceAt, IsTraceOf, PlainTrace, plain_trace}
 use Rattle.otel_picture.specs.declared.rows.Mark.{Mark}
 use Rattle.otel_picture.specs.declared.trace.Trace.{Trace}
-
-pub zip_more : {A B : Type 0} (R : A → B → Type 0) (xs : List A) (ys : List B) (x : A) (y : B) → AllZip R xs ys → R x y
-    → AllZip R (xs ++ x ∷ []) (ys ++ y ∷ [])
-zip_more R [] [] x y h r = (r, tt)
-zip_more R [] (b ∷ ys) x y h r = absurd h
-zip_more R (a ∷ xs) [] x y h r = absurd h
-zip_more R (a ∷ xs) (b ∷ ys) x y h r = (h.0, zip_more R xs ys x y h.1 r)
 
 -- the spans of traces are there
 pub are_there : (spans : List PlainShownSpan) (ids : List ℕ) (traces : List Trace)

@@ -1,5 +1,5 @@
--- The sheet that the text form draws a trace on, without where it lies.
-use Rattle.otel_picture.specs.RowTexts.{PlainSheet}
+-- A sheet without where it lies.
+use Rattle.otel_picture.specs.PlainSheets.{PlainSheet}
 use Rattle.otel_picture.specs.Traces.{plain_trace}
 use Rattle.otel_picture.specs.declared.sheet.Sheet.{Sheet}
 

@@ -1,65 +1,21 @@
 -- What the SVG form writes: a file, and of each trace a head, an axis and a line a span.
-use Rattle.std.specs.Prelude.{ℕ, ◌+◌, ◌-◌, ◌*◌, ◌/◌, ◌%◌, ◌^◌, ◌==◌, List, [], ◌∷◌, ◌++◌}
+use Rattle.std.specs.Prelude.{ℕ, ◌+◌, ◌-◌, ◌*◌, ◌/◌, ◌%◌, ◌==◌, List, [], ◌∷◌, ◌++◌}
 use Rattle.std.specs.Prelude.{codes, decimal, if◌then◌else◌, length, max, min, sum}
 use Rattle.std.specs.List.{flat_map}
-use Rattle.std.specs.Str.{chars}
 use Rattle.opentelemetry.specs.Plain.{PlainStatus, unset, error, ok}
 use Rattle.otel_shown.specs.Shown.{PlainShownEvent, PlainShownSpan}
 use Rattle.otel_picture.specs.Bars.{length_of}
 use Rattle.otel_picture.specs.Durations.{duration_text}
-use Rattle.otel_picture.specs.RowTexts.{PlainSheet, errors_in, errors_text, is_error, is_orphan, kind_text, label_text}
-use Rattle.otel_picture.specs.RowTexts.{row_mark, row_span, service_text, sheet_column, sheet_of, svg_layout, title_text}
-use Rattle.otel_picture.specs.Texts.{cut_text, escaped_text}
+use Rattle.otel_picture.specs.Drawn.{PlainTraces}
+use Rattle.otel_picture.specs.Layouts.{svg_layout}
+use Rattle.otel_picture.specs.RowTexts.{errors_text, kind_text, label_text, service_text, title_text}
+use Rattle.otel_picture.specs.PlainSheets.{PlainSheet, errors_in, is_error, is_orphan, row_mark, row_span, sheet_column}
+use Rattle.otel_picture.specs.PlainSheets.{sheet_of}
+use Rattle.otel_picture.specs.SvgParts.{down, when_text, label_svg, line_after, line_svg, mark_svg, page_svg, place_svg}
+use Rattle.otel_picture.specs.SvgParts.{root_svg, style_text, title_svg}
+use Rattle.otel_picture.specs.Texts.{cut_text}
 use Rattle.otel_picture.specs.Traces.{PlainTrace}
 use Rattle.otel_picture.specs.declared.rows.Row.{Row}
-
--- the greatest number of 64 bits: what is counted stops there
-abbrev pub most : ℕ
-most = 2 ^ 64 - 1
-
--- a line so many lines further on
-abbrev pub line_after : (line count : ℕ) → ℕ
-line_after line count = min most (line + count)
-
--- how far down a line is, and so much further
-abbrev pub down : (line more : ℕ) → ℕ
-down line more = min most (min most (line * 20) + more)
-
--- a text at a place
-unfoldable pub label_svg : (x y : ℕ) → List ℕ → List ℕ
-label_svg x y text =
-    codes "<text x=\"" ++ (decimal x ++ (codes "\" y=\"" ++ (decimal y
-    ++ (codes "\" xml:space=\"preserve\">" ++ (escaped_text (chars text) ++ codes "</text>")))))
-
--- what a reader is shown over what stands around it
-unfoldable pub title_svg : List ℕ → List ℕ
-title_svg text = codes "<title>" ++ (escaped_text (chars text) ++ codes "</title>")
-
--- the beginning of a mark where an event happened, a line across its bar
-unfoldable pub mark_svg : (x y : ℕ) → List ℕ
-mark_svg x y = codes "<path class=\"event\" d=\"M" ++ (decimal x ++ (codes " " ++ (decimal y ++ codes "v14\">")))
-
--- the rest of a bar, after its class
-unfoldable pub place_svg : (x y width : ℕ) → List ℕ
-place_svg x y width =
-    codes "\" x=\"" ++ (decimal x ++ (codes "\" y=\"" ++ (decimal y ++ (codes "\" width=\"" ++ (decimal width
-    ++ codes "\" height=\"12\"/>")))))
-
--- the line of a tick, from so far down to so far down
-unfoldable pub line_svg : (x from to : ℕ) → List ℕ
-line_svg x from to =
-    codes "<path class=\"tick\" d=\"M" ++ (decimal x ++ (codes " " ++ (decimal from ++ (codes "V" ++ (decimal to
-    ++ codes "\"/>")))))
-
--- the root of the file, so high, and the page on which it is drawn
-unfoldable pub root_svg : (height : ℕ) → List ℕ
-root_svg height =
-    codes "<svg xmlns=\"http://www.w3.org/2000/svg\" viewBox=\"0 0 960 " ++ (decimal height
-    ++ (codes "\" width=\"960\" height=\"" ++ (decimal height ++ codes "\">\n")))
-
-unfoldable pub page_svg : (height : ℕ) → List ℕ
-page_svg height =
-    codes "<rect class=\"page\" x=\"0\" y=\"0\" width=\"960\" height=\"" ++ (decimal height ++ codes "\"/>\n")
 
 -- a service has one of eight colours, by the sum of the bytes of its name
 abbrev pub colour_of : List ℕ → ℕ
@@ -69,10 +25,6 @@ colour_of service = sum service % 8
 unfoldable pub class_text : PlainShownSpan → List ℕ
 class_text span =
     codes "s" ++ (decimal (colour_of span.service) ++ (if is_error span.status then codes " error" else []))
-
--- a line `name value` of a title
-abbrev pub fact_text : List ℕ → ℕ → List ℕ
-fact_text name value = codes "\n" ++ (name ++ (codes " " ++ decimal value))
 
 -- what went wrong, as a line of a title
 abbrev pub fault_text : PlainStatus → List ℕ
@@ -88,14 +40,14 @@ whose_text span =
 -- the title of a bar: name, service, kind, moments in nanoseconds since 1970, what went wrong, and attributes
 abbrev pub title_of : PlainShownSpan → List ℕ
 title_of span =
-    whose_text span ++ (fact_text (codes "start") span.start_time ++ (fact_text (codes "end") span.end_time
+    whose_text span ++ (when_text (codes "start") span.start_time ++ (when_text (codes "end") span.end_time
     ++ (fault_text span.status ++ span.attributes)))
 
 -- a mark where an event happened, and its title
 abbrev pub event_svg : PlainSheet → (line : ℕ) → PlainShownEvent → List ℕ
 event_svg sheet line event =
     mark_svg (310 + sheet_column sheet event.timestamp) (down line 3)
-    ++ (title_svg (event.name ++ fact_text (codes "at") event.timestamp) ++ codes "</path>")
+    ++ (title_svg (event.name ++ when_text (codes "at") event.timestamp) ++ codes "</path>")
 
 -- what went wrong, after the numbers
 abbrev pub note_of : PlainStatus → List ℕ
@@ -190,21 +142,12 @@ abbrev pub last_line : (line : ℕ) → List PlainTrace → ℕ
 last_line line [] = line
 last_line line (trace ∷ traces) = last_line (line_after_trace line trace) traces
 
--- how texts, bars and marks look, on white and on black
-unfoldable pub style_text : List ℕ
-style_text =
-    codes "<style>text{font:12px monospace;fill:#1b1b1b}.page{fill:#ffffff}.tick{stroke:#c9c9c9}.event{stroke:#1b1b1b;"
-    ++ codes "stroke-width:2}.s0{fill:#1f5fa8}.s1{fill:#2f7d32}.s2{fill:#8a4fb0}.s3{fill:#b06a00}.s4{fill:#00798c}"
-    ++ codes ".s5{fill:#6b6b00}.s6{fill:#ad1f6b}.s7{fill:#4a5a78}.error{stroke:#d3261e;stroke-width:2}"
-    ++ codes "@media (prefers-color-scheme:dark){text{fill:#eeeeee}.page{fill:#121212}.tick{stroke:#444444}"
-    ++ codes ".event{stroke:#eeeeee}.s0{fill:#7fb4f0}.s1{fill:#7fcf85}.s2{fill:#c9a0e8}.s3{fill:#f0b860}"
-    ++ codes ".s4{fill:#6fd0de}.s5{fill:#cfcf70}.s6{fill:#f090c4}.s7{fill:#a9b9d8}.error{stroke:#ff8a80}}</style>\n"
-
 -- the beginning of the file, so high
 abbrev pub svg_begin : (height : ℕ) → List ℕ
 svg_begin height = root_svg height ++ (style_text ++ page_svg height)
 
 -- traces as one SVG file
-abbrev pub svg_text : List PlainShownSpan → List PlainTrace → List ℕ
-svg_text spans traces =
-    svg_begin (down (last_line 0 traces) 10) ++ (svg_traces spans 0 traces ++ codes "</svg>\n")
+abbrev pub svg_text : PlainTraces → List ℕ
+svg_text drawn =
+    svg_begin (down (last_line 0 drawn.traces) 10)
+    ++ (svg_traces drawn.spans 0 drawn.traces ++ codes "</svg>\n")

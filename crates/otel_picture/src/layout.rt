@@ -1,7 +1,7 @@
 //! The rooms of the text form: how many columns a row has for the name of its span, for its bar and for numbers.
 
 ghost use Rattle.std.specs.Prelude.{◌≡◌, ◌<◌, ◌≤◌};
-ghost use Rattle.otel_picture.specs.RowTexts.{layout_of, svg_layout};
+ghost use Rattle.otel_picture.specs.Layouts.{layout_of, svg_layout};
 
 /// How many columns a picture has where nobody says.
 pub const COLUMNS: u32 = 72;

@@ -1,7 +1,8 @@
 // SPDX-License-Identifier: Apache-2.0
 //! Pictures of traces, from spans of any producer: a block a trace, in the order in which traces first come, and in it a
 //! row a span, children after their parent by start, then by order of export. `specs/RowTexts.antt` says what the text
-//! form writes, `specs/SvgTexts.antt` what the SVG form does.
+//! form writes, `specs/SvgTexts.antt` what the SVG form does, `specs/Summaries.antt` what a summary does, and
+//! `specs/Choices.antt` which traces are drawn.
 //!
 //! A row of the text form is as wide as the columns that it is given, 20 to 400. Of these, numbers take 18 from 48
 //! columns on, the offset and the length of a span, and from 96 on 9 more, the time in which none of its children ran;
@@ -13,6 +14,8 @@
 #![tactic(auto)]
 
 pub mod bar;
+pub mod choice;
+mod dates;
 mod durations;
 pub mod families;
 pub mod laws;
@@ -20,6 +23,7 @@ pub mod layout;
 mod row_text;
 pub mod rows;
 mod sheet;
+pub mod summary;
 pub mod svg;
 mod svg_parts;
 mod svg_row;

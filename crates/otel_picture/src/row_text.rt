@@ -15,13 +15,12 @@ ghost use Rattle.otel_picture.specs.RowTexts.{
   note_text,
   number_text,
   numbers_text,
-  row_span,
   row_text,
   rows_text,
   self_text,
-  sheet_column,
   sign_text,
 };
+ghost use Rattle.otel_picture.specs.PlainSheets.{row_span, sheet_column};
 ghost use Rattle.otel_picture.specs.Sheets.{plain_sheet};
 
 use crate::bar::{Bar, self_time};

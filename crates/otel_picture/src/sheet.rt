@@ -3,7 +3,7 @@
 ghost use Rattle.std.specs.Prelude.{◌≡◌, ◌<◌, All, count_by, length};
 ghost use Rattle.opentelemetry.specs.PlainValues.{plain_status};
 ghost use Rattle.otel_picture.specs.Orders.{mark_at};
-ghost use Rattle.otel_picture.specs.RowTexts.{are_mixed, first_service, is_error, is_orphan, sheet_of, span_of};
+ghost use Rattle.otel_picture.specs.PlainSheets.{are_mixed, first_service, is_error, is_orphan, sheet_of, span_of};
 
 use crate::bar::Scale;
 use crate::layout::Layout;

@@ -2,12 +2,12 @@
 //! trace a head, an axis with four ticks, a line a span, and an empty one. Names stand left of unit 310, bars from there
 //! on over 460 units, offset and length after them. A service has one of eight colours; what failed has a red edge.
 
-ghost use Rattle.std.specs.Prelude.{◌≡◌, ◌<◌, ◌≤◌, ◌++◌, All, IfOk, List, OnErr, OnOk, length, map, string_bytes};
+ghost use Rattle.std.specs.Prelude.{◌≡◌, ◌<◌, ◌≤◌, All, IfOk, OnOk, length, map, string_bytes};
 ghost use Rattle.opentelemetry.specs.Text.{TextGrows};
+ghost use Rattle.otel_picture.specs.Drawn.{plain_traces};
 ghost use Rattle.otel_picture.specs.Sheets.{plain_sheet};
+ghost use Rattle.otel_picture.specs.SvgParts.{down, label_svg};
 ghost use Rattle.otel_picture.specs.SvgTexts.{
-  down,
-  label_svg,
   last_line,
   line_after_trace,
   svg_axis,
@@ -21,7 +21,7 @@ ghost use Rattle.otel_picture.specs.SvgTexts.{
   svg_trace,
   svg_traces,
 };
-ghost use Rattle.otel_picture.specs.Traces.{AreTraces, PlainTrace, plain_trace};
+ghost use Rattle.otel_picture.specs.Traces.{plain_trace};
 
 use crate::durations::push_duration;
 use crate::layout::Layout;
@@ -29,7 +29,7 @@ use crate::sheet::Sheet;
 use crate::svg_parts::{down, line_after, push_label, push_line, push_page, push_root};
 use crate::texts::push_cut;
 use crate::trace::Trace;
-use crate::traces::traces_of;
+use crate::traces::Traces;
 use crate::write_text::moment_at;
 use otel_shown::ShownSpan;
 use std::alloc::{AllocError, Global};
@@ -159,7 +159,7 @@ fn last_line(traces: &[Trace]) -> u64
 }
 
 /// The beginning of the file, so high.
-#[tactic(auto, unfolding(crate::specs::SvgTexts::style_text))]
+#[tactic(auto, unfolding(crate::specs::SvgParts::style_text))]
 fn push_begin(out: &mut String, height: u64) -> Result<(), AllocError>
     ensures { OnOk result (TextGrows out.old (svg_begin height) out.new) }
 {
@@ -188,18 +188,15 @@ fn push_svg_traces(
     Ok(())
 }
 
-/// Appends the SVG file of the pictures of the traces of spans, which stand in order of export. On an error nothing is
-/// appended.
-pub fn write_svg(alloc: Global, out: &mut Vec<u8>, spans: &[ShownSpan]) -> Result<(), AllocError>
-    ensures ok { OnOk result ((traces : List PlainTrace) × AreTraces spans.now traces
-        × (out.new.items ≡ out.old.items ++ svg_text spans.now traces)) }
-    ensures err { OnErr result (out.new.items ≡ out.old.items) }
-{
-    let traces = traces_of(alloc, spans)?;
-    let mut text = String::new(alloc);
-    push_begin(&mut text, down(last_line(&traces), 10))?;
-    push_svg_traces(alloc, &mut text, spans, &traces)?;
-    text.push_str("</svg>\n")?;
-    out.extend_from_slice(text.as_bytes())?;
-    Ok(())
+impl Traces<'_> {
+    /// The SVG file of the pictures of traces.
+    pub fn to_svg(&self, alloc: Global) -> Result<Vec<u8>, AllocError>
+        ensures { IfOk result (λ text. text.items ≡ svg_text (plain_traces self.now)) }
+    {
+        let mut text = String::new(alloc);
+        push_begin(&mut text, down(last_line(&self.traces), 10))?;
+        push_svg_traces(alloc, &mut text, self.spans, &self.traces)?;
+        text.push_str("</svg>\n")?;
+        Ok(text.into_bytes())
+    }
 }

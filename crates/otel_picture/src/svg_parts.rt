@@ -2,9 +2,20 @@
 
 ghost use Rattle.std.specs.Prelude.{◌≡◌, OnOk};
 ghost use Rattle.opentelemetry.specs.Text.{TextGrows};
-ghost use Rattle.otel_picture.specs.SvgTexts.{down, fact_text, label_svg, line_after, line_svg, mark_svg};
-ghost use Rattle.otel_picture.specs.SvgTexts.{page_svg, place_svg, root_svg, title_svg};
+ghost use Rattle.otel_picture.specs.SvgParts.{
+  down,
+  when_text,
+  label_svg,
+  line_after,
+  line_svg,
+  mark_svg,
+  page_svg,
+  place_svg,
+  root_svg,
+  title_svg,
+};
 
+use crate::dates::push_moment;
 use crate::texts::push_escaped;
 use std::alloc::AllocError;
 use std::fmt::Write;
@@ -24,7 +35,7 @@ pub(crate) fn down(line: u64, more: u64) -> u64
 }
 
 /// Appends a text at a place.
-#[tactic(auto, unfolding(crate::specs::SvgTexts::label_svg))]
+#[tactic(auto, unfolding(crate::specs::SvgParts::label_svg))]
 pub(crate) fn push_label(out: &mut String, x: u64, y: u64, label: &str) -> Result<(), AllocError>
     ensures { OnOk result (TextGrows out.old (label_svg x y label.now) out.new) }
 {
@@ -34,7 +45,7 @@ pub(crate) fn push_label(out: &mut String, x: u64, y: u64, label: &str) -> Resul
 }
 
 /// Appends what a reader is shown over what stands around it.
-#[tactic(auto, unfolding(crate::specs::SvgTexts::title_svg))]
+#[tactic(auto, unfolding(crate::specs::SvgParts::title_svg))]
 pub(crate) fn push_title(out: &mut String, title: &str) -> Result<(), AllocError>
     ensures { OnOk result (TextGrows out.old (title_svg title.now) out.new) }
 {
@@ -43,15 +54,18 @@ pub(crate) fn push_title(out: &mut String, title: &str) -> Result<(), AllocError
     out.push_str("</title>")
 }
 
-/// Appends a line of a title.
-pub(crate) fn push_fact(out: &mut String, name: &str, value: u64) -> Result<(), AllocError>
-    ensures { OnOk result (TextGrows out.old (fact_text name.now value) out.new) }
+/// Appends a line of a title that names a moment, in nanoseconds since 1970.
+#[tactic(auto, unfolding(crate::specs::SvgParts::when_text))]
+pub(crate) fn push_when(out: &mut String, name: &str, nanoseconds: u64) -> Result<(), AllocError>
+    ensures { OnOk result (TextGrows out.old (when_text name.now nanoseconds) out.new) }
 {
-    write!(out, "\n{name} {value}")
+    write!(out, "\n{name} ")?;
+    push_moment(out, nanoseconds)?;
+    write!(out, " ({nanoseconds})")
 }
 
 /// Appends the beginning of a mark where an event happened.
-#[tactic(auto, unfolding(crate::specs::SvgTexts::mark_svg))]
+#[tactic(auto, unfolding(crate::specs::SvgParts::mark_svg))]
 pub(crate) fn push_mark(out: &mut String, x: u64, y: u64) -> Result<(), AllocError>
     ensures { OnOk result (TextGrows out.old (mark_svg x y) out.new) }
 {
@@ -59,7 +73,7 @@ pub(crate) fn push_mark(out: &mut String, x: u64, y: u64) -> Result<(), AllocErr
 }
 
 /// Appends the rest of a bar, after its class.
-#[tactic(auto, unfolding(crate::specs::SvgTexts::place_svg))]
+#[tactic(auto, unfolding(crate::specs::SvgParts::place_svg))]
 pub(crate) fn push_place(out: &mut String, x: u64, y: u64, width: u64) -> Result<(), AllocError>
     ensures { OnOk result (TextGrows out.old (place_svg x y width) out.new) }
 {
@@ -70,7 +84,7 @@ pub(crate) fn push_place(out: &mut String, x: u64, y: u64, width: u64) -> Result
 }
 
 /// Appends the line of a tick, from so far down to so far down.
-#[tactic(auto, unfolding(crate::specs::SvgTexts::line_svg))]
+#[tactic(auto, unfolding(crate::specs::SvgParts::line_svg))]
 pub(crate) fn push_line(out: &mut String, x: u64, from: u64, to: u64) -> Result<(), AllocError>
     ensures { OnOk result (TextGrows out.old (line_svg x from to) out.new) }
 {
@@ -78,7 +92,7 @@ pub(crate) fn push_line(out: &mut String, x: u64, from: u64, to: u64) -> Result<
 }
 
 /// Appends the root of a file so high.
-#[tactic(auto, unfolding(crate::specs::SvgTexts::root_svg))]
+#[tactic(auto, unfolding(crate::specs::SvgParts::root_svg))]
 pub(crate) fn push_root(out: &mut String, height: u64) -> Result<(), AllocError>
     ensures { OnOk result (TextGrows out.old (root_svg height) out.new) }
 {
@@ -89,7 +103,7 @@ pub(crate) fn push_root(out: &mut String, height: u64) -> Result<(), AllocError>
 }
 
 /// Appends the page on which it is drawn.
-#[tactic(auto, unfolding(crate::specs::SvgTexts::page_svg))]
+#[tactic(auto, unfolding(crate::specs::SvgParts::page_svg))]
 pub(crate) fn push_page(out: &mut String, height: u64) -> Result<(), AllocError>
     ensures { OnOk result (TextGrows out.old (page_svg height) out.new) }
 {

@@ -4,17 +4,15 @@ ghost use Rattle.std.specs.Prelude.{◌≡◌, ◌<◌, ◌+◌, ◌-◌, ◌++�
 ghost use Rattle.std.specs.List.{flat_map};
 ghost use Rattle.opentelemetry.specs.PlainValues.{plain_status};
 ghost use Rattle.opentelemetry.specs.Text.{TextGrows};
-ghost use Rattle.otel_picture.specs.RowTexts.{sheet_column};
+ghost use Rattle.otel_picture.specs.PlainSheets.{sheet_column};
 ghost use Rattle.otel_picture.specs.Sheets.{plain_sheet};
+ghost use Rattle.otel_picture.specs.SvgParts.{down, when_text, place_svg};
 ghost use Rattle.otel_picture.specs.SvgTexts.{
   class_text,
   colour_of,
-  down,
   event_svg,
-  fact_text,
   fault_text,
   note_of,
-  place_svg,
   svg_bar,
   svg_name,
   svg_numbers,
@@ -32,7 +30,7 @@ use crate::row_text::{kind_text, label_of};
 use crate::rows::Row;
 use crate::sheet::{Sheet, is_error};
 use crate::svg_parts::{
-    down, line_after, push_fact, push_label, push_mark, push_place, push_title,
+    down, line_after, push_label, push_mark, push_place, push_title, push_when,
 };
 use crate::texts::push_cut;
 use opentelemetry::trace::Status;
@@ -109,8 +107,8 @@ fn title_of(alloc: Global, span: &ShownSpan) -> Result<String, AllocError>
 {
     let mut title = String::new(alloc);
     push_whose(&mut title, span)?;
-    push_fact(&mut title, "start", span.start_time.0)?;
-    push_fact(&mut title, "end", span.end_time.0)?;
+    push_when(&mut title, "start", span.start_time.0)?;
+    push_when(&mut title, "end", span.end_time.0)?;
     push_fault(&mut title, &span.status)?;
     title.push_str(span.attributes.as_str())?;
     Ok(title)
@@ -128,10 +126,10 @@ fn push_bar_place(out: &mut String, line: u64, bar: Bar) -> Result<(), AllocErro
 /// The title of an event.
 fn event_title_of(alloc: Global, event: &ShownEvent) -> Result<String, AllocError>
     ensures { IfOk result (λ title.
-        string_bytes title ≡ event.now.name ++ fact_text (codes "at") event.now.timestamp) }
+        string_bytes title ≡ event.now.name ++ when_text (codes "at") event.now.timestamp) }
 {
     let mut title = String::from_str(alloc, event.name.as_str())?;
-    push_fact(&mut title, "at", event.timestamp.0)?;
+    push_when(&mut title, "at", event.timestamp.0)?;
     Ok(title)
 }
 

@@ -1,6 +1,6 @@
 //! Traces as they are drawn: of each its spans, and a row a span.
 
-ghost use Rattle.std.specs.Prelude.{◌<◌, All, IfOk, length, map};
+ghost use Rattle.std.specs.Prelude.{◌≡◌, ◌<◌, All, IfOk, length, map};
 ghost use Rattle.otel_picture.specs.Traces.{AreTraces, IsTraceAt, plain_trace};
 
 use crate::families::{Group, family_of, groups_of};
@@ -8,6 +8,14 @@ use crate::rows::rows;
 use crate::trace::Trace;
 use otel_shown::ShownSpan;
 use std::alloc::{AllocError, Global};
+
+/// Spans and their traces, or some of these.
+#[derive(Drop)]
+pub struct Traces<'a> {
+    pub(crate) spans: &'a [ShownSpan],
+    pub(crate) traces: Vec<Trace>,
+    ghost there: { All (λ trace. All (λ mark. mark.place < length spans.now) trace.family.marks.items) traces.items },
+}
 
 fn trace_of(alloc: Global, spans: &[ShownSpan], group: &Group) -> Result<Trace, AllocError>
     requires { All (λ place. place < length spans.now) group.now.places.items }
@@ -23,8 +31,8 @@ fn trace_of(alloc: Global, spans: &[ShownSpan], group: &Group) -> Result<Trace, 
     })
 }
 
-/// The traces of spans, in the order in which each first comes. Memory is taken for some 100 bytes a span.
-pub fn traces_of(alloc: Global, spans: &[ShownSpan]) -> Result<Vec<Trace>, AllocError>
+/// The traces of spans, in the order in which each first comes.
+fn traces_of(alloc: Global, spans: &[ShownSpan]) -> Result<Vec<Trace>, AllocError>
     ensures { IfOk result (λ traces. AreTraces spans.now (map plain_trace traces.items)) }
 {
     let groups = groups_of(alloc, spans)?;
@@ -33,4 +41,24 @@ pub fn traces_of(alloc: Global, spans: &[ShownSpan]) -> Result<Vec<Trace>, Alloc
         traces.push(trace_of(alloc, spans, group)?)?;
     }
     Ok(traces)
+}
+
+impl<'a> Traces<'a> {
+    ghost use Rattle.otel_picture.specs.Drawn.{AreTracesOf, plain_traces};
+
+    /// The traces of spans, which stand in order of export. They come in the order in which each first comes. Memory is
+    /// taken for some 100 bytes a span.
+    pub fn of(alloc: Global, spans: &'a [ShownSpan]) -> Result<Traces<'a>, AllocError>
+        ensures { IfOk result (λ traces. AreTracesOf spans.now (plain_traces traces)) }
+    {
+        let traces = traces_of(alloc, spans)?;
+        Ok(Traces { spans, traces })
+    }
+
+    /// How many traces these are.
+    pub fn len(&self) -> usize
+        ensures { result ≡ length (plain_traces self.now).traces }
+    {
+        self.traces.len()
+    }
 }

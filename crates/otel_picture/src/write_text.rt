@@ -1,14 +1,14 @@
 //! Pictures of traces as text.
 
-ghost use Rattle.std.specs.Prelude.{◌≡◌, true, ◌<◌, ◌≤◌, ◌++◌, ◌*◌, ◌/◌, All, IfOk, List, OnErr, OnOk, length, map, string_bytes};
+ghost use Rattle.std.specs.Prelude.{◌≡◌, true, ◌<◌, ◌≤◌, ◌*◌, ◌/◌, All, IfOk, OnOk, length, map, string_bytes};
 ghost use Rattle.opentelemetry.specs.Text.{TextGrows};
+ghost use Rattle.otel_picture.specs.Drawn.{plain_traces};
+ghost use Rattle.otel_picture.specs.Layouts.{layout_of};
 ghost use Rattle.otel_picture.specs.RowTexts.{
   apart_text,
   axis_text,
-  errors_in,
   errors_text,
   head_text,
-  layout_of,
   legend_text,
   picture_text,
   ruler_text,
@@ -20,15 +20,16 @@ ghost use Rattle.otel_picture.specs.RowTexts.{
   trace_text,
   traces_text,
 };
+ghost use Rattle.otel_picture.specs.PlainSheets.{errors_in};
 ghost use Rattle.otel_picture.specs.Sheets.{plain_sheet};
-ghost use Rattle.otel_picture.specs.Traces.{AreTraces, PlainTrace, plain_trace};
+ghost use Rattle.otel_picture.specs.Traces.{plain_trace};
 
 use crate::durations::push_duration;
 use crate::layout::Layout;
 use crate::sheet::{Sheet, first_service};
 use crate::texts::{push_in_room, push_shown, push_times};
 use crate::trace::Trace;
-use crate::traces::traces_of;
+use crate::traces::Traces;
 use otel_shown::ShownSpan;
 use std::alloc::{AllocError, Global};
 use std::fmt::Write;
@@ -207,21 +208,19 @@ fn push_traces(
     Ok(())
 }
 
-/// Appends the pictures of the traces of spans, which stand in order of export, for so many columns, of which 20 at least
-/// and 400 at most count. On an error nothing is appended.
-pub fn write_text(
-    alloc: Global,
-    out: &mut Vec<u8>,
-    spans: &[ShownSpan],
-    columns: u32,
-) -> Result<(), AllocError>
-    ensures ok { OnOk result ((traces : List PlainTrace) × AreTraces spans.now traces
-        × (out.new.items ≡ out.old.items ++ picture_text columns spans.now traces)) }
-    ensures err { OnErr result (out.new.items ≡ out.old.items) }
-{
-    let traces = traces_of(alloc, spans)?;
-    let mut text = String::new(alloc);
-    push_traces(alloc, &mut text, spans, &traces, Layout::of(columns))?;
-    out.extend_from_slice(text.as_bytes())?;
-    Ok(())
+impl Traces<'_> {
+    /// The pictures of traces, for so many columns, of which 20 at least and 400 at most count.
+    pub fn to_text(&self, alloc: Global, columns: u32) -> Result<Vec<u8>, AllocError>
+        ensures { IfOk result (λ text. text.items ≡ picture_text columns (plain_traces self.now)) }
+    {
+        let mut text = String::new(alloc);
+        push_traces(
+            alloc,
+            &mut text,
+            self.spans,
+            &self.traces,
+            Layout::of(columns),
+        )?;
+        Ok(text.into_bytes())
+    }
 }

@@ -2,7 +2,7 @@
 use Rattle.std.proofs.Common.{◌≡◌, drop, not}
 use Rattle.std.specs.List.{list_any}
 use Rattle.std.specs.Str.{bytes_eq}
-use Rattle.otel_picture.specs.RowTexts.{first_service, span_of}
+use Rattle.otel_picture.specs.PlainSheets.{first_service, span_of}
 use Rattle.otel_picture.proofs.sheet.are_mixed.Given as goal
 
 abbrev pub invariant-loop-mark : goal.invariant-loop-mark

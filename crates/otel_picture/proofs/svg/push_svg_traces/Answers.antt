@@ -1,7 +1,8 @@
 -- One trace more, which those after it go with.
 use Rattle.std.proofs.Common.{◌<◌, ◌++◌, ◌∙◌, All, ap, length, map, string_bytes, subst}
 use Rattle.std.proofs.lemmas.List.Elements.{All-head, All-rest}
-use Rattle.otel_picture.specs.RowTexts.{PlainSheet, sheet_of, svg_layout}
+use Rattle.otel_picture.specs.Layouts.{svg_layout}
+use Rattle.otel_picture.specs.PlainSheets.{PlainSheet, sheet_of}
 use Rattle.otel_picture.specs.SvgTexts.{line_after_trace, svg_trace, svg_traces}
 use Rattle.otel_picture.specs.Traces.{plain_trace}
 use Rattle.otel_picture.specs.declared.layout.Layout.{Layout}

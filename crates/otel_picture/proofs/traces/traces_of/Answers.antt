@@ -7,7 +7,8 @@ use Rattle.otel_picture.specs.Families.{is_of, places_below, trace_ids}
 use Rattle.otel_picture.specs.Traces.{IsTraceOf, plain_trace}
 use Rattle.otel_picture.specs.declared.families.Group.{Group}
 use Rattle.otel_picture.proofs.Grouping.{are_below}
-use Rattle.otel_picture.proofs.Zipped.{of_group, zip_more}
+use Rattle.otel_picture.proofs.Zipped.{of_group}
+use Rattle.otel_resource.proofs.AttributeLemmas.{all_zip_push}
 use Rattle.otel_picture.proofs.traces.traces_of.Goals as goal
 
 pub trace_of-requires : goal.trace_of-requires
@@ -41,5 +42,5 @@ loop-group-preserved c =
     (subst (AllZip (IsTraceOf spans) (take index ids ++ id ∷ []))
     (sym (ap (map plain_trace) c.in_ok-push.ensures.items
     ∙ map-append plain_trace c.loop-group.traces.items (c.in_ok-trace_of.field-0 ∷ [])))
-    (zip_more (IsTraceOf spans) (take index ids) (map plain_trace c.loop-group.traces.items) id trace
+    (all_zip_push (IsTraceOf spans) (take index ids) (map plain_trace c.loop-group.traces.items) id trace
     c.loop-group.invariant one))

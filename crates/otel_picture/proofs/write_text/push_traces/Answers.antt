@@ -1,7 +1,8 @@
 -- One trace more, which those after it go with.
 use Rattle.std.proofs.Common.{false, ◌<◌, ◌++◌, ◌∙◌, All, ap, length, map, string_bytes, subst}
 use Rattle.std.proofs.lemmas.List.Elements.{All-head, All-rest}
-use Rattle.otel_picture.specs.RowTexts.{apart_text, sheet_of, traces_text}
+use Rattle.otel_picture.specs.RowTexts.{apart_text, traces_text}
+use Rattle.otel_picture.specs.PlainSheets.{sheet_of}
 use Rattle.otel_picture.specs.Traces.{plain_trace}
 use Rattle.otel_picture.specs.declared.rows.Mark.{Mark}
 use Rattle.otel_picture.specs.declared.trace.Trace.{Trace}

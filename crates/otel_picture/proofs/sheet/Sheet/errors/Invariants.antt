@@ -1,6 +1,6 @@
 -- How many of those so far failed.
 use Rattle.std.proofs.Common.{◌≡◌, count_by, take}
-use Rattle.otel_picture.specs.RowTexts.{is_error, span_of}
+use Rattle.otel_picture.specs.PlainSheets.{is_error, span_of}
 use Rattle.otel_picture.proofs.sheet.Sheet.errors.Given as goal
 
 abbrev pub invariant-loop-mark : goal.invariant-loop-mark

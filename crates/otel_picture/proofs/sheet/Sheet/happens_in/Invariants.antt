@@ -1,7 +1,7 @@
 -- None so far happened in the column.
 use Rattle.std.proofs.Common.{◌≡◌, ◌==◌, drop}
 use Rattle.std.specs.List.{list_any}
-use Rattle.otel_picture.specs.RowTexts.{sheet_column}
+use Rattle.otel_picture.specs.PlainSheets.{sheet_column}
 use Rattle.otel_picture.specs.Sheets.{plain_sheet}
 use Rattle.otel_picture.proofs.sheet.Sheet.happens_in.Given as goal
 

@@ -1,7 +1,8 @@
 -- One piece after another.
 use Rattle.std.proofs.Common.{◌-◌, ◌++◌, codes, string_bytes}
 use Rattle.otel_picture.specs.Durations.{duration_text}
-use Rattle.otel_picture.specs.RowTexts.{errors_in, errors_text, title_text}
+use Rattle.otel_picture.specs.RowTexts.{errors_text, title_text}
+use Rattle.otel_picture.specs.PlainSheets.{errors_in}
 use Rattle.otel_picture.specs.Sheets.{plain_sheet}
 use Rattle.otel_picture.proofs.Joined.{then_more}
 use Rattle.otel_picture.proofs.sheet.Sheet.push_head.Goals as goal

@@ -2,7 +2,8 @@
 use Rattle.std.proofs.Common.{◌++◌, ◌∙◌, ap, string_bytes}
 use Rattle.opentelemetry.specs.PlainValues.{plain_status}
 use Rattle.otel_shown.specs.Shown.{PlainShownSpan}
-use Rattle.otel_picture.specs.RowTexts.{bar_text, indent_of, name_text, note_text, numbers_text, row_span, self_text}
+use Rattle.otel_picture.specs.RowTexts.{bar_text, indent_of, name_text, note_text, numbers_text, self_text}
+use Rattle.otel_picture.specs.PlainSheets.{row_span}
 use Rattle.otel_picture.specs.Sheets.{plain_sheet}
 use Rattle.otel_picture.proofs.Joined.{then_more}
 use Rattle.otel_picture.proofs.sheet.Sheet.push_row.Goals as goal

@@ -2,9 +2,10 @@
 use Rattle.std.proofs.Common.{◌≡◌, ◌+◌, ◌-◌, ◌++◌, ◌∙◌, ap, codes, max, string_bytes}
 use Rattle.otel_shown.specs.Shown.{PlainShownSpan}
 use Rattle.otel_picture.specs.Bars.{column}
-use Rattle.otel_picture.specs.RowTexts.{sheet_column}
+use Rattle.otel_picture.specs.PlainSheets.{sheet_column}
 use Rattle.otel_picture.specs.Sheets.{plain_sheet}
-use Rattle.otel_picture.specs.SvgTexts.{class_text, down, place_svg}
+use Rattle.otel_picture.specs.SvgParts.{down, place_svg}
+use Rattle.otel_picture.specs.SvgTexts.{class_text}
 use Rattle.otel_picture.proofs.Joined.{then_more}
 use Rattle.otel_picture.proofs.sheet.Sheet.push_svg_bar.Goals as goal
 

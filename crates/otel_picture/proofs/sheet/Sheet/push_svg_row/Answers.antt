@@ -1,9 +1,10 @@
 -- One part after another.
 use Rattle.std.proofs.Common.{◌++◌, ◌∙◌, ap, codes, string_bytes}
 use Rattle.otel_shown.specs.Shown.{PlainShownSpan}
-use Rattle.otel_picture.specs.RowTexts.{row_span}
+use Rattle.otel_picture.specs.PlainSheets.{row_span}
 use Rattle.otel_picture.specs.Sheets.{plain_sheet}
-use Rattle.otel_picture.specs.SvgTexts.{svg_shapes, title_of, title_svg}
+use Rattle.otel_picture.specs.SvgParts.{title_svg}
+use Rattle.otel_picture.specs.SvgTexts.{svg_shapes, title_of}
 use Rattle.otel_picture.proofs.Joined.{then_more}
 use Rattle.otel_picture.proofs.sheet.Sheet.push_svg_row.Goals as goal
 

@@ -2,7 +2,8 @@
 use Rattle.std.proofs.Common.{◌<◌, ◌++◌, ◌∙◌, All, ap, length, string_bytes, subst}
 use Rattle.std.proofs.lemmas.List.Elements.{All-head, All-rest}
 use Rattle.otel_picture.specs.Sheets.{plain_sheet}
-use Rattle.otel_picture.specs.SvgTexts.{line_after, svg_row, svg_rows}
+use Rattle.otel_picture.specs.SvgParts.{line_after}
+use Rattle.otel_picture.specs.SvgTexts.{svg_row, svg_rows}
 use Rattle.otel_picture.specs.declared.rows.Row.{Row}
 use Rattle.otel_picture.proofs.Joined.{taken}
 use Rattle.otel_picture.proofs.sheet.Sheet.push_svg_rows.Goals as goal

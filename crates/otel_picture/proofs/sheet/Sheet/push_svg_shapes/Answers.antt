@@ -2,7 +2,7 @@
 use Rattle.std.proofs.Common.{◌++◌, ◌∙◌, ap, string_bytes}
 use Rattle.std.specs.List.{flat_map}
 use Rattle.otel_shown.specs.Shown.{PlainShownSpan}
-use Rattle.otel_picture.specs.RowTexts.{row_span}
+use Rattle.otel_picture.specs.PlainSheets.{row_span}
 use Rattle.otel_picture.specs.Sheets.{plain_sheet}
 use Rattle.otel_picture.specs.SvgTexts.{event_svg, svg_bar, svg_name, svg_numbers}
 use Rattle.otel_picture.proofs.Joined.{then_more}

@@ -1,7 +1,8 @@
 -- One part after another.
 use Rattle.std.proofs.Common.{◌++◌, string_bytes}
 use Rattle.otel_picture.specs.Sheets.{plain_sheet}
-use Rattle.otel_picture.specs.SvgTexts.{down, label_svg, svg_axis, svg_head, svg_lines, svg_service}
+use Rattle.otel_picture.specs.SvgParts.{down, label_svg}
+use Rattle.otel_picture.specs.SvgTexts.{svg_axis, svg_head, svg_lines, svg_service}
 use Rattle.otel_picture.proofs.Joined.{then_more}
 use Rattle.otel_picture.proofs.sheet.Sheet.push_svg_trace.Goals as goal
 

@@ -5,12 +5,13 @@ use Rattle.otel_picture.specs.Families.{trace_ids}
 use Rattle.otel_picture.specs.declared.rows.Mark.{Mark}
 use Rattle.otel_picture.specs.declared.trace.Trace.{Trace}
 use Rattle.otel_picture.proofs.Zipped.{are_there}
-use Rattle.otel_picture.proofs.write_text.write_text.Goals as goal
+use Rattle.otel_picture.proofs.traces.Traces.of.Goals as goal
 
-pub push_traces-requires-clause-there : goal.push_traces-requires-clause-there
-push_traces-requires-clause-there c =
+pub invariant_of-result : goal.invariant_of-result
+invariant_of-result c =
     let spans = c.args.spans.now in
     let traces = c.in_ok-traces.traces.items in
-    rw c.deref.ensures.value
-    (All-from_recursion (λ (trace : Trace). All (λ (mark : Mark). mark.place < length spans) trace.family.marks.items)
-    traces (are_there spans (trace_ids spans) traces c.in_ok-traces.ensures))
+    record {
+      there = All-from_recursion (λ (trace : Trace). All (λ (mark : Mark). mark.place < length spans)
+          trace.family.marks.items) traces (are_there spans (trace_ids spans) traces c.in_ok-traces.ensures);
+    }
