@@ -7,8 +7,7 @@ use otel_case_rows::values::{attributes_of, given_text};
 use otel_export::trace::SpanData;
 use otel_otlp::write_request;
 use otel_picture::layout::COLUMNS;
-use otel_picture::svg::write_svg;
-use otel_picture::write_text::write_text;
+use otel_picture::traces::Traces;
 use otel_resource::resource::Resource;
 use otel_trace_run::picture::shown_spans;
 use std::alloc::Global;
@@ -51,25 +50,22 @@ fn resource_of(alloc: Global, text: &str) -> Result<Resource, RowError> {
 /// The picture of spans in so many columns.
 fn make_picture(alloc: Global, row: &Row) -> Result<Vec<u8>, RowError> {
     let columns = small_number_of(row.field(0))?;
-    let mut written = Vec::new(alloc);
     let spans = shown_spans(alloc, short_spans_of(alloc, row, 1)?)?;
-    write_text(alloc, &mut written, &spans, columns)?;
-    Ok(written)
+    let traces = Traces::of(alloc, &spans)?;
+    Ok(traces.to_text(alloc, columns)?)
 }
 
 fn svg_of(alloc: Global, row: &Row) -> Result<Vec<u8>, RowError> {
-    let mut written = Vec::new(alloc);
     let spans = shown_spans(alloc, short_spans_of(alloc, row, 0)?)?;
-    write_svg(alloc, &mut written, &spans)?;
-    Ok(written)
+    let traces = Traces::of(alloc, &spans)?;
+    Ok(traces.to_svg(alloc)?)
 }
 
 /// The picture of so many spans, each under the one before it.
 fn picture_of_chain(alloc: Global, row: &Row) -> Result<Vec<u8>, RowError> {
-    let mut written = Vec::new(alloc);
     let chain = shown_spans(alloc, chain_of(alloc, small_number_of(row.field(0))?)?)?;
-    write_text(alloc, &mut written, &chain, COLUMNS)?;
-    Ok(written)
+    let traces = Traces::of(alloc, &chain)?;
+    Ok(traces.to_text(alloc, COLUMNS)?)
 }
 
 /// Puts out the first line and the last one of a picture, and how many lines there are.

@@ -1,3 +1,4 @@
+pub mod ChoiceWords
 pub mod Cut
 pub mod Drawing
 pub mod Exporting
@@ -10,5 +11,5 @@ pub mod ReasonLemmas
 pub mod StepStream
 pub mod TraceEnds
 pub mod TraceStream
-pub mod ViewWords
 pub mod Viewing
+pub mod ViewWords

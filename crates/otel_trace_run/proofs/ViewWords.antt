@@ -2,11 +2,11 @@
 use Rattle.std.proofs.Common.{◌≡◌, ◌∷◌, ℕ, List, [], ap, arith, codes, inl, inr, subst, sym, ◌∙◌}
 use Rattle.std.proofs.Math.ListN.{get_or}
 use Rattle.otel_trace_run.specs.Arguments.{Asks, PlainMode, word_of}
+use Rattle.otel_trace_run.specs.AskedViews.{AsksView}
 use Rattle.otel_trace_run.specs.Pages.{AsksForPage, IsHelpWord, IsVersionWord}
-use Rattle.otel_trace_run.specs.Views.{AsksView}
 use Rattle.otel_trace_run.specs.declared.pages.Page.{Page}
 use Rattle.otel_trace_run.specs.declared.pages.Page.TheVariants as pages
-use Rattle.otel_trace_run.specs.declared.picture.PictureForm.{PictureForm}
+use Rattle.otel_trace_run.specs.declared.asked_view.View.{View}
 use Rattle.otel_trace_run.proofs.PageWords.{mode_letter}
 
 view_no_help : IsHelpWord (codes "view") → ⊥
@@ -30,9 +30,9 @@ no_page_of [] pages.View h = h
 no_page_of (mode ∷ []) page h = view_no_help h.0
 no_page_of (mode ∷ other ∷ more) page h = h
 
-pub view_for_no_page : (words : List (List ℕ)) (page : Page) (form : PictureForm) → AsksForPage words page
-    → AsksView words form → ⊥
-view_for_no_page words page form h k =
+pub view_for_no_page : (words : List (List ℕ)) (page : Page) (view : View) → AsksForPage words page
+    → AsksView words view → ⊥
+view_for_no_page words page view h k =
     no_page_of k.given page (subst (λ (all : List (List ℕ)). AsksForPage all page) k.words_are h)
 
 -- the first word of a list
@@ -40,9 +40,9 @@ abbrev first_word : List (List ℕ) → List ℕ
 first_word [] = []
 first_word (word ∷ words) = word
 
-pub view_for_no_mode : (words : List (List ℕ)) (mode : PlainMode) (form : PictureForm) → Asks words mode
-    → AsksView words form → ⊥
-view_for_no_mode words mode form h k =
+pub view_for_no_mode : (words : List (List ℕ)) (mode : PlainMode) (view : View) → Asks words mode
+    → AsksView words view → ⊥
+view_for_no_mode words mode view h k =
     let same : word_of mode ≡ codes "view" = ap first_word (sym h.words_are ∙ k.words_are) in
     let letter : get_or (word_of mode) 0 0 ≡ 118 = ap (λ w. get_or w 0 0) same in
     absurd (omega (arith, letter, (mode_letter mode).1))

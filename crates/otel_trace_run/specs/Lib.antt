@@ -1,4 +1,5 @@
 pub mod Arguments
+pub mod AskedViews
 pub mod GivenAttributes
 pub mod OtlpRuns
 pub mod Pages

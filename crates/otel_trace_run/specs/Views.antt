@@ -1,37 +1,33 @@
 -- The mode `view`: traces of any producer are drawn, out of OTLP JSON.
-use Rattle.std.specs.Prelude.{◌≡◌, ◌≢◌, ◌⊎◌, ◌≤◌, ℕ, List, [], ◌∷◌, ◌++◌, Option, codes, decimal}
+use Rattle.std.specs.Prelude.{◌≡◌, ◌≢◌, ◌⊎◌, ◌≤◌, ℕ, List, [], ◌++◌, Option, codes, decimal}
 use Rattle.std.specs.Io.KnownBytes.{Appends, IsAtEnd}
 use Rattle.std.specs.List.{flat_map}
 use Rattle.otel_export.specs.Streams.{AppendsBeginning}
 use Rattle.otel_otlp_read.specs.Faults.{fault_text}
 use Rattle.otel_otlp_read.specs.Inputs.{read_input}
 use Rattle.otel_otlp_read.specs.declared.input.LineFault.{LineFault}
-use Rattle.otel_trace_run.specs.Arguments.{WritesColumns}
-use Rattle.otel_trace_run.specs.Paintings.{Draws}
+use Rattle.otel_picture.specs.Choices.{IsChosen}
+use Rattle.otel_picture.specs.Drawn.{AreTracesOf, PlainTraces}
+use Rattle.otel_picture.specs.Summaries.{summary_text}
+use Rattle.otel_shown.specs.Shown.{PlainShownSpan}
+use Rattle.otel_trace_run.specs.Paintings.{picture_of}
 use Rattle.otel_trace_run.specs.Streams.{AreAll, Streams}
-use Rattle.otel_trace_run.specs.declared.picture.PictureForm.{PictureForm}
-use Rattle.otel_trace_run.specs.declared.picture.PictureForm.TheVariants as forms
+use Rattle.otel_trace_run.specs.declared.asked_view.View.{View}
+use Rattle.otel_trace_run.specs.declared.asked_view.ViewForm.{ViewForm}
+use Rattle.otel_trace_run.specs.declared.asked_view.ViewForm.TheVariants as views
 
--- the form that a word names: a number of columns, or the word `svg`
-abbrev pub WordView : List ℕ → PictureForm → Type 0
-WordView word (forms.Text columns) = WritesColumns word columns
-WordView word forms.Svg = word ≡ codes "svg"
+-- what is written of traces
+abbrev pub written_of : ViewForm → PlainTraces → List ℕ
+written_of (views.Picture form) traces = picture_of form traces
+written_of views.Summary traces = summary_text traces
 
--- what stands after the word `view`: a number of columns, if one is given, or the word `svg`
-abbrev pub NamesView : List (List ℕ) → PictureForm → Type 0
-NamesView [] form = form ≡ forms.Text 72
-NamesView (word ∷ []) form = WordView word form
-NamesView (word ∷ other ∷ more) form = ⊥
-
--- words ask for a view
-pub record AsksView (words : List (List ℕ)) (form : PictureForm) : Type 0 where
-  pub given : List (List ℕ)
-  pub named : NamesView given form
-  pub words_are : words ≡ codes "view" ∷ given
-
--- words that ask for none
-abbrev pub AsksForNoView : List (List ℕ) → Type 0
-AsksForNoView words = (form : PictureForm) → AsksView words form → ⊥
+-- a text is the view of spans: of those of their traces that its choice leaves
+pub record IsViewOf (view : View) (spans : List PlainShownSpan) (text : List ℕ) : Type 0 where
+  pub traces : PlainTraces
+  pub drawn : PlainTraces
+  pub traces_are : AreTracesOf spans traces
+  pub chosen : IsChosen view.choice traces drawn
+  pub text_is : text ≡ written_of view.form drawn
 
 -- a line that does not read, and why
 abbrev pub fault_line : LineFault → List ℕ
@@ -41,33 +37,33 @@ fault_line found =
 abbrev pub fault_lines : List LineFault → List ℕ
 fault_lines = flat_map fault_line
 
--- an input was read to its end; this is the picture of its spans, and these of its lines do not read
-pub record ReadsView (form : PictureForm) (input after : Option (List ℕ)) (picture : List ℕ) (faults : List LineFault)
+-- an input was read to its end; this is the view of its spans, and these of its lines do not read
+pub record ReadsView (view : View) (input after : Option (List ℕ)) (text : List ℕ) (faults : List LineFault)
     : Type 0 where
   pub bytes : List ℕ
   pub all : AreAll input bytes
   pub at_end : IsAtEnd after
-  pub drawn : Draws form (read_input bytes).spans picture
+  pub shown : IsViewOf view (read_input bytes).spans text
   pub faults_are : faults ≡ (read_input bytes).faults
 
--- the picture of a whole input was written
-pub record DrawsView (form : PictureForm) (s : Streams) (faults : List LineFault) : Type 0 where
-  pub picture : List ℕ
-  pub reads : ReadsView form s.input s.input_after picture faults
-  pub written : Appends s.output s.output_after picture
+-- the view of a whole input was written
+pub record DrawsView (view : View) (s : Streams) (faults : List LineFault) : Type 0 where
+  pub text : List ℕ
+  pub reads : ReadsView view s.input s.input_after text faults
+  pub written : Appends s.output s.output_after text
 
--- nothing was written, or a beginning of the picture of a whole input
-abbrev pub BeginsView : PictureForm → Streams → Type 0
-BeginsView form s = AppendsBeginning s.output s.output_after []
-    ⊎ ((picture : List ℕ) × (faults : List LineFault) × ReadsView form s.input s.input_after picture faults
-    × AppendsBeginning s.output s.output_after picture)
+-- nothing was written, or a beginning of the view of a whole input
+abbrev pub BeginsView : View → Streams → Type 0
+BeginsView view s = AppendsBeginning s.output s.output_after []
+    ⊎ ((text : List ℕ) × (faults : List LineFault) × ReadsView view s.input s.input_after text faults
+    × AppendsBeginning s.output s.output_after text)
 
 -- a view by the exit status: 0 where each line read, and nothing is said; 2 where some did not, which are named; 1 where
 -- it failed
-pub record Views (form : PictureForm) (s : Streams) (Silent : Type 0) (Says : List ℕ → Type 0) (status : ℕ)
+pub record Views (view : View) (s : Streams) (Silent : Type 0) (Says : List ℕ → Type 0) (status : ℕ)
     : Type 0 where
   pub small : status ≤ 2
-  pub done : status ≡ 0 → DrawsView form s [] × Silent
-  pub named : status ≡ 2 → (faults : List LineFault) × (faults ≢ []) × DrawsView form s faults
+  pub done : status ≡ 0 → DrawsView view s [] × Silent
+  pub named : status ≡ 2 → (faults : List LineFault) × (faults ≢ []) × DrawsView view s faults
       × Says (fault_lines faults)
-  pub failed : status ≡ 1 → BeginsView form s
+  pub failed : status ≡ 1 → BeginsView view s

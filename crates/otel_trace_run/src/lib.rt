@@ -2,6 +2,7 @@
 //! `run_program` is all of the program `otel_trace` but the words and streams that it is given.
 #![tactic(auto)]
 
+pub mod asked_view;
 mod given_attributes;
 mod line_count;
 pub mod mode;

@@ -46,8 +46,7 @@ pub const HELP: &str =
     otel_trace svg SEED simple\n\
     otel_trace svg SEED batch Q B\n\
     \x20   draws them as SVG, example: otel_trace svg 1 simple < checkout.txt > checkout.svg\n\
-    otel_trace view [COLUMNS]\n\
-    otel_trace view svg\n\
+    otel_trace view [COLUMNS | svg | json] [--errors] [--slowest N] [--trace ID]\n\
     \x20   draws traces out of OTLP JSON of any producer, example: otel_trace view < spans.jsonl\n\
     otel_trace help [MODE]\n\
     otel_trace version\n";
@@ -89,13 +88,15 @@ pub const SVG_HELP: &str = "otel_trace svg SEED simple\n\
     \n\
     example: otel_trace svg 1 simple < checkout.txt > checkout.svg\n";
 
-pub const VIEW_HELP: &str = "otel_trace view [COLUMNS]\n\
-    otel_trace view svg\n\
+pub const VIEW_HELP: &str =
+    "otel_trace view [COLUMNS | svg | json] [--errors] [--slowest N] [--trace ID]\n\
     \n\
     Draws traces at the end of the input, which is OTLP JSON of any producer: a request a line, or one over many lines.\n\
-    A line that does not read is named, and the others are drawn. COLUMNS are 20 to 400, and 72 where none are given.\n\
+    A line that does not read is named, and the others are drawn. COLUMNS are 20 to 400, and 72 where none are given;\n\
+    svg writes one SVG file in their place, and json a line a trace. After --errors only traces with a failed span are\n\
+    drawn, after --slowest the N longest, the longest first, and after --trace that of an ID of 32 digits 0-9 a-f.\n\
     \n\
-    example: otel_trace view 120 < spans.jsonl\n";
+    example: otel_trace view 120 --slowest 10 < spans.jsonl\n";
 
 /// What is said of arguments that ask for nothing. It names the first two modes alone, for whoever compares it.
 const USAGE: &str = "usage: otel_trace trace SEED simple | trace SEED batch Q B | steps Q B P\n";
@@ -108,7 +109,8 @@ pub const PICTURE_USAGE: &str =
 
 pub const SVG_USAGE: &str = "usage: otel_trace svg SEED simple | svg SEED batch Q B\n";
 
-pub const VIEW_USAGE: &str = "usage: otel_trace view [COLUMNS] | view svg\n";
+pub const VIEW_USAGE: &str =
+    "usage: otel_trace view [COLUMNS | svg | json] [--errors] [--slowest N] [--trace ID]\n";
 
 /// The text of a page.
 pub(crate) fn text_of(page: Page) -> &'static str

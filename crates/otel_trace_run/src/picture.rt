@@ -5,7 +5,8 @@ ghost use Rattle.std.specs.Prelude.{◌≡◌, ◌++◌, [], IfOk, IfSome, OnOk,
 ghost use Rattle.otel_export.specs.PlainSpanData.{PlainSpanData, spans_in};
 ghost use Rattle.otel_shown.specs.Shown.{shown_span};
 ghost use Rattle.otel_trace_lines.specs.Commands.{plain_commands};
-ghost use Rattle.otel_trace_run.specs.Paintings.{Draws};
+ghost use Rattle.otel_picture.specs.Drawn.{plain_traces};
+ghost use Rattle.otel_trace_run.specs.Paintings.{picture_of};
 ghost use Rattle.otel_trace_run.specs.PictureRuns.{DrawsLines, DrawsUnder};
 ghost use Rattle.otel_trace_run.specs.PictureRuns.{ReadsScript, RunsOut, RunsShutdown, says_shut};
 ghost use Rattle.otel_trace_run.specs.Streams.{WhyBad, streams};
@@ -17,8 +18,7 @@ use crate::run_end::RunEnd;
 use otel_export::error::OTelSdkError;
 use otel_export::stream::write_whole;
 use otel_export::trace::SpanData;
-use otel_picture::svg::write_svg;
-use otel_picture::write_text::write_text;
+use otel_picture::traces::Traces;
 use otel_pipeline::trace::{KeepsBatches, ProviderOf};
 use otel_sampling::trace::{GivesIds, ShouldSample};
 use otel_shown::ShownSpan;
@@ -33,15 +33,9 @@ pub trait SpanPainter {
     /// What is said of spans, in order of export, and of the text that is drawn of them.
     ghost paints: { Self → List PlainSpanData → List ℕ → Type 0 };
 
-    /// Appends a picture of spans, which stand in order of export.
-    fn paint(
-        &self,
-        alloc: Global,
-        output: &mut Vec<u8>,
-        spans: Vec<SpanData>,
-    ) -> Result<(), AllocError>
-        ensures { OnOk result ((picture : List ℕ) × paints self.now spans.items picture
-            × (output.new.items ≡ output.old.items ++ picture)) };
+    /// A picture of spans, which stand in order of export.
+    fn paint(&self, alloc: Global, spans: Vec<SpanData>) -> Result<Vec<u8>, AllocError>
+        ensures { IfOk result (λ picture. paints self.now spans.items picture.items) };
 }
 
 /// In which form spans are drawn.
@@ -54,19 +48,13 @@ pub enum PictureForm {
 }
 
 impl PictureForm {
-    /// Appends a picture of shown spans.
-    pub(crate) fn draw(
-        self,
-        alloc: Global,
-        output: &mut Vec<u8>,
-        spans: &[ShownSpan],
-    ) -> Result<(), AllocError>
-        ensures { OnOk result ((picture : List ℕ) × Draws self spans.now picture
-            × (output.new.items ≡ output.old.items ++ picture)) }
+    /// The picture of traces.
+    pub(crate) fn draw(self, alloc: Global, traces: &Traces) -> Result<Vec<u8>, AllocError>
+        ensures { IfOk result (λ picture. picture.items ≡ picture_of self (plain_traces traces.now)) }
     {
         match self {
-            PictureForm::Text { columns } => write_text(alloc, output, spans, columns),
-            PictureForm::Svg => write_svg(alloc, output, spans),
+            PictureForm::Text { columns } => traces.to_text(alloc, columns),
+            PictureForm::Svg => traces.to_svg(alloc),
         }
     }
 }
@@ -76,14 +64,10 @@ impl SpanPainter for PictureForm {
 
     ghost paints = { Paints };
 
-    fn paint(
-        &self,
-        alloc: Global,
-        output: &mut Vec<u8>,
-        spans: Vec<SpanData>,
-    ) -> Result<(), AllocError> {
+    fn paint(&self, alloc: Global, spans: Vec<SpanData>) -> Result<Vec<u8>, AllocError> {
         let shown = shown_spans(alloc, spans)?;
-        self.draw(alloc, output, &shown)
+        let traces = Traces::of(alloc, &shown)?;
+        self.draw(alloc, &traces)
     }
 }
 
@@ -170,7 +154,7 @@ fn draw_lines<P: KeepsBatches, S: ShouldSample, G: GivesIds, D: SpanPainter, R: 
 {
     let (script, reason) = read_script(alloc, input).ok()?;
     let spans = exported_by(alloc, session, script.commands)?;
-    let picture = paint_picture(alloc, painter, spans).ok()?;
+    let picture = painter.paint(alloc, spans).ok()?;
     Some(Drawn {
         picture,
         bad_line: script.bad_line,
@@ -275,17 +259,4 @@ fn push_batches(spans: &mut Vec<SpanData>, batches: Vec<Vec<SpanData>>) -> Resul
         spans.append(&mut batch)?;
     }
     Ok(())
-}
-
-/// The picture of spans.
-fn paint_picture<D: SpanPainter>(
-    alloc: Global,
-    painter: &D,
-    spans: Vec<SpanData>,
-) -> Result<Vec<u8>, AllocError>
-    ensures { IfOk result (λ picture. D.paints painter.now spans.items picture.items) }
-{
-    let mut picture = Vec::new(alloc);
-    painter.paint(alloc, &mut picture, spans)?;
-    Ok(picture)
 }

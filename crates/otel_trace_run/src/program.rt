@@ -13,6 +13,7 @@ ghost use Rattle.otel_trace_run.specs.Arguments.{
   plain_mode,
   trace,
 };
+ghost use Rattle.otel_trace_run.specs.AskedViews.{AsksForNoView, AsksView};
 ghost use Rattle.otel_trace_run.specs.Pages.{
   AsksForNoPage,
   AsksForPage,
@@ -24,8 +25,9 @@ ghost use Rattle.otel_trace_run.specs.Pages.{
 ghost use Rattle.otel_trace_run.specs.Program.{Runs, RunsTo};
 ghost use Rattle.otel_trace_run.specs.Reasons.{IsFault};
 ghost use Rattle.otel_trace_run.specs.Streams.{Reports, streams};
-ghost use Rattle.otel_trace_run.specs.Views.{AsksForNoView, AsksView, Views};
+ghost use Rattle.otel_trace_run.specs.Views.{Views};
 
+use crate::asked_view::{View, parse_view};
 use crate::mode::{Asked, AskedExport, Mode, parse_mode, unread_attribute};
 use crate::otlp::{export_input, resource_of};
 use crate::pages::{OTLP_USAGE, Page, parse_page, text_of, usage_for};
@@ -35,7 +37,7 @@ use crate::reason::{Reason, text_of as reason_text_of};
 use crate::run_end::RunEnd;
 use crate::step_stream::step_input;
 use crate::trace_stream::trace_input;
-use crate::view::{parse_view, view_input};
+use crate::view::view_input;
 use otel_export::stream::write_whole;
 use otel_trace_lines::ReplyLines;
 use std::alloc::Global;
@@ -77,16 +79,16 @@ pub fn run_program<R: Read, W: Write, F: Write>(
         ⟦<TraceProvider as SessionProvider>⟧.calls ⟦<PictureForm as SpanPainter>⟧.paints mode
         (streams (R.remaining input.old) (R.remaining input.new) (W.contents output.old) (W.contents output.new))
         (faults.new ≡ faults.old) (Appends (F.contents faults.old) (F.contents faults.new)) result }
-    ensures views { (form : PictureForm) → AsksView (map string_bytes words.now) form
-        → (found : PictureForm) × AsksView (map string_bytes words.now) found × Views found
+    ensures views { (view : View) → AsksView (map string_bytes words.now) view
+        → (found : View) × AsksView (map string_bytes words.now) found × Views found
         (streams (R.remaining input.old) (R.remaining input.new) (W.contents output.old) (W.contents output.new))
         (faults.new ≡ faults.old) (Appends (F.contents faults.old) (F.contents faults.new)) result }
 {
     if let Some(page) = parse_page(words) {
         return show(text_of(page), output);
     }
-    if let Some(form) = parse_view(words) {
-        return view_input(alloc, form, input, output, faults);
+    if let Some(view) = parse_view(words) {
+        return view_input(alloc, view, input, output, faults);
     }
     match parse_mode(words) {
         None => refuse_words(alloc, words, faults),
