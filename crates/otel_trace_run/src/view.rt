@@ -64,8 +64,8 @@ fn draw_view<R: Read, W: Write>(
     Some(found)
 }
 
-/// Reads an input to its end, and gives what is written of its spans and the lines that do not read. None where reading or
-/// memory failed.
+/// Reads an input to its end, and gives what is written of its spans and the lines that do not read. The bytes of the
+/// input are given back before its spans are drawn. None where reading or memory failed.
 fn read_view<R: Read>(alloc: Global, view: View, input: &mut R) -> Option<(Vec<u8>, Vec<LineFault>)>
     ensures { IfSome result (λ found.
         ReadsView view (R.remaining input.old) (R.remaining input.new) found.0.items found.1.items) }
@@ -75,6 +75,7 @@ fn read_view<R: Read>(alloc: Global, view: View, input: &mut R) -> Option<(Vec<u
         return None;
     };
     let read = read_text(alloc, &text).ok()?;
+    drop(text);
     let written = view_of(alloc, view, &read.spans).ok()?;
     Some((written, read.faults))
 }
