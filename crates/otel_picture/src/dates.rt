@@ -17,6 +17,7 @@ ghost use Rattle.otel_picture.specs.Dates.{
   two_digits,
 };
 
+use crate::durations::push_digit;
 use std::alloc::AllocError;
 use std::fmt::Write;
 
@@ -99,7 +100,7 @@ fn date_of(days: u32) -> Date
 fn push_last_digit(out: &mut String, number: u64) -> Result<(), AllocError>
     ensures { OnOk result (TextGrows out.old ((48 + number % 10) ∷ []) out.new) }
 {
-    out.push(char::from(b'0' + (number % 10) as u8))
+    push_digit(out, number % 10)
 }
 
 /// Appends the last two digits of a number.

@@ -42,7 +42,7 @@ fn step_of(nanoseconds: u64) -> u64
 }
 
 /// Appends a digit.
-fn push_digit(out: &mut String, digit: u64) -> Result<(), AllocError>
+pub(crate) fn push_digit(out: &mut String, digit: u64) -> Result<(), AllocError>
     requires { digit < 10 }
     ensures { OnOk result (TextGrows out.old ((48 + digit) ∷ []) out.new) }
 {

@@ -1,6 +1,6 @@
 //! Traces as they are drawn: of each its spans, and a row a span.
 
-ghost use Rattle.std.specs.Prelude.{◌≡◌, ◌<◌, All, IfOk, length, map};
+ghost use Rattle.std.specs.Prelude.{◌<◌, All, IfOk, length, map};
 ghost use Rattle.otel_picture.specs.Traces.{AreTraces, IsTraceAt, plain_trace};
 
 use crate::families::{Group, family_of, groups_of};
@@ -53,12 +53,5 @@ impl<'a> Traces<'a> {
     {
         let traces = traces_of(alloc, spans)?;
         Ok(Traces { spans, traces })
-    }
-
-    /// How many traces these are.
-    pub fn len(&self) -> usize
-        ensures { result ≡ length (plain_traces self.now).traces }
-    {
-        self.traces.len()
     }
 }
