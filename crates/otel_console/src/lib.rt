@@ -3,6 +3,5 @@
 #![tactic(auto)]
 
 mod console_span_exporter;
-mod tests;
 
 pub use console_span_exporter::ConsoleSpanExporter;

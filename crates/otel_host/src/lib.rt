@@ -7,7 +7,6 @@
 mod clock;
 mod seed;
 mod strings;
-mod tests;
 mod variables;
 
 pub use clock::{ClockError, HostClock, now};

@@ -228,24 +228,3 @@ impl Sink {
         }
     }
 }
-
-#[cfg(test)]
-mod tests {
-    use super::*;
-    use std::test::Fail;
-
-    #[test]
-    fn fields_are_written_and_counted(rt: HostRuntime) -> Result<(), Fail> {
-        let mut sink = Sink::after(vec![in rt.alloc(); 7]?);
-        sink.number(1, 150);
-        sink.bytes(2, b"testing");
-        sink.number(3, 0);
-        let (bytes, is_whole) = sink.into_bytes();
-        assert!(rt; is_whole);
-        assert_eq!(rt;
-            bytes.as_slice(),
-            b"\x07\x08\x96\x01\x12\x07testing".as_slice()
-        );
-        Ok(())
-    }
-}
