@@ -87,7 +87,7 @@ pub trait TextMapPropagator {
 }
 
 /// The names of a propagator's fields, in turn.
-#[derive(Clone, Debug, Drop)]
+#[derive(Debug, Drop)]
 pub struct FieldIter<'a> {
     names: &'a [&'static str],
     given: usize,

@@ -2,6 +2,8 @@
 //! strangers, so a baggage is read and written by its grammar alone: no line break comes in or leaves.
 
 ghost use Rattle.std.specs.Prelude.{IfOk, OnOk};
+ghost use Rattle.opentelemetry.specs.PlainContexts.{root_cx};
+ghost use Rattle.otel_propagation.specs.Traceparent.{ExtractsTraceContext};
 ghost use Rattle.otel_embed.specs.Headers.{ReadsContext, SetsContext};
 
 use opentelemetry::Context;
@@ -14,9 +16,15 @@ use std::alloc::{AllocError, Global};
 pub(crate) fn context_of<X: Extractor>(alloc: Global, headers: &X) -> Result<Context, AllocError>
     ensures { IfOk result (ReadsContext (X.reads headers.now)) }
 {
-    let root = Context::new();
-    let traced = TraceContextPropagator::new().extract_with_context(alloc, &root, headers)?;
+    let traced = traced_of(alloc, headers)?;
     StrictBaggagePropagator::new().extract_with_context(alloc, &traced, headers)
+}
+
+/// The context of the span that headers say, and nothing else.
+fn traced_of<X: Extractor>(alloc: Global, headers: &X) -> Result<Context, AllocError>
+    ensures { IfOk result (ExtractsTraceContext root_cx (X.reads headers.now)) }
+{
+    TraceContextPropagator::new().extract_with_context(alloc, &Context::new(), headers)
 }
 
 /// Sets the headers of a context. After an error some may be set.

@@ -1,7 +1,7 @@
 //! Bytes that are written to a stream whole.
 
-ghost use Rattle.std.specs.Prelude.{OnErr, OnOk};
-ghost use Rattle.std.specs.Io.KnownBytes.{Appends};
+ghost use Rattle.std.specs.Prelude.{◌≤◌, IfOk, OnErr, OnOk, length, take};
+ghost use Rattle.std.specs.Io.KnownBytes.{Appends, Keeps};
 ghost use Rattle.otel_export.specs.Streams.{AppendsBeginning};
 
 use std::io;
@@ -18,15 +18,21 @@ pub fn write_whole<W: Write>(writer: &mut W, bytes: &[u8]) -> io::Result<()>
         if written >= bytes.len() {
             return writer.flush();
         }
-        match writer.write(&bytes[written..]) {
-            Ok(0) => return Err(io::Error::from(ErrorKind::WriteZero)),
-            Ok(count) => written += count,
-            Err(error) => {
-                if error.kind() != ErrorKind::Interrupted {
-                    return Err(error);
-                }
-            }
-        }
+        written += write_some(writer, &bytes[written..])?;
     }
     Err(io::Error::from(ErrorKind::TimedOut))
+}
+
+/// Writes what the writer takes at once, and says how much that is: nothing where it was interrupted.
+fn write_some<W: Write>(writer: &mut W, bytes: &[u8]) -> io::Result<usize>
+    ensures ok { IfOk result (λ count. (count ≤ length bytes.now)
+        × Appends (W.contents writer.old) (W.contents writer.new) (take count bytes.now)) }
+    ensures err { OnErr result (Keeps (W.contents writer.old) (W.contents writer.new)) }
+{
+    match writer.write(bytes) {
+        Ok(0) => Err(io::Error::from(ErrorKind::WriteZero)),
+        Ok(count) => Ok(count),
+        Err(error) if error.kind() == ErrorKind::Interrupted => Ok(0),
+        Err(error) => Err(error),
+    }
 }

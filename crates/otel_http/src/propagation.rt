@@ -1,6 +1,8 @@
 //! Contexts into headers, and out of them.
 
 ghost use Rattle.std.specs.Prelude.{IfOk};
+ghost use Rattle.opentelemetry.specs.PlainContexts.{root_cx};
+ghost use Rattle.otel_propagation.specs.Traceparent.{ExtractsTraceContext};
 ghost use Rattle.otel_http.specs.Contexts.{ExtractsContext, InjectsContext, IsContextOf};
 ghost use Rattle.otel_http.specs.Headers.{header_texts};
 ghost use Rattle.otel_http.specs.Injection.{carrier_answer};
@@ -72,7 +74,13 @@ pub fn extract_context(alloc: Global, headers: &HeaderMap) -> Result<Context, Al
 fn both_of<X: Extractor>(alloc: Global, extractor: &X) -> Result<Context, AllocError>
     ensures { IfOk result (ExtractsContext (X.reads extractor.now)) }
 {
-    let root = Context::new();
-    let found = TraceContextPropagator::new().extract_with_context(alloc, &root, extractor)?;
-    StrictBaggagePropagator::new().extract_with_context(alloc, &found, extractor)
+    let traced = traced_of(alloc, extractor)?;
+    StrictBaggagePropagator::new().extract_with_context(alloc, &traced, extractor)
+}
+
+/// The context of the span that a carrier's texts say, and nothing else.
+fn traced_of<X: Extractor>(alloc: Global, extractor: &X) -> Result<Context, AllocError>
+    ensures { IfOk result (ExtractsTraceContext root_cx (X.reads extractor.now)) }
+{
+    TraceContextPropagator::new().extract_with_context(alloc, &Context::new(), extractor)
 }

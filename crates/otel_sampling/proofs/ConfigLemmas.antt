@@ -45,9 +45,17 @@ default_by_name ratio name others =
     (λ not. inr (not_named ratio name others (λ e. both_ways _ not (test.1 e)), refl))
     (cases_Bool (bytes_eq name (codes "parentbased_always_on")))
 
-pub configured_default : {C E : Type 0} (strings : PlainConfigStrings) (name : List ℕ) (ratio : PlainRatio) (r : Result (SamplerOf C) E)
-    → strings.sampler ≡ Some name → IsConfiguredRatio strings.sampler_arg ratio → NamesNoOtherSampler name
-    → IfOk r (λ sampler. plan sampler ≡ parent_based always_on)
+-- the default is made for such a name
+pub configured_default : {C E : Type 0} (name : List ℕ) (ratio : PlainRatio) (r : Result (SamplerOf C) E)
+    → NamesNoOtherSampler name → IfOk r (λ sampler. plan sampler ≡ parent_based always_on)
+    → IfOk r (λ sampler. IsConfigured (IsNamed (sampler_names ratio)) (Some name) (parent_based always_on) (plan sampler))
+configured_default name ratio (Ok sampler) others is = rw is (default_by_name ratio name others)
+configured_default name ratio (Err e) others is = tt
+
+-- the sampler of the name that the strings say is the one that they configure
+pub configured_named : {C E : Type 0} (strings : PlainConfigStrings) (name : List ℕ) (ratio : PlainRatio) (r : Result (SamplerOf C) E)
+    → strings.sampler ≡ Some name → IsConfiguredRatio strings.sampler_arg ratio
+    → IfOk r (λ sampler. IsConfigured (IsNamed (sampler_names ratio)) (Some name) (parent_based always_on) (plan sampler))
     → IfOk r (λ sampler. IsConfiguredSampler strings (plan sampler))
-configured_default strings name ratio (Ok sampler) given argument others is = rw (is, given) (ratio, argument, default_by_name ratio name others)
-configured_default strings name ratio (Err e) given argument others is = tt
+configured_named strings name ratio (Ok sampler) given argument named = rw given (ratio, argument, named)
+configured_named strings name ratio (Err e) given argument named = tt

@@ -1,14 +1,22 @@
 //! The headers by which another process continues a trace (W3C Trace Context).
 
 ghost use Rattle.opentelemetry.specs.PlainContexts.{current_span_context};
-ghost use Rattle.std.specs.Prelude.{IfOk, string_bytes};
-ghost use Rattle.otel_trace_session.specs.Headers.{AnswersHeaders, SaysContext};
+ghost use Rattle.std.specs.Prelude.{◌≡◌, IfOk, string_bytes};
+ghost use Rattle.otel_trace_session.specs.Headers.{AnswersHeaders, SaysContext, child_cx};
 
 use opentelemetry::Context;
 use opentelemetry::propagation::{Extractor, Injector, MapCarrier, TextMapPropagator};
+use opentelemetry::trace::SpanContext;
 use otel_propagation::propagation::TraceContextPropagator;
 use otel_trace_lines::Answer;
 use std::alloc::{AllocError, Global};
+
+/// The context in which a span is active, and nothing else.
+pub(crate) fn child_context(parent: &SpanContext) -> Result<Context, AllocError>
+    ensures { IfOk result (λ cx. cx ≡ child_cx parent.now) }
+{
+    Context::new().with_span_context(parent.clone()?)
+}
 
 /// The context that a `traceparent` says, without a `tracestate` beside it.
 pub(crate) fn remote_context(alloc: Global, traceparent: String) -> Result<Context, AllocError>

@@ -32,7 +32,7 @@ ghost use Rattle.otel_trace_session.specs.SpanTurns.{ChildTurn, EndTurn, StartTu
 ghost use Rattle.otel_trace_session.specs.Turn.{TurnsFromAny};
 
 use crate::ended_span::EndedSpan;
-use crate::headers::answer_with_headers;
+use crate::headers::{answer_with_headers, child_context};
 use crate::span_answers::{answer_to_edit, answer_to_end, answer_to_forget, answer_to_late};
 use crate::span_maps::{abandon_all, abandon_one, drop_identity, has_recording, keep_identity};
 use opentelemetry::trace::{Link, SpanBuilder, SpanContext};
@@ -154,8 +154,7 @@ impl OpenSpans {
         let Some(found) = self.find(span) else {
             return Ok(None);
         };
-        let cx = Context::new().with_span_context(found.clone()?)?;
-        Ok(Some(cx))
+        Ok(Some(child_context(found)?))
     }
 
     /// Who the span of a name is, open or over.

@@ -180,13 +180,16 @@ impl<E: SpanExporter> BatchMachine<E> {
         ensures sound { IfOk result (λ m. IsSound (counts m)) }
     {
         let batch_size = config.max_export_batch_size();
+        let waiting = SpanQueue::with_capacity(alloc, config.max_queue_size())?;
+        let messages = HeapCircularBuffer::with_capacity(alloc, 64)?;
+        let slots = idle_slots(alloc, producers)?;
         let machine = BatchMachine {
             alloc,
             exporter,
-            waiting: SpanQueue::with_capacity(alloc, config.max_queue_size())?,
+            waiting,
             hand: Vec::new(alloc),
-            messages: HeapCircularBuffer::with_capacity(alloc, 64)?,
-            slots: idle_slots(alloc, producers)?,
+            messages,
+            slots,
             counter: 0,
             flag: false,
             dropped: 0,

@@ -4,8 +4,11 @@
 ghost use Rattle.std.specs.Prelude.{◌≡◌};
 
 use crate::machine::batch_machine::BatchMachine;
-use crate::machine::queue::message_of;
-use crate::machine::slots::{number_held_at, set_slot, take_answer, take_span};
+use crate::machine::queue::{is_sampled, message_of, post_message, queue_span};
+use crate::machine::slots::{
+    after_send, is_asking, is_idle, is_posting, is_refused, is_resetting, number_held_at, set_slot,
+    take_answer, take_span,
+};
 use crate::machine::state::{Message, Request, Slot};
 use crate::machine::step::Outcome;
 use otel_export::trace::{SpanData, SpanExporter};
@@ -23,10 +26,12 @@ impl<E: SpanExporter> BatchMachine<E> {
         ensures row { OfferRow (counts self.old) p span result (counts self.new) }
         ensures moved { Keeps self.old self.new }
     {
-        let Some(Slot::Idle) = self.slots.get(p) else {
+        if !is_idle(&self.slots, p) {
+            drop(span);
             return Outcome::NotEnabled;
-        };
-        if !span.span_context.is_sampled() {
+        }
+        if !is_sampled(&span) {
+            drop(span);
             return Outcome::Skipped;
         }
         self.counter += 1;
@@ -51,13 +56,8 @@ impl<E: SpanExporter> BatchMachine<E> {
             set_slot(&mut self.slots, p, Slot::Refused);
             return Outcome::Full;
         }
-        let after = if self.batch_size as u128 <= n {
-            Slot::Asking
-        } else {
-            Slot::Idle
-        };
-        let span = take_span(&mut self.slots, p, after);
-        let _ = self.waiting.try_push_back(span);
+        let span = take_span(&mut self.slots, p, after_send(self.batch_size, n));
+        let _ = queue_span(&mut self.waiting, span);
         Outcome::Accepted
     }
 
@@ -65,9 +65,9 @@ impl<E: SpanExporter> BatchMachine<E> {
         ensures row { UndoRow (counts self.old) p result (counts self.new) }
         ensures moved { Keeps self.old self.new }
     {
-        let Some(Slot::Refused) = self.slots.get(p) else {
+        if !is_refused(&self.slots, p) {
             return Outcome::NotEnabled;
-        };
+        }
         self.counter -= 1;
         set_slot(&mut self.slots, p, Slot::Idle);
         Outcome::Undone
@@ -77,9 +77,9 @@ impl<E: SpanExporter> BatchMachine<E> {
         ensures row { AskRow (counts self.old) p result (counts self.new) }
         ensures moved { Keeps self.old self.new }
     {
-        let Some(Slot::Asking) = self.slots.get(p) else {
+        if !is_asking(&self.slots, p) {
             return Outcome::NotEnabled;
-        };
+        }
         if self.flag {
             set_slot(&mut self.slots, p, Slot::Idle);
             return Outcome::AlreadyAsked;
@@ -93,19 +93,18 @@ impl<E: SpanExporter> BatchMachine<E> {
         ensures row { PostRow (counts self.old) p result (counts self.new) }
         ensures moved { Keeps self.old self.new }
     {
-        let Some(Slot::Posting) = self.slots.get(p) else {
+        if !is_posting(&self.slots, p) {
             return Outcome::NotEnabled;
-        };
+        }
         if self.closed {
             set_slot(&mut self.slots, p, Slot::Resetting);
             return Outcome::Closed;
         }
-        if self.messages.is_full() {
+        if !post_message(&mut self.messages, Message::Export) {
             set_slot(&mut self.slots, p, Slot::Resetting);
             return Outcome::Full;
         }
         set_slot(&mut self.slots, p, Slot::Idle);
-        let _ = self.messages.try_push_back(Message::Export);
         Outcome::Posted
     }
 
@@ -113,9 +112,9 @@ impl<E: SpanExporter> BatchMachine<E> {
         ensures row { ResetRow (counts self.old) p result (counts self.new) }
         ensures moved { Keeps self.old self.new }
     {
-        let Some(Slot::Resetting) = self.slots.get(p) else {
+        if !is_resetting(&self.slots, p) {
             return Outcome::NotEnabled;
-        };
+        }
         self.flag = false;
         set_slot(&mut self.slots, p, Slot::Idle);
         Outcome::ResetDone
@@ -125,17 +124,16 @@ impl<E: SpanExporter> BatchMachine<E> {
         ensures row { RequestRow (counts self.old) request p result (counts self.new) }
         ensures moved { Keeps self.old self.new }
     {
-        let Some(Slot::Idle) = self.slots.get(p) else {
+        if !is_idle(&self.slots, p) {
             return Outcome::NotEnabled;
-        };
+        }
         if self.closed {
             return Outcome::Closed;
         }
-        if self.messages.is_full() {
+        if !post_message(&mut self.messages, message_of(request, p)) {
             return Outcome::Full;
         }
         set_slot(&mut self.slots, p, Slot::Waiting(request));
-        let _ = self.messages.try_push_back(message_of(request, p));
         Outcome::Requested
     }
 
@@ -154,12 +152,12 @@ impl<E: SpanExporter> BatchMachine<E> {
         ensures moved { Keeps self.old self.new }
     {
         if self.closed {
+            drop(resource);
             return Outcome::Closed;
         }
-        if self.messages.is_full() {
+        if !post_message(&mut self.messages, Message::Resource(resource)) {
             return Outcome::Full;
         }
-        let _ = self.messages.try_push_back(Message::Resource(resource));
         Outcome::Posted
     }
 }

@@ -4,7 +4,7 @@
 ghost use Rattle.std.specs.Prelude.{◌≡◌, Some, slice_get};
 
 use crate::machine::batch_machine::BatchMachine;
-use crate::machine::queue::batch_limit;
+use crate::machine::queue::{batch_limit, is_sampled, post_message, queue_span};
 use crate::machine::state::{Message, Worker};
 use otel_export::trace::{SpanData, SpanExporter};
 
@@ -22,13 +22,15 @@ impl<E: SpanExporter> BatchMachine<E> {
         ensures { OffersSpan E.SpanExporter self.old span self.new }
     {
         self.is_sound();
-        if !span.span_context.is_sampled() {
+        if !is_sampled(&span) {
+            drop(span);
             return;
         }
         if self.closed {
+            drop(span);
             return;
         }
-        if let Err(_refused) = self.waiting.try_push_back(span) {
+        if !queue_span(&mut self.waiting, span) {
             self.dropped = self.dropped.saturating_add(1);
             return;
         }
@@ -39,7 +41,7 @@ impl<E: SpanExporter> BatchMachine<E> {
         if self.flag {
             return;
         }
-        if self.messages.try_push_back(Message::Export).is_ok() {
+        if post_message(&mut self.messages, Message::Export) {
             self.flag = true;
         }
     }

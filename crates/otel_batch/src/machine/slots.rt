@@ -2,9 +2,11 @@
 
 ghost use Rattle.std.specs.Prelude.{◌≡◌, ℕ, ◌≤◌, ◌<◌, sum_by, true, false, [], ◌∷◌, IfOk, IfSome, IfNone};
 ghost use Rattle.std.specs.Prelude.{Some, slice_get, slice_set, length, replicate};
+ghost use Rattle.otel_batch.specs.Slots.{is_idle, is_refused, is_asking, is_posting, is_resetting};
 ghost use Rattle.otel_batch.specs.Slots.{is_holding, number_held, is_answered, span_held};
 ghost use Rattle.otel_batch.specs.Slots.{slot_counts, slot_asks, slot_waits};
 ghost use Rattle.otel_batch.specs.Messages.{message_names};
+ghost use Rattle.otel_batch.specs.ProducerSteps.{after_send};
 ghost use Rattle.otel_batch.specs.DrainResult.{IsErrorOf};
 ghost use Rattle.otel_batch.specs.DrainEnds.{IsDropped, SaysDropped};
 ghost use Rattle.otel_batch.specs.declared.machine.state.Slot.TheVariants as slot;
@@ -22,9 +24,54 @@ pub(super) fn idle_slots(alloc: Global, producers: usize) -> Result<Vec<Slot>, A
 {
     let mut slots = Vec::with_capacity(alloc, producers)?;
     for i in 0..producers {
-        slots.push(Slot::Idle)?;
+        slots.push_reserved(Slot::Idle);
     }
     Ok(slots)
+}
+
+/// Whether a producer is there, and idle.
+pub(super) fn is_idle(slots: &[Slot], p: usize) -> bool
+    ensures found { result ≡ true → slice_get slots.now p ≡ Some slot.Idle }
+    ensures within { result ≡ true → p < length slots.now }
+    ensures other { result ≡ false → is_idle (slice_get slots.now p) ≡ false }
+{
+    matches!(slots.get(p), Some(Slot::Idle))
+}
+
+/// Whether a producer is there, and its span was refused.
+pub(super) fn is_refused(slots: &[Slot], p: usize) -> bool
+    ensures found { result ≡ true → slice_get slots.now p ≡ Some slot.Refused }
+    ensures within { result ≡ true → p < length slots.now }
+    ensures other { result ≡ false → is_refused (slice_get slots.now p) ≡ false }
+{
+    matches!(slots.get(p), Some(Slot::Refused))
+}
+
+/// Whether a producer is there, and wants a batch exported.
+pub(super) fn is_asking(slots: &[Slot], p: usize) -> bool
+    ensures found { result ≡ true → slice_get slots.now p ≡ Some slot.Asking }
+    ensures within { result ≡ true → p < length slots.now }
+    ensures other { result ≡ false → is_asking (slice_get slots.now p) ≡ false }
+{
+    matches!(slots.get(p), Some(Slot::Asking))
+}
+
+/// Whether a producer is there, and may post its wish.
+pub(super) fn is_posting(slots: &[Slot], p: usize) -> bool
+    ensures found { result ≡ true → slice_get slots.now p ≡ Some slot.Posting }
+    ensures within { result ≡ true → p < length slots.now }
+    ensures other { result ≡ false → is_posting (slice_get slots.now p) ≡ false }
+{
+    matches!(slots.get(p), Some(Slot::Posting))
+}
+
+/// Whether a producer is there, and is to take its wish back.
+pub(super) fn is_resetting(slots: &[Slot], p: usize) -> bool
+    ensures found { result ≡ true → slice_get slots.now p ≡ Some slot.Resetting }
+    ensures within { result ≡ true → p < length slots.now }
+    ensures other { result ≡ false → is_resetting (slice_get slots.now p) ≡ false }
+{
+    matches!(slots.get(p), Some(Slot::Resetting))
 }
 
 /// The number of the span that a slot holds.
@@ -37,6 +84,18 @@ pub(super) fn number_held_at(slots: &[Slot], p: usize) -> Option<u128>
     match slots.get(p) {
         Some(Slot::Holding(_, n)) => Some(*n),
         _ => None,
+    }
+}
+
+/// What a producer is at whose span was queued as the n-th that is counted: from the size of a batch on it wants that
+/// exported.
+pub(super) fn after_send(batch_size: usize, n: u128) -> Slot
+    ensures { result ≡ after_send batch_size n }
+{
+    if batch_size as u128 <= n {
+        Slot::Asking
+    } else {
+        Slot::Idle
     }
 }
 

@@ -45,6 +45,7 @@ impl<E: SpanExporter> BatchMachine<E> {
             }
             Some(Message::Resource(resource)) => {
                 self.exporter.set_resource(&resource);
+                drop(resource);
                 Outcome::TookResource
             }
         }
@@ -84,7 +85,7 @@ impl<E: SpanExporter> BatchMachine<E> {
         self.why = why;
         self.target = self.counter;
         self.done = 0;
-        self.result = Ok(());
+        drop(mem::replace(&mut self.result, Ok(())));
         self.refused = false;
         self.worker = if self.counter == 0 {
             Worker::Finishing
@@ -121,13 +122,12 @@ impl<E: SpanExporter> BatchMachine<E> {
             self.worker = Worker::Finishing;
             return Outcome::NoMemory;
         }
-        let Some(span) = self.waiting.pop_front() else {
-            unreachable!();
+        self.waiting.pop_into(&mut self.hand, 1);
+        self.worker = if self.hand.len() < limit {
+            Worker::Pulling
+        } else {
+            Worker::Handing
         };
-        self.hand.push_reserved(span);
-        if limit <= self.hand.len() {
-            self.worker = Worker::Handing;
-        }
         Outcome::Pulled
     }
 
@@ -186,6 +186,7 @@ impl<E: SpanExporter> BatchMachine<E> {
                 Outcome::Finished(None)
             }
             Why::Shutdown(p) => {
+                drop(answer);
                 if self.refused {
                     let refusal = Err(OTelSdkError::OutOfMemory);
                     set_slot(&mut self.slots, p, Slot::Answered(refusal));

@@ -8,7 +8,7 @@ ghost use Rattle.otel_sampling.specs.Sampling.{added_attributes};
 ghost use Rattle.otel_pipeline.specs.Provider.{unstarted_context};
 ghost use Rattle.otel_pipeline.specs.StartRequest.{start_flags, start_of, start_question, start_request};
 ghost use Rattle.otel_pipeline.specs.Starting.{AnswersStart, StartIsInfallible};
-ghost use Rattle.otel_pipeline.specs.SpanHistory.{recording};
+ghost use Rattle.otel_pipeline.specs.SpanHistory.{data_of, recording};
 
 use super::limits::{attributes_within, events_within, links_within};
 use crate::trace::{ProviderOf, Recorded, Span, SpanProcessor};
@@ -234,6 +234,35 @@ fn begin(
     ensures { IfOk result (λ span. span ≡ recording
         (start_of scope.now builder parent.now now.0 span_limits span_context (added_attributes added)) []) }
 {
+    let alloc = *room.allocator();
+    let data = data_of_start(
+        alloc,
+        scope,
+        builder,
+        parent,
+        added,
+        &span_context,
+        now,
+        span_limits,
+    )?;
+    let recorded = Recorded::new(room, data)?;
+    Ok(Span::recording(span_context, recorded, span_limits))
+}
+
+/// What a span records at its start: the lists that its builder and the sampler give it, cut at the limits.
+fn data_of_start(
+    alloc: Global,
+    scope: &InstrumentationScope,
+    builder: SpanBuilder,
+    parent: &SpanContext,
+    added: Option<Vec<KeyValue>>,
+    span_context: &SpanContext,
+    now: Moment,
+    span_limits: SpanLimits,
+) -> Result<SpanData, AllocError>
+    ensures { let start = start_of scope.now builder parent.now now.0 span_limits span_context.now (added_attributes added) in
+        IfOk result (λ recorded. recorded ≡ data_of start [] start.start_time) }
+{
     let SpanBuilder {
         name,
         span_kind,
@@ -242,7 +271,6 @@ fn begin(
         events,
         links,
     } = builder;
-    let alloc = *room.allocator();
     let (attributes, dropped_attributes_count) = attributes_within(
         alloc,
         attributes,
@@ -252,7 +280,7 @@ fn begin(
     let instrumentation_scope = scope.clone()?;
     let recorded_context = span_context.clone()?;
     let start_time = start_time.unwrap_or(now);
-    let data = SpanData {
+    Ok(SpanData {
         span_context: recorded_context,
         parent_span_id: parent.span_id(),
         parent_span_is_remote: parent.is_valid() && parent.is_remote(),
@@ -266,7 +294,5 @@ fn begin(
         links: links_within(alloc, links, span_limits),
         status: Status::Unset,
         instrumentation_scope,
-    };
-    let recorded = Recorded::new(room, data)?;
-    Ok(Span::recording(span_context, recorded, span_limits))
+    })
 }

@@ -285,7 +285,8 @@ impl<E: SpanExporter> SpanProcessor for BatchSpanProcessor<E> {
     }
 
     fn set_resource(&mut self, resource: &Resource) -> Result<(), AllocError> {
-        post_resource(&mut self.machine, resource.clone()?);
+        let copy = resource.clone()?;
+        post_resource(&mut self.machine, copy);
         Ok(())
     }
 }

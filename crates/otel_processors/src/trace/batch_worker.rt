@@ -44,7 +44,7 @@ pub(crate) fn post_resource<E: SpanExporter>(machine: &mut BatchMachine<E>, reso
     ensures told { queue_telling E.SpanExporter machine.new ≡ queue_telling E.SpanExporter machine.old }
     ensures rest { IsAtRest machine.new }
 {
-    let _ = machine.step(Step::PostResource(resource));
+    drop(machine.step(Step::PostResource(resource)));
 }
 
 /// A flush or a shutdown is carried out. `AlreadyShutdown` after a completed shutdown, and an `InternalFailure` where
@@ -61,7 +61,10 @@ pub(crate) fn make_request<E: SpanExporter>(
     match post_request(machine, asked) {
         Outcome::Requested => answer_request(machine),
         Outcome::Closed => Err(OTelSdkError::AlreadyShutdown),
-        _ => Err(crowded(alloc)),
+        other => {
+            drop(other);
+            Err(crowded(alloc))
+        }
     }
 }
 
@@ -96,7 +99,7 @@ pub(crate) fn drain_by_tick<E: SpanExporter>(machine: &mut BatchMachine<E>) -> O
     ensures rest { IsAtRest machine.new }
 {
     machine.is_sound();
-    let _ = machine.step(Step::Tick);
+    drop(machine.step(Step::Tick));
     let answer = work_off_messages(machine);
     machine.is_sound();
     answer
@@ -135,7 +138,7 @@ fn export_full_batch<E: SpanExporter>(machine: &mut BatchMachine<E>) -> u64
 {
     let worked = work_if_full(machine);
     let drained = drain_if_full(machine);
-    failures_in(&worked) + failures_in(&drained)
+    failures_in(worked) + failures_in(drained)
 }
 
 /// Where as many spans wait as a batch has, the worker works until it has nothing to do.
@@ -165,8 +168,8 @@ fn drain_if_full<E: SpanExporter>(machine: &mut BatchMachine<E>) -> OTelSdkResul
 }
 
 /// How many errors an answer is.
-fn failures_in(answer: &OTelSdkResult) -> u64
-    ensures { result ≡ failures_in answer.now }
+fn failures_in(answer: OTelSdkResult) -> u64
+    ensures { result ≡ failures_in answer }
 {
     match answer {
         Ok(()) => 0,
@@ -211,9 +214,18 @@ fn answer_after(answer: OTelSdkResult, outcome: Outcome) -> OTelSdkResult
     ensures { result_err result ≡ last_error (result_err answer) (outcome ∷ []) }
 {
     match outcome {
-        Outcome::Finished(None) => Ok(()),
-        Outcome::Finished(Some(error)) => Err(error),
-        _ => answer,
+        Outcome::Finished(None) => {
+            drop(answer);
+            Ok(())
+        }
+        Outcome::Finished(Some(error)) => {
+            drop(answer);
+            Err(error)
+        }
+        other => {
+            drop(other);
+            answer
+        }
     }
 }
 
@@ -253,7 +265,7 @@ fn answer_request<E: SpanExporter>(machine: &mut BatchMachine<E>) -> OTelSdkResu
     requires { slot_waits (slice_get machine.old.control.slots 0) ≡ 1 }
     ensures { CollectsAnswer E.SpanExporter machine.old result machine.new }
 {
-    let _ = work_off_messages(machine);
+    drop(work_off_messages(machine));
     machine.is_sound();
     match machine.step(Step::Collect(0)) {
         Outcome::Collected(answer) => answer,

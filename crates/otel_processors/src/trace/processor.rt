@@ -261,7 +261,8 @@ impl<E: SpanExporter, C: SpanProcessor> FromExporter for ProcessorOf<E, C> {
 
     fn batch(alloc: Global, exporter: E, strings: &BatchStrings) -> Result<Self, AllocError> {
         let config = BatchConfigBuilder::from_strings(strings).build();
-        Ok(ProcessorOf::Batch(BatchSpanProcessor::new(alloc, exporter, config)?))
+        let batch = BatchSpanProcessor::new(alloc, exporter, config)?;
+        Ok(ProcessorOf::Batch(batch))
     }
 
     fn eager_batch(alloc: Global, exporter: E, strings: &BatchStrings) -> Result<Self, AllocError> {

@@ -1,6 +1,7 @@
 //! The propagators that a text names as one, with those of the caller among them.
 
-ghost use Rattle.std.specs.Prelude.{◌≡◌, [], IfOk, MatchResult, None, Some, filter_map, is_none, map, string_bytes};
+ghost use Rattle.std.specs.Prelude.{◌≡◌, [], ◌∷◌, ◌++◌, IfOk, MatchResult, None, Some, filter_map, is_none, map};
+ghost use Rattle.std.specs.Prelude.{string_bytes};
 ghost use Rattle.std.specs.List.{filter};
 ghost use Rattle.std.specs.Option.{option_copied};
 ghost use Rattle.otel_propagation.specs.Composite.{names_of};
@@ -44,10 +45,7 @@ pub fn configured_propagators<N: CustomPropagators>(
     let mut propagators = Vec::new(alloc);
     let mut unknown = Vec::new(alloc);
     for named in named_propagators(alloc, text)? {
-        match propagator_of(named, custom) {
-            Ok(propagator) => propagators.push(propagator)?,
-            Err(name) => unknown.push(name)?,
-        }
+        put_named(named, custom, &mut propagators, &mut unknown)?;
     }
     Ok(ConfiguredPropagators {
         propagator: TextMapCompositePropagator::new(alloc, propagators)?,
@@ -67,6 +65,26 @@ pub fn built_in_propagators(
         (names_in (text_or_default (option_copied text.entry)))) }
 {
     configured_propagators(alloc, text, &NoCustomPropagators)
+}
+
+/// Puts the propagator of a name after those that are known, or the name after those of which no propagator is known.
+fn put_named<N: CustomPropagators>(
+    named: NamedPropagator,
+    custom: &N,
+    propagators: &mut Vec<PropagatorOf<N::Propagator>>,
+    unknown: &mut Vec<String>,
+) -> Result<(), AllocError>
+    requires { HasItsKind named }
+    ensures known { IfOk result (λ _. propagators.new.items
+        ≡ propagators.old.items ++ filter_map (propagator_named (N.custom_named custom.now)) (name_of named ∷ [])) }
+    ensures unknown { IfOk result (λ _. map string_bytes unknown.new.items ≡ map string_bytes unknown.old.items
+        ++ filter (λ name. is_none (propagator_named (N.custom_named custom.now) name)) (name_of named ∷ [])) }
+{
+    match propagator_of(named, custom) {
+        Ok(propagator) => propagators.push(propagator)?,
+        Err(name) => unknown.push(name)?,
+    }
+    Ok(())
 }
 
 /// The propagator of a name, or the name where no propagator is known.

@@ -2,11 +2,14 @@
 //! "Environment Variable Specification"). Nothing here reads an environment: the application hands its strings in, and
 //! an absent one is a variable that nobody set.
 
-ghost use Rattle.std.specs.Prelude.{◌≡◌, IfOk, OnErr, OnOk, string_bytes};
+ghost use Rattle.std.specs.Prelude.{◌≡◌, IfOk, OnErr, OnOk, Some, string_bytes};
 ghost use Rattle.std.specs.Option.{option_map};
-ghost use Rattle.otel_sampling.specs.Config.{AreConfiguredLimits, IsConfigOf, IsConfiguredSampler};
-ghost use Rattle.otel_sampling.specs.ConfigStrings.{IsConfiguredLength, IsConfiguredNumber, IsConfiguredRatio, is_true};
-ghost use Rattle.otel_sampling.specs.Sampler.{parent_based, plan};
+ghost use Rattle.otel_resource.specs.DetectedResource.{IsDetected};
+ghost use Rattle.otel_sampling.specs.Config.{AreConfiguredLimits, IsConfigOf, IsConfiguredSampler, IsNamed};
+ghost use Rattle.otel_sampling.specs.Config.{sampler_names};
+ghost use Rattle.otel_sampling.specs.ConfigStrings.{IsConfigured, IsConfiguredLength, IsConfiguredNumber};
+ghost use Rattle.otel_sampling.specs.ConfigStrings.{IsConfiguredRatio, is_true};
+ghost use Rattle.otel_sampling.specs.Sampler.{always_on, parent_based, plan};
 
 use crate::trace::{
     IdSource, IdSourceOf, RandomIdGenerator, Ratio, Sampler, SamplerOf, SpanLimits,
@@ -50,7 +53,7 @@ impl Model for BatchStrings {
 
 /// The strings that configure a provider. A limit is a decimal number below 2^32, with a `+` in front or not; another
 /// text counts as absent.
-#[derive(Clone, Debug, Default, Drop)]
+#[derive(Debug, Default, Drop)]
 pub struct ConfigStrings {
     pub resource: ResourceStrings,
     pub batch: BatchStrings,
@@ -154,14 +157,7 @@ impl ConfigOf<Sampler, IdSource> {
     ) -> Result<Config, AllocError>
         ensures { IfOk result (IsConfigOf strings.now seed) }
     {
-        let mut config = ConfigOf {
-            sampler: Sampler::AlwaysOn,
-            id_generator: IdSource::Random(RandomIdGenerator::new(seed)),
-            span_limits: SpanLimits::default(),
-            resource: Resource::builder_empty(alloc).build(),
-        };
-        config.set_from_strings(alloc, strings, seed)?;
-        Ok(config)
+        configured(alloc, strings, seed)
     }
 }
 
@@ -173,13 +169,19 @@ fn configured<C: Drop, D: Drop>(
 ) -> Result<ConfigOf<SamplerOf<C>, IdSourceOf<D>>, AllocError>
     ensures { IfOk result (IsConfigOf strings.now seed) }
 {
-    let resources = &strings.resource;
     Ok(ConfigOf {
         sampler: configured_sampler(alloc, strings)?,
         id_generator: IdSourceOf::Random(RandomIdGenerator::new(seed)),
         span_limits: configured_limits(strings),
-        resource: Resource::builder(alloc, resources)?.build(),
+        resource: configured_resource(alloc, strings)?,
     })
+}
+
+/// The resource that the strings describe.
+fn configured_resource(alloc: Global, strings: &ConfigStrings) -> Result<Resource, AllocError>
+    ensures { IfOk result (λ resource. IsDetected strings.now.resource resource) }
+{
+    Ok(Resource::builder(alloc, &strings.resource)?.build())
 }
 
 /// The sampler of the configured name.
@@ -193,7 +195,19 @@ fn configured_sampler<C: Drop>(
     let Some(name) = &strings.sampler else {
         return parent_based(alloc, SamplerOf::AlwaysOn);
     };
-    match name.as_str() {
+    named_sampler(alloc, name.as_str(), ratio)
+}
+
+/// The sampler of this name, where a ratio is this one.
+fn named_sampler<C: Drop>(
+    alloc: Global,
+    name: &str,
+    ratio: Ratio,
+) -> Result<SamplerOf<C>, AllocError>
+    ensures { IfOk result (λ sampler. IsConfigured (IsNamed (sampler_names ratio)) (Some name.now)
+        (parent_based always_on) (plan sampler)) }
+{
+    match name {
         "always_on" => Ok(SamplerOf::AlwaysOn),
         "always_off" => Ok(SamplerOf::AlwaysOff),
         "traceidratio" => Ok(SamplerOf::TraceIdRatioBased(ratio)),

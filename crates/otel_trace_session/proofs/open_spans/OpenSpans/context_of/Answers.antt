@@ -1,4 +1,4 @@
-use Rattle.std.proofs.Common.{◌≡◌, ◌∙◌, ap, sym, rules, Some}
+use Rattle.std.proofs.Common.{◌≡◌, ◌∙◌, ap, sym, Some}
 use Rattle.std.specs.Option.{option_map}
 use Rattle.otel_trace_session.specs.Headers.{child_cx}
 use Rattle.otel_trace_session.specs.OpenSpans.{named}
@@ -10,5 +10,4 @@ returns-in_default c = ap (option_map child_cx) c.in_default.ensures ∙ sym (ma
 
 pub returns : goal.returns
 returns c =
-    let cx_is : c.in_ok-cx.cx ≡ child_cx c.in-Some.found.now = search rules in
-    ap Some cx_is ∙ ap (option_map child_cx) c.in-Some.ensures ∙ sym (map_context child_cx (named c.args.self.now c.args.span.now))
+    ap Some c.in_ok-child_context.ensures ∙ ap (option_map child_cx) c.in-Some.ensures ∙ sym (map_context child_cx (named c.args.self.now c.args.span.now))

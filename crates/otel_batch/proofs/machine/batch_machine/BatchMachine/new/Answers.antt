@@ -5,15 +5,15 @@ use Rattle.otel_batch.proofs.machine.batch_machine.BatchMachine.new.Goals as goa
 
 pub invariant_of-machine : goal.invariant_of-machine
 invariant_of-machine g c =
-    let size : c.in_ok-with_capacity.field-0.capacity ≡ c.args.config.max_queue_size = grind (arith, common_steps) in
+    let size : c.in_ok-waiting.waiting.capacity ≡ c.args.config.max_queue_size = grind (arith, common_steps) in
     let batch : c.max_export_batch_size-batch_size.result ≡ c.args.config.max_export_batch_size =
     c.max_export_batch_size-batch_size.ensures.value in
     let fits : c.args.config.max_queue_size < 2 ^ 64 = grind (arith, common_steps) in
     rw (
-      c.in_ok-with_capacity-2.ensures,
-      c.in_ok-idle_slots.ensures,
+      c.in_ok-messages.ensures,
+      c.in_ok-slots.ensures,
       c.new.ensures.items,
-      c.in_ok-with_capacity.ensures,
+      c.in_ok-waiting.ensures,
       batch,
       c.max_queue_size.ensures,
     ) (record {
