@@ -260,7 +260,8 @@ fn data_of_start(
     now: Moment,
     span_limits: SpanLimits,
 ) -> Result<SpanData, AllocError>
-    ensures { let start = start_of scope.now builder parent.now now.0 span_limits span_context.now (added_attributes added) in
+    ensures { let start = start_of scope.now builder parent.now now.0 span_limits span_context.now
+        (added_attributes added) in
         IfOk result (λ recorded. recorded ≡ data_of start [] start.start_time) }
 {
     let SpanBuilder {
