@@ -1,6 +1,6 @@
 -- How a batch processor is configured (OpenTelemetry specification, "Batching processor").
 use Rattle.std.specs.Prelude.{◌≡◌, ℕ, ◌*◌, List, Option, min}
-use Rattle.otel_sampling.specs.ConfigStrings.{PlainBatchStrings, IsConfiguredNumber}
+use Rattle.otel_sampling.specs.ConfigStrings.{PlainBatchStrings, IsConfigured, IsConfiguredNumber, IsQueueSize}
 
 -- its sizes in spans, its times in nanoseconds
 pub record PlainBatchConfig : Type 0 where
@@ -30,7 +30,7 @@ IsConfiguredTime given default nanoseconds =
 -- what strings configure: each size and time that is said, and else the default, and no batch has more spans than may wait
 pub record IsBatchConfigOf (strings : PlainBatchStrings) (config : PlainBatchConfig) : Type 0 where
   pub size : ℕ
-  pub queue : IsConfiguredNumber 64 strings.max_queue_size 2048 config.max_queue_size
+  pub queue : IsConfigured IsQueueSize strings.max_queue_size 2048 config.max_queue_size
   pub batch : IsConfiguredNumber 64 strings.max_export_batch_size 512 size
   pub cut : config.max_export_batch_size ≡ min size config.max_queue_size
   pub delay : IsConfiguredTime strings.schedule_delay 5_000 config.scheduled_delay

@@ -4,7 +4,7 @@ use Rattle.std.specs.Prelude.{◌≡◌, ◌≢◌, ◌⊎◌, ℕ, IsTrue, List
 use Rattle.std.specs.Fmt.{decimal}
 use Rattle.std.specs.Str.{str_eq_ignore_ascii_case}
 use Rattle.otel_sampling.specs.Config.{IsNamed, sampler_names}
-use Rattle.otel_sampling.specs.ConfigStrings.{PlainConfigStrings, IsNumber}
+use Rattle.otel_sampling.specs.ConfigStrings.{PlainConfigStrings, IsNumber, IsQueueSize}
 use Rattle.otel_sampling.specs.Limits.{default_limits}
 use Rattle.otel_sampling.specs.Ratio.{PlainRatio, IsRatioText}
 use Rattle.otel_sampling.specs.Sampler.{SamplerPlan}
@@ -81,10 +81,10 @@ abbrev pub IsSamplerName : List ℕ → Type 0
 IsSamplerName text =
     (ratio : PlainRatio) × (sampler : SamplerPlan (Unit {0})) × IsNamed (sampler_names ratio) text sampler
 
--- a text reads as what a setting takes: sizes and times 64 bits, limits 32
+-- a text reads as what a setting takes: a queue has room, other sizes and times have 64 bits, limits 32
 abbrev pub Reads : Setting → List ℕ → Type 0
 Reads settings.ScheduleDelay text = (number : ℕ) × IsNumber 64 text number
-Reads settings.MaxQueueSize text = (number : ℕ) × IsNumber 64 text number
+Reads settings.MaxQueueSize text = (size : ℕ) × IsQueueSize text size
 Reads settings.MaxExportBatchSize text = (number : ℕ) × IsNumber 64 text number
 Reads settings.ExportTimeout text = (number : ℕ) × IsNumber 64 text number
 Reads settings.SdkDisabled text = IsBoolean text

@@ -1,6 +1,6 @@
 -- The strings that configure an SDK, and what numbers and ratios they may write (OpenTelemetry specification,
 -- "Environment Variable Specification").
-use Rattle.std.specs.Prelude.{◌≡◌, ◌⊎◌, ℕ, ◌^◌, ◌<◌, Bool, false, List, Option, None, Some, codes}
+use Rattle.std.specs.Prelude.{◌≡◌, ◌⊎◌, ℕ, ◌^◌, ◌<◌, ◌≤◌, Bool, false, List, Option, None, Some, codes}
 use Rattle.std.specs.Str.{str_eq_ignore_ascii_case}
 use Rattle.std.specs.Str.Parse.{IsNumeral, digits_value, without_leading_plus}
 use Rattle.otel_resource.specs.DetectedResource.{PlainResourceStrings}
@@ -44,6 +44,12 @@ pub record IsNumber (bits : ℕ) (text : List ℕ) (number : ℕ) : Type 0 where
 -- a number of so many bits that is configured
 abbrev pub IsConfiguredNumber : ℕ → Option (List ℕ) → ℕ → ℕ → Type 0
 IsConfiguredNumber bits given default number = IsConfigured (IsNumber bits) given default number
+
+-- a text is how many spans may wait: one at least, and at most 1,048,576
+pub record IsQueueSize (text : List ℕ) (size : ℕ) : Type 0 where
+  pub number : IsNumber 64 text size
+  pub has_room : 0 < size
+  pub fits : size ≤ 1_048_576
 
 -- a text is a number of 32 bits that limits a length
 pub record IsLength (text : List ℕ) (limit : Option ℕ) : Type 0 where

@@ -4,8 +4,8 @@
 ghost use Rattle.std.specs.Prelude.{◌≡◌, ◌*◌, ◌<◌, ◌≤◌, false, IsTrue, ℕ, List, Option};
 ghost use Rattle.otel_sampling.specs.Config.{IsConfiguredSampler};
 ghost use Rattle.otel_sampling.specs.ConfigFaults.{IsIgnored, IsIgnoredString, Reads};
-ghost use Rattle.otel_sampling.specs.ConfigStrings.{IsConfiguredLength, IsConfiguredNumber, IsConfiguredRatio};
-ghost use Rattle.otel_sampling.specs.ConfigStrings.{IsNumber, PlainConfigStrings, is_true};
+ghost use Rattle.otel_sampling.specs.ConfigStrings.{IsConfigured, IsConfiguredLength, IsConfiguredNumber};
+ghost use Rattle.otel_sampling.specs.ConfigStrings.{IsConfiguredRatio, IsNumber, IsQueueSize, PlainConfigStrings, is_true};
 ghost use Rattle.otel_sampling.specs.ParentBased.{FollowParents, default_delegates};
 ghost use Rattle.otel_sampling.specs.Ratio.{PlainRatio, all_traces, low_half, samples};
 ghost use Rattle.otel_sampling.specs.Sampler.{SamplerPlan, always_on, parent_based};
@@ -48,4 +48,10 @@ pub fn ignored_strings_configure_defaults<C: Drop>()
     ensures general_length { (strings : PlainConfigStrings) (default length : Option ℕ)
         → IsIgnored strings settings.GeneralAttributeValueLengthLimit
         → IsConfiguredLength strings.general_attribute_value_length_limit default length → length ≡ default }
+{}
+
+/// And a queue's size that is ignored configures the default.
+pub fn ignored_queue_sizes_configure_the_default()
+    ensures { (given : Option (List ℕ)) (default size : ℕ) → IsIgnoredString settings.MaxQueueSize given
+        → IsConfigured IsQueueSize given default size → size ≡ default }
 {}

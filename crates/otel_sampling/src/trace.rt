@@ -10,7 +10,7 @@ pub mod span_limit;
 pub mod xray_id_generator;
 
 pub use config::{
-    BatchStrings, Config, ConfigOf, ConfigStrings, Replacement, Setting, SettingFault,
+    BatchStrings, Config, ConfigOf, ConfigStrings, Replacement, Setting, SettingFault, queue_size,
 };
 pub use id_generator::{GivesIds, IdGenerator, IdSource, IdSourceOf, RandomIdGenerator};
 pub use no_sampler::NoSampler;

@@ -4,10 +4,10 @@
 ghost use Rattle.std.specs.Prelude.{◌≡◌, ◌≤◌, string_bytes};
 ghost use Rattle.std.specs.Duration.{as_nanos};
 ghost use Rattle.std.specs.Option.{option_map};
-ghost use Rattle.otel_sampling.specs.ConfigStrings.{IsConfiguredNumber};
+ghost use Rattle.otel_sampling.specs.ConfigStrings.{IsConfigured, IsConfiguredNumber, IsQueueSize};
 ghost use Rattle.otel_batch.specs.PlainBatchConfig.{IsConfiguredTime, IsBatchConfigOf, cut_to_queue};
 
-use otel_sampling::trace::BatchStrings;
+use otel_sampling::trace::{BatchStrings, queue_size};
 use std::marker::Model;
 use std::time::Duration;
 
@@ -150,7 +150,7 @@ impl BatchConfigBuilder {
     pub fn from_strings(strings: &BatchStrings) -> BatchConfigBuilder
         ensures { IsBatchConfigOf strings.now result }
     {
-        let max_queue_size = size_or(&strings.max_queue_size, OTEL_BSP_MAX_QUEUE_SIZE_DEFAULT);
+        let max_queue_size = configured_queue_size(&strings.max_queue_size);
         let max_export_batch_size = size_or(
             &strings.max_export_batch_size,
             OTEL_BSP_MAX_EXPORT_BATCH_SIZE_DEFAULT,
@@ -197,6 +197,16 @@ impl BatchConfigBuilder {
             scheduled_delay: self.scheduled_delay,
             max_export_timeout: self.max_export_timeout,
         }
+    }
+}
+
+/// How many spans may wait, as a string says, and else the default.
+fn configured_queue_size(given: &Option<String>) -> usize
+    ensures { IsConfigured IsQueueSize (option_map string_bytes given.now) 2048 result }
+{
+    match given {
+        Some(text) => queue_size(text.as_str()).unwrap_or(OTEL_BSP_MAX_QUEUE_SIZE_DEFAULT),
+        None => OTEL_BSP_MAX_QUEUE_SIZE_DEFAULT,
     }
 }
 

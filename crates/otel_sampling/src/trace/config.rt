@@ -2,13 +2,13 @@
 //! "Environment Variable Specification"). Nothing here reads an environment: the application hands its strings in, and
 //! an absent one is a variable that nobody set.
 
-ghost use Rattle.std.specs.Prelude.{◌≡◌, IfOk, OnErr, OnOk, Some, string_bytes};
+ghost use Rattle.std.specs.Prelude.{◌≡◌, ℕ, IfOk, MatchOption, OnErr, OnOk, Some, string_bytes};
 ghost use Rattle.std.specs.Option.{option_map};
 ghost use Rattle.otel_resource.specs.DetectedResource.{IsDetected};
 ghost use Rattle.otel_sampling.specs.Config.{AreConfiguredLimits, IsConfigOf, IsConfiguredSampler, IsNamed};
 ghost use Rattle.otel_sampling.specs.Config.{sampler_names};
 ghost use Rattle.otel_sampling.specs.ConfigStrings.{IsConfigured, IsConfiguredLength, IsConfiguredNumber};
-ghost use Rattle.otel_sampling.specs.ConfigStrings.{IsConfiguredRatio, is_true};
+ghost use Rattle.otel_sampling.specs.ConfigStrings.{IsConfiguredRatio, IsQueueSize, is_true};
 ghost use Rattle.otel_sampling.specs.Sampler.{always_on, parent_based, plan};
 
 use crate::trace::{
@@ -20,6 +20,9 @@ use std::marker::Model;
 
 mod faults;
 
+/// The most spans that a configured queue may hold.
+const MOST_WAITING: usize = 1 << 20;
+
 pub use faults::{Replacement, Setting, SettingFault};
 
 /// The strings of a batch processor. Each is a decimal number, with a `+` in front or not; another text counts as
@@ -28,7 +31,7 @@ pub use faults::{Replacement, Setting, SettingFault};
 pub struct BatchStrings {
     /// The time between two drains by the timer in milliseconds, usually of `OTEL_BSP_SCHEDULE_DELAY`.
     pub schedule_delay: Option<String>,
-    /// How many spans may wait, usually of `OTEL_BSP_MAX_QUEUE_SIZE`.
+    /// How many spans may wait, usually of `OTEL_BSP_MAX_QUEUE_SIZE`: from 1 to 1,048,576.
     pub max_queue_size: Option<String>,
     /// How many spans a batch has at most, usually of `OTEL_BSP_MAX_EXPORT_BATCH_SIZE`.
     pub max_export_batch_size: Option<String>,
@@ -270,6 +273,19 @@ fn count_or(given: &Option<String>, default: u32) -> u32
     match given {
         Some(text) => text.as_str().parse::<u32>().unwrap_or(default),
         None => default,
+    }
+}
+
+/// How many spans may wait in front of a batch processor, where a text says it: at least one, and at most 1,048,576, whose
+/// places take some 360 MB.
+pub fn queue_size(text: &str) -> Option<usize>
+    ensures { MatchOption result
+        ((size : ℕ) → IsQueueSize text.now size → ⊥)
+        (λ size. IsQueueSize text.now size) }
+{
+    match text.parse::<usize>() {
+        Ok(size) if 0 < size && size <= MOST_WAITING => Some(size),
+        _ => None,
     }
 }
 

@@ -6,11 +6,11 @@ ghost use Rattle.std.specs.Option.{option_map};
 ghost use Rattle.otel_sampling.specs.Config.{AreConfiguredLimits};
 ghost use Rattle.otel_sampling.specs.ConfigFaults.{AreFaults, IsBoolean, IsIgnored, IsIgnoredString, IsSamplerName, Reads};
 ghost use Rattle.otel_sampling.specs.ConfigFaults.{all_settings, length_in_place, replacement, setting_name, string_of};
-ghost use Rattle.otel_sampling.specs.ConfigStrings.{IsNumber};
+ghost use Rattle.otel_sampling.specs.ConfigStrings.{IsNumber, IsQueueSize};
 ghost use Rattle.otel_sampling.specs.Ratio.{PlainRatio, IsRatioText};
 ghost use Rattle.otel_sampling.specs.declared.trace.span_limit.SpanLimits.{SpanLimits as TheLimits};
 
-use super::configured_limits;
+use super::{configured_limits, queue_size};
 use crate::trace::{ConfigStrings, Ratio, SpanLimits};
 use std::alloc::{AllocError, Global};
 use std::fmt;
@@ -159,10 +159,10 @@ impl Setting {
         ensures { IsTrue result ↔ Reads self text.now }
     {
         match self {
-            Setting::ScheduleDelay
-            | Setting::MaxQueueSize
-            | Setting::MaxExportBatchSize
-            | Setting::ExportTimeout => is_number(text),
+            Setting::ScheduleDelay | Setting::MaxExportBatchSize | Setting::ExportTimeout => {
+                is_number(text)
+            }
+            Setting::MaxQueueSize => is_queue_size(text),
             Setting::SdkDisabled => is_boolean(text),
             Setting::Sampler => is_sampler_name(text),
             Setting::SamplerArg => is_ratio(text),
@@ -232,6 +232,13 @@ fn is_limit(text: &str) -> bool
     ensures { IsTrue result ↔ ((number : ℕ) × IsNumber 32 text.now number) }
 {
     text.parse::<u32>().is_ok()
+}
+
+/// Whether a text is how many spans may wait.
+fn is_queue_size(text: &str) -> bool
+    ensures { IsTrue result ↔ ((size : ℕ) × IsQueueSize text.now size) }
+{
+    queue_size(text).is_some()
 }
 
 fn is_boolean(text: &str) -> bool
