@@ -145,4 +145,8 @@ impl<K: KeyFilter> CountsLeftSpans for BaggageSpanProcessor<K> {
     fn dropped_count(&self) -> u64 {
         0
     }
+
+    fn failed_exports(&self) -> u64 {
+        0
+    }
 }

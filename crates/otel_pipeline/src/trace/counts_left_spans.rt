@@ -1,13 +1,13 @@
-//! How many spans a processor leaves in its queue, for whoever closes a provider (`ProviderOf::close`), and how many it
-//! dropped (`ProviderOf::dropped_count`).
+//! How many spans a processor leaves in its queue, for whoever closes a provider (`ProviderOf::close`), how many it
+//! dropped (`ProviderOf::dropped_count`), and how many exports at ends of spans failed (`ProviderOf::failed_exports`).
 
 ghost use Rattle.std.specs.Prelude.{◌≡◌, ℕ, Bool, Option, None};
 ghost use Rattle.otel_pipeline.specs.LeftSpans.{DroppedTold, LeavesTold};
 
 use crate::trace::SpanProcessor;
 
-/// A processor that says how many spans it leaves behind, and how many it dropped. One that has no queue answers `None`
-/// and 0.
+/// A processor that says how many spans it leaves behind, how many it dropped, and how many exports failed of which no
+/// answer told. One that has no queue answers `None` and 0.
 pub trait CountsLeftSpans: SpanProcessor {
     /// How many spans it closed over. The default says that it never closes over any.
     ghost closed_over: { Self → Option ℕ } = { λ _. None };
@@ -30,6 +30,13 @@ pub trait CountsLeftSpans: SpanProcessor {
     fn dropped_count(&self) -> u64
         ensures { result ≡ dropped_over self.now };
 
+    /// How many exports at ends of spans failed. The default says none.
+    ghost failed_over: { Self → ℕ } = { λ _. 0 };
+
+    /// How many exports at ends of spans failed, which no end answers. It stops at the greatest `u64`.
+    fn failed_exports(&self) -> u64
+        ensures { result ≡ failed_over self.now };
+
     /// Whether it leaves what its telling says; one that claims nothing says false.
     ghost leaves_told: { Self → Bool };
 
@@ -42,7 +49,8 @@ pub trait CountsLeftSpans: SpanProcessor {
         (Self.SpanProcessor.told p).dropped };
 }
 
-/// Nothing is asked of a boxed processor: it counts as one that leaves and drops none, whatever it tells.
+/// Nothing is asked of a boxed processor: it counts as one that leaves and drops none and whose exports do not fail,
+/// whatever it tells.
 impl CountsLeftSpans for Box<dyn SpanProcessor> {
     ghost use Rattle.std.specs.Prelude.{false};
 
@@ -61,6 +69,10 @@ impl CountsLeftSpans for Box<dyn SpanProcessor> {
     }
 
     fn dropped_count(&self) -> u64 {
+        0
+    }
+
+    fn failed_exports(&self) -> u64 {
         0
     }
 }

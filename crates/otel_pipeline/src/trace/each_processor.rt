@@ -155,3 +155,14 @@ pub(crate) fn dropped_by<P: CountsLeftSpans>(processors: &[P]) -> u128
     }
     count
 }
+
+/// How many exports at ends of spans failed in these processors.
+pub(crate) fn failed_by<P: CountsLeftSpans>(processors: &[P]) -> u128
+    ensures { result ≡ sum_by P.CountsLeftSpans.failed_over processors.now }
+{
+    let mut count = 0;
+    for processor in processors {
+        count += processor.failed_exports() as u128;
+    }
+    count
+}

@@ -16,8 +16,8 @@ ghost use Rattle.otel_pipeline.specs.Starting.{DrawsIds, PassesThrough};
 ghost use Rattle.otel_pipeline.specs.SpanHistory.{IsEdited, ended_at};
 
 use crate::trace::each_processor::{
-    copies_of, dropped_by, end_each, flush_each, left_open_by, run_each, shutdown_each, start_each,
-    stranded_by,
+    copies_of, dropped_by, end_each, failed_by, flush_each, left_open_by, run_each, shutdown_each,
+    start_each, stranded_by,
 };
 use crate::trace::{
     CloseReport, CountsLeftSpans, SdkTracer, Span, SpanBlock, SpanProcessor, Timed,
@@ -299,6 +299,13 @@ impl<P: CountsLeftSpans, S, G> ProviderOf<P, S, G> {
         ensures { result ≡ sum_by P.CountsLeftSpans.dropped_over self.now.processors }
     {
         dropped_by(&self.processors)
+    }
+
+    /// How many exports at ends of spans failed, those of all processors together. The ends answered Ok.
+    pub fn failed_exports(&self) -> u128
+        ensures { result ≡ sum_by P.CountsLeftSpans.failed_over self.now.processors }
+    {
+        failed_by(&self.processors)
     }
 }
 

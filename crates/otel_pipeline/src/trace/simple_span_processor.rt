@@ -134,6 +134,8 @@ impl<E: SpanExporter> CountsLeftSpans for SimpleSpanProcessor<E> {
     ghost use Rattle.std.specs.Prelude.{true, not, refl};
     ghost use Rattle.otel_pipeline.specs.LeftSpans.{none_left};
 
+    ghost failed_over = { λ p. p.failed_exports };
+
     ghost leaves_told = { λ _. true };
 
     ghost tells_left = { λ p. none_left (not p.is_shut) };
@@ -151,5 +153,9 @@ impl<E: SpanExporter> CountsLeftSpans for SimpleSpanProcessor<E> {
 
     fn dropped_count(&self) -> u64 {
         0
+    }
+
+    fn failed_exports(&self) -> u64 {
+        self.failed_exports
     }
 }
