@@ -1,17 +1,18 @@
 -- What a start makes.
-use Rattle.std.proofs.Common.{◌≡◌, ◌≢◌, ◌⊎◌, inl, inr, ℕ, Bool, true, false, ◌||◌, List, [], ◌∷◌, map, MatchBool, Result, Ok, Err, refl, sym, subst, ap, ◌∙◌}
+use Rattle.std.proofs.Common.{◌≡◌, ◌≢◌, ◌⊎◌, inl, inr, ℕ, Bool, true, false, ◌||◌, List, [], ◌∷◌, map, MatchBool, Option, Some, None, Result, Ok, Err, refl, sym, subst, ap, ◌∙◌}
+use Rattle.std.specs.Prelude.{MatchOption}
 use Rattle.std.specs.declared.alloc.AllocError.{AllocError}
 use Rattle.opentelemetry.specs.Plain.{PlainContext}
-use Rattle.opentelemetry.specs.PlainContexts.{current_span_context}
 use Rattle.otel_sampling.specs.declared.trace.sampler.SamplingDecision.{SamplingDecision}
 use Rattle.otel_sampling.specs.declared.trace.sampler.SamplingDecision.TheVariants as decisions
 use Rattle.otel_sampling.specs.declared.trace.sampler.ShouldSample as sampling
 use Rattle.otel_sampling.specs.declared.trace.id_generator.GivesIds as drawing
 use Rattle.otel_sampling.specs.Sampling.{PlainSamplingResult}
 use Rattle.otel_pipeline.specs.Provider.{unstarted_context, ProviderState}
-use Rattle.otel_pipeline.specs.StartRequest.{StartRequest, start_as, start_moment, start_question, start_span_context}
-use Rattle.otel_pipeline.specs.Starting.{AnswersStart, OnlyDraws, RefusesStart, DrawsIds, PassesThrough, Records, DecidesStart, Starts, StartsOpen}
-use Rattle.otel_pipeline.specs.SpanHistory.{PlainSpan, SpanStart, SpanHistory, begun, over, span_of, IsEdited, after, recording, not_recording}
+use Rattle.otel_pipeline.specs.StartRequest.{StartRequest, start_as, start_moment, start_question}
+use Rattle.otel_export.specs.PlainSpanData.{PlainSpanData}
+use Rattle.otel_pipeline.specs.Starting.{AnswersStart, OnlyDraws, RefusesStart, DrawsIds, PassesThrough, Records, DecidesStart, Prepares, PreparesAs, PreparesOpen, Starts, StartsOpen, TellsStart}
+use Rattle.otel_pipeline.specs.SpanHistory.{Edit, PlainSpan, SpanStart, SpanHistory, begun, data_of, edited, over, span_of, IsEdited, after, recording, not_recording}
 use Rattle.otel_pipeline.specs.declared.trace.span_processor.SpanProcessor.{Ghosts}
 use Rattle.otel_pipeline.proofs.SpanLaws.{after-recording}
 
@@ -19,6 +20,11 @@ use Rattle.otel_pipeline.proofs.SpanLaws.{after-recording}
 pub taken : (A B : Type 0) (b : Bool) → b ≡ true → MatchBool b A B → A
 taken A B true e h = h
 taken A B false e h = let no : ⊥ = cc in absurd no
+
+-- edits leave who a span is
+same_context : (edits : List Edit) (span : PlainSpan) → (after edits span).span_context ≡ span.span_context
+same_context [] span = refl
+same_context (edit ∷ edits) span = same_context edits (edited edit span)
 
 module _ {P : Type 0} (calls : Ghosts P) where
   -- a span that records passed through the processors
@@ -35,13 +41,6 @@ module _ {P : Type 0} (calls : Ghosts P) where
           passes = subst (λ (s : PlainSpan). PassesThrough calls cx (recording start []) old new s) span_is through;
         },
       )
-
-  -- a span that was not dropped
-  decided_to_record : (decision : SamplingDecision) (cx : PlainContext) (start : SpanStart) (old new : List P) (history : SpanHistory) → decision ≢ decisions.Drop
-      → Records calls cx start old new history → DecidesStart calls decision cx start old new history
-  decided_to_record decisions.Drop cx start old new history kept h = absurd (kept refl)
-  decided_to_record decisions.RecordOnly cx start old new history kept h = h
-  decided_to_record decisions.RecordAndSample cx start old new history kept h = h
 
   -- a span that passes through processors leaves what they tell
   passes_told : (cx : PlainContext) (span : PlainSpan) (old new : List P) (later : PlainSpan) → PassesThrough calls cx span old new later → map calls.told new ≡ map calls.told old
@@ -82,48 +81,93 @@ module _ {P S G : Type 0} (calls : Ghosts P) (sampler : sampling.Ghosts S) (ids 
       } in
       subst (λ (b : Bool). MatchBool b ((history ≡ over (unstarted_context old request.cx) old.span_limits) × (new ≡ old)) (StartsOpen calls sampler ids old request history new)) (sym h) result
 
-  -- a span that is dropped
-  pub starts_dropped : (old drawn : ProviderState P S G) (request : StartRequest) (trace_id span_id : ℕ) (answer : PlainSamplingResult) (span : PlainSpan)
-      → (old.is_shut || request.cx.telemetry_suppressed) ≡ false
-      → DrawsIds ids request.cx.span_context (start_moment request.builder request.now) old.id_generator trace_id span_id drawn.id_generator → drawn ≡ record old { id_generator = drawn.id_generator }
-      → answer ≡ sampler.answer drawn.sampler (start_question request.cx trace_id request.builder)
-      → answer.decision ≡ decisions.Drop
-      → span ≡ not_recording (start_span_context (current_span_context request.cx) trace_id span_id answer) old.span_limits
-      → (history : SpanHistory) × (span ≡ span_of history) × Starts calls sampler ids old request history drawn
-  starts_dropped old drawn request trace_id span_id answer span h draws d asked drops e =
-      let context = start_span_context (current_span_context request.cx) trace_id span_id answer in
-      let start : SpanStart = start_as request old.span_limits trace_id span_id answer in
-      let history : SpanHistory = over context old.span_limits in
-      let decided : DecidesStart calls answer.decision request.cx start drawn.processors drawn.processors history =
-      subst (λ (d : SamplingDecision). DecidesStart calls d request.cx start drawn.processors drawn.processors history) (sym drops) (refl, refl) in
-      (history, e, opened old drawn drawn request trace_id span_id answer history h draws d asked decided refl)
+  -- a prepared span that no processor is told of
+  untold : (decision : SamplingDecision) (cx : PlainContext) (start : SpanStart) (prepared : PlainSpan) (ps : List P)
+      → PreparesAs decision start prepared → prepared.recorded ≡ None
+      → (history : SpanHistory) × (prepared ≡ span_of history) × DecidesStart calls decision cx start ps ps history
+  untold decisions.Drop cx start prepared ps is none = (over start.span_context start.limits, is, (refl, refl))
+  untold decisions.RecordOnly cx start prepared ps is none =
+      absurd (let no : None ≡ Some (data_of start [] start.start_time) = sym none ∙ ap (λ (s : PlainSpan). s.recorded) is in cc)
+  untold decisions.RecordAndSample cx start prepared ps is none =
+      absurd (let no : None ≡ Some (data_of start [] start.start_time) = sym none ∙ ap (λ (s : PlainSpan). s.recorded) is in cc)
 
-  -- a span that records
-  pub starts_recording : (old drawn new : ProviderState P S G) (request : StartRequest) (trace_id span_id : ℕ) (answer : PlainSamplingResult) (first span : PlainSpan)
-      → (old.is_shut || request.cx.telemetry_suppressed) ≡ false
-      → DrawsIds ids request.cx.span_context (start_moment request.builder request.now) old.id_generator trace_id span_id drawn.id_generator → drawn ≡ record old { id_generator = drawn.id_generator }
-      → answer ≡ sampler.answer drawn.sampler (start_question request.cx trace_id request.builder)
-      → answer.decision ≢ decisions.Drop
-      → first ≡ recording (start_as request old.span_limits trace_id span_id answer) []
-      → IsEdited first span
-      → PassesThrough calls request.cx first drawn.processors new.processors span
-      → new ≡ record drawn { processors = new.processors }
-      → (history : SpanHistory) × (span ≡ span_of history) × Starts calls sampler ids old request history new
-  starts_recording old drawn new request trace_id span_id answer first span h draws d asked kept e edited passed rest =
-      let start : SpanStart = start_as request old.span_limits trace_id span_id answer in
-      let what = records calls request.cx start drawn.processors new.processors first span e edited passed in
-      let decided = decided_to_record calls answer.decision request.cx start drawn.processors new.processors what.0 kept what.2 in
-      (what.0, what.1, opened old drawn new request trace_id span_id answer what.0 h draws d asked decided rest)
+  -- one that the processors are told of
+  told : (decision : SamplingDecision) (cx : PlainContext) (start : SpanStart) (prepared span : PlainSpan) (old new : List P)
+      (recorded : PlainSpanData) → PreparesAs decision start prepared → prepared.recorded ≡ Some recorded
+      → IsEdited prepared span → PassesThrough calls cx prepared old new span
+      → (history : SpanHistory) × (span ≡ span_of history) × DecidesStart calls decision cx start old new history
+  told decisions.Drop cx start prepared span old new recorded is some edited passed =
+      absurd (let no : Some recorded ≡ None = sym some ∙ ap (λ (s : PlainSpan). s.recorded) is in cc)
+  told decisions.RecordOnly cx start prepared span old new recorded is some edited passed =
+      records calls cx start old new prepared span is edited passed
+  told decisions.RecordAndSample cx start prepared span old new recorded is some edited passed =
+      records calls cx start old new prepared span is edited passed
 
-  -- no span
-  pub starts_none : (old : ProviderState P S G) (request : StartRequest) (span : PlainSpan)
-      → (old.is_shut || request.cx.telemetry_suppressed) ≡ true → span ≡ not_recording (unstarted_context old request.cx) old.span_limits → (history : SpanHistory) × (span ≡ span_of history) × Starts calls sampler ids old request history old
-  starts_none old request span h e =
-      let history : SpanHistory = over (unstarted_context old request.cx) old.span_limits in (
-        history,
-        e,
-        subst (λ (b : Bool). MatchBool b ((history ≡ over (unstarted_context old request.cx) old.span_limits) × (old ≡ old)) (StartsOpen calls sampler ids old request history old)) (sym h) (refl, refl),
+  -- what was decided of a prepared span, once its start was told
+  decided : (recorded : Option PlainSpanData) (decision : SamplingDecision) (cx : PlainContext) (start : SpanStart)
+      (prepared span : PlainSpan) (old new : ProviderState P S G) → PreparesAs decision start prepared
+      → prepared.recorded ≡ recorded
+      → MatchOption recorded ((span ≡ prepared) × (new ≡ old)) (λ _. IsEdited prepared span
+      × PassesThrough calls cx prepared old.processors new.processors span × (new ≡ record old { processors = new.processors }))
+      → (history : SpanHistory) × (span ≡ span_of history)
+      × DecidesStart calls decision cx start old.processors new.processors history
+      × (new ≡ record old { processors = new.processors })
+  decided None decision cx start prepared span old new is none tells =
+      let what = untold decision cx start prepared old.processors is none in (
+        what.0,
+        tells.0 ∙ what.1,
+        subst (λ (p : ProviderState P S G). DecidesStart calls decision cx start old.processors p.processors what.0)
+            (sym tells.1) what.2,
+        tells.1 ∙ ap (λ (p : ProviderState P S G). record old { processors = p.processors }) (sym tells.1),
       )
+  decided (Some recorded) decision cx start prepared span old new is some tells =
+      let what = told decision cx start prepared span old.processors new.processors recorded is some tells.0 tells.1 in
+      (what.0, what.1, what.2, tells.2)
+
+  -- a prepared span whose start is told has started
+  pub prepared_starts : (old between new : ProviderState P S G) (request : StartRequest) (prepared span : PlainSpan)
+      → Prepares sampler ids old request prepared between → TellsStart calls request.cx prepared between span new
+      → (history : SpanHistory) × (span ≡ span_of history) × Starts calls sampler ids old request history new
+  prepared_starts old between new request prepared span h tells = by (old.is_shut || request.cx.telemetry_suppressed) refl h
+    where
+      by : (b : Bool) → (old.is_shut || request.cx.telemetry_suppressed) ≡ b
+          → MatchBool b ((prepared ≡ not_recording (unstarted_context old request.cx) old.span_limits) × (between ≡ old))
+          (PreparesOpen sampler ids old request prepared between)
+          → (history : SpanHistory) × (span ≡ span_of history) × Starts calls sampler ids old request history new
+      by true is k =
+          let none : prepared.recorded ≡ None = ap (λ (s : PlainSpan). s.recorded) k.0 in
+          let same : (span ≡ prepared) × (new ≡ between) =
+          subst (λ (r : Option PlainSpanData). MatchOption r ((span ≡ prepared) × (new ≡ between))
+          (λ _. IsEdited prepared span × PassesThrough calls request.cx prepared between.processors new.processors span
+          × (new ≡ record between { processors = new.processors }))) none tells in
+          let history : SpanHistory = over (unstarted_context old request.cx) old.span_limits in (
+            history,
+            same.0 ∙ k.0,
+            subst (λ (b : Bool). MatchBool b ((history ≡ over (unstarted_context old request.cx) old.span_limits)
+                × (new ≡ old)) (StartsOpen calls sampler ids old request history new)) (sym is) (refl, same.1 ∙ k.1),
+          )
+      by false is k =
+          let start : SpanStart = start_as request old.span_limits k.trace_id k.span_id k.answer in
+          let what = decided prepared.recorded k.answer.decision request.cx start prepared span between new k.decided
+          refl tells in
+          let asks : k.answer ≡ sampler.answer between.sampler (start_question request.cx k.trace_id request.builder) =
+          subst (λ (p : ProviderState P S G). k.answer ≡ sampler.answer p.sampler
+          (start_question request.cx k.trace_id request.builder)) (sym k.rest) k.asks in (
+            what.0,
+            what.1,
+            opened old between new request k.trace_id k.span_id k.answer what.0 is k.draws k.rest asks what.2 what.3,
+          )
+
+  -- the context of a span stays as it was prepared
+  pub told_context : (cx : PlainContext) (prepared span : PlainSpan) (old new : ProviderState P S G)
+      → TellsStart calls cx prepared old span new → span.span_context ≡ prepared.span_context
+  told_context cx prepared span old new tells = by prepared.recorded tells
+    where
+      by : (r : Option PlainSpanData) → MatchOption r ((span ≡ prepared) × (new ≡ old)) (λ _. IsEdited prepared span
+          × PassesThrough calls cx prepared old.processors new.processors span
+          × (new ≡ record old { processors = new.processors })) → span.span_context ≡ prepared.span_context
+      by None h = ap (λ (s : PlainSpan). s.span_context) h.0
+      by (Some recorded) h = ap (λ (s : PlainSpan). s.span_context) h.0.1 ∙ same_context h.0.0 prepared
 
   -- all that a start may change of a provider
   abbrev ChangesOnly : ProviderState P S G → ProviderState P S G → Type 0
@@ -174,3 +218,45 @@ module _ {P S G : Type 0} (calls : Ghosts P) (sampler : sampling.Ghosts S) (ids 
           → (new ≡ old) ⊎ OnlyDraws sampler ids old request.builder request.cx request.now new
       by true k = inl k.1
       by false k = inr k
+
+module _ {P S G : Type 0} (sampler : sampling.Ghosts S) (ids : drawing.Ghosts G) where
+  -- where nothing starts
+  pub prepares_none : (old : ProviderState P S G) (request : StartRequest) (span : PlainSpan)
+      → (old.is_shut || request.cx.telemetry_suppressed) ≡ true
+      → span ≡ not_recording (unstarted_context old request.cx) old.span_limits → Prepares sampler ids old request span old
+  prepares_none old request span h is =
+      subst (λ (b : Bool). MatchBool b ((span ≡ not_recording (unstarted_context old request.cx) old.span_limits)
+      × (old ≡ old)) (PreparesOpen sampler ids old request span old)) (sym h) (is, refl)
+
+  -- where ids were drawn and the sampler was asked
+  pub prepares_open : (old drawn : ProviderState P S G) (request : StartRequest) (trace_id span_id : ℕ)
+      (answer : PlainSamplingResult) (span : PlainSpan) → (old.is_shut || request.cx.telemetry_suppressed) ≡ false
+      → DrawsIds ids request.cx.span_context (start_moment request.builder request.now) old.id_generator trace_id span_id
+      drawn.id_generator → drawn ≡ record old { id_generator = drawn.id_generator }
+      → answer ≡ sampler.answer drawn.sampler (start_question request.cx trace_id request.builder)
+      → PreparesAs answer.decision (start_as request old.span_limits trace_id span_id answer) span
+      → Prepares sampler ids old request span drawn
+  prepares_open old drawn request trace_id span_id answer span h draws rest asked decided =
+      subst (λ (b : Bool). MatchBool b ((span ≡ not_recording (unstarted_context old request.cx) old.span_limits)
+      × (drawn ≡ old)) (PreparesOpen sampler ids old request span drawn)) (sym h) (record {
+        trace_id = trace_id;
+        span_id = span_id;
+        answer = answer;
+        draws = draws;
+        asks = subst (λ (s : S). answer ≡ sampler.answer s (start_question request.cx trace_id request.builder))
+            (ap (λ (p : ProviderState P S G). p.sampler) rest) asked;
+        decided = decided;
+        rest = rest;
+      })
+
+-- the sampler dropped the span
+pub prepared_dropped : (decision : SamplingDecision) (start : SpanStart) (span : PlainSpan) → decision ≡ decisions.Drop
+    → span ≡ not_recording start.span_context start.limits → PreparesAs decision start span
+prepared_dropped decision start span drops is = subst (λ (d : SamplingDecision). PreparesAs d start span) (sym drops) is
+
+-- or did not
+pub prepared_recording : (decision : SamplingDecision) (start : SpanStart) (span : PlainSpan) → decision ≢ decisions.Drop
+    → span ≡ recording start [] → PreparesAs decision start span
+prepared_recording decisions.Drop start span kept is = absurd (kept refl)
+prepared_recording decisions.RecordOnly start span kept is = is
+prepared_recording decisions.RecordAndSample start span kept is = is

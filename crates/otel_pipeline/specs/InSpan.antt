@@ -11,7 +11,7 @@ use Rattle.otel_pipeline.specs.Ending.{EndIsInfallible, Ends}
 use Rattle.otel_pipeline.specs.Provider.{ProviderState}
 use Rattle.otel_pipeline.specs.SpanHistory.{PlainSpan}
 use Rattle.otel_pipeline.specs.StartRequest.{StartRequest, start_request}
-use Rattle.otel_pipeline.specs.Starting.{AnswersStart}
+use Rattle.otel_pipeline.specs.Starting.{AnswersStart, DrawsAtMost}
 use Rattle.otel_pipeline.specs.declared.trace.in_span.InSpan.{InSpan}
 use Rattle.otel_pipeline.specs.declared.trace.span_processor.SpanProcessor.{Ghosts}
 
@@ -23,29 +23,55 @@ active_in cx span = record cx { span_context = Some span.span_context }
 abbrev pub child_request : PlainScope → List ℕ → PlainSpan → PlainContext → ℕ → StartRequest
 child_request scope name parent cx now = start_request scope (named_builder name) (active_in cx parent) now
 
--- a call of the work at a span, a context and a provider, which answers and leaves another span and provider
-pub record Works {F S C P T : Type 0}
-    (g : Once F (MutBor S × (Bor C × (MutBor P × Unit {0}))) (T × (MutBor S × (MutBor P × Unit {0})))) (work : F)
-    (span : S) (cx : C) (provider : P) (answer : T) (span' : S) (provider' : P) : Type 0 where
-  pub given_span : MutBor S
-  pub given_cx : Bor C
-  pub given_provider : MutBor P
-  pub left_span : MutBor S
-  pub left_provider : MutBor P
-  pub met : g.post work (given_span, (given_cx, (given_provider, tt))) (answer, (left_span, (left_provider, tt)))
-  pub gives : (given_span.now ≡ span) × (given_cx.now ≡ cx) × (given_provider.now ≡ provider)
-  pub leaves : (left_span.now ≡ span') × (left_provider.now ≡ provider')
+-- a provider, and the clock that spans at it go by
+pub record Clocked (P C : Type 0) : Type 0 where
+  pub provider : P
+  pub clock : C
 
--- where work in a span begins: at a provider, under the scope of a tracer, with what the span begins with, in a context
-pub record Beginning (P S G : Type 0) : Type 0 where
+abbrev pub clocked : {P C : Type 0} → P → C → Clocked P C
+clocked provider clock = record { provider = provider; clock = clock }
+
+-- what work in a span is handed to change, and leaves: what holds the span, and a provider with its clock
+pub record Handed (X P C : Type 0) : Type 0 where
+  pub held : X
+  pub at : Clocked P C
+
+-- a call of the work with what it is handed, in a context, which answers and leaves something else
+pub record Works {F X Cx P C T : Type 0}
+    (g : Once F (MutBor X × (Bor Cx × (MutBor P × (MutBor C × Unit {0}))))
+    (T × (MutBor X × (MutBor P × (MutBor C × Unit {0})))))
+    (work : F) (cx : Cx) (given : Handed X P C) (answer : T) (left : Handed X P C) : Type 0 where
+  pub given_span : MutBor X
+  pub given_cx : Bor Cx
+  pub given_provider : MutBor P
+  pub given_clock : MutBor C
+  pub left_span : MutBor X
+  pub left_provider : MutBor P
+  pub left_clock : MutBor C
+  pub met : g.post work (given_span, (given_cx, (given_provider, (given_clock, tt))))
+      (answer, (left_span, (left_provider, (left_clock, tt))))
+  pub cx_is : given_cx.now ≡ cx
+  pub gives : (given_span.now ≡ given.held) × (given_provider.now ≡ given.at.provider)
+      × (given_clock.now ≡ given.at.clock)
+  pub leaves : (left_span.now ≡ left.held) × (left_provider.now ≡ left.at.provider)
+      × (left_clock.now ≡ left.at.clock)
+
+-- where work in a span begins: at a provider with its clock, under the scope of a tracer, with what the span begins
+-- with, in a context
+pub record Beginning (P S G C : Type 0) : Type 0 where
   pub scope : PlainScope
   pub builder : PlainSpanBuilder
   pub cx : PlainContext
-  pub provider : ProviderState P S G
+  pub at : Clocked (ProviderState P S G) C
 
-abbrev pub beginning : {P S G : Type 0} → PlainScope → PlainSpanBuilder → PlainContext → ProviderState P S G
-    → Beginning P S G
-beginning scope builder cx provider = record { scope = scope; builder = builder; cx = cx; provider = provider }
+abbrev pub beginning : {P S G C : Type 0} → PlainScope → PlainSpanBuilder → PlainContext → ProviderState P S G → C
+    → Beginning P S G C
+beginning scope builder cx provider clock =
+    record { scope = scope; builder = builder; cx = cx; at = clocked provider clock }
+
+-- what is asked of a start at such a beginning, at a moment
+abbrev pub request_at : {P S G C : Type 0} → Beginning P S G C → ℕ → StartRequest
+request_at old moment = start_request old.scope old.builder old.cx moment
 
 module _ {P : Type 0} (calls : Ghosts P) where
   -- a span ended at a moment, or there was no memory for that and nothing happened
@@ -54,37 +80,40 @@ module _ {P : Type 0} (calls : Ghosts P) where
   EndsOrDrops old span moment (Ok refused) new = Ends calls old span moment refused new
   EndsOrDrops old span moment (Err _) new = new ≡ old
 
-module _ {P S G : Type 0} (calls : Ghosts P) (sampler : sampling.Ghosts S) (ids : drawing.Ghosts G)
-    (may_tell : ℕ → Type 0) where
-  -- a start of a span was answered so, at a moment that the clock told
-  abbrev pub AnswersNow : Beginning P S G → Result PlainSpan AllocError → ProviderState P S G → Type 0
-  AnswersNow old answer new = (moment : ℕ) × may_tell moment
-      × AnswersStart calls sampler ids old.provider (start_request old.scope old.builder old.cx moment) answer new
+module _ {P S G C : Type 0} (calls : Ghosts P) (sampler : sampling.Ghosts S) (ids : drawing.Ghosts G)
+    (tells : C → ℕ → C → Type 0) where
+  -- the clock was read, and a start of a span at that moment was answered so
+  abbrev pub AnswersNow : Beginning P S G C → Result PlainSpan AllocError → Clocked (ProviderState P S G) C → Type 0
+  AnswersNow old answer new = (moment : ℕ) × tells old.at.clock moment new.clock
+      × AnswersStart calls sampler ids old.at.provider (request_at old moment) answer new.provider
 
-  -- at most a start happened
-  abbrev pub StartsAtMost : Beginning P S G → ProviderState P S G → Type 0
-  StartsAtMost old new = (answer : Result PlainSpan AllocError) × AnswersNow old answer new
+module _ {P S G C : Type 0} (ids : drawing.Ghosts G) (tells : C → ℕ → C → Type 0) where
+  -- the clock was read, and ids were drawn at most
+  abbrev pub DrawsNow : Beginning P S G C → Clocked (ProviderState P S G) C → Type 0
+  DrawsNow old new = (moment : ℕ) × tells old.at.clock moment new.clock
+      × DrawsAtMost ids old.at.provider (request_at old moment) new.provider
 
-module _ {P S G : Type 0} (calls : Ghosts P) (may_tell : ℕ → Type 0) {X : Type 0} (held_span : X → PlainSpan)
-    {F T : Type 0} (g : Once F (MutBor X × (Bor PlainContext × (MutBor (ProviderState P S G) × Unit {0})))
-    (T × (MutBor X × (MutBor (ProviderState P S G) × Unit {0})))) where
-  -- the work was done with a span, in a context, and the span that it left ended, at a moment that the clock told
-  pub record WorksAndEnds (span : PlainSpan) (cx : PlainContext) (old : ProviderState P S G) (work : F)
-      (done : InSpan T) (new : ProviderState P S G) : Type 0 where
+module _ {P S G C : Type 0} (calls : Ghosts P) (tells : C → ℕ → C → Type 0) {X : Type 0} (held_span : X → PlainSpan)
+    {F T : Type 0}
+    (g : Once F (MutBor X × (Bor PlainContext × (MutBor (ProviderState P S G) × (MutBor C × Unit {0}))))
+    (T × (MutBor X × (MutBor (ProviderState P S G) × (MutBor C × Unit {0}))))) where
+  -- the work was done with a span, in a context, and the span that it left ended, at a moment that the clock told after
+  -- the work
+  pub record WorksAndEnds (span : PlainSpan) (cx : PlainContext) (old : Clocked (ProviderState P S G) C) (work : F)
+      (done : InSpan T) (new : Clocked (ProviderState P S G) C) : Type 0 where
     pub held : X
     pub holds : held_span held ≡ span
-    pub left_held : X
-    pub left : ProviderState P S G
-    pub works : Works g work held cx old done.answer left_held left
+    pub left : Handed X (ProviderState P S G) C
+    pub works : Works g work cx (record { held = held; at = old }) done.answer left
     pub end : ℕ
-    pub told : may_tell end
-    pub ends : EndsOrDrops calls left (held_span left_held) end done.ended new
-    pub free : EndIsInfallible (held_span left_held) left → IsOk done.ended
+    pub told : tells left.at.clock end new.clock
+    pub ends : EndsOrDrops calls left.at.provider (held_span left.held) end done.ended new.provider
+    pub free : EndIsInfallible (held_span left.held) left.at.provider → IsOk done.ended
 
   -- a span started, the work was done with the span active, and it ended
-  pub record WorksInSpan (sampler : sampling.Ghosts S) (ids : drawing.Ghosts G) (old : Beginning P S G) (work : F)
-      (done : InSpan T) (new : ProviderState P S G) : Type 0 where
+  pub record WorksInSpan (sampler : sampling.Ghosts S) (ids : drawing.Ghosts G) (old : Beginning P S G C) (work : F)
+      (done : InSpan T) (new : Clocked (ProviderState P S G) C) : Type 0 where
     pub span : PlainSpan
-    pub started : ProviderState P S G
-    pub starts : AnswersNow calls sampler ids may_tell old (Ok span) started
+    pub started : Clocked (ProviderState P S G) C
+    pub starts : AnswersNow calls sampler ids tells old (Ok span) started
     pub ends : WorksAndEnds span (active_in old.cx span) started work done new

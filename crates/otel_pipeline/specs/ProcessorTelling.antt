@@ -19,6 +19,10 @@ pub record ProcessorTelling : Type 0 where
 abbrev pub silent : ProcessorTelling
 silent = record { spans = None; heard = None; waiting = 0; dropped = 0; takes_all = false; is_open = false }
 
+-- a processor tells that no span waits in front of its exporter. One that is silent tells so whatever it holds
+abbrev pub TellsNoneWaiting : ProcessorTelling → Type 0
+TellsNoneWaiting telling = telling.waiting ≡ 0
+
 -- the spans of the batches that an exporter tells
 abbrev pub spans_told : Option (List (List PlainSpanData)) → Option (List PlainSpanData)
 spans_told None = None

@@ -6,7 +6,7 @@ use Rattle.opentelemetry.specs.PlainContexts.{current_span_context, empty_span_c
 use Rattle.otel_export.specs.declared.error.OTelSdkError.{OTelSdkError}
 use Rattle.otel_export.specs.declared.error.OTelSdkError.TheVariants as errors
 use Rattle.otel_sampling.specs.declared.trace.span_limit.SpanLimits.{SpanLimits}
-use Rattle.otel_pipeline.specs.ProcessorTelling.{TakesNothing}
+use Rattle.otel_pipeline.specs.ProcessorTelling.{TakesNothing, TellsNoneWaiting}
 use Rattle.otel_pipeline.specs.Each.{AsksAll, AsksFirst}
 use Rattle.otel_pipeline.specs.declared.trace.close_report.CloseReport.{CloseReport}
 use Rattle.otel_pipeline.specs.declared.trace.span_processor.SpanProcessor.{Ghosts}
@@ -50,7 +50,7 @@ module _ {P : Type 0} (calls : Ghosts P) where
   pub record ShutsProcessor (timeout : ℕ) (old : P) (answer : Result (Unit {0}) OTelSdkError) (new : P) : Type 0 where
     pub gives : calls.shutdown_gives old timeout answer new
     pub told : TakesNothing (calls.told old) (calls.told new)
-    pub emptied : OnOk answer ((calls.told new).waiting ≡ 0)
+    pub emptied : OnOk answer (TellsNoneWaiting (calls.told new))
 
   -- a processor that was asked to flush answers as its call can, is told no span, and stays open or shut. Where the
   -- answer is Ok nothing waits any more
@@ -58,7 +58,7 @@ module _ {P : Type 0} (calls : Ghosts P) where
     pub gives : calls.flush_gives old answer new
     pub told : TakesNothing (calls.told old) (calls.told new)
     pub is_open : (calls.told new).is_open ≡ (calls.told old).is_open
-    pub emptied : OnOk answer ((calls.told new).waiting ≡ 0)
+    pub emptied : OnOk answer (TellsNoneWaiting (calls.told new))
 
   -- a processor that was told the time does what is due as its call can, is told no span, and stays open or shut
   pub record RunsProcessor (timer : timing.Ghosts P) (now : ℕ) (old : P) (answer : Result (Unit {0}) OTelSdkError)

@@ -1,6 +1,6 @@
 -- What the start of a span makes, and what it does to its provider (OpenTelemetry specification, "Span Creation").
 use Rattle.std.specs.Prelude.{◌≡◌, ◌≢◌, ℕ, ◌^◌, ◌<◌, ◌||◌, List, [], ◌∷◌, Option, Some, None, Result, true}
-use Rattle.std.specs.Prelude.{MatchBool, MatchResult}
+use Rattle.std.specs.Prelude.{◌⊎◌, MatchBool, MatchOption, MatchResult}
 use Rattle.std.specs.declared.alloc.AllocError.{AllocError}
 use Rattle.opentelemetry.specs.Plain.{PlainSpanContext, PlainContext}
 use Rattle.opentelemetry.specs.PlainSpanBuilder.{PlainSpanBuilder}
@@ -10,7 +10,7 @@ use Rattle.otel_sampling.specs.declared.trace.sampler.ShouldSample as sampling
 use Rattle.otel_sampling.specs.declared.trace.id_generator.GivesIds as drawing
 use Rattle.otel_sampling.specs.Sampling.{PlainSamplingResult}
 use Rattle.otel_pipeline.specs.SpanHistory.{PlainSpan, SpanStart, SpanHistory, IsEdited, begun, over, Edit, recording}
-use Rattle.otel_pipeline.specs.SpanHistory.{span_of}
+use Rattle.otel_pipeline.specs.SpanHistory.{not_recording, span_of}
 use Rattle.otel_pipeline.specs.StartRequest.{StartRequest, start_as, start_moment, start_question}
 use Rattle.otel_pipeline.specs.Provider.{ProviderState, unstarted_context}
 use Rattle.otel_pipeline.specs.declared.trace.span_processor.SpanProcessor.{Ghosts}
@@ -28,6 +28,19 @@ module _ {G : Type 0} (ids : drawing.Ghosts G) where
     pub draws_span_id : ids.gives_span_id old span_id between
     pub draws_trace_id : DrawsTraceId active start between trace_id new
     pub fits : span_id < 2 ^ 64
+
+module _ {P S G : Type 0} (ids : drawing.Ghosts G) where
+  -- ids were drawn, whatever came of them, and nothing else happened
+  pub record OnlyIds (old : ProviderState P S G) (request : StartRequest) (new : ProviderState P S G) : Type 0 where
+    pub trace_id : ℕ
+    pub span_id : ℕ
+    pub draws : DrawsIds ids request.cx.span_context (start_moment request.builder request.now) old.id_generator
+        trace_id span_id new.id_generator
+    pub rest : new ≡ record old { id_generator = new.id_generator }
+
+  -- ids were drawn at most
+  abbrev pub DrawsAtMost : ProviderState P S G → StartRequest → ProviderState P S G → Type 0
+  DrawsAtMost old request new = (new ≡ old) ⊎ OnlyIds old request new
 
 module _ {P S G : Type 0} (sampler : sampling.Ghosts S) (ids : drawing.Ghosts G) where
   -- ids were drawn, and nothing else happened; where the sampler needs no memory for the question, the span was to record
@@ -89,6 +102,40 @@ module _ {P : Type 0} (calls : Ghosts P) where
       (history ≡ over start.span_context start.limits) × (new ≡ old)
   DecidesStart decisions.RecordOnly cx start old new history = Records cx start old new history
   DecidesStart decisions.RecordAndSample cx start old new history = Records cx start old new history
+
+-- the span of a start of which no processor has been told yet, as the sampler decided
+abbrev pub PreparesAs : SamplingDecision → SpanStart → PlainSpan → Type 0
+PreparesAs decisions.Drop start span = span ≡ not_recording start.span_context start.limits
+PreparesAs decisions.RecordOnly start span = span ≡ recording start []
+PreparesAs decisions.RecordAndSample start span = span ≡ recording start []
+
+module _ {P S G : Type 0} (sampler : sampling.Ghosts S) (ids : drawing.Ghosts G) where
+  -- at an open provider ids are drawn and the sampler is asked; no processor is told
+  pub record PreparesOpen (old : ProviderState P S G) (request : StartRequest) (span : PlainSpan)
+      (new : ProviderState P S G) : Type 0 where
+    pub trace_id : ℕ
+    pub span_id : ℕ
+    pub answer : PlainSamplingResult
+    pub draws : DrawsIds ids request.cx.span_context (start_moment request.builder request.now) old.id_generator
+        trace_id span_id new.id_generator
+    pub asks : answer ≡ sampler.answer old.sampler (start_question request.cx trace_id request.builder)
+    pub decided : PreparesAs answer.decision (start_as request old.span_limits trace_id span_id answer) span
+    pub rest : new ≡ record old { id_generator = new.id_generator }
+
+  -- a span was made of which no processor has been told yet: where the provider is shut or the context suppressed one
+  -- that does not record, and nothing is drawn or asked
+  abbrev pub Prepares : ProviderState P S G → StartRequest → PlainSpan → ProviderState P S G → Type 0
+  Prepares old request span new = MatchBool (old.is_shut || request.cx.telemetry_suppressed)
+      ((span ≡ not_recording (unstarted_context old request.cx) old.span_limits) × (new ≡ old))
+      (PreparesOpen old request span new)
+
+module _ {P S G : Type 0} (calls : Ghosts P) where
+  -- each processor is told of a prepared span that records, and may edit it in its turn; of another one none is told
+  abbrev pub TellsStart : PlainContext → PlainSpan → ProviderState P S G → PlainSpan → ProviderState P S G → Type 0
+  TellsStart cx prepared old span new = MatchOption prepared.recorded
+      ((span ≡ prepared) × (new ≡ old))
+      (λ _. IsEdited prepared span × PassesThrough calls cx prepared old.processors new.processors span
+      × (new ≡ record old { processors = new.processors }))
 
 module _ {P S G : Type 0} (calls : Ghosts P) (sampler : sampling.Ghosts S) (ids : drawing.Ghosts G) where
   -- at an open provider: ids are drawn, the sampler is asked, and a span that records passes through the processors

@@ -28,7 +28,7 @@ pub use counts_left_spans::CountsLeftSpans;
 pub use emptied_block::EmptiedBlock;
 pub use exception::Exception;
 pub use from_exporter::FromExporter;
-pub use in_span::{BeginsSpan, HoldsSpan, InSpan, Tracer};
+pub use in_span::{BeginsSpan, HoldsSpan, InSpan, Tracer, end_or_drop};
 pub use keeps_batches::KeepsBatches;
 pub use now::Now;
 pub use provider::ProviderOf;

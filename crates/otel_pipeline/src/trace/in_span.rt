@@ -2,9 +2,9 @@
 
 ghost use Rattle.std.specs.Prelude.{◌≡◌, ◌⊎◌, IfErr, IfOk, IsOk, Ok, OnErr, string_bytes};
 ghost use Rattle.otel_pipeline.specs.Ending.{EndIsInfallible};
-ghost use Rattle.otel_pipeline.specs.InSpan.{EndsOrDrops, StartsAtMost, WorksAndEnds, WorksInSpan, active_in, beginning};
-ghost use Rattle.otel_pipeline.specs.InSpan.{child_request};
-ghost use Rattle.otel_pipeline.specs.Starting.{AnswersStart, RefusesStart, StartIsInfallible};
+ghost use Rattle.otel_pipeline.specs.InSpan.{DrawsNow, EndsOrDrops, WorksAndEnds, WorksInSpan, active_in, beginning};
+ghost use Rattle.otel_pipeline.specs.InSpan.{child_request, clocked};
+ghost use Rattle.otel_pipeline.specs.Starting.{AnswersStart, DrawsAtMost, RefusesStart, StartIsInfallible};
 ghost use Rattle.otel_pipeline.specs.StartRequest.{start_request};
 
 use crate::trace::{Now, ProviderOf, SdkTracer, Span, SpanProcessor};
@@ -98,13 +98,28 @@ pub trait Tracer {
         ensures free { StartIsInfallible S.ShouldSample provider.old
             (start_request (scope self.now) builder cx.now now.0) → IsOk result };
 
+    /// As `SdkTracer::start_inside`.
+    fn start_inside<P: SpanProcessor, S: ShouldSample, G: GivesIds>(
+        &self,
+        builder: SpanBuilder,
+        cx: &Context,
+        provider: &mut ProviderOf<P, S, G>,
+        now: Moment,
+    ) -> Result<(Span, Context), AllocError>
+        ensures ok { IfOk result (λ started. AnswersStart P.SpanProcessor S.ShouldSample G.GivesIds provider.old
+            (start_request (scope self.now) builder cx.now now.0) (Ok started.0) provider.new
+            × (started.1 ≡ active_in cx.now started.0)) }
+        ensures err { OnErr result (DrawsAtMost G.GivesIds provider.old
+            (start_request (scope self.now) builder cx.now now.0) provider.new) };
+
     /// Starts a span, hands it to the work beside a context in which it is active, and ends it once the work has
     /// answered, also where that is an error. The context has all that was in the other one, its baggage too. The work
-    /// starts the spans inside in that context, at the provider that it is handed. The clock says when the span starts and
-    /// ends. Where there is no memory for the span the work is not done and comes back, and nothing is delivered.
+    /// starts the spans inside in that context, at the provider and by the clock that it is handed. The clock is read
+    /// before the work and after it. Where there is no memory for the span and its context the work is not done and comes
+    /// back: no processor was told of the span, and ids were drawn at most.
     ///
-    /// The work is a closure `|span: &mut Span, cx, provider| ..`. Where it captures references, the function around it is
-    /// generic in its tracer.
+    /// The work is a closure `|span: &mut Span, cx, provider, clock| ..`. Where it captures references, the function
+    /// around it is generic in its tracer.
     fn in_span<
         P: SpanProcessor,
         S: ShouldSample,
@@ -119,29 +134,27 @@ pub trait Tracer {
         begun: B,
         cx: &Context,
         provider: &mut ProviderOf<P, S, G>,
-        clock: &C,
+        clock: &mut C,
         work: F,
     ) -> Result<InSpan<T>, AllocFailed<F>>
     where
-        F: FnOnce(&mut X, &Context, &mut ProviderOf<P, S, G>) -> T,
+        F: FnOnce(&mut X, &Context, &mut ProviderOf<P, S, G>, &mut C) -> T,
         requires { F.IsAlwaysCallable work }
-        ensures ok { IfOk result (λ done. WorksInSpan P.SpanProcessor (C.may_tell clock.now) X.held_span F.FnOnce
-            S.ShouldSample G.GivesIds (beginning (scope self.now) (B.begins begun) cx.now provider.old) work done
-            provider.new) }
-        ensures err { IfErr result (λ failed. (failed.value ≡ work)
-            × StartsAtMost P.SpanProcessor S.ShouldSample G.GivesIds (C.may_tell clock.now)
-            (beginning (scope self.now) (B.begins begun) cx.now provider.old) provider.new) }
+        ensures ok { IfOk result (λ done. WorksInSpan P.SpanProcessor C.tells X.held_span F.FnOnce
+            S.ShouldSample G.GivesIds (beginning (scope self.now) (B.begins begun) cx.now provider.old clock.old) work
+            done (clocked provider.new clock.new)) }
+        ensures err { IfErr result (λ failed. (failed.value ≡ work) × DrawsNow G.GivesIds C.tells
+            (beginning (scope self.now) (B.begins begun) cx.now provider.old clock.old)
+            (clocked provider.new clock.new)) }
     {
-        let Ok(span) = self.build_with_context(begun.into_builder(), cx, provider, clock.now())
-        else {
-            return Err(AllocFailed { value: work });
-        };
-        match context_inside(cx, &span) {
-            Ok(inside) => Ok(work_and_end(span, &inside, provider, clock, work)),
-            Err(_) => {
-                span.abandon();
-                Err(AllocFailed { value: work })
+        let now = clock.now();
+        match self.start_inside(begun.into_builder(), cx, provider, now) {
+            Ok((span, inside)) => {
+                let done = work_and_end(span, &inside, provider, clock, work);
+                drop(inside);
+                Ok(done)
             }
+            Err(_) => Err(AllocFailed { value: work }),
         }
     }
 }
@@ -157,6 +170,16 @@ impl Tracer for SdkTracer {
         now: Moment,
     ) -> Result<Span, AllocError> {
         SdkTracer::build_with_context(self, builder, cx, provider, now)
+    }
+
+    fn start_inside<P: SpanProcessor, S: ShouldSample, G: GivesIds>(
+        &self,
+        builder: SpanBuilder,
+        cx: &Context,
+        provider: &mut ProviderOf<P, S, G>,
+        now: Moment,
+    ) -> Result<(Span, Context), AllocError> {
+        SdkTracer::start_inside(self, builder, cx, provider, now)
     }
 }
 
@@ -183,7 +206,7 @@ impl SdkTracer {
 }
 
 /// The context in which this span is active.
-fn context_inside(cx: &Context, span: &Span) -> Result<Context, AllocError>
+pub(crate) fn context_inside(cx: &Context, span: &Span) -> Result<Context, AllocError>
     ensures { IfOk result (λ inside. inside ≡ active_in cx.now span.now) }
 {
     cx.with_span_context(span.span_context().clone()?)
@@ -194,23 +217,24 @@ fn work_and_end<P: SpanProcessor, S: Drop, G: Drop, C: Now, X: HoldsSpan, F, T>(
     span: Span,
     inside: &Context,
     provider: &mut ProviderOf<P, S, G>,
-    clock: &C,
+    clock: &mut C,
     work: F,
 ) -> InSpan<T>
 where
-    F: FnOnce(&mut X, &Context, &mut ProviderOf<P, S, G>) -> T,
+    F: FnOnce(&mut X, &Context, &mut ProviderOf<P, S, G>, &mut C) -> T,
     requires { F.IsAlwaysCallable work }
-    ensures { WorksAndEnds P.SpanProcessor (C.may_tell clock.now) X.held_span F.FnOnce span inside.now provider.old
-        work result provider.new }
+    ensures { WorksAndEnds P.SpanProcessor C.tells X.held_span F.FnOnce span inside.now
+        (clocked provider.old clock.old) work result (clocked provider.new clock.new) }
 {
     let mut held = X::hold(span);
-    let answer = work(&mut held, inside, provider);
+    let answer = work(&mut held, inside, provider, clock);
     let ended = end_or_drop(held.release(), provider, clock.now());
     InSpan { answer, ended }
 }
 
-/// Ends a span at this moment. Where there is no memory to hand it to its processors it is dropped.
-fn end_or_drop<P: SpanProcessor, S: Drop, G: Drop>(
+/// Ends a span at this moment, and answers how many processors refused it. Where there is no memory to hand it to its
+/// processors it is dropped.
+pub fn end_or_drop<P: SpanProcessor, S: Drop, G: Drop>(
     span: Span,
     provider: &mut ProviderOf<P, S, G>,
     end: Moment,

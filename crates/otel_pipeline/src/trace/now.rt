@@ -3,14 +3,15 @@
 
 use opentelemetry::Moment;
 
-/// A clock, or what stands for one.
+/// A clock, or what stands for one. Its readings are in order: each finds the clock as the one before left it.
 pub trait Now {
     ghost use Rattle.std.specs.Prelude.{ℕ};
 
-    /// What it may answer, in nanoseconds since the beginning of 1970, UTC.
-    ghost may_tell: { Self → ℕ → Type 0 };
+    /// What a reading does: the clock before it, the moment that it tells, in nanoseconds since the beginning of 1970,
+    /// UTC, and the clock after it.
+    ghost tells: { Self → ℕ → Self → Type 0 };
 
-    /// The moment that is now. A reading should not come before an earlier one.
-    fn now(&self) -> Moment
-        ensures { may_tell self.now result.0 };
+    /// The moment that is now. It should not come before an earlier reading's.
+    fn now(&mut self) -> Moment
+        ensures { tells self.old result.0 self.new };
 }

@@ -21,7 +21,8 @@ ghost use Rattle.opentelemetry.specs.Plain.{PlainContext};
 ghost use Rattle.otel_resource.specs.Resource.{PlainResource};
 ghost use Rattle.otel_export.specs.declared.error.OTelSdkError.{OTelSdkError};
 ghost use Rattle.otel_export.specs.PlainSpanData.{PlainSpanData};
-ghost use Rattle.otel_pipeline.specs.ProcessorTelling.{ProcessorTelling, TakesNothing, TakesSpan, silent};
+ghost use Rattle.otel_pipeline.specs.ProcessorTelling.{ProcessorTelling, TakesNothing, TakesSpan, TellsNoneWaiting};
+ghost use Rattle.otel_pipeline.specs.ProcessorTelling.{silent};
 ghost use Rattle.otel_pipeline.specs.SpanHistory.{PlainSpan, IsEdited};
 
 use crate::trace::{Span, SpanBlock};
@@ -92,20 +93,20 @@ pub trait SpanProcessor: Drop {
     fn force_flush(&mut self) -> OTelSdkResult
         ensures told { TakesNothing (told self.old) (told self.new) }
         ensures is_open { (told self.new).is_open ≡ (told self.old).is_open }
-        ensures emptied { OnOk result ((told self.new).waiting ≡ 0) }
+        ensures emptied { OnOk result (TellsNoneWaiting (told self.new)) }
         ensures gives { flush_gives self.old result self.new };
 
     /// Should export what waits and nothing afterwards, and answer what its exporter answered, or `Timeout` where that
     /// took longer; what it does by its contracts is `shutdown_gives`.
     fn shutdown_with_timeout(&mut self, timeout: Duration) -> OTelSdkResult
         ensures told { TakesNothing (told self.old) (told self.new) }
-        ensures emptied { OnOk result ((told self.new).waiting ≡ 0) }
+        ensures emptied { OnOk result (TellsNoneWaiting (told self.new)) }
         ensures gives { shutdown_gives self.old (as_nanos timeout) result self.new };
 
     /// The same with 5 seconds.
     fn shutdown(&mut self) -> OTelSdkResult
         ensures told { TakesNothing (told self.old) (told self.new) }
-        ensures emptied { OnOk result ((told self.new).waiting ≡ 0) }
+        ensures emptied { OnOk result (TellsNoneWaiting (told self.new)) }
         ensures gives { shutdown_gives self.old 5_000_000_000 result self.new }
     {
         self.shutdown_with_timeout(Duration::from_secs(5))

@@ -1,15 +1,18 @@
 //! The tracer of a library: it starts spans under the library's scope (OpenTelemetry specification, "Tracer").
 
-ghost use Rattle.std.specs.Prelude.{◌≡◌, ◌||◌, [], IfOk, IsOk, OnErr, string_bytes, true, unwrap_or};
+ghost use Rattle.std.specs.Prelude.{◌≡◌, ◌||◌, [], IfOk, IsOk, Ok, OnErr, string_bytes, true, unwrap_or};
 ghost use Rattle.std.specs.Option.{option_map};
 ghost use Rattle.opentelemetry.specs.PlainContexts.{root_cx};
 ghost use Rattle.opentelemetry.specs.PlainSpanBuilder.{named_builder};
 ghost use Rattle.otel_sampling.specs.Sampling.{added_attributes};
 ghost use Rattle.otel_pipeline.specs.Provider.{unstarted_context};
 ghost use Rattle.otel_pipeline.specs.StartRequest.{start_flags, start_of, start_question, start_request};
-ghost use Rattle.otel_pipeline.specs.Starting.{AnswersStart, StartIsInfallible};
+ghost use Rattle.otel_pipeline.specs.InSpan.{active_in};
+ghost use Rattle.otel_pipeline.specs.Starting.{AnswersStart, DrawsAtMost, Prepares, RefusesStart, StartIsInfallible};
+ghost use Rattle.otel_pipeline.specs.Starting.{TellsStart};
 ghost use Rattle.otel_pipeline.specs.SpanHistory.{data_of, recording};
 
+use super::in_span::context_inside;
 use super::limits::{attributes_within, events_within, links_within};
 use crate::trace::{ProviderOf, Recorded, Span, SpanProcessor};
 use opentelemetry::trace::{SpanBuilder, SpanContext, SpanKind, Status};
@@ -107,6 +110,51 @@ impl SdkTracer {
         ensures free { StartIsInfallible S.ShouldSample provider.old
             (start_request self.now builder cx.now now.0) → IsOk result }
     {
+        let mut span = self.prepare(builder, cx, provider, now)?;
+        tell_prepared(&mut span, cx, provider);
+        Ok(span)
+    }
+
+    /// Starts a span as `build_with_context` does, and makes the context in which it is active, with all else that is in
+    /// the other one. What needs memory is taken first: on an error no processor was told of the span, and ids were drawn
+    /// at most.
+    pub fn start_inside<P: SpanProcessor, S: ShouldSample, G: GivesIds>(
+        &self,
+        builder: SpanBuilder,
+        cx: &Context,
+        provider: &mut ProviderOf<P, S, G>,
+        now: Moment,
+    ) -> Result<(Span, Context), AllocError>
+        ensures ok { IfOk result (λ started. AnswersStart P.SpanProcessor S.ShouldSample G.GivesIds provider.old
+            (start_request self.now builder cx.now now.0) (Ok started.0) provider.new
+            × (started.1 ≡ active_in cx.now started.0)) }
+        ensures err { OnErr result (DrawsAtMost G.GivesIds provider.old
+            (start_request self.now builder cx.now now.0) provider.new) }
+    {
+        let mut span = self.prepare(builder, cx, provider, now)?;
+        let Ok(inside) = context_inside(cx, &span) else {
+            span.abandon();
+            return Err(AllocError);
+        };
+        tell_prepared(&mut span, cx, provider);
+        Ok((span, inside))
+    }
+
+    /// The span of a start, of which no processor has been told yet.
+    fn prepare<P: SpanProcessor, S: ShouldSample, G: GivesIds>(
+        &self,
+        builder: SpanBuilder,
+        cx: &Context,
+        provider: &mut ProviderOf<P, S, G>,
+        now: Moment,
+    ) -> Result<Span, AllocError>
+        ensures ok { IfOk result (λ span. Prepares S.ShouldSample G.GivesIds provider.old
+            (start_request self.now builder cx.now now.0) span provider.new) }
+        ensures err { OnErr result (RefusesStart S.ShouldSample G.GivesIds provider.old
+            (start_request self.now builder cx.now now.0) provider.new) }
+        ensures free { StartIsInfallible S.ShouldSample provider.old
+            (start_request self.now builder cx.now now.0) → IsOk result }
+    {
         let span_limits = provider.span_limits();
         if starts_nothing(provider, cx) {
             let alloc = provider.allocator();
@@ -126,7 +174,7 @@ impl SdkTracer {
             let alloc = provider.allocator();
             return Ok(Span::not_recording(alloc, span_context, span_limits));
         }
-        let mut started = begin(
+        begin(
             provider.take_room(),
             &self.scope,
             builder,
@@ -135,11 +183,7 @@ impl SdkTracer {
             span_context,
             now,
             span_limits,
-        );
-        if let Ok(span) = &mut started {
-            provider.tell_start(span, cx);
-        }
-        started
+        )
     }
 }
 
@@ -151,6 +195,19 @@ impl Clone for SdkTracer {
     /// Both share the scope.
     fn clone(&self) -> Result<SdkTracer, AllocError> {
         Ok(SdkTracer::new(self.scope.clone()?))
+    }
+}
+
+/// Tells each processor of a span that records; of another one none is told.
+fn tell_prepared<P: SpanProcessor, S: Drop, G: Drop>(
+    span: &mut Span,
+    cx: &Context,
+    provider: &mut ProviderOf<P, S, G>,
+)
+    ensures { TellsStart P.SpanProcessor cx.now span.old provider.old span.new provider.new }
+{
+    if span.is_recording() {
+        provider.tell_start(span, cx);
     }
 }
 

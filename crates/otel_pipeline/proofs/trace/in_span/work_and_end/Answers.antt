@@ -8,17 +8,22 @@ pub returns : goal.returns
 returns g c = record {
   held = c.hold-held.result;
   holds = c.hold-held.ensures;
-  left_held = c.work-answer.new.arg2;
-  left = c.work-answer.new.arg4;
+  left = record {
+    held = c.work-answer.new.arg2;
+    at = record { provider = c.work-answer.new.arg4; clock = c.work-answer.new.arg5 };
+  };
   works = record {
     given_span = _;
     given_cx = _;
     given_provider = _;
+    given_clock = _;
     left_span = _;
     left_provider = _;
+    left_clock = _;
     met = c.work-answer.ensures;
+    cx_is = refl;
     gives = (refl, refl, refl);
-    leaves = (refl, refl);
+    leaves = (refl, refl, refl);
   };
   end = c.now.result.0;
   told = c.now.ensures;
