@@ -1,15 +1,18 @@
 //! Moments from the system's clocks. The wall clock says which moment is now, and may be set back; the monotonic clock
 //! says how much time went by, and from when it counts nobody knows.
 
-ghost use Rattle.std.specs.Prelude.{◌≡◌};
-ghost use Rattle.otel_host.specs.Clocks.{IsLater, ReadsAs, clock_fault};
+ghost use Rattle.std.specs.Prelude.{◌≡◌, Result};
+ghost use Rattle.std.specs.Duration.{as_nanos};
+ghost use Rattle.std.specs.declared.io.Error.{Error};
+ghost use Rattle.std.specs.declared.time.Duration.{Duration as TheDuration};
+ghost use Rattle.otel_host.specs.Clocks.{IsLater, MakesClock, ReadsAs, clock_fault};
 
 use opentelemetry::Moment;
 use otel_pipeline::trace::Now;
 use std::io;
 use std::io::ErrorKind;
 use std::marker::Model;
-use std::time::{Clock, Duration, Instant};
+use std::time::{Clock, Duration};
 use thiserror::Error;
 
 /// Why the system's clock says no moment.
@@ -53,6 +56,42 @@ fn fault_of(kind: ErrorKind) -> ClockError
     }
 }
 
+/// The system's two clocks, as contracts see them: each reading is one of its own, so that a moment that nobody read is
+/// not proved. The system's answers themselves no clause can say.
+pub trait ReadsClocks {
+    ghost use Rattle.std.specs.Prelude.{Result};
+    ghost use Rattle.std.specs.declared.io.Error.{Error};
+    ghost use Rattle.std.specs.declared.time.Duration.{Duration};
+
+    /// A reading of the wall clock: the clocks before it, what it says, the clocks after it.
+    ghost wall: { Self → Result Duration Error → Self → Type 0 };
+
+    /// A reading of the monotonic clock.
+    ghost monotonic: { Self → Result Duration Error → Self → Type 0 };
+
+    /// The time since the beginning of 1970, UTC.
+    fn read_wall(&mut self) -> io::Result<Duration>
+        ensures { wall self.old result self.new };
+
+    /// The time since a moment that nobody knows.
+    fn read_monotonic(&mut self) -> io::Result<Duration>
+        ensures { monotonic self.old result self.new };
+}
+
+impl<C: Clock> ReadsClocks for C {
+    ghost wall = { λ _ _ _. Unit {0} };
+
+    ghost monotonic = { λ _ _ _. Unit {0} };
+
+    fn read_wall(&mut self) -> io::Result<Duration> {
+        self.since_1970()
+    }
+
+    fn read_monotonic(&mut self) -> io::Result<Duration> {
+        self.monotonic()
+    }
+}
+
 /// A clock that is read without errors, and does not go back when the wall clock is set. It reads the wall clock once,
 /// when it is made, and the monotonic clock at each call: so moments of one such clock keep the distances that the
 /// monotonic clock has.
@@ -60,52 +99,69 @@ fn fault_of(kind: ErrorKind) -> ClockError
 pub struct HostClock<C> {
     clock: C,
     made: Moment,
-    started: Instant,
+    // What the monotonic clock said then.
+    started: Duration,
+    // The moment that was told last, and at first that of the making.
+    last: Moment,
 }
 
 impl<C> Model for HostClock<C> {
-    ghost use Rattle.std.specs.Prelude.{ℕ};
+    ghost use Rattle.std.specs.Duration.{as_nanos};
+    ghost use Rattle.otel_host.specs.Clocks.{PlainHostClock};
 
-    ghost Value = { ℕ };
+    ghost Value = { PlainHostClock C };
 
-    ghost view = { λ clock. clock.made.0 };
+    ghost view = { λ clock. record {
+      clock = clock.clock;
+      made = clock.made.0;
+      started = as_nanos clock.started;
+      last = clock.last.0;
+    } };
 }
 
-impl<C: Clock + Drop> HostClock<C> {
+impl<C: ReadsClocks + Drop> HostClock<C> {
     /// A clock that starts now. The runtime is handed in by reference: `HostClock::new(&rt)`. Errors are those of
     /// [`now`], and `Unreadable` where the monotonic clock cannot be read.
-    pub fn new(clock: C) -> Result<HostClock<C>, ClockError> {
-        let made = now(&clock)?;
-        match Instant::now(&clock) {
+    pub fn new(mut clock: C) -> Result<HostClock<C>, ClockError>
+        ensures { MakesClock C.wall C.monotonic clock result }
+    {
+        let made = moment_of(clock.read_wall())?;
+        match clock.read_monotonic() {
             Ok(started) => Ok(HostClock {
                 clock,
                 made,
                 started,
+                last: made,
             }),
             Err(error) => Err(ClockError::Unreadable(error.kind())),
         }
     }
 }
 
-impl<C: Clock + Drop> Now for HostClock<C> {
-    ghost use Rattle.std.specs.Prelude.{◌≤◌};
+impl<C: ReadsClocks + Drop> Now for HostClock<C> {
+    ghost use Rattle.otel_host.specs.Clocks.{TellsLater};
 
-    ghost may_tell = { λ made moment. made ≤ moment };
+    ghost tells = { TellsLater C.monotonic };
 
     /// The moment that is now: that of the clock's making and the monotonic time since. Where the monotonic clock
-    /// cannot be read, or 64 bits of nanoseconds do not hold that moment, it is the moment of the clock's making. Never
-    /// earlier than that.
-    fn now(&self) -> Moment {
-        moment_after(self.made, self.started.elapsed(&self.clock))
+    /// cannot be read or went back, or 64 bits of nanoseconds do not hold that moment, it is the moment that was told
+    /// last. Never earlier than that.
+    fn now(&mut self) -> Moment {
+        let passed = match self.clock.read_monotonic() {
+            Ok(reading) => Ok(reading.saturating_sub(self.started)),
+            Err(error) => Err(error),
+        };
+        self.last = moment_after(self.made, passed, self.last);
+        self.last
     }
 }
 
-/// The moment so long after this one, and else this one.
-fn moment_after(made: Moment, passed: io::Result<Duration>) -> Moment
-    ensures { IsLater made.0 passed result.0 }
+/// The moment so long after this one, but no earlier than the last one.
+fn moment_after(made: Moment, passed: io::Result<Duration>, last: Moment) -> Moment
+    ensures { IsLater made.0 passed last.0 result.0 }
 {
     match passed {
-        Ok(passed) => made.checked_add(passed).unwrap_or(made),
-        Err(_) => made,
+        Ok(passed) => made.checked_add(passed).unwrap_or(last).max(last),
+        Err(_) => last,
     }
 }

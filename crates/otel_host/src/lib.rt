@@ -9,7 +9,7 @@ mod seed;
 mod strings;
 mod variables;
 
-pub use clock::{ClockError, HostClock, now};
+pub use clock::{ClockError, HostClock, ReadsClocks, now};
 pub use seed::{SeedError, random_seed};
 pub use strings::{config_strings, config_strings_in, resource_strings, resource_strings_in};
 pub use variables::{EnvError, HostVariables, Variables};
