@@ -5,7 +5,7 @@ use Rattle.std.proofs.KnownBytes.{Consumes-trans}
 use Rattle.std.proofs.lemmas.List.{get_or-append-add}
 use Rattle.std.specs.Io.{IsEmptyOrEndsWith}
 use Rattle.std.specs.Io.KnownBytes.{Consumes, IsAtEnd}
-use Rattle.otel_trace_run.specs.Pieces.{GivesLines, PlainPieces}
+use Rattle.otel_trace_session.specs.Pieces.{GivesLines, PlainPieces}
 use Rattle.otel_trace_run.specs.Streams.{AreAll}
 
 -- no byte ends as any line does

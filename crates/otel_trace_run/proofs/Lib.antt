@@ -6,7 +6,6 @@ pub mod GivenLemmas
 pub mod ModeWords
 pub mod PageWords
 pub mod ProgramLemmas
-pub mod ReadPieces
 pub mod ReasonLemmas
 pub mod StepStream
 pub mod TraceEnds

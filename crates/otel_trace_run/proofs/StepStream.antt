@@ -10,7 +10,7 @@ use Rattle.otel_export.specs.StoredBatches.{StoredBatches}
 use Rattle.otel_trace_lines.proofs.JoinedLines.{lines_joined}
 use Rattle.otel_export.specs.Streams.{AppendsBeginning}
 use Rattle.otel_export.proofs.StreamLemmas.{appends_after, appends_all}
-use Rattle.otel_trace_run.specs.Pieces.{GivesLines, KeepsAll, PlainPieces}
+use Rattle.otel_trace_session.specs.Pieces.{GivesLines, KeepsAll, PlainPieces}
 use Rattle.otel_trace_run.specs.StepRuns.{Steps, StepsAll, StepsOn, StepsSome, StepsTo}
 use Rattle.otel_trace_run.specs.Streams.{EndsAs, Streams, streams}
 use Rattle.otel_trace_run.specs.declared.run_end.RunEnd.{RunEnd}

@@ -25,7 +25,7 @@ use Rattle.otel_trace_session.proofs.RunLemmas.{runs_join}
 use Rattle.otel_trace_session.proofs.Streaming.{feeds_join, feeds_nothing}
 use Rattle.otel_export.specs.Streams.{AppendsBeginning}
 use Rattle.otel_export.proofs.StreamLemmas.{appends_after}
-use Rattle.otel_trace_run.specs.Pieces.{GivesLines, KeepsAll, PlainPieces}
+use Rattle.otel_trace_session.specs.Pieces.{GivesLines, KeepsAll, PlainPieces}
 use Rattle.otel_trace_run.specs.Streams.{Streams, WhyBad, streams}
 use Rattle.otel_trace_run.specs.TraceRuns.{BeginsToSpell, CarriesOutSome, FeedsPieces, FeedsPiece}
 use Rattle.otel_trace_run.specs.Reasons.{IsReasonAt}

@@ -5,7 +5,6 @@ pub mod OtlpRuns
 pub mod Pages
 pub mod Paintings
 pub mod PictureRuns
-pub mod Pieces
 pub mod Program
 pub mod Reasons
 pub mod StepRuns

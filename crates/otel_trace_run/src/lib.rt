@@ -9,7 +9,6 @@ pub mod mode;
 mod otlp;
 pub mod pages;
 pub mod picture;
-mod pieces;
 pub mod program;
 pub mod provider;
 pub mod reason;

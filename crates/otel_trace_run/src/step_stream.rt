@@ -9,7 +9,7 @@ ghost use Rattle.otel_trace_run.specs.Streams.{streams};
 ghost use Rattle.otel_trace_steps.specs.StepAnswers.{AnswersLines, BeginsAnswers, machine_of};
 
 use crate::line_count::{bad_line_after, lines_counted};
-use crate::pieces::Pieces;
+use otel_trace_session::Pieces;
 use crate::run_end::RunEnd;
 use otel_batch::machine::BatchMachine;
 use otel_export::stream::write_whole;

@@ -16,7 +16,7 @@ ghost use Rattle.otel_trace_session.specs.Calls.{calls_of};
 ghost use Rattle.otel_trace_session.specs.declared.session.FeedError.{FeedError};
 
 use crate::line_count::{bad_line_after, lines_counted};
-use crate::pieces::Pieces;
+use otel_trace_session::Pieces;
 use crate::reason::reason_at;
 use crate::run_end::RunEnd;
 use otel_export::stream::write_whole;

@@ -10,6 +10,7 @@ pub mod HeldLemmas
 pub mod KeptLemmas
 pub mod NamedLemmas
 pub mod PersistLemmas
+pub mod ReadPieces
 pub mod RunLemmas
 pub mod ShownLemmas
 pub mod Streaming

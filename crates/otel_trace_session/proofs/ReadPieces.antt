@@ -10,7 +10,7 @@ use Rattle.std.specs.Io.KnownBytes.{Consumes}
 use Rattle.std.specs.List.{All}
 use Rattle.std.proofs.lemmas.List.{get_or-take}
 use Rattle.std.specs.Io.KnownBytes.{IsAtEnd}
-use Rattle.otel_trace_run.specs.Pieces.{EndsNoLine, GivesLines, KeepsAll}
+use Rattle.otel_trace_session.specs.Pieces.{EndsNoLine, GivesLines, KeepsAll}
 
 -- what stood after the lines, moved to the front
 pub moved : (buffer now : List ℕ) (complete filled : ℕ) → complete ≤ filled → filled ≤ length buffer → now ≡ paste buffer 0 (drop complete buffer) (filled - complete)

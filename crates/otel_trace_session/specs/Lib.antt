@@ -6,6 +6,7 @@ pub mod Fed
 pub mod Headers
 pub mod Laws
 pub mod OpenSpans
+pub mod Pieces
 pub mod ProviderTurns
 pub mod Shown
 pub mod SpanTurns

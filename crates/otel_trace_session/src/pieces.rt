@@ -4,7 +4,7 @@
 ghost use Rattle.std.specs.Prelude.{◌≡◌, ◌≢◌, ◌+◌, ◌-◌, ◌<◌, ◌≤◌, [], All, IfOk, MatchOption, OnErr, OnOk, length, take, drop, slice_index};
 ghost use Rattle.std.specs.Io.{ReadsAtMost};
 ghost use Rattle.std.specs.Io.KnownBytes.{Consumes, IsAtEnd, Keeps};
-ghost use Rattle.otel_trace_run.specs.Pieces.{Brings, EndsLines, GivesLines, KeepsAll};
+ghost use Rattle.otel_trace_session.specs.Pieces.{Brings, EndsLines, GivesLines, KeepsAll};
 
 use std::alloc::Global;
 use std::io;
@@ -27,7 +27,7 @@ pub struct Pieces {
 
 impl Model for Pieces {
     ghost use Rattle.std.specs.Prelude.{◌≤◌, ◌≢◌, All, drop, length, take};
-    ghost use Rattle.otel_trace_run.specs.Pieces.{PlainPieces};
+    ghost use Rattle.otel_trace_session.specs.Pieces.{PlainPieces};
 
     ghost Value = { PlainPieces };
 

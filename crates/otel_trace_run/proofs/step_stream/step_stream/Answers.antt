@@ -2,7 +2,7 @@
 use Rattle.std.proofs.Common.{◌≡◌, ◌+◌, ◌∙◌, ℕ, List, [], true, false, length, None, Some, ap, subst, sym, rules}
 use Rattle.std.specs.Str.Lines.{lines}
 use Rattle.otel_trace_steps.specs.StepAnswers.{AnswersLines, BeginsAnswers}
-use Rattle.otel_trace_run.specs.Pieces.{PlainPieces}
+use Rattle.otel_trace_session.specs.Pieces.{PlainPieces}
 use Rattle.otel_trace_run.specs.StepRuns.{StepsSome, StepsTo}
 use Rattle.otel_trace_run.specs.Streams.{streams}
 use Rattle.otel_trace_run.proofs.StepStream.{HasStepped, begun_answering, begun_counting, begun_reading, begun_turning, ends_bad, stepped_all, stepped_bad, stepped_more, stepped_none}

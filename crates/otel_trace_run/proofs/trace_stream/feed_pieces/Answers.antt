@@ -10,7 +10,7 @@ use Rattle.otel_trace_session.specs.Calls.{Calls, calls_of}
 use Rattle.otel_trace_session.specs.Turns.{SessionState}
 use Rattle.otel_trace_session.specs.declared.session.FeedError.{FeedError}
 use Rattle.otel_trace_session.specs.declared.session.FeedError.TheVariants as feeds
-use Rattle.otel_trace_run.specs.Pieces.{PlainPieces}
+use Rattle.otel_trace_session.specs.Pieces.{PlainPieces}
 use Rattle.otel_trace_run.specs.Streams.{streams}
 use Rattle.otel_trace_run.specs.TraceRuns.{FeedsPiece}
 use Rattle.otel_trace_run.proofs.TraceEnds.{begun_whole, fed_bad}

@@ -1,7 +1,7 @@
 -- One read more.
 use Rattle.std.proofs.Common.{arith}
-use Rattle.otel_trace_run.proofs.ReadPieces.{ends_in_more, front_kept, none_more, read_more, slice_read}
-use Rattle.otel_trace_run.proofs.pieces.fill_to_line.Goals as goal
+use Rattle.otel_trace_session.proofs.ReadPieces.{ends_in_more, front_kept, none_more, read_more, slice_read}
+use Rattle.otel_trace_session.proofs.pieces.fill_to_line.Goals as goal
 
 pub returns-in-Ok-eq0-clause-front : goal.returns-in-Ok-eq0-clause-front
 returns-in-Ok-eq0-clause-front g c = front_kept c.args.buffer.now.items c.loop.buffer.items c.read_after.new.buffer.items c.args.filled c.loop.now c.loop.invariant.grown c.loop.invariant.front c.read_after.ensures.front

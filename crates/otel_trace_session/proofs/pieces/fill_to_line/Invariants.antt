@@ -1,8 +1,8 @@
 -- What was read stands after what was there before, and no line ends in it.
 use Rattle.std.proofs.Common.{◌≡◌, ◌≤◌, length, take, drop}
 use Rattle.std.specs.Io.KnownBytes.{Consumes}
-use Rattle.otel_trace_run.specs.Pieces.{EndsNoLine}
-use Rattle.otel_trace_run.proofs.pieces.fill_to_line.Given as goal
+use Rattle.otel_trace_session.specs.Pieces.{EndsNoLine}
+use Rattle.otel_trace_session.proofs.pieces.fill_to_line.Given as goal
 
 abbrev pub invariant-loop : goal.invariant-loop
 invariant-loop g l = record {

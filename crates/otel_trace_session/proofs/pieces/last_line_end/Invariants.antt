@@ -1,7 +1,7 @@
 -- No line ends in what was looked at.
 use Rattle.std.proofs.Common.{◌≤◌, length, drop}
-use Rattle.otel_trace_run.specs.Pieces.{EndsNoLine}
-use Rattle.otel_trace_run.proofs.pieces.last_line_end.Given as goal
+use Rattle.otel_trace_session.specs.Pieces.{EndsNoLine}
+use Rattle.otel_trace_session.proofs.pieces.last_line_end.Given as goal
 
 abbrev pub invariant-loop-end : goal.invariant-loop-end
 invariant-loop-end l = record { within : l.end ≤ length l.bytes; none : EndsNoLine (drop l.end l.bytes) }

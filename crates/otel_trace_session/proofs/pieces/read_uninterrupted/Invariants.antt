@@ -1,7 +1,7 @@
 -- The buffer keeps its length, and an interrupted read consumes nothing.
 use Rattle.std.proofs.Common.{◌≡◌, length}
 use Rattle.std.specs.Io.KnownBytes.{Keeps}
-use Rattle.otel_trace_run.proofs.pieces.read_uninterrupted.Given as goal
+use Rattle.otel_trace_session.proofs.pieces.read_uninterrupted.Given as goal
 
 abbrev pub invariant-loop : goal.invariant-loop
 invariant-loop g l = (length l.buffer ≡ length l.initial.buffer) × Keeps (g.R.Read.remaining l.initial.reader) (g.R.Read.remaining l.reader)

@@ -1,9 +1,9 @@
 -- What stood after the lines stands in front.
 use Rattle.std.proofs.Common.{◌≡◌, ◌≢◌, ◌≤◌, List, [], ℕ, length, sym, subst, arith, rules, ap, ◌∙◌}
 use Rattle.std.specs.List.{All}
-use Rattle.otel_trace_run.specs.Pieces.{PlainPieces}
-use Rattle.otel_trace_run.proofs.ReadPieces.{moved}
-use Rattle.otel_trace_run.proofs.pieces.Pieces.forget_lines.Goals as goal
+use Rattle.otel_trace_session.specs.Pieces.{PlainPieces}
+use Rattle.otel_trace_session.proofs.ReadPieces.{moved}
+use Rattle.otel_trace_session.proofs.pieces.Pieces.forget_lines.Goals as goal
 
 pub invariant_of-self : goal.invariant_of-self
 invariant_of-self c =

@@ -1,8 +1,8 @@
 -- What the buffer had, and what reading brought.
 use Rattle.std.proofs.Common.{◌≡◌, Ok, Some, None, ap, ◌∙◌, arith}
-use Rattle.otel_trace_run.specs.Pieces.{PlainPieces}
-use Rattle.otel_trace_run.proofs.ReadPieces.{always_err, gives_last, gives_lines, keeps_all, no_lines, unended_still}
-use Rattle.otel_trace_run.proofs.pieces.Pieces.read_on.Goals as goal
+use Rattle.otel_trace_session.specs.Pieces.{PlainPieces}
+use Rattle.otel_trace_session.proofs.ReadPieces.{always_err, gives_last, gives_lines, keeps_all, no_lines, unended_still}
+use Rattle.otel_trace_session.proofs.pieces.Pieces.read_on.Goals as goal
 
 pub invariant_of-self : goal.invariant_of-self
 invariant_of-self g c =
