@@ -26,6 +26,10 @@ impl<W> LineExporter<W> {
         LineExporter { sink, alloc }
     }
 
+    pub fn sink(&self) -> &W {
+        &self.sink
+    }
+
     /// What is answered where the sink took a line, or did not.
     fn answer(&self, written: io::Result<()>) -> OTelSdkResult {
         written.map_err(|_| OTelSdkError::InternalFailure(String::new(self.alloc)))
@@ -59,39 +63,4 @@ impl<W: Write + Drop> SpanExporter for LineExporter<W> {
     }
 
     fn set_resource(&mut self, _resource: &Resource) {}
-}
-
-#[cfg(test)]
-mod tests {
-    use super::LineExporter;
-    use crate::providers::{Shows, internal_request, traced};
-    use opentelemetry_sdk::trace::{Sampler, SimpleSpanProcessor};
-    use std::alloc::{AllocError, Global};
-    use std::test::Fail;
-
-    type LineProcessor = SimpleSpanProcessor<LineExporter<Vec<u8>>>;
-
-    impl Shows for LineProcessor {
-        fn show(&self, text: &mut String) -> Result<(), AllocError> {
-            text.push_str(str::from_utf8(&self.exporter().sink).unwrap_or("no text"))
-        }
-    }
-
-    /// A processor that has its spans written at once, for which there is room.
-    fn processor(alloc: Global) -> Result<LineProcessor, AllocError> {
-        let sink = Vec::with_capacity(alloc, 64)?;
-        Ok(SimpleSpanProcessor::new(alloc, LineExporter::new(alloc, sink)))
-    }
-
-    #[test]
-    fn each_span_is_written_when_it_ends(rt: HostRuntime) -> Result<(), Fail> {
-        let alloc = rt.alloc();
-        let requests = [internal_request(7, "a"), internal_request(8, "b")];
-        let told = traced(alloc, Sampler::AlwaysOn, processor(alloc)?, &requests)?;
-        assert_eq!(rt;
-            told.as_str(),
-            "a=true ; b=true ; GET 7 9\nGET 8 10\n then GET 7 9\nGET 8 10\n"
-        );
-        Ok(())
-    }
 }

@@ -1,22 +1,13 @@
 // SPDX-License-Identifier: Apache-2.0
-//! Examples: an exporter, two processors, a sampler and a filter of a baggage's keys of one's own, each whole in a file
-//! and ended by a test that uses it in a provider; the quick start of the README, and the service of docs/USING.md. All
-//! of it is compiled for the tests alone.
+//! Examples: an exporter, two processors, a sampler and a filter of a baggage's keys of one's own, each whole in a file;
+//! the quick start of the README, and the service of docs/USING.md. The crate is proved as any other, which shows that
+//! such code is; its tests stand in `otel_example_tests`.
 #![tactic(auto)]
 
-#[cfg(test)]
-mod exporter;
-#[cfg(test)]
-mod key_filter;
-#[cfg(test)]
-mod processor;
-#[cfg(test)]
-mod providers;
-#[cfg(test)]
-mod queueing_processor;
-#[cfg(test)]
-mod quick_start;
-#[cfg(test)]
-mod sampler;
-#[cfg(test)]
-mod service;
+pub mod exporter;
+pub mod key_filter;
+pub mod processor;
+pub mod queueing_processor;
+pub mod quick_start;
+pub mod sampler;
+pub mod service;

@@ -69,6 +69,8 @@ impl<P: CountsLeftSpans> CountsLeftSpans for FilteringProcessor<P> {
 
     ghost dropped_over = { λ p. P.dropped_over p.inner };
 
+    ghost failed_over = { λ p. P.failed_over p.inner };
+
     // It tells nothing, so there is nothing that what it leaves could agree with.
     ghost use Rattle.std.specs.Prelude.{false};
 
@@ -89,39 +91,8 @@ impl<P: CountsLeftSpans> CountsLeftSpans for FilteringProcessor<P> {
     fn dropped_count(&self) -> u64 {
         self.inner.dropped_count()
     }
-}
 
-#[cfg(test)]
-mod tests {
-    use super::{FilteringProcessor, MARK};
-    use crate::providers::{Shows, internal_request, push_batches, traced};
-    use opentelemetry_sdk::trace::{InMemorySpanExporter, Sampler, SimpleSpanProcessor};
-    use std::alloc::{AllocError, Global};
-    use std::test::Fail;
-
-    type OverMemory = FilteringProcessor<SimpleSpanProcessor<InMemorySpanExporter>>;
-
-    impl Shows for OverMemory {
-        fn show(&self, text: &mut String) -> Result<(), AllocError> {
-            push_batches(text, self.inner.exporter())
-        }
-    }
-
-    /// A processor that has exported into memory what it lets through.
-    fn processor(alloc: Global) -> OverMemory {
-        let inner = SimpleSpanProcessor::new(alloc, InMemorySpanExporter::new(alloc));
-        FilteringProcessor { inner }
-    }
-
-    #[test]
-    fn a_marked_span_is_kept_back_and_others_are_exported(rt: HostRuntime) -> Result<(), Fail> {
-        let alloc = rt.alloc();
-        let requests = [internal_request(7, MARK), internal_request(8, "a")];
-        let told = traced(alloc, Sampler::AlwaysOn, processor(alloc), &requests)?;
-        assert_eq!(rt;
-            told.as_str(),
-            "example.drop=true ; a=true ; [8 ] then [8 ]"
-        );
-        Ok(())
+    fn failed_exports(&self) -> u64 {
+        self.inner.failed_exports()
     }
 }

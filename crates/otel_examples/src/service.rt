@@ -19,47 +19,54 @@ pub trait Backend {
 
 /// What each request needs.
 #[derive(Drop)]
-struct Shop<L, C> {
+struct Shop<L> {
     alloc: Global,
     tracer: L,
-    clock: C,
 }
 
-impl<L: Tracer, C: Now> Shop<L, C> {
+impl<L: Tracer> Shop<L> {
     /// Answers a request in a span whose parent is the one that its headers name.
-    fn answer<P: SpanProcessor, S: ShouldSample, G: GivesIds, B: Backend>(
+    fn answer<P: SpanProcessor, S: ShouldSample, G: GivesIds, C: Now, B: Backend>(
         &self,
         headers: &MapCarrier,
         provider: &mut ProviderOf<P, S, G>,
+        clock: &mut C,
         backend: &mut B,
     ) -> Result<(), AllocError> {
         let propagator = TraceContextPropagator::new();
         let caller = propagator.extract_with_context(self.alloc, &Context::new(), headers)?;
         let name = String::from_str(self.alloc, "GET /cart")?;
         let builder = SpanBuilder::from_name(name).with_kind(SpanKind::Server);
-        let work = |_span: &mut Span, cx: &Context, provider: &mut ProviderOf<P, S, G>| {
-            self.load_cart(cx, provider, backend)
-        };
+        let work = |_span: &mut Span, cx: &Context, provider: &mut ProviderOf<
+            P,
+            S,
+            G,
+        >, clock: &mut C| { self.load_cart(cx, provider, clock, backend) };
         let done = self
             .tracer
-            .in_span(builder, &caller, provider, &self.clock, work)?;
+            .in_span(builder, &caller, provider, clock, work)?;
         outcome_of(done)
     }
 
     /// Asks the backend, in a span within that of the request.
-    fn load_cart<P: SpanProcessor, S: ShouldSample, G: GivesIds, B: Backend>(
+    fn load_cart<P: SpanProcessor, S: ShouldSample, G: GivesIds, C: Now, B: Backend>(
         &self,
         cx: &Context,
         provider: &mut ProviderOf<P, S, G>,
+        clock: &mut C,
         backend: &mut B,
     ) -> Result<(), AllocError> {
         let name = String::from_str(self.alloc, "load cart")?;
-        let work = |_span: &mut Span, cx: &Context, _provider: &mut ProviderOf<P, S, G>| {
+        let work = |_span: &mut Span, cx: &Context, _provider: &mut ProviderOf<
+            P,
+            S,
+            G,
+        >, _clock: &mut C| {
             let mut headers = MapCarrier::new(self.alloc);
             TraceContextPropagator::new().inject_context(self.alloc, cx, &mut headers)?;
             backend.call(&headers)
         };
-        let done = self.tracer.in_span(name, cx, provider, &self.clock, work)?;
+        let done = self.tracer.in_span(name, cx, provider, clock, work)?;
         outcome_of(done)
     }
 }
@@ -73,11 +80,11 @@ fn outcome_of(done: InSpan<Result<(), AllocError>>) -> Result<(), AllocError> {
 }
 
 /// Answers requests with these headers.
-pub fn serve<P: FromExporter + Timed + CountsLeftSpans, C: Now + Drop, B: Backend>(
+pub fn serve<P: FromExporter + Timed + CountsLeftSpans, C: Now, B: Backend>(
     alloc: Global,
     exporter: P::Exporter,
     requests: &[MapCarrier],
-    clock: C,
+    clock: &mut C,
     backend: &mut B,
 ) -> Result<CloseReport, OTelSdkError> {
     let made = provider_over::<P>(alloc, exporter);
@@ -93,7 +100,7 @@ pub fn serve<P: FromExporter + Timed + CountsLeftSpans, C: Now + Drop, B: Backen
 
 /// A provider with an eager batch processor, by the default configuration. The seed is fixed here; `otel_host` gives a
 /// true one.
-fn provider_over<P: FromExporter>(
+pub fn provider_over<P: FromExporter>(
     alloc: Global,
     exporter: P::Exporter,
 ) -> Result<ProviderOf<P, Sampler, IdSource>, AllocError> {
@@ -102,25 +109,20 @@ fn provider_over<P: FromExporter>(
     Ok(builder.with_eager_batch_exporter(exporter)?.build()?)
 }
 
-fn answer_all<P: Timed, C: Now + Drop, B: Backend>(
+/// Answers requests at this provider, and tells it the time after each.
+pub fn answer_all<P: Timed, C: Now, B: Backend>(
     alloc: Global,
     provider: &mut ProviderOf<P, Sampler, IdSource>,
     requests: &[MapCarrier],
-    clock: C,
+    clock: &mut C,
     backend: &mut B,
 ) -> Result<(), AllocError> {
     let tracer = provider.tracer(String::from_str(alloc, "shop")?)?;
-    let shop = Shop {
-        alloc,
-        tracer,
-        clock,
-    };
+    let shop = Shop { alloc, tracer };
     for headers in requests {
-        shop.answer(headers, provider, backend)?;
+        shop.answer(headers, provider, clock, backend)?;
         // What is due by now is exported; where that fails the service goes on.
-        let _exported = provider.run_processors(shop.clock.now());
+        let _exported = provider.run_processors(clock.now());
     }
     Ok(())
 }
-
-mod tests;
