@@ -11,6 +11,7 @@ pub mod RestsAgainLemmas
 pub mod TakenSpanLemmas
 pub mod AnsweredRequestLemmas
 pub mod RequestCallLemmas
+pub mod Failing
 pub mod Fewer
 pub mod Emptying
 pub mod Eager

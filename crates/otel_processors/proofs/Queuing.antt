@@ -1,13 +1,17 @@
--- An end that only queues its span drops none where the processor is eager: the span is not sampled, or the queue closed.
-use Rattle.std.proofs.Common.{◌≡◌, refl, ◌&&◌, not, Bool, true, false, Ok}
+-- What an end at a batch processor does. One that only queues its span drops none where the processor is eager: the span
+-- is not sampled, or the queue closed.
+use Rattle.std.proofs.Common.{◌≡◌, refl, ap, ℕ, ◌&&◌, not, Bool, true, false, Ok}
 use Rattle.otel_export.specs.PlainSpanData.{PlainSpanData, is_sampled}
 use Rattle.otel_batch.specs.MachineState.{Machine}
 use Rattle.otel_export.specs.declared.trace.export.SpanExporter.{Ghosts}
 use Rattle.otel_batch.specs.WorkedOff.{OffersSpan}
+use Rattle.otel_batch.specs.MachineRun.{counted_up}
 use Rattle.otel_processors.specs.BatchProcessor.{BatchEnds, BatchProcessor, ends_eagerly}
+use Rattle.otel_processors.specs.EagerExports.{EndsBatch}
 use Rattle.otel_processors.specs.QueueRequests.{IsAtRest}
 use Rattle.otel_processors.proofs.Eager.{offer_ends, offer_sizes, same_largest}
 use Rattle.otel_processors.proofs.Ending.{EndsIdle, QueuesNone, SpanGoes}
+use Rattle.otel_processors.proofs.Failing.{counted_since, refused_ends_fail}
 
 where_shut : {E : Type 0} (s : Machine E) (span : PlainSpanData) (t : Machine E) (shut : Bool) → shut ≡ true →
     SpanGoes shut s span t → QueuesNone s t
@@ -42,4 +46,26 @@ module _ {E : Type 0} (calls : Ghosts E) where
         refl refl (offer_ends calls old.machine span t rest offers)
         (not_due old.is_eager (not old.machine.control.closed && is_sampled span) eager plain);
     below = λ due some found. absurd (cc);
+  }
+
+  -- an end that exports the batch that its span fills
+  pub eager_ends : (old : BatchProcessor E) (span : PlainSpanData) (failed : ℕ) (t : Machine E) →
+      ends_eagerly old span ≡ true → EndsBatch calls old.machine span failed t →
+      BatchEnds calls old span (Ok tt) (record old {
+        machine = t;
+        failed_exports = counted_up old.failed_exports (counted_up 0 failed);
+      })
+  eager_ends old span failed t due ends = record {
+    refused = ends.refused;
+    ends = rw due (record {
+      failed = failed;
+      offers = ends.offers;
+      counts = refused_ends_fail calls old.machine span ends.refused failed t ends.offers;
+      rest = ap (λ n. record old { machine = t; failed_exports = n }) (counted_since old.failed_exports failed);
+    });
+    ok = refl;
+    is_eager = refl;
+    largest = ends.largest;
+    loses_none = λ eager some found. ends.loses_none some found;
+    below = λ due some found. ends.below some found;
   }

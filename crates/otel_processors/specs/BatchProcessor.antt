@@ -75,11 +75,13 @@ module _ {E : Type 0} (calls : Ghosts E) where
     pub refusal : refused ≡ false
     pub rest : new ≡ record old { machine = new.machine }
 
-  -- an end that exports the batch that the span fills; exports that failed are counted
+  -- an end that exports the batch that the span fills; exports that failed are counted, and one that found no memory for
+  -- its batch is one of them
   pub record EndsEagerly (old : BatchProcessor E) (span : PlainSpanData) (refused : Bool) (new : BatchProcessor E)
       : Type 0 where
     pub failed : ℕ
     pub offers : OffersEagerly calls old.machine span refused failed new.machine
+    pub counts : refused ≡ true → 0 < failed
     pub rest : new ≡ record old {
       machine = new.machine;
       failed_exports = counted_up old.failed_exports failed;
@@ -100,7 +102,13 @@ module _ {E : Type 0} (calls : Ghosts E) where
     pub below : ends_eagerly old span ≡ true → 0 < largest_batch old.machine.control → refused ≡ false
         → has_full_batch new.machine ≡ false
 
-  -- ends at a batch processor, one after another, in none of which a drain found no memory for a batch
+  -- ends at a batch processor, one after another
+  abbrev pub EndInTurn : BatchProcessor E → List PlainSpanData → BatchProcessor E → Type 0
+  EndInTurn old [] new = new ≡ old
+  EndInTurn old (span ∷ spans) new = (answer : Result (Unit {0}) AllocError) × (next : BatchProcessor E)
+      × BatchEnds old span answer next × EndInTurn next spans new
+
+  -- such ends, in none of which a drain found no memory for a batch
   abbrev pub EndInMemory : BatchProcessor E → List PlainSpanData → BatchProcessor E → Type 0
   EndInMemory old [] new = new ≡ old
   EndInMemory old (span ∷ spans) new = (answer : Result (Unit {0}) AllocError) × (next : BatchProcessor E)

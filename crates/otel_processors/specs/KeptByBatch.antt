@@ -1,6 +1,6 @@
 -- A batch processor takes back no batch that its exporter keeps: no step of its queue does.
 use Rattle.std.specs.Prelude.{◌≡◌, ◌+◌, ℕ, nat_le, Bool, true, false, List, [], ◌∷◌, Option, Some, None, Result}
-use Rattle.std.specs.Prelude.{Ok, MatchBool, MatchOption}
+use Rattle.std.specs.Prelude.{MatchBool, MatchOption}
 use Rattle.std.specs.declared.alloc.AllocError.{AllocError}
 use Rattle.std.proofs.Common.{ap}
 use Rattle.otel_export.specs.declared.error.OTelSdkError.{OTelSdkError}
@@ -22,7 +22,7 @@ use Rattle.otel_batch.specs.WorkedOff.{GoesBy, TicksAndWorks, WorkerWorks}
 use Rattle.otel_processors.specs.BatchProcessor.{BatchDue, BatchEnds, BatchProcessor, EndsByQueue, EndsEagerly}
 use Rattle.otel_processors.specs.QueueRequests.{AnswersRequest}
 use Rattle.otel_processors.specs.BatchProcessor.{DrainsByTimer, TellsTime, WorksAndTellsTime, ends_eagerly}
-use Rattle.otel_processors.specs.EagerExports.{Drains, DrainsIfFull, ExportsFullBatch, OffersEagerly, WorksIfFull}
+use Rattle.otel_processors.specs.EagerExports.{Drains, DrainsIfFull, ExportsFullBatch, OffersEagerly, Works, WorksIfFull}
 use Rattle.otel_processors.specs.QueueRequests.{Requests}
 
 module _ {E : Type 0} (calls : Ghosts E) (stored : E → StoredBatches)
@@ -126,28 +126,29 @@ module _ {E : Type 0} (calls : Ghosts E) (stored : E → StoredBatches)
           (stored q.machine.exporter) (works_appends p.machine h.worked h.idle.machine h.works.works)
           (tells_appends now h.idle h.worked answer q h.tells)
 
-  full_works_append : (s : Machine E) (answer : Result (Unit {0}) OTelSdkError) (t : Machine E)
-      → WorksIfFull calls s answer t → OnlyAdds (stored s.exporter) (stored t.exporter)
-  full_works_append s answer t = by_full (has_full_batch s)
+  full_works_append : (s : Machine E) (failed : ℕ) (t : Machine E)
+      → WorksIfFull calls s failed t → OnlyAdds (stored s.exporter) (stored t.exporter)
+  full_works_append s failed t = by_full (has_full_batch s)
     where
-      by_full : (full : Bool) → MatchBool full (WorkerWorks calls s answer t) ((answer ≡ Ok tt) × (t ≡ s))
+      by_full : (full : Bool) → MatchBool full (Works calls s failed t) ((failed ≡ 0) × (t ≡ s))
           → OnlyAdds (stored s.exporter) (stored t.exporter)
-      by_full true h = works_appends s answer t h
+      by_full true h = works_appends s h.answer t h.works
       by_full false h = stays s t (ap (λ m. m.exporter) h.1)
 
-  full_drains_append : (s : Machine E) (refused : Bool) (answer : Result (Unit {0}) OTelSdkError) (t : Machine E)
-      → DrainsIfFull calls s refused answer t → OnlyAdds (stored s.exporter) (stored t.exporter)
-  full_drains_append s refused answer t = by_full (has_full_batch s)
+  full_drains_append : (s : Machine E) (refused : Bool) (failed : ℕ) (t : Machine E)
+      → DrainsIfFull calls s refused failed t → OnlyAdds (stored s.exporter) (stored t.exporter)
+  full_drains_append s refused failed t = by_full (has_full_batch s)
     where
-      by_full : (full : Bool) → MatchBool full (Drains calls s refused answer t)
-          ((refused ≡ false) × (answer ≡ Ok tt) × (t ≡ s)) → OnlyAdds (stored s.exporter) (stored t.exporter)
-      by_full true h = ticks_appends s answer t h.drain
+      by_full : (full : Bool) → MatchBool full (Drains calls s refused failed t)
+          ((refused ≡ false) × (failed ≡ 0) × (t ≡ s)) → OnlyAdds (stored s.exporter) (stored t.exporter)
+      by_full true h = ticks_appends s h.answer t h.drain
       by_full false h = stays s t (ap (λ m. m.exporter) h.2)
 
   exports_append : (s : Machine E) (refused : Bool) (failed : ℕ) (t : Machine E)
       → ExportsFullBatch calls s refused failed t → OnlyAdds (stored s.exporter) (stored t.exporter)
   exports_append s refused failed t h = adds_more (stored s.exporter) (stored h.idle.exporter) (stored t.exporter)
-      (full_works_append s h.worked h.idle h.works) (full_drains_append h.idle refused h.drained t h.drains)
+      (full_works_append s h.failed_working h.idle h.works)
+      (full_drains_append h.idle refused h.failed_draining t h.drains)
 
   eagerly_appends : (s : Machine E) (span : PlainSpanData) (refused : Bool) (failed : ℕ) (t : Machine E)
       → OffersEagerly calls s span refused failed t → OnlyAdds (stored s.exporter) (stored t.exporter)

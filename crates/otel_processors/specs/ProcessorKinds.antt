@@ -49,6 +49,12 @@ dropped_over_by_kind (kinds.Simple _) = 0
 dropped_over_by_kind (kinds.Batch batch) = batch.machine.control.dropped
 dropped_over_by_kind (kinds.Custom _) = 0
 
+-- how many exports at ends of spans failed
+abbrev pub failed_over_by_kind : {E C : Type 0} → ProcessorOf E C → ℕ
+failed_over_by_kind (kinds.Simple simple) = simple.failed_exports
+failed_over_by_kind (kinds.Batch batch) = batch.failed_exports
+failed_over_by_kind (kinds.Custom _) = 0
+
 -- whether it leaves what its telling says
 abbrev pub leaves_told_by_kind : {E C : Type 0} → ProcessorOf E C → Bool
 leaves_told_by_kind (kinds.Simple _) = true

@@ -2,7 +2,8 @@
 //! in a queue of bounded length; whoever holds the processor has its worker hand batches to the exporter, by
 //! `force_flush`, `run_worker`, or `drain_due` with the time. There is no thread and no clock: where nobody calls one of
 //! them in time, spans that find the queue full are dropped. An eager processor exports a full batch where the span ends
-//! that fills it, and is the one for a service that calls nothing.
+//! that fills it, and is the one for a service that calls none of them; but there the last spans, fewer than a batch has,
+//! up to 511 by default, wait for ever.
 
 ghost use Rattle.std.specs.Prelude.{◌≡◌, ◌+◌, false, IfOk, IfSome, nat_le};
 ghost use Rattle.std.specs.Duration.{as_nanos};
@@ -73,7 +74,8 @@ impl<E> BatchSpanProcessor<E> {
         self.machine.dropped_count()
     }
 
-    /// How many exports of full batches, by ends at an eager processor, answered an error. It stops at the greatest `u64`.
+    /// How many exports by ends at an eager processor failed: the exporter answered an error, or there was no memory for
+    /// the batch. It stops at the greatest `u64`.
     pub fn failed_exports(&self) -> u64
         ensures { result ≡ self.now.failed_exports }
     {
@@ -186,7 +188,8 @@ impl<E: SpanExporter> BatchSpanProcessor<E> {
         if self.machine.is_closed() {
             return Err(OTelSdkError::AlreadyShutdown);
         }
-        run_worker(&mut self.machine)
+        let mut uncounted = 0;
+        run_worker(&mut self.machine, &mut uncounted)
     }
 
     /// A run of the worker, and the timer's drain where its time has passed.
@@ -196,7 +199,8 @@ impl<E: SpanExporter> BatchSpanProcessor<E> {
         ensures told { TakesNothing (batch_telling E.SpanExporter self.old) (batch_telling E.SpanExporter self.new) }
         ensures closed { self.new.machine.control.closed ≡ false }
     {
-        let worked = run_worker(&mut self.machine);
+        let mut uncounted = 0;
+        let worked = run_worker(&mut self.machine, &mut uncounted);
         let Some(last) = self.last_tick else {
             self.last_tick = Some(now);
             return worked;
@@ -205,7 +209,7 @@ impl<E: SpanExporter> BatchSpanProcessor<E> {
             return worked;
         }
         self.last_tick = Some(now);
-        drain_by_tick(&mut self.machine)
+        drain_by_tick(&mut self.machine, &mut uncounted)
     }
 }
 
@@ -318,6 +322,8 @@ impl<E: SpanExporter> CountsLeftSpans for BatchSpanProcessor<E> {
 
     ghost dropped_over = { λ p. p.machine.control.dropped };
 
+    ghost failed_over = { λ p. p.failed_exports };
+
     ghost tells_dropped = { λ _. refl };
 
     fn stranded(&self) -> Option<usize> {
@@ -330,6 +336,10 @@ impl<E: SpanExporter> CountsLeftSpans for BatchSpanProcessor<E> {
 
     fn dropped_count(&self) -> u64 {
         self.dropped_count()
+    }
+
+    fn failed_exports(&self) -> u64 {
+        self.failed_exports()
     }
 }
 

@@ -136,12 +136,13 @@ impl<E: SpanExporter, C: SpanProcessor> Timed for ProcessorOf<E, C> {
     }
 }
 
-/// Nothing is asked of a processor of the caller's own: it counts as one that leaves and drops none.
+/// Nothing is asked of a processor of the caller's own: it counts as one that leaves and drops none and whose exports do
+/// not fail.
 impl<E: SpanExporter, C: SpanProcessor> CountsLeftSpans for ProcessorOf<E, C> {
     ghost use Rattle.std.specs.Prelude.{None};
     ghost use Rattle.otel_batch.specs.MachineState.{stranded_in};
     ghost use Rattle.otel_processors.specs.ProcessorKinds.{closed_over_by_kind, dropped_over_by_kind};
-    ghost use Rattle.otel_processors.specs.ProcessorKinds.{leaves_told_by_kind, open_over_by_kind};
+    ghost use Rattle.otel_processors.specs.ProcessorKinds.{failed_over_by_kind, leaves_told_by_kind, open_over_by_kind};
     ghost use Rattle.otel_processors.specs.ProcessorKinds.{tells_dropped_by_kind, tells_left_by_kind};
     ghost use Rattle.otel_processors.specs.declared.trace.processor.ProcessorOf.TheVariants as kinds;
 
@@ -154,6 +155,8 @@ impl<E: SpanExporter, C: SpanProcessor> CountsLeftSpans for ProcessorOf<E, C> {
     ghost tells_left = { tells_left_by_kind E.SpanExporter C.told };
 
     ghost dropped_over = { dropped_over_by_kind };
+
+    ghost failed_over = { failed_over_by_kind };
 
     ghost tells_dropped = { tells_dropped_by_kind E.SpanExporter C.told };
 
@@ -178,6 +181,14 @@ impl<E: SpanExporter, C: SpanProcessor> CountsLeftSpans for ProcessorOf<E, C> {
         match self {
             ProcessorOf::Simple(_) => 0,
             ProcessorOf::Batch(batch) => batch.dropped_count(),
+            ProcessorOf::Custom(_) => 0,
+        }
+    }
+
+    fn failed_exports(&self) -> u64 {
+        match self {
+            ProcessorOf::Simple(simple) => simple.failed_exports(),
+            ProcessorOf::Batch(batch) => batch.failed_exports(),
             ProcessorOf::Custom(_) => 0,
         }
     }

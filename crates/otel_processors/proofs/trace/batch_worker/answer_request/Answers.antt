@@ -9,7 +9,7 @@ use Rattle.otel_processors.proofs.trace.batch_worker.answer_request.Goals as goa
 pub unreachable-requires : goal.unreachable-requires
 unreachable-requires g c =
     let waits = slot_waits-one (slot_at (counts c.args.machine.now) 0) (omega (arith, c.requires)) in
-    let worked = c.work_off_messages.ensures in
+    let worked = c.work_off_messages.ensures.0 in
     let answered = is_answered_at g.E.SpanExporter c.args.machine.now worked.outcomes c.work_off_messages.new.machine
     waits.0 c.is_sound.ensures waits.1 worked.works in
     let collected = collects (counts c.work_off_messages.new.machine) c.step.result (counts c.step.new.self) answered
@@ -18,7 +18,7 @@ unreachable-requires g c =
 
 pub returns : goal.returns
 returns g c =
-    let worked = c.work_off_messages.ensures in
+    let worked = c.work_off_messages.ensures.0 in
     let run : Run g.E.SpanExporter c.work_off_messages.new.machine (step.Collect 0 ∷ []) (c.step.result ∷ [])
     c.step.new.self = (c.step.new.self, assumption c.step.ensures, refl) in
     record {

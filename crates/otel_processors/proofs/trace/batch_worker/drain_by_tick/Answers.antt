@@ -23,18 +23,21 @@ left : (g : _) (c : goal.After-is_sound-2 g) →
     RestsAgain g.E.SpanExporter c.args.machine.now c.work_off_messages-answer.new.machine
     × (c.work_off_messages-answer.new.machine.control.closed ≡ c.args.machine.now.control.closed)
 left g c =
-    let worked = c.work_off_messages-answer.ensures in
+    let worked = c.work_off_messages-answer.ensures.0 in
     let ticked = stepped g c in
     ticked_rests g.E.SpanExporter c.args.machine.now c.step.new.self worked.outcomes
     c.work_off_messages-answer.new.machine c.requires.0 ticked.sound c.is_sound-2.ensures ticked.permitted
     ticked.moved worked.works
 
 pub returns-clause-drains : goal.returns-clause-drains
-returns-clause-drains g c = record {
-  ticked = c.step.new.self;
-  ticks = (c.step.new.self, stepped g c, refl);
-  works = c.work_off_messages-answer.ensures;
-}
+returns-clause-drains g c = (
+  record {
+    ticked = c.step.new.self;
+    ticks = (c.step.new.self, stepped g c, refl);
+    works = c.work_off_messages-answer.ensures.0;
+  },
+  c.work_off_messages-answer.ensures.1,
+)
 
 pub returns-clause-told : goal.returns-clause-told
 returns-clause-told g c =

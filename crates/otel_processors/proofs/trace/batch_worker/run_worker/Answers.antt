@@ -8,7 +8,7 @@ left : (g : _) (c : goal.After-is_sound-2 g) →
     RestsAgain g.E.SpanExporter c.args.machine.now c.work_off_messages-answer.new.machine
     × (c.work_off_messages-answer.new.machine.control.closed ≡ c.args.machine.now.control.closed)
 left g c =
-    let worked = c.work_off_messages-answer.ensures in
+    let worked = c.work_off_messages-answer.ensures.0 in
     idle_worked g.E.SpanExporter c.args.machine.now worked.outcomes c.work_off_messages-answer.new.machine
     c.is_sound.ensures c.is_sound-2.ensures c.requires.slots c.requires.hand c.requires.left worked.works
 

@@ -6,7 +6,7 @@ pub returns-in_default-clause-works : goal.returns-in_default-clause-works
 returns-in_default-clause-works g c = rw (← c.self.view_is, c.in_default.is) (record {
   worked = c.run_worker-worked.result;
   idle = _;
-  works = record { works = c.run_worker-worked.ensures.works; rest = refl };
+  works = record { works = c.run_worker-worked.ensures.works.0; rest = refl };
   tells = (refl, refl);
 })
 
@@ -17,7 +17,7 @@ returns-then-not-is_due-clause-works g c =
     rw (← c.self.view_is, c.in-Some.is) (record {
       worked = c.run_worker-worked.result;
       idle = _;
-      works = record { works = c.run_worker-worked.ensures.works; rest = refl };
+      works = record { works = c.run_worker-worked.ensures.works.0; rest = refl };
       tells = rw due (refl, refl);
     })
 
@@ -28,6 +28,6 @@ returns-clause-works g c =
     rw (← c.self.view_is, c.in-Some.is) (record {
       worked = c.run_worker-worked.result;
       idle = _;
-      works = record { works = c.run_worker-worked.ensures.works; rest = refl };
-      tells = rw due (record { drains = c.drain_by_tick.ensures.drains; rest = refl });
+      works = record { works = c.run_worker-worked.ensures.works.0; rest = refl };
+      tells = rw due (record { drains = c.drain_by_tick.ensures.drains.0; rest = refl });
     })
