@@ -15,8 +15,8 @@ use Rattle.otel_otlp_http.specs.Attempts.{Attempts}
 use Rattle.otel_otlp_http.specs.Failures.{AnswersFor, is_kept}
 
 -- where it sends and how, over which stream and whether over it; the batches that were taken until one was not, those
--- that it keeps, why the last export failed, the resource of the spans to come (none where there was no memory for the
--- last one), and whether it is shut
+-- that it keeps and for how many more it has room, why the last export failed, the resource of the spans to come (none
+-- where there was no memory for the last one), and whether it is shut
 pub record HttpExporter (S : Type 0) : Type 0 where
   pub endpoint : PlainEndpoint
   pub encoding : Encoding
@@ -24,6 +24,7 @@ pub record HttpExporter (S : Type 0) : Type 0 where
   pub is_open : Bool
   pub taken : Option (List (List PlainSpanData))
   pub unsent : List (List PlainSpanData)
+  pub room : ℕ
   pub failure : Option ExportFailure
   pub resource : Option PlainResource
   pub is_shut : Bool
@@ -37,6 +38,7 @@ new_exporter endpoint encoding stream resource = record {
   is_open = true;
   taken = Some [];
   unsent = [];
+  room = 0;
   failure = None;
   resource = Some resource;
   is_shut = false;
@@ -52,8 +54,8 @@ abbrev pub taken_after : Option ExportFailure → List PlainSpanData → Option 
 taken_after None batch taken = and_then_told taken (batch ∷ [])
 taken_after (Some failure) batch taken = None
 
--- the batches that are kept after an export: this one after the others, where it was not taken for now, or never
--- answered
+-- the batches that are kept after an export: this one after the others, where it is asked for later, or was never
+-- answered or sent whole
 abbrev pub unsent_after : Option ExportFailure → List PlainSpanData → List (List PlainSpanData)
     → List (List PlainSpanData)
 unsent_after failure batch unsent = if is_kept failure then unsent ++ batch ∷ [] else unsent
@@ -72,12 +74,14 @@ module _ {S : Type 0} (contents remaining : S → Option (List ℕ)) where
       is_open = new.is_open;
       taken = new.taken;
       unsent = new.unsent;
+      room = new.room;
       failure = new.failure;
     }
 
-  -- a batch for which there was no memory is lost, and nothing is sent
+  -- a batch for which there was neither room nor memory is lost, and nothing is sent
   pub record Loses (old : HttpExporter S) (answer : Result (Unit {0}) OTelSdkError) (new : HttpExporter S) : Type 0
     where
+      pub full : old.room ≡ 0
       pub answer_is : answer ≡ Err errors.OutOfMemory
       pub rest : new ≡ record old { taken = None; failure = Some failures.Lost }
 

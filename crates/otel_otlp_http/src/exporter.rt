@@ -20,10 +20,14 @@ use std::mem;
 use std::time::Duration;
 
 /// Sends each batch over a stream, as a post of the OpenTelemetry protocol, and reads the answer to it before it
-/// returns. A batch that was not taken for now, or that was never answered, is kept: `take_unsent` gives it back, so
-/// that its host can export it again. After a stream that failed, or an answer that does not read, or one that closes
-/// the connection, it is closed, and sends nothing until it is given another stream. It tells the batches that were
-/// taken, until one was not.
+/// returns. A batch that the other side asks for later, or that was never answered or sent whole, is kept where there
+/// is room or memory for it: `take_unsent` gives it back, so that its host can export it again. One that was refused,
+/// or taken in part, is not. After a stream that failed, or an answer that was not read whole, or one that closes the
+/// connection, it is closed, and sends nothing until it is given another stream. It tells the batches that were taken,
+/// until one was not.
+///
+/// What the other side says between two exports is read as the answer to the next one, but for a 408, which is none:
+/// where a stream has something to read before an export, `reconnect` first.
 #[derive(Drop)]
 pub struct OtlpHttpExporter<S: Read + Write> {
     alloc: Global,
@@ -42,7 +46,7 @@ pub struct OtlpHttpExporter<S: Read + Write> {
 
 impl<S: Read + Write> Model for OtlpHttpExporter<S> {
     ghost use Rattle.std.specs.Coded.{codes};
-    ghost use Rattle.std.specs.Prelude.{map};
+    ghost use Rattle.std.specs.Prelude.{◌-◌, map, vec_capacity, vec_len};
     ghost use Rattle.otel_resource.specs.ResourceCode.{resource_code};
     ghost use Rattle.otel_export.specs.Telling.{told_unless};
     ghost use Rattle.otel_otlp_http.specs.Exporter.{HttpExporter};
@@ -58,6 +62,7 @@ impl<S: Read + Write> Model for OtlpHttpExporter<S> {
       is_open = e.is_open;
       taken = told_unless e.has_failed (map (λ batch. batch.items) e.taken.items);
       unsent = map (λ batch. batch.items) e.unsent.items;
+      room = vec_capacity e.unsent - vec_len e.unsent;
       failure = e.failure;
       resource = e.resource;
       is_shut = e.is_shut;
@@ -120,11 +125,10 @@ impl<S: Read + Write + Drop> OtlpHttpExporter<S> {
         mem::replace(&mut self.stream, stream)
     }
 
-    /// The batches that were not taken for now, or never answered, in order. They are kept no longer. What is not taken
-    /// back is kept without a bound.
+    /// The batches that are kept, in order. They are kept no longer. What is not taken back is kept without a bound.
     pub fn take_unsent(&mut self) -> Vec<Vec<SpanData>>
         ensures taken { map (λ batch. batch.items) result.items ≡ self.old.unsent }
-        ensures after { self.new ≡ record self.old { unsent = [] } }
+        ensures after { self.new ≡ record self.old { unsent = []; room = 0 } }
     {
         mem::replace(&mut self.unsent, Vec::new(self.alloc))
     }
