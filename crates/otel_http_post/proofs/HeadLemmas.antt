@@ -1,43 +1,48 @@
 -- The heads that were read, one more at a time.
-use Rattle.std.proofs.Common.{◌≡◌, ℕ, ◌∙◌, true, false, ltb, List, [], ◌∷◌, ◌++◌, refl, sym}
-use Rattle.std.proofs.Common.{ap, subst}
+use Rattle.std.proofs.Common.{◌≡◌, ℕ, ◌≤◌, ◌∙◌, true, false, ltb, List, [], ◌∷◌, ◌++◌, drop, refl, sym, ap, subst}
 use Rattle.std.proofs.Common.{append_assoc, append-nil, arith}
-use Rattle.std.specs.Prelude.{IsTrue, All}
+use Rattle.std.specs.Prelude.{IsTrue, IsFalse, Option}
 use Rattle.std.proofs.lemmas.Bool.{cond-true, cond-false}
 use Rattle.std.proofs.lemmas.Bool.Decides.{nat_tests}
 use Rattle.std.proofs.lemmas.List.Elements.{All-append, All-cons, All-nil}
+use Rattle.httparse.proofs.GrammarLemmas.{ReadsResponse-append}
 use Rattle.httparse.specs.Grammar.{ResponseHead, status_code}
-use Rattle.httparse.specs.Spans.{span_bytes}
 use Rattle.httparse.specs.declared.spans.HeaderSpan.{HeaderSpan}
 use Rattle.httparse.specs.declared.spans.ResponseSpans.{ResponseSpans}
+use Rattle.http1.specs.Body.{body_of, ReadsBody}
+use Rattle.http1.specs.Client.{ClientReads, ReadsHead, ReadsFirst, ReadsAt, TakesHead as Takes, after_head}
+use Rattle.http1.specs.Client.{HasNoHead, is_interim, switches}
+use Rattle.http1.specs.Conn.{awaits_head, is_connect}
+use Rattle.http1.specs.Framing.{has_no_body}
+use Rattle.http1.specs.Message as message
 use Rattle.http1.specs.declared.client.Client.{Client}
 use Rattle.http1.specs.declared.conn.Event.{Event}
 use Rattle.http1.specs.declared.conn.Event.TheVariants.{NeedMore, Head, Informational}
+use Rattle.http1.specs.declared.conn.Limits.{Limits}
 use Rattle.http1.specs.declared.conn.Progress.{Progress}
 use Rattle.http1.specs.declared.conn.Reading.TheVariants as Reads
 use Rattle.http1.specs.declared.framing.Framing.{Framing}
+use Rattle.http1.specs.declared.framing.Framing.TheVariants.{NoBody}
 use Rattle.http1.specs.declared.framing.MethodKind.{MethodKind}
 use Rattle.http1.specs.declared.framing.MethodKind.TheVariants as Method
-use Rattle.http1.specs.Client.{ClientReads, ReadsHead, ReadsFirst, ReadsAt, after_head}
-use Rattle.http1.specs.Client.{is_interim}
-use Rattle.http1.specs.Client.{switches}
-use Rattle.http1.specs.ClientTrace.{Seen, SeenResponse, Trace, observe}
-use Rattle.http1.specs.Conn.{is_connect}
-use Rattle.http1.specs.ServerTrace.{SeenBody, headers_at, no_body}
+use Rattle.otel_http_post.specs.declared.error.AnswerError.{AnswerError}
+use Rattle.otel_http_post.specs.declared.error.AnswerError.TheVariants as errors
 use Rattle.otel_http_post.specs.declared.head.AnswerHead.{AnswerHead}
 use Rattle.otel_http_post.specs.declared.head.HeadStep.TheVariants as Step
-use Rattle.otel_http_post.specs.Following.{HasHead, HasInformed, IsWaiting, SaysHead, TakesEvent}
-use Rattle.otel_http_post.specs.Following.{TakesHead, with_head}
-use Rattle.otel_http_post.proofs.FollowLemmas.{follows_event, follows_fill, follows_seen}
+use Rattle.otel_http_post.specs.Answer.{BeginsInforming, IsInforming, max_headers}
+use Rattle.otel_http_post.specs.Following.{HasHead, HasInformed, HasNone, IsOfStream, IsWaiting, RefusesHead}
+use Rattle.otel_http_post.specs.Following.{TakesEvent, TakesHead}
+use Rattle.otel_http_post.specs.Request.{limits}
+use Rattle.otel_http_post.specs.RetryAfter.{retry_after_of}
 
 -- a client that waits looks for a head
-waiting_reads : (c new : Client) (input : List ℕ) (spans : List HeaderSpan) (read : Progress ResponseSpans)
+pub waiting_reads : (c new : Client) (input : List ℕ) (spans : List HeaderSpan) (read : Progress ResponseSpans)
     → IsWaiting c
     → ClientReads c input spans new read → ReadsHead c input spans new read.consumed read.event
 waiting_reads c new input spans read waits found =
     let at_head : ReadsAt Reads.Head c input spans new read = subst
     (λ r. ReadsAt r c input spans new read) waits.reading found in
-    subst (λ b. ReadsFirst b c input spans new read) waits.writing at_head
+    subst (λ b. ReadsFirst b c input spans new read) (ap awaits_head waits.writing) at_head
 
 -- a head that only informs leaves the client as it was
 interim_keeps : (c : Client) (h : ResponseHead) (framing : Framing) (status : ℕ) → status ≡ status_code h
@@ -48,142 +53,157 @@ interim_keeps c h framing status is interim method =
     let plain : switches c (status_code h) ≡ false = grind (arith, nat_tests) in
     cond-false _ _ _ plain ∙ cond-true _ _ _ low
 
--- the response whose head this is
-abbrev response_of : MethodKind → List ℕ → List HeaderSpan → ResponseSpans → SeenResponse
-response_of method input spans r = record {
-  method = method;
-  minor = r.version;
-  status = r.code;
-  reason = span_bytes input r.reason;
-  headers = headers_at input spans r.headers;
-  body = no_body;
-}
+-- no body follows it
+bodiless : (method : MethodKind) (status : ℕ) → method ≡ Method.Other → 100 ≤ status → IsTrue (is_interim status)
+    → has_no_body method status ≡ true
+bodiless Method.Head status is low high = refl
+bodiless Method.Connect status is low high = cc
+bodiless Method.Other status is low high = grind (arith, nat_tests)
 
--- what holds of one holds of the list of it
-All-one : {X : Type 0} (P : X → Type 0) (x : X) → P x → All P (x ∷ [])
-All-one P x h = All-cons P x [] h (All-nil P)
+-- a head that was taken is one of the grammar, whatever follows it
+pub accepted : (c new : Client) (input : List ℕ) (spans : List HeaderSpan) (len : ℕ) (r : ResponseSpans)
+    → IsWaiting c → (t : Takes c input spans new len r) → (more : List ℕ)
+    → message.AcceptsResponse limits Method.Other (input ++ more) t.head t.framing (drop len input ++ more)
+accepted c new input spans len r waits t more =
+    let at_limits = subst (λ (l : Limits). message.AcceptsResponse l c.method input t.head t.framing (drop len input))
+    waits.limits_are t.accepts in
+    let at = subst (λ (m : MethodKind). message.AcceptsResponse limits m input t.head t.framing (drop len input))
+    waits.method at_limits in
+    record {
+      reads = ReadsResponse-append input t.head _ more at.reads;
+      strict = at.strict;
+      status = at.status;
+      framed = at.framed;
+    }
+
+-- responses after others
+answers_append : (limits : Limits) (xs ys : List message.Answer) (stream middle rest : List ℕ)
+    → message.ReadsAnswers limits stream xs middle → message.ReadsAnswers limits middle ys rest
+    → message.ReadsAnswers limits stream (xs ++ ys) rest
+answers_append limits [] ys stream middle rest first second =
+    subst (λ bs. message.ReadsAnswers limits bs ys rest) (sym first) second
+answers_append limits (x ∷ xs) ys stream middle rest (after, whole, first) second =
+    (after, whole, answers_append limits xs ys after middle rest first second)
+
+-- one response more that only informs
+informs_one : (received middle rest : List ℕ) (head : ResponseHead) (framing : Framing)
+    → BeginsInforming received middle → message.AcceptsResponse limits Method.Other middle head framing rest
+    → IsTrue (is_interim (status_code head)) → BeginsInforming received rest
+informs_one received middle rest head framing h accepts interim =
+    let none = bodiless Method.Other (status_code head) refl accepts.status interim in
+    let framed = sym (cond-true _ _ _ none) ∙ accepts.framed in
+    let is : NoBody ≡ framing = cc in
+    let body = body_of [] [] in
+    let one : message.Answer = record {
+      method = Method.Other;
+      response = record { head = head; body = body };
+    } in
+    let whole : message.ReadsResponseMessage limits Method.Other middle one.response rest = record {
+      framing = framing;
+      after_head = rest;
+      head = accepts;
+      body = subst (λ f. ReadsBody limits f rest body rest) is (refl, refl, refl);
+    } in
+    record {
+      informing = h.informing ++ one ∷ [];
+      reads = answers_append limits h.informing (one ∷ []) received middle rest h.reads (rest, whole, refl);
+      informs = All-append IsInforming h.informing (one ∷ []) h.informs
+          (All-cons IsInforming one [] (refl, interim) (All-nil IsInforming));
+    }
 
 -- nothing was read
 pub informs_nothing : (c : Client) (input : List ℕ) → HasInformed c (input ++ []) c input
 informs_nothing c input = record {
-  informing = [];
-  see = λ later. later;
-  sees = λ later h i. record { body = h i; responses = later.responses };
-  informs = All-nil (λ response. IsTrue (is_interim response.status));
-  follows = λ more later rest t. subst (λ (bytes : List ℕ). Trace c (bytes ++ more) later rest) (sym
-      (append-nil input)) t;
+  informs = λ more. record {
+    informing = [];
+    reads = ap (λ (bs : List ℕ). bs ++ more) (append-nil input);
+    informs = All-nil IsInforming;
+  };
   waits = refl;
 }
 
-module _ (begun : Client) (waits : IsWaiting begun) where
-  informs_needs_more : (received : List ℕ) (client new : Client) (left after : List ℕ) (spans : List HeaderSpan)
-      → HasInformed begun received client left → TakesEvent client left spans NeedMore new after
-      → HasInformed begun received new after
-  informs_needs_more received client new left after spans h takes =
-      let found = waiting_reads begun new left spans _ waits (subst (λ c. ClientReads c left spans new
-      (record { consumed = takes.consumed; event = NeedMore })) h.waits takes.reads) in
+module _ (begun : Client) (waits : IsWaiting begun) (received : List ℕ) (client new : Client) (left after : List ℕ)
+    (h : HasInformed begun received client left) where
+  -- what a step read, of the client that waits
+  reads_at : (spans : List HeaderSpan) (event : Event ResponseSpans)
+      → (takes : TakesEvent client left spans event new after)
+      → ReadsHead begun left spans new takes.consumed event
+  reads_at spans event takes = waiting_reads begun new left spans _ waits (subst (λ c. ClientReads c left spans new
+      (record { consumed = takes.consumed; event = event })) h.waits takes.reads)
+
+  -- more bytes are needed
+  pub informs_more : TakesHead client left new after Step.More → HasInformed begun received new after
+  informs_more (spans, NeedMore, takes, says) =
+      let found = reads_at spans NeedMore takes in
+      let is : left ≡ after = sym (takes.left_is ∙ ap (λ n. drop n left) found.0) in
       record {
-        informing = h.informing;
-        see = h.see;
-        sees = h.sees;
-        informs = h.informs;
-        follows = follows_event begun client new received left after h.see spans NeedMore h.follows takes;
+        informs = λ more. subst (λ (bs : List ℕ). BeginsInforming (received ++ more) (bs ++ more)) is
+            (h.informs more);
         waits = found.1;
       }
-
-  informs_informed : (received : List ℕ) (client new : Client) (left after : List ℕ) (spans : List HeaderSpan)
-      (r : ResponseSpans)
-      → HasInformed begun received client left → TakesEvent client left spans (Informational r) new after
-      → HasInformed begun received new after
-  informs_informed received client new left after spans r h takes =
-      let found = waiting_reads begun new left spans _ waits (subst (λ c. ClientReads c left spans new
-      (record { consumed = takes.consumed; event = Informational r })) h.waits takes.reads) in
-      let one = response_of client.method left spans r in
-      record {
-        informing = h.informing ++ one ∷ [];
-        see = λ later. h.see (observe client.method left spans (Informational r) later);
-        sees = λ later none.
-            h.sees (observe client.method left spans (Informational r) later) refl
-            ∙ ap (λ (body : SeenBody). let seen : Seen = record {
-              body = no_body;
-              responses = h.informing ++ record
-                  one { body = body } ∷ later.responses;
-            } in seen) none
-            ∙ ap (λ (all : List SeenResponse). let seen : Seen = record { body = no_body; responses = all } in seen)
-            (sym (append_assoc h.informing (one ∷ []) later.responses));
-        informs = All-append (λ response. IsTrue (is_interim response.status)) h.informing (one ∷ []) h.informs
-            (All-one (λ response. IsTrue (is_interim response.status)) one found.0);
-        follows = follows_event begun client new received left after h.see spans (Informational r) h.follows takes;
-        waits = found.1.next ∙ interim_keeps begun found.1.head found.1.framing r.code found.1.covered.code found.0
-            waits.method;
-      }
-
-  informs_found : (received : List ℕ) (client new : Client) (left after : List ℕ) (spans : List HeaderSpan)
-      (r : ResponseSpans) (head : AnswerHead)
-      → HasInformed begun received client left → TakesEvent client left spans (Head r) new after
-      → SaysHead left spans (Head r) (Step.Found head) → HasHead begun received new after head
-  informs_found received client new left after spans r head h takes says =
-      let one = response_of client.method left spans r in
-      let event : Event ResponseSpans = Head r in
-      record {
-        informing = h.informing;
-        response = one;
-        informs = h.informs;
-        follows = follows_seen begun new received after (λ later. h.see
-            (observe client.method left spans event later)) (with_head h.informing one)
-            (λ later. h.sees (observe client.method left spans event later) refl)
-            (follows_event begun client new received left after h.see spans event h.follows takes);
-        method = ap (λ (c : Client). c.method) h.waits ∙ waits.method;
-        status = sym says.0;
-        retry_after = sym says.1;
-      }
-
-  -- more bytes are needed, and come
-  pub informs_more : (received : List ℕ) (client new : Client) (left after : List ℕ)
-      → HasInformed begun received client left
-      → TakesHead client left new after Step.More → HasInformed begun received new after
-  informs_more received client new left after h (
-    spans,
-    NeedMore,
-    takes,
-    says,
-  ) = informs_needs_more received client new left after spans h takes
-  informs_more received client new left after h (spans, event, takes, says) = absurd says
+  informs_more (spans, event, takes, says) = absurd says
 
   -- a head that only informs was read
-  pub informs_again : (received : List ℕ) (client new : Client) (left after : List ℕ)
-      → HasInformed begun received client left
-      → TakesHead client left new after Step.Informed → HasInformed begun received new after
-  informs_again received client new left after h (
-    spans,
-    Informational r,
-    takes,
-    says,
-  ) = informs_informed received client new left after spans r h takes
-  informs_again received client new left after h (spans, event, takes, says) = absurd says
+  pub informs_again : TakesHead client left new after Step.Informed → HasInformed begun received new after
+  informs_again (spans, Informational r, takes, says) =
+      let found = reads_at spans (Informational r) takes in
+      let t = found.1 in
+      let interim = subst (λ n. IsTrue (is_interim n)) t.covered.code found.0 in
+      record {
+        informs = λ more. informs_one (received ++ more) (left ++ more) (after ++ more) t.head t.framing
+            (h.informs more) (subst (λ (bs : List ℕ).
+            message.AcceptsResponse limits Method.Other (left ++ more) t.head t.framing (bs ++ more))
+            (sym takes.left_is) (accepted begun new left spans _ r waits t more)) interim;
+        waits = t.next ∙ interim_keeps begun t.head t.framing r.code t.covered.code found.0 waits.method;
+      }
+  informs_again (spans, event, takes, says) = absurd says
 
-  -- the head of the answer was read
-  pub informs_head : (received : List ℕ) (client new : Client) (left after : List ℕ) (head : AnswerHead)
-      → HasInformed begun received client left
-      → TakesHead client left new after (Step.Found head) → HasHead begun received new after head
-  informs_head received client new left after head h (
-    spans,
-    Head r,
-    takes,
-    says,
-  ) = informs_found received client new left after spans r head h takes says
-  informs_head received client new left after head h (spans, event, takes, says) = absurd says
+  -- the head of another response was read
+  pub informs_head : (head : AnswerHead) → TakesHead client left new after (Step.Found head)
+      → HasHead begun received new after head
+  informs_head head (spans, Head r, takes, says) =
+      let found = reads_at spans (Head r) takes in
+      let t = found.1 in
+      record {
+        start = left;
+        informs = h.informs;
+        head = t.head;
+        framing = t.framing;
+        accepts = λ more. subst (λ (bs : List ℕ).
+            message.AcceptsResponse limits Method.Other (left ++ more) t.head t.framing (bs ++ more))
+            (sym takes.left_is) (accepted begun new left spans _ r waits t more);
+        final = subst (λ n. IsFalse (is_interim n)) t.covered.code found.0;
+        status = sym t.covered.code ∙ sym says.0;
+        retry_after = ap retry_after_of (sym t.covered.fields) ∙ sym says.1;
+        moves = t.next;
+      }
+  informs_head head (spans, event, takes, says) = absurd says
+
+  -- no head is there, and none will be
+  pub informs_none : (error : AnswerError) (remaining : Option (List ℕ)) → RefusesHead client left error
+      → HasNone begun received remaining error
+  informs_none (errors.Unreadable e) remaining none = record {
+    start = left;
+    informs = subst (λ (bs : List ℕ). BeginsInforming bs left) (append-nil received)
+        (subst (λ (bs : List ℕ). BeginsInforming (received ++ []) bs) (append-nil left) (h.informs []));
+    none = subst (λ (c : Client). HasNoHead c left max_headers) h.waits none;
+  }
+  informs_none errors.RequestTimeout remaining none = none
+  informs_none errors.TooLarge remaining none = none
+  informs_none errors.Ended remaining none = absurd none
+  informs_none (errors.Stream kind) remaining none = none
+  informs_none errors.OutOfMemory remaining none = none
 
 -- more bytes came before the head
-pub informs_fill : (begun client : Client) (received left came : List ℕ) → HasInformed begun received client left
-    → HasInformed begun (received ++ came) client (left ++ came)
-informs_fill begun client received left came h = record {
-  informing = h.informing;
-  see = h.see;
-  sees = h.sees;
-  informs = h.informs;
-  follows = follows_fill begun client received left came h.see h.follows;
-  waits = h.waits;
+informs_fill : (begun client filled : Client) (received left came input : List ℕ) → filled ≡ client
+    → input ≡ left ++ came → HasInformed begun received client left
+    → HasInformed begun (received ++ came) filled input
+informs_fill begun client filled received left came input same is h = record {
+  informs = λ more. subst (λ (bs : List ℕ). BeginsInforming ((received ++ came) ++ more) (bs ++ more)) (sym is)
+      (subst (λ (bs : List ℕ). BeginsInforming bs ((left ++ came) ++ more)) (sym (append_assoc received came more))
+      (subst (λ (bs : List ℕ). BeginsInforming (received ++ (came ++ more)) bs) (sym (append_assoc left came more))
+      (h.informs (came ++ more))));
+  waits = same ∙ h.waits;
 }
 
 -- more bytes came where a head needs more
@@ -193,10 +213,16 @@ pub informs_came : (begun : Client) (waits : IsWaiting begun) (first received ca
     → input ≡ after ++ came
     → HasInformed begun (first ++ (received ++ came)) filled input
 informs_came begun waits first received came client new filled left after input h takes same more =
-    let filling = informs_fill begun new (first ++ received) after came (informs_more begun waits
-    (first ++ received) client new left after h takes) in
-    let at_input = subst (λ (bs : List ℕ). HasInformed begun ((first ++ received) ++ came) new bs)
-    (sym more) filling in
-    let at_client = subst (λ (c : Client). HasInformed begun ((first ++ received) ++ came) c input)
-    (sym same) at_input in
-    subst (λ (bs : List ℕ). HasInformed begun bs filled input) (append_assoc first received came) at_client
+    subst (λ (bs : List ℕ). HasInformed begun bs filled input) (append_assoc first received came)
+    (informs_fill begun new filled (first ++ received) after came input same more
+    (informs_more begun waits (first ++ received) client new left after h takes))
+
+-- no head was read, since no more came
+pub stream_none : (begun : Client) (received : List ℕ) (remaining : Option (List ℕ)) (error : AnswerError)
+    → IsOfStream error → HasNone begun received remaining error
+stream_none begun received remaining (errors.Unreadable e) none = absurd none
+stream_none begun received remaining errors.RequestTimeout none = none
+stream_none begun received remaining errors.TooLarge none = none
+stream_none begun received remaining errors.Ended none = absurd none
+stream_none begun received remaining (errors.Stream kind) none = none
+stream_none begun received remaining errors.OutOfMemory none = none

@@ -1,6 +1,7 @@
 pub mod AnswerLemmas
 pub mod BodyLemmas
-pub mod FollowLemmas
+pub mod EventLemmas
 pub mod HeadLemmas
 pub mod PostLemmas
+pub mod ResultLemmas
 pub mod RetryLemmas

@@ -1,30 +1,51 @@
 -- Reading an answer, a call of http1's client after the other.
-use Rattle.std.specs.Prelude.{◌≡◌, ℕ, List, [], ◌∷◌, ◌++◌, drop, IsTrue, All, false}
+use Rattle.std.specs.Prelude.{◌≡◌, ℕ, ◌<◌, ◌≤◌, Bool, true, false, List, ◌++◌, length, map, drop, Option, IsFalse}
+use Rattle.std.specs.Io.KnownBytes.{IsAtEnd}
+use Rattle.httparse.specs.Grammar.{ResponseHead, status_code}
+use Rattle.httparse.specs.Spans.{name_and_value, span_bytes}
 use Rattle.httparse.specs.declared.spans.HeaderSpan.{HeaderSpan}
 use Rattle.httparse.specs.declared.spans.ResponseSpans.{ResponseSpans}
-use Rattle.httparse.specs.Spans.{span_bytes}
+use Rattle.http1.specs.Body.{Body}
+use Rattle.http1.specs.Client.{ClientReads, HasNoHead, after_head, is_interim}
+use Rattle.http1.specs.Conn.{awaits_head}
+use Rattle.http1.specs.Decoder.{Completes, HasNoBody, with_front}
+use Rattle.http1.specs.Message as message
+use Rattle.http1.specs.ServerTrace.{headers_at}
 use Rattle.http1.specs.declared.client.Client.{Client}
 use Rattle.http1.specs.declared.conn.Event.{Event}
 use Rattle.http1.specs.declared.conn.Event.TheVariants.{NeedMore, Head, Informational, Data, End}
 use Rattle.http1.specs.declared.conn.Reading.TheVariants as Reads
+use Rattle.http1.specs.declared.conn.Writing.TheVariants as Writes
+use Rattle.http1.specs.declared.decode.Decoder.{Decoder}
+use Rattle.http1.specs.declared.decode.Decoder.TheVariants as Decoding
+use Rattle.http1.specs.declared.framing.Framing.{Framing}
 use Rattle.http1.specs.declared.framing.MethodKind.TheVariants as Method
-use Rattle.http1.specs.Client.{ClientReads, is_interim}
-use Rattle.http1.specs.ClientTrace.{Seen, SeenResponse, Trace}
-use Rattle.http1.specs.Conn.{awaits_head}
-use Rattle.http1.specs.Fields.{Header}
-use Rattle.http1.specs.ServerTrace.{headers_at, no_body}
 use Rattle.otel_http_post.specs.declared.body.BodyStep.{BodyStep}
-use Rattle.otel_http_post.specs.declared.body.BodyStep.TheVariants as Body
+use Rattle.otel_http_post.specs.declared.body.BodyStep.TheVariants as Body_step
+use Rattle.otel_http_post.specs.declared.error.AnswerError.{AnswerError}
+use Rattle.otel_http_post.specs.declared.error.AnswerError.TheVariants as errors
 use Rattle.otel_http_post.specs.declared.head.AnswerHead.{AnswerHead}
 use Rattle.otel_http_post.specs.declared.head.HeadStep.{HeadStep}
 use Rattle.otel_http_post.specs.declared.head.HeadStep.TheVariants as Step
+use Rattle.otel_http_post.specs.Answer.{BeginsInforming, BeginsNothing, max_headers}
+use Rattle.otel_http_post.specs.Request.{limits}
 use Rattle.otel_http_post.specs.RetryAfter.{retry_after_of}
 
 -- a client that has sent a request, and waits for the head of its answer
 pub record IsWaiting (client : Client) : Type 0 where
+  pub limits_are : client.limits ≡ limits
   pub reading : client.reading ≡ Reads.Head
-  pub writing : awaits_head client.writing ≡ false
+  pub writing : client.writing ≡ Writes.Done
   pub method : client.method ≡ Method.Other
+
+-- nothing more came, for no fault of what was said
+abbrev pub IsOfStream : AnswerError → Type 0
+IsOfStream (errors.Unreadable error) = ⊥
+IsOfStream errors.RequestTimeout = ⊥
+IsOfStream errors.TooLarge = ⊥
+IsOfStream errors.Ended = ⊥
+IsOfStream (errors.Stream kind) = Unit {0}
+IsOfStream errors.OutOfMemory = Unit {0}
 
 -- one call of `read`: the client and the bytes that were there, the event, the client after it and the bytes left
 pub record TakesEvent (old : Client) (input : List ℕ) (spans : List HeaderSpan) (event : Event ResponseSpans)
@@ -47,11 +68,20 @@ TakesHead old input new left step =
     (spans : List HeaderSpan) × (event : Event ResponseSpans) × TakesEvent old input spans event new left
     × SaysHead input spans event step
 
+-- why a step takes none
+abbrev pub RefusesHead : Client → List ℕ → AnswerError → Type 0
+RefusesHead client input (errors.Unreadable error) = HasNoHead client input max_headers
+RefusesHead client input errors.RequestTimeout = ⊥
+RefusesHead client input errors.TooLarge = ⊥
+RefusesHead client input errors.Ended = ⊥
+RefusesHead client input (errors.Stream kind) = Unit {0}
+RefusesHead client input errors.OutOfMemory = Unit {0}
+
 -- what a step says of an event within a body, and what it keeps
 abbrev pub SaysPiece : List ℕ → List ℕ → List ℕ → Event ResponseSpans → BodyStep → Type 0
-SaysPiece input body kept NeedMore Body.More = kept ≡ body
-SaysPiece input body kept (Data s) Body.Kept = kept ≡ body ++ span_bytes input s
-SaysPiece input body kept (End count) Body.Ended = kept ≡ body
+SaysPiece input body kept NeedMore Body_step.More = kept ≡ body
+SaysPiece input body kept (Data s) Body_step.Kept = kept ≡ body ++ span_bytes input s
+SaysPiece input body kept (End count) Body_step.Ended = kept ≡ body
 SaysPiece input body kept event step = ⊥
 
 -- what a step takes within a body
@@ -60,46 +90,94 @@ TakesPiece old input body new left kept step =
     (spans : List HeaderSpan) × (event : Event ResponseSpans) × TakesEvent old input spans event new left
     × SaysPiece input body kept event step
 
--- whatever is seen from here on, it is seen from the beginning with what was seen so far in front of it
-abbrev pub Follows : Client → List ℕ → (Seen → Seen) → Client → List ℕ → Type 0
-Follows begun received see client left =
-    (more : List ℕ) (later : Seen) (rest : List ℕ) → Trace client (left ++ more) later rest
-    → Trace begun (received ++ more) (see later) rest
+-- why a piece is not kept
+abbrev pub RefusesKeeping : ℕ → List ℕ → List ℕ → AnswerError → Type 0
+RefusesKeeping limit body piece (errors.Unreadable error) = ⊥
+RefusesKeeping limit body piece errors.RequestTimeout = ⊥
+RefusesKeeping limit body piece errors.TooLarge = limit < length (body ++ piece)
+RefusesKeeping limit body piece errors.Ended = ⊥
+RefusesKeeping limit body piece (errors.Stream kind) = ⊥
+RefusesKeeping limit body piece errors.OutOfMemory = Unit {0}
 
--- bytes of a body, in front of what is seen later
-abbrev pub with_bytes : List ℕ → Seen → Seen
-with_bytes bytes later = record later { body = record (later.body) { bytes = bytes ++ later.body.bytes } }
+-- why a step takes nothing of a body, of which some bytes were kept, whatever follows
+abbrev pub RefusesPiece : Decoder → List ℕ → List ℕ → ℕ → AnswerError → Type 0
+RefusesPiece decoder input kept limit (errors.Unreadable error) = HasNoBody decoder input max_headers
+RefusesPiece decoder input kept limit errors.RequestTimeout = ⊥
+RefusesPiece decoder input kept limit errors.TooLarge =
+    (more : List ℕ) (body : Body) (rest : List ℕ) → Completes decoder (input ++ more) body rest
+    → limit < length (kept ++ body.bytes)
+RefusesPiece decoder input kept limit errors.Ended = ⊥
+RefusesPiece decoder input kept limit (errors.Stream kind) = Unit {0}
+RefusesPiece decoder input kept limit errors.OutOfMemory = Unit {0}
 
--- responses that only inform, and a head, in front of the body and what is seen later
-abbrev pub with_head : List SeenResponse → SeenResponse → Seen → Seen
-with_head informing head later = record {
-  body = no_body;
-  responses = informing ++ record head { body = later.body } ∷ later.responses;
-}
-
--- no head but those of responses that only inform was read
+-- whatever more comes, what was received begins with responses that only inform, and then comes what is left
 pub record HasInformed (begun : Client) (received : List ℕ) (client : Client) (left : List ℕ) : Type 0 where
-  pub informing : List SeenResponse
-  pub see : Seen → Seen
-  pub sees : (later : Seen) → later.body ≡ no_body
-      → see later ≡ record { body = no_body; responses = informing ++ later.responses }
-  pub informs : All (λ response. IsTrue (is_interim response.status)) informing
-  pub follows : Follows begun received see client left
+  pub informs : (more : List ℕ) → BeginsInforming (received ++ more) (left ++ more)
   pub waits : client ≡ begun
 
--- the head of the answer was read
-pub record HasHead (begun : Client) (received : List ℕ) (client : Client) (left : List ℕ) (head : AnswerHead)
+-- the head of a response that does not only inform was read
+pub record HasHead (begun : Client) (received : List ℕ) (client : Client) (left : List ℕ) (found : AnswerHead)
     : Type 0 where
-  pub informing : List SeenResponse
-  pub response : SeenResponse
-  pub informs : All (λ response. IsTrue (is_interim response.status)) informing
-  pub follows : Follows begun received (with_head informing response) client left
-  pub method : response.method ≡ Method.Other
-  pub status : response.status ≡ head.status
-  pub retry_after : retry_after_of response.headers ≡ head.retry_after
+  pub start : List ℕ
+  pub informs : (more : List ℕ) → BeginsInforming (received ++ more) (start ++ more)
+  pub head : ResponseHead
+  pub framing : Framing
+  pub accepts : (more : List ℕ)
+      → message.AcceptsResponse limits Method.Other (start ++ more) head framing (left ++ more)
+  pub final : IsFalse (is_interim (status_code head))
+  pub status : status_code head ≡ found.status
+  pub retry_after : retry_after_of (map name_and_value head.fields) ≡ found.retry_after
+  pub moves : client ≡ after_head begun head framing
+
+-- no head was read
+abbrev pub HasNone : Client → List ℕ → Option (List ℕ) → AnswerError → Type 0
+HasNone begun received left (errors.Unreadable error) = BeginsNothing begun received
+HasNone begun received left errors.RequestTimeout = ⊥
+HasNone begun received left errors.TooLarge = ⊥
+HasNone begun received left errors.Ended = IsAtEnd left
+HasNone begun received left (errors.Stream kind) = Unit {0}
+HasNone begun received left errors.OutOfMemory = Unit {0}
+
+-- the body runs until the other side closes
+abbrev pub runs_on : Decoder → Bool
+runs_on (Decoding.Length left) = false
+runs_on (Decoding.Chunked chunks max_len) = false
+runs_on Decoding.UntilClose = true
+
+-- a client that has read the head of an answer, and waits for its body
+pub record IsInBody (client : Client) (decoder : Decoder) : Type 0 where
+  pub reading : client.reading ≡ Reads.Body decoder
+  pub writing : client.writing ≡ Writes.Done
+  pub closes : runs_on decoder ≡ true → client.keep_alive ≡ false
+
+-- whatever more comes, the body is what was kept of it, and then what is left
+pub record HasKept (begun : Client) (first : Decoder) (received : List ℕ) (client : Client) (left bytes : List ℕ)
+    : Type 0 where
+  pub decoder : Decoder
+  pub client_is : client ≡ record begun { reading = Reads.Body decoder }
+  pub back : (more : List ℕ) (body : Body) (rest : List ℕ) → Completes decoder (left ++ more) body rest
+      → Completes first (received ++ more) (with_front bytes body) rest
+  pub forth : (more : List ℕ) (whole : Body) (rest : List ℕ) → Completes first (received ++ more) whole rest
+      → (body : Body) × (whole ≡ with_front bytes body) × Completes decoder (left ++ more) body rest
+  pub runs : runs_on decoder ≡ runs_on first
 
 -- a body was read to its end
-abbrev pub HasBody : Client → List ℕ → List ℕ → List ℕ → Type 0
-HasBody begun received bytes left =
-    (trailers : List Header)
-    × Trace begun received (record { body = record { bytes = bytes; trailers = trailers }; responses = [] }) left
+pub record HasBody (begun : Client) (first : Decoder) (received : List ℕ) (remaining : Option (List ℕ)) (limit : ℕ)
+    (bytes : List ℕ) (client : Client) (left : List ℕ) : Type 0 where
+  pub body : Body
+  pub completes : Completes first received body left
+  pub bytes_are : body.bytes ≡ bytes
+  pub within : length bytes ≤ limit
+  pub at_close : runs_on first ≡ true → IsAtEnd remaining
+  pub is_idle : awaits_head client.writing ≡ begun.keep_alive
+
+-- why a body was not read to its end, whatever follows
+abbrev pub HasNoEnd : Decoder → List ℕ → Option (List ℕ) → ℕ → AnswerError → Type 0
+HasNoEnd first received left limit (errors.Unreadable error) = HasNoBody first received max_headers
+HasNoEnd first received left limit errors.RequestTimeout = ⊥
+HasNoEnd first received left limit errors.TooLarge =
+    (more : List ℕ) (body : Body) (rest : List ℕ) → Completes first (received ++ more) body rest
+    → limit < length body.bytes
+HasNoEnd first received left limit errors.Ended = IsAtEnd left
+HasNoEnd first received left limit (errors.Stream kind) = Unit {0}
+HasNoEnd first received left limit errors.OutOfMemory = Unit {0}

@@ -1,8 +1,12 @@
 //! The body of an answer.
 
-ghost use Rattle.std.specs.Prelude.{◌≡◌, ◌≢◌, ◌++◌, ℕ, List, [], Err, IfOk, OnErr, OnOk};
+ghost use Rattle.std.specs.Prelude.{◌≡◌, ◌≢◌, ◌++◌, ◌≤◌, ℕ, List, [], Err, IfErr, IfOk, MatchResult, OnOk, length};
 ghost use Rattle.std.specs.Io.KnownBytes.{Consumes, IsAtEnd};
-ghost use Rattle.otel_http_post.specs.Following.{HasBody, TakesPiece};
+ghost use Rattle.http1.specs.Client.{closed_client};
+ghost use Rattle.http1.specs.declared.conn.Reading.TheVariants as Reads;
+ghost use Rattle.http1.specs.declared.decode.Decoder.{Decoder};
+ghost use Rattle.http1.specs.declared.decode.Decoder.TheVariants.{UntilClose};
+ghost use Rattle.otel_http_post.specs.Following.{HasBody, HasNoEnd, IsInBody, RefusesKeeping, RefusesPiece, TakesPiece};
 
 use crate::error::AnswerError;
 use crate::head::MAX_HEADERS;
@@ -26,7 +30,8 @@ pub(crate) enum BodyStep {
 /// Keeps a piece, where the body stays within the limit.
 fn keep(body: &mut Vec<u8>, piece: &[u8], limit: usize) -> Result<(), AnswerError>
     ensures ok { OnOk result (body.new.items ≡ body.old.items ++ piece.now) }
-    ensures never_ended { result ≢ Err AnswerError.Ended }
+    ensures within { OnOk result (length body.old.items ≤ limit → length body.new.items ≤ limit) }
+    ensures err { IfErr result (RefusesKeeping limit body.old.items piece.now) }
 {
     if piece.len() > limit.saturating_sub(body.len()) {
         return Err(AnswerError::TooLarge);
@@ -41,6 +46,9 @@ fn keep(body: &mut Vec<u8>, piece: &[u8], limit: usize) -> Result<(), AnswerErro
 fn next_piece(inbox: &mut Inbox, body: &mut Vec<u8>, limit: usize) -> Result<BodyStep, AnswerError>
     ensures ok { IfOk result (TakesPiece inbox.old.client inbox.old.input.items body.old.items
         inbox.new.client inbox.new.input.items body.new.items) }
+    ensures within { OnOk result (length body.old.items ≤ limit → length body.new.items ≤ limit) }
+    ensures err { (decoder : Decoder) → inbox.old.client.reading ≡ Reads.Body decoder
+        → IfErr result (RefusesPiece decoder inbox.old.input.items body.old.items limit) }
     ensures never_ended { result ≢ Err AnswerError.Ended }
 {
     let mut spans = [EMPTY_HEADER_SPAN; MAX_HEADERS];
@@ -69,8 +77,10 @@ pub(crate) fn read_body<R: Read>(
     limit: usize,
 ) -> Result<Vec<u8>, AnswerError>
     ensures read { (received : List ℕ) × Consumes (R.remaining reader.old) (R.remaining reader.new) received
-        × IfOk result (λ body. HasBody inbox.old.client (inbox.old.input.items ++ received) body.items
-        inbox.new.input.items) }
+        × ((first : Decoder) → IsInBody inbox.old.client first → MatchResult result
+        (λ body. HasBody inbox.old.client first (inbox.old.input.items ++ received) (R.remaining reader.new) limit
+        body.items inbox.new.client inbox.new.input.items)
+        (HasNoEnd first (inbox.old.input.items ++ received) (R.remaining reader.new) limit)) }
     ensures end { result ≡ Err AnswerError.Ended → IsAtEnd (R.remaining reader.new) }
 {
     let mut body = Vec::new(alloc);
@@ -91,7 +101,10 @@ pub(crate) fn read_body<R: Read>(
 
 /// What the end of the stream makes of a body that has not ended.
 fn end_of_stream(inbox: &mut Inbox) -> Result<(), AnswerError>
-    ensures { OnOk result (HasBody inbox.old.client inbox.old.input.items [] inbox.new.input.items) }
+    ensures until_close { OnOk result (inbox.old.client.reading ≡ Reads.Body UntilClose) }
+    ensures nothing_left { OnOk result ((inbox.old.input.items ≡ []) × (inbox.new.input.items ≡ [])) }
+    ensures closes { OnOk result (inbox.new.client ≡ closed_client inbox.old.client) }
+    ensures err { IfErr result (λ error. error ≡ AnswerError.Ended) }
 {
     if !inbox.input.is_empty() {
         return Err(AnswerError::Ended);

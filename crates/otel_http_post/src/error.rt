@@ -32,14 +32,20 @@ impl From<WriteError> for PostError {
     }
 }
 
-/// Why there is no answer. More of it may be in the stream, which is of no use from then on.
+/// Why there is no answer, or why the body of one was left unread. More of it may be in the stream, which is of no use
+/// from then on.
 #[derive(Clone, Copy, Debug, PartialEq, Eq, Error)]
 pub enum AnswerError {
-    /// What came is no response to the request.
+    /// No response to the request begins as what came does, with at most 64 headers and 64 trailers, or it switches
+    /// protocols.
     #[error("the answer does not read: {0}")]
     Unreadable(ReadError),
+    /// The other side says that it waited no longer for a request (RFC 9110, section 15.5.9). Who has sent one whole
+    /// was not heard: this was said of the time before it, or of another.
+    #[error("the other side waited no longer for the request")]
+    RequestTimeout,
     /// The body has more bytes than the limit.
-    #[error("the answer is larger than the limit")]
+    #[error("the body of the answer is larger than the limit")]
     TooLarge,
     /// The stream ended before the answer did.
     #[error("the stream ended before the answer did")]

@@ -1,8 +1,8 @@
 //! The head of an answer, after those that only inform.
 
-ghost use Rattle.std.specs.Prelude.{◌≡◌, ◌≢◌, ◌++◌, ℕ, List, Err, IfOk};
+ghost use Rattle.std.specs.Prelude.{◌≡◌, ◌≢◌, ◌++◌, ℕ, List, Err, IfErr, IfOk, MatchResult};
 ghost use Rattle.std.specs.Io.KnownBytes.{Consumes, IsAtEnd};
-ghost use Rattle.otel_http_post.specs.Following.{HasHead, IsWaiting, TakesHead};
+ghost use Rattle.otel_http_post.specs.Following.{HasHead, HasNone, IsWaiting, RefusesHead, TakesHead};
 
 use crate::error::AnswerError;
 use crate::inbox::Inbox;
@@ -36,6 +36,8 @@ pub(crate) enum HeadStep {
 fn next_head(inbox: &mut Inbox) -> Result<HeadStep, AnswerError>
     ensures ok { IfOk result
         (TakesHead inbox.old.client inbox.old.input.items inbox.new.client inbox.new.input.items) }
+    ensures err { IsWaiting inbox.old.client
+        → IfErr result (RefusesHead inbox.old.client inbox.old.input.items) }
     ensures never_ended { result ≢ Err AnswerError.Ended }
 {
     let mut spans = [EMPTY_HEADER_SPAN; MAX_HEADERS];
@@ -62,8 +64,9 @@ pub(crate) fn read_head<R: Read>(
     reader: &mut R,
 ) -> Result<AnswerHead, AnswerError>
     ensures read { (received : List ℕ) × Consumes (R.remaining reader.old) (R.remaining reader.new) received
-        × (IsWaiting inbox.old.client → IfOk result (HasHead inbox.old.client (inbox.old.input.items ++ received)
-        inbox.new.client inbox.new.input.items)) }
+        × (IsWaiting inbox.old.client → MatchResult result
+        (HasHead inbox.old.client (inbox.old.input.items ++ received) inbox.new.client inbox.new.input.items)
+        (HasNone inbox.old.client (inbox.old.input.items ++ received) (R.remaining reader.new))) }
     ensures end { result ≡ Err AnswerError.Ended → IsAtEnd (R.remaining reader.new) }
 {
     'heads: for _ in 0..u64::MAX {

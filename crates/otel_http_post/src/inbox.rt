@@ -1,7 +1,9 @@
 //! What came from the other side and was not read yet.
 
-ghost use Rattle.std.specs.Prelude.{◌≡◌, ◌≢◌, ℕ, ◌++◌, List, length, Err, IfOk, Ok, OnErr};
+ghost use Rattle.std.specs.Prelude.{◌≡◌, ℕ, ◌==◌, ◌&&◌, ◌++◌, List, length, IfErr, IfOk, Ok, OnErr};
 ghost use Rattle.std.specs.Io.KnownBytes.{Consumes, IsAtEnd, Keeps};
+ghost use Rattle.http1.specs.Conn.{awaits_head};
+ghost use Rattle.otel_http_post.specs.Following.{IsOfStream};
 
 use crate::error::AnswerError;
 use bytes::BytesMut;
@@ -28,7 +30,7 @@ impl Inbox {
         ensures client { self.new.client ≡ self.old.client }
         ensures end { result ≡ Ok 0 → IsAtEnd (R.remaining reader.new) }
         ensures err { OnErr result (Keeps (R.remaining reader.old) (R.remaining reader.new)) }
-        ensures never_ended { result ≢ Err AnswerError.Ended }
+        ensures failed { IfErr result IsOfStream }
     {
         if self.input.reserve(READ_SIZE).is_err() {
             return Err(AnswerError::OutOfMemory);
@@ -44,5 +46,12 @@ impl Inbox {
             }
         }
         Err(AnswerError::Stream(ErrorKind::TimedOut))
+    }
+
+    /// Whether another request can be sent, and nothing came that was not read.
+    pub(crate) fn is_idle(&self) -> bool
+        ensures { result ≡ (awaits_head self.now.client.writing && (length self.now.input.items == 0)) }
+    {
+        self.client.is_idle() && self.input.is_empty()
     }
 }

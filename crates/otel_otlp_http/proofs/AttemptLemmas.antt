@@ -1,6 +1,9 @@
 -- What an answer says is none of the failures to get an answer.
 use Rattle.std.proofs.Common.{◌≡◌, ℕ, ◌==◌, ◌∙◌, Bool, true, false, cond, List, Option, Some, None, refl, ap, inl, inr}
+use Rattle.std.specs.Prelude.{Result, Ok, Err, ◌^◌, nat_lt}
 use Rattle.std.specs.Bool.{MatchBool}
+use Rattle.http1.specs.declared.client.Client.{Client}
+use Rattle.otel_http_post.specs.declared.error.AnswerError.{AnswerError}
 use Rattle.otel_otlp_http.specs.declared.encoding.Encoding.{Encoding}
 use Rattle.otel_otlp_http.specs.declared.failure.ExportFailure.{ExportFailure}
 use Rattle.otel_otlp_http.specs.declared.failure.ExportFailure.TheVariants as failures
@@ -18,22 +21,26 @@ unless_answered : (status : ℕ) (retry_after : Option ℕ) (again : Bool)
 unless_answered status retry_after true = refl
 unless_answered status retry_after false = refl
 
-count_answered : (spans : ℕ) (none : Bool)
-    → is_answered (cond none None (Some (failures.PartlyRejected spans))) ≡ true
-count_answered spans true = refl
-count_answered spans false = refl
+count_answered : (status spans : ℕ) (is_count none : Bool)
+    → is_answered (cond is_count (cond none None (Some (failures.PartlyRejected spans)))
+    (Some (failures.UnreadableSuccess status))) ≡ true
+count_answered status spans true true = refl
+count_answered status spans true false = refl
+count_answered status spans false none = refl
 
 rejected_answered : (status : ℕ) (count : Option ℕ) → is_answered (by_rejected status count) ≡ true
 rejected_answered status None = refl
-rejected_answered status (Some spans) = count_answered spans (spans == 0)
+rejected_answered status (Some spans) = count_answered status spans (nat_lt spans (2 ^ 63)) (spans == 0)
 
-success_answered : (encoding : Encoding) (status : ℕ) (body : List ℕ) (failure : Option ExportFailure)
+success_answered : (encoding : Encoding) (status : ℕ) (body : Result (List ℕ) AnswerError)
+    (failure : Option ExportFailure)
     → JudgesSuccess encoding status body failure → is_answered failure ≡ true
-success_answered encoding status body failure (inl (count, says, is)) =
+success_answered encoding status (Ok body) failure (inl (count, says, is)) =
     ap is_answered is ∙ rejected_answered status count
-success_answered encoding status body failure (inr is) = ap is_answered is
+success_answered encoding status (Ok body) failure (inr (is, needs)) = ap is_answered is
+success_answered encoding status (Err error) failure is = ap is_answered is
 
-by_status : (encoding : Encoding) (status : ℕ) (retry_after : Option ℕ) (body : List ℕ)
+by_status : (encoding : Encoding) (status : ℕ) (retry_after : Option ℕ) (body : Result (List ℕ) AnswerError)
     (failure : Option ExportFailure) (success : Bool)
     → MatchBool success (JudgesSuccess encoding status body failure)
     (failure ≡ Some (unless_success status retry_after))
@@ -43,11 +50,11 @@ by_status encoding status retry_after body failure true judges =
 by_status encoding status retry_after body failure false is =
     ap is_answered is ∙ unless_answered status retry_after (is_retryable status)
 
-module _ {S : Type 0} (contents remaining : S → Option (List ℕ)) (encoding : Encoding) (text : List ℕ) (old new : S)
-    (is_open : Bool) where
+module _ {S : Type 0} (contents remaining : S → Option (List ℕ)) (encoding : Encoding) (client : Client)
+    (text : List ℕ) (old new : S) (is_open : Bool) where
   by_failure : (failure : Option ExportFailure) → is_answered failure ≡ true
-      → IsAnswered contents remaining encoding text old failure new is_open
-      → Exchanges contents remaining encoding text old failure new is_open
+      → IsAnswered contents remaining encoding client text old failure new is_open
+      → Exchanges contents remaining encoding client text old failure new is_open
   by_failure None answered h = h
   by_failure (Some (failures.Retryable status retry_after)) answered h = h
   by_failure (Some (failures.Refused status)) answered h = h
@@ -63,8 +70,8 @@ module _ {S : Type 0} (contents remaining : S → Option (List ℕ)) (encoding :
 
   -- an answer that was read is an exchange
   pub answered_exchange : (failure : Option ExportFailure)
-      → IsAnswered contents remaining encoding text old failure new is_open
-      → Exchanges contents remaining encoding text old failure new is_open
+      → IsAnswered contents remaining encoding client text old failure new is_open
+      → Exchanges contents remaining encoding client text old failure new is_open
   answered_exchange failure h =
       by_failure failure
       (by_status encoding h.status h.retry_after h.body failure (is_success h.status) h.judges) h

@@ -1,5 +1,6 @@
 -- The request of a batch (OTLP 1.7, "OTLP/HTTP").
 use Rattle.std.specs.Prelude.{ℕ, List, codes, length}
+use Rattle.http1.specs.declared.client.Client.{Client}
 use Rattle.otel_resource.specs.Resource.{PlainResource}
 use Rattle.otel_export.specs.PlainSpanData.{PlainSpanData}
 use Rattle.otel_otlp.specs.Otlp.{otlp_text}
@@ -7,7 +8,7 @@ use Rattle.otel_otlp_protobuf.specs.NamedRequest.{request_bytes}
 use Rattle.otel_http_post.specs.Endpoint.{PlainEndpoint}
 use Rattle.otel_http_post.specs.declared.error.PostError.{PostError}
 use Rattle.otel_http_post.specs.Refusal.{RefusesPost}
-use Rattle.otel_http_post.specs.Request.{post_text}
+use Rattle.otel_http_post.specs.Request.{asked_client, post_headers, post_text}
 use Rattle.otel_otlp_http.specs.declared.encoding.Encoding.{Encoding}
 use Rattle.otel_otlp_http.specs.declared.encoding.Encoding.TheVariants as encodings
 
@@ -24,6 +25,11 @@ body_bytes encodings.Json resource batch = otlp_text resource batch
 abbrev pub batch_request : PlainEndpoint → Encoding → PlainResource → List PlainSpanData → List ℕ
 batch_request endpoint encoding resource batch =
     post_text endpoint (content_type encoding) (body_bytes encoding resource batch)
+
+-- the client that has sent it
+abbrev pub batch_client : PlainEndpoint → Encoding → PlainResource → List PlainSpanData → Client
+batch_client endpoint encoding resource batch =
+    asked_client (post_headers endpoint (content_type encoding)) (length (body_bytes encoding resource batch))
 
 -- why there is no request of a batch: the endpoint makes none with such a body, or there was no memory
 abbrev pub Unmakes : PlainEndpoint → Encoding → PlainResource → List PlainSpanData → PostError → Type 0

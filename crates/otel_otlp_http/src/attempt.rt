@@ -15,7 +15,7 @@ use otel_resource::resource::Resource;
 use std::alloc::Global;
 use std::io::{Read, Write};
 
-/// How many bytes the body of an answer may have.
+/// How many bytes of the body of an answer are read, at most.
 pub(crate) const MAX_ANSWER: usize = 65536;
 
 /// Sends a request whole, reads its answer, and says what that says of the batch.
@@ -26,7 +26,7 @@ fn exchange<S: Read + Write>(
     stream: &mut S,
     is_open: &mut bool,
 ) -> Option<ExportFailure>
-    ensures { HasAsked post.client → Exchanges S.contents S.remaining encoding post.text.items
+    ensures { HasAsked post.client → Exchanges S.contents S.remaining encoding post.client post.text.items
         stream.old result stream.new is_open.new }
 {
     *is_open = false;

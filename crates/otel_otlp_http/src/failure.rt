@@ -33,19 +33,21 @@ pub enum ExportFailure {
         /// How many spans it did not take.
         spans: u64,
     },
-    /// The answer is a success, but its body is none of a success: whether spans were rejected is not known.
+    /// The answer is a success, but its body is no response of the protocol, or counts a negative number of spans.
+    /// Whether spans were rejected is not known.
     #[error("the answer of status {status} has a body that does not read")]
     UnreadableSuccess {
         /// From 200 to 299.
         status: u16,
     },
-    /// The answer is a success, and there was no memory to read its body.
-    #[error("no memory to read the answer of status {status}")]
+    /// The answer is a success whose body was not read: it is too long, was cut or does not read by its framing, the
+    /// stream failed, or there was no memory. Whether spans were rejected is not known.
+    #[error("the answer of status {status} has a body that was not read")]
     UnreadSuccess {
         /// From 200 to 299.
         status: u16,
     },
-    /// No answer was read to the request. The batch is kept, and the exporter is closed.
+    /// No head of an answer was read to the request. The batch is kept, and the exporter is closed.
     #[error(transparent)]
     Unanswered(AnswerError),
     /// The request could not be sent whole. The batch is kept, and the exporter is closed.

@@ -1,8 +1,7 @@
 //! The request of a batch.
 
 ghost use Rattle.std.specs.Prelude.{◌≡◌, IfErr, IfOk, OnOk};
-ghost use Rattle.otel_http_post.specs.Request.{HasAsked};
-ghost use Rattle.otel_otlp_http.specs.Requests.{Unmakes, batch_request, body_bytes};
+ghost use Rattle.otel_otlp_http.specs.Requests.{Unmakes, batch_client, batch_request, body_bytes};
 
 use crate::encoding::Encoding;
 use otel_export::trace::SpanData;
@@ -54,7 +53,8 @@ pub(crate) fn make_request(
 ) -> Result<Post, PostError>
     ensures text { IfOk result (λ post.
         post.text.items ≡ batch_request endpoint.now encoding resource.now batch.now) }
-    ensures asked { IfOk result (λ post. HasAsked post.client) }
+    ensures client { IfOk result (λ post.
+        post.client ≡ batch_client endpoint.now encoding resource.now batch.now) }
     ensures err { IfErr result (Unmakes endpoint.now encoding resource.now batch.now) }
 {
     let Ok(body) = make_body(alloc, encoding, resource, batch) else {

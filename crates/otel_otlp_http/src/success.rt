@@ -1,8 +1,8 @@
 //! What a success says of the spans: how many were rejected (OTLP 1.7, "Partial Success").
 
-ghost use Rattle.std.specs.Prelude.{◌≡◌, IfOk, Some};
+ghost use Rattle.std.specs.Prelude.{◌≡◌, IfOk, OnErr, Some};
 ghost use Rattle.json.specs.Value.{value_view};
-ghost use Rattle.otel_otlp_http.specs.Success.{Rejects, SaysJson, count_of, rejected_in_json};
+ghost use Rattle.otel_otlp_http.specs.Success.{NeedsMemory, Rejects, SaysJson, count_of, rejected_in_json, rejected_of};
 
 use crate::encoding::Encoding;
 use crate::protobuf::rejected_in_protobuf;
@@ -21,16 +21,30 @@ fn count(value: &Value<'_>) -> Option<u64>
     }
 }
 
-/// How many spans an answer in JSON says were rejected.
+/// How many spans a partial success in JSON says were rejected, where it is one.
+fn rejected_by_partial(partial: &Value<'_>) -> Option<u64>
+    ensures { result ≡ rejected_of (Some (value_view partial.now)) }
+{
+    match partial {
+        Value::Null => Some(0),
+        Value::Object(_) => match partial.get("rejectedSpans") {
+            Some(spans) => count(spans),
+            None => Some(0),
+        },
+        _ => None,
+    }
+}
+
+/// How many spans an answer in JSON says were rejected, where it is a response.
 fn rejected_by(response: &Value<'_>) -> Option<u64>
     ensures { result ≡ rejected_in_json (value_view response.now) }
 {
-    let Some(partial) = response.get("partialSuccess") else {
-        return Some(0);
-    };
-    match partial.get("rejectedSpans") {
-        Some(spans) => count(spans),
-        None => Some(0),
+    match response {
+        Value::Object(_) => match response.get("partialSuccess") {
+            Some(partial) => rejected_by_partial(partial),
+            None => Some(0),
+        },
+        _ => None,
     }
 }
 
@@ -52,7 +66,8 @@ pub(crate) fn rejected_spans(
     encoding: Encoding,
     body: &[u8],
 ) -> Result<Option<u64>, AllocError>
-    ensures { IfOk result (Rejects encoding body.now) }
+    ensures ok { IfOk result (Rejects encoding body.now) }
+    ensures err { OnErr result (NeedsMemory encoding body.now) }
 {
     if body.is_empty() {
         return Ok(Some(0));

@@ -1,7 +1,8 @@
 //! What an answer says of the batch that was sent.
 
 ghost use Rattle.std.specs.Prelude.{◌≡◌};
-ghost use Rattle.otel_otlp_http.specs.Verdicts.{Judges, is_retryable, is_success, unless_success};
+ghost use Rattle.std.specs.Result.{result_map_both};
+ghost use Rattle.otel_otlp_http.specs.Verdicts.{Judges, by_rejected, is_retryable, is_success, unless_success};
 
 use crate::encoding::Encoding;
 use crate::failure::ExportFailure;
@@ -37,18 +38,31 @@ fn without_success(status: u16, retry_after: Option<u64>) -> ExportFailure
     }
 }
 
+/// What a success says whose body says that so many spans were rejected, or does not read.
+fn by_rejected(status: u16, count: Option<u64>) -> Option<ExportFailure>
+    ensures { result ≡ by_rejected status count }
+{
+    match count {
+        Some(0) => None,
+        Some(spans) if spans < 1 << 63 => Some(ExportFailure::PartlyRejected { spans }),
+        _ => Some(ExportFailure::UnreadableSuccess { status }),
+    }
+}
+
 /// What an answer says: nothing where the batch was taken whole.
 pub(crate) fn judge(alloc: Global, encoding: Encoding, answer: &Answer) -> Option<ExportFailure>
-    ensures { Judges encoding answer.now.status answer.now.retry_after answer.now.body.items result }
+    ensures { Judges encoding answer.now.status answer.now.retry_after
+        (result_map_both (λ body. body.items) (λ error. error) answer.now.body) result }
 {
     let status = answer.status;
     if !is_success(status) {
         return Some(without_success(status, answer.retry_after));
     }
-    match rejected_spans(alloc, encoding, &answer.body) {
-        Ok(Some(0)) => None,
-        Ok(Some(spans)) => Some(ExportFailure::PartlyRejected { spans }),
-        Ok(None) => Some(ExportFailure::UnreadableSuccess { status }),
+    let Ok(body) = &answer.body else {
+        return Some(ExportFailure::UnreadSuccess { status });
+    };
+    match rejected_spans(alloc, encoding, body) {
+        Ok(count) => by_rejected(status, count),
         Err(_) => Some(ExportFailure::UnreadSuccess { status }),
     }
 }

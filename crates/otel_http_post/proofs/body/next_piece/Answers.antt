@@ -2,7 +2,7 @@
 use Rattle.std.proofs.Common.{◌++◌, ◌∙◌, ℕ, List, ap, refl, slice_range, subst}
 use Rattle.http1.specs.declared.conn.Event.TheVariants.{NeedMore, Data, End}
 use Rattle.http1.specs.Client.{ClientReads}
-use Rattle.otel_http_post.proofs.FollowLemmas.{takes_as}
+use Rattle.otel_http_post.proofs.EventLemmas.{takes_as}
 use Rattle.otel_http_post.proofs.body.next_piece.Goals.{in-NeedMore, in-Data+in_ok-keep-in-Data, in-End}
 use Rattle.otel_http_post.proofs.body.next_piece.Goals as goal
 

@@ -1,73 +1,154 @@
 -- One piece more, or more bytes.
-use Rattle.std.proofs.Common.{rules, ◌++◌, subst}
-use Rattle.std.proofs.KnownBytes.{Consumes-trans}
-use Rattle.otel_http_post.specs.Following.{TakesPiece}
-use Rattle.otel_http_post.proofs.BodyLemmas.{pieces_came, pieces_ended, pieces_kept, pieces_then_end}
+use Rattle.std.proofs.Common.{[], ◌++◌, ap, subst, Ok, arith}
+use Rattle.std.proofs.KnownBytes.{Consumes-kept, Consumes-nil, Consumes-trans}
+use Rattle.otel_http_post.specs.Following.{HasBody, HasNoEnd, TakesPiece}
+use Rattle.otel_http_post.proofs.BodyLemmas.{cut_ends, kept_came, kept_closed, kept_ended, kept_nothing, kept_piece}
+use Rattle.otel_http_post.proofs.BodyLemmas.{kept_refused, stream_ends}
+use Rattle.otel_http_post.proofs.ResultLemmas.{match_error}
 use Rattle.otel_http_post.proofs.body.read_body.Goals.{in-Kept, in-More+in_ok-fill-in-More+else-branch-eq0}
 use Rattle.otel_http_post.proofs.body.read_body.Goals as goal
 
+pub pieces-init : goal.pieces-init
+pieces-init g c =
+    let none = c.new-body.ensures.items in (
+      (
+        [],
+        Consumes-nil _,
+        λ first begins. kept_nothing c.args.inbox.now.client first c.args.inbox.now.input.items
+            c.new-body.result.items none begins,
+      ),
+      omega arith,
+    )
+
 pub returns-in-Ended-clause-read : goal.returns-in-Ended-clause-read
 returns-in-Ended-clause-read g c =
-    let read = c.pieces.invariant in
+    let read = c.pieces.invariant.0 in
+    let begun = c.args.inbox.now.client in
+    let old = c.pieces.inbox in
     let new = c.next_piece.new.inbox in
     let kept = c.next_piece.new.body.items in
-    let takes = subst (TakesPiece c.pieces.inbox.client c.pieces.inbox.input.items c.pieces.body.items new.client
-    new.input.items kept) c.in-Ended.is c.in_ok-next_piece.ensures.ok in (
+    let takes = subst (TakesPiece old.client old.input.items c.pieces.body.items new.client new.input.items kept)
+    c.in-Ended.is c.in_ok-next_piece.ensures.ok in (
       read.0,
       read.1,
-      pieces_ended c.args.inbox.now.client c.pieces.inbox.client new.client _
-          c.pieces.inbox.input.items new.input.items c.pieces.body.items kept read.2 takes,
+      λ first begins. kept_ended begun first begins (c.args.inbox.now.input.items ++ read.0)
+          (g.R.Read.remaining c.pieces.reader) c.args.limit old.client new.client old.input.items new.input.items
+          c.pieces.body.items kept (read.2 first begins) takes
+          (c.in_ok-next_piece.ensures.within c.pieces.invariant.1),
     )
 
 pub returns-then-branch-eq0-clause-read : goal.returns-then-branch-eq0-clause-read
 returns-then-branch-eq0-clause-read g c =
-    let read = c.pieces.invariant in
+    let read = c.pieces.invariant.0 in
     let begun = c.args.inbox.now.client in
+    let old = c.pieces.inbox in
     let new = c.next_piece.new.inbox in
+    let filled = c.fill.new.self in
     let kept = c.next_piece.new.body.items in
-    let takes = subst (TakesPiece c.pieces.inbox.client c.pieces.inbox.input.items c.pieces.body.items new.client
-    new.input.items kept) c.in-More.is c.in_ok-next_piece.ensures.ok in
+    let takes = subst (TakesPiece old.client old.input.items c.pieces.body.items new.client new.input.items kept)
+    c.in-More.is c.in_ok-next_piece.ensures.ok in
     let came = c.in_ok-fill-in-More.ensures.ok in
-    let all = pieces_came begun c.args.inbox.now.input.items read.0 came.0 c.pieces.inbox.client new.client _
-    c.pieces.inbox.input.items new.input.items _ c.pieces.body.items kept read.2 takes c.fill.ensures.client
-    came.2 in (
+    let end = c.in_ok-end_of_stream-in-More.ensures in (
       read.0 ++ came.0,
       Consumes-trans _ _ _ read.0 came.0 read.1 came.3,
-      pieces_then_end begun c.fill.new.self.client _ c.fill.new.self.input.items _ kept all
-          c.in_ok-end_of_stream-in-More.ensures,
+      λ first begins. kept_closed begun first begins (c.args.inbox.now.input.items ++ (read.0 ++ came.0))
+          (g.R.Read.remaining c.fill.new.reader) c.args.limit filled.client c.end_of_stream.new.inbox.client
+          filled.input.items c.end_of_stream.new.inbox.input.items kept
+          (kept_came begun first c.args.inbox.now.input.items read.0 came.0 old.client new.client filled.client
+          old.input.items new.input.items filled.input.items c.pieces.body.items kept (read.2 first begins) takes
+          c.fill.ensures.client came.2) end.until_close end.nothing_left.0 end.nothing_left.1 end.closes
+          (c.in_ok-fill-in-More.ensures.end (ap Ok c.if-branch-eq0.true))
+          (c.in_ok-next_piece.ensures.within c.pieces.invariant.1),
     )
 
 pub pieces-preserved : goal.pieces-preserved
 pieces-preserved g c =
-    let read = c.pieces.invariant in
+    let read = c.pieces.invariant.0 in
     let begun = c.args.inbox.now.client in
+    let before = c.args.inbox.now.input.items in
+    let old = c.pieces.inbox in
     let new = c.next_piece.new.inbox in
     let kept = c.next_piece.new.body.items in
-    let step = TakesPiece c.pieces.inbox.client c.pieces.inbox.input.items c.pieces.body.items new.client
-    new.input.items kept in
+    let step = TakesPiece old.client old.input.items c.pieces.body.items new.client new.input.items kept in
+    let within = c.in_ok-next_piece.ensures.within c.pieces.invariant.1 in
     elim c.match-branch-2.branch [
       | in-Kept w ↦
           let takes = subst step w.in-Kept.is c.in_ok-next_piece.ensures.ok in
           rw (w.inbox-is, w.reader-is) (
-            read.0,
-            read.1,
-            pieces_kept begun c.pieces.inbox.client new.client _ c.pieces.inbox.input.items new.input.items
-                c.pieces.body.items kept read.2 takes,
+            (
+              read.0,
+              read.1,
+              λ first begins. kept_piece begun first (before ++ read.0) old.client new.client old.input.items
+                  new.input.items c.pieces.body.items kept (read.2 first begins) takes,
+            ),
+            within,
           )
       | in-More+in_ok-fill-in-More+else-branch-eq0 w ↦
           let takes = subst step w.in-More.is c.in_ok-next_piece.ensures.ok in
           let came = w.in_ok-fill-in-More.ensures.ok in
           rw (w.inbox-is, w.reader-is) (
-            read.0 ++ came.0,
-            Consumes-trans _ _ _ read.0 came.0 read.1 came.3,
-            pieces_came begun c.args.inbox.now.input.items read.0 came.0 c.pieces.inbox.client new.client _
-                c.pieces.inbox.input.items new.input.items _ c.pieces.body.items kept read.2 takes
-                w.fill.ensures.client came.2,
+            (
+              read.0 ++ came.0,
+              Consumes-trans _ _ _ read.0 came.0 read.1 came.3,
+              λ first begins. kept_came begun first before read.0 came.0 old.client new.client
+                  w.fill.new.self.client old.input.items new.input.items w.fill.new.self.input.items
+                  c.pieces.body.items kept (read.2 first begins) takes w.fill.ensures.client came.2,
+            ),
+            within,
           )
     ]
 
+pub returns-in_err-next_piece-clause-read : goal.returns-in_err-next_piece-clause-read
+returns-in_err-next_piece-clause-read g c =
+    let read = c.pieces.invariant.0 in
+    let begun = c.args.inbox.now.client in
+    let stream = c.args.inbox.now.input.items ++ read.0 in
+    let left = g.R.Read.remaining c.pieces.reader in
+    let limit = c.args.limit in
+    let old = c.pieces.inbox in
+    let new = c.next_piece.new.inbox in
+    let why = c.in_err-next_piece.field-0.0 in (
+      read.0,
+      read.1,
+      λ first begins. match_error c.from_residual.result why
+          (λ body. HasBody begun first stream left limit body.items new.client new.input.items)
+          (HasNoEnd first stream left limit) c.from_residual.ensures.1 (kept_refused begun first begins stream left
+          limit old.client old.input.items c.pieces.body.items why (read.2 first begins)
+          c.in_err-next_piece.ensures.err),
+    )
+
+pub returns-in_err-fill-in-More-clause-read : goal.returns-in_err-fill-in-More-clause-read
+returns-in_err-fill-in-More-clause-read g c =
+    let read = c.pieces.invariant.0 in
+    let begun = c.args.inbox.now.client in
+    let stream = c.args.inbox.now.input.items ++ read.0 in
+    let left = g.R.Read.remaining c.fill.new.reader in
+    let limit = c.args.limit in
+    let new = c.fill.new.self in
+    let why = c.in_err-fill-in-More.field-0.0 in (
+      read.0,
+      Consumes-kept _ _ _ read.0 read.1 c.in_err-fill-in-More.ensures.err,
+      λ first begins. match_error c.from_residual-in_err-fill-in-More.result why
+          (λ body. HasBody begun first stream left limit body.items new.client new.input.items)
+          (HasNoEnd first stream left limit) c.from_residual-in_err-fill-in-More.ensures.1
+          (stream_ends begun first begins stream left limit why c.in_err-fill-in-More.ensures.failed),
+    )
+
 pub returns-in_err-end_of_stream-in-More-clause-read : goal.returns-in_err-end_of_stream-in-More-clause-read
 returns-in_err-end_of_stream-in-More-clause-read g c =
-    let read = c.pieces.invariant in
+    let read = c.pieces.invariant.0 in
     let came = c.in_ok-fill-in-More.ensures.ok in
-    (read.0 ++ came.0, Consumes-trans _ _ _ read.0 came.0 read.1 came.3, search rules)
+    let begun = c.args.inbox.now.client in
+    let stream = c.args.inbox.now.input.items ++ (read.0 ++ came.0) in
+    let left = g.R.Read.remaining c.fill.new.reader in
+    let limit = c.args.limit in
+    let new = c.end_of_stream.new.inbox in
+    let why = c.in_err-end_of_stream-in-More.field-0.0 in (
+      read.0 ++ came.0,
+      Consumes-trans _ _ _ read.0 came.0 read.1 came.3,
+      λ first begins. match_error c.from_residual-in_err-end_of_stream-in-More.result why
+          (λ body. HasBody begun first stream left limit body.items new.client new.input.items)
+          (HasNoEnd first stream left limit) c.from_residual-in_err-end_of_stream-in-More.ensures.1
+          (cut_ends first stream left limit why c.in_err-end_of_stream-in-More.ensures.err
+          (c.in_ok-fill-in-More.ensures.end (ap Ok c.if-branch-eq0.true))),
+    )

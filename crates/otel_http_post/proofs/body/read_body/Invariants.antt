@@ -1,11 +1,14 @@
 -- The body so far.
-use Rattle.std.proofs.Common.{ℕ, List, ◌++◌}
+use Rattle.std.proofs.Common.{ℕ, ◌≤◌, List, length, ◌++◌}
 use Rattle.std.specs.Io.KnownBytes.{Consumes}
-use Rattle.otel_http_post.specs.Following.{Follows, with_bytes}
+use Rattle.http1.specs.declared.decode.Decoder.{Decoder}
+use Rattle.otel_http_post.specs.Following.{HasKept, IsInBody}
 use Rattle.otel_http_post.proofs.body.read_body.Given as goal
 
 abbrev pub invariant-pieces : goal.invariant-pieces
 invariant-pieces g l =
-    (received : List ℕ) × Consumes (g.R.Read.remaining l.fn.reader) (g.R.Read.remaining l.reader) received
-    × Follows l.fn.inbox.client (l.fn.inbox.input.items ++ received)
-    (with_bytes l.body.items) l.inbox.client l.inbox.input.items
+    ((received : List ℕ) × Consumes (g.R.Read.remaining l.fn.reader) (g.R.Read.remaining l.reader) received
+    × ((first : Decoder) → IsInBody l.fn.inbox.client first
+    → HasKept l.fn.inbox.client first (l.fn.inbox.input.items ++ received) l.inbox.client l.inbox.input.items
+    l.body.items))
+    × (length l.body.items ≤ l.limit)

@@ -4,7 +4,7 @@ use Rattle.http1.specs.Client.{ClientReads}
 use Rattle.http1.specs.declared.conn.Event.TheVariants.{NeedMore, Informational, Head}
 use Rattle.http1.specs.ServerTrace.{headers_at}
 use Rattle.otel_http_post.specs.RetryAfter.{retry_after_of}
-use Rattle.otel_http_post.proofs.FollowLemmas.{takes_as}
+use Rattle.otel_http_post.proofs.EventLemmas.{takes_as}
 use Rattle.otel_http_post.proofs.head.next_head.Goals.{in-NeedMore, in-Informational, in-Head}
 use Rattle.otel_http_post.proofs.head.next_head.Goals as goal
 

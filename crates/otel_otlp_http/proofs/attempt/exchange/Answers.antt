@@ -1,6 +1,7 @@
 -- An answer was read.
 use Rattle.std.proofs.Common.{ℕ, List, subst}
 use Rattle.std.specs.Io.KnownBytes.{Appends}
+use Rattle.std.specs.Result.{result_map_both}
 use Rattle.otel_otlp_http.proofs.AttemptLemmas.{answered_exchange}
 use Rattle.otel_otlp_http.proofs.attempt.exchange.Goals as goal
 
@@ -10,13 +11,14 @@ returns-in-Ok g c = λ asked.
     let answer = c.in-Ok.answer in
     let sent = λ (bs : List ℕ).
     Appends (g.S.Write.contents c.args.stream.now) (g.S.Write.contents c.write_whole.new.writer) bs in
-    answered_exchange g.S.Write.contents g.S.Read.remaining c.args.encoding c.args.post.text.items c.args.stream.now
+    answered_exchange g.S.Write.contents g.S.Read.remaining c.args.encoding c.args.post.client
+    c.args.post.text.items c.args.stream.now
     c.read_answer.new.reader answer.keeps c.judge.result (record {
       between = c.write_whole.new.writer;
       received = read.0;
       status = answer.status;
       retry_after = answer.retry_after;
-      body = answer.body.items;
+      body = result_map_both (λ body. body.items) (λ error. error) answer.body;
       writes = subst sent c.deref.ensures.value c.in_default.ensures.ok;
       reads = read.1;
       answer = read.2 asked;
